@@ -1,0 +1,5 @@
+pub mod CheckedNumbers
+pub mod Acknowledgement
+pub mod InPlace
+pub mod FieldReg
+pub mod Named

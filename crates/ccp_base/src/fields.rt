@@ -1,0 +1,95 @@
+ghost use Rattle.std.specs.Prelude.{◌≡◌, ◌↔◌, IsTrue, ◌<◌, ◌≤◌, ◌++◌, ◌∷◌, [], length, slice_get};
+ghost use Rattle.ccp_base.specs.FieldReg.{Pair, pair_of};
+
+use std::marker::Model;
+
+/// The most pairs that a `Fields` holds: the 64 control variables, `Cwnd` and `Rate`.
+pub const PAIRS: u32 = 66;
+
+/// What a change or an update of a program can write.
+#[derive(Clone, Copy, PartialEq, Eq, Debug)]
+pub enum FieldReg {
+    /// The congestion window, in bytes.
+    Cwnd,
+    /// The pacing rate, in bytes a second.
+    Rate,
+    /// A control variable by its number in order of declaration.
+    Control(u8),
+}
+
+/// A list of at most 66 values to be written, each with what it is written to, held in place.
+#[derive(Clone, Copy, PartialEq, Eq, Debug)]
+pub struct Fields {
+    pairs: [(FieldReg, u64); 66],
+    count: u32,
+}
+
+impl Model for Fields {
+    ghost use Rattle.std.specs.Prelude.{ℕ, List, take, length};
+    ghost use Rattle.ccp_base.specs.InPlace.{IsPadded, padded, padded-held, length-held};
+    ghost use Rattle.ccp_base.specs.FieldReg.{Pair, blank};
+
+    ghost Value = { List Pair };
+
+    ghost view = { λ f. take f.count f.pairs };
+
+    ghost invariant = { λ f. IsPadded 66 blank f.pairs f.count };
+
+    ghost inverse = { λ xs. record { pairs = padded 66 blank xs; count = length xs } };
+
+    ghost inverse_ok = { λ a h. λ i. record { pairs = padded-held 66 blank a.pairs a.count h i; count = length-held 66 blank a.pairs a.count h i } };
+}
+
+impl Fields {
+    /// The empty list.
+    pub fn new() -> Self
+        ensures { result ≡ [] }
+    {
+        Fields {
+            pairs: [(FieldReg::Cwnd, 0); 66],
+            count: 0,
+        }
+    }
+
+    /// How many pairs the list has.
+    pub fn len(&self) -> u32
+        ensures len { result ≡ length self.now }
+        ensures within { length self.now ≤ PAIRS }
+    {
+        self.count
+    }
+
+    /// Whether the list has no pairs.
+    pub fn is_empty(&self) -> bool
+        ensures { IsTrue result ↔ (self.now ≡ []) }
+    {
+        self.count == 0
+    }
+
+    /// Puts a pair at the list's end.
+    pub fn push(&mut self, reg: FieldReg, value: u64)
+        requires { length self.old < PAIRS }
+        ensures { self.new ≡ self.old ++ pair_of reg value ∷ [] }
+    {
+        self.pairs[self.count as usize] = (reg, value);
+        self.count += 1;
+    }
+
+    /// The pair at a place, counted from 0; None exactly where the list isn't that long.
+    pub fn get(&self, i: u32) -> Option<(FieldReg, u64)>
+        ensures { result ≡ slice_get self.now i }
+    {
+        if i < self.count {
+            Some(self.pairs[i as usize])
+        } else {
+            None
+        }
+    }
+
+    /// Makes the list empty.
+    pub fn clear(&mut self)
+        ensures { self.new ≡ [] }
+    {
+        *self = Fields::new();
+    }
+}

@@ -1,0 +1,26 @@
+//! What every crate of `ccp` stands on: checked numbers, the acknowledgement and its primitives, lists that
+//! are held in place, what flows and agents tell one another, and the streams of the outside.
+#![tactic(auto)]
+
+mod ack;
+mod arithmetic;
+mod exchange;
+mod fields;
+mod look;
+mod name;
+mod place;
+mod sequence;
+mod values;
+
+pub use ack::{Ack, Acks, PRIMITIVES, prim};
+pub use arithmetic::{FaultKind, add, div, mul, sub};
+pub use exchange::{Notice, Reply, Report, Reports, Told};
+pub use fields::{FieldReg, Fields, PAIRS};
+pub use look::{Look, Role};
+pub use name::{NAME_BYTES, Name, Names};
+pub use place::Place;
+pub use sequence::{Bytes, Sequence};
+pub use values::{VALUES, Values};
+
+/// The most report fields that a program declares.
+pub const FIELDS: u32 = 64;

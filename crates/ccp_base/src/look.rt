@@ -1,0 +1,39 @@
+ghost use Rattle.std.specs.Prelude.{◌<◌};
+ghost use Rattle.std.specs.Option.{ForSome};
+
+/// Where a program keeps the fields and control variables that agents read and write: the number of each in
+/// order of declaration, or None where the program doesn't declare it. Each number is below 64.
+#[derive(Clone, Copy, PartialEq, Eq, Debug)]
+pub struct Look {
+    /// The field of the bytes acknowledged.
+    pub acked: Option<u32>,
+    /// The field of the packets lost.
+    pub loss: Option<u32>,
+    /// The field of whether a timeout came.
+    pub timeout: Option<u32>,
+    /// The field of the round-trip time, in microseconds.
+    pub rtt: Option<u32>,
+    /// The field of the bytes in flight.
+    pub inflight: Option<u32>,
+    /// The control variable of the window's cap, in bytes.
+    pub cap: Option<u32>,
+    /// The control variable of the segment's size, in bytes.
+    pub mss: Option<u32>,
+    /// The field of the packets that were marked.
+    pub ecn: Option<u32>,
+    ghost acked_below: { ForSome acked (λ n. n < 64) },
+    ghost loss_below: { ForSome loss (λ n. n < 64) },
+    ghost timeout_below: { ForSome timeout (λ n. n < 64) },
+    ghost rtt_below: { ForSome rtt (λ n. n < 64) },
+    ghost inflight_below: { ForSome inflight (λ n. n < 64) },
+    ghost cap_below: { ForSome cap (λ n. n < 64) },
+    ghost mss_below: { ForSome mss (λ n. n < 64) },
+    ghost ecn_below: { ForSome ecn (λ n. n < 64) },
+}
+
+/// A program that an agent can start: its number, and where it keeps what the agent reads and writes.
+#[derive(Clone, Copy, PartialEq, Eq, Debug)]
+pub struct Role {
+    pub number: u32,
+    pub look: Look,
+}

@@ -1,0 +1,75 @@
+ghost use Rattle.std.specs.Prelude.{◌≡◌, ◌↔◌, IsTrue, ◌<◌, ◌≤◌, ◌++◌, ◌∷◌, [], length, slice_get};
+
+use std::marker::Model;
+
+/// The most numbers that a `Values` holds.
+pub const VALUES: u32 = 64;
+
+/// A list of at most 64 numbers, held in place.
+#[derive(Clone, Copy, PartialEq, Eq, Debug)]
+pub struct Values {
+    numbers: [u64; 64],
+    count: u32,
+}
+
+impl Model for Values {
+    ghost use Rattle.std.specs.Prelude.{ℕ, List, take, length};
+    ghost use Rattle.ccp_base.specs.InPlace.{IsPadded, padded, padded-held, length-held};
+
+    ghost Value = { List ℕ };
+
+    ghost view = { λ v. take v.count v.numbers };
+
+    ghost invariant = { λ v. IsPadded 64 0 v.numbers v.count };
+
+    ghost inverse = { λ xs. record { numbers = padded 64 0 xs; count = length xs } };
+
+    ghost inverse_ok = { λ a h. λ i. record { numbers = padded-held 64 0 a.numbers a.count h i; count = length-held 64 0 a.numbers a.count h i } };
+}
+
+impl Values {
+    /// The empty list.
+    pub fn new() -> Self
+        ensures { result ≡ [] }
+    {
+        Values {
+            numbers: [0; 64],
+            count: 0,
+        }
+    }
+
+    /// How many numbers the list has.
+    pub fn len(&self) -> u32
+        ensures len { result ≡ length self.now }
+        ensures within { length self.now ≤ VALUES }
+    {
+        self.count
+    }
+
+    /// Whether the list has no numbers.
+    pub fn is_empty(&self) -> bool
+        ensures { IsTrue result ↔ (self.now ≡ []) }
+    {
+        self.count == 0
+    }
+
+    /// Puts a number at the list's end.
+    pub fn push(&mut self, value: u64)
+        requires { length self.old < VALUES }
+        ensures { self.new ≡ self.old ++ value ∷ [] }
+    {
+        self.numbers[self.count as usize] = value;
+        self.count += 1;
+    }
+
+    /// The number at a place, counted from 0; None exactly where the list isn't that long.
+    pub fn get(&self, i: u32) -> Option<u64>
+        ensures { result ≡ slice_get self.now i }
+    {
+        if i < self.count {
+            Some(self.numbers[i as usize])
+        } else {
+            None
+        }
+    }
+}
