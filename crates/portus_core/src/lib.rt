@@ -1,10 +1,8 @@
 //! Trees and programs of the datapath language, and what a program means.
 #![tactic(auto)]
 
-ghost use Rattle.std.specs.Prelude.{◌≡◌, ◌++◌, ◌∷◌, [], length};
+mod program;
+mod tree;
 
-use ccp_base::{Ack, Place, Values};
-
-pub fn two() -> Values 
- ensures { result ≡ 5 ∷ [] }
-{ let mut v = Values::new(); v.push(5); v }
+pub use program::{Block, Cmd, Decl, Expr, Op2, Program, Var};
+pub use tree::{Parts, Source, Tree, take_apart};

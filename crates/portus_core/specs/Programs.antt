@@ -1,0 +1,77 @@
+use Rattle.std.specs.Prelude.{◌≡◌, ℕ, Bool, List, map}
+use Rattle.std.proofs.Common.{ap, ◌∙◌, sym}
+use Rattle.std.specs.declared.boxed.Box.{Box}
+use Rattle.std.specs.declared.alloc.Global.{Global}
+use Rattle.ccp_base.specs.declared.place.Place.{Place}
+use Rattle.portus_core.specs.declared.program.Op2.{Op2}
+use Rattle.portus_core.specs.declared.program.Var.{Var}
+use Rattle.portus_core.specs.declared.program.Decl.{Decl}
+use Rattle.portus_core.specs.declared.program.Block.{Block}
+use Rattle.portus_core.specs.declared.program.Cmd.{Cmd}
+use Rattle.portus_core.specs.declared.program.Cmd.TheVariants as rust
+use Rattle.portus_core.specs.declared.program.Expr.{Expr}
+use Rattle.portus_core.specs.declared.program.Expr.TheOpen.{Expr-F}
+use Rattle.portus_core.specs.declared.program.Expr.TheOpen as layer
+use Rattle.portus_core.specs.declared.program.Expr.TheFolds.{fold-Expr, fold-roll-Expr}
+
+-- an expression as data: what definitions speak of
+pub data Term : Type 0 where
+  number : ℕ → Term
+  truth : Bool → Term
+  name : Var → Term
+  pair : Op2 → Place → Term → Term → Term
+
+-- a command as data
+pub data Action : Type 0 where
+  set : Var → Term → Action
+  set_if : Place → Var → Term → Term → Action
+  set_unless : Place → Var → Term → Term → Action
+  ewma : Place → Var → ℕ → Term → Action
+  zero_micros : Action
+  report : Action
+  fall : Action
+
+-- a block as data
+pub record Part : Type 0 where
+  pub condition : Term
+  pub body : List Action
+  pub locals : ℕ
+
+-- a program as data
+pub record Form : Type 0 where
+  pub fields : List Decl
+  pub controls : List Decl
+  pub blocks : List Part
+
+-- one operation, with what its parts stand for in their place
+abbrev pub term_step : Expr-F Term → Term
+term_step (layer.Num value) = number value
+term_step (layer.Truth value) = truth value
+term_step (layer.Var var) = name var
+term_step (layer.Pair op place left right) = pair op place left.value right.value
+
+-- what an expression stands for
+abbrev pub term_of : Expr → Term
+term_of = fold-Expr Term term_step
+
+-- what a command stands for
+abbrev pub action_of : Cmd → Action
+action_of (rust.Set var value) = set var (term_of value)
+action_of (rust.SetIf place var condition value) = set_if place var (term_of condition) (term_of value)
+action_of (rust.SetUnless place var condition value) = set_unless place var (term_of condition) (term_of value)
+action_of (rust.Ewma place var weight value) = ewma place var weight (term_of value)
+action_of rust.ZeroMicros = zero_micros
+action_of rust.Report = report
+action_of rust.Fall = fall
+
+-- what a block stands for
+abbrev pub part_of : Block → Part
+part_of block = record {
+  condition = term_of block.condition;
+  body = map action_of block.body.items;
+  locals = block.locals
+}
+
+-- what the lists of a program stand for
+abbrev pub form_over : List Decl → List Decl → List Block → Form
+form_over fields controls blocks = record { fields = fields; controls = controls; blocks = map part_of blocks }

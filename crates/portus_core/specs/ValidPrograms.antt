@@ -1,0 +1,141 @@
+use Rattle.std.specs.Prelude.{ℕ, ◌+◌, ◌^◌, Bool, true, false, not, ◌&&◌, ◌||◌, ◌==◌, nat_lt, nat_le, Option, Some, None, List, [], ◌∷◌, ◌++◌, length, slice_get}
+use Rattle.portus_core.specs.declared.program.Op2.{Op2}
+use Rattle.portus_core.specs.declared.program.Op2.TheVariants as op
+use Rattle.portus_core.specs.declared.program.Var.{Var}
+use Rattle.portus_core.specs.declared.program.Var.TheVariants as var
+use Rattle.portus_core.specs.declared.program.Decl.{Decl}
+use Rattle.portus_core.specs.Programs.{Term, number, truth, name, pair, Action, set, set_if, set_unless, ewma, zero_micros, report, fall, Part, Form}
+
+-- the names that an expression may use: the declared ones, and of each local of the body so far whether it is a Bool
+pub record Known : Type 0 where
+  pub fields : List Decl
+  pub controls : List Decl
+  pub locals : List Bool
+
+abbrev pub declares_truth : Option Decl → Bool
+declares_truth (Some decl) = decl.truth
+declares_truth None = false
+
+abbrev pub is_told : Option Bool → Bool
+is_told (Some told) = told
+is_told None = false
+
+-- whether the name stands for something
+abbrev pub is_known : Known → Var → Bool
+is_known known (var.Field i) = nat_lt i (length known.fields)
+is_known known (var.Control i) = nat_lt i (length known.controls)
+is_known known (var.Local i) = nat_lt i (length known.locals)
+is_known known (var.Prim n) = nat_lt n 15
+is_known known var.Cwnd = true
+is_known known var.Rate = true
+is_known known var.Micros = true
+
+-- whether the name is a Bool
+abbrev pub is_truth : Known → Var → Bool
+is_truth known (var.Field i) = declares_truth (slice_get known.fields i)
+is_truth known (var.Control i) = declares_truth (slice_get known.controls i)
+is_truth known (var.Local i) = is_told (slice_get known.locals i)
+is_truth known (var.Prim n) = n == 14
+is_truth known var.Cwnd = false
+is_truth known var.Rate = false
+is_truth known var.Micros = false
+
+-- whether a plain assignment may name it
+abbrev pub is_writable : Var → Bool
+is_writable (var.Prim n) = false
+is_writable var.Micros = false
+is_writable (var.Field i) = true
+is_writable (var.Control i) = true
+is_writable (var.Local i) = true
+is_writable var.Cwnd = true
+is_writable var.Rate = true
+
+-- whether the operation gives a Bool
+abbrev pub gives_truth : Op2 → Bool
+gives_truth op.Gt = true
+gives_truth op.Lt = true
+gives_truth op.Eq = true
+gives_truth op.And = true
+gives_truth op.Or = true
+gives_truth op.Add = false
+gives_truth op.Sub = false
+gives_truth op.Mul = false
+gives_truth op.Div = false
+gives_truth op.Max = false
+gives_truth op.Min = false
+
+-- whether the expression is a Bool
+abbrev pub term_is_truth : Known → Term → Bool
+term_is_truth known (number n) = false
+term_is_truth known (truth b) = true
+term_is_truth known (name v) = is_truth known v
+term_is_truth known (pair o place left right) = gives_truth o
+
+-- whether each name of the expression stands for something
+abbrev pub is_term : Known → Term → Bool
+is_term known (number n) = nat_lt n (2 ^ 64)
+is_term known (truth b) = true
+is_term known (name v) = is_known known v
+is_term known (pair o place left right) = is_term known left && is_term known right
+
+-- an expression that is a Bool
+abbrev pub is_condition : Known → Term → Bool
+is_condition known term = is_term known term && term_is_truth known term
+
+-- a value that the name may be given: a Bool where the name is one
+abbrev pub fits_target : Known → Var → Term → Bool
+fits_target known v term = is_term known term && (not (is_truth known v) || term_is_truth known term)
+
+-- a name that has a meaning and may be assigned
+abbrev pub is_target : Known → Var → Bool
+is_target known v = is_known known v && is_writable v
+
+-- the first assignment of the body's next local
+abbrev pub is_next_local : Known → Var → Bool
+is_next_local known (var.Local i) = (i == length known.locals) && nat_lt i 8
+is_next_local known _ = false
+
+abbrev pub is_action : Known → Action → Bool
+is_action known (set v term) = (is_target known v && fits_target known v term) || (is_next_local known v && is_term known term)
+is_action known (set_if place v condition term) = is_target known v && is_condition known condition && fits_target known v term
+is_action known (set_unless place v condition term) = is_target known v && is_condition known condition && fits_target known v term
+is_action known (ewma place v weight term) = is_target known v && not (is_truth known v) && nat_le weight 10 && is_term known term
+is_action known zero_micros = true
+is_action known report = true
+is_action known fall = true
+
+abbrev pub with_local : Known → Bool → Bool → Known
+with_local known true told = record { fields = known.fields; controls = known.controls; locals = known.locals ++ told ∷ [] }
+with_local known false told = known
+
+-- the names after the command
+abbrev pub known_after : Known → Action → Known
+known_after known (set v term) = with_local known (is_next_local known v) (term_is_truth known term)
+known_after known (set_if place v condition term) = known
+known_after known (set_unless place v condition term) = known
+known_after known (ewma place v weight term) = known
+known_after known zero_micros = known
+known_after known report = known
+known_after known fall = known
+
+-- whether each command is right where it stands, and the body has that many locals
+abbrev pub is_body : Known → ℕ → List Action → Bool
+is_body known locals [] = locals == length known.locals
+is_body known locals (action ∷ rest) = is_action known action && is_body (known_after known action) locals rest
+
+abbrev pub is_part : Known → Part → Bool
+is_part known part = is_condition known part.condition && is_body known part.locals part.body
+
+abbrev pub are_parts : Known → List Part → Bool
+are_parts known [] = true
+are_parts known (part ∷ rest) = is_part known part && are_parts known rest
+
+-- the names that each block begins with
+abbrev pub known_of : Form → Known
+known_of form = record { fields = form.fields; controls = form.controls; locals = [] }
+
+-- whether a program is well scoped, typed and within the limits
+abbrev pub is_valid : Form → Bool
+is_valid form =
+    nat_le (length form.fields) 64 && nat_le (length form.controls) 64 && nat_le (length form.blocks) 64
+    && are_parts (known_of form) form.blocks

@@ -1,0 +1,97 @@
+ghost use Rattle.std.specs.Prelude.{IsTrue};
+ghost use Rattle.portus_core.specs.Programs.{form_over};
+ghost use Rattle.portus_core.specs.ValidPrograms.{is_valid};
+
+use ccp_base::{Name, Place};
+
+/// An operation on two numbers.
+#[derive(Clone, Copy, PartialEq, Eq, Debug)]
+pub enum Op2 {
+    Add,
+    Sub,
+    Mul,
+    Div,
+    Max,
+    Min,
+    Gt,
+    Lt,
+    Eq,
+    And,
+    Or,
+}
+
+/// What a name of a program stands for, each kind by its number in order of declaration.
+#[derive(Clone, Copy, PartialEq, Eq, Debug)]
+pub enum Var {
+    Field(u32),
+    Control(u32),
+    /// A local of a block's body, numbered by its first assignment there.
+    Local(u32),
+    /// The congestion window, in bytes.
+    Cwnd,
+    /// The pacing rate, in bytes a second.
+    Rate,
+    /// The time since time zero, in microseconds.
+    Micros,
+    /// A primitive of the acknowledgement.
+    Prim(u32),
+}
+
+/// An expression. An operation has the place of its head atom.
+#[derive(Debug, Drop)]
+pub enum Expr {
+    Num(u64),
+    Truth(bool),
+    Var(Var),
+    Pair(Op2, Place, Box<Expr>, Box<Expr>),
+}
+
+/// A command of a block's body. `if`, `!if` and `ewma` have the place of their head atom.
+#[derive(Debug, Drop)]
+pub enum Cmd {
+    /// Assigns a value.
+    Set(Var, Expr),
+    /// Works out a condition and a value, and assigns the value where the condition is true.
+    SetIf(Place, Var, Expr, Expr),
+    /// Works out a condition and a value, and assigns the value where the condition is false.
+    SetUnless(Place, Var, Expr, Expr),
+    /// Moves a number towards a value, with the old number's weight in tenths.
+    Ewma(Place, Var, u64, Expr),
+    /// Makes the acknowledgement's time the time zero.
+    ZeroMicros,
+    /// Asks for a report.
+    Report,
+    /// Lets the work go on after this block.
+    Fall,
+}
+
+/// The declaration of a field or a control variable.
+#[derive(Clone, Copy, PartialEq, Eq, Debug)]
+pub struct Decl {
+    pub name: Name,
+    /// Whether a report resets it to its declared value.
+    pub volatile: bool,
+    /// The declared value, a Bool as 0 or 1.
+    pub start: u64,
+    /// Whether it is a Bool.
+    pub truth: bool,
+}
+
+/// A block: its body runs where its condition is true.
+#[derive(Debug, Drop)]
+pub struct Block {
+    pub condition: Expr,
+    pub body: Vec<Cmd>,
+    /// How many locals the body has.
+    pub locals: u32,
+}
+
+/// A program: what it declares, in order, and its blocks. Each is well scoped and typed, and within the limits
+/// of 64 fields, 64 control variables, 64 blocks and 8 locals a body.
+#[derive(Debug, Drop)]
+pub struct Program {
+    pub fields: Vec<Decl>,
+    pub controls: Vec<Decl>,
+    pub blocks: Vec<Block>,
+    ghost valid: { IsTrue (is_valid (form_over fields.items controls.items blocks.items)) },
+}

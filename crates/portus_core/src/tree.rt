@@ -1,0 +1,40 @@
+ghost use Rattle.portus_core.specs.Trees.{nodes_of, SplitsInto};
+
+use ccp_base::{Name, Place};
+
+/// A part of a program's text: a numeral, a word or a list, each with its place.
+#[derive(Debug, Drop)]
+pub enum Tree {
+    Num(Place, u64),
+    Word(Place, Name),
+    List(Place, Vec<Tree>),
+}
+
+/// A program's text as its forms.
+#[derive(Debug, Drop)]
+pub struct Source {
+    pub forms: Vec<Tree>,
+}
+
+/// The parts of a list by their number, as the rules of the language tell them apart.
+pub enum Parts<'a> {
+    Nothing,
+    One(&'a Tree),
+    Two(&'a Tree, &'a Tree),
+    Three(&'a Tree, &'a Tree, &'a Tree),
+    Many,
+}
+
+/// Tells a list's parts apart by their number.
+#[tactic(auto, using(crate::specs::Trees::many))]
+pub fn take_apart(trees: &[Tree]) -> Parts<'_>
+    ensures { SplitsInto (nodes_of trees.now) result }
+{
+    match trees {
+        [] => Parts::Nothing,
+        [one] => Parts::One(one),
+        [one, two] => Parts::Two(one, two),
+        [one, two, three] => Parts::Three(one, two, three),
+        [_, _, _, _, ..] => Parts::Many,
+    }
+}
