@@ -19,7 +19,7 @@ pub use fields::{FieldReg, Fields, PAIRS};
 pub use look::{Look, Role};
 pub use name::{NAME_BYTES, Name, Names};
 pub use place::Place;
-pub use sequence::{Bytes, Sequence};
+pub use sequence::{Bytes, Numbers, Sequence};
 pub use values::{VALUES, Values};
 
 /// The most report fields that a program declares.

@@ -1,4 +1,4 @@
-ghost use Rattle.std.specs.Prelude.{◌≡◌, ◌↔◌, IsTrue, IfOk, OnOk, OnErr, ◌++◌, ◌∷◌, [], length};
+ghost use Rattle.std.specs.Prelude.{◌≡◌, ◌↔◌, IsTrue, IfOk, OnOk, OnErr, ◌++◌, ◌∷◌, [], ◌<◌, length, slice_set};
 
 use std::alloc::{AllocError, Global};
 use std::marker::Model;
@@ -72,7 +72,18 @@ impl<T: Drop> Sequence<T> {
         self.items.push(item)?;
         Ok(())
     }
+
+    /// Puts an item in the place of another, counted from 0.
+    pub fn set(&mut self, i: usize, item: T)
+        requires { i < length self.old }
+        ensures { self.new ≡ slice_set self.old i item }
+    {
+        self.items[i] = item;
+    }
 }
+
+/// Numbers in order.
+pub type Numbers = Sequence<u64>;
 
 /// Bytes in order.
 pub type Bytes = Sequence<u8>;
