@@ -3,3 +3,4 @@ pub mod Acknowledgement
 pub mod InPlace
 pub mod FieldReg
 pub mod Named
+pub mod Outside
