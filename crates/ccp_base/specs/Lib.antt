@@ -4,3 +4,4 @@ pub mod InPlace
 pub mod FieldReg
 pub mod Named
 pub mod Numerals
+pub mod Outside
