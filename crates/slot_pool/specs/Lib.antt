@@ -1,0 +1,4 @@
+pub mod Pool
+pub mod PoolLaws
+pub mod Region
+pub mod FreeList
