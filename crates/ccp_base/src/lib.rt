@@ -8,8 +8,12 @@ mod exchange;
 mod fields;
 mod look;
 mod name;
+mod numerals;
+mod outside;
 mod place;
 mod sequence;
+mod sink;
+mod source;
 mod values;
 
 pub use ack::{Ack, Acks, PRIMITIVES, prim};
@@ -18,8 +22,12 @@ pub use exchange::{Notice, Reply, Report, Reports, Told};
 pub use fields::{FieldReg, Fields, PAIRS};
 pub use look::{Look, Role};
 pub use name::{NAME_BYTES, Name, Names};
+pub use numerals::numeral;
+pub use outside::{Failed, NoMemory, ReadFault};
 pub use place::Place;
 pub use sequence::{Bytes, Numbers, Sequence};
+pub use sink::{Sink, write_all};
+pub use source::{Source, read_all};
 pub use values::{VALUES, Values};
 
 /// The most report fields that a program declares.
