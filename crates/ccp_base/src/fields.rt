@@ -86,6 +86,13 @@ impl Fields {
         }
     }
 
+    /// The pairs in order.
+    pub fn as_slice(&self) -> &[(FieldReg, u64)]
+        ensures { result.now ≡ self.now }
+    {
+        &self.pairs[..self.count as usize]
+    }
+
     /// Makes the list empty.
     pub fn clear(&mut self)
         ensures { self.new ≡ [] }

@@ -69,6 +69,13 @@ impl Values {
         self.count += 1;
     }
 
+    /// The numbers in order.
+    pub fn as_slice(&self) -> &[u64]
+        ensures { result.now ≡ self.now }
+    {
+        &self.numbers[..self.count as usize]
+    }
+
     /// The number at a place, counted from 0; None exactly where the list isn't that long.
     pub fn get(&self, i: u32) -> Option<u64>
         ensures { result ≡ slice_get self.now i }

@@ -1,3 +1,9 @@
 pub mod Trees
 pub mod Programs
 pub mod ValidPrograms
+pub mod Value
+pub mod Command
+pub mod Blocks
+pub mod OneAcknowledgement
+pub mod Epoch
+pub mod Reports

@@ -1,8 +1,10 @@
 //! Trees and programs of the datapath language, and what a program means.
 #![tactic(auto)]
 
+mod env;
 mod program;
 mod tree;
 
+pub use env::{Env, Mean, StartFault};
 pub use program::{Block, Cmd, Decl, Expr, Op2, Program, Var};
 pub use tree::{Parts, Source, Tree, take_apart};

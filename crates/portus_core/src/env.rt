@@ -1,0 +1,38 @@
+use ccp_base::{FaultKind, Numbers, Place, Values};
+
+/// What a program keeps from one acknowledgement to the next.
+#[derive(Debug, Drop)]
+pub struct Env {
+    /// The report fields in order of declaration.
+    pub fields: Numbers,
+    /// The control variables in order of declaration.
+    pub controls: Numbers,
+    /// The congestion window, in bytes.
+    pub cwnd: u64,
+    /// The pacing rate, in bytes a second.
+    pub rate: u64,
+    /// Time zero, in microseconds: `Micros` counts from it.
+    pub zero: u64,
+}
+
+/// What an acknowledgement comes to.
+#[derive(Clone, Copy, PartialEq, Eq, Debug)]
+pub enum Mean {
+    /// No report was asked for.
+    Quiet,
+    /// A report was made, with these fields in order of declaration.
+    Reported(Values),
+    /// A report was asked for, and there was no room for it.
+    Held,
+    /// An operation had no result. It has the place of its head atom.
+    Fault(FaultKind, Place),
+}
+
+/// Why a program isn't started.
+#[derive(Clone, Copy, PartialEq, Eq, Debug)]
+pub enum StartFault {
+    /// The pair at this place of the values, counted from 0, is the first that names a control variable which
+    /// the program doesn't have.
+    BadRegister(u32),
+    NoMemory,
+}
