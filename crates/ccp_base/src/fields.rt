@@ -88,7 +88,8 @@ impl Fields {
 
     /// The pairs in order.
     pub fn as_slice(&self) -> &[(FieldReg, u64)]
-        ensures { result.now ≡ self.now }
+        ensures items { result.now ≡ self.now }
+        ensures within { length self.now ≤ PAIRS }
     {
         &self.pairs[..self.count as usize]
     }

@@ -71,7 +71,8 @@ impl Values {
 
     /// The numbers in order.
     pub fn as_slice(&self) -> &[u64]
-        ensures { result.now ≡ self.now }
+        ensures items { result.now ≡ self.now }
+        ensures within { length self.now ≤ VALUES }
     {
         &self.numbers[..self.count as usize]
     }

@@ -7,3 +7,5 @@ pub mod Blocks
 pub mod OneAcknowledgement
 pub mod Epoch
 pub mod Reports
+pub mod ProgramForm
+pub mod EnvShapes

@@ -1,4 +1,5 @@
 use ccp_base::{FaultKind, Numbers, Place, Values};
+use std::alloc::AllocError;
 
 /// What a program keeps from one acknowledgement to the next.
 #[derive(Debug, Drop)]
@@ -35,4 +36,15 @@ pub enum StartFault {
     /// the program doesn't have.
     BadRegister(u32),
     NoMemory,
+}
+
+impl From<AllocError> for StartFault {
+    ghost use Rattle.std.specs.Prelude.{◌≡◌};
+    ghost use Rattle.portus_core.specs.declared.env.StartFault.TheVariants.{NoMemory};
+
+    ghost from_gives = { λ _ e. e ≡ NoMemory };
+
+    fn from(_e: AllocError) -> Self {
+        StartFault::NoMemory
+    }
 }

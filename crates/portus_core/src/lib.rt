@@ -3,6 +3,7 @@
 
 mod env;
 mod program;
+mod start;
 mod tree;
 
 pub use env::{Env, Mean, StartFault};
