@@ -6,12 +6,7 @@ use Rattle.ccp_base.specs.declared.exchange.Report.{Report}
 use Rattle.portus_core.specs.declared.program.Decl.{Decl}
 use Rattle.ccp_run.specs.declared.text.Fault.{Fault}
 use Rattle.ccp_run.specs.declared.text.End.{End}
-
-infixr 10 ◌⧺◌
-
--- one text after another
-abbrev pub ◌⧺◌ : List ℕ → List ℕ → List ℕ
-a ⧺ b = a ++ b
+use Rattle.ccp_run.specs.Text.{◌⧺◌}
 
 abbrev pub field_text : Decl → ℕ → List ℕ
 field_text decl value = codes " " ⧺ decl.name ⧺ codes "=" ⧺ decimal value

@@ -1,6 +1,18 @@
 //! The whole tool as one call: words and bytes in, text and a status out.
 #![tactic(auto)]
 
-mod text;
+mod ack_line;
+mod acks;
+pub mod calls;
+mod fold;
+mod mode;
+mod outcome;
 mod parts;
-pub use text::{End, Fault, fold_text};
+mod refusal;
+mod separated;
+mod text;
+mod top;
+
+pub use mode::{Alone, Mode};
+pub use outcome::Outcome;
+pub use top::run;
