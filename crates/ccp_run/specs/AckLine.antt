@@ -17,13 +17,9 @@ field_names =
     codes "packets_in_flight" ∷ codes "bytes_pending" ∷ codes "rate_incoming" ∷ codes "rate_outgoing" ∷
     codes "rtt_sample_us" ∷ codes "was_timeout" ∷ []
 
-abbrev pub number_in : List (List ℕ) → ℕ → List ℕ → Option ℕ
-number_in [] n name = None
-number_in (known ∷ rest) n name = if bytes_eq name known then Some n else number_in rest (n + 1) name
-
 -- the number of the value with this name
 abbrev pub field_number : List ℕ → Option ℕ
-field_number name = number_in field_names 0 name
+field_number name = position (λ known. bytes_eq name known) field_names
 
 -- the values that a line gives, each by its number
 abbrev pub Values : Type 0

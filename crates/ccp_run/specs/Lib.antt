@@ -1,2 +1,4 @@
 pub mod Parts
 pub mod AckLine
+pub mod Separated
+pub mod Acknowledgements

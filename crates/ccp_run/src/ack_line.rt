@@ -21,6 +21,25 @@ pub enum AckLine {
 /// The values that a line gives, each by the number of its primitive.
 type Values = [Option<u64>; 15];
 
+/// The names of the values, in the order of the primitives.
+const FIELD_NAMES: [&[u8]; 15] = [
+    b"bytes_acked",
+    b"packets_acked",
+    b"bytes_misordered",
+    b"packets_misordered",
+    b"ecn_bytes",
+    b"ecn_packets",
+    b"lost_pkts_sample",
+    b"now",
+    b"bytes_in_flight",
+    b"packets_in_flight",
+    b"bytes_pending",
+    b"rate_incoming",
+    b"rate_outgoing",
+    b"rtt_sample_us",
+    b"was_timeout",
+];
+
 /// The number of `was_timeout`.
 const WAS_TIMEOUT: usize = 14;
 
@@ -125,52 +144,15 @@ fn field_number(name: &[u8]) -> Option<usize>
     ensures number { result ≡ field_number name.now }
     ensures below { ForSome result (λ n. n < 15) }
 {
-    if same(name, b"bytes_acked") {
-        return Some(0);
-    }
-    if same(name, b"packets_acked") {
-        return Some(1);
-    }
-    if same(name, b"bytes_misordered") {
-        return Some(2);
-    }
-    if same(name, b"packets_misordered") {
-        return Some(3);
-    }
-    if same(name, b"ecn_bytes") {
-        return Some(4);
-    }
-    if same(name, b"ecn_packets") {
-        return Some(5);
-    }
-    if same(name, b"lost_pkts_sample") {
-        return Some(6);
-    }
-    if same(name, b"now") {
-        return Some(7);
-    }
-    if same(name, b"bytes_in_flight") {
-        return Some(8);
-    }
-    if same(name, b"packets_in_flight") {
-        return Some(9);
-    }
-    if same(name, b"bytes_pending") {
-        return Some(10);
-    }
-    if same(name, b"rate_incoming") {
-        return Some(11);
-    }
-    if same(name, b"rate_outgoing") {
-        return Some(12);
-    }
-    if same(name, b"rtt_sample_us") {
-        return Some(13);
-    }
-    if same(name, b"was_timeout") {
-        return Some(WAS_TIMEOUT);
-    }
-    None
+    number_in(&FIELD_NAMES, name)
+}
+
+/// The place of a name among the known ones, counted from 0.
+fn number_in(known: &[&[u8]], name: &[u8]) -> Option<usize>
+    ensures number { result ≡ position (λ k. bytes_eq name.now k.now) known.now }
+    ensures within { ForSome result (λ n. n < length known.now) }
+{
+    known.iter().position(|known| same(name, known))
 }
 
 fn same(name: &[u8], known: &[u8]) -> bool

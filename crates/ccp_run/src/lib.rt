@@ -2,4 +2,9 @@
 #![tactic(auto)]
 
 mod ack_line;
+mod acks;
 mod parts;
+mod separated;
+
+pub use acks::{LineFault, acknowledgements};
+pub use separated::{Separated, separate};
