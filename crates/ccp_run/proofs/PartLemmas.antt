@@ -1,4 +1,4 @@
-use Rattle.std.proofs.Common.{◌≡◌, ◌≢◌, ℕ, ◌+◌, ◌-◌, ◌<◌, Bool, true, false, List, [], ◌∷◌, ◌++◌, length, take, drop, get_or, refl, ap, sym, ◌∙◌, subst, arith, cond, eqb, add-one, append-nil}
+use Rattle.std.proofs.Common.{◌≡◌, ◌≢◌, ℕ, ◌+◌, ◌-◌, ◌<◌, true, false, List, [], ◌∷◌, ◌++◌, length, take, drop, get_or, refl, ap, sym, ◌∙◌, arith, cond, eqb, add-one, append-nil}
 use Rattle.std.proofs.Math.Seq.{drop-cons, drop-length, take-length}
 use Rattle.std.proofs.lemmas.List.{take_more, take_rest, take-append-drop}
 use Rattle.std.proofs.lemmas.Bool.Decides.{nat_tests}
@@ -41,9 +41,9 @@ module _ (separator : Separator) (text : List ℕ) (i : ℕ) (within : i < lengt
     byte = get_or text i 0;
     separated = is;
     whole =
-      sym (take-append-drop i text)
-      ∙ ap (λ rest. take i text ++ rest) (rw (add-one, drop-cons text i 0 within) refl)
-      ∙ ap (λ rest. take i text ++ get_or text i 0 ∷ rest) (sym (take_rest text (i + 1)))
+        sym (take-append-drop i text)
+        ∙ ap (λ rest. take i text ++ rest) (rw (add-one, drop-cons text i 0 within) refl)
+        ∙ ap (λ rest. take i text ++ get_or text i 0 ∷ rest) (sym (take_rest text (i + 1)));
   }
 
   -- at another byte it goes on

@@ -1,4 +1,4 @@
-use Rattle.std.specs.Prelude.{ℕ, ◌+◌, ◌-◌, Bool, true, false, ◌||◌, ◌&&◌, not, ◌==◌, nat_lt, if◌then◌else◌, Option, Some, None, is_none, unwrap_or, List, [], ◌∷◌, take, drop, replicate, position, codes, slice_get, slice_index_or, slice_set, length}
+use Rattle.std.specs.Prelude.{ℕ, ◌+◌, ◌-◌, Bool, false, ◌||◌, ◌&&◌, not, ◌==◌, nat_lt, if◌then◌else◌, Option, Some, None, is_none, unwrap_or, List, [], ◌∷◌, take, drop, replicate, position, codes, slice_get, slice_index_or, slice_set, length}
 use Rattle.std.specs.Option.{option_and_then, option_map_or}
 use Rattle.std.specs.Str.{bytes_eq}
 use Rattle.std.specs.List.{list_all}
@@ -67,7 +67,7 @@ ack_of values = record {
   rate_incoming = value_at values 11;
   rate_outgoing = value_at values 12;
   rtt_sample_us = value_at values 13;
-  was_timeout = value_at values 14 == 1
+  was_timeout = value_at values 14 == 1;
 }
 
 abbrev pub given_or_refused : Option Values → AckLine

@@ -110,11 +110,7 @@ fn with_item(values: Values, word: &[u8]) -> Option<Values>
     ensures { result ≡ with_item values word.now }
 {
     let at = equals_sign(word)?;
-    with_value(
-        values,
-        field_number(&word[..at]),
-        numeral(&word[at + 1..]),
-    )
+    with_value(values, field_number(&word[..at]), numeral(&word[at + 1..]))
 }
 
 /// The place of the first equals sign, counted from 0.
@@ -188,5 +184,88 @@ fn ack_of(values: &Values) -> Ack
         rate_outgoing: value_at(values, 12),
         rtt_sample_us: value_at(values, 13),
         was_timeout: value_at(values, 14) == 1,
+    }
+}
+
+#[cfg(test)]
+mod tests {
+    use super::*;
+
+    #[test]
+    fn reads_lines(rt: HostRuntime) {
+        let none = Ack::default();
+        let all: &[u8] =
+            b"bytes_acked=1 packets_acked=2 bytes_misordered=3 packets_misordered=4 ecn_bytes=5 ecn_packets=6 lost_pkts_sample=7 now=8 bytes_in_flight=9 packets_in_flight=10 bytes_pending=11 rate_incoming=12 rate_outgoing=13 rtt_sample_us=14 was_timeout=1";
+        let table: [(&[u8], Ack); 5] = [
+            (b"now=5", Ack { now: 5, ..none }),
+            (
+                b"now=5 \t bytes_acked=007",
+                Ack {
+                    now: 5,
+                    bytes_acked: 7,
+                    ..none
+                },
+            ),
+            (
+                b"was_timeout=01",
+                Ack {
+                    was_timeout: true,
+                    ..none
+                },
+            ),
+            (
+                b"now=18446744073709551615",
+                Ack {
+                    now: u64::MAX,
+                    ..none
+                },
+            ),
+            (
+                all,
+                Ack {
+                    bytes_acked: 1,
+                    packets_acked: 2,
+                    bytes_misordered: 3,
+                    packets_misordered: 4,
+                    ecn_bytes: 5,
+                    ecn_packets: 6,
+                    lost_pkts_sample: 7,
+                    now: 8,
+                    bytes_in_flight: 9,
+                    packets_in_flight: 10,
+                    bytes_pending: 11,
+                    rate_incoming: 12,
+                    rate_outgoing: 13,
+                    rtt_sample_us: 14,
+                    was_timeout: true,
+                },
+            ),
+        ];
+        for (line, ack) in table {
+            assert_eq!(rt; ack_line(line), AckLine::Given(ack), "at {line:?}");
+        }
+        let blank: [&[u8]; 2] = [b"", b" \t "];
+        for line in blank {
+            assert_eq!(rt; ack_line(line), AckLine::Nothing, "at {line:?}");
+        }
+        let refused: [&[u8]; 14] = [
+            b" now=5",
+            b"now=5\t",
+            b"now=5\r",
+            b"now=5 now=5",
+            b"now=5,bytes_acked=7",
+            b"now=",
+            b"=5",
+            b"now",
+            b"now =5",
+            b"now=5=6",
+            b"Ack.now=5",
+            b"Now=5",
+            b"was_timeout=2",
+            b"now=18446744073709551616",
+        ];
+        for line in refused {
+            assert_eq!(rt; ack_line(line), AckLine::Refused, "at {line:?}");
+        }
     }
 }

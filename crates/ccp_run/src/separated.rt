@@ -20,9 +20,7 @@ pub struct Separated<'a> {
 /// Cuts a text at its first line `---`, which may have a CR at its end; None exactly where there is no such
 /// line.
 pub fn separate(text: &[u8]) -> Option<Separated<'_>>
-    ensures found {
-        IfSome result (λ s. cut_of text.now ≡ Some (record { program = s.program.now; lines = parts_of Separator.LineFeed s.lines.now; next = s.next }))
-    }
+    ensures found { IfSome result (λ s. cut_of text.now ≡ Some (record { program = s.program.now; lines = parts_of Separator.LineFeed s.lines.now; next = s.next })) }
     ensures none { IfNone result (cut_of text.now ≡ None) }
     ensures next { IfSome result (λ s. s.next + length s.lines.now < length text.now) }
 {

@@ -7,6 +7,7 @@ use Rattle.ccp_run.proofs.acks.acknowledgements.Given as goal
 abbrev pub invariant-loop-rest : goal.invariant-loop-rest
 invariant-loop-rest l = record {
   going : with_lines l.number (Ok l.acks) (parts_of LineFeed l.rest) ≡ acks_of l.fn.next (parts_of LineFeed l.fn.lines);
+  few : length l.acks ≤ 65536;
   room : l.number + length l.rest < 2 ^ 64;
 }
 

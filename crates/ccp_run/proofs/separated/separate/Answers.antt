@@ -13,5 +13,5 @@ loop-rest-preserved c =
     record {
       going = cut_past_line text rest line (c.loop-rest.before + 1) (cut_of text) (cc) so_far.suffix after c.first_part.ensures.split c.first_part.ensures.parts so_far.going;
       suffix = suffix_past_line text rest line (c.loop-rest.before + 1) (cut_of text) (cc) so_far.suffix after c.first_part.ensures.split;
-      room = omega arith
+      room = omega arith;
     }
