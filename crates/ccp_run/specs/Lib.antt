@@ -1,4 +1,7 @@
 pub mod Parts
+pub mod AckLine
+pub mod Separated
+pub mod Acknowledgements
 pub mod Text
 pub mod FoldText
 pub mod ErrorLine

@@ -1,5 +1,5 @@
-ghost use Rattle.std.specs.Prelude.{◌≡◌, ◌<◌, ◌∷◌, length};
-ghost use Rattle.ccp_run.specs.Parts.{separates, parts_of, without_last};
+ghost use Rattle.std.specs.Prelude.{◌≡◌, ◌+◌, ◌<◌, ◌≤◌, ◌∷◌, length};
+ghost use Rattle.ccp_run.specs.Parts.{separates, parts_of, IsSplit, without_last};
 
 /// What ends a part of a text.
 #[derive(Clone, Copy, PartialEq, Eq, Debug)]
@@ -26,7 +26,9 @@ impl Separator {
 pub fn first_part(text: &[u8], separator: Separator) -> (&[u8], &[u8])
     requires { 0 < length text.now }
     ensures parts { parts_of separator text.now ≡ result.0.now ∷ parts_of separator result.1.now }
+    ensures split { 0 < length result.1.now → IsSplit separator text.now result.0.now result.1.now }
     ensures shorter { length result.1.now < length text.now }
+    ensures within { length result.0.now + length result.1.now ≤ length text.now }
 {
     for (i, byte) in text.iter().enumerate() {
         if separator.is(*byte) {
@@ -38,7 +40,8 @@ pub fn first_part(text: &[u8], separator: Separator) -> (&[u8], &[u8])
 
 /// A line without the CR at its end, where it has one.
 pub fn without_return(line: &[u8]) -> &[u8]
-    ensures { result.now ≡ without_last 13 line.now }
+    ensures line { result.now ≡ without_last 13 line.now }
+    ensures within { length result.now ≤ length line.now }
 {
     let Some((last, front)) = line.split_last() else {
         return line;
