@@ -17,6 +17,8 @@ mod sequence;
 mod sink;
 mod source;
 mod stream;
+#[cfg(test)]
+mod tests;
 mod values;
 
 pub use ack::{Ack, Acks, PRIMITIVES, prim};
