@@ -9,3 +9,4 @@ pub mod Epoch
 pub mod Reports
 pub mod ProgramForm
 pub mod EnvShapes
+pub mod LocalValues

@@ -5,6 +5,7 @@ mod env;
 mod program;
 mod start;
 mod tree;
+mod value;
 
 pub use env::{Env, Mean, StartFault};
 pub use program::{Block, Cmd, Decl, Expr, Op2, Program, Var};
