@@ -1,8 +1,10 @@
 //! Trees and programs of the datapath language, and what a program means.
 #![tactic(auto)]
 
+mod command;
 mod env;
 mod program;
+mod progress;
 mod start;
 mod tree;
 mod value;

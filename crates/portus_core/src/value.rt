@@ -2,7 +2,7 @@ ghost use Rattle.std.specs.Prelude.{◌≡◌, slice_index, unwrap_or};
 ghost use Rattle.ccp_base.specs.Acknowledgement.{prim};
 ghost use Rattle.portus_core.specs.Programs.{term_of};
 ghost use Rattle.portus_core.specs.Value.{is_true, applied, read_of, value_of};
-ghost use Rattle.portus_core.specs.LocalValues.{locals_of};
+ghost use Rattle.portus_core.specs.Progress.{locals_of};
 
 use crate::env::Env;
 use crate::program::{Expr, Op2, Var};
