@@ -1,6 +1,7 @@
 //! Trees and programs of the datapath language, and what a program means.
 #![tactic(auto)]
 
+mod blocks;
 mod command;
 mod env;
 mod program;
