@@ -21,7 +21,7 @@ mod stream;
 mod tests;
 mod values;
 
-pub use ack::{Ack, Acks, PRIMITIVES, prim};
+pub use ack::{Ack, Acks, PRIMITIVES, bool_number, prim};
 pub use arithmetic::{FaultKind, add, div, mul, sub};
 pub use exchange::{Notice, Reply, Report, Reports, Told};
 pub use fields::{FieldReg, Fields, PAIRS};

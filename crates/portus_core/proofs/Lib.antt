@@ -1,1 +1,2 @@
+pub mod ValidIsRunnable
 pub mod WorkedCases

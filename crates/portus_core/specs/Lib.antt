@@ -9,3 +9,5 @@ pub mod Epoch
 pub mod Reports
 pub mod ProgramForm
 pub mod EnvShapes
+pub mod Progress
+pub mod Runnable

@@ -1,10 +1,14 @@
 //! Trees and programs of the datapath language, and what a program means.
 #![tactic(auto)]
 
+mod blocks;
+mod command;
 mod env;
 mod program;
+mod progress;
 mod start;
 mod tree;
+mod value;
 
 pub use env::{Env, Mean, StartFault};
 pub use program::{Block, Cmd, Decl, Expr, Op2, Program, Var};

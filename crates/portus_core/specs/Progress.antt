@@ -1,0 +1,12 @@
+use Rattle.std.specs.Prelude.{◌≡◌, ℕ, ◌<◌, ◌==◌, Bool, true, false, Option, Some, None, if◌then◌else◌, List, [], ◌∷◌, length, slice_get, slice_set, refl}
+use Rattle.std.specs.Option.{option_flatten}
+use Rattle.portus_core.specs.declared.progress.Progress.{Progress}
+use Rattle.portus_core.specs.Value.{Locals}
+use Rattle.portus_core.specs.Command.{Going}
+
+-- the locals whose values stand in a list, each at its number
+abbrev pub locals_of : List (Option ℕ) → Locals
+locals_of values i = option_flatten (slice_get values i)
+
+abbrev pub going_of : Progress → Going
+going_of progress = record { env = progress.env; locals = locals_of progress.locals; asked = progress.asked; falls = progress.falls }
