@@ -1,5 +1,7 @@
-use ccp_base::{FaultKind, Numbers, Place, Values};
-use std::alloc::AllocError;
+ghost use Rattle.std.specs.Prelude.{◌≡◌, IfOk};
+
+use ccp_base::{FaultKind, NoMemory, Numbers, Place, Values};
+use std::alloc::{AllocError, Global};
 
 /// What a program keeps from one acknowledgement to the next.
 #[derive(Debug, Drop)]
@@ -14,6 +16,27 @@ pub struct Env {
     pub rate: u64,
     /// Time zero, in microseconds: `Micros` counts from it.
     pub zero: u64,
+}
+
+impl Env {
+    /// An equal env in memory of its own.
+    pub(crate) fn copy(&self, alloc: Global) -> Result<Env, NoMemory>
+        ensures { IfOk result (λ env. env ≡ self.now) }
+    {
+        Ok(Env {
+            fields: copy_of(alloc, &self.fields)?,
+            controls: copy_of(alloc, &self.controls)?,
+            cwnd: self.cwnd,
+            rate: self.rate,
+            zero: self.zero,
+        })
+    }
+}
+
+fn copy_of(alloc: Global, numbers: &Numbers) -> Result<Numbers, NoMemory>
+    ensures { IfOk result (λ copy. copy ≡ numbers.now) }
+{
+    Ok(Numbers::from_vec(numbers.as_slice().to_vec(alloc)?))
 }
 
 /// What an acknowledgement comes to.
@@ -39,7 +62,6 @@ pub enum StartFault {
 }
 
 impl From<AllocError> for StartFault {
-    ghost use Rattle.std.specs.Prelude.{◌≡◌};
     ghost use Rattle.portus_core.specs.declared.env.StartFault.TheVariants.{NoMemory};
 
     ghost from_gives = { λ _ e. e ≡ NoMemory };

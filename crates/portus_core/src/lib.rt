@@ -4,6 +4,7 @@
 mod blocks;
 mod command;
 mod env;
+mod mean;
 mod program;
 mod progress;
 mod start;
