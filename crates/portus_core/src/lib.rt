@@ -11,6 +11,7 @@ mod start;
 mod tree;
 mod value;
 
+pub use mean::values_of;
 pub use env::{Env, Mean, StartFault};
 pub use program::{Block, Cmd, Decl, Expr, Op2, Program, Var};
 pub use tree::{Parts, Source, Tree, take_apart};
