@@ -1,4 +1,5 @@
 ghost use Rattle.std.specs.Prelude.{◌≡◌, ℕ, ◌+◌, ◌-◌, ◌*◌, ◌^◌, ◌<◌, ◌≤◌, ◌↔◌, [], length, None, Some, IsErr, IfOk, OnOk, OnErr, replicate};
+ghost use Rattle.std.specs.FinMap as map;
 ghost use Rattle.slot_pool.specs.Pool.{words_at, IsOut, free_of, unused, ChangesSlot, with_word};
 
 use crate::region::Region;
@@ -105,7 +106,8 @@ impl Pool {
 
     /// The number of slots that aren't out.
     pub fn free(&self) -> u32
-        ensures { result ≡ free_of self.now }
+        ensures free { result ≡ free_of self.now }
+        ensures counted { result + map.len self.now.out ≡ self.now.slots }
     {
         self.free as u32
     }
