@@ -1,5 +1,5 @@
 -- What follows from a change of one slot: the new map of the slots that are out, and how many are.
-use Rattle.std.proofs.Common.{◌≡◌, ◌≢◌, ℕ, ◌+◌, ◌-◌, ◌<◌, true, false, cond, List, Some, None, is_some, refl, sym, ap, ◌∙◌, inl, inr, arith}
+use Rattle.std.proofs.Common.{◌≡◌, ◌≢◌, ℕ, ◌+◌, ◌-◌, ◌<◌, true, false, cond, List, Option, Some, None, is_some, refl, sym, ap, ◌∙◌, inl, inr, arith}
 use Rattle.std.proofs.lemmas.Bool.{eq-eqb, ne_eqb, cases_eq, true≢false}
 use Rattle.std.specs.Ordering.{eq_by_cmp, nat_cmp}
 use Rattle.std.specs.Cmp.{nat_cmp_total, unsigned_tied}
@@ -31,7 +31,7 @@ module _ (m : map.FinMap nat_cmp (List ℕ)) (slot : ℕ) where
   get-remove_other other n = map.get-remove nat_cmp_total m slot other ∙ ap (λ b. cond b None (map.get m other)) (untied other slot n)
 
 -- two maps with the same words at a slot, and at all others, are equal
-same_out : (m n : map.FinMap nat_cmp (List ℕ)) (slot : ℕ) → map.get m slot ≡ map.get n slot → ((other : ℕ) → other ≢ slot → map.get m other ≡ map.get n other) → m ≡ n
+pub same_out : (m n : map.FinMap nat_cmp (List ℕ)) (slot : ℕ) → map.get m slot ≡ map.get n slot → ((other : ℕ) → other ≢ slot → map.get m other ≡ map.get n other) → m ≡ n
 same_out m n slot at others =
     map.same_map nat_cmp_total nat_cmp-IsAntisymmetric m n (λ q. elim (cases_eq q slot) [
       | inl e ↦ ap (map.get m) e ∙ at ∙ ap (map.get n) (sym e)
@@ -50,7 +50,7 @@ out_without old new slot c =
     (λ other n. c.others other n ∙ sym (get-remove_other old.out slot other n))
 
 -- a map with something at a slot is not empty
-some_len : (m : map.FinMap nat_cmp (List ℕ)) (slot : ℕ) → is_some (map.get m slot) ≡ true → 0 < map.len m
+pub some_len : (m : map.FinMap nat_cmp (List ℕ)) (slot : ℕ) → is_some (map.get m slot) ≡ true → 0 < map.len m
 some_len m slot here =
     elim (cases_eq (map.len m) 0) [
       | inl none ↦
@@ -80,3 +80,11 @@ len-given old new slot out c =
     ∙ map.len-remove nat_cmp_total old.out slot
     ∙ ap (λ b. cond b (map.len old.out - 1) (map.len old.out)) out in
     omega arith
+
+-- a slot that is out stays out when another one changes
+pub IsOut-kept : (old new : PoolState) (slot other : ℕ) (held : Option (List ℕ)) → ChangesSlot old new slot held → other ≢ slot → IsOut old other → IsOut new other
+IsOut-kept old new slot other held c apart out = ap is_some (c.others other apart) ∙ out
+
+-- a slot that is free is none that is out
+pub free_apart : (p : PoolState) (slot other : ℕ) → words_at p slot ≡ None → IsOut p other → other ≢ slot
+free_apart p slot other free out same = true≢false (sym out ∙ ap (λ k. is_some (words_at p k)) same ∙ ap is_some free)

@@ -1,4 +1,5 @@
 ghost use Rattle.std.specs.Prelude.{◌≡◌, ℕ, ◌+◌, ◌-◌, ◌*◌, ◌^◌, ◌<◌, ◌≤◌, ◌↔◌, [], length, None, Some, IsErr, IfOk, OnOk, OnErr, replicate};
+ghost use Rattle.std.specs.FinMap as map;
 ghost use Rattle.slot_pool.specs.Pool.{words_at, IsOut, free_of, unused, ChangesSlot, with_word};
 
 use crate::region::Region;
@@ -37,7 +38,8 @@ impl Pool {
         requires slots { 1 ≤ slots }
         requires words { 1 ≤ words }
         requires size { slots * words ≤ 2 ^ 24 }
-        ensures { IfOk result (λ pool. pool ≡ unused slots words) }
+        ensures unused { IfOk result (λ pool. pool ≡ unused slots words) }
+        ensures free { IfOk result (λ pool. free_of pool ≡ slots) }
     {
         let free = slots as usize;
         let mut region = Region::new(alloc, free, words as usize)?;
@@ -104,7 +106,8 @@ impl Pool {
 
     /// The number of slots that aren't out.
     pub fn free(&self) -> u32
-        ensures { result ≡ free_of self.now }
+        ensures free { result ≡ free_of self.now }
+        ensures counted { result + map.len self.now.out ≡ self.now.slots }
     {
         self.free as u32
     }
@@ -131,5 +134,48 @@ impl Slots for Pool {
 
     fn set_slot(&mut self, slot: &Slot, at: u32, word: u64) {
         self.write(slot, at, word)
+    }
+}
+
+#[cfg(test)]
+mod tests {
+    use super::*;
+    use std::process::Abort;
+    use std::test::Fail;
+
+    #[test]
+    fn a_full_pool_refuses(rt: HostRuntime) -> Result<(), Fail> {
+        let mut pool = Pool::new(rt.alloc(), 1, 40)?;
+        let slot = pool.take()?;
+        assert_eq!(rt; pool.free(), 0);
+        assert!(rt; pool.take().is_err());
+        pool.give(slot);
+        assert_eq!(rt; pool.free(), 1);
+        Ok(())
+    }
+
+    /// Takes two slots, writes a word of each, reads both back, and takes one of them anew.
+    fn slots_are_apart<P: Slots>(rt: &impl Abort, slots: &mut P) -> Result<(), Full>
+        requires { (P.pool slots.old).words ≡ 3 }
+    {
+        let first = slots.take_slot()?;
+        let second = slots.take_slot()?;
+        slots.set_slot(&first, 0, 7);
+        slots.set_slot(&second, 2, 8);
+        assert_eq!(rt; slots.slot(&first), [7, 0, 0].as_slice());
+        assert_eq!(rt; slots.slot(&second), [0, 0, 8].as_slice());
+        slots.give_slot(first);
+        let third = slots.take_slot()?;
+        assert_eq!(rt; slots.slot(&third), [0, 0, 0].as_slice());
+        assert_eq!(rt; slots.slot(&second), [0, 0, 8].as_slice());
+        Ok(())
+    }
+
+    #[test]
+    fn slots_keep_their_words(rt: HostRuntime) -> Result<(), Fail> {
+        let mut pool = Pool::new(rt.alloc(), 2, 3)?;
+        slots_are_apart(&rt, &mut pool)?;
+        assert_eq!(rt; pool.free(), 0);
+        Ok(())
     }
 }

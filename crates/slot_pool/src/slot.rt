@@ -35,5 +35,5 @@ impl Slot {
 }
 
 /// Every slot is out.
-#[derive(Clone, Copy, Debug, PartialEq, Eq, Drop)]
+#[derive(Clone, Copy, Debug, PartialEq, Eq)]
 pub struct Full;
