@@ -1,4 +1,4 @@
-ghost use Rattle.std.specs.Prelude.{◌≡◌, ◌+◌, ◌<◌, ◌≤◌, ◌↔◌, [], Some, IsTrue, IfOk, OnErr, IsErr, Contains, min, take, drop, length};
+ghost use Rattle.std.specs.Prelude.{◌≡◌, false, ◌+◌, ◌<◌, ◌≤◌, ◌↔◌, [], Some, IsTrue, IfOk, OnOk, OnErr, IsErr, Contains, min, take, drop, length};
 ghost use Rattle.ccp_base.specs.Outside.{Rose, Takes, IsAtEnd, Appends};
 
 use crate::outside::{Failed, fault};
@@ -74,6 +74,7 @@ impl Source for MemSource<'_> {
         ensures calls { self.new.calls ≡ min (self.old.calls + 1) u64.MAX }
         ensures same_most { self.new.most ≡ self.old.most }
         ensures same_failing { self.new.failing.now ≡ self.old.failing.now }
+        ensures quiet { OnOk result (self.new.faults ≡ self.old.faults) }
     {
         if is_listed(self.failing, &mut self.calls) {
             return Err(fault(&mut self.faults));
@@ -94,6 +95,7 @@ pub struct MemSink<'a> {
     failing: &'a [u64],
     calls: u64,
     faults: u64,
+    finished: bool,
     ghost some: { 1 ≤ most },
 }
 
@@ -107,6 +109,7 @@ impl<'a> MemSink<'a> {
         ensures failing { result.failing.now ≡ failing.entry.now }
         ensures calls { result.calls ≡ 0 }
         ensures faults { result.faults ≡ 0 }
+        ensures finished { result.finished ≡ false }
     {
         MemSink {
             bytes: Bytes::new(alloc),
@@ -114,6 +117,7 @@ impl<'a> MemSink<'a> {
             failing,
             calls: 0,
             faults: 0,
+            finished: false,
         }
     }
 
@@ -130,12 +134,21 @@ impl<'a> MemSink<'a> {
     {
         self.faults
     }
+
+    /// Whether a finish succeeded and no write came after it.
+    pub fn is_finished(&self) -> bool
+        ensures { result ≡ self.now.finished }
+    {
+        self.finished
+    }
 }
 
 impl Sink for MemSink<'_> {
     ghost written = { λ s. Some s.bytes };
 
     ghost faults = { λ s. s.faults };
+
+    ghost is_finished = { λ s. IsTrue s.finished };
 
     fn write(&mut self, bytes: &[u8]) -> Result<usize, Failed>
         ensures counted { self.old.faults ≤ self.new.faults }
@@ -149,7 +162,10 @@ impl Sink for MemSink<'_> {
         ensures calls { self.new.calls ≡ min (self.old.calls + 1) u64.MAX }
         ensures same_most { self.new.most ≡ self.old.most }
         ensures same_failing { self.new.failing.now ≡ self.old.failing.now }
+        ensures quiet { OnOk result (self.new.faults ≡ self.old.faults) }
+        ensures finished { self.new.finished ≡ false }
     {
+        self.finished = false;
         if is_listed(self.failing, &mut self.calls) {
             return Err(fault(&mut self.faults));
         }
@@ -168,10 +184,14 @@ impl Sink for MemSink<'_> {
         ensures calls { self.new.calls ≡ min (self.old.calls + 1) u64.MAX }
         ensures same_most { self.new.most ≡ self.old.most }
         ensures same_failing { self.new.failing.now ≡ self.old.failing.now }
+        ensures quiet { OnOk result (self.new.faults ≡ self.old.faults) }
+        ensures finished { OnOk result (IsTrue self.new.finished) }
+        ensures unfinished { OnErr result (self.new.finished ≡ self.old.finished) }
     {
         if is_listed(self.failing, &mut self.calls) {
             return Err(fault(&mut self.faults));
         }
+        self.finished = true;
         Ok(())
     }
 }

@@ -51,6 +51,7 @@ fn what_is_written(rt: HostRuntime) {
         assert_eq!(rt; answer, wanted, "at {most}");
         assert_eq!(rt; sink.as_slice(), written, "at {most}");
         assert_eq!(rt; sink.faults(), faults, "at {most}");
+        assert_eq!(rt; sink.is_finished(), wanted.is_ok(), "at {most}");
     }
 }
 
