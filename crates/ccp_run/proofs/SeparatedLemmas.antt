@@ -25,6 +25,7 @@ whole_with_line n text rest line after byte suffix whole =
     ∙ sym (append_assoc (take n text) line (byte ∷ after))
     ∙ sym (append_assoc (take n text ++ line) (byte ∷ []) after)
 
+-- the byte that separates lines
 line_feed : (byte : ℕ) → separates LineFeed byte ≡ true → byte ≡ 10
 line_feed byte is = grind (arith, nat_tests)
 
@@ -33,19 +34,21 @@ pub cut_from-line : (before line : List ℕ) (number : ℕ) (lines : List (List 
 cut_from-line before line number lines other =
     ap (λ b. cond b (Some (record { program = before; lines = lines; next = number + 1 })) (cut_from (before ++ line ++ 10 ∷ []) (number + 1) lines)) other
 
-module _ (text rest line : List ℕ) (number : ℕ) (cut : Option Cut) (other : is_separator line ≡ false) (suffix : drop (length text - length rest) text ≡ rest) where
+module _ (text rest line : List ℕ) (suffix : drop (length text - length rest) text ≡ rest) where
+  -- what is left after the line ends the text too
   pub suffix_past_line : (after : List ℕ) → (0 < length after → IsSplit LineFeed rest line after) → drop (length text - length after) text ≡ after
   suffix_past_line [] split = drop_front text text [] (sym (append-nil text))
   suffix_past_line (x ∷ after) split =
       let s = split (omega arith) in
       drop_front text (take (length text - length rest) text ++ line ++ s.byte ∷ []) (x ∷ after) (whole_with_line (length text - length rest) text rest line (x ∷ after) s.byte suffix s.whole)
 
-  pub cut_past_line : (after : List ℕ) → (0 < length after → IsSplit LineFeed rest line after) → parts_of LineFeed rest ≡ line ∷ parts_of LineFeed after → cut_from (take (length text - length rest) text) number (parts_of LineFeed rest) ≡ cut → cut_from (take (length text - length after) text) (number + 1) (parts_of LineFeed after) ≡ cut
-  cut_past_line [] split parts so_far =
+  -- the cut that is sought in what is left is the one that was sought before the line
+  pub cut_past_line : (number : ℕ) (cut : Option Cut) → is_separator line ≡ false → (after : List ℕ) → (0 < length after → IsSplit LineFeed rest line after) → parts_of LineFeed rest ≡ line ∷ parts_of LineFeed after → cut_from (take (length text - length rest) text) number (parts_of LineFeed rest) ≡ cut → cut_from (take (length text - length after) text) (number + 1) (parts_of LineFeed after) ≡ cut
+  cut_past_line number cut other [] split parts so_far =
       sym (cut_from-line (take (length text - length rest) text) line number [] other)
       ∙ sym (ap (cut_from (take (length text - length rest) text) number) parts)
       ∙ so_far
-  cut_past_line (x ∷ after) split parts so_far =
+  cut_past_line number cut other (x ∷ after) split parts so_far =
       let s = split (omega arith) in
       let front = take (length text - length rest) text in
       ap (λ before. cut_from before (number + 1) (parts_of LineFeed (x ∷ after))) (take_front text (front ++ line ++ s.byte ∷ []) (x ∷ after) (whole_with_line (length text - length rest) text rest line (x ∷ after) s.byte suffix s.whole))

@@ -42,6 +42,7 @@ abbrev pub with_word : Values → List ℕ → Option Values
 with_word values [] = Some values
 with_word values (byte ∷ rest) = with_item values (byte ∷ rest)
 
+-- the values with those of each of the words
 abbrev pub with_words : Option Values → List (List ℕ) → Option Values
 with_words None words = None
 with_words (Some values) [] = Some values

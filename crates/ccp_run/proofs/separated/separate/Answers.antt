@@ -11,7 +11,7 @@ loop-rest-preserved c =
     let after = c.first_part.result.1.now in
     let so_far = c.loop-rest.invariant in
     record {
-      going = cut_past_line text rest line (c.loop-rest.before + 1) (cut_of text) (cc) so_far.suffix after c.first_part.ensures.split c.first_part.ensures.parts so_far.going;
-      suffix = suffix_past_line text rest line (c.loop-rest.before + 1) (cut_of text) (cc) so_far.suffix after c.first_part.ensures.split;
+      going = cut_past_line text rest line so_far.suffix (c.loop-rest.before + 1) (cut_of text) (cc) after c.first_part.ensures.split c.first_part.ensures.parts so_far.going;
+      suffix = suffix_past_line text rest line so_far.suffix after c.first_part.ensures.split;
       room = omega arith;
     }
