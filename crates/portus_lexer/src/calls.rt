@@ -1,12 +1,20 @@
-ghost use Rattle.std.specs.Prelude.{◌≤◌, length};
+ghost use Rattle.std.specs.Prelude.{◌≡◌, ◌≤◌, List, length, IfOk, IfErr, OnOk};
+ghost use Rattle.portus_lexer.specs.declared.token.Token.{Token};
+ghost use Rattle.portus_lexer.specs.declared.within.Within.TheVariants.{Gap};
+ghost use Rattle.portus_lexer.specs.Places.{first_place};
+ghost use Rattle.portus_lexer.specs.Lexemes.{AreTokens};
+ghost use Rattle.portus_lexer.specs.Strays.{stray_of, HasCause};
+ghost use Rattle.portus_lexer.specs.Scanning.{scan, EndsScan};
 
 use crate::scan::Scan;
 use crate::token::{LexFault, Tokens};
 use std::alloc::Global;
 
-/// The tokens of a text in order, each with its span. The text has at most 65,536 bytes.
-pub fn tokens(alloc: Global, text: &[u8]) -> Result<Tokens, LexFault>
+/// The tokens that one pass over the text finds.
+fn scanned(alloc: Global, text: &[u8]) -> Result<Tokens, LexFault>
     requires { length text.now ≤ 65536 }
+    ensures found { IfOk result (λ tokens. scan Gap first_place 0 text.now ≡ Ok tokens) }
+    ensures refused { IfErr result (EndsScan (scan Gap first_place 0 text.now)) }
 {
     let mut tokens = Tokens::new(alloc);
     let mut scan = Scan::start();
@@ -15,6 +23,22 @@ pub fn tokens(alloc: Global, text: &[u8]) -> Result<Tokens, LexFault>
     }
     scan.close(&mut tokens)?;
     Ok(tokens)
+}
+
+/// The tokens of a text in order, each with its span. The text has at most 65,536 bytes.
+#[tactic(auto, using(crate::proofs::Laws::exact))]
+pub fn tokens(alloc: Global, text: &[u8]) -> Result<Tokens, LexFault>
+    requires { length text.now ≤ 65536 }
+    ensures found { IfOk result (AreTokens text.now) }
+
+    // A text has one list of tokens.
+    ensures only { IfOk result (λ tokens. (others : List Token) → AreTokens text.now others → others ≡ tokens) }
+
+    // The place of the first byte outside comments that isn't allowed there is answered where there is one.
+    ensures clean { OnOk result (stray_of text.now ≡ None) }
+    ensures refused { IfErr result (HasCause text.now) }
+{
+    scanned(alloc, text)
 }
 
 #[cfg(test)]

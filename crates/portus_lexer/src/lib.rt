@@ -4,5 +4,6 @@
 pub mod calls;
 mod scan;
 mod token;
+mod within;
 
 pub use token::{LexFault, TEXT_BYTES, Token, Tokens};

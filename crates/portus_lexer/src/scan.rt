@@ -1,17 +1,12 @@
-ghost use Rattle.std.specs.Prelude.{◌≡◌, ◌+◌, ◌<◌, ◌≤◌, IfOk};
+ghost use Rattle.std.specs.Prelude.{◌≡◌, ◌+◌, ◌<◌, ◌≤◌, ◌++◌, ◌||◌, ◌==◌, [], IfOk, IfErr, OnOk, false, if◌then◌else◌};
+ghost use Rattle.portus_lexer.specs.declared.within.Within.TheVariants.{Gap};
 ghost use Rattle.portus_lexer.specs.Bytes.{is_allowed, is_atom_byte};
+ghost use Rattle.portus_lexer.specs.Places.{first_place, step};
+ghost use Rattle.portus_lexer.specs.Scanning.{is_refused, after_mark, within_next, closed, parenthesis, put_by, FaultsAt};
 
 use crate::token::{LexFault, Token, Tokens};
+use crate::within::Within;
 use ccp_base::Place;
-
-/// What the next byte of a text lies in.
-#[derive(Clone, Copy)]
-pub enum Within {
-    Gap,
-    Comment,
-    /// An atom that began at this place, with the byte of this number.
-    Atom(Place, u32),
-}
 
 /// How far a text has been cut: the number of the next byte, its place and what it lies in.
 #[derive(Clone, Copy)]
@@ -37,10 +32,42 @@ fn is_atom_byte(byte: u8) -> bool
     byte > b' ' && byte <= b'~' && byte != b'(' && byte != b')' && byte != b'#'
 }
 
+/// The place after a byte.
+fn step(place: Place, byte: u8) -> Place
+    requires lines { place.line ≤ 65536 }
+    requires columns { place.column ≤ 65536 }
+    ensures { result ≡ step place byte }
+{
+    if byte == b'\n' {
+        Place {
+            line: place.line + 1,
+            column: 1,
+        }
+    } else {
+        Place {
+            line: place.line,
+            column: place.column + 1,
+        }
+    }
+}
+
+/// What the byte after one that belongs to no atom lies in.
+fn after_mark(byte: u8) -> Within
+    ensures { result ≡ after_mark byte }
+{
+    if byte == b'#' {
+        Within::Comment
+    } else {
+        Within::Gap
+    }
+}
+
 impl Scan {
     /// At the text's first byte.
     pub fn start() -> Self
-        ensures { result.at ≡ 0 }
+        ensures number { result.at ≡ 0 }
+        ensures place { result.place ≡ first_place }
+        ensures within { result.within ≡ Gap }
     {
         Scan {
             at: 0,
@@ -49,39 +76,50 @@ impl Scan {
         }
     }
 
-    /// Past the byte, with what the byte after it lies in.
-    fn past(self, byte: u8, within: Within) -> Self
-        requires { self.at < 65536 }
-        ensures { result.at ≡ self.at + 1 }
+    /// What the byte after this one lies in.
+    fn next(&self, byte: u8) -> Within
+        ensures { result ≡ within_next self.now.within self.now.place self.now.at byte }
     {
-        let place = if byte == b'\n' {
-            Place {
-                line: self.place.line + 1,
-                column: 1,
+        match self.within {
+            Within::Comment => {
+                if byte == b'\n' {
+                    Within::Gap
+                } else {
+                    Within::Comment
+                }
             }
-        } else {
-            Place {
-                line: self.place.line,
-                column: self.place.column + 1,
+            Within::Gap => {
+                if is_atom_byte(byte) {
+                    Within::Atom(self.place, self.at)
+                } else {
+                    after_mark(byte)
+                }
             }
-        };
-        Scan {
-            at: self.at + 1,
-            place,
-            within,
+            Within::Atom(place, start) => {
+                if is_atom_byte(byte) {
+                    Within::Atom(place, start)
+                } else {
+                    after_mark(byte)
+                }
+            }
         }
     }
 
-    /// What the byte after an atom's byte lies in: the atom that is open, or else one that began with this byte.
-    fn atom(&self) -> Within {
+    /// Whether the byte may not stand here.
+    fn refuses(&self, byte: u8) -> bool
+        ensures { result ≡ is_refused self.now.within byte }
+    {
         match self.within {
-            Within::Atom(place, start) => Within::Atom(place, start),
-            Within::Gap | Within::Comment => Within::Atom(self.place, self.at),
+            Within::Comment => false,
+            Within::Gap | Within::Atom(..) => !is_allowed(byte),
         }
     }
 
     /// Puts the open atom, if there is one, at the tokens' end.
-    pub fn close(&self, tokens: &mut Tokens) -> Result<(), LexFault> {
+    pub fn close(&self, tokens: &mut Tokens) -> Result<(), LexFault>
+        ensures ok { OnOk result (tokens.new ≡ tokens.old ++ closed self.now.within self.now.at) }
+        ensures refused { IfErr result (FaultsAt self.now.place false) }
+    {
         if let Within::Atom(place, start) = self.within {
             tokens.push(Token {
                 place,
@@ -95,6 +133,8 @@ impl Scan {
     /// Puts the byte, if it is a parenthesis, at the tokens' end.
     fn parenthesis(&self, tokens: &mut Tokens, byte: u8) -> Result<(), LexFault>
         requires { self.now.at < 65536 }
+        ensures ok { OnOk result (tokens.new ≡ tokens.old ++ parenthesis self.now.place self.now.at byte) }
+        ensures refused { IfErr result (FaultsAt self.now.place false) }
     {
         if byte == b'(' || byte == b')' {
             tokens.push(Token {
@@ -106,32 +146,42 @@ impl Scan {
         Ok(())
     }
 
+    /// Puts what ends with the byte at the tokens' end.
+    fn put(&self, tokens: &mut Tokens, byte: u8) -> Result<(), LexFault>
+        requires { self.now.at < 65536 }
+        ensures ok { OnOk result (tokens.new ≡ tokens.old ++ put_by self.now.within self.now.place self.now.at byte) }
+        ensures refused { IfErr result (FaultsAt self.now.place false) }
+    {
+        match self.within {
+            Within::Comment => Ok(()),
+            Within::Gap | Within::Atom(..) => {
+                if is_atom_byte(byte) {
+                    return Ok(());
+                }
+                self.close(tokens)?;
+                self.parenthesis(tokens, byte)
+            }
+        }
+    }
+
     /// Reads a byte: puts what ends with it at the tokens' end.
     pub fn read(self, tokens: &mut Tokens, byte: u8) -> Result<Self, LexFault>
         requires { self.at < 65536 }
-        ensures { IfOk result (λ scan. scan.at ≡ self.at + 1) }
+        ensures number { IfOk result (λ next. next.at ≡ self.at + 1) }
+        ensures place { IfOk result (λ next. next.place ≡ step self.place byte) }
+        ensures within { IfOk result (λ next. next.within ≡ within_next self.within self.place self.at byte) }
+        ensures allowed { OnOk result (is_refused self.within byte ≡ false) }
+        ensures tokens { OnOk result (tokens.new ≡ tokens.old ++ put_by self.within self.place self.at byte) }
+        ensures refused { IfErr result (FaultsAt self.place (is_refused self.within byte)) }
     {
-        if let Within::Comment = self.within {
-            let within = if byte == b'\n' {
-                Within::Gap
-            } else {
-                Within::Comment
-            };
-            return Ok(self.past(byte, within));
-        }
-        if !is_allowed(byte) {
+        if self.refuses(byte) {
             return Err(LexFault::NotText(self.place));
         }
-        if is_atom_byte(byte) {
-            return Ok(self.past(byte, self.atom()));
-        }
-        self.close(tokens)?;
-        self.parenthesis(tokens, byte)?;
-        let within = if byte == b'#' {
-            Within::Comment
-        } else {
-            Within::Gap
-        };
-        Ok(self.past(byte, within))
+        self.put(tokens, byte)?;
+        Ok(Scan {
+            at: self.at + 1,
+            place: step(self.place, byte),
+            within: self.next(byte),
+        })
     }
 }
