@@ -86,3 +86,16 @@ refusal_part TooManyAcks = codes "too many acknowledgements\n"
 -- the line that tells why an input is refused
 abbrev pub refusal_line : Refusal → List ℕ
 refusal_line refusal = codes "ccp: input refused: " ⧺ refusal_part refusal
+
+-- the lines that tell that the words are refused, that a read or a write failed, and that memory was wanted
+abbrev pub words_line : List ℕ
+words_line = codes "ccp: words refused\n"
+
+abbrev pub read_line : List ℕ
+read_line = codes "ccp: read fault\n"
+
+abbrev pub write_line : List ℕ
+write_line = codes "ccp: write fault\n"
+
+abbrev pub memory_line : List ℕ
+memory_line = codes "ccp: no memory\n"

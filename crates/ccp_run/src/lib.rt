@@ -3,6 +3,7 @@
 
 mod ack_line;
 mod acks;
+mod answer;
 pub mod calls;
 mod fold;
 mod mode;
