@@ -69,7 +69,7 @@ abbrev pub part_of : Block → Part
 part_of block = record {
   condition = term_of block.condition;
   body = map action_of block.body.items;
-  locals = block.locals
+  locals = block.locals;
 }
 
 -- what the lists of a program stand for
