@@ -1,0 +1,11 @@
+//! What the names of a program text stand for: a text's forms become a program, or are refused where the first
+//! rule of the language fails.
+#![tactic(auto)]
+
+mod expression;
+mod fault;
+mod meaning;
+mod names;
+mod words;
+
+pub use fault::{ScopeFault, What};
