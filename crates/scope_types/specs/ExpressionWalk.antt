@@ -1,4 +1,4 @@
-use Rattle.std.specs.Prelude.{ℕ, ◌^◌, Bool, true, false, List, Option, Some, None, Result, Ok, Err, if◌then◌else◌, nat_lt}
+use Rattle.std.specs.Prelude.{ℕ, ◌^◌, List, Option, Some, None, Result, Ok, Err, if◌then◌else◌, nat_lt}
 use Rattle.ccp_base.specs.declared.place.Place.{Place}
 use Rattle.portus_core.specs.declared.program.Op2.{Op2}
 use Rattle.portus_core.specs.declared.program.Var.{Var}
@@ -7,15 +7,8 @@ use Rattle.portus_core.specs.Trees.{Node, Nodes, none, more}
 use Rattle.portus_core.specs.Trees as node
 use Rattle.scope_types.specs.declared.fault.ScopeFault.{ScopeFault}
 use Rattle.scope_types.specs.declared.fault.ScopeFault.TheVariants.{Unknown, Misplaced}
-use Rattle.scope_types.specs.declared.names.Names.{Names}
 use Rattle.scope_types.specs.Words.{operator_of, constant_of, variable_of, is_reserved}
-use Rattle.scope_types.specs.Names.{meaning_of}
-
--- what a part's place is
-abbrev pub place_of : Node → Place
-place_of (node.number at n) = at
-place_of (node.word at w) = at
-place_of (node.list at parts) = at
+use Rattle.scope_types.specs.Names.{Scope, meaning_of}
 
 -- a value where it is there, else this refusal
 abbrev pub or_refused : {A : Type 0} → Option A → ScopeFault → Result A ScopeFault
@@ -27,11 +20,11 @@ name_walk (Ok v) = Ok (name v)
 name_walk (Err e) = Err e
 
 -- the variable that a word stands for
-abbrev pub variable_walk : Names → Place → List ℕ → Option Var → Result Var ScopeFault
+abbrev pub variable_walk : Scope → Place → List ℕ → Option Var → Result Var ScopeFault
 variable_walk names at w (Some v) = Ok v
 variable_walk names at w None = if is_reserved w then Err (Misplaced at) else or_refused (meaning_of names w) (Unknown at)
 
-abbrev pub word_walk : Names → Place → List ℕ → Option Term → Result Term ScopeFault
+abbrev pub word_walk : Scope → Place → List ℕ → Option Term → Result Term ScopeFault
 word_walk names at w (Some term) = Ok term
 word_walk names at w None = name_walk (variable_walk names at w (variable_of w))
 
@@ -42,7 +35,7 @@ pair_walk at head (Some op) (Ok left) (Err e) = Err e
 pair_walk at head (Some op) (Ok left) (Ok right) = Ok (pair op head left right)
 
 -- an expression: the left part is walked before the right one
-abbrev pub expression_walk : Names → Node → Result Term ScopeFault
+abbrev pub expression_walk : Scope → Node → Result Term ScopeFault
 expression_walk names (node.number at n) = if nat_lt n (2 ^ 64) then Ok (number n) else Err (Misplaced at)
 expression_walk names (node.word at w) = word_walk names at w (constant_of w)
 expression_walk names (node.list at (more (node.word head w) (more left (more right none)))) =

@@ -1,9 +1,9 @@
 ghost use Rattle.std.specs.Prelude.{◌≡◌, ◌≢◌, IfOk, IfErr, Ok, Err};
 ghost use Rattle.portus_core.specs.Trees.{node_of};
 ghost use Rattle.portus_core.specs.Programs.{term_of, pair};
-ghost use Rattle.scope_types.specs.Names.{meaning_of};
-ghost use Rattle.scope_types.specs.ExpressionWalk.{expression_walk, variable_walk, word_walk, place_of};
+ghost use Rattle.scope_types.specs.ExpressionWalk.{expression_walk, variable_walk, word_walk};
 ghost use Rattle.scope_types.specs.Words.{constant_of, variable_of};
+ghost use Rattle.scope_types.specs.Names.{scope_of};
 
 use crate::fault::ScopeFault;
 use crate::meaning::meaning_of;
@@ -13,20 +13,9 @@ use ccp_base::Place;
 use portus_core::{Expr, Op2, Parts, Tree, Var, take_apart};
 use std::alloc::Global;
 
-/// The place of a part of a text.
-pub(crate) fn place_of(tree: &Tree) -> Place
-    ensures { result ≡ place_of (node_of tree.now) }
-{
-    match tree {
-        Tree::Num(at, _) => *at,
-        Tree::Word(at, _) => *at,
-        Tree::List(at, _) => *at,
-    }
-}
-
 /// The variable that a word stands for.
 pub(crate) fn variable(names: &Names, at: Place, w: &[u8]) -> Result<Var, ScopeFault>
-    ensures { result ≡ variable_walk names.now at w.now (variable_of w.now) }
+    ensures { result ≡ variable_walk (scope_of names.now) at w.now (variable_of w.now) }
 {
     if let Some(var) = variable_of(w) {
         return Ok(var);
@@ -39,8 +28,8 @@ pub(crate) fn variable(names: &Names, at: Place, w: &[u8]) -> Result<Var, ScopeF
 
 /// The value or the variable that a word stands for.
 fn word(names: &Names, at: Place, w: &[u8]) -> Result<Expr, ScopeFault>
-    ensures ok { IfOk result (λ e. word_walk names.now at w.now (constant_of w.now) ≡ Ok (term_of e)) }
-    ensures err { IfErr result (λ e. word_walk names.now at w.now (constant_of w.now) ≡ Err e) }
+    ensures ok { IfOk result (λ e. word_walk (scope_of names.now) at w.now (constant_of w.now) ≡ Ok (term_of e)) }
+    ensures err { IfErr result (λ e. word_walk (scope_of names.now) at w.now (constant_of w.now) ≡ Err e) }
 {
     if same(w, b"true") {
         Ok(Expr::Truth(true))
@@ -65,8 +54,8 @@ fn pair(alloc: Global, op: Op2, head: Place, left: Expr, right: Expr) -> Result<
 
 /// An expression: the left part is looked at before the right one.
 pub(crate) fn expression(alloc: Global, names: &Names, tree: &Tree) -> Result<Expr, ScopeFault>
-    ensures ok { IfOk result (λ e. expression_walk names.now (node_of tree.now) ≡ Ok (term_of e)) }
-    ensures err { IfErr result (λ e. e ≢ ScopeFault.NoMemory → expression_walk names.now (node_of tree.now) ≡ Err e) }
+    ensures ok { IfOk result (λ e. expression_walk (scope_of names.now) (node_of tree.now) ≡ Ok (term_of e)) }
+    ensures err { IfErr result (λ e. e ≢ ScopeFault.NoMemory → expression_walk (scope_of names.now) (node_of tree.now) ≡ Err e) }
 {
     match tree {
         Tree::Num(_, value) => Ok(Expr::Num(*value)),

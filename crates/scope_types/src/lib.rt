@@ -2,10 +2,18 @@
 //! rule of the language fails.
 #![tactic(auto)]
 
+mod block;
+mod command;
+mod declaration;
 mod expression;
 mod fault;
 mod meaning;
 mod names;
+mod parts;
+mod source;
+mod target;
+mod value;
 mod words;
 
 pub use fault::{ScopeFault, What};
+pub use source::scope;

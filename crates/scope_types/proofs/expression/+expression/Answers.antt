@@ -1,4 +1,3 @@
-use Rattle.std.proofs.Common.{sym}
 use Rattle.scope_types.proofs.Sizes.{falls_left, falls_right}
 use Rattle.scope_types.proofs.expression.+expression.Goals as goal
 
