@@ -3,7 +3,7 @@ use Rattle.ccp_base.specs.declared.place.Place.{Place}
 use Rattle.portus_core.specs.Programs.{Part}
 use Rattle.portus_core.specs.Trees.{Node, Nodes, more}
 use Rattle.scope_types.specs.declared.fault.ScopeFault.{ScopeFault}
-use Rattle.scope_types.specs.Names.{Scope}
+use Rattle.scope_types.specs.Scope.{Scope}
 use Rattle.scope_types.specs.ProgramWalk.{without_locals, inner_walk, block_walk}
 
 -- the walk of a block is that of its condition and its commands

@@ -11,7 +11,8 @@ use Rattle.scope_types.specs.declared.names.Local.{Local}
 use Rattle.scope_types.specs.declared.target.Target.{Target}
 use Rattle.scope_types.specs.declared.target.Target.TheVariants.{Known as Meant, Fresh}
 use Rattle.scope_types.specs.Words.{variable_of, is_reserved, is_field_use, is_primitive_use}
-use Rattle.scope_types.specs.Names.{Scope, meaning_of, known_in}
+use Rattle.scope_types.specs.Names.{meaning_of}
+use Rattle.scope_types.specs.Scope.{Scope, known_in}
 use Rattle.scope_types.specs.ExpressionWalk.{expression_walk}
 use Rattle.scope_types.specs.CommandWalk as walk
 use Rattle.scope_types.proofs.Results.{if_ok, then_ok, both_true, ok_map}

@@ -13,7 +13,8 @@ use Rattle.scope_types.specs.declared.names.Local.{Local}
 use Rattle.scope_types.specs.declared.fault.ScopeFault.{ScopeFault}
 use Rattle.scope_types.specs.declared.fault.ScopeFault.TheVariants.{Unknown}
 use Rattle.scope_types.specs.Words.{operator_of, constant_of, variable_of, primitive_of, acknowledged_of, is_reserved, is_field_use}
-use Rattle.scope_types.specs.Names.{Scope, decl_from, local_from, named, meaning_of, known_in}
+use Rattle.scope_types.specs.Names.{decl_from, local_from, named, meaning_of}
+use Rattle.scope_types.specs.Scope.{Scope, known_in}
 use Rattle.scope_types.specs.ExpressionWalk.{or_refused, name_walk, variable_walk, word_walk, pair_walk, expression_walk}
 use Rattle.scope_types.proofs.Results.{if_ok, both_true}
 

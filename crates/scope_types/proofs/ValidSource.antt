@@ -7,7 +7,8 @@ use Rattle.portus_core.specs.Trees.{Node, Nodes, none, more, number, word, list}
 use Rattle.portus_core.specs.ValidPrograms.{Known, is_condition, is_body, is_part, are_parts, is_valid}
 use Rattle.scope_types.specs.declared.declaration.Declaration.{Declaration}
 use Rattle.scope_types.specs.declared.fault.ScopeFault.{ScopeFault}
-use Rattle.scope_types.specs.Names.{Scope, decl_from, known_in}
+use Rattle.scope_types.specs.Names.{decl_from}
+use Rattle.scope_types.specs.Scope.{Scope, known_in}
 use Rattle.scope_types.specs.ExpressionWalk.{expression_walk}
 use Rattle.scope_types.specs.DeclarationWalk as walk
 use Rattle.scope_types.specs.CommandWalk.{body_walk}

@@ -10,7 +10,8 @@ use Rattle.scope_types.specs.declared.declaration.Start.{Start}
 use Rattle.scope_types.specs.declared.declaration.Declaration.{Declaration}
 use Rattle.scope_types.specs.declared.declaration.Declared.{Declared}
 use Rattle.scope_types.specs.Words.{is_name_shaped, is_reserved, is_field_use, is_primitive_use}
-use Rattle.scope_types.specs.Names.{Scope, scope_of, decl_from}
+use Rattle.scope_types.specs.Names.{decl_from}
+use Rattle.scope_types.specs.Scope.{Scope, scope_of}
 use Rattle.scope_types.specs.Walk.{place_of, and_then}
 
 -- what the parts of `def` so far declare, and whether the group of fields was there

@@ -8,7 +8,8 @@ use Rattle.portus_core.specs.Trees as node
 use Rattle.scope_types.specs.declared.fault.ScopeFault.{ScopeFault}
 use Rattle.scope_types.specs.declared.fault.ScopeFault.TheVariants.{Unknown, Misplaced}
 use Rattle.scope_types.specs.Words.{operator_of, constant_of, variable_of, is_reserved}
-use Rattle.scope_types.specs.Names.{Scope, meaning_of}
+use Rattle.scope_types.specs.Names.{meaning_of}
+use Rattle.scope_types.specs.Scope.{Scope}
 
 -- a value where it is there, else this refusal
 abbrev pub or_refused : {A : Type 0} → Option A → ScopeFault → Result A ScopeFault

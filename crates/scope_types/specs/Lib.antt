@@ -1,4 +1,5 @@
 pub mod Words
+pub mod Scope
 pub mod Names
 pub mod Walk
 pub mod ExpressionWalk
@@ -6,3 +7,4 @@ pub mod DeclarationWalk
 pub mod CommandWalk
 pub mod ProgramWalk
 pub mod Steps
+pub mod WellScoped

@@ -2,19 +2,9 @@ use Rattle.std.specs.Prelude.{ℕ, ◌+◌, List, [], ◌∷◌, map, drop, Opti
 use Rattle.portus_core.specs.declared.program.Decl.{Decl}
 use Rattle.portus_core.specs.declared.program.Var.{Var}
 use Rattle.portus_core.specs.declared.program.Var.TheVariants as var
-use Rattle.portus_core.specs.ValidPrograms.{Known}
-use Rattle.scope_types.specs.declared.names.Names.{Names}
 use Rattle.scope_types.specs.declared.names.Local.{Local}
+use Rattle.scope_types.specs.Scope.{Scope}
 use Rattle.scope_types.specs.Words.{primitive_of, is_field_use}
-
--- the names that have a meaning beside those of the language
-pub record Scope : Type 0 where
-  pub fields : List Decl
-  pub controls : List Decl
-  pub locals : List Local
-
-abbrev pub scope_of : Names → Scope
-scope_of names = record { fields = names.fields; controls = names.controls; locals = names.locals }
 
 -- the number of the declaration that has this name, counted from `i`
 abbrev pub decl_from : ℕ → List Decl → List ℕ → Option ℕ
@@ -35,7 +25,3 @@ abbrev pub meaning_of : Scope → List ℕ → Option Var
 meaning_of names w =
     if is_field_use w then named var.Field (decl_from 0 names.fields (drop 7 w)) None
     else named var.Prim (primitive_of w) (named var.Control (decl_from 0 names.controls w) (named var.Local (local_from 0 names.locals w) None))
-
--- the names without their texts
-abbrev pub known_in : Scope → Known
-known_in names = record { fields = names.fields; controls = names.controls; locals = map (λ (l : Local). l.truth) names.locals }

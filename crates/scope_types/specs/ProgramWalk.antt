@@ -5,7 +5,7 @@ use Rattle.portus_core.specs.Trees.{Node, Nodes, word, list, none, more}
 use Rattle.scope_types.specs.declared.fault.ScopeFault.{ScopeFault}
 use Rattle.scope_types.specs.declared.fault.ScopeFault.TheVariants.{Misplaced, TooMany}
 use Rattle.scope_types.specs.declared.fault.What.TheVariants.{Blocks}
-use Rattle.scope_types.specs.Names.{Scope}
+use Rattle.scope_types.specs.Scope.{Scope}
 use Rattle.scope_types.specs.Walk.{place_of, and_then}
 use Rattle.scope_types.specs.ExpressionWalk.{expression_walk}
 use Rattle.scope_types.specs.DeclarationWalk.{Declaring, parts_walk}

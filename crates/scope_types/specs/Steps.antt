@@ -4,7 +4,7 @@ use Rattle.portus_core.specs.declared.program.Cmd.{Cmd}
 use Rattle.portus_core.specs.declared.program.Block.{Block}
 use Rattle.scope_types.specs.declared.value.Step.{Step}
 use Rattle.scope_types.specs.declared.block.Built.{Built}
-use Rattle.scope_types.specs.Names.{Scope, scope_of}
+use Rattle.scope_types.specs.Scope.{Scope, scope_of}
 
 -- what a command and the names after it stand for
 abbrev pub step_of : Step → Action × Scope

@@ -98,3 +98,8 @@ is_field_use w = starts_with nat_eq w (codes "Report.")
 -- a word that only a primitive may be
 abbrev pub is_primitive_use : List ℕ → Bool
 is_primitive_use w = starts_with nat_eq w (codes "Ack.") || starts_with nat_eq w (codes "Flow.")
+
+-- whether a value is a Bool
+abbrev pub constant_truth : Term → Bool
+constant_truth (truth b) = true
+constant_truth _ = false

@@ -3,7 +3,7 @@ ghost use Rattle.portus_core.specs.Trees.{node_of, nodes_of};
 ghost use Rattle.portus_core.specs.Programs.{term_of};
 ghost use Rattle.scope_types.specs.ProgramWalk.{without_locals, condition_walk, inner_walk, block_walk, form_walk, blocks_walk};
 ghost use Rattle.scope_types.specs.Steps.{built_of, blocks_of};
-ghost use Rattle.scope_types.specs.Names.{scope_of};
+ghost use Rattle.scope_types.specs.Scope.{scope_of};
 
 use crate::command::{Body, commands};
 use crate::expression::expression;

@@ -2,7 +2,7 @@ ghost use Rattle.std.specs.Prelude.{◌≡◌, ◌≢◌, IfOk, IfErr, Ok, Err, 
 ghost use Rattle.portus_core.specs.Trees.{node_of, nodes_of};
 ghost use Rattle.scope_types.specs.CommandWalk.{assignment_walk, command_walk, body_walk};
 ghost use Rattle.scope_types.specs.Steps.{step_of, actions_of};
-ghost use Rattle.scope_types.specs.Names.{scope_of};
+ghost use Rattle.scope_types.specs.Scope.{scope_of};
 
 use crate::fault::ScopeFault;
 use crate::names::Names;

@@ -3,7 +3,7 @@ ghost use Rattle.portus_core.specs.Trees.{node_of};
 ghost use Rattle.portus_core.specs.Programs.{term_of, pair};
 ghost use Rattle.scope_types.specs.ExpressionWalk.{expression_walk, variable_walk, word_walk};
 ghost use Rattle.scope_types.specs.Words.{constant_of, variable_of};
-ghost use Rattle.scope_types.specs.Names.{scope_of};
+ghost use Rattle.scope_types.specs.Scope.{scope_of};
 
 use crate::fault::ScopeFault;
 use crate::meaning::meaning_of;

@@ -3,7 +3,8 @@ ghost use Rattle.portus_core.specs.Programs.{term_of};
 ghost use Rattle.portus_core.specs.ValidPrograms.{declares_truth, is_told, gives_truth};
 ghost use Rattle.scope_types.specs.declared.names.Local.{Local};
 ghost use Rattle.scope_types.specs.CommandWalk.{is_bool, wants_bool};
-ghost use Rattle.scope_types.specs.Names.{scope_of, decl_from, local_from, meaning_of};
+ghost use Rattle.scope_types.specs.Names.{decl_from, local_from, meaning_of};
+ghost use Rattle.scope_types.specs.Scope.{scope_of};
 
 use crate::names::{Local, Names};
 use crate::words::{is_field_use, primitive_of, same};

@@ -4,7 +4,7 @@ ghost use Rattle.portus_core.specs.Programs.{form_over};
 ghost use Rattle.portus_core.specs.ValidPrograms.{is_valid};
 ghost use Rattle.scope_types.specs.DeclarationWalk.{declaring_of};
 ghost use Rattle.scope_types.specs.ProgramWalk.{nothing_declared, def_walk, source_walk};
-ghost use Rattle.scope_types.specs.Names.{scope_of};
+ghost use Rattle.scope_types.specs.Scope.{scope_of};
 
 use crate::block::{Blocks, later_forms};
 use crate::declaration::{Declared, parts};

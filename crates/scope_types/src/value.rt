@@ -4,7 +4,7 @@ ghost use Rattle.portus_core.specs.Programs.{term_of};
 ghost use Rattle.scope_types.specs.CommandWalk.{micros_walk, kind_walk, choice_walk, weight_walk, ewma_walk, set_walk, plain_walk, value_walk};
 ghost use Rattle.scope_types.specs.Steps.{step_of};
 ghost use Rattle.scope_types.specs.Walk.{place_of};
-ghost use Rattle.scope_types.specs.Names.{scope_of};
+ghost use Rattle.scope_types.specs.Scope.{scope_of};
 
 use crate::expression::expression;
 use crate::fault::{ScopeFault, What};

@@ -1,6 +1,6 @@
 use Rattle.scope_types.proofs.Results.{ok_map, err_map}
 use Rattle.scope_types.proofs.Blocks.{block_walk-inner}
-use Rattle.scope_types.specs.Names.{scope_of}
+use Rattle.scope_types.specs.Scope.{scope_of}
 use Rattle.scope_types.proofs.block.block.Goals as goal
 
 pub returns-in-First-clause-ok : goal.returns-in-First-clause-ok

@@ -1,7 +1,7 @@
 use Rattle.std.proofs.Common.{◌≡◌, length}
 use Rattle.portus_core.specs.Trees.{nodes_of}
 use Rattle.scope_types.specs.DeclarationWalk.{fields_walk}
-use Rattle.scope_types.specs.Names.{scope_of}
+use Rattle.scope_types.specs.Scope.{scope_of}
 use Rattle.scope_types.proofs.declaration.fields.Given as goal
 
 abbrev pub invariant-loop-part : goal.invariant-loop-part

@@ -1,5 +1,5 @@
 use Rattle.portus_core.specs.Trees.{node_of, nodes_of}
-use Rattle.scope_types.specs.Names.{scope_of}
+use Rattle.scope_types.specs.Scope.{scope_of}
 use Rattle.scope_types.specs.Steps.{blocks_of}
 use Rattle.scope_types.proofs.ValidSource.{parts_valid}
 use Rattle.scope_types.proofs.source.scope_forms.Goals as goal
