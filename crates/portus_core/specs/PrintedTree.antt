@@ -1,6 +1,5 @@
 use Rattle.std.specs.Prelude.{ℕ, List, [], ◌++◌, codes}
 use Rattle.std.specs.Fmt.{decimal}
-use Rattle.ccp_base.specs.declared.place.Place.{Place}
 use Rattle.portus_core.specs.Trees.{Node, number, word, list, Nodes, none, more}
 
 -- the text of a tree: numerals without leading zeros, and one space between the parts of a list

@@ -53,7 +53,10 @@ fn starts_and_reports(rt: HostRuntime) -> Result<(), Fail> {
 fn prints_a_tree(rt: HostRuntime) -> Result<(), Fail> {
     let name = Name::new(b"def").ok_or("a name")?;
     let inner = Tree::List(HERE, Vec::new(rt.alloc()));
-    let parts = Vec::from_array(rt.alloc(), [Tree::Word(HERE, name), inner, Tree::Num(HERE, 70)])?;
+    let parts = Vec::from_array(
+        rt.alloc(),
+        [Tree::Word(HERE, name), inner, Tree::Num(HERE, 70)],
+    )?;
     let source = Source {
         forms: Vec::from_array(rt.alloc(), [Tree::List(HERE, parts)])?,
     };
