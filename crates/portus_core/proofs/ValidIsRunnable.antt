@@ -1,10 +1,9 @@
 -- What is run of a valid program has a place for each local, and each weight is at most ten tenths.
-use Rattle.std.proofs.Common.{◌≡◌, refl, ℕ, ◌+◌, ◌≤◌, ◌<◌, Bool, true, false, not, ◌&&◌, ◌||◌, ◌==◌, nat_lt, nat_le, ◌⊎◌, inl, inr, List, [], ◌∷◌, ◌++◌, length, arith, length-append, lit≤, ◌∙◌, ap, sym}
+use Rattle.std.proofs.Common.{◌≡◌, refl, ℕ, ◌≤◌, ◌<◌, Bool, true, false, not, ◌&&◌, ◌||◌, ◌==◌, nat_lt, nat_le, ◌⊎◌, inl, inr, List, [], ◌∷◌, length, arith, length-append, lit≤}
 use Rattle.std.proofs.lemmas.Bool.{ltb-true, lt-ltb, leb-true, eqb-true}
-use Rattle.std.proofs.lemmas.Bool.Decides.{nat_tests}
 use Rattle.portus_core.specs.declared.program.Var.{Var}
 use Rattle.portus_core.specs.declared.program.Var.TheVariants as var
-use Rattle.portus_core.specs.Programs.{Term, Action, set, set_if, set_unless, ewma, zero_micros, report, fall, Part, Form}
+use Rattle.portus_core.specs.Programs.{Action, set, set_if, set_unless, ewma, zero_micros, report, fall, Part, Form}
 use Rattle.portus_core.specs.ValidPrograms.{Known, is_known, is_target, is_next_local, fits_target, is_condition, is_term, is_truth, term_is_truth, is_action, with_local, known_after, is_body, is_part, are_parts, known_of, is_valid}
 use Rattle.portus_core.specs.Runnable.{has_place, is_runnable, is_runnable_body, are_runnable}
 
@@ -47,7 +46,7 @@ next_has_place known var.Micros is = refl
 
 set_has_place : (known : Known) (v : Var) (fits is : Bool) → length known.locals ≤ 8 → (is_target known v && fits) || (is_next_local known v && is) ≡ true → has_place v ≡ true
 set_has_place known v fits is few one = elim (either (is_target known v && fits) (is_next_local known v && is) one) [
-    inl target ↦ target_has_place known v fits few target
+  | inl target ↦ target_has_place known v fits few target
   | inr next ↦ next_has_place known v (first (is_next_local known v) is next)
 ]
 

@@ -1,12 +1,11 @@
 -- Small programs with their reports, worked out by hand.
-use Rattle.std.proofs.Common.{◌≡◌, refl, ℕ, ◌-◌, ◌^◌, Bool, true, false, Some, None, Ok, Err, List, [], ◌∷◌}
+use Rattle.std.proofs.Common.{◌≡◌, refl, ℕ, ◌-◌, ◌^◌, true, false, Some, Ok, Err, List, [], ◌∷◌}
 use Rattle.std.specs.Prelude.{codes}
 use Rattle.ccp_base.specs.declared.ack.Ack.{Ack}
 use Rattle.ccp_base.specs.declared.arithmetic.FaultKind.TheVariants.{Overflow, ZeroDivisor}
 use Rattle.ccp_base.specs.declared.exchange.Report.{Report}
 use Rattle.ccp_base.specs.declared.fields.FieldReg.TheVariants as reg
 use Rattle.ccp_base.specs.declared.place.Place.{Place}
-use Rattle.portus_core.specs.declared.env.Env.{Env}
 use Rattle.portus_core.specs.declared.env.StartFault.TheVariants.{BadRegister}
 use Rattle.portus_core.specs.declared.program.Decl.{Decl}
 use Rattle.portus_core.specs.declared.program.Op2.TheVariants as op

@@ -11,3 +11,4 @@ pub mod ProgramForm
 pub mod EnvShapes
 pub mod Progress
 pub mod Runnable
+pub mod PrintedTree

@@ -1,4 +1,4 @@
-use Rattle.std.specs.Prelude.{◌≡◌, ℕ, ◌<◌, ◌==◌, Bool, true, false, Option, Some, None, if◌then◌else◌, List, [], ◌∷◌, length, slice_get, slice_set, refl}
+use Rattle.std.specs.Prelude.{ℕ, Option, List, slice_get}
 use Rattle.std.specs.Option.{option_flatten}
 use Rattle.portus_core.specs.declared.progress.Progress.{Progress}
 use Rattle.portus_core.specs.Value.{Locals}

@@ -5,6 +5,7 @@ mod blocks;
 mod command;
 mod env;
 mod mean;
+mod printing;
 mod program;
 mod progress;
 mod start;
@@ -13,5 +14,9 @@ mod value;
 
 pub use mean::values_of;
 pub use env::{Env, Mean, StartFault};
+pub use printing::print_tree;
 pub use program::{Block, Cmd, Decl, Expr, Op2, Program, Var};
 pub use tree::{Parts, Source, Tree, take_apart};
+
+#[cfg(test)]
+mod tests;

@@ -11,7 +11,13 @@ use std::alloc::Global;
 
 impl Program {
     /// What one acknowledgement comes to, and the env after it. `room` says whether there is room for a report.
-    pub fn mean(&self, alloc: Global, env: &Env, ack: &Ack, room: bool) -> Result<(Mean, Env), NoMemory>
+    pub fn mean(
+        &self,
+        alloc: Global,
+        env: &Env,
+        ack: &Ack,
+        room: bool,
+    ) -> Result<(Mean, Env), NoMemory>
         requires { IsEnvOf (form_of self.now) env.now }
         ensures exact { IfOk result (λ answer. answer ≡ one_of (form_of self.now) env.now ack.entry.now room) }
         ensures shape { IfOk result (λ answer. IsEnvOf (form_of self.now) answer.1) }

@@ -13,7 +13,14 @@ impl Program {
     /// The env at the start of an epoch: each name has its declared value, and then the values are written in
     /// order. `cwnd` is in bytes, `rate` in bytes a second; `now` is the time of the flow's last acknowledgement
     /// in microseconds, 0 where there is none, and becomes time zero.
-    pub fn start(&self, alloc: Global, values: &Fields, cwnd: u64, rate: u64, now: u64) -> Result<Env, StartFault>
+    pub fn start(
+        &self,
+        alloc: Global,
+        values: &Fields,
+        cwnd: u64,
+        rate: u64,
+        now: u64,
+    ) -> Result<Env, StartFault>
         ensures started { IfOk result (λ env. start_of (form_of self.now) values.now cwnd rate now ≡ Ok env) }
         ensures shape { IfOk result (λ env. IsEnvOf (form_of self.now) env) }
 

@@ -8,5 +8,5 @@ use Rattle.portus_core.proofs.blocks.body.Given as goal
 abbrev pub invariant-loop-cmd : goal.invariant-loop-cmd
 invariant-loop-cmd l = record {
   runnable : IsTrue (is_runnable_body (map action_of (drop l.cmd-index l.cmds)));
-  same : body_of (map action_of (drop l.cmd-index l.cmds)) l.ack (going_of l.progress) ≡ body_of (map action_of l.cmds) l.ack (going_of l.initial.progress)
+  same : body_of (map action_of (drop l.cmd-index l.cmds)) l.ack (going_of l.progress) ≡ body_of (map action_of l.cmds) l.ack (going_of l.initial.progress);
 }
