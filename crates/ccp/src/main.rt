@@ -3,16 +3,22 @@
 
 use ccp_base::{OpenGate, StdErr, StdIn, StdOut};
 use ccp_run::run;
-use std::alloc::{AllocError, Global};
+use std::alloc::Global;
 use std::env;
 use std::process::ExitCode;
 
 /// The process's words, the program's name first.
 fn words(rt: &HostRuntime, alloc: Global) -> Vec<String> {
-    match env::args(rt) {
-        Ok(args) => args.collect(alloc).unwrap_or(Vec::new(alloc)),
-        Err(_) => Vec::new(alloc),
+    let mut words = Vec::new(alloc);
+    let Ok(args) = env::args(rt) else {
+        return words;
+    };
+    for word in args {
+        if words.push(word).is_err() {
+            return Vec::new(alloc);
+        }
     }
+    words
 }
 
 fn main(rt: HostRuntime) -> ExitCode {
