@@ -21,5 +21,5 @@ reported_by folding ack fields = record folding {
     cwnd = folding.env.cwnd;
     rate = folding.env.rate;
     fields = fields;
-  } ∷ []
+  } ∷ [];
 }

@@ -49,7 +49,12 @@ impl Folding {
             Mean::Reported(fields) => self.report(ack, fields),
             Mean::Fault(kind, place) => {
                 self.stopped = true;
-                self.fault = self.fault.or(Some(Fault { epoch: 0, at, kind, place }));
+                self.fault = self.fault.or(Some(Fault {
+                    epoch: 0,
+                    at,
+                    kind,
+                    place,
+                }));
                 Ok(())
             }
         }
@@ -134,5 +139,11 @@ pub fn folded(alloc: Global, program: &Program, acks: &[Ack]) -> Result<Bytes, N
 {
     let folding = fold(alloc, program, acks)?;
     let end = folding.end(values_of(folding.env.fields.as_slice()));
-    fold_text(alloc, &program.fields, folding.reports.as_slice(), folding.fault, &end)
+    fold_text(
+        alloc,
+        &program.fields,
+        folding.reports.as_slice(),
+        folding.fault,
+        &end,
+    )
 }

@@ -11,6 +11,8 @@ mod outcome;
 mod parts;
 mod refusal;
 mod separated;
+#[cfg(test)]
+mod tests;
 mod text;
 mod top;
 

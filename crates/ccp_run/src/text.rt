@@ -31,7 +31,13 @@ pub struct End {
 }
 
 /// The text of a fold: its reports, its fault and the end line.
-pub fn fold_text(alloc: Global, fields: &[Decl], reports: &[Report], fault: Option<Fault>, end: &End) -> Result<Bytes, NoMemory>
+pub fn fold_text(
+    alloc: Global,
+    fields: &[Decl],
+    reports: &[Report],
+    fault: Option<Fault>,
+    end: &End,
+) -> Result<Bytes, NoMemory>
     ensures { IfOk result (λ text. text ≡ fold_text fields.now reports.now fault end.now) }
 {
     let mut text = Bytes::new(alloc);
@@ -41,7 +47,12 @@ pub fn fold_text(alloc: Global, fields: &[Decl], reports: &[Report], fault: Opti
     Ok(text)
 }
 
-fn put_reports(alloc: Global, text: &mut Bytes, fields: &[Decl], reports: &[Report]) -> Result<(), NoMemory>
+fn put_reports(
+    alloc: Global,
+    text: &mut Bytes,
+    fields: &[Decl],
+    reports: &[Report],
+) -> Result<(), NoMemory>
     ensures { OnOk result (text.new ≡ text.old ++ report_lines fields.now reports.now) }
 {
     let mut left = reports;
@@ -52,7 +63,12 @@ fn put_reports(alloc: Global, text: &mut Bytes, fields: &[Decl], reports: &[Repo
     Ok(())
 }
 
-fn put_report(alloc: Global, text: &mut Bytes, fields: &[Decl], report: &Report) -> Result<(), NoMemory>
+fn put_report(
+    alloc: Global,
+    text: &mut Bytes,
+    fields: &[Decl],
+    report: &Report,
+) -> Result<(), NoMemory>
     ensures { OnOk result (text.new ≡ text.old ++ report_line fields.now report.entry.now) }
 {
     put_report_head(alloc, text, report)?;
@@ -65,7 +81,10 @@ fn put_report(alloc: Global, text: &mut Bytes, fields: &[Decl], report: &Report)
 fn put_report_head(alloc: Global, text: &mut Bytes, report: &Report) -> Result<(), NoMemory>
     ensures { OnOk result (text.new ≡ text.old ++ report_head report.entry.now) }
 {
-    let head = format!(in alloc; "report program={} epoch={} span={}..{} now={}", report.program, report.epoch, report.first, report.end, report.now)?;
+    let head = format!(in alloc;
+        "report program={} epoch={} span={}..{} now={}",
+        report.program, report.epoch, report.first, report.end, report.now
+    )?;
     text.extend(head.as_bytes())?;
     Ok(())
 }
@@ -78,7 +97,12 @@ fn put_window(alloc: Global, text: &mut Bytes, cwnd: u64, rate: u64) -> Result<(
     Ok(())
 }
 
-fn put_fields(alloc: Global, text: &mut Bytes, fields: &[Decl], values: &Values) -> Result<(), NoMemory>
+fn put_fields(
+    alloc: Global,
+    text: &mut Bytes,
+    fields: &[Decl],
+    values: &Values,
+) -> Result<(), NoMemory>
     ensures { OnOk result (text.new ≡ text.old ++ fields_text fields.now values.now) }
 {
     let mut left = values.as_slice();
@@ -135,7 +159,13 @@ fn put_place_tail(alloc: Global, text: &mut Bytes, place: Place) -> Result<(), N
     Ok(())
 }
 
-fn put_end(alloc: Global, text: &mut Bytes, fields: &[Decl], reports: usize, end: &End) -> Result<(), NoMemory>
+fn put_end(
+    alloc: Global,
+    text: &mut Bytes,
+    fields: &[Decl],
+    reports: usize,
+    end: &End,
+) -> Result<(), NoMemory>
     ensures { OnOk result (text.new ≡ text.old ++ end_line fields.now reports end.now) }
 {
     put_end_head(alloc, text, reports, end)?;
@@ -149,7 +179,10 @@ fn put_end(alloc: Global, text: &mut Bytes, fields: &[Decl], reports: usize, end
 fn put_end_head(alloc: Global, text: &mut Bytes, reports: usize, end: &End) -> Result<(), NoMemory>
     ensures { OnOk result (text.new ≡ text.old ++ end_head reports end.now) }
 {
-    let head = format!(in alloc; "end acks={} reports={reports} tail={}..{} stopped=", end.acks, end.first, end.acks)?;
+    let head = format!(in alloc;
+        "end acks={} reports={reports} tail={}..{} stopped=",
+        end.acks, end.first, end.acks
+    )?;
     text.extend(head.as_bytes())?;
     Ok(())
 }

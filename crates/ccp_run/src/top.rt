@@ -14,7 +14,15 @@ use std::thread::Threads;
 
 /// Does what the words ask for, from the source to the sink, and tells on `errors` why where it can't. Workers pass
 /// the gate at their points.
-pub fn run<R: Threads + Wait + Sync, S: Source, K: Sink, E: Sink, G: Gate + Sync>(rt: &R, alloc: Global, words: Vec<String>, source: &mut S, sink: &mut K, errors: &mut E, gate: &G) -> Outcome
+pub fn run<R: Threads + Wait + Sync, S: Source, K: Sink, E: Sink, G: Gate + Sync>(
+    rt: &R,
+    alloc: Global,
+    words: Vec<String>,
+    source: &mut S,
+    sink: &mut K,
+    errors: &mut E,
+    gate: &G,
+) -> Outcome
     ensures words { (result.status ≡ 2) ↔ (mode_in (map string_bytes words.items) ≡ None) }
     ensures untouched { result.status ≡ 2 → S.remaining source.new ≡ S.remaining source.old }
     ensures within { result.status ≢ 3 → TakesWithin INPUT_BYTES (S.remaining source.old) (S.remaining source.new) }
