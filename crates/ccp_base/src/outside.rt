@@ -1,4 +1,5 @@
-ghost use Rattle.std.specs.Prelude.{◌≡◌};
+ghost use Rattle.std.specs.Prelude.{◌≡◌, ◌+◌, ◌≤◌, min};
+ghost use Rattle.ccp_base.specs.Outside.{Rose};
 ghost use Rattle.ccp_base.specs.declared.outside.ReadFault.TheVariants as read_fault;
 
 use std::alloc::{AllocError, AllocFailed};
@@ -26,6 +27,16 @@ impl<T: Drop> From<AllocFailed<T>> for NoMemory {
 /// That a read or a write failed.
 #[derive(Clone, Copy, Debug, PartialEq, Eq)]
 pub struct Failed;
+
+/// Counts a fault, up to 2^64-1.
+pub(crate) fn fault(faults: &mut u64) -> Failed
+    ensures count { faults.new ≡ min (faults.old + 1) u64.MAX }
+    ensures counted { faults.old ≤ faults.new }
+    ensures rose { Rose faults.old faults.new }
+{
+    *faults = faults.saturating_add(1);
+    Failed
+}
 
 /// Why a source wasn't read to its end.
 #[derive(Clone, Copy, Debug, PartialEq, Eq)]

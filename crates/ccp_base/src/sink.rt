@@ -11,6 +11,9 @@ pub trait Sink {
     // how many writes failed, up to 2^64-1
     ghost faults: { Self → ℕ };
 
+    // nothing of what was written is held back, where the sink tells it
+    ghost is_finished: { Self → Type 0 } = { λ _. Unit {0} };
+
     /// Takes bytes from the front of `bytes` and answers how many, at least one of a piece that isn't empty.
     /// `Failed` comes only where the count of faults rises.
     fn write(&mut self, bytes: &[u8]) -> Result<usize, Failed>
@@ -25,7 +28,8 @@ pub trait Sink {
     fn finish(&mut self) -> Result<(), Failed>
         ensures counted { faults self.old ≤ faults self.new }
         ensures failed { OnErr result (Rose (faults self.old) (faults self.new)) }
-        ensures kept { written self.new ≡ written self.old };
+        ensures kept { written self.new ≡ written self.old }
+        ensures finished { OnOk result (is_finished self.new) };
 }
 
 /// Writes all the bytes and finishes. `Failed` comes only where the count of faults rises; then a front of the
@@ -33,6 +37,7 @@ pub trait Sink {
 pub fn write_all<K: Sink>(sink: &mut K, bytes: &[u8]) -> Result<(), Failed>
     ensures counted { K.faults sink.old ≤ K.faults sink.new }
     ensures ok { OnOk result (Appends (K.written sink.old) (K.written sink.new) bytes.now) }
+    ensures finished { OnOk result (K.is_finished sink.new) }
     ensures failed { OnErr result (Rose (K.faults sink.old) (K.faults sink.new)) }
     ensures front { OnErr result (AppendsPrefix (K.written sink.old) (K.written sink.new) bytes.now) }
 {

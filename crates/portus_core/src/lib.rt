@@ -12,6 +12,7 @@ mod start;
 mod tree;
 mod value;
 
+pub use mean::values_of;
 pub use env::{Env, Mean, StartFault};
 pub use printing::print_tree;
 pub use program::{Block, Cmd, Decl, Expr, Op2, Program, Var};

@@ -48,7 +48,8 @@ impl Program {
     }
 }
 
-fn values_of(numbers: &[u64]) -> Values
+/// The list of these numbers, of which there are at most 64.
+pub fn values_of(numbers: &[u64]) -> Values
     requires { length numbers.now ≤ 64 }
     ensures { result ≡ numbers.now }
 {

@@ -17,6 +17,7 @@ pub struct Source {
 }
 
 /// The parts of a list by their number, as the rules of the language tell them apart.
+#[derive(Clone, Copy)]
 pub enum Parts<'a> {
     Nothing,
     One(&'a Tree),

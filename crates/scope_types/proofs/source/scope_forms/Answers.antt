@@ -1,0 +1,11 @@
+use Rattle.portus_core.specs.Trees.{node_of, nodes_of}
+use Rattle.scope_types.specs.Scope.{scope_of}
+use Rattle.scope_types.specs.Steps.{blocks_of}
+use Rattle.scope_types.proofs.ValidSource.{parts_valid}
+use Rattle.scope_types.proofs.source.scope_forms.Goals as goal
+
+pub program-requires : goal.program-requires
+program-requires c =
+    let after = c.in_ok-all.field-0 in
+    parts_valid (node_of c.in-First.first.now) (nodes_of c.in-First.rest.now) (scope_of c.in_ok-names.names)
+    (blocks_of after.all.items, scope_of after.names) c.in_ok-names.ensures.ok c.in_ok-all.ensures.ok

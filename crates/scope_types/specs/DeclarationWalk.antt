@@ -1,0 +1,111 @@
+use Rattle.std.specs.Prelude.{ℕ, ◌-◌, ◌^◌, ◌==◌, Bool, true, false, not, ◌&&◌, ◌||◌, nat_le, List, [], ◌∷◌, ◌++◌, length, Option, Some, None, is_some, Result, Ok, Err, codes, if◌then◌else◌, bytes_eq}
+use Rattle.std.specs.List.{list_any}
+use Rattle.ccp_base.specs.declared.place.Place.{Place}
+use Rattle.portus_core.specs.declared.program.Decl.{Decl}
+use Rattle.portus_core.specs.Trees.{Node, Nodes, number, word, list, none, more}
+use Rattle.scope_types.specs.declared.fault.ScopeFault.{ScopeFault}
+use Rattle.scope_types.specs.declared.fault.ScopeFault.TheVariants.{Misplaced, Twice, TooMany}
+use Rattle.scope_types.specs.declared.fault.What.TheVariants as what
+use Rattle.scope_types.specs.declared.declaration.Start.{Start}
+use Rattle.scope_types.specs.declared.declaration.Declaration.{Declaration}
+use Rattle.scope_types.specs.declared.declaration.Declared.{Declared}
+use Rattle.scope_types.specs.Words.{is_name_shaped, is_reserved, is_field_use, is_primitive_use}
+use Rattle.scope_types.specs.Names.{decl_from}
+use Rattle.scope_types.specs.Scope.{Scope, scope_of}
+use Rattle.scope_types.specs.Walk.{place_of, and_then}
+
+-- what the parts of `def` so far declare, and whether the group of fields was there
+pub record Declaring : Type 0 where
+  pub names : Scope
+  pub grouped : Bool
+
+abbrev pub declaring_of : Declared → Declaring
+declaring_of declared = record { names = scope_of declared.names; grouped = declared.grouped }
+
+-- a declared value, with whether it is a Bool
+abbrev pub start_word : List ℕ → Option Start
+start_word w =
+    if bytes_eq w (codes "true") then Some (record { value = 1; truth = true })
+    else if bytes_eq w (codes "false") then Some (record { value = 0; truth = true })
+    else if bytes_eq w (codes "+infinity") then Some (record { value = 2 ^ 64 - 1; truth = false })
+    else None
+
+abbrev pub start_of : Node → Option Start
+start_of (number at n) = Some (record { value = n; truth = false })
+start_of (word at w) = start_word w
+start_of (list at parts) = None
+
+abbrev pub declares : Place → Bool → Place → List ℕ → Option Start → Result Declaration ScopeFault
+declares at volatile word_at w None = Err (Misplaced at)
+declares at volatile word_at w (Some start) =
+    Ok (record { at = word_at; decl = record { name = w; volatile = volatile; start = start.value; truth = start.truth } })
+
+-- a word and a value, or `volatile`, a word and a value
+abbrev pub declaration_walk : Node → Result Declaration ScopeFault
+declaration_walk (list at (more (word word_at w) (more value none))) = declares at false word_at w (start_of value)
+declaration_walk (list at (more (word head v) (more (word word_at w) (more value none)))) =
+    if bytes_eq v (codes "volatile") then declares at true word_at w (start_of value) else Err (Misplaced at)
+declaration_walk node = Err (Misplaced (place_of node))
+
+abbrev pub has_dot : List ℕ → Bool
+has_dot w = list_any (λ c. c == 46) w
+
+-- a word that a field may have
+abbrev pub is_field_name : List ℕ → Bool
+is_field_name w =
+    is_name_shaped w
+    && not (has_dot w || bytes_eq w (codes "volatile") || bytes_eq w (codes "true") || bytes_eq w (codes "false"))
+
+-- a word that a control variable may have
+abbrev pub is_control_name : List ℕ → Bool
+is_control_name w = not (is_reserved w || is_field_use w || is_primitive_use w)
+
+abbrev pub with_field : Scope → Decl → Scope
+with_field names decl = record names { fields = names.fields ++ decl ∷ [] }
+
+abbrev pub with_control : Scope → Decl → Scope
+with_control names decl = record names { controls = names.controls ++ decl ∷ [] }
+
+-- one more field: the word is looked at first, then whether it was declared before, then the limit
+abbrev pub field_walk : Scope → Declaration → Result Scope ScopeFault
+field_walk names d =
+    if not (is_field_name d.decl.name) then Err (Misplaced d.at)
+    else if is_some (decl_from 0 names.fields d.decl.name) then Err (Twice d.at)
+    else if nat_le 64 (length names.fields) then Err (TooMany d.at what.Fields)
+    else Ok (with_field names d.decl)
+
+-- one more control variable
+abbrev pub control_walk : Scope → Declaration → Result Scope ScopeFault
+control_walk names d =
+    if not (is_control_name d.decl.name) then Err (Misplaced d.at)
+    else if is_some (decl_from 0 names.controls d.decl.name) then Err (Twice d.at)
+    else if nat_le 64 (length names.controls) then Err (TooMany d.at what.Controls)
+    else Ok (with_control names d.decl)
+
+-- the parts of a group
+abbrev pub fields_walk : Scope → Nodes → Result Scope ScopeFault
+fields_walk names none = Ok names
+fields_walk names (more node rest) =
+    and_then (declaration_walk node) (λ d. and_then (field_walk names d) (λ after. fields_walk after rest))
+
+abbrev pub group_walk : Declaring → Place → Nodes → Result Declaring ScopeFault
+group_walk declared head fields =
+    if declared.grouped then Err (Twice head)
+    else and_then (fields_walk declared.names fields) (λ names. Ok (record { names = names; grouped = true }))
+
+abbrev pub control_part_walk : Declaring → Node → Result Declaring ScopeFault
+control_part_walk declared node =
+    and_then (declaration_walk node)
+    (λ d. and_then (control_walk declared.names d) (λ names. Ok (record { names = names; grouped = declared.grouped })))
+
+-- a part of `def`: the group of fields, or a control variable
+abbrev pub part_walk : Declaring → Node → Result Declaring ScopeFault
+part_walk declared (list at (more (word head w) fields)) =
+    if bytes_eq w (codes "Report") then group_walk declared head fields
+    else control_part_walk declared (list at (more (word head w) fields))
+part_walk declared node = control_part_walk declared node
+
+-- the parts of `def`
+abbrev pub parts_walk : Declaring → Nodes → Result Declaring ScopeFault
+parts_walk declared none = Ok declared
+parts_walk declared (more node rest) = and_then (part_walk declared node) (λ after. parts_walk after rest)

@@ -1,0 +1,10 @@
+pub mod Words
+pub mod Scope
+pub mod Names
+pub mod Walk
+pub mod ExpressionWalk
+pub mod DeclarationWalk
+pub mod CommandWalk
+pub mod ProgramWalk
+pub mod Steps
+pub mod WellScoped

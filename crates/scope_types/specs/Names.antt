@@ -1,0 +1,27 @@
+use Rattle.std.specs.Prelude.{ℕ, ◌+◌, List, [], ◌∷◌, map, drop, Option, Some, None, if◌then◌else◌, bytes_eq}
+use Rattle.portus_core.specs.declared.program.Decl.{Decl}
+use Rattle.portus_core.specs.declared.program.Var.{Var}
+use Rattle.portus_core.specs.declared.program.Var.TheVariants as var
+use Rattle.scope_types.specs.declared.names.Local.{Local}
+use Rattle.scope_types.specs.Scope.{Scope}
+use Rattle.scope_types.specs.Words.{primitive_of, is_field_use}
+
+-- the number of the declaration that has this name, counted from `i`
+abbrev pub decl_from : ℕ → List Decl → List ℕ → Option ℕ
+decl_from i [] w = None
+decl_from i (decl ∷ rest) w = if bytes_eq decl.name w then Some i else decl_from (i + 1) rest w
+
+-- the number of the local that has this name, counted from `i`
+abbrev pub local_from : ℕ → List Local → List ℕ → Option ℕ
+local_from i [] w = None
+local_from i (local ∷ rest) w = if bytes_eq local.name w then Some i else local_from (i + 1) rest w
+
+abbrev pub named : (ℕ → Var) → Option ℕ → Option Var → Option Var
+named kind (Some i) else_ = Some (kind i)
+named kind None else_ = else_
+
+-- what a word that isn't reserved stands for
+abbrev pub meaning_of : Scope → List ℕ → Option Var
+meaning_of names w =
+    if is_field_use w then named var.Field (decl_from 0 names.fields (drop 7 w)) None
+    else named var.Prim (primitive_of w) (named var.Control (decl_from 0 names.controls w) (named var.Local (local_from 0 names.locals w) None))

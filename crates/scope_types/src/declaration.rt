@@ -1,0 +1,234 @@
+ghost use Rattle.std.specs.Prelude.{◌≡◌, ◌≢◌, ◌++◌, ◌∷◌, [], IfOk, IfErr, Ok, Err, length};
+ghost use Rattle.portus_core.specs.Trees.{node_of, nodes_of};
+ghost use Rattle.scope_types.specs.DeclarationWalk.{declaring_of, start_word, start_of, declaration_walk, has_dot, is_field_name, is_control_name, field_walk, control_walk, fields_walk, group_walk, control_part_walk, part_walk, parts_walk};
+ghost use Rattle.scope_types.specs.Scope.{scope_of};
+
+use crate::fault::{ScopeFault, What};
+use crate::meaning::find_decl;
+use crate::names::Names;
+use crate::parts::{Cut, cut_first, place_of};
+use crate::words::{is_field_use, is_name_shaped, is_primitive_use, is_reserved, same};
+use ccp_base::{FIELDS, Place};
+use portus_core::{Decl, Parts, Tree, take_apart};
+
+/// The most control variables that a program declares.
+const CONTROLS: usize = 64;
+
+/// A declared value.
+#[derive(Clone, Copy, PartialEq, Eq, Debug)]
+pub(crate) struct Start {
+    pub value: u64,
+    /// Whether it is a Bool.
+    pub truth: bool,
+}
+
+/// A declaration, with the place of its word.
+#[derive(Clone, Copy, PartialEq, Eq, Debug)]
+pub(crate) struct Declaration {
+    pub at: Place,
+    pub decl: Decl,
+}
+
+/// What the parts of `def` so far declare.
+#[derive(Debug, Drop)]
+pub(crate) struct Declared {
+    pub names: Names,
+    /// Whether the group of fields was there.
+    pub grouped: bool,
+}
+
+/// The value that a word stands for in a declaration.
+fn start_word(w: &[u8]) -> Option<Start>
+    ensures { result ≡ start_word w.now }
+{
+    if same(w, b"true") {
+        Some(Start {
+            value: 1,
+            truth: true,
+        })
+    } else if same(w, b"false") {
+        Some(Start {
+            value: 0,
+            truth: true,
+        })
+    } else if same(w, b"+infinity") {
+        Some(Start {
+            value: u64::MAX,
+            truth: false,
+        })
+    } else {
+        None
+    }
+}
+
+/// The value that a part stands for in a declaration.
+fn start_of(tree: &Tree) -> Option<Start>
+    ensures { result ≡ start_of (node_of tree.now) }
+{
+    match tree {
+        Tree::Num(_, value) => Some(Start {
+            value: *value,
+            truth: false,
+        }),
+        Tree::Word(_, w) => start_word(w.as_slice()),
+        Tree::List(_, _) => None,
+    }
+}
+
+/// A declaration: a word and a value, or `volatile`, a word and a value.
+fn declaration_of(tree: &Tree) -> Result<Declaration, ScopeFault>
+    ensures { result ≡ declaration_walk (node_of tree.now) }
+{
+    let misplaced = ScopeFault::Misplaced(place_of(tree));
+    let (volatile, at, name, value) = match tree {
+        Tree::List(_, parts) => match take_apart(parts.as_slice()) {
+            Parts::Two(Tree::Word(at, name), value) => (false, *at, *name, value),
+            Parts::Three(Tree::Word(_, head), Tree::Word(at, name), value) => {
+                if !same(head.as_slice(), b"volatile") {
+                    return Err(misplaced);
+                }
+                (true, *at, *name, value)
+            }
+            _ => return Err(misplaced),
+        },
+        _ => return Err(misplaced),
+    };
+    let start = start_of(value).ok_or(misplaced)?;
+    Ok(Declaration {
+        at,
+        decl: Decl {
+            name,
+            volatile,
+            start: start.value,
+            truth: start.truth,
+        },
+    })
+}
+
+/// Whether the word has a `.`.
+fn has_dot(w: &[u8]) -> bool
+    ensures { result ≡ has_dot w.now }
+{
+    w.iter().any(|c| *c == b'.')
+}
+
+/// Whether a field may have this word.
+fn is_field_name(w: &[u8]) -> bool
+    ensures { result ≡ is_field_name w.now }
+{
+    is_name_shaped(w)
+        && !(has_dot(w) || same(w, b"volatile") || same(w, b"true") || same(w, b"false"))
+}
+
+/// Whether a control variable may have this word.
+fn is_control_name(w: &[u8]) -> bool
+    ensures { result ≡ is_control_name w.now }
+{
+    !(is_reserved(w) || is_field_use(w) || is_primitive_use(w))
+}
+
+/// One more field.
+fn field(mut names: Names, d: Declaration) -> Result<Names, ScopeFault>
+    ensures ok { IfOk result (λ after. field_walk (scope_of names) d ≡ Ok (scope_of after)) }
+    ensures err { IfErr result (λ e. e ≢ ScopeFault.NoMemory → field_walk (scope_of names) d ≡ Err e) }
+{
+    if !is_field_name(d.decl.name.as_slice()) {
+        return Err(ScopeFault::Misplaced(d.at));
+    }
+    if find_decl(names.fields.as_slice(), d.decl.name.as_slice()).is_some() {
+        return Err(ScopeFault::Twice(d.at));
+    }
+    if names.fields.len() >= FIELDS as usize {
+        return Err(ScopeFault::TooMany(d.at, What::Fields));
+    }
+    names.fields.push(d.decl)?;
+    Ok(names)
+}
+
+/// One more control variable.
+fn control(mut names: Names, d: Declaration) -> Result<Names, ScopeFault>
+    ensures ok { IfOk result (λ after. control_walk (scope_of names) d ≡ Ok (scope_of after)) }
+    ensures err { IfErr result (λ e. e ≢ ScopeFault.NoMemory → control_walk (scope_of names) d ≡ Err e) }
+{
+    if !is_control_name(d.decl.name.as_slice()) {
+        return Err(ScopeFault::Misplaced(d.at));
+    }
+    if find_decl(names.controls.as_slice(), d.decl.name.as_slice()).is_some() {
+        return Err(ScopeFault::Twice(d.at));
+    }
+    if names.controls.len() >= CONTROLS {
+        return Err(ScopeFault::TooMany(d.at, What::Controls));
+    }
+    names.controls.push(d.decl)?;
+    Ok(names)
+}
+
+/// The parts of the group of fields.
+fn fields(names: Names, parts: &[Tree]) -> Result<Names, ScopeFault>
+    ensures ok { IfOk result (λ after. fields_walk (scope_of names) (nodes_of parts.now) ≡ Ok (scope_of after)) }
+    ensures err { IfErr result (λ e. e ≢ ScopeFault.NoMemory → fields_walk (scope_of names) (nodes_of parts.now) ≡ Err e) }
+{
+    let mut names = names;
+    let mut rest = parts;
+    while let Some((part, later)) = rest.split_first() {
+        names = field(names, declaration_of(part)?)?;
+        rest = later;
+    }
+    Ok(names)
+}
+
+/// The group of fields, of which there is one at most.
+fn group(declared: Declared, head: Place, parts: &[Tree]) -> Result<Declared, ScopeFault>
+    ensures ok { IfOk result (λ after. group_walk (declaring_of declared) head (nodes_of parts.now) ≡ Ok (declaring_of after)) }
+    ensures err { IfErr result (λ e. e ≢ ScopeFault.NoMemory → group_walk (declaring_of declared) head (nodes_of parts.now) ≡ Err e) }
+{
+    if declared.grouped {
+        return Err(ScopeFault::Twice(head));
+    }
+    let names = fields(declared.names, parts)?;
+    Ok(Declared {
+        names,
+        grouped: true,
+    })
+}
+
+/// A part of `def` that declares a control variable.
+fn control_part(declared: Declared, tree: &Tree) -> Result<Declared, ScopeFault>
+    ensures ok { IfOk result (λ after. control_part_walk (declaring_of declared) (node_of tree.now) ≡ Ok (declaring_of after)) }
+    ensures err { IfErr result (λ e. e ≢ ScopeFault.NoMemory → control_part_walk (declaring_of declared) (node_of tree.now) ≡ Err e) }
+{
+    let names = control(declared.names, declaration_of(tree)?)?;
+    Ok(Declared {
+        names,
+        grouped: declared.grouped,
+    })
+}
+
+/// A part of `def`.
+fn part(declared: Declared, tree: &Tree) -> Result<Declared, ScopeFault>
+    ensures ok { IfOk result (λ after. part_walk (declaring_of declared) (node_of tree.now) ≡ Ok (declaring_of after)) }
+    ensures err { IfErr result (λ e. e ≢ ScopeFault.NoMemory → part_walk (declaring_of declared) (node_of tree.now) ≡ Err e) }
+{
+    if let Tree::List(_, parts) = tree {
+        if let Cut::First(Tree::Word(head, w), rest) = cut_first(parts.as_slice()) {
+            if same(w.as_slice(), b"Report") {
+                return group(declared, *head, rest);
+            }
+        }
+    }
+    control_part(declared, tree)
+}
+
+/// The parts of `def`.
+pub(crate) fn parts(declared: Declared, trees: &[Tree]) -> Result<Declared, ScopeFault>
+    ensures ok { IfOk result (λ after. parts_walk (declaring_of declared) (nodes_of trees.now) ≡ Ok (declaring_of after)) }
+    ensures err { IfErr result (λ e. e ≢ ScopeFault.NoMemory → parts_walk (declaring_of declared) (nodes_of trees.now) ≡ Err e) }
+{
+    let mut declared = declared;
+    let mut rest = trees;
+    while let Some((tree, later)) = rest.split_first() {
+        declared = part(declared, tree)?;
+        rest = later;
+    }
+    Ok(declared)
+}

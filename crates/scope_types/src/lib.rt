@@ -1,0 +1,19 @@
+//! What the names of a program text stand for: a text's forms become a program, or are refused where the first
+//! rule of the language fails.
+#![tactic(auto)]
+
+mod block;
+mod command;
+mod declaration;
+mod expression;
+mod fault;
+mod meaning;
+mod names;
+mod parts;
+mod source;
+mod target;
+mod value;
+mod words;
+
+pub use fault::{ScopeFault, What};
+pub use source::scope;

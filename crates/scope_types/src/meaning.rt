@@ -1,0 +1,116 @@
+ghost use Rattle.std.specs.Prelude.{◌≡◌, ◌≤◌, length, map, slice_get};
+ghost use Rattle.portus_core.specs.Programs.{term_of};
+ghost use Rattle.portus_core.specs.ValidPrograms.{declares_truth, is_told, gives_truth};
+ghost use Rattle.scope_types.specs.declared.names.Local.{Local};
+ghost use Rattle.scope_types.specs.CommandWalk.{is_bool, wants_bool};
+ghost use Rattle.scope_types.specs.Names.{decl_from, local_from, meaning_of};
+ghost use Rattle.scope_types.specs.Scope.{scope_of};
+
+use crate::names::{Local, Names};
+use crate::words::{is_field_use, primitive_of, same};
+use portus_core::{Decl, Expr, Op2, Var};
+
+/// The number of the declaration that has this name.
+pub(crate) fn find_decl(decls: &[Decl], name: &[u8]) -> Option<u32>
+    requires { length decls.now ≤ 64 }
+    ensures { result ≡ decl_from 0 decls.now name.now }
+{
+    let mut i = 0;
+    let mut rest = decls;
+    while let Some((decl, later)) = rest.split_first() {
+        if same(decl.name.as_slice(), name) {
+            return Some(i);
+        }
+        i += 1;
+        rest = later;
+    }
+    None
+}
+
+/// The number of the local that has this name.
+fn find_local(locals: &[Local], name: &[u8]) -> Option<u32>
+    requires { length locals.now ≤ 8 }
+    ensures { result ≡ local_from 0 locals.now name.now }
+{
+    let mut i = 0;
+    let mut rest = locals;
+    while let Some((local, later)) = rest.split_first() {
+        if same(local.name.as_slice(), name) {
+            return Some(i);
+        }
+        i += 1;
+        rest = later;
+    }
+    None
+}
+
+/// What a word that isn't reserved stands for.
+pub(crate) fn meaning_of(names: &Names, w: &[u8]) -> Option<Var>
+    ensures { result ≡ meaning_of (scope_of names.now) w.now }
+{
+    if is_field_use(w) {
+        return find_decl(names.fields.as_slice(), &w[7..]).map(Var::Field);
+    }
+    if let Some(number) = primitive_of(w) {
+        return Some(Var::Prim(number));
+    }
+    if let Some(number) = find_decl(names.controls.as_slice(), w) {
+        return Some(Var::Control(number));
+    }
+    find_local(names.locals.as_slice(), w).map(Var::Local)
+}
+
+/// Whether a declaration is of a Bool.
+fn is_bool_decl(decls: &[Decl], number: u32) -> bool
+    ensures { result ≡ declares_truth (slice_get decls.now number) }
+{
+    match decls.get(number as usize) {
+        Some(decl) => decl.truth,
+        None => false,
+    }
+}
+
+/// Whether a local is a Bool.
+fn is_bool_local(locals: &[Local], number: u32) -> bool
+    ensures { result ≡ is_told (slice_get (map (λ (l : Local). l.truth) locals.now) number) }
+{
+    match locals.get(number as usize) {
+        Some(local) => local.truth,
+        None => false,
+    }
+}
+
+/// Whether a variable is a Bool.
+pub(crate) fn is_bool_variable(names: &Names, var: Var) -> bool
+    ensures { result ≡ wants_bool (scope_of names.now) var }
+{
+    match var {
+        Var::Field(number) => is_bool_decl(names.fields.as_slice(), number),
+        Var::Control(number) => is_bool_decl(names.controls.as_slice(), number),
+        Var::Local(number) => is_bool_local(names.locals.as_slice(), number),
+        Var::Prim(number) => number == 14,
+        Var::Cwnd | Var::Rate | Var::Micros => false,
+    }
+}
+
+/// Whether an operation gives a Bool.
+fn gives_bool(op: Op2) -> bool
+    ensures { result ≡ gives_truth op }
+{
+    match op {
+        Op2::Gt | Op2::Lt | Op2::Eq | Op2::And | Op2::Or => true,
+        Op2::Add | Op2::Sub | Op2::Mul | Op2::Div | Op2::Max | Op2::Min => false,
+    }
+}
+
+/// Whether an expression is a Bool.
+pub(crate) fn is_bool(names: &Names, expr: &Expr) -> bool
+    ensures { result ≡ is_bool (scope_of names.now) (term_of expr.now) }
+{
+    match expr {
+        Expr::Num(_) => false,
+        Expr::Truth(_) => true,
+        Expr::Var(var) => is_bool_variable(names, *var),
+        Expr::Pair(op, _, _, _) => gives_bool(*op),
+    }
+}

@@ -1,0 +1,119 @@
+ghost use Rattle.std.specs.Prelude.{◌≡◌, ◌≢◌, IsTrue, IfOk, IfErr, Ok, Err};
+ghost use Rattle.portus_core.specs.Trees.{node_of, nodes_of};
+ghost use Rattle.portus_core.specs.Programs.{form_over};
+ghost use Rattle.portus_core.specs.ValidPrograms.{is_valid};
+ghost use Rattle.scope_types.specs.DeclarationWalk.{declaring_of};
+ghost use Rattle.scope_types.specs.ProgramWalk.{nothing_declared, def_walk, source_walk};
+ghost use Rattle.scope_types.specs.Scope.{scope_of};
+
+use crate::block::{Blocks, later_forms};
+use crate::declaration::{Declared, parts};
+use crate::fault::ScopeFault;
+use crate::names::Names;
+use crate::parts::{Cut, cut_first, place_of};
+use crate::words::same;
+use ccp_base::{Place, Sequence};
+use portus_core::{Block, Program, Source, Tree};
+use std::alloc::Global;
+
+/// What is declared before the first part of `def`.
+fn nothing_declared(alloc: Global) -> Declared
+    ensures { declaring_of result ≡ nothing_declared }
+{
+    Declared {
+        names: Names {
+            fields: Sequence::new(alloc),
+            controls: Sequence::new(alloc),
+            locals: Sequence::new(alloc),
+        },
+        grouped: false,
+    }
+}
+
+/// The first form, which declares the names.
+fn def(alloc: Global, tree: &Tree) -> Result<Names, ScopeFault>
+    ensures ok { IfOk result (λ names. def_walk (node_of tree.now) ≡ Ok (scope_of names)) }
+    ensures err { IfErr result (λ e. e ≢ ScopeFault.NoMemory → def_walk (node_of tree.now) ≡ Err e) }
+{
+    if let Tree::List(_, items) = tree {
+        if let Cut::First(Tree::Word(_, w), rest) = cut_first(items.as_slice()) {
+            if same(w.as_slice(), b"def") {
+                return Ok(parts(nothing_declared(alloc), rest)?.names);
+            }
+        }
+    }
+    Err(ScopeFault::Misplaced(place_of(tree)))
+}
+
+/// A program of valid parts.
+fn program(names: Names, blocks: Vec<Block>) -> Program
+    requires { IsTrue (is_valid (form_over names.fields names.controls blocks.items)) }
+    ensures fields { result.fields.items ≡ names.fields }
+    ensures controls { result.controls.items ≡ names.controls }
+    ensures blocks { result.blocks.items ≡ blocks.items }
+{
+    Program {
+        fields: names.fields.into_vec(),
+        controls: names.controls.into_vec(),
+        blocks,
+    }
+}
+
+/// The program of a text's forms, or the first refusal in the order of the text.
+fn scope_forms(alloc: Global, forms: &[Tree]) -> Result<Program, ScopeFault>
+    ensures ok { IfOk result (λ p. source_walk (nodes_of forms.now) ≡ Ok (form_over p.fields.items p.controls.items p.blocks.items)) }
+    ensures err { IfErr result (λ e. e ≢ ScopeFault.NoMemory → source_walk (nodes_of forms.now) ≡ Err e) }
+{
+    let Cut::First(first, rest) = cut_first(forms) else {
+        return Err(ScopeFault::Misplaced(Place { line: 1, column: 1 }));
+    };
+    let names = def(alloc, first)?;
+    let Blocks { all, names } = later_forms(alloc, names, rest)?;
+    Ok(program(names, all))
+}
+
+/// The program of a text's forms, or the first refusal in the order of the text.
+pub fn scope(alloc: Global, source: Source) -> Result<Program, ScopeFault>
+    ensures ok { IfOk result (λ p. source_walk (nodes_of source.forms.items) ≡ Ok (form_over p.fields.items p.controls.items p.blocks.items)) }
+    ensures err { IfErr result (λ e. e ≢ ScopeFault.NoMemory → source_walk (nodes_of source.forms.items) ≡ Err e) }
+{
+    scope_forms(alloc, source.forms.as_slice())
+}
+
+#[cfg(test)]
+mod tests {
+    use super::*;
+    use ccp_base::Name;
+    use std::test::Fail;
+
+    fn at(column: u32) -> Place {
+        Place { line: 1, column }
+    }
+
+    fn word(column: u32, text: &[u8]) -> Result<Tree, Fail> {
+        let name = Name::new(text).ok_or("a word of 1 to 64 bytes")?;
+        Ok(Tree::Word(at(column), name))
+    }
+
+    /// The trees of `(def) (when true (:= NAME 1))`.
+    fn assigning(alloc: Global, name: &[u8]) -> Result<Source, Fail> {
+        let def = Tree::List(at(1), vec![in alloc; word(2, b"def")?]?);
+        let set = vec![in alloc; word(19, b":=")?, word(22, name)?, Tree::Num(at(30), 1)]?;
+        let set = Tree::List(at(18), set);
+        let when = vec![in alloc; word(8, b"when")?, word(13, b"true")?, set]?;
+        let forms = vec![in alloc; def, Tree::List(at(7), when)]?;
+        Ok(Source { forms })
+    }
+
+    #[test]
+    fn a_word_without_a_meaning_becomes_a_local_and_a_primitive_is_refused(
+        rt: HostRuntime,
+    ) -> Result<(), Fail> {
+        let program = scope(rt.alloc(), assigning(rt.alloc(), b"d")?)?;
+        assert_eq!(rt; program.blocks.len(), 1);
+        assert_eq!(rt; program.blocks[0].locals, 1);
+        let refused = scope(rt.alloc(), assigning(rt.alloc(), b"Ack.now")?);
+        assert_eq!(rt; refused.err(), Some(ScopeFault::NotWritable(at(22))));
+        Ok(())
+    }
+}

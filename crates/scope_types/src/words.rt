@@ -1,0 +1,184 @@
+ghost use Rattle.std.specs.Prelude.{◌≡◌, bytes_eq};
+ghost use Rattle.std.specs.List.{list_all};
+ghost use Rattle.scope_types.specs.Words.{operator_of, is_constant, variable_of, acknowledged_of, primitive_of, is_first, is_later, is_name_shaped, is_heading, is_reserved, is_field_use, is_primitive_use};
+
+use portus_core::{Op2, Var};
+
+/// Whether two texts are equal.
+pub(crate) fn same(a: &[u8], b: &[u8]) -> bool
+    ensures { result ≡ bytes_eq a.now b.now }
+{
+    a == b
+}
+
+/// The operation that an operator's spelling stands for.
+pub(crate) fn operator_of(w: &[u8]) -> Option<Op2>
+    ensures { result ≡ operator_of w.now }
+{
+    if same(w, b"+") || same(w, b"add") {
+        Some(Op2::Add)
+    } else if same(w, b"-") || same(w, b"sub") {
+        Some(Op2::Sub)
+    } else if same(w, b"*") || same(w, b"mul") {
+        Some(Op2::Mul)
+    } else if same(w, b"/") || same(w, b"div") {
+        Some(Op2::Div)
+    } else if same(w, b">") || same(w, b"gt") {
+        Some(Op2::Gt)
+    } else if same(w, b"<") || same(w, b"lt") {
+        Some(Op2::Lt)
+    } else if same(w, b"==") || same(w, b"eq") {
+        Some(Op2::Eq)
+    } else if same(w, b"&&") || same(w, b"and") {
+        Some(Op2::And)
+    } else if same(w, b"||") || same(w, b"or") {
+        Some(Op2::Or)
+    } else if same(w, b"max") {
+        Some(Op2::Max)
+    } else if same(w, b"min") {
+        Some(Op2::Min)
+    } else {
+        None
+    }
+}
+
+/// The variable of the language that a word stands for.
+pub(crate) fn variable_of(w: &[u8]) -> Option<Var>
+    ensures { result ≡ variable_of w.now }
+{
+    if same(w, b"Cwnd") {
+        Some(Var::Cwnd)
+    } else if same(w, b"Rate") {
+        Some(Var::Rate)
+    } else if same(w, b"Micros") {
+        Some(Var::Micros)
+    } else {
+        None
+    }
+}
+
+/// The number of the acknowledgement's own primitive that a word names.
+fn acknowledged_of(w: &[u8]) -> Option<u32>
+    ensures { result ≡ acknowledged_of w.now }
+{
+    if same(w, b"Ack.bytes_acked") {
+        Some(0)
+    } else if same(w, b"Ack.packets_acked") {
+        Some(1)
+    } else if same(w, b"Ack.bytes_misordered") {
+        Some(2)
+    } else if same(w, b"Ack.packets_misordered") {
+        Some(3)
+    } else if same(w, b"Ack.ecn_bytes") {
+        Some(4)
+    } else if same(w, b"Ack.ecn_packets") {
+        Some(5)
+    } else if same(w, b"Ack.lost_pkts_sample") {
+        Some(6)
+    } else if same(w, b"Ack.now") {
+        Some(7)
+    } else {
+        None
+    }
+}
+
+/// The number of the primitive that a word names.
+pub(crate) fn primitive_of(w: &[u8]) -> Option<u32>
+    ensures { result ≡ primitive_of w.now }
+{
+    if same(w, b"Flow.bytes_in_flight") {
+        Some(8)
+    } else if same(w, b"Flow.packets_in_flight") {
+        Some(9)
+    } else if same(w, b"Flow.bytes_pending") {
+        Some(10)
+    } else if same(w, b"Flow.rate_incoming") {
+        Some(11)
+    } else if same(w, b"Flow.rate_outgoing") {
+        Some(12)
+    } else if same(w, b"Flow.rtt_sample_us") {
+        Some(13)
+    } else if same(w, b"Flow.was_timeout") {
+        Some(14)
+    } else {
+        acknowledged_of(w)
+    }
+}
+
+/// Whether a byte may begin a name.
+fn is_first(c: u8) -> bool
+    ensures { result ≡ is_first c }
+{
+    c.is_ascii_alphabetic() || c == b'_'
+}
+
+/// Whether a byte may follow in a name.
+fn is_later(c: u8) -> bool
+    ensures { result ≡ is_later c }
+{
+    c.is_ascii_alphanumeric() || c == b'_' || c == b'.'
+}
+
+/// Whether all the bytes may follow in a name.
+fn are_later(rest: &[u8]) -> bool
+    ensures { result ≡ list_all is_later rest.now }
+{
+    rest.iter().all(|c| is_later(*c))
+}
+
+/// Whether a word is a letter or `_`, then letters, digits, `_` and `.`.
+pub(crate) fn is_name_shaped(w: &[u8]) -> bool
+    ensures { result ≡ is_name_shaped w.now }
+{
+    match w.split_first() {
+        None => false,
+        Some((first, rest)) => is_first(*first) && are_later(rest),
+    }
+}
+
+/// Whether a form, a declaration or a command begins with this word.
+fn is_heading(w: &[u8]) -> bool
+    ensures { result ≡ is_heading w.now }
+{
+    same(w, b"def")
+        || same(w, b"when")
+        || same(w, b"Report")
+        || same(w, b"volatile")
+        || same(w, b"if")
+        || same(w, b"ewma")
+        || same(w, b"report")
+        || same(w, b"fallthrough")
+        || same(w, b"bind")
+}
+
+/// Whether the word stands for a value.
+pub(crate) fn is_constant(w: &[u8]) -> bool
+    ensures { result ≡ is_constant w.now }
+{
+    same(w, b"true") || same(w, b"false") || same(w, b"+infinity")
+}
+
+/// Whether no program may declare the word.
+pub(crate) fn is_reserved(w: &[u8]) -> bool
+    ensures { result ≡ is_reserved w.now }
+{
+    !is_name_shaped(w)
+        || is_heading(w)
+        || is_constant(w)
+        || variable_of(w).is_some()
+        || operator_of(w).is_some()
+}
+
+/// Whether the word names a field.
+pub(crate) fn is_field_use(w: &[u8]) -> bool
+    ensures { result ≡ is_field_use w.now }
+{
+    w.starts_with(b"Report.")
+}
+
+/// Whether only a primitive may be named so.
+pub(crate) fn is_primitive_use(w: &[u8]) -> bool
+    ensures { result ≡ is_primitive_use w.now }
+{
+    w.starts_with(b"Ack.") || w.starts_with(b"Flow.")
+}
