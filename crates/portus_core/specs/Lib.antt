@@ -12,3 +12,4 @@ pub mod EnvShapes
 pub mod Progress
 pub mod Runnable
 pub mod PrintedTree
+pub mod EventLaws

@@ -1,8 +1,8 @@
-ghost use Rattle.std.specs.Prelude.{◌≡◌, ◌≤◌, IsTrue, Ok, Err, OnOk, IfErr};
+ghost use Rattle.std.specs.Prelude.{◌≡◌, ◌≤◌, IsTrue, Ok};
 ghost use Rattle.portus_core.specs.Programs.{action_of};
 ghost use Rattle.portus_core.specs.Runnable.{is_runnable};
 ghost use Rattle.portus_core.specs.Command.{blended, command_of};
-ghost use Rattle.portus_core.specs.Progress.{going_of};
+ghost use Rattle.portus_core.specs.Progress.{going_of, IsRun};
 
 use crate::program::Cmd;
 use crate::progress::Progress;
@@ -12,8 +12,7 @@ use ccp_base::{Ack, FaultKind, add, div, mul};
 /// Runs a command. A condition and a value are both worked out, whatever the condition is.
 pub fn command(cmd: &Cmd, ack: &Ack, progress: &mut Progress) -> Result<(), Fault>
     requires { IsTrue (is_runnable (action_of cmd.now)) }
-    ensures ok { OnOk result (command_of (action_of cmd.now) ack.entry.now (going_of progress.old) ≡ Ok (going_of progress.new)) }
-    ensures err { IfErr result (λ fault. command_of (action_of cmd.now) ack.entry.now (going_of progress.old) ≡ Err fault) }
+    ensures { IsRun result progress.new (command_of (action_of cmd.now) ack.entry.now (going_of progress.old)) }
 {
     match cmd {
         Cmd::Set(var, expr) => {

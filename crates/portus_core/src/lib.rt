@@ -12,8 +12,8 @@ mod start;
 mod tree;
 mod value;
 
-pub use mean::values_of;
 pub use env::{Env, Mean, StartFault};
+pub use mean::values_of;
 pub use printing::print_tree;
 pub use program::{Block, Cmd, Decl, Expr, Op2, Program, Var};
 pub use tree::{Parts, Source, Tree, take_apart};

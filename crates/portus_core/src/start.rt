@@ -25,7 +25,8 @@ impl Program {
         ensures shape { IfOk result (λ env. IsEnvOf (form_of self.now) env) }
 
         // A register that isn't there is refused before memory is taken.
-        ensures refused { (i : ℕ) → (result ≡ Err (StartFault.BadRegister i)) ↔ (start_of (form_of self.now) values.now cwnd rate now ≡ Err (StartFault.BadRegister i)) }
+        ensures refused { let meant = start_of (form_of self.now) values.now cwnd rate now in
+            (i : ℕ) → (result ≡ Err (StartFault.BadRegister i)) ↔ (meant ≡ Err (StartFault.BadRegister i)) }
     {
         if let Some(i) = first_bad(self.controls.len(), values) {
             return Err(StartFault::BadRegister(i));

@@ -13,4 +13,4 @@ pub finish-requires : goal.finish-requires
 finish-requires c =
     IsEnvOf-after_blocks (form_of c.args.self.now) (map part_of c.deref.result.now) c.args.ack.now c.in_ok-copy.field-0
     (going_of c.begin-progress.result) (going_of c.blocks-2.new.progress)
-    c.begin-progress.ensures (rw c.in_ok-copy.ensures c.requires) c.in-Ok.ensures.ok
+    c.begin-progress.ensures (rw c.in_ok-copy.ensures c.requires) c.in-Ok.ensures
