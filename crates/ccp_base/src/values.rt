@@ -38,6 +38,18 @@ impl Values {
         }
     }
 
+    /// The list of these numbers, of which there are at most 64.
+    pub fn from_slice(numbers: &[u64]) -> Self
+        requires { length numbers.now ≤ VALUES }
+        ensures { result ≡ numbers.now }
+    {
+        let mut values = Values::new();
+        for number in numbers {
+            values.push(*number);
+        }
+        values
+    }
+
     /// How many numbers the list has.
     pub fn len(&self) -> u32
         ensures len { result ≡ length self.now }

@@ -10,7 +10,7 @@ ghost use Rattle.ccp_run.specs.Folding.{track_of, reported_by};
 use crate::acks::MOST_ACKS;
 use crate::text::{End, Fault, fold_text};
 use ccp_base::{Ack, Bytes, Fields, NoMemory, Report, Reports, Values};
-use portus_core::{Env, Mean, Program, values_of};
+use portus_core::{Env, Mean, Program};
 use std::alloc::Global;
 
 /// How far a fold has come.
@@ -138,7 +138,7 @@ pub fn folded(alloc: Global, program: &Program, acks: &[Ack]) -> Result<Bytes, N
     ensures { IfOk result (λ text. text ≡ folded_text (form_of program.now) acks.now) }
 {
     let folding = fold(alloc, program, acks)?;
-    let end = folding.end(values_of(folding.env.fields.as_slice()));
+    let end = folding.end(Values::from_slice(folding.env.fields.as_slice()));
     fold_text(
         alloc,
         &program.fields,

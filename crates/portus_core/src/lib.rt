@@ -13,7 +13,6 @@ mod tree;
 mod value;
 
 pub use env::{Env, Mean, StartFault};
-pub use mean::values_of;
 pub use printing::print_tree;
 pub use program::{Block, Cmd, Decl, Expr, Op2, Program, Var};
 pub use tree::{Parts, Source, Tree, take_apart};

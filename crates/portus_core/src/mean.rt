@@ -41,23 +41,11 @@ impl Program {
         if !room {
             return (Mean::Held, env);
         }
-        let fields = values_of(env.fields.as_slice());
+        let fields = Values::from_slice(env.fields.as_slice());
         reset(&self.fields, &mut env.fields);
         reset(&self.controls, &mut env.controls);
         (Mean::Reported(fields), env)
     }
-}
-
-/// The list of these numbers, of which there are at most 64.
-pub fn values_of(numbers: &[u64]) -> Values
-    requires { length numbers.now ≤ 64 }
-    ensures { result ≡ numbers.now }
-{
-    let mut values = Values::new();
-    for number in numbers {
-        values.push(*number);
-    }
-    values
 }
 
 /// Gives each volatile name its declared value again.
