@@ -3,6 +3,7 @@ use crate::mode::Alone;
 use crate::top::run;
 use ccp_base::{MemSink, MemSource, OpenGate};
 use std::alloc::Global;
+use std::process::Abort;
 use std::test::Fail;
 
 /// An input of `fold`, and what the run comes to: its status, what was written, and the error line.
@@ -20,6 +21,22 @@ const FIRST_REPORT: &str =
 
 const FIRST_OUTPUT: &str =
     "report program=0 epoch=0 span=0..2 now=0 cwnd=0 rate=0 acked=3000\nend acks=3 reports=1 tail=2..3 stopped=no cwnd=0 rate=0 acked=1500\n";
+
+/// Asserts what the row says.
+fn comes_to(rt: &impl Abort, alloc: Global, row: &Row) {
+    let mut source = MemSource::new(row.input.as_bytes(), 4096, &[]);
+    let mut sink = MemSink::new(alloc, 4096, &[]);
+    let mut errors = MemSink::new(alloc, 4096, &[]);
+    let outcome = alone(alloc, Alone::Fold, &mut source, &mut sink, &mut errors);
+    let name = row.name;
+    assert_eq!(rt; outcome.status, row.status, "status of {name}");
+    assert_eq!(rt; sink.as_slice(), row.output.as_bytes(), "output of {name}");
+    assert_eq!(rt;
+        errors.as_slice(),
+        row.errors.as_bytes(),
+        "error line of {name}"
+    );
+}
 
 #[test]
 fn folds_are_written_and_refusals_told(rt: HostRuntime) {
@@ -180,23 +197,7 @@ fn folds_are_written_and_refusals_told(rt: HostRuntime) {
         },
     ];
     for row in &rows {
-        let mut source = MemSource::new(row.input.as_bytes(), 4096, &[]);
-        let mut sink = MemSink::new(rt.alloc(), 4096, &[]);
-        let mut errors = MemSink::new(rt.alloc(), 4096, &[]);
-        let outcome = alone(rt.alloc(), Alone::Fold, &mut source, &mut sink, &mut errors);
-        assert_eq!(rt; outcome.status, row.status, "status of {}", row.name);
-        assert_eq!(rt;
-            sink.as_slice(),
-            row.output.as_bytes(),
-            "output of {}",
-            row.name
-        );
-        assert_eq!(rt;
-            errors.as_slice(),
-            row.errors.as_bytes(),
-            "error line of {}",
-            row.name
-        );
+        comes_to(&rt, rt.alloc(), row);
     }
 }
 
