@@ -1,3 +1,5 @@
+-- The words of the private contracts: what one pass over the bytes finds. What the tokens of a text are stands in
+-- Lexemes and Strays, apart from these.
 use Rattle.std.specs.Prelude.{◌≡◌, ℕ, ◌+◌, Bool, false, not, ◌||◌, ◌==◌, IsTrue, Result, Ok, Err, if◌then◌else◌, List, [], ◌∷◌, ◌++◌}
 use Rattle.ccp_base.specs.declared.place.Place.{Place}
 use Rattle.portus_lexer.specs.declared.token.Token.{Token}

@@ -64,7 +64,7 @@ fn is_named(text: &[u8]) -> bool
 }
 
 /// Whether two texts are equal.
-fn same(left: &[u8], right: &[u8]) -> bool
+pub fn same(left: &[u8], right: &[u8]) -> bool
     ensures { result ≡ bytes_eq left.now right.now }
 {
     left == right

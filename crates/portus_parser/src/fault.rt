@@ -1,7 +1,9 @@
 ghost use Rattle.std.specs.Prelude.{◌≡◌};
+ghost use Rattle.portus_parser.specs.LexFaults.{lex_fault};
 ghost use Rattle.portus_parser.specs.declared.fault.ParseFault.TheVariants.{NoMemory};
 
 use ccp_base::Place;
+use portus_lexer::LexFault;
 use std::alloc::{AllocError, AllocFailed};
 
 /// Why a text can't be read. The first cause in this order is the one that is answered; of the four from
@@ -38,5 +40,16 @@ impl<T: Drop> From<AllocFailed<T>> for ParseFault {
 
     fn from(_error: AllocFailed<T>) -> Self {
         ParseFault::NoMemory
+    }
+}
+
+impl From<LexFault> for ParseFault {
+    ghost from_gives = { λ fault result. result ≡ lex_fault fault };
+
+    fn from(fault: LexFault) -> Self {
+        match fault {
+            LexFault::NotText(place) => ParseFault::NotText(place),
+            LexFault::NoMemory => ParseFault::NoMemory,
+        }
     }
 }

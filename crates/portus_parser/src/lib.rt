@@ -3,6 +3,7 @@
 
 mod atom;
 mod fault;
+mod frame;
 mod reading;
 mod turn;
 

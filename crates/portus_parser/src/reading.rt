@@ -1,27 +1,44 @@
+ghost use Rattle.std.specs.Prelude.{◌≡◌, ◌≢◌, IfOk, IfErr, Ok, map};
+ghost use Rattle.std.specs.List.{All};
+ghost use Rattle.portus_core.specs.Trees.{Nodes, node_of, nodes_of};
+ghost use Rattle.portus_lexer.specs.Lexemes.{IsSpan, slice_of};
+ghost use Rattle.portus_parser.specs.declared.fault.ParseFault.{ParseFault};
+ghost use Rattle.portus_parser.specs.declared.fault.ParseFault.TheVariants.{NoMemory};
+ghost use Rattle.portus_parser.specs.Spelling.{Spells};
+ghost use Rattle.portus_parser.specs.Refusals.{IsRefused};
+ghost use Rattle.portus_parser.specs.Outcomes.{ReadsAs, RefusesAs, IsExact, IsSettled};
+ghost use Rattle.portus_parser.specs.Readings.{read, unread, lexeme_in, EndsReading};
+
 use crate::fault::ParseFault;
-use crate::turn::{Frame, turn};
+use crate::frame::Frame;
+use crate::turn::turn;
 use portus_core::{Source, Tree};
 use portus_lexer::calls::tokens;
-use portus_lexer::{LexFault, TEXT_BYTES, Token};
+use portus_lexer::{TEXT_BYTES, Token};
 use std::alloc::Global;
 
 /// The bytes of a token.
-fn lexeme<'a>(text: &'a [u8], token: &Token) -> &'a [u8] {
-    let start = token.start as usize;
-    let end = token.end as usize;
-    if start <= end && end <= text.len() {
-        &text[start..end]
-    } else {
-        &[]
-    }
+fn lexeme<'a>(text: &'a [u8], token: &Token) -> &'a [u8]
+    requires { IsSpan text.now token.now }
+    ensures { result.now ≡ slice_of text.now token.now }
+{
+    &text[token.start as usize..token.end as usize]
 }
 
 /// The forms of a text that has these tokens.
-fn read(alloc: Global, text: &[u8], tokens: &[Token]) -> Result<Source, ParseFault> {
+fn read(alloc: Global, text: &[u8], tokens: &[Token]) -> Result<Source, ParseFault>
+    requires { All (IsSpan text.now) tokens.now }
+    ensures found { IfOk result (λ source.
+        read unread (map (lexeme_in text.now) tokens.now) ≡ Ok (map node_of source.forms.items)) }
+    ensures refused { IfErr result (EndsReading (read unread (map (lexeme_in text.now) tokens.now))) }
+{
     let mut frames: Vec<Frame> = Vec::new(alloc);
     let mut parts: Vec<Tree> = Vec::new(alloc);
     for token in tokens {
-        parts = turn(alloc, &mut frames, parts, token.place, lexeme(text, token))?;
+        match turn(alloc, &mut frames, parts, token.place, lexeme(text, token)) {
+            Ok(own) => parts = own,
+            Err(fault) => return Err(fault),
+        }
     }
     match frames.pop() {
         Some(frame) => Err(ParseFault::Unclosed(frame.place)),
@@ -29,16 +46,33 @@ fn read(alloc: Global, text: &[u8], tokens: &[Token]) -> Result<Source, ParseFau
     }
 }
 
-/// The forms of a text.
-pub fn parse(alloc: Global, text: &[u8]) -> Result<Source, ParseFault> {
+/// The forms of a text, or its refusal.
+fn parsed(alloc: Global, text: &[u8]) -> Result<Source, ParseFault>
+    ensures { IsExact text.now result }
+{
     if text.len() > TEXT_BYTES {
         return Err(ParseFault::SourceTooLong);
     }
     match tokens(alloc, text) {
         Ok(tokens) => read(alloc, text, tokens.as_slice()),
-        Err(LexFault::NotText(place)) => Err(ParseFault::NotText(place)),
-        Err(LexFault::NoMemory) => Err(ParseFault::NoMemory),
+        Err(fault) => Err(ParseFault::from(fault)),
     }
+}
+
+/// The forms of a text.
+pub fn parse(alloc: Global, text: &[u8]) -> Result<Source, ParseFault>
+    // The answer is the forms that the text spells, and a text that spells forms is answered by them.
+    ensures found { IfOk result (λ source. Spells text.now (nodes_of source.forms.items)) }
+    ensures only { (forms : Nodes) → Spells text.now forms → ReadsAs result forms }
+
+    // Each refusal is the text's first one, and a text that has a first refusal is answered by it.
+    ensures refused { IfErr result (λ fault. fault ≢ NoMemory → IsRefused text.now fault) }
+    ensures first { (refusal : ParseFault) → IsRefused text.now refusal → RefusesAs result refusal }
+
+    // A text spells one list of forms or has one first refusal, and not both.
+    ensures settled { IsSettled text.now }
+{
+    parsed(alloc, text)
 }
 
 #[cfg(test)]
