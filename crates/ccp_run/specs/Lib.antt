@@ -9,3 +9,5 @@ pub mod Told
 pub mod Words
 pub mod Fold
 pub mod Folding
+pub mod Input
+pub mod Run

@@ -1,3 +1,7 @@
+ghost use Rattle.std.specs.Prelude.{◌≡◌, IfOk, IfErr};
+ghost use Rattle.portus_core.specs.ProgramForm.{form_of};
+ghost use Rattle.ccp_run.specs.Input.{StandsFor, IsFoldText, StopsProgram, StopsFold};
+
 use crate::acks::{LineFault, acknowledgements};
 use crate::fold::folded;
 use crate::mode::Alone;
@@ -28,14 +32,20 @@ impl From<NoMemory> for Stop {
 }
 
 /// The output of a mode for an input that was read to its end.
-pub fn output(alloc: Global, mode: Alone, bytes: &[u8]) -> Result<Bytes, Stop> {
+pub fn output(alloc: Global, mode: Alone, bytes: &[u8]) -> Result<Bytes, Stop>
+    ensures ok { IfOk result (λ text. IsFoldText bytes.now text) }
+    ensures err { IfErr result (StopsFold bytes.now) }
+{
     match mode {
         Alone::Fold => fold_output(alloc, bytes),
     }
 }
 
 /// The text of the fold that the bytes ask for, or the first refusal: of the separator, the program, the lines.
-fn fold_output(alloc: Global, bytes: &[u8]) -> Result<Bytes, Stop> {
+fn fold_output(alloc: Global, bytes: &[u8]) -> Result<Bytes, Stop>
+    ensures ok { IfOk result (λ text. IsFoldText bytes.now text) }
+    ensures err { IfErr result (StopsFold bytes.now) }
+{
     let Some(cut) = separate(bytes) else {
         return Err(Stop::Refused(Refusal::NoSeparator));
     };
@@ -49,7 +59,10 @@ fn fold_output(alloc: Global, bytes: &[u8]) -> Result<Bytes, Stop> {
 }
 
 /// The program that a text stands for.
-fn program(alloc: Global, text: &[u8]) -> Result<Program, Stop> {
+fn program(alloc: Global, text: &[u8]) -> Result<Program, Stop>
+    ensures ok { IfOk result (λ program. StandsFor text.now (form_of program)) }
+    ensures err { IfErr result (StopsProgram text.now) }
+{
     match parse(alloc, text) {
         Ok(source) => match scope(alloc, source) {
             Ok(program) => Ok(program),

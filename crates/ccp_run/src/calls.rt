@@ -1,7 +1,8 @@
 ghost use Rattle.std.specs.Prelude.{◌≡◌, ◌≢◌, ◌≤◌, codes, List, ℕ};
 ghost use Rattle.ccp_base.specs.Outside.{Rose, Appends, AppendsPrefix, TakesWithin};
 ghost use Rattle.ccp_run.specs.ErrorLine.{refusal_line, read_line, write_line, memory_line};
-ghost use Rattle.ccp_run.specs.Told.{Tells, TellsRefusal};
+ghost use Rattle.ccp_run.specs.Run.{Writes, WritesFront, Refuses, ReadsToEnd, RefusesInput};
+ghost use Rattle.ccp_run.specs.Told.{Tells};
 
 use crate::answer::{Stop, output};
 use crate::mode::Alone;
@@ -28,7 +29,9 @@ pub fn alone<S: Source, K: Sink, E: Sink>(
     ensures write_fault { result.status ≡ 5 → Rose (K.faults sink.old) (K.faults sink.new) }
     ensures nothing { result.status ≢ 0 → result.status ≢ 5 → K.written sink.new ≡ K.written sink.old }
     ensures quiet { result.status ≡ 0 → E.written errors.new ≡ E.written errors.old }
-    ensures told_refusal { result.status ≡ 3 → TellsRefusal (E.faults errors.old) (E.faults errors.new) (E.written errors.old) (E.written errors.new) }
+    ensures output { result.status ≡ 0 → ReadsToEnd (S.remaining source.old) (S.remaining source.new) (λ bytes. Writes bytes (K.written sink.old) (K.written sink.new)) }
+    ensures accepted { result.status ≡ 5 → ReadsToEnd (S.remaining source.old) (S.remaining source.new) (λ bytes. WritesFront bytes (K.written sink.old) (K.written sink.new)) }
+    ensures refused { result.status ≡ 3 → RefusesInput INPUT_BYTES (S.remaining source.old) (S.remaining source.new) (E.faults errors.old) (E.faults errors.new) (E.written errors.old) (E.written errors.new) }
     ensures told_read { result.status ≡ 4 → Tells (E.faults errors.old) (E.faults errors.new) (E.written errors.old) (E.written errors.new) read_line }
     ensures told_write { result.status ≡ 5 → Tells (E.faults errors.old) (E.faults errors.new) (E.written errors.old) (E.written errors.new) write_line }
     ensures told_memory { result.status ≡ 6 → Tells (E.faults errors.old) (E.faults errors.new) (E.written errors.old) (E.written errors.new) memory_line }
@@ -56,7 +59,9 @@ fn answered<K: Sink, E: Sink>(
     ensures write_fault { result.status ≡ 5 → Rose (K.faults sink.old) (K.faults sink.new) }
     ensures nothing { result.status ≢ 0 → result.status ≢ 5 → K.written sink.new ≡ K.written sink.old }
     ensures quiet { result.status ≡ 0 → E.written errors.new ≡ E.written errors.old }
-    ensures told_refusal { result.status ≡ 3 → TellsRefusal (E.faults errors.old) (E.faults errors.new) (E.written errors.old) (E.written errors.new) }
+    ensures output { result.status ≡ 0 → Writes bytes.now (K.written sink.old) (K.written sink.new) }
+    ensures accepted { result.status ≡ 5 → WritesFront bytes.now (K.written sink.old) (K.written sink.new) }
+    ensures refused { result.status ≡ 3 → Refuses bytes.now (E.faults errors.old) (E.faults errors.new) (E.written errors.old) (E.written errors.new) }
     ensures told_write { result.status ≡ 5 → Tells (E.faults errors.old) (E.faults errors.new) (E.written errors.old) (E.written errors.new) write_line }
     ensures told_memory { result.status ≡ 6 → Tells (E.faults errors.old) (E.faults errors.new) (E.written errors.old) (E.written errors.new) memory_line }
     ensures statuses { result.status ≤ 6 }

@@ -1,7 +1,8 @@
 ghost use Rattle.std.specs.Prelude.{◌≡◌, ◌≢◌, ◌≤◌, ◌↔◌, None, map, string_bytes};
 ghost use Rattle.ccp_base.specs.Outside.{Rose, TakesWithin};
 ghost use Rattle.ccp_run.specs.ErrorLine.{words_line, read_line, write_line, memory_line};
-ghost use Rattle.ccp_run.specs.Told.{Tells, TellsRefusal};
+ghost use Rattle.ccp_run.specs.Run.{Writes, WritesFront, ReadsToEnd, RefusesInput};
+ghost use Rattle.ccp_run.specs.Told.{Tells};
 ghost use Rattle.ccp_run.specs.Words.{mode_in};
 
 use crate::calls::{INPUT_BYTES, alone};
@@ -31,7 +32,9 @@ pub fn run<R: Threads + Wait + Sync, S: Source, K: Sink, E: Sink, G: Gate + Sync
     ensures nothing { result.status ≢ 0 → result.status ≢ 5 → K.written sink.new ≡ K.written sink.old }
     ensures quiet { result.status ≡ 0 → E.written errors.new ≡ E.written errors.old }
     ensures told_words { result.status ≡ 2 → Tells (E.faults errors.old) (E.faults errors.new) (E.written errors.old) (E.written errors.new) words_line }
-    ensures told_refusal { result.status ≡ 3 → TellsRefusal (E.faults errors.old) (E.faults errors.new) (E.written errors.old) (E.written errors.new) }
+    ensures output { result.status ≡ 0 → ReadsToEnd (S.remaining source.old) (S.remaining source.new) (λ bytes. Writes bytes (K.written sink.old) (K.written sink.new)) }
+    ensures accepted { result.status ≡ 5 → ReadsToEnd (S.remaining source.old) (S.remaining source.new) (λ bytes. WritesFront bytes (K.written sink.old) (K.written sink.new)) }
+    ensures refused { result.status ≡ 3 → RefusesInput INPUT_BYTES (S.remaining source.old) (S.remaining source.new) (E.faults errors.old) (E.faults errors.new) (E.written errors.old) (E.written errors.new) }
     ensures told_read { result.status ≡ 4 → Tells (E.faults errors.old) (E.faults errors.new) (E.written errors.old) (E.written errors.new) read_line }
     ensures told_write { result.status ≡ 5 → Tells (E.faults errors.old) (E.faults errors.new) (E.written errors.old) (E.written errors.new) write_line }
     ensures told_memory { result.status ≡ 6 → Tells (E.faults errors.old) (E.faults errors.new) (E.written errors.old) (E.written errors.new) memory_line }

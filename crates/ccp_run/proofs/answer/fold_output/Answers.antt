@@ -1,0 +1,22 @@
+use Rattle.std.proofs.Common.{◌≡◌, ◌∙◌, ap}
+use Rattle.portus_core.specs.ProgramForm.{form_of}
+use Rattle.ccp_run.specs.declared.parts.Separator.TheVariants.{LineFeed}
+use Rattle.ccp_run.specs.Parts.{parts_of}
+use Rattle.ccp_run.specs.Fold.{folded_text}
+use Rattle.ccp_run.proofs.answer.fold_output.Goals as goal
+
+pub returns-in-Ok-clause-ok : goal.returns-in-Ok-clause-ok
+returns-in-Ok-clause-ok c =
+    let cut = c.in-Some.cut in
+    let form = form_of c.in_ok-program.program in
+    record {
+      form = form;
+      acks = c.in-Ok.acks;
+      input = record {
+        cut = record { program = cut.program.now; lines = parts_of LineFeed cut.lines.now; next = cut.next };
+        at_separator = c.in-Some.ensures.found;
+        program = c.in_ok-program.ensures.ok;
+        lines = c.in-Ok.ensures.ok;
+      };
+      written = c.in_ok-folded-in-Ok.ensures ∙ ap (folded_text form) c.as_slice.ensures;
+    }
