@@ -5,3 +5,6 @@ pub mod FieldReg
 pub mod Named
 pub mod Numerals
 pub mod Outside
+pub mod Saturating
+pub mod Reading
+pub mod Course

@@ -47,6 +47,21 @@ pub enum Told {
     Fault(Notice),
 }
 
+impl Told {
+    ghost use Rattle.std.specs.Prelude.{◌≡◌};
+    ghost use Rattle.ccp_base.specs.Course.{epoch_of};
+
+    /// The epoch of what is told.
+    pub fn epoch(&self) -> u64
+        ensures { result ≡ epoch_of self.now }
+    {
+        match self {
+            Told::Report(report) => u64::from(report.epoch),
+            Told::Fault(notice) => u64::from(notice.epoch),
+        }
+    }
+}
+
 /// What an agent replies to what it was told.
 #[derive(Clone, Copy, PartialEq, Eq, Debug)]
 pub enum Reply {

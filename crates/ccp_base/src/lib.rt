@@ -4,6 +4,7 @@
 
 mod ack;
 mod arithmetic;
+mod course;
 mod exchange;
 mod fields;
 mod gate;
@@ -13,6 +14,7 @@ mod name;
 mod numerals;
 mod outside;
 mod place;
+mod reading;
 mod sequence;
 mod sink;
 mod source;
@@ -23,6 +25,7 @@ mod values;
 
 pub use ack::{Ack, Acks, PRIMITIVES, bool_number, prim};
 pub use arithmetic::{FaultKind, add, div, mul, sub};
+pub use course::{Course, Mode, initial_segments};
 pub use exchange::{Notice, Reply, Report, Reports, Told};
 pub use fields::{FieldReg, Fields, PAIRS};
 pub use gate::{Gate, OpenGate, Point};
@@ -32,6 +35,7 @@ pub use name::{NAME_BYTES, Name, Names};
 pub use numerals::numeral;
 pub use outside::{Failed, NoMemory, ReadFault};
 pub use place::Place;
+pub use reading::Reading;
 pub use sequence::{Bytes, Numbers, Sequence};
 pub use sink::{Sink, write_all};
 pub use source::{Source, read_all};
