@@ -53,13 +53,6 @@ impl Values {
         self.count == 0
     }
 
-    /// The numbers in order.
-    pub fn as_slice(&self) -> &[u64]
-        ensures { result.now ≡ self.now }
-    {
-        &self.numbers[..self.count as usize]
-    }
-
     /// Puts a number at the list's end.
     pub fn push(&mut self, value: u64)
         requires { length self.old < VALUES }
