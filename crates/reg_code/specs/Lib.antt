@@ -1,0 +1,3 @@
+pub mod CodeStep
+pub mod CodeStart
+pub mod AcceptedCode

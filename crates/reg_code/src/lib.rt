@@ -1,0 +1,14 @@
+//! Register code, that datapath programs are compiled to: its form, what it does on an acknowledgement, and
+//! which code is accepted.
+#![tactic(auto)]
+
+mod checked;
+mod code;
+mod rule;
+
+pub use ccp_base::FIELDS;
+pub use checked::Checked;
+pub use code::{
+    CONTROLS, Code, EVENTS, Event, INSTRS, Implicit, Instr, LOCALS, Op, Reg, Start, TEMPS, TENTHS,
+};
+pub use rule::{Part, Rule, Sizes};
