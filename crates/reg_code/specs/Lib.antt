@@ -1,3 +1,4 @@
 pub mod CodeStep
 pub mod CodeStart
 pub mod AcceptedCode
+pub mod ListingText

@@ -1,7 +1,9 @@
-ghost use Rattle.std.specs.Prelude.{◌≡◌};
+ghost use Rattle.std.specs.Prelude.{◌≡◌, IfOk};
 ghost use Rattle.reg_code.specs.AcceptedCode.{IsAccepted};
 
 use crate::code::Code;
+use ccp_base::NoMemory;
+use std::alloc::Global;
 
 /// A code that each rule of acceptance accepts.
 #[derive(Debug, Drop)]
@@ -25,5 +27,14 @@ impl Checked {
         ensures accepted { IsAccepted result.now }
     {
         &self.code
+    }
+
+    /// An equal code, accepted as well.
+    pub fn copy(&self, alloc: Global) -> Result<Self, NoMemory>
+        ensures { IfOk result (λ checked. checked ≡ self.now) }
+    {
+        Ok(Checked {
+            code: self.code.copy(alloc)?,
+        })
     }
 }

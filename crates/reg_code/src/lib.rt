@@ -5,6 +5,7 @@
 mod checked;
 mod code;
 mod rule;
+mod text;
 
 pub use ccp_base::FIELDS;
 pub use checked::Checked;
@@ -12,3 +13,4 @@ pub use code::{
     CONTROLS, Code, EVENTS, Event, INSTRS, Implicit, Instr, LOCALS, Op, Reg, Start, TEMPS, TENTHS,
 };
 pub use rule::{Part, Rule, Sizes};
+pub use text::listing;
