@@ -18,8 +18,8 @@ onto-append : (k n : ℕ) (acc more : List ℕ) → onto k n (acc ++ more) ≡ o
 onto-append zero n acc more = refl
 onto-append (suc k) n acc more =
     elim (n / 10 == 0) as (λ b. cond b (glyph n ∷ (acc ++ more)) (onto k (n / 10) (glyph n ∷ (acc ++ more))) ≡ cond b (glyph n ∷ acc) (onto k (n / 10) (glyph n ∷ acc)) ++ more) [
-      true ↦ refl
-    | false ↦ onto-append k (n / 10) (glyph n ∷ acc) more
+      | true ↦ refl
+      | false ↦ onto-append k (n / 10) (glyph n ∷ acc) more
     ]
 
 -- a place more than the number has digits changes nothing
@@ -29,8 +29,8 @@ onto-enough zero n acc below =
     rw e refl
 onto-enough (suc k) n acc below =
     elim (n / 10 == 0) as (λ b. cond b (glyph n ∷ acc) (onto (suc (suc k)) (n / 10) (glyph n ∷ acc)) ≡ cond b (glyph n ∷ acc) (onto (suc k) (n / 10) (glyph n ∷ acc))) [
-      true ↦ refl
-    | false ↦ onto-enough k (n / 10) (glyph n ∷ acc) (omega arith)
+      | true ↦ refl
+      | false ↦ onto-enough k (n / 10) (glyph n ∷ acc) (omega arith)
     ]
 
 onto-more : (k n : ℕ) → 10 ≤ n → n / 10 < tens (suc k) → onto (suc (suc k)) n [] ≡ onto (suc (suc k)) (n / 10) [] ++ glyph n ∷ []

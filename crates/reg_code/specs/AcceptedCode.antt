@@ -22,6 +22,11 @@ use Rattle.reg_code.specs.CodeStep.{condition_of, body_of, rest_of}
 abbrev pub Refusal : Type 0
 Refusal = Rule × ℕ
 
+infixl 5 ◌or_else◌
+-- the first of two, where there is one
+abbrev pub ◌or_else◌ : {A : Type 0} → Option A → Option A → Option A
+first or_else next = option_or first next
+
 abbrev pub rule_where : Bool → Rule → Option Rule
 rule_where fails which = if fails then Some which else None
 
@@ -147,14 +152,14 @@ is_misplaced part is_last instr =
 -- the first rule that an instruction fails, where it stands
 abbrev pub rule_failed : Sizes → Part → Bool → Marks → Instr → Option Rule
 rule_failed sizes part is_last marks instr =
-    option_or (rule_where (not (is_there sizes instr.left && is_there sizes instr.right && is_there sizes instr.to)) rule.Range)
-    (option_or (rule_where (not (is_readable instr.left && is_readable instr.right)) rule.Readable)
-    (option_or (unwritten marks instr.left)
-    (option_or (unwritten marks instr.right)
-    (option_or (unwritten_target marks instr)
-    (option_or (rule_where (is_ewma instr.op && not (is_weight instr.left)) rule.Weight)
-    (option_or (rule_where (is_bind instr.op && not (is_zero instr.right)) rule.BindRight)
-    (rule_where (is_misplaced part is_last instr) rule.Writable)))))))
+    rule_where (not (is_there sizes instr.left && is_there sizes instr.right && is_there sizes instr.to)) rule.Range
+    or_else rule_where (not (is_readable instr.left && is_readable instr.right)) rule.Readable
+    or_else unwritten marks instr.left
+    or_else unwritten marks instr.right
+    or_else unwritten_target marks instr
+    or_else rule_where (is_ewma instr.op && not (is_weight instr.left)) rule.Weight
+    or_else rule_where (is_bind instr.op && not (is_zero instr.right)) rule.BindRight
+    or_else rule_where (is_misplaced part is_last instr) rule.Writable
 
 abbrev pub is_end : List Instr → Bool
 is_end [] = true
@@ -164,35 +169,35 @@ is_end (instr ∷ rest) = false
 abbrev pub part_refusal : Sizes → Part → ℕ → Marks → List Instr → Option Refusal
 part_refusal sizes part index marks [] = None
 part_refusal sizes part index marks (instr ∷ rest) =
-    option_or (at_index index (rule_failed sizes part (is_end rest) marks instr))
-    (part_refusal sizes part (index + 1) (marked marks instr) rest)
+    at_index index (rule_failed sizes part (is_end rest) marks instr)
+    or_else part_refusal sizes part (index + 1) (marked marks instr) rest
 
 abbrev pub event_refusal : Sizes → Event → ℕ → List Instr → Option Refusal
 event_refusal sizes event index instrs =
-    option_or (part_refusal sizes Condition index no_marks (condition_of event instrs))
-    (part_refusal sizes Body (index + event.condition) (marks_after (condition_of event instrs) no_marks) (body_of event instrs))
+    part_refusal sizes Condition index no_marks (condition_of event instrs)
+    or_else part_refusal sizes Body (index + event.condition) (marks_after (condition_of event instrs) no_marks) (body_of event instrs)
 
 -- the first refusal among the instructions, which are those of the events
 abbrev pub instrs_refusal : Sizes → List Event → ℕ → List Instr → Option Refusal
 instrs_refusal sizes [] index instrs = None
 instrs_refusal sizes (event ∷ rest) index instrs =
-    option_or (event_refusal sizes event index instrs)
-    (instrs_refusal sizes rest (index + event.condition + event.body) (rest_of event instrs))
+    event_refusal sizes event index instrs
+    or_else instrs_refusal sizes rest (index + event.condition + event.body) (rest_of event instrs)
 
 -- the first event, by its number from this one on, that has no condition or reaches past the instructions that are
 -- left; past the last event, that some are left
 abbrev pub events_refusal : List Event → ℕ → ℕ → Option Refusal
 events_refusal [] number left = refusal_where (nat_lt 0 left) rule.Events number
 events_refusal (event ∷ rest) number left =
-    option_or (refusal_where ((event.condition == 0) || nat_lt left (event.condition + event.body)) rule.Events number)
-    (events_refusal rest (number + 1) (left - (event.condition + event.body)))
+    refusal_where ((event.condition == 0) || nat_lt left (event.condition + event.body)) rule.Events number
+    or_else events_refusal rest (number + 1) (left - (event.condition + event.body))
 
 abbrev pub counts_refusal : Code → Option Refusal
 counts_refusal code =
-    option_or (refusal_where (nat_lt FIELDS (length code.reports)) rule.Counts 0)
-    (option_or (refusal_where (nat_lt CONTROLS (length code.controls)) rule.Counts 1)
-    (option_or (refusal_where (nat_lt EVENTS (length code.events)) rule.Counts 2)
-    (refusal_where (nat_lt INSTRS (length code.instrs)) rule.Counts 3)))
+    refusal_where (nat_lt FIELDS (length code.reports)) rule.Counts 0
+    or_else refusal_where (nat_lt CONTROLS (length code.controls)) rule.Counts 1
+    or_else refusal_where (nat_lt EVENTS (length code.events)) rule.Counts 2
+    or_else refusal_where (nat_lt INSTRS (length code.instrs)) rule.Counts 3
 
 abbrev pub sizes_of : Code → Sizes
 sizes_of code = record { reports = length code.reports; controls = length code.controls }
@@ -200,9 +205,9 @@ sizes_of code = record { reports = length code.reports; controls = length code.c
 -- the first rule that the code fails, and the index of what fails it
 abbrev pub rejected : Code → Option Refusal
 rejected code =
-    option_or (counts_refusal code)
-    (option_or (events_refusal code.events 0 (length code.instrs))
-    (instrs_refusal (sizes_of code) code.events 0 code.instrs))
+    counts_refusal code
+    or_else events_refusal code.events 0 (length code.instrs)
+    or_else instrs_refusal (sizes_of code) code.events 0 code.instrs
 
 abbrev pub IsAccepted : Code → Type 0
 IsAccepted code = rejected code ≡ None
