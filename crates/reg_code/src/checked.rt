@@ -1,5 +1,6 @@
 ghost use Rattle.std.specs.Prelude.{◌≡◌, IfOk};
 ghost use Rattle.reg_code.specs.AcceptedCode.{IsAccepted};
+ghost use Rattle.reg_code.specs.Sound.{IsSound, RunsWithin};
 
 use crate::code::Code;
 use ccp_base::NoMemory;
@@ -21,10 +22,13 @@ impl Checked {
         Checked { code }
     }
 
-    /// The code.
+    /// The code. An acknowledgement runs at most as many instructions as it has, and none of them reads a register
+    /// without a value.
     pub fn code(&self) -> &Code
         ensures code { result.now ≡ self.now.code }
         ensures accepted { IsAccepted result.now }
+        ensures sound { IsSound result.now }
+        ensures within { RunsWithin result.now }
     {
         &self.code
     }
