@@ -3,10 +3,7 @@ ghost use Rattle.reg_code.specs.AcceptedCode.{rule_where, is_there, is_readable,
 ghost use Rattle.code_verifier.specs.Marked.{marks_of};
 
 use crate::tables::{Tables, has_mark, writes};
-use reg_code::{Implicit, Instr, LOCALS, Op, Part, Reg, Rule, Sizes, TEMPS, TENTHS};
-
-/// How many primitives an acknowledgement has.
-const PRIMITIVES: u8 = 15;
+use reg_code::{Implicit, Instr, LOCALS, Op, PRIMITIVES, Part, Reg, Rule, Sizes, TEMPS, TENTHS};
 
 /// The first rule that an instruction fails where it stands.
 pub fn rule_failed(
@@ -69,7 +66,7 @@ fn is_there(sizes: Sizes, operand: Reg) -> bool
 {
     match operand {
         Reg::Imm(_) | Reg::Implicit(_) => true,
-        Reg::Prim(n) => n < PRIMITIVES,
+        Reg::Prim(n) => u32::from(n) < PRIMITIVES,
         Reg::Report(i) => usize::from(i) < sizes.reports,
         Reg::Control(i) => usize::from(i) < sizes.controls,
         Reg::Local(i) => i < LOCALS,

@@ -7,7 +7,7 @@ mod code;
 mod rule;
 mod text;
 
-pub use ccp_base::{FIELDS, PRIMITIVES};
+pub use ccp_base::{FIELDS, PRIMITIVES, Sequence};
 pub use checked::Checked;
 pub use code::{
     CONTROLS, Code, EVENTS, Event, INSTRS, Implicit, Instr, LOCALS, Op, Reg, Start, TEMPS, TENTHS,
