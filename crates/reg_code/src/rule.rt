@@ -1,0 +1,36 @@
+/// A part of an event.
+#[derive(Clone, Copy, PartialEq, Eq, Debug)]
+pub enum Part {
+    Condition,
+    Body,
+}
+
+/// How many report fields and control variables a code has.
+#[derive(Clone, Copy, PartialEq, Eq, Debug)]
+pub struct Sizes {
+    pub reports: usize,
+    pub controls: usize,
+}
+
+/// A rule of acceptance.
+#[derive(Clone, Copy, PartialEq, Eq, Debug)]
+pub enum Rule {
+    /// There are at most 64 reports, 64 controls, 64 events and 256 instructions.
+    Counts,
+    /// Each condition has an instruction, and the events have all the instructions that there are.
+    Events,
+    /// Each number of a register is one of those that the code, or every code, has.
+    Range,
+    /// `Flag`, `Fall` and `Send` aren't read.
+    Readable,
+    /// A temporary is read only where it was written before in the event.
+    Temporary,
+    /// A local is read only where it was written before in the event.
+    Local,
+    /// The weight of `Ewma` is an immediate from 0 to 10.
+    Weight,
+    /// The second operand of `Bind` is the immediate 0.
+    BindRight,
+    /// The target is one that the operation may write where it stands, and a condition ends with writing `Flag`.
+    Writable,
+}
