@@ -1,0 +1,3 @@
+mod PartLemmas
+mod TraceTextLemmas
+mod TraceLemmas
