@@ -1,9 +1,11 @@
 //! The virtual link: traces, the case of a link, and the link that answers a window with an acknowledgement.
 #![tactic(auto)]
 
+mod link_case;
 mod parts;
 mod trace;
 mod trace_text;
 
+pub use link_case::LinkCase;
 pub use trace::{LONGEST_MS, Trace, TraceFault};
 pub use trace_text::TraceLine;
