@@ -1,3 +1,4 @@
 mod PartLemmas
 mod TraceTextLemmas
 mod TraceLemmas
+mod WorkedRows

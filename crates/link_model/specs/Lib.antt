@@ -1,3 +1,5 @@
+pub mod Chances
+pub mod Link
 pub mod Parts
 pub mod TraceText
 pub mod Traces

@@ -2,10 +2,12 @@
 #![tactic(auto)]
 
 mod link_case;
+mod packet;
 mod parts;
 mod trace;
 mod trace_text;
 
 pub use link_case::LinkCase;
+pub use packet::{Fate, Packet};
 pub use trace::{LONGEST_MS, Trace, TraceFault};
 pub use trace_text::TraceLine;
