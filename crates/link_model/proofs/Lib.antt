@@ -1,4 +1,5 @@
 mod PartLemmas
 mod TraceTextLemmas
 mod TraceLemmas
+mod ChanceLemmas
 mod WorkedRows
