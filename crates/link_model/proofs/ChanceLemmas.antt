@@ -1,5 +1,5 @@
-use Rattle.std.proofs.Common.{◌≡◌, ℕ, zero, suc, ◌+◌, ◌-◌, ◌*◌, ◌/◌, ◌%◌, ◌<◌, ◌≤◌, Bool, true, false, leb, List, length, get_or, refl, ap, sym, ◌∙◌, subst, arith, inl, inr, ◌⊎◌, max, IsTrue}
-use Rattle.std.proofs.Math.Nat.{mul-le-mul_left, div-add-mod, mod-lt, div-mul-le_self, div-le_of_le-mul}
+use Rattle.std.proofs.Common.{◌≡◌, ℕ, zero, suc, ◌+◌, ◌-◌, ◌*◌, ◌/◌, ◌%◌, ◌<◌, ◌≤◌, Bool, true, false, leb, ltb, List, length, get_or, refl, ap, sym, ◌∙◌, subst, arith, inl, inr, ◌⊎◌, max, IsTrue}
+use Rattle.std.proofs.Math.Nat.{mul-le-mul_left, div-add-mod, mod-lt, div-mul-le_self, div-le_of_le-mul, mul-div-le, lt-div-mul-add}
 use Rattle.std.proofs.lemmas.Nat.{le-div, div-mul-add, mod-mul-add, mul-le}
 use Rattle.std.proofs.lemmas.Bool.{cases_lt, leb-true, le-leb}
 use Rattle.std.proofs.lemmas.Bool.Decides.{nat_tests}
@@ -50,6 +50,9 @@ first_passing_first passes zero here last =
 first_passing_first passes (suc steps) here last =
     first_step passes (first_passing passes steps (suc here)) here (passes here) refl
       (λ _. first_passing_first passes steps (suc here) (let same : suc here + steps ≡ here + suc steps = omega arith in ap passes same ∙ last))
+
+pub not_below : (a b : ℕ) → ltb a b ≡ false → b ≤ a
+not_below a b is = grind (arith, nat_tests)
 
 -- ---- the times of chances
 
@@ -186,3 +189,49 @@ module _ (times : List ℕ) (trace : IsTrace times) where
       let turns : 1 * (k / n) ≤ period times * (k / n) = mul-le 1 (k / n) (period times) (k / n) trace.period (omega arith) in
       let bound : n * (k / n + 1) ≤ n * (chance_time times k + 1) = mul-le-mul_left n (omega arith) in
       omega (arith, div-add-mod k n, place_within k)
+
+  -- a chance in an earlier turn, or in this one at an earlier place
+  earlier_chance : (at turn place j : ℕ) → period times * turn ≤ (at + 999) / 1000 - 1 → place ≤ length times
+      → ((i : ℕ) → i < place → get_or times i 0 < (at + 999) / 1000 - period times * turn) → j < turn * length times + place → chance_time times j < at
+  earlier_chance at turn place j turn_before within before under =
+      let n = length times in
+      let p = period times in
+      let j_is = div-add-mod j n in
+      elim (cases_lt (j / n) turn) as (λ _. chance_time times j < at)
+        [ inl earlier ↦
+            (let turns : p * (j / n + 1) ≤ p * turn = mul-le-mul_left p (omega arith) in
+             let bound = at_most_period (j % n) (place_within j) in
+             omega (arith, trace.period))
+        | inr not_earlier ↦
+            (let same_turn : j / n ≤ turn =
+               elim (cases_lt turn (j / n)) as (λ _. j / n ≤ turn)
+                 [ inl later ↦ absurd (let more : n * (turn + 1) ≤ n * (j / n) = mul-le-mul_left n (omega arith) in omega arith) | inr not_later ↦ not_later ] in
+             let same : j / n ≡ turn = omega arith in
+             let turns : p * (j / n) ≡ p * turn = ap (λ m. p * m) same in
+             let counts : n * (j / n) ≡ n * turn = ap (λ m. n * m) same in
+             let earlier = before (j % n) (omega arith) in
+             omega arith) ]
+
+  -- the turn of the trace in which the first chance at or after a time comes, and its place there
+  pub turn_chance : (at p less turn place : ℕ) → p ≡ period times → less ≡ (at + 999) / 1000 - 1 → turn ≡ less / p
+      → place ≤ length times → ((i : ℕ) → i < place → get_or times i 0 < (at + 999) / 1000 - p * turn)
+      → (place < length times → (at + 999) / 1000 - p * turn ≤ get_or times place 0)
+      → first_chance times at 0 ≡ turn * length times + place
+  turn_chance at p less turn place p_is less_is turn_is within before from =
+      let n = length times in
+      let millis = (at + 999) / 1000 in
+      let same_turns : p * turn ≡ period times * turn = ap (λ q. q * turn) p_is in
+      let turns : turn ≡ (millis - 1) / period times = turn_is ∙ ap (λ m. m / p) less_is ∙ ap (λ q. (millis - 1) / q) p_is in
+      let turn_before : period times * turn ≤ millis - 1 = omega (arith, mul-div-le (millis - 1) (period times), ap (λ m. period times * m) turns) in
+      let next_turn : millis - 1 < turn * period times + period times =
+        omega (arith, lt-div-mul-add {a = millis - 1} trace.period, ap (λ m. m * period times) turns) in
+      let place_inside : place < n =
+        elim (cases_lt place n) as (λ _. place < n)
+          [ inl inside ↦ inside | inr outside ↦ absurd (omega (arith, before (n - 1) (omega (arith, trace.some)))) ] in
+      let k = turn * n + place in
+      let k_turn : k / n ≡ turn = div-mul-add turn n place place_inside in
+      let k_place : k % n ≡ place = mod-mul-add turn n place place_inside in
+      let k_turns : period times * (k / n) ≡ period times * turn = ap (λ m. period times * m) k_turn in
+      let k_time : get_or times (k % n) 0 ≡ get_or times place 0 = ap (λ i. get_or times i 0) k_place in
+      first_chance_is at 0 k (omega arith) (omega (arith, from place_inside))
+        (λ j above under. earlier_chance at turn place j turn_before within (λ i below. omega (arith, before i below)) under)
