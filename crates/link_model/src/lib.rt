@@ -2,12 +2,15 @@
 #![tactic(auto)]
 
 mod chance;
+mod landing;
 mod link_case;
 mod packet;
 mod parts;
 mod trace;
 mod trace_text;
+mod traffic;
 
+pub use landing::Landing;
 pub use link_case::LinkCase;
 pub use packet::{Fate, Packet};
 pub use trace::{LONGEST_MS, Trace, TraceFault};
