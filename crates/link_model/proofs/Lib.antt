@@ -2,4 +2,6 @@ mod PartLemmas
 mod TraceTextLemmas
 mod TraceLemmas
 mod ChanceLemmas
+mod HorizonLemmas
+mod TrafficLemmas
 mod WorkedRows

@@ -47,7 +47,7 @@ times_rise [] number before none = tt
 times_rise (line ∷ rest) number before none =
     let here = not_here (is_below (line_of line) before) number (first_fall (number + 1) (time_after (line_of line) before) rest) none in
     one_more (line_of line) before (times_of rest) (word_line-within (without_last_blanks (without_first_blanks (without_last 13 line)))) here.0
-      (times_rise rest (number + 1) (time_after (line_of line) before) here.1)
+    (times_rise rest (number + 1) (time_after (line_of line) before) here.1)
 
 at_least_before : (before : ℕ) (times : List ℕ) → RisesFrom before times → (j d : ℕ) → j < length times → before ≤ get_or times j d
 at_least_before before [] rises j d within = absurd (omega arith)
@@ -75,7 +75,7 @@ are_trace lines times same none some above =
       some = some;
       rising = non_decreasing 0 times rises;
       period = above;
-      within = up_to_an_hour 0 times rises
+      within = up_to_an_hour 0 times rises;
     }
 
 -- a list with a last time that isn't 0

@@ -15,7 +15,7 @@ without_last_blanks-push [] last = refl
 without_last_blanks-push (byte ∷ front) last =
     ap (in_front byte) (without_last_blanks-push front last)
     ∙ elim (separates Blank last) as (λ b. in_front byte (cond b (without_last_blanks front) (front ++ last ∷ [])) ≡ cond b (in_front byte (without_last_blanks front)) (byte ∷ (front ++ last ∷ [])))
-      [ true ↦ refl | false ↦ in_front-push byte front last ]
+    [ true ↦ refl | false ↦ in_front-push byte front last ]
 
 pub without_last_blanks-blank : (line front : List ℕ) (last : ℕ) → line ≡ front ++ last ∷ [] → separates Blank last ≡ true → without_last_blanks front ≡ without_last_blanks line
 without_last_blanks-blank line front last split blank =
@@ -50,20 +50,20 @@ pub reading_more : (all left later : List (List ℕ)) (line : List ℕ) (times t
 reading_more all left later line times times' before before' number number' fall fall' so_far split good next_number next_times next_before next_fall =
     record {
       goods =
-        ap (λ n. first_bad n later) next_number
-        ∙ ap (λ b. cond b (Some number) (first_bad (number + 1) later)) (sym good)
-        ∙ ap (first_bad number) (sym split) ∙ so_far.goods;
+          ap (λ n. first_bad n later) next_number
+          ∙ ap (λ b. cond b (Some number) (first_bad (number + 1) later)) (sym good)
+          ∙ ap (first_bad number) (sym split) ∙ so_far.goods;
       read =
-        ap (λ ts. ts ++ times_of later) next_times
-        ∙ append_assoc times (with_time (line_of line) []) (times_of later)
-        ∙ ap (λ ts. times ++ ts) (with_time-append (line_of line) (times_of later))
-        ∙ ap (λ lines. times ++ times_of lines) (sym split) ∙ so_far.read;
+          ap (λ ts. ts ++ times_of later) next_times
+          ∙ append_assoc times (with_time (line_of line) []) (times_of later)
+          ∙ ap (λ ts. times ++ ts) (with_time-append (line_of line) (times_of later))
+          ∙ ap (λ lines. times ++ times_of lines) (sym split) ∙ so_far.read;
       falls =
-        ap (λ f. option_or f (first_fall number' before' later)) next_fall
-        ∙ ap (λ n. option_or (option_or fall (cond (is_below (line_of line) before) (Some number) None)) (first_fall n before' later)) next_number
-        ∙ ap (λ b. option_or (option_or fall (cond (is_below (line_of line) before) (Some number) None)) (first_fall (number + 1) b later)) next_before
-        ∙ fall_first fall (is_below (line_of line) before) number (first_fall (number + 1) (time_after (line_of line) before) later)
-        ∙ ap (λ lines. option_or fall (first_fall number before lines)) (sym split) ∙ so_far.falls
+          ap (λ f. option_or f (first_fall number' before' later)) next_fall
+          ∙ ap (λ n. option_or (option_or fall (cond (is_below (line_of line) before) (Some number) None)) (first_fall n before' later)) next_number
+          ∙ ap (λ b. option_or (option_or fall (cond (is_below (line_of line) before) (Some number) None)) (first_fall (number + 1) b later)) next_before
+          ∙ fall_first fall (is_below (line_of line) before) number (first_fall (number + 1) (time_after (line_of line) before) later)
+          ∙ ap (λ lines. option_or fall (first_fall number before lines)) (sym split) ∙ so_far.falls;
     }
 
 -- at a bad line

@@ -36,7 +36,7 @@ slow = record {
   delay_within = lit≤ tt;
   timeout_within = (lit≤ tt, lit≤ tt);
   losses_rise = first_lost;
-  mark_within = none _
+  mark_within = none _;
 }
 
 abbrev lost_then_served_first : Ack
@@ -65,7 +65,7 @@ narrow = record {
   delay_within = lit≤ tt;
   timeout_within = (lit≤ tt, lit≤ tt);
   losses_rise = no_losses;
-  mark_within = none _
+  mark_within = none _;
 }
 
 abbrev queue_overflows : Ack
@@ -94,7 +94,7 @@ marking = record {
   delay_within = lit≤ tt;
   timeout_within = (lit≤ tt, lit≤ tt);
   losses_rise = no_losses;
-  mark_within = one
+  mark_within = one;
 }
 
 abbrev first_marking : Ack

@@ -72,7 +72,7 @@ fate_by case number queued chance =
 abbrev pub packet_after : LinkCase → ℕ → List Packet → Packet
 packet_after case now earlier = record {
   sent_at = now;
-  fate = fate_by case (length earlier) (waiting case.trace now earlier) (first_chance case.trace now (chances_past earlier))
+  fate = fate_by case (length earlier) (waiting case.trace now earlier) (first_chance case.trace now (chances_past earlier));
 }
 
 -- so many more packets are sent at this time
@@ -158,7 +158,7 @@ arrival_ack case sent_at chance marked lost stay acked sent = record {
   rate_incoming = rate_of case acked (arrival_of case chance);
   rate_outgoing = rate_of case sent (arrival_of case chance);
   rtt_sample_us = arrival_of case chance - sent_at;
-  was_timeout = false
+  was_timeout = false;
 }
 
 -- the acknowledgement at a timeout at this time, with the last sample, where so many packets leave
@@ -178,7 +178,7 @@ timeout_ack case now sample lost stay acked sent = record {
   rate_incoming = rate_of case acked now;
   rate_outgoing = rate_of case sent now;
   rtt_sample_us = sample;
-  was_timeout = true
+  was_timeout = true;
 }
 
 -- the lowest packet in flight that isn't lost, or that all are lost
@@ -199,12 +199,12 @@ abbrev pub answer_by : LinkCase → List Packet → List Given → List Numbered
 answer_by case packets givens flight (arrives number sent_at chance marked) = record {
   taking = packets_to number;
   ack = arrival_ack case sent_at chance marked (lost_by (packets_to number) flight)
-    (length (left_by (packets_to number) flight)) (acked_of givens + 1) (length packets)
+      (length (left_by (packets_to number) flight)) (acked_of givens + 1) (length packets);
 }
 answer_by case packets givens flight all_lost = record {
   taking = all_below (length packets);
   ack = timeout_ack case (time_of givens + case.timeout_us) (sample_of givens) (length flight)
-    (length (left_by (all_below (length packets)) flight)) (acked_of givens) (length packets)
+      (length (left_by (all_below (length packets)) flight)) (acked_of givens) (length packets);
 }
 
 abbrev pub answer_to : LinkCase → List Packet → List Given → Given
@@ -222,7 +222,7 @@ sent_by case window run =
 abbrev pub called : LinkCase → ℕ → Run → Run
 called case window run = record {
   packets = sent_by case window run;
-  givens = answer_to case (sent_by case window run) run.givens ∷ run.givens
+  givens = answer_to case (sent_by case window run) run.givens ∷ run.givens;
 }
 
 abbrev pub run_from : LinkCase → Run → List ℕ → Run

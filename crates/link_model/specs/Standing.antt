@@ -35,7 +35,7 @@ standing_of run = record {
   chance = chances_past run.packets;
   sent = length run.packets;
   acked = acked_of run.givens;
-  calls = length run.givens
+  calls = length run.givens;
 }
 
 -- a link: its case, and how it stands
@@ -54,7 +54,7 @@ Stands link windows = link.standing ≡ standing_of (run_of link.case windows)
 abbrev pub packet_by : LinkCase → Standing → ℕ → ℕ → Packet
 packet_by case standing due later = record {
   sent_at = standing.time;
-  fate = fate_by case standing.sent (standing.chance - later) (max standing.chance due)
+  fate = fate_by case standing.sent (standing.chance - later) (max standing.chance due);
 }
 
 abbrev pub with_packet : Standing → Packet → Standing
@@ -65,7 +65,7 @@ with_packet standing packet = record {
   chance = chance_past packet.fate standing.chance;
   sent = standing.sent + 1;
   acked = standing.acked;
-  calls = standing.calls
+  calls = standing.calls;
 }
 
 abbrev pub sending : LinkCase → ℕ → ℕ → ℕ → Standing → Standing
@@ -113,7 +113,7 @@ with_flight standing flight = record {
   chance = standing.chance;
   sent = standing.sent;
   acked = standing.acked;
-  calls = standing.calls
+  calls = standing.calls;
 }
 
 -- the standing after an acknowledgement
@@ -125,7 +125,7 @@ with_ack standing ack = record {
   chance = standing.chance;
   sent = standing.sent;
   acked = standing.acked + ack.packets_acked;
-  calls = standing.calls + 1
+  calls = standing.calls + 1;
 }
 
 -- ---- one call
@@ -138,10 +138,10 @@ sent_standing case window standing = sending_now case (allowance case window - l
 abbrev pub next_ack : LinkCase → ℕ → Standing → Ack
 next_ack case window standing =
     ack_by case (with_flight (sent_standing case window standing) (staying (sent_standing case window standing).flight))
-      (landing (sent_standing case window standing).flight 0)
+    (landing (sent_standing case window standing).flight 0)
 
 -- the standing after a call
 abbrev pub next_standing : LinkCase → ℕ → Standing → Standing
 next_standing case window standing =
     with_ack (with_flight (sent_standing case window standing) (staying (sent_standing case window standing).flight))
-      (next_ack case window standing)
+    (next_ack case window standing)

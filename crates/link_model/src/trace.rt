@@ -1,4 +1,4 @@
-ghost use Rattle.std.specs.Prelude.{◌≡◌, ◌≢◌, Ok, Err, IfOk, IfErr};
+ghost use Rattle.std.specs.Prelude.{◌≡◌, ◌≢◌, ◌^◌, ◌<◌, Ok, Err, IfOk, IfErr, length};
 
 use crate::trace_text::read_lines;
 use ccp_base::NoMemory;
@@ -100,6 +100,7 @@ impl Trace {
     pub fn as_slice(&self) -> &[u32]
         ensures times { result.now ≡ self.now }
         ensures valid { IsTrace self.now }
+        ensures count { length self.now < 2 ^ 64 }
     {
         self.times.as_slice()
     }

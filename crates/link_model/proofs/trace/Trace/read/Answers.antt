@@ -10,6 +10,6 @@ pub invariant_of-result : goal.invariant_of-result
 invariant_of-result c =
     let times = c.in_ok-reading.reading.times.items in
     let last : slice_get times (length times - 1) ≡ Some c.in-Some.last.now =
-      subst (λ (xs : List ℕ). slice_get xs (length xs - 1) ≡ Some c.in-Some.last.now) c.deref.ensures.value (sym c.last.ensures.value ∙ ap option_copied c.in-Some.is) in
+    subst (λ (xs : List ℕ). slice_get xs (length xs - 1) ≡ Some c.in-Some.last.now) c.deref.ensures.value (sym c.last.ensures.value ∙ ap option_copied c.in-Some.is) in
     let above = last_above times c.in-Some.last.now last c.if-last-eq0.false in
     are_trace (parts_of separator.LineFeed c.args.text.now) _ c.in_ok-reading.ensures.times (sym c.in_ok-reading.ensures.fall ∙ c.in_default-fall.is) above.0 above.1
