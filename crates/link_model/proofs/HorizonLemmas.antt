@@ -20,12 +20,12 @@ is_served_within-more : (times : List ℕ) (chance more sent_at : ℕ) (fate : F
 is_served_within-more times chance more sent_at Lost order within = tt
 is_served_within-more times chance more sent_at (Served own marked) order within = (omega (arith, within.0), within.1)
 
-all_served_within-more : (times : List ℕ) (chance more : ℕ) (packets : List Packet) → chance ≤ more → AllServedWithin times chance packets → AllServedWithin times more packets
+pub all_served_within-more : (times : List ℕ) (chance more : ℕ) (packets : List Packet) → chance ≤ more → AllServedWithin times chance packets → AllServedWithin times more packets
 all_served_within-more times chance more [] order within = tt
 all_served_within-more times chance more (packet ∷ rest) order within =
     (is_served_within-more times chance more packet.sent_at packet.fate order within.0, all_served_within-more times chance more rest order within.1)
 
-all_served_within-push : (times : List ℕ) (chance : ℕ) (packets : List Packet) (packet : Packet) → AllServedWithin times chance packets → IsServedWithin times chance packet.sent_at packet.fate → AllServedWithin times chance (packets ++ packet ∷ [])
+pub all_served_within-push : (times : List ℕ) (chance : ℕ) (packets : List Packet) (packet : Packet) → AllServedWithin times chance packets → IsServedWithin times chance packet.sent_at packet.fate → AllServedWithin times chance (packets ++ packet ∷ [])
 all_served_within-push times chance [] packet within last = (last, tt)
 all_served_within-push times chance (first ∷ rest) packet within last = (within.0, all_served_within-push times chance rest packet within.1 last)
 

@@ -4,4 +4,7 @@ mod TraceLemmas
 mod ChanceLemmas
 mod HorizonLemmas
 mod TrafficLemmas
+mod FlightLemmas
+mod QueueLemmas
+mod Refinement
 mod WorkedRows

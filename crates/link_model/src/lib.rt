@@ -3,6 +3,7 @@
 
 mod chance;
 mod landing;
+mod link;
 mod link_case;
 mod packet;
 mod parts;
@@ -11,6 +12,7 @@ mod trace_text;
 mod traffic;
 
 pub use landing::Landing;
+pub use link::Link;
 pub use link_case::LinkCase;
 pub use packet::{Fate, Packet};
 pub use trace::{LONGEST_MS, Trace, TraceFault};

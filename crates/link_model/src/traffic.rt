@@ -1,6 +1,7 @@
 ghost use Rattle.std.specs.Prelude.{◌≡◌, ℕ, ◌+◌, ◌-◌, ◌*◌, ◌^◌, ◌<◌, ◌≤◌, [], length, IfOk, if◌then◌else◌};
 ghost use Rattle.std.specs.List.Sorted.{IsStrictlyIncreasing};
 ghost use Rattle.link_model.specs.Chances.{chance_time};
+ghost use Rattle.link_model.specs.Traces.{IsTrace};
 ghost use Rattle.link_model.specs.Link.{fate_by, is_marked, is_listed, rate_of, arrival_ack, timeout_ack};
 ghost use Rattle.link_model.specs.Standing.{packet_by, with_packet, sending_now, landing, staying, ack_by, with_flight, with_ack};
 ghost use Rattle.link_model.specs.Horizon.{IsTimely, LandsWithin, horizon, IsChanceBelow};
@@ -112,6 +113,7 @@ impl Traffic {
         requires room { length self.old.flight + more ≤ 4096 }
         requires sent { self.old.sent + more ≤ 2 ^ 28 }
         requires calls { self.old.calls ≤ 65536 }
+        ensures valid { IsTrace case.now.trace }
         ensures sending { self.new ≡ sending_now case.now more self.old }
         ensures timely { IsTimely case.now self.new }
         ensures flight { length self.new.flight ≡ length self.old.flight + more }
@@ -138,7 +140,10 @@ impl Traffic {
         ensures ack { result ≡ ack_by case.now (with_flight self.old (staying self.old.flight)) (landing self.old.flight 0) }
         ensures standing { self.new ≡ with_ack (with_flight self.old (staying self.old.flight)) result }
         ensures timely { IsTimely case.now self.new }
+        ensures flight { length self.new.flight ≤ 4096 }
+        ensures sent { self.new.sent ≡ self.old.sent }
         ensures acked { self.new.acked ≤ self.new.calls }
+        ensures calls { self.new.calls ≡ self.old.calls + 1 }
     {
         let landing = land(&mut self.flight);
         let ack = self.ack(case, landing);

@@ -21,3 +21,8 @@ ack-ack-requires-clause-flight c =
 pub returns-clause-timely : goal.returns-clause-timely
 returns-clause-timely c =
     is_timely-landed c.args.case.now _ _ (subst (IsTimely c.args.case.now) (sym c.self.view_is) c.requires.timely) c.ack-ack.ensures.time c.land-landing.ensures.left refl refl refl
+
+pub returns-clause-flight : goal.returns-clause-flight
+returns-clause-flight c =
+    let few = subst (λ (s : Standing). length s.flight ≤ 4096) (sym c.self.view_is) c.requires.flight in
+    omega (arith, ap length c.land-landing.ensures.left, staying_fewer c.self.inside.flight.items, few)
