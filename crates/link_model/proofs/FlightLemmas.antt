@@ -96,7 +96,7 @@ left_by-append taking [] ys = refl
 left_by-append taking (sent ∷ rest) ys =
     ap (λ zs. cond (takes taking sent) zs (sent ∷ zs)) (left_by-append taking rest ys)
     ∙ elim (takes taking sent) as (λ b. cond b (left_by taking rest ++ left_by taking ys) (sent ∷ (left_by taking rest ++ left_by taking ys)) ≡ cond b (left_by taking rest) (sent ∷ left_by taking rest) ++ left_by taking ys)
-      [ true ↦ refl | false ↦ refl ]
+    [ true ↦ refl | false ↦ refl ]
 
 pub in_flight-sent : (packets : List Packet) (packet : Packet) (givens : List Given) → AllTakeBelow (length packets) givens
     → in_flight (packet ∷ packets) givens ≡ in_flight packets givens ++ record { number = length packets; packet = packet } ∷ []
@@ -166,12 +166,13 @@ match_lost sent_number sent_at from lost rest (arrives number sent_at' chance ma
     let sent : Numbered = record { number = sent_number; packet = record { sent_at = sent_at; fate = Lost } } in
     let taken : takes (packets_to number) sent ≡ true = or_right (eqb sent_number number) (ltb sent_number number) (below_is sent_number number (omega (arith, same.2))) in
     let lost_is : lost_by (packets_to number) (sent ∷ rest) ≡ lost_by (packets_to number) rest + 1 =
-      ap (λ b. cond (b && true) (lost_by (packets_to number) rest + 1) (lost_by (packets_to number) rest)) taken in
+    ap (λ b. cond (b && true) (lost_by (packets_to number) rest + 1) (lost_by (packets_to number) rest)) taken in
     let left_is : left_by (packets_to number) (sent ∷ rest) ≡ left_by (packets_to number) rest =
-      ap (λ b. cond b (left_by (packets_to number) rest) (sent ∷ left_by (packets_to number) rest)) taken in
-    (same.0 ∙ ap (Arrived sent_at' chance marked) (let e : lost + 1 + lost_by (packets_to number) rest ≡ lost + lost_by (packets_to number) (sent ∷ rest) = omega (arith, lost_is) in e),
-     ap packets_of left_is ∙ same.1,
-     omega (arith, same.2))
+    ap (λ b. cond b (left_by (packets_to number) rest) (sent ∷ left_by (packets_to number) rest)) taken in (
+      same.0 ∙ ap (Arrived sent_at' chance marked) (let e : lost + 1 + lost_by (packets_to number) rest ≡ lost + lost_by (packets_to number) (sent ∷ rest) = omega (arith, lost_is) in e),
+      ap packets_of left_is ∙ same.1,
+      omega (arith, same.2),
+    )
 
 match_served : (number sent_at chance from lost : ℕ) (marked : Bool) (rest : List Numbered) → from ≤ number → RisesFrom (number + 1) rest
     → MatchNext (record { number = number; packet = record { sent_at = sent_at; fate = Served chance marked } } ∷ rest) from lost (arrives number sent_at chance marked)
@@ -179,13 +180,14 @@ match_served number sent_at chance from lost marked rest order rises =
     let sent : Numbered = record { number = number; packet = record { sent_at = sent_at; fate = Served chance marked } } in
     let taken : takes (packets_to number) sent ≡ true = or_left (eqb number number) (false && ltb number number) (same_is number) in
     let lost_is : lost_by (packets_to number) (sent ∷ rest) ≡ lost_by (packets_to number) rest =
-      elim (takes (packets_to number) sent) as (λ b. cond (b && false) (lost_by (packets_to number) rest + 1) (lost_by (packets_to number) rest) ≡ lost_by (packets_to number) rest)
-        [ true ↦ refl | false ↦ refl ] in
+    elim (takes (packets_to number) sent) as (λ b. cond (b && false) (lost_by (packets_to number) rest + 1) (lost_by (packets_to number) rest) ≡ lost_by (packets_to number) rest)
+    [ true ↦ refl | false ↦ refl ] in
     let left_is : left_by (packets_to number) (sent ∷ rest) ≡ left_by (packets_to number) rest =
-      ap (λ b. cond b (left_by (packets_to number) rest) (sent ∷ left_by (packets_to number) rest)) taken in
-    (ap (Arrived sent_at chance marked) (let e : lost ≡ lost + lost_by (packets_to number) (sent ∷ rest) = omega (arith, lost_is, lost_by-later number (number + 1) rest rises (omega arith)) in e),
-     ap packets_of (left_is ∙ left_by-later number (number + 1) rest rises (omega arith)),
-     order)
+    ap (λ b. cond b (left_by (packets_to number) rest) (sent ∷ left_by (packets_to number) rest)) taken in (
+      ap (Arrived sent_at chance marked) (let e : lost ≡ lost + lost_by (packets_to number) (sent ∷ rest) = omega (arith, lost_is, lost_by-later number (number + 1) rest rises (omega arith)) in e),
+      ap packets_of (left_is ∙ left_by-later number (number + 1) rest rises (omega arith)),
+      order,
+    )
 
 match_by : (number sent_at from lost : ℕ) (fate : Fate) (rest : List Numbered) → from ≤ number → RisesFrom (number + 1) rest → MatchNext rest (number + 1) (lost + 1) (next_of rest)
     → MatchNext (record { number = number; packet = record { sent_at = sent_at; fate = fate } } ∷ rest) from lost (next_of (record { number = number; packet = record { sent_at = sent_at; fate = fate } } ∷ rest))

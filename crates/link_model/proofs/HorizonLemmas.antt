@@ -59,7 +59,7 @@ pub lands_within : (times : List ℕ) (chance limit : ℕ) (packets : List Packe
 lands_within times chance limit [] lost chances within few = omega arith
 lands_within times chance limit (packet ∷ rest) lost chances within few =
     lands_by_within times chance limit packet.sent_at lost packet.fate (landing rest (lost + 1)) chances within.0 (omega arith)
-      (lands_within times chance limit rest (lost + 1) chances within.1 (omega arith))
+    (lands_within times chance limit rest (lost + 1) chances within.1 (omega arith))
 
 -- ---- one more packet
 
@@ -70,17 +70,18 @@ module _ (case : LinkCase) (trace : IsTrace case.trace) (standing : Standing) (t
   -- the chance that follows those that were given comes within a period
   next_soon : chance_time case.trace standing.chance ≤ horizon standing.sent standing.calls + 3600000000
   next_soon =
-      elim (cases_lt 0 standing.chance) as (λ _. chance_time case.trace standing.chance ≤ horizon standing.sent standing.calls + 3600000000)
-        [ inl some ↦
+      elim (cases_lt 0 standing.chance) as (λ _. chance_time case.trace standing.chance ≤ horizon standing.sent standing.calls + 3600000000) [
+        | inl some ↦
             (let last = timely.chances (standing.chance - 1) (omega arith) in
-             let step = chance_time-suc case.trace trace (standing.chance - 1) in
-             let same : standing.chance - 1 + 1 ≡ standing.chance = omega arith in
-             let again : chance_time case.trace (standing.chance - 1 + 1) ≡ chance_time case.trace standing.chance = ap (chance_time case.trace) same in
-             omega (arith, period_within))
+            let step = chance_time-suc case.trace trace (standing.chance - 1) in
+            let same : standing.chance - 1 + 1 ≡ standing.chance = omega arith in
+            let again : chance_time case.trace (standing.chance - 1 + 1) ≡ chance_time case.trace standing.chance = ap (chance_time case.trace) same in
+            omega (arith, period_within))
         | inr none ↦
             (let rises = chance_time_rises case.trace trace standing.chance (first_chance case.trace 0 0) (omega arith) in
-             let soon = first_chance_soon case.trace trace 0 in
-             omega (arith, period_within)) ]
+            let soon = first_chance_soon case.trace trace 0 in
+            omega (arith, period_within))
+      ]
 
   due_soon : chance_time case.trace due ≤ horizon standing.sent standing.calls + 3600000000
   due_soon =
@@ -90,15 +91,16 @@ module _ (case : LinkCase) (trace : IsTrace case.trace) (standing : Standing) (t
 
   pub own_soon : chance_time case.trace (max standing.chance due) ≤ horizon standing.sent standing.calls + 3600000000
   own_soon =
-      elim (cases_lt standing.chance due) as (λ _. chance_time case.trace (max standing.chance due) ≤ horizon standing.sent standing.calls + 3600000000)
-        [ inl before ↦
+      elim (cases_lt standing.chance due) as (λ _. chance_time case.trace (max standing.chance due) ≤ horizon standing.sent standing.calls + 3600000000) [
+        | inl before ↦
             (let same : max standing.chance due ≡ due = omega arith in
-             let again : chance_time case.trace (max standing.chance due) ≡ chance_time case.trace due = ap (chance_time case.trace) same in
-             omega (arith, due_soon))
+            let again : chance_time case.trace (max standing.chance due) ≡ chance_time case.trace due = ap (chance_time case.trace) same in
+            omega (arith, due_soon))
         | inr not_before ↦
             (let same : max standing.chance due ≡ standing.chance = omega arith in
-             let again : chance_time case.trace (max standing.chance due) ≡ chance_time case.trace standing.chance = ap (chance_time case.trace) same in
-             omega (arith, next_soon)) ]
+            let again : chance_time case.trace (max standing.chance due) ≡ chance_time case.trace standing.chance = ap (chance_time case.trace) same in
+            omega (arith, next_soon))
+      ]
 
   own_not_before : standing.time ≤ chance_time case.trace (max standing.chance due)
   own_not_before = le_first_chance case.trace trace standing.time (max standing.chance due) (omega arith)
@@ -110,19 +112,19 @@ module _ (case : LinkCase) (trace : IsTrace case.trace) (standing : Standing) (t
       record {
         time = omega (arith, timely.time);
         chances = λ k under.
-          (let rises = chance_time_rises case.trace trace k own (omega arith) in
-           omega (arith, own_soon));
+            (let rises = chance_time_rises case.trace trace k own (omega arith) in
+            omega (arith, own_soon));
         flight =
-          all_served_within-push case.trace (max (own + 1) standing.chance) standing.flight (record { sent_at = standing.time; fate = Served own marked })
+            all_served_within-push case.trace (max (own + 1) standing.chance) standing.flight (record { sent_at = standing.time; fate = Served own marked })
             (all_served_within-more case.trace standing.chance (max (own + 1) standing.chance) standing.flight (omega arith) timely.flight)
-            (omega arith, own_not_before)
+            (omega arith, own_not_before);
       }
 
   lost_timely : IsTimely case (with_packet standing (record { sent_at = standing.time; fate = Lost }))
   lost_timely = record {
     time = omega (arith, timely.time);
     chances = λ k under. omega (arith, timely.chances k under);
-    flight = all_served_within-push case.trace standing.chance standing.flight (record { sent_at = standing.time; fate = Lost }) timely.flight tt
+    flight = all_served_within-push case.trace standing.chance standing.flight (record { sent_at = standing.time; fate = Lost }) timely.flight tt;
   }
 
   by_fate_timely : (b marked : Bool) → IsTimely case (with_packet standing (record { sent_at = standing.time; fate = cond b Lost (Served (max standing.chance due) marked) }))
@@ -153,6 +155,6 @@ is_timely-landed case before after timely time flight chance sent calls = record
   time = omega (arith, sent, calls);
   chances = λ k under. omega (arith, timely.chances k (omega (arith, chance)), sent, calls);
   flight =
-    subst (λ c. AllServedWithin case.trace c after.flight) (sym chance)
-      (subst (AllServedWithin case.trace before.chance) (sym flight) (all_served_within-staying case.trace before.chance before.flight timely.flight))
+      subst (λ c. AllServedWithin case.trace c after.flight) (sym chance)
+      (subst (AllServedWithin case.trace before.chance) (sym flight) (all_served_within-staying case.trace before.chance before.flight timely.flight));
 }

@@ -23,7 +23,7 @@ module _ (times : List ℕ) (trace : IsTrace times) where
   later_from : (now at : ℕ) → now ≤ at → first_chance times now 0 ≤ first_chance times (at + 1) 0
   later_from now at order =
       first_chance_le times trace now (first_chance times (at + 1) 0)
-        (let late : at + 1 ≤ chance_time times (first_chance times (at + 1) 0) = le_first_chance times trace (at + 1) (first_chance times (at + 1) 0) (omega arith) in omega arith)
+      (let late : at + 1 ≤ chance_time times (first_chance times (at + 1) 0) = le_first_chance times trace (at + 1) (first_chance times (at + 1) 0) (omega arith) in omega arith)
 
   -- one more packet of this chance
   waits_more : (at past own count : ℕ) (b : Bool) → ltb at (chance_time times own) ≡ b → past ≤ own
@@ -34,9 +34,10 @@ module _ (times : List ℕ) (trace : IsTrace times) where
       elim place as (λ _. count + 1 ≡ own + 1 - first_chance times (at + 1) 0) [ inl same ↦ omega arith | inr first ↦ omega arith ]
   waits_more at past own count false is order count_is place =
       let passed : own < first_chance times (at + 1) 0 =
-        elim (cases_lt own (first_chance times (at + 1) 0)) as (λ _. own < first_chance times (at + 1) 0)
-          [ inl below ↦ below
-          | inr not_under ↦ absurd (let late = le_first_chance times trace (at + 1) own not_under in let early : chance_time times own ≤ at = not_below at (chance_time times own) is in omega arith) ] in
+      elim (cases_lt own (first_chance times (at + 1) 0)) as (λ _. own < first_chance times (at + 1) 0) [
+        | inl below ↦ below
+        | inr not_under ↦ absurd (let late = le_first_chance times trace (at + 1) own not_under in let early : chance_time times own ≤ at = not_below at (chance_time times own) is in omega arith)
+      ] in
       omega arith
 
   queued_served : (now own sent_at : ℕ) (marked : Bool) (packets : List Packet) → own ≡ max (chances_past packets) (first_chance times now 0)
@@ -44,8 +45,8 @@ module _ (times : List ℕ) (trace : IsTrace times) where
   queued_served now own sent_at marked packets own_is queued at after =
       let past = chances_past packets in
       let place : (own ≡ past) ⊎ (own ≤ first_chance times (at + 1) 0) =
-        elim (cases_lt past (first_chance times now 0)) as (λ _. (own ≡ past) ⊎ (own ≤ first_chance times (at + 1) 0))
-          [ inl before ↦ inr (omega (arith, later_from now at after)) | inr not_before ↦ inl (omega arith) ] in
+      elim (cases_lt past (first_chance times now 0)) as (λ _. (own ≡ past) ⊎ (own ≤ first_chance times (at + 1) 0))
+      [ inl before ↦ inr (omega (arith, later_from now at after)) | inr not_before ↦ inl (omega arith) ] in
       let counted = waits_more at past own (waiting times at packets) (ltb at (chance_time times own)) refl (omega arith) (queued at after) place in
       let last : max (own + 1) past ≡ own + 1 = omega arith in
       counted ∙ ap (λ m. m - first_chance times (at + 1) 0) (sym last)
@@ -60,4 +61,4 @@ pub IsQueued-sent : (case : LinkCase) (now : ℕ) (packets : List Packet) → Is
 IsQueued-sent case now packets trace queued =
     let queue = waiting case.trace now packets in
     queued_by case.trace trace (is_listed (length packets) case.losses || leb case.queue queue) (is_marked case.mark queue) now (first_chance case.trace now (chances_past packets)) now packets
-      (first_chance_max case.trace trace now (chances_past packets)) queued
+    (first_chance_max case.trace trace now (chances_past packets)) queued

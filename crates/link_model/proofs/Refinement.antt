@@ -63,7 +63,7 @@ module _ (case : LinkCase) (trace : IsTrace case.trace) where
   landed_from from lost [] before = refl
   landed_from from lost (packet ∷ rest) before =
       landed_by from packet.sent_at lost packet.fate rest (landing rest (lost + 1)) (staying rest) before.0 before.1
-        (landed_from (after_arrival case from packet.fate) (lost + 1) rest before.1)
+      (landed_from (after_arrival case from packet.fate) (lost + 1) rest before.1)
 
 -- ---- what holds after each list of windows
 
@@ -82,7 +82,7 @@ settled_at_first case = record {
   below = tt;
   queued = λ at after. omega arith;
   served = tt;
-  arriving = tt
+  arriving = tt;
 }
 
 -- ---- one more packet
@@ -94,7 +94,7 @@ module _ (case : LinkCase) (trace : IsTrace case.trace) (packets : List Packet) 
       all_served_within-push case.trace (chances_past packets) flight (record { sent_at = now; fate = Lost }) within tt
   served_by false marked now own flight order not_before within =
       all_served_within-push case.trace (max (own + 1) (chances_past packets)) flight (record { sent_at = now; fate = Served own marked })
-        (all_served_within-more case.trace (chances_past packets) (max (own + 1) (chances_past packets)) flight (omega arith) within) (omega arith, not_before)
+      (all_served_within-more case.trace (chances_past packets) (max (own + 1) (chances_past packets)) flight (omega arith) within) (omega arith, not_before)
 
   arriving_by : (b marked : Bool) (now own : ℕ) (flight : List Packet) → chances_past packets ≤ own → now ≤ chance_time case.trace own → AllServedWithin case.trace (chances_past packets) flight
       → ArriveFrom case now flight → ArriveFrom case now (flight ++ record { sent_at = now; fate = cond b Lost (Served own marked) } ∷ [])
@@ -122,12 +122,12 @@ module _ (case : LinkCase) (trace : IsTrace case.trace) (packets : List Packet) 
         takings = all_take_below-more (length packets) (suc (length packets)) givens (omega arith) settled.takings;
         rises = subst (RisesFrom 0) (sym sent) (RisesFrom-push 0 (length packets) flight last settled.rises settled.below (omega arith) (omega arith));
         below = subst (AllBelow (suc (length packets))) (sym sent)
-          (AllBelow-push (suc (length packets)) flight last (AllBelow-more (length packets) (suc (length packets)) flight (omega arith) settled.below) (omega arith));
+            (AllBelow-push (suc (length packets)) flight last (AllBelow-more (length packets) (suc (length packets)) flight (omega arith) settled.below) (omega arith));
         queued = IsQueued-sent case now packets trace settled.queued;
         served = subst (AllServedWithin case.trace (chances_past (packet ∷ packets))) (sym flight_sent)
-          (served_by is_lost_now (is_marked case.mark queue) now own (packets_of flight) (first_chance_from case.trace trace now past) (first_chance_at case.trace trace now past) settled.served);
+            (served_by is_lost_now (is_marked case.mark queue) now own (packets_of flight) (first_chance_from case.trace trace now past) (first_chance_at case.trace trace now past) settled.served);
         arriving = subst (ArriveFrom case now) (sym flight_sent)
-          (arriving_by is_lost_now (is_marked case.mark queue) now own (packets_of flight) (first_chance_from case.trace trace now past) (first_chance_at case.trace trace now past) settled.served settled.arriving)
+            (arriving_by is_lost_now (is_marked case.mark queue) now own (packets_of flight) (first_chance_from case.trace trace now past) (first_chance_at case.trace trace now past) settled.served settled.arriving);
       }
 
   -- the packet of the definition is the one that the link sends
@@ -141,7 +141,7 @@ module _ (case : LinkCase) (trace : IsTrace case.trace) (packets : List Packet) 
 
   pub same_standing : standing_of (record { packets = packet_after case (time_of givens) packets ∷ packets; givens = givens })
       ≡ with_packet (standing_of (record { packets = packets; givens = givens }))
-          (packet_by case (standing_of (record { packets = packets; givens = givens })) (first_chance case.trace (time_of givens) 0) (first_chance case.trace (time_of givens + 1) 0))
+      (packet_by case (standing_of (record { packets = packets; givens = givens })) (first_chance case.trace (time_of givens) 0) (first_chance case.trace (time_of givens + 1) 0))
   same_standing =
       let packet = packet_after case (time_of givens) packets in
       let with_parts : List Packet → ℕ → Standing = λ flight sent. record {
@@ -151,7 +151,7 @@ module _ (case : LinkCase) (trace : IsTrace case.trace) (packets : List Packet) 
         chance = chances_past (packet ∷ packets);
         sent = sent;
         acked = acked_of givens;
-        calls = length givens
+        calls = length givens;
       } in
       let more : suc (length packets) ≡ length packets + 1 = omega arith in
       ap (λ flight. with_parts flight (suc (length packets))) flight_sent
@@ -168,7 +168,7 @@ module _ (case : LinkCase) (trace : IsTrace case.trace) where
 
   sending_same : (more : ℕ) (packets : List Packet) (givens : List Given) → Settled case packets givens
       → standing_of (record { packets = with_sent case (time_of givens) more packets; givens = givens })
-        ≡ sending case (first_chance case.trace (time_of givens) 0) (first_chance case.trace (time_of givens + 1) 0) more (standing_of (record { packets = packets; givens = givens }))
+      ≡ sending case (first_chance case.trace (time_of givens) 0) (first_chance case.trace (time_of givens + 1) 0) more (standing_of (record { packets = packets; givens = givens }))
   sending_same zero packets givens settled = refl
   sending_same (suc more) packets givens settled =
       sending_same more (packet_after case (time_of givens) packets ∷ packets) givens (settled-sent case trace packets givens settled)
@@ -190,7 +190,7 @@ module _ (case : LinkCase) (packets : List Packet) (givens : List Given) where
       → (answer_by case packets givens flight next).ack ≡ ack_by case (landed_standing flight) (landing (packets_of flight) 0)
   ack_same flight all_lost same below =
       let none : length (left_by (all_below (length packets)) flight) ≡ length (staying (packets_of flight)) =
-        ap length (left_by-all_below (length packets) flight below) ∙ sym (ap length same.1) in
+      ap length (left_by-all_below (length packets) flight below) ∙ sym (ap length same.1) in
       let count : length flight ≡ 0 + length flight = omega arith in
       ap (λ stay. timeout_ack case (time_of givens + case.timeout_us) (sample_of givens) (length flight) stay (acked_of givens) (length packets)) none
       ∙ ap (λ lost. timeout_ack case (time_of givens + case.timeout_us) (sample_of givens) lost (length (staying (packets_of flight))) (acked_of givens) (length packets)) count
@@ -242,17 +242,17 @@ module _ (case : LinkCase) (trace : IsTrace case.trace) (packets : List Packet) 
         below = AllBelow-left_by given.taking (length packets) flight settled.below;
         queued = IsQueued-later case.trace (time_of givens) given.ack.now packets goes_on.0 settled.queued;
         served = subst (AllServedWithin case.trace (chances_past packets)) (sym stays) (all_served_within-staying case.trace (chances_past packets) (packets_of flight) settled.served);
-        arriving = subst (ArriveFrom case given.ack.now) (sym stays) goes_on.1
+        arriving = subst (ArriveFrom case given.ack.now) (sym stays) goes_on.1;
       }
 
   pub answer_same : (answer_to case packets givens).ack
       ≡ ack_by case (with_flight (standing_of (record { packets = packets; givens = givens })) (staying (standing_of (record { packets = packets; givens = givens })).flight))
-          (landing (standing_of (record { packets = packets; givens = givens })).flight 0)
+      (landing (standing_of (record { packets = packets; givens = givens })).flight 0)
   answer_same = ack_same case packets givens (in_flight packets givens) (next_of (in_flight packets givens)) matches settled.below
 
   pub answered_standing : standing_of (record { packets = packets; givens = answer_to case packets givens ∷ givens })
       ≡ with_ack (with_flight (standing_of (record { packets = packets; givens = givens })) (staying (standing_of (record { packets = packets; givens = givens })).flight))
-          (answer_to case packets givens).ack
+      (answer_to case packets givens).ack
   answered_standing =
       let ack = (answer_to case packets givens).ack in
       let with_parts : List Packet → ℕ → ℕ → Standing = λ flight acked calls. record {
@@ -262,7 +262,7 @@ module _ (case : LinkCase) (trace : IsTrace case.trace) (packets : List Packet) 
         chance = chances_past packets;
         sent = length packets;
         acked = acked;
-        calls = calls
+        calls = calls;
       } in
       let calls : suc (length givens) ≡ length givens + 1 = omega arith in
       let stay = staying (packets_of (in_flight packets givens)) in
@@ -274,20 +274,20 @@ module _ (case : LinkCase) (trace : IsTrace case.trace) where
   pub settled-called : (window : ℕ) (run : Run) → Settled case run.packets run.givens → Settled case (called case window run).packets (called case window run).givens
   settled-called window run settled =
       settled-answered case trace (sent_by case window run) run.givens
-        (settled-with_sent case trace (allowance case window - length (in_flight run.packets run.givens)) run.packets run.givens settled)
+      (settled-with_sent case trace (allowance case window - length (in_flight run.packets run.givens)) run.packets run.givens settled)
 
   pub ack_called : (window : ℕ) (run : Run) → Settled case run.packets run.givens
       → (answer_to case (sent_by case window run) run.givens).ack ≡ next_ack case window (standing_of run)
   ack_called window run settled =
       answer_same case trace (sent_by case window run) run.givens
-        (settled-with_sent case trace (allowance case window - length (in_flight run.packets run.givens)) run.packets run.givens settled)
+      (settled-with_sent case trace (allowance case window - length (in_flight run.packets run.givens)) run.packets run.givens settled)
       ∙ ap (λ s. ack_by case (with_flight s (staying s.flight)) (landing s.flight 0)) (sent_same case trace window run settled)
 
   pub standing_called : (window : ℕ) (run : Run) → Settled case run.packets run.givens
       → standing_of (called case window run) ≡ next_standing case window (standing_of run)
   standing_called window run settled =
       answered_standing case trace (sent_by case window run) run.givens
-        (settled-with_sent case trace (allowance case window - length (in_flight run.packets run.givens)) run.packets run.givens settled)
+      (settled-with_sent case trace (allowance case window - length (in_flight run.packets run.givens)) run.packets run.givens settled)
       ∙ ap (λ s. with_ack (with_flight s (staying s.flight)) (answer_to case (sent_by case window run) run.givens).ack) (sent_same case trace window run settled)
       ∙ ap (with_ack (with_flight (sent_standing case window (standing_of run)) (staying (sent_standing case window (standing_of run)).flight))) (ack_called window run settled)
 

@@ -37,7 +37,7 @@ pub is_listed-nowhere : (number : ℕ) (losses : List ℕ) → ((i : ℕ) → i 
 is_listed-nowhere number [] nowhere = refl
 is_listed-nowhere number (other ∷ rest) nowhere =
     neither (eqb other number) (is_listed number rest) (not_equal other number (nowhere 0 (omega arith)))
-      (is_listed-nowhere number rest (λ i within. nowhere (suc i) (omega arith)))
+    (is_listed-nowhere number rest (λ i within. nowhere (suc i) (omega arith)))
 
 -- ---- sending
 
@@ -61,15 +61,16 @@ rises_along numbers rises i zero order within =
     let same : i ≡ 0 = omega arith in
     let e : get_or numbers i 0 ≡ get_or numbers 0 0 = ap (λ k. get_or numbers k 0) same in omega arith
 rises_along numbers rises i (suc j) order within =
-    elim (cases_lt j i) as (λ _. get_or numbers i 0 ≤ get_or numbers (suc j) 0)
-      [ inl last ↦
+    elim (cases_lt j i) as (λ _. get_or numbers i 0 ≤ get_or numbers (suc j) 0) [
+      | inl last ↦
           (let same : i ≡ suc j = omega arith in
-           let e : get_or numbers i 0 ≡ get_or numbers (suc j) 0 = ap (λ k. get_or numbers k 0) same in omega arith)
+          let e : get_or numbers i 0 ≡ get_or numbers (suc j) 0 = ap (λ k. get_or numbers k 0) same in omega arith)
       | inr before ↦
           (let step = rises j (omega arith) in
-           let next : j + 1 ≡ suc j = omega arith in
-           let e : get_or numbers (j + 1) 0 ≡ get_or numbers (suc j) 0 = ap (λ k. get_or numbers k 0) next in
-           omega (arith, rises_along numbers rises i j before (omega arith))) ]
+          let next : j + 1 ≡ suc j = omega arith in
+          let e : get_or numbers (j + 1) 0 ≡ get_or numbers (suc j) 0 = ap (λ k. get_or numbers k 0) next in
+          omega (arith, rises_along numbers rises i j before (omega arith)))
+    ]
 
 found : (losses : List ℕ) (number : ℕ) (r : Result ℕ ℕ)
     → MatchResult r (λ i. (i < length losses) × (get_or losses i 0 ≡ number)) (λ i. (i ≤ length losses) × ((k : ℕ) → k < i → get_or losses k 0 < number) × ((k : ℕ) → i ≤ k → k < length losses → number < get_or losses k 0))
@@ -77,8 +78,8 @@ found : (losses : List ℕ) (number : ℕ) (r : Result ℕ ℕ)
 found losses number (Ok i) at = sym (is_listed-at number losses i at.0 at.1)
 found losses number (Err i) apart =
     sym (is_listed-nowhere number losses (λ k within same.
-      elim (cases_lt k i) as (λ _. ⊥)
-        [ inl below ↦ (let h = apart.1 k below in omega arith) | inr above ↦ (let h = apart.2 k above within in omega arith) ]))
+    elim (cases_lt k i) as (λ _. ⊥)
+    [ inl below ↦ (let h = apart.1 k below in omega arith) | inr above ↦ (let h = apart.2 k above within in omega arith) ]))
 
 -- a binary search finds a number exactly where it is listed
 pub is_ok-is_listed : (losses : List ℕ) (number : ℕ) (r : Result ℕ ℕ) → IsStrictlyIncreasing losses → IsBinarySearchResult (λ y. nat_cmp y number) losses r → is_ok r ≡ is_listed number losses
@@ -94,7 +95,7 @@ is_sending_of-start case due later more start timely =
       calls = refl;
       acked = refl;
       sent = omega arith;
-      flight = omega arith
+      flight = omega arith;
     }
 
 one_more_sent : (case : LinkCase) (due later more done : ℕ) (start standing : Standing) → IsTrace case.trace → due ≡ first_chance case.trace start.time 0 → done < more
@@ -108,7 +109,7 @@ one_more_sent case due later more done start standing trace due_is within so_far
       calls = so_far.calls;
       acked = so_far.acked;
       sent = omega (arith, so_far.sent);
-      flight = omega (arith, so_far.flight, length-append standing.flight (packet ∷ []))
+      flight = omega (arith, so_far.flight, length-append standing.flight (packet ∷ []));
     }
 
 -- a loop's step
@@ -117,7 +118,7 @@ pub is_sending_of-more : (case : LinkCase) (due later due' later' more done : �
     → IsSendingOf case due later more done start standing → IsSendingOf case due later more (done + 1) start next
 is_sending_of-more case due later due' later' more done start standing next packet trace due_is same_due same_later within packet_is next_is so_far =
     let is : next ≡ with_packet standing (packet_by case standing due later) =
-      next_is ∙ ap (with_packet standing) (packet_is ∙ ap (λ d. packet_by case standing d later') same_due ∙ ap (packet_by case standing due) same_later) in
+    next_is ∙ ap (with_packet standing) (packet_is ∙ ap (λ d. packet_by case standing d later') same_due ∙ ap (packet_by case standing due) same_later) in
     subst (IsSendingOf case due later more (done + 1) start) (sym is) (one_more_sent case due later more done start standing trace due_is within so_far)
 
 -- the chances of the next packet fit
@@ -127,7 +128,7 @@ pub next_chance_below : (case : LinkCase) (due later due' later' more done : ℕ
     → IsChanceBelow packet.fate (2 ^ 127)
 next_chance_below case due later due' later' more done start standing packet trace due_is same_due packet_is so_far within sent calls count =
     subst (λ (p : Packet). IsChanceBelow p.fate (2 ^ 127)) (sym packet_is)
-      (is_chance_below case trace standing so_far.timely due' (same_due ∙ due_is ∙ ap (λ t. first_chance case.trace t 0) (sym so_far.time)) later' (omega (arith, so_far.sent)) (omega (arith, so_far.calls)) count)
+    (is_chance_below case trace standing so_far.timely due' (same_due ∙ due_is ∙ ap (λ t. first_chance case.trace t 0) (sym so_far.time)) later' (omega (arith, so_far.sent)) (omega (arith, so_far.calls)) count)
 
 -- all are sent
 pub all_sent : (case : LinkCase) (due later more done : ℕ) (start standing : Standing) → more ≤ done → IsSendingOf case due later more done start standing → standing ≡ sending case due later more start

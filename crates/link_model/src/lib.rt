@@ -17,3 +17,6 @@ pub use link_case::LinkCase;
 pub use packet::{Fate, Packet};
 pub use trace::{LONGEST_MS, Trace, TraceFault};
 pub use trace_text::TraceLine;
+
+#[cfg(test)]
+mod tests;

@@ -12,6 +12,6 @@ returns-clause-ack c =
 pub returns-clause-stands : goal.returns-clause-stands
 returns-clause-stands c =
     λ windows stands.
-      c.step.ensures.standing
-      ∙ next_standing_same c.args.self.now.case c.step.ensures.valid windows c.args.window c.args.self.now.standing stands
-      ∙ ap (λ case. standing_of (run_of case (windows ++ c.args.window ∷ []))) (sym c.step.ensures.case)
+    c.step.ensures.standing
+    ∙ next_standing_same c.args.self.now.case c.step.ensures.valid windows c.args.window c.args.self.now.standing stands
+    ∙ ap (λ case. standing_of (run_of case (windows ++ c.args.window ∷ []))) (sym c.step.ensures.case)

@@ -9,5 +9,5 @@ invariant_of-self c =
       calls = omega arith;
       sent = omega (arith, c.self.invariant.sent);
       acked = c.acknowledge.ensures.acked;
-      flight = c.acknowledge.ensures.flight
+      flight = c.acknowledge.ensures.flight;
     }

@@ -11,7 +11,7 @@ ack-ack-requires-clause-within c =
     let timely = subst (IsTimely case) (sym c.self.view_is) c.requires.timely in
     let few = subst (λ (s : Standing). length s.flight ≤ 4096) (sym c.self.view_is) c.requires.flight in
     subst (λ (l : Landing). LandsWithin case.trace (horizon c.self.inside.sent c.self.inside.calls) l) (sym c.land-landing.ensures.landed)
-      (lands_within case.trace c.self.inside.chance _ c.self.inside.flight.items 0 timely.chances timely.flight (omega (arith, few)))
+    (lands_within case.trace c.self.inside.chance _ c.self.inside.flight.items 0 timely.chances timely.flight (omega (arith, few)))
 
 pub ack-ack-requires-clause-flight : goal.ack-ack-requires-clause-flight
 ack-ack-requires-clause-flight c =
