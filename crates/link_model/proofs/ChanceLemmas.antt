@@ -1,4 +1,4 @@
-use Rattle.std.proofs.Common.{◌≡◌, ℕ, zero, suc, ◌+◌, ◌-◌, ◌*◌, ◌/◌, ◌%◌, ◌<◌, ◌≤◌, Bool, true, false, leb, ltb, List, length, get_or, refl, ap, sym, ◌∙◌, subst, arith, inl, inr, ◌⊎◌, max, IsTrue}
+use Rattle.std.proofs.Common.{◌≡◌, ℕ, zero, suc, ◌+◌, ◌-◌, ◌*◌, ◌/◌, ◌%◌, ◌<◌, ◌≤◌, Bool, true, false, leb, ltb, List, length, get_or, refl, ap, sym, ◌∙◌, arith, inl, inr, max}
 use Rattle.std.proofs.Math.Nat.{mul-le-mul_left, div-add-mod, mod-lt, div-mul-le_self, div-le_of_le-mul, mul-div-le, lt-div-mul-add}
 use Rattle.std.proofs.lemmas.Nat.{le-div, div-mul-add, mod-mul-add, mul-le}
 use Rattle.std.proofs.lemmas.Bool.{cases_lt, leb-true, le-leb}

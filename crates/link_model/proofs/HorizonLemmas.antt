@@ -1,4 +1,4 @@
-use Rattle.std.proofs.Common.{◌≡◌, ℕ, zero, suc, ◌+◌, ◌-◌, ◌*◌, ◌^◌, ◌<◌, ◌≤◌, Bool, true, false, cond, leb, List, [], ◌∷◌, ◌++◌, length, get_or, refl, ap, sym, ◌∙◌, subst, arith, inl, inr, ◌⊎◌, max, ◌||◌, length-append}
+use Rattle.std.proofs.Common.{◌≡◌, ℕ, ◌+◌, ◌-◌, ◌*◌, ◌^◌, ◌<◌, ◌≤◌, Bool, true, false, cond, leb, List, [], ◌∷◌, ◌++◌, length, ap, sym, subst, arith, inl, inr, max, ◌||◌}
 use Rattle.std.proofs.lemmas.Nat.{mul-le}
 use Rattle.std.proofs.lemmas.Bool.{cases_lt}
 use Rattle.link_model.specs.declared.link_case.LinkCase.{LinkCase}
@@ -6,13 +6,12 @@ use Rattle.link_model.specs.declared.packet.Packet.{Packet}
 use Rattle.link_model.specs.declared.packet.Fate.{Fate}
 use Rattle.link_model.specs.declared.packet.Fate.TheVariants.{Lost, Served}
 use Rattle.link_model.specs.declared.landing.Landing.{Landing}
-use Rattle.link_model.specs.declared.landing.Landing.TheVariants.{Arrived, AllLost}
 use Rattle.link_model.specs.Traces.{period, IsTrace}
 use Rattle.link_model.specs.Chances.{chance_time, first_chance}
-use Rattle.link_model.specs.Link.{fate_by, is_listed, is_marked, chance_past}
+use Rattle.link_model.specs.Link.{is_listed, is_marked}
 use Rattle.link_model.specs.Standing.{Standing, packet_by, with_packet, landing, landing_by, staying, staying_by}
 use Rattle.link_model.specs.Horizon.{horizon, IsServedWithin, AllServedWithin, IsTimely, LandsWithin, IsChanceBelow}
-use Rattle.link_model.proofs.ChanceLemmas.{chance_time_rises, chance_time-suc, first_chance_soon, le_first_chance, chance_below, at_most_period}
+use Rattle.link_model.proofs.ChanceLemmas.{chance_time_rises, chance_time-suc, first_chance_soon, le_first_chance, chance_below}
 
 -- ---- packets in flight
 

@@ -1,6 +1,5 @@
 -- A link's own steps are those of the definition, by induction on the list of windows.
-use Rattle.std.proofs.Common.{◌≡◌, ℕ, zero, suc, ◌+◌, ◌-◌, ◌<◌, ◌≤◌, Bool, true, false, cond, leb, ◌||◌, List, [], ◌∷◌, ◌++◌, length, max, refl, ap, sym, ◌∙◌, subst, arith, add_comm}
-use Rattle.ccp_base.specs.declared.ack.Ack.{Ack}
+use Rattle.std.proofs.Common.{◌≡◌, ℕ, zero, suc, ◌+◌, ◌-◌, ◌≤◌, Bool, true, false, cond, leb, ◌||◌, List, [], ◌∷◌, ◌++◌, length, max, refl, ap, sym, ◌∙◌, subst, arith, add_comm}
 use Rattle.link_model.specs.declared.link_case.LinkCase.{LinkCase}
 use Rattle.link_model.specs.declared.packet.Packet.{Packet}
 use Rattle.link_model.specs.declared.packet.Fate.{Fate}
@@ -10,9 +9,10 @@ use Rattle.link_model.specs.declared.landing.Landing.TheVariants.{Arrived, AllLo
 use Rattle.link_model.specs.Traces.{IsTrace}
 use Rattle.link_model.specs.Chances.{chance_time, first_chance}
 use Rattle.link_model.specs.Link.{Run, Given, Numbered, packets_to, all_below, allowance, waiting, chances_past, is_listed, is_marked, fate_by, packet_after, with_sent, left_by, lost_by, in_flight, time_of, sample_of, acked_of, arrival_of, arrival_ack, timeout_ack, Next, arrives, all_lost, next_of, answer_by, answer_to, sent_by, called, run_from, run_of, ack_after}
-use Rattle.link_model.specs.Standing.{Standing, LinkState, packets_of, standing_of, Stands, packet_by, with_packet, sending, sending_now, landing, landing_by, staying, staying_by, ack_by, with_flight, with_ack, sent_standing, next_ack, next_standing}
+use Rattle.link_model.specs.LinkLaws.{run_from-push}
+use Rattle.link_model.specs.Standing.{Standing, packets_of, standing_of, packet_by, with_packet, sending, sending_now, landing, landing_by, staying, staying_by, ack_by, with_flight, with_ack, sent_standing, next_ack, next_standing}
 use Rattle.link_model.specs.Horizon.{IsServedWithin, AllServedWithin}
-use Rattle.link_model.proofs.ChanceLemmas.{chance_time_rises, le_first_chance, first_chance_max, first_chance_from, first_chance_at}
+use Rattle.link_model.proofs.ChanceLemmas.{chance_time_rises, first_chance_max, first_chance_from, first_chance_at}
 use Rattle.link_model.proofs.HorizonLemmas.{all_served_within-more, all_served_within-push, all_served_within-staying}
 use Rattle.link_model.proofs.FlightLemmas.{RisesFrom, AllBelow, AllTakeBelow, TakesBelow, RisesFrom-push, AllBelow-push, AllBelow-more, RisesFrom-left_by, AllBelow-left_by, all_take_below-more, in_flight-sent, packets_of-push, length-packets_of, left_by-all_below, MatchNext, match_next, IsNextBelow, next_below}
 use Rattle.link_model.proofs.QueueLemmas.{IsQueued, IsQueued-later, IsQueued-sent}
@@ -297,10 +297,6 @@ module _ (case : LinkCase) (trace : IsTrace case.trace) where
   settled-run_from [] run settled = settled
   settled-run_from (window ∷ later) run settled = settled-run_from later (called case window run) (settled-called window run settled)
 
-  run_from-push : (windows : List ℕ) (window : ℕ) (run : Run) → run_from case run (windows ++ window ∷ []) ≡ called case window (run_from case run windows)
-  run_from-push [] window run = refl
-  run_from-push (first ∷ later) window run = run_from-push later window (called case first run)
-
   settled-run_of : (windows : List ℕ) → Settled case (run_of case windows).packets (run_of case windows).givens
   settled-run_of windows = settled-run_from windows (record { packets = []; givens = [] }) (settled_at_first case)
 
@@ -313,4 +309,4 @@ module _ (case : LinkCase) (trace : IsTrace case.trace) where
   next_standing_same windows window standing same =
       ap (next_standing case window) same
       ∙ sym (standing_called window (run_of case windows) (settled-run_of windows))
-      ∙ ap standing_of (sym (run_from-push windows window (record { packets = []; givens = [] })))
+      ∙ ap standing_of (sym (run_from-push case windows window (record { packets = []; givens = [] })))

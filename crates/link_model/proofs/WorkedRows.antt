@@ -1,9 +1,9 @@
 -- What the definition of the link gives for a few short lists of windows.
-use Rattle.std.proofs.Common.{◌≡◌, ℕ, ◌+◌, ◌<◌, ◌≤◌, List, [], ◌∷◌, length, Option, Some, None, true, false, refl, arith, lit≤}
+use Rattle.std.proofs.Common.{◌≡◌, ℕ, ◌≤◌, [], ◌∷◌, Some, None, true, refl, arith, lit≤}
 use Rattle.std.specs.Option.{ForSome}
 use Rattle.std.specs.List.Sorted.{IsStrictlyIncreasing}
 use Rattle.link_model.specs.Chances.{chance_time}
-use Rattle.link_model.specs.Link.{ack_after, run_of}
+use Rattle.link_model.specs.Link.{ack_after}
 use Rattle.link_model.specs.declared.link_case.LinkCase.{LinkCase}
 use Rattle.ccp_base.specs.declared.ack.Ack.{Ack}
 

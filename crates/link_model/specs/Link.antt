@@ -237,3 +237,11 @@ run_of case windows = run_from case (record { packets = []; givens = [] }) windo
 abbrev pub ack_after : LinkCase → List ℕ → ℕ → Ack
 ack_after case windows window =
     (answer_to case (sent_by case window (run_of case windows)) (run_of case windows).givens).ack
+
+abbrev pub acks_in_order : List Given → List Ack
+acks_in_order [] = []
+acks_in_order (given ∷ earlier) = acks_in_order earlier ++ given.ack ∷ []
+
+-- the acknowledgements of a list of windows, the first one first
+abbrev pub acks_of : LinkCase → List ℕ → List Ack
+acks_of case windows = acks_in_order (run_of case windows).givens

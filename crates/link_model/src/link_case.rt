@@ -1,4 +1,4 @@
-ghost use Rattle.std.specs.Prelude.{◌≡◌, ◌≤◌, IfOk};
+ghost use Rattle.std.specs.Prelude.{◌≡◌, ◌≤◌, ◌↔◌, IfOk, IsTrue};
 ghost use Rattle.std.specs.Option.{ForSome};
 ghost use Rattle.std.specs.List.Sorted.{IsStrictlyIncreasing};
 
@@ -48,4 +48,35 @@ impl LinkCase {
             mark: self.mark,
         })
     }
+
+    /// Whether two cases are equal.
+    pub fn same(&self, other: &LinkCase) -> bool
+        ensures { IsTrue result ↔ (self.now ≡ other.now) }
+    {
+        if !same_numbers(self.trace.as_slice(), other.trace.as_slice()) {
+            return false;
+        }
+        if !same_numbers(self.losses.as_slice(), other.losses.as_slice()) {
+            return false;
+        }
+        if self.mss != other.mss || self.queue != other.queue {
+            return false;
+        }
+        if self.delay_us != other.delay_us || self.timeout_us != other.timeout_us {
+            return false;
+        }
+        same_mark(self.mark, other.mark)
+    }
+}
+
+fn same_numbers(these: &[u32], others: &[u32]) -> bool
+    ensures { IsTrue result ↔ (these.now ≡ others.now) }
+{
+    these == others
+}
+
+fn same_mark(this: Option<u32>, other: Option<u32>) -> bool
+    ensures { IsTrue result ↔ (this ≡ other) }
+{
+    this == other
 }

@@ -1,4 +1,4 @@
-use Rattle.std.proofs.Common.{◌/◌, sym, refl, ◌∙◌, subst, ◌+◌, ◌*◌, ap, length}
+use Rattle.std.proofs.Common.{◌/◌, sym, refl, ◌∙◌, ◌+◌, ◌*◌, ap, length}
 use Rattle.link_model.proofs.ChanceLemmas.{turn_chance}
 use Rattle.link_model.proofs.chance.first_chance.Goals as goal
 

@@ -1,5 +1,4 @@
-use Rattle.std.proofs.Common.{◌≡◌, true, false, sym, ◌∙◌, arith}
-use Rattle.std.proofs.lemmas.List.{get_or_read}
+use Rattle.std.proofs.Common.{arith}
 use Rattle.link_model.proofs.PartLemmas.{parts_at_separator, parts_past_byte, parts_at_end}
 use Rattle.link_model.proofs.parts.first_part.Goals as goal
 

@@ -1,5 +1,4 @@
-use Rattle.std.proofs.Common.{ℕ, List, ◌++◌, ◌∷◌, [], ◌∙◌, ap, sym, subst}
-use Rattle.link_model.specs.declared.link_case.LinkCase.{LinkCase}
+use Rattle.std.proofs.Common.{◌++◌, ◌∷◌, [], ◌∙◌, ap, sym}
 use Rattle.link_model.specs.Link.{run_of}
 use Rattle.link_model.specs.Standing.{standing_of}
 use Rattle.link_model.proofs.Refinement.{next_ack_same, next_standing_same}

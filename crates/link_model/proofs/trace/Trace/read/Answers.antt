@@ -1,5 +1,5 @@
 use Rattle.std.specs.Option.{option_copied}
-use Rattle.std.proofs.Common.{List, ℕ, subst, sym, ◌∙◌, ap, length, ◌-◌, ◌≡◌, Some, arith}
+use Rattle.std.proofs.Common.{List, ℕ, subst, sym, ◌∙◌, ap, length, ◌-◌, ◌≡◌, Some}
 use Rattle.std.specs.List.{slice_get}
 use Rattle.link_model.specs.Parts.{parts_of}
 use Rattle.link_model.specs.declared.parts.Separator.TheVariants as separator
