@@ -1,0 +1,212 @@
+-- The packets in flight of the definition against those that a link keeps.
+use Rattle.std.proofs.Common.{◌≡◌, ℕ, suc, ◌+◌, ◌<◌, ◌≤◌, Bool, true, false, cond, eqb, ltb, ◌||◌, ◌&&◌, List, [], ◌∷◌, ◌++◌, length, refl, ap, ◌∙◌, arith}
+use Rattle.std.proofs.lemmas.Bool.Decides.{nat_tests}
+use Rattle.link_model.specs.declared.packet.Packet.{Packet}
+use Rattle.link_model.specs.declared.packet.Fate.{Fate}
+use Rattle.link_model.specs.declared.packet.Fate.TheVariants.{Lost, Served}
+use Rattle.link_model.specs.declared.landing.Landing.TheVariants.{Arrived, AllLost}
+use Rattle.link_model.specs.Link.{Taking, packets_to, all_below, Given, Numbered, takes, left_by, lost_by, is_lost, in_flight, Next, arrives, all_lost, next_by, next_of}
+use Rattle.link_model.specs.Standing.{packets_of, landing, staying}
+
+-- ---- numbers in flight
+
+-- the numbers rise, from this one on
+abbrev pub RisesFrom : ℕ → List Numbered → Type 0
+RisesFrom from [] = Unit {0}
+RisesFrom from (sent ∷ rest) = (from ≤ sent.number) × RisesFrom (sent.number + 1) rest
+
+abbrev pub AllBelow : ℕ → List Numbered → Type 0
+AllBelow bound [] = Unit {0}
+AllBelow bound (sent ∷ rest) = (sent.number < bound) × AllBelow bound rest
+
+pub RisesFrom-less : (from less : ℕ) (flight : List Numbered) → less ≤ from → RisesFrom from flight → RisesFrom less flight
+RisesFrom-less from less [] order rises = tt
+RisesFrom-less from less (sent ∷ rest) order rises = (omega (arith, rises.0), rises.1)
+
+pub AllBelow-more : (bound more : ℕ) (flight : List Numbered) → bound ≤ more → AllBelow bound flight → AllBelow more flight
+AllBelow-more bound more [] order below = tt
+AllBelow-more bound more (sent ∷ rest) order below = (omega (arith, below.0), AllBelow-more bound more rest order below.1)
+
+pub RisesFrom-push : (from bound : ℕ) (flight : List Numbered) (last : Numbered) → RisesFrom from flight → AllBelow bound flight → from ≤ last.number → bound ≤ last.number → RisesFrom from (flight ++ last ∷ [])
+RisesFrom-push from bound [] last rises below after order = (after, tt)
+RisesFrom-push from bound (sent ∷ rest) last rises below after order =
+    (rises.0, RisesFrom-push (sent.number + 1) bound rest last rises.1 below.1 (omega (arith, below.0)) order)
+
+pub AllBelow-push : (bound : ℕ) (flight : List Numbered) (last : Numbered) → AllBelow bound flight → last.number < bound → AllBelow bound (flight ++ last ∷ [])
+AllBelow-push bound [] last below is = (is, tt)
+AllBelow-push bound (sent ∷ rest) last below is = (below.0, AllBelow-push bound rest last below.1 is)
+
+rises_if : (b : Bool) (from : ℕ) (sent : Numbered) (rest : List Numbered) → from ≤ sent.number → RisesFrom (sent.number + 1) rest → RisesFrom from (cond b rest (sent ∷ rest))
+rises_if true from sent rest order rises = RisesFrom-less (sent.number + 1) from rest (omega arith) rises
+rises_if false from sent rest order rises = (order, rises)
+
+pub RisesFrom-left_by : (taking : Taking) (from : ℕ) (flight : List Numbered) → RisesFrom from flight → RisesFrom from (left_by taking flight)
+RisesFrom-left_by taking from [] rises = tt
+RisesFrom-left_by taking from (sent ∷ rest) rises =
+    rises_if (takes taking sent) from sent (left_by taking rest) rises.0 (RisesFrom-left_by taking (sent.number + 1) rest rises.1)
+
+below_if : (b : Bool) (bound : ℕ) (sent : Numbered) (rest : List Numbered) → sent.number < bound → AllBelow bound rest → AllBelow bound (cond b rest (sent ∷ rest))
+below_if true bound sent rest is below = below
+below_if false bound sent rest is below = (is, below)
+
+pub AllBelow-left_by : (taking : Taking) (bound : ℕ) (flight : List Numbered) → AllBelow bound flight → AllBelow bound (left_by taking flight)
+AllBelow-left_by taking bound [] below = tt
+AllBelow-left_by taking bound (sent ∷ rest) below = below_if (takes taking sent) bound sent (left_by taking rest) below.0 (AllBelow-left_by taking bound rest below.1)
+
+-- ---- one more packet
+
+-- what was taken away was sent before
+abbrev pub TakesBelow : ℕ → Taking → Type 0
+TakesBelow bound (packets_to number) = number < bound
+TakesBelow bound (all_below sent) = sent ≤ bound
+
+abbrev pub AllTakeBelow : ℕ → List Given → Type 0
+AllTakeBelow bound [] = Unit {0}
+AllTakeBelow bound (given ∷ earlier) = TakesBelow bound given.taking × AllTakeBelow bound earlier
+
+takes_below-more : (bound more : ℕ) (taking : Taking) → bound ≤ more → TakesBelow bound taking → TakesBelow more taking
+takes_below-more bound more (packets_to number) order below = omega (arith, below)
+takes_below-more bound more (all_below sent) order below = omega (arith, below)
+
+pub all_take_below-more : (bound more : ℕ) (givens : List Given) → bound ≤ more → AllTakeBelow bound givens → AllTakeBelow more givens
+all_take_below-more bound more [] order below = tt
+all_take_below-more bound more (given ∷ earlier) order below =
+    (takes_below-more bound more given.taking order below.0, all_take_below-more bound more earlier order below.1)
+
+not_either : (a b c : Bool) → a ≡ false → c ≡ false → a || (b && c) ≡ false
+not_either true b c not_a not_c = not_a
+not_either false true c not_a not_c = not_c
+not_either false false c not_a not_c = refl
+
+apart : (a b : ℕ) → a < b → eqb b a ≡ false
+apart a b below = grind (arith, nat_tests)
+
+not_under : (a b : ℕ) → a ≤ b → ltb b a ≡ false
+not_under a b order = grind (arith, nat_tests)
+
+-- a later packet isn't taken away
+pub not_taken : (taking : Taking) (sent : Numbered) → TakesBelow sent.number taking → takes taking sent ≡ false
+not_taken (packets_to number) sent below =
+    not_either (eqb sent.number number) (is_lost sent.packet.fate) (ltb sent.number number) (apart number sent.number below) (not_under number sent.number (omega arith))
+not_taken (all_below count) sent below = not_under count sent.number below
+
+left_by-append : (taking : Taking) (xs ys : List Numbered) → left_by taking (xs ++ ys) ≡ left_by taking xs ++ left_by taking ys
+left_by-append taking [] ys = refl
+left_by-append taking (sent ∷ rest) ys =
+    ap (λ zs. cond (takes taking sent) zs (sent ∷ zs)) (left_by-append taking rest ys)
+    ∙ elim (takes taking sent) as (λ b. cond b (left_by taking rest ++ left_by taking ys) (sent ∷ (left_by taking rest ++ left_by taking ys)) ≡ cond b (left_by taking rest) (sent ∷ left_by taking rest) ++ left_by taking ys)
+    [ true ↦ refl | false ↦ refl ]
+
+pub in_flight-sent : (packets : List Packet) (packet : Packet) (givens : List Given) → AllTakeBelow (length packets) givens
+    → in_flight (packet ∷ packets) givens ≡ in_flight packets givens ++ record { number = length packets; packet = packet } ∷ []
+in_flight-sent packets packet [] below = refl
+in_flight-sent packets packet (given ∷ earlier) below =
+    let last : Numbered = record { number = length packets; packet = packet } in
+    ap (left_by given.taking) (in_flight-sent packets packet earlier below.1)
+    ∙ left_by-append given.taking (in_flight packets earlier) (last ∷ [])
+    ∙ ap (λ b. left_by given.taking (in_flight packets earlier) ++ cond b [] (last ∷ [])) (not_taken given.taking last below.0)
+
+pub packets_of-push : (flight : List Numbered) (last : Numbered) → packets_of (flight ++ last ∷ []) ≡ packets_of flight ++ last.packet ∷ []
+packets_of-push [] last = refl
+packets_of-push (sent ∷ rest) last = ap (λ xs. sent.packet ∷ xs) (packets_of-push rest last)
+
+pub length-packets_of : (flight : List Numbered) → length (packets_of flight) ≡ length flight
+length-packets_of [] = refl
+length-packets_of (sent ∷ rest) = ap suc (length-packets_of rest)
+
+-- ---- an acknowledgement
+
+below_is : (a b : ℕ) → a < b → ltb a b ≡ true
+below_is a b below = grind (arith, nat_tests)
+
+-- a timeout takes all away
+pub left_by-all_below : (bound : ℕ) (flight : List Numbered) → AllBelow bound flight → left_by (all_below bound) flight ≡ []
+left_by-all_below bound [] below = refl
+left_by-all_below bound (sent ∷ rest) below =
+    ap (λ b. cond b (left_by (all_below bound) rest) (sent ∷ left_by (all_below bound) rest)) (below_is sent.number bound below.0) ∙ left_by-all_below bound rest below.1
+
+-- an acknowledgement takes nothing later away
+left_by-later : (number from : ℕ) (flight : List Numbered) → RisesFrom from flight → number < from → left_by (packets_to number) flight ≡ flight
+left_by-later number from [] rises order = refl
+left_by-later number from (sent ∷ rest) rises order =
+    ap (λ b. cond b (left_by (packets_to number) rest) (sent ∷ left_by (packets_to number) rest)) (not_taken (packets_to number) sent (omega (arith, rises.0)))
+    ∙ ap (λ xs. sent ∷ xs) (left_by-later number (sent.number + 1) rest rises.1 (omega (arith, rises.0)))
+
+lost_by-later : (number from : ℕ) (flight : List Numbered) → RisesFrom from flight → number < from → lost_by (packets_to number) flight ≡ 0
+lost_by-later number from [] rises order = refl
+lost_by-later number from (sent ∷ rest) rises order =
+    ap (λ b. cond (b && is_lost sent.packet.fate) (lost_by (packets_to number) rest + 1) (lost_by (packets_to number) rest)) (not_taken (packets_to number) sent (omega (arith, rises.0)))
+    ∙ lost_by-later number (sent.number + 1) rest rises.1 (omega (arith, rises.0))
+
+-- what the definition acknowledges is what lands of the packets that the link keeps, after so many lost ones
+abbrev pub MatchNext : List Numbered → ℕ → ℕ → Next → Type 0
+MatchNext flight from lost all_lost = (landing (packets_of flight) lost ≡ AllLost (lost + length flight)) × (staying (packets_of flight) ≡ [])
+MatchNext flight from lost (arrives number sent_at chance marked) =
+    (landing (packets_of flight) lost ≡ Arrived sent_at chance marked (lost + lost_by (packets_to number) flight))
+    × (packets_of (left_by (packets_to number) flight) ≡ staying (packets_of flight))
+    × (from ≤ number)
+
+or_right : (a b : Bool) → b ≡ true → a || b ≡ true
+or_right true b is = refl
+or_right false b is = is
+
+or_left : (a b : Bool) → a ≡ true → a || b ≡ true
+or_left true b is = refl
+or_left false b is = absurd (let h : false ≡ true = is in (cc))
+
+same_is : (a : ℕ) → eqb a a ≡ true
+same_is a = grind (arith, nat_tests)
+
+match_lost : (sent_number sent_at from lost : ℕ) (rest : List Numbered) (next : Next) → from ≤ sent_number → MatchNext rest (sent_number + 1) (lost + 1) next
+    → MatchNext (record { number = sent_number; packet = record { sent_at = sent_at; fate = Lost } } ∷ rest) from lost next
+match_lost sent_number sent_at from lost rest all_lost order same =
+    (same.0 ∙ ap AllLost (let e : lost + 1 + length rest ≡ lost + suc (length rest) = omega arith in e), same.1)
+match_lost sent_number sent_at from lost rest (arrives number sent_at' chance marked) order same =
+    let sent : Numbered = record { number = sent_number; packet = record { sent_at = sent_at; fate = Lost } } in
+    let taken : takes (packets_to number) sent ≡ true = or_right (eqb sent_number number) (ltb sent_number number) (below_is sent_number number (omega (arith, same.2))) in
+    let lost_is : lost_by (packets_to number) (sent ∷ rest) ≡ lost_by (packets_to number) rest + 1 =
+    ap (λ b. cond (b && true) (lost_by (packets_to number) rest + 1) (lost_by (packets_to number) rest)) taken in
+    let left_is : left_by (packets_to number) (sent ∷ rest) ≡ left_by (packets_to number) rest =
+    ap (λ b. cond b (left_by (packets_to number) rest) (sent ∷ left_by (packets_to number) rest)) taken in (
+      same.0 ∙ ap (Arrived sent_at' chance marked) (let e : lost + 1 + lost_by (packets_to number) rest ≡ lost + lost_by (packets_to number) (sent ∷ rest) = omega (arith, lost_is) in e),
+      ap packets_of left_is ∙ same.1,
+      omega (arith, same.2),
+    )
+
+match_served : (number sent_at chance from lost : ℕ) (marked : Bool) (rest : List Numbered) → from ≤ number → RisesFrom (number + 1) rest
+    → MatchNext (record { number = number; packet = record { sent_at = sent_at; fate = Served chance marked } } ∷ rest) from lost (arrives number sent_at chance marked)
+match_served number sent_at chance from lost marked rest order rises =
+    let sent : Numbered = record { number = number; packet = record { sent_at = sent_at; fate = Served chance marked } } in
+    let taken : takes (packets_to number) sent ≡ true = or_left (eqb number number) (false && ltb number number) (same_is number) in
+    let lost_is : lost_by (packets_to number) (sent ∷ rest) ≡ lost_by (packets_to number) rest =
+    elim (takes (packets_to number) sent) as (λ b. cond (b && false) (lost_by (packets_to number) rest + 1) (lost_by (packets_to number) rest) ≡ lost_by (packets_to number) rest)
+    [ true ↦ refl | false ↦ refl ] in
+    let left_is : left_by (packets_to number) (sent ∷ rest) ≡ left_by (packets_to number) rest =
+    ap (λ b. cond b (left_by (packets_to number) rest) (sent ∷ left_by (packets_to number) rest)) taken in (
+      ap (Arrived sent_at chance marked) (let e : lost ≡ lost + lost_by (packets_to number) (sent ∷ rest) = omega (arith, lost_is, lost_by-later number (number + 1) rest rises (omega arith)) in e),
+      ap packets_of (left_is ∙ left_by-later number (number + 1) rest rises (omega arith)),
+      order,
+    )
+
+match_by : (number sent_at from lost : ℕ) (fate : Fate) (rest : List Numbered) → from ≤ number → RisesFrom (number + 1) rest → MatchNext rest (number + 1) (lost + 1) (next_of rest)
+    → MatchNext (record { number = number; packet = record { sent_at = sent_at; fate = fate } } ∷ rest) from lost (next_of (record { number = number; packet = record { sent_at = sent_at; fate = fate } } ∷ rest))
+match_by number sent_at from lost Lost rest order rises same = match_lost number sent_at from lost rest (next_of rest) order same
+match_by number sent_at from lost (Served chance marked) rest order rises same = match_served number sent_at chance from lost marked rest order rises
+
+pub match_next : (flight : List Numbered) (from lost : ℕ) → RisesFrom from flight → MatchNext flight from lost (next_of flight)
+match_next [] from lost rises = (ap AllLost (let e : lost ≡ lost + 0 = omega arith in e), refl)
+match_next (sent ∷ rest) from lost rises =
+    match_by sent.number sent.packet.sent_at from lost sent.packet.fate rest rises.0 rises.1 (match_next rest (sent.number + 1) (lost + 1) rises.1)
+
+-- the acknowledged packet was sent
+abbrev pub IsNextBelow : ℕ → Next → Type 0
+IsNextBelow bound all_lost = Unit {0}
+IsNextBelow bound (arrives number sent_at chance marked) = number < bound
+
+next_below_by : (bound number sent_at : ℕ) (fate : Fate) (later : Next) → number < bound → IsNextBelow bound later → IsNextBelow bound (next_by number sent_at fate later)
+next_below_by bound number sent_at Lost later is below = below
+next_below_by bound number sent_at (Served chance marked) later is below = is
+
+pub next_below : (bound : ℕ) (flight : List Numbered) → AllBelow bound flight → IsNextBelow bound (next_of flight)
+next_below bound [] below = tt
+next_below bound (sent ∷ rest) below = next_below_by bound sent.number sent.packet.sent_at sent.packet.fate (next_of rest) below.0 (next_below bound rest below.1)

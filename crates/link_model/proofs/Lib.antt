@@ -1,0 +1,10 @@
+mod PartLemmas
+mod TraceTextLemmas
+mod TraceLemmas
+mod ChanceLemmas
+mod HorizonLemmas
+mod TrafficLemmas
+mod FlightLemmas
+mod QueueLemmas
+mod Refinement
+mod WorkedRows

@@ -1,0 +1,247 @@
+-- The link: what it answers to a list of windows, one a call.
+use Rattle.std.specs.Prelude.{ℕ, zero, suc, ◌+◌, ◌-◌, ◌*◌, ◌/◌, max, min, Bool, true, false, ◌||◌, ◌&&◌, ◌==◌, nat_lt, nat_le, Option, Some, None, if◌then◌else◌, List, [], ◌∷◌, ◌++◌, length}
+use Rattle.ccp_base.specs.declared.ack.Ack.{Ack}
+use Rattle.link_model.specs.declared.link_case.LinkCase.{LinkCase}
+use Rattle.link_model.specs.declared.packet.Packet.{Packet}
+use Rattle.link_model.specs.declared.packet.Fate.{Fate}
+use Rattle.link_model.specs.declared.packet.Fate.TheVariants.{Lost, Served}
+use Rattle.link_model.specs.Chances.{chance_time, first_chance}
+
+-- what an acknowledgement takes away: a packet and the lost ones below it, or at a timeout all so many packets
+pub data Taking : Type 0 where
+  packets_to : ℕ → Taking
+  all_below : ℕ → Taking
+
+-- an acknowledgement with what it takes away
+pub record Given : Type 0 where
+  pub taking : Taking
+  pub ack : Ack
+
+-- a run of the link: every packet ever sent and every acknowledgement given, the latest first
+pub record Run : Type 0 where
+  pub packets : List Packet
+  pub givens : List Given
+
+-- a packet with its number; packets are numbered from 0 as they are sent
+pub record Numbered : Type 0 where
+  pub number : ℕ
+  pub packet : Packet
+
+-- ---- sending
+
+-- how many packets a window allows to be in flight
+abbrev pub allowance : LinkCase → ℕ → ℕ
+allowance case window = min 4096 (max 1 (window / case.mss))
+
+-- a packet has a chance later than this time
+abbrev pub waits : List ℕ → ℕ → Fate → Bool
+waits times now Lost = false
+waits times now (Served chance marked) = nat_lt now (chance_time times chance)
+
+-- how many packets have a chance later than this time
+abbrev pub waiting : List ℕ → ℕ → List Packet → ℕ
+waiting times now [] = 0
+waiting times now (packet ∷ earlier) =
+    if waits times now packet.fate then waiting times now earlier + 1 else waiting times now earlier
+
+-- the number after a packet's chance, or this one where that is later
+abbrev pub chance_past : Fate → ℕ → ℕ
+chance_past Lost from = from
+chance_past (Served chance marked) from = max (chance + 1) from
+
+-- the first number after the chances of all packets
+abbrev pub chances_past : List Packet → ℕ
+chances_past [] = 0
+chances_past (packet ∷ earlier) = chance_past packet.fate (chances_past earlier)
+
+abbrev pub is_listed : ℕ → List ℕ → Bool
+is_listed number [] = false
+is_listed number (other ∷ rest) = (other == number) || is_listed number rest
+
+abbrev pub is_marked : Option ℕ → ℕ → Bool
+is_marked None queued = false
+is_marked (Some mark) queued = nat_le mark queued
+
+-- the fate of a packet of this number, where so many packets wait: lost, or served at this chance
+abbrev pub fate_by : LinkCase → ℕ → ℕ → ℕ → Fate
+fate_by case number queued chance =
+    if is_listed number case.losses || nat_le case.queue queued then Lost
+    else Served chance (is_marked case.mark queued)
+
+-- the packet that is sent at this time after these
+abbrev pub packet_after : LinkCase → ℕ → List Packet → Packet
+packet_after case now earlier = record {
+  sent_at = now;
+  fate = fate_by case (length earlier) (waiting case.trace now earlier) (first_chance case.trace now (chances_past earlier));
+}
+
+-- so many more packets are sent at this time
+abbrev pub with_sent : LinkCase → ℕ → ℕ → List Packet → List Packet
+with_sent case now zero packets = packets
+with_sent case now (suc more) packets = with_sent case now more (packet_after case now packets ∷ packets)
+
+-- ---- in flight
+
+abbrev pub is_lost : Fate → Bool
+is_lost Lost = true
+is_lost (Served chance marked) = false
+
+abbrev pub takes : Taking → Numbered → Bool
+takes (packets_to number) sent = (sent.number == number) || (is_lost sent.packet.fate && nat_lt sent.number number)
+takes (all_below sent_count) sent = nat_lt sent.number sent_count
+
+-- the packets that are left
+abbrev pub left_by : Taking → List Numbered → List Numbered
+left_by taking [] = []
+left_by taking (sent ∷ rest) = if takes taking sent then left_by taking rest else sent ∷ left_by taking rest
+
+-- how many lost packets are taken away
+abbrev pub lost_by : Taking → List Numbered → ℕ
+lost_by taking [] = 0
+lost_by taking (sent ∷ rest) =
+    if takes taking sent && is_lost sent.packet.fate then lost_by taking rest + 1 else lost_by taking rest
+
+-- every packet with its number, the first one first
+abbrev pub numbered : List Packet → List Numbered
+numbered [] = []
+numbered (packet ∷ earlier) = numbered earlier ++ record { number = length earlier; packet = packet } ∷ []
+
+-- the packets in flight: those sent and not taken away, the first one first
+abbrev pub in_flight : List Packet → List Given → List Numbered
+in_flight packets [] = numbered packets
+in_flight packets (given ∷ earlier) = left_by given.taking (in_flight packets earlier)
+
+-- ---- acknowledgements
+
+-- the link's time: that of the last acknowledgement
+abbrev pub time_of : List Given → ℕ
+time_of [] = 0
+time_of (given ∷ earlier) = given.ack.now
+
+-- the last round-trip sample
+abbrev pub sample_of : List Given → ℕ
+sample_of [] = 0
+sample_of (given ∷ earlier) = given.ack.rtt_sample_us
+
+-- how many packets were acknowledged
+abbrev pub acked_of : List Given → ℕ
+acked_of [] = 0
+acked_of (given ∷ earlier) = given.ack.packets_acked + acked_of earlier
+
+-- bytes a second up to this time, 0 at time 0
+abbrev pub rate_of : LinkCase → ℕ → ℕ → ℕ
+rate_of case packets now = if now == 0 then 0 else case.mss * packets * 1000000 / now
+
+-- a number, or 0 where none were lost
+abbrev pub where_lost : ℕ → ℕ → ℕ
+where_lost lost number = if lost == 0 then 0 else number
+
+-- when the acknowledgement of a packet arrives
+abbrev pub arrival_of : LinkCase → ℕ → ℕ
+arrival_of case chance = chance_time case.trace chance + case.delay_us
+
+-- the acknowledgement of a packet with this sending time, chance and mark, where so many lost packets leave, so
+-- many stay in flight, and so many were acknowledged and sent so far
+abbrev pub arrival_ack : LinkCase → ℕ → ℕ → Bool → ℕ → ℕ → ℕ → ℕ → Ack
+arrival_ack case sent_at chance marked lost stay acked sent = record {
+  bytes_acked = case.mss;
+  packets_acked = 1;
+  bytes_misordered = where_lost lost case.mss;
+  packets_misordered = where_lost lost 1;
+  ecn_bytes = if marked then case.mss else 0;
+  ecn_packets = if marked then 1 else 0;
+  lost_pkts_sample = lost;
+  now = arrival_of case chance;
+  bytes_in_flight = case.mss * stay;
+  packets_in_flight = stay;
+  bytes_pending = 0;
+  rate_incoming = rate_of case acked (arrival_of case chance);
+  rate_outgoing = rate_of case sent (arrival_of case chance);
+  rtt_sample_us = arrival_of case chance - sent_at;
+  was_timeout = false;
+}
+
+-- the acknowledgement at a timeout at this time, with the last sample, where so many packets leave
+abbrev pub timeout_ack : LinkCase → ℕ → ℕ → ℕ → ℕ → ℕ → ℕ → Ack
+timeout_ack case now sample lost stay acked sent = record {
+  bytes_acked = 0;
+  packets_acked = 0;
+  bytes_misordered = 0;
+  packets_misordered = 0;
+  ecn_bytes = 0;
+  ecn_packets = 0;
+  lost_pkts_sample = lost;
+  now = now;
+  bytes_in_flight = case.mss * stay;
+  packets_in_flight = stay;
+  bytes_pending = 0;
+  rate_incoming = rate_of case acked now;
+  rate_outgoing = rate_of case sent now;
+  rtt_sample_us = sample;
+  was_timeout = true;
+}
+
+-- the lowest packet in flight that isn't lost, or that all are lost
+pub data Next : Type 0 where
+  arrives : (number sent_at chance : ℕ) → Bool → Next
+  all_lost : Next
+
+abbrev pub next_by : ℕ → ℕ → Fate → Next → Next
+next_by number sent_at Lost later = later
+next_by number sent_at (Served chance marked) later = arrives number sent_at chance marked
+
+abbrev pub next_of : List Numbered → Next
+next_of [] = all_lost
+next_of (sent ∷ rest) = next_by sent.number sent.packet.sent_at sent.packet.fate (next_of rest)
+
+-- that packet's acknowledgement, or where all are lost the timeout
+abbrev pub answer_by : LinkCase → List Packet → List Given → List Numbered → Next → Given
+answer_by case packets givens flight (arrives number sent_at chance marked) = record {
+  taking = packets_to number;
+  ack = arrival_ack case sent_at chance marked (lost_by (packets_to number) flight)
+      (length (left_by (packets_to number) flight)) (acked_of givens + 1) (length packets);
+}
+answer_by case packets givens flight all_lost = record {
+  taking = all_below (length packets);
+  ack = timeout_ack case (time_of givens + case.timeout_us) (sample_of givens) (length flight)
+      (length (left_by (all_below (length packets)) flight)) (acked_of givens) (length packets);
+}
+
+abbrev pub answer_to : LinkCase → List Packet → List Given → Given
+answer_to case packets givens =
+    answer_by case packets givens (in_flight packets givens) (next_of (in_flight packets givens))
+
+-- ---- calls
+
+-- the packets after the sending of a call with this window
+abbrev pub sent_by : LinkCase → ℕ → Run → List Packet
+sent_by case window run =
+    with_sent case (time_of run.givens) (allowance case window - length (in_flight run.packets run.givens)) run.packets
+
+-- one more call
+abbrev pub called : LinkCase → ℕ → Run → Run
+called case window run = record {
+  packets = sent_by case window run;
+  givens = answer_to case (sent_by case window run) run.givens ∷ run.givens;
+}
+
+abbrev pub run_from : LinkCase → Run → List ℕ → Run
+run_from case run [] = run
+run_from case run (window ∷ later) = run_from case (called case window run) later
+
+-- the run of a list of windows
+abbrev pub run_of : LinkCase → List ℕ → Run
+run_of case windows = run_from case (record { packets = []; givens = [] }) windows
+
+-- the acknowledgement of one more call after a list of windows
+abbrev pub ack_after : LinkCase → List ℕ → ℕ → Ack
+ack_after case windows window =
+    (answer_to case (sent_by case window (run_of case windows)) (run_of case windows).givens).ack
+
+abbrev pub acks_in_order : List Given → List Ack
+acks_in_order [] = []
+acks_in_order (given ∷ earlier) = acks_in_order earlier ++ given.ack ∷ []
+
+-- the acknowledgements of a list of windows, the first one first
+abbrev pub acks_of : LinkCase → List ℕ → List Ack
+acks_of case windows = acks_in_order (run_of case windows).givens

@@ -1,0 +1,82 @@
+ghost use Rattle.std.specs.Prelude.{◌≡◌, ◌≤◌, ◌↔◌, IfOk, IsTrue};
+ghost use Rattle.std.specs.Option.{ForSome};
+ghost use Rattle.std.specs.List.Sorted.{IsStrictlyIncreasing};
+
+use crate::trace::Trace;
+use ccp_base::{NoMemory, Sequence};
+use std::alloc::Global;
+
+/// What a link is: its trace, its queue, its delays and which packets it loses.
+#[derive(Debug, Drop)]
+pub struct LinkCase {
+    /// When the link has a chance to send a packet.
+    pub trace: Trace,
+    /// A packet's size, in bytes, 1 to 65,535.
+    pub mss: u32,
+    /// How many packets may wait for their chances, 1 to 4,096.
+    pub queue: u32,
+    /// From a packet's chance to its acknowledgement, in microseconds, at most 10,000,000.
+    pub delay_us: u64,
+    /// How long the sender waits where every packet in flight is lost, in microseconds, 1 to 60,000,000.
+    pub timeout_us: u64,
+    /// The numbers of packets that are lost whatever the queue, each above the one before.
+    pub losses: Sequence<u32>,
+    /// From how many waiting packets on a packet is marked, 1 to 4,096, or no marks.
+    pub mark: Option<u32>,
+    ghost mss_within: { (1 ≤ mss) × (mss ≤ 65535) },
+    ghost queue_within: { (1 ≤ queue) × (queue ≤ 4096) },
+    ghost delay_within: { delay_us ≤ 10000000 },
+    ghost timeout_within: { (1 ≤ timeout_us) × (timeout_us ≤ 60000000) },
+    ghost losses_rise: { IsStrictlyIncreasing losses },
+    ghost mark_within: { ForSome mark (λ m. (1 ≤ m) × (m ≤ 4096)) },
+}
+
+impl LinkCase {
+    /// An equal case.
+    pub fn copy(&self, alloc: Global) -> Result<LinkCase, NoMemory>
+        ensures { IfOk result (λ case. case ≡ self.now) }
+    {
+        let trace = self.trace.copy(alloc)?;
+        let losses = Sequence::from_vec(self.losses.as_slice().to_vec(alloc)?);
+        Ok(LinkCase {
+            trace,
+            mss: self.mss,
+            queue: self.queue,
+            delay_us: self.delay_us,
+            timeout_us: self.timeout_us,
+            losses,
+            mark: self.mark,
+        })
+    }
+
+    /// Whether two cases are equal.
+    pub fn same(&self, other: &LinkCase) -> bool
+        ensures { IsTrue result ↔ (self.now ≡ other.now) }
+    {
+        if !same_numbers(self.trace.as_slice(), other.trace.as_slice()) {
+            return false;
+        }
+        if !same_numbers(self.losses.as_slice(), other.losses.as_slice()) {
+            return false;
+        }
+        if self.mss != other.mss || self.queue != other.queue {
+            return false;
+        }
+        if self.delay_us != other.delay_us || self.timeout_us != other.timeout_us {
+            return false;
+        }
+        same_mark(self.mark, other.mark)
+    }
+}
+
+fn same_numbers(these: &[u32], others: &[u32]) -> bool
+    ensures { IsTrue result ↔ (these.now ≡ others.now) }
+{
+    these == others
+}
+
+fn same_mark(this: Option<u32>, other: Option<u32>) -> bool
+    ensures { IsTrue result ↔ (this ≡ other) }
+{
+    this == other
+}

@@ -1,0 +1,15 @@
+/// What becomes of a packet.
+#[derive(Clone, Copy, PartialEq, Eq, Debug)]
+pub enum Fate {
+    Lost,
+    /// The link sends it on at the chance of this number. The second part says whether it is marked.
+    Served(u128, bool),
+}
+
+/// A packet that was sent.
+#[derive(Clone, Copy, PartialEq, Eq, Debug)]
+pub struct Packet {
+    /// When it was sent, in microseconds.
+    pub sent_at: u64,
+    pub fate: Fate,
+}

@@ -1,0 +1,131 @@
+ghost use Rattle.std.specs.Prelude.{◌≡◌, ℕ, ◌+◌, ◌^◌, ◌<◌, ◌≤◌, Some, None, IfOk, IfErr, OnOk, ◌≢◌, [], ◌++◌, true, false, length, if◌then◌else◌};
+ghost use Rattle.std.specs.Option.{option_or};
+ghost use Rattle.link_model.specs.Parts.{parts_of};
+ghost use Rattle.link_model.specs.TraceText.{without_first_blanks, without_last_blanks, word_line, line_of, is_bad, with_time, is_below, time_after, times_of, first_bad, first_fall};
+ghost use Rattle.link_model.specs.declared.parts.Separator.TheVariants as separator;
+ghost use Rattle.link_model.specs.declared.trace.TraceFault.TheVariants as fault;
+
+use crate::parts::{Separator, first_part, without_return};
+use crate::trace::{LONGEST_MS, TraceFault};
+use ccp_base::numeral;
+use std::alloc::Global;
+
+/// What one line of a trace text says.
+#[derive(Clone, Copy, PartialEq, Eq, Debug)]
+pub enum TraceLine {
+    /// The line is blank.
+    Nothing,
+    /// A time in milliseconds, from 0 to 3,600,000.
+    Time(u32),
+    /// Anything else.
+    Bad,
+}
+
+/// What was read of a trace text so far.
+#[derive(Drop)]
+pub(crate) struct Reading {
+    /// The times, in milliseconds.
+    pub times: Vec<u32>,
+    /// The last of them, or 0.
+    pub before: u32,
+    /// The number of the next line, from 1.
+    pub line: u64,
+    /// The first line whose time is below the one before.
+    pub fall: Option<u64>,
+}
+
+impl Reading {
+    /// Takes the next line in.
+    fn take(&mut self, line: TraceLine) -> Result<(), TraceFault>
+        requires { self.old.line + 1 < 2 ^ 64 }
+        ensures good { OnOk result (is_bad line ≡ false) }
+        ensures line { OnOk result (self.new.line ≡ self.old.line + 1) }
+        ensures times { OnOk result (self.new.times.items ≡ self.old.times.items ++ with_time line []) }
+        ensures before { OnOk result (self.new.before ≡ time_after line self.old.before) }
+        ensures fall { OnOk result (self.new.fall ≡ option_or self.old.fall (if is_below line self.old.before then Some self.old.line else None)) }
+        ensures bad { IfErr result (λ e. e ≢ fault.NoMemory → is_bad line ≡ true) }
+        ensures at { IfErr result (λ e. e ≢ fault.NoMemory → e ≡ fault.BadLine self.old.line) }
+    {
+        match line {
+            TraceLine::Bad => return Err(TraceFault::BadLine(self.line)),
+            TraceLine::Nothing => {}
+            TraceLine::Time(time) => {
+                self.times.push(time)?;
+                if time < self.before {
+                    self.fall = self.fall.or(Some(self.line));
+                }
+                self.before = time;
+            }
+        }
+        self.line += 1;
+        Ok(())
+    }
+}
+
+/// Reads every line of a trace text, up to the first bad one.
+pub(crate) fn read_lines(alloc: Global, text: &[u8]) -> Result<Reading, TraceFault>
+    ensures good { OnOk result (first_bad 1 (parts_of separator.LineFeed text.now) ≡ None) }
+    ensures times { IfOk result (λ r. r.times.items ≡ times_of (parts_of separator.LineFeed text.now)) }
+    ensures fall { IfOk result (λ r. r.fall ≡ first_fall 1 0 (parts_of separator.LineFeed text.now)) }
+    ensures bad { IfErr result (λ e. e ≢ fault.NoMemory → first_bad 1 (parts_of separator.LineFeed text.now) ≢ None) }
+    ensures at { IfErr result (λ e. e ≢ fault.NoMemory → (number : ℕ) → first_bad 1 (parts_of separator.LineFeed text.now) ≡ Some number → e ≡ fault.BadLine number) }
+{
+    let mut rest = text;
+    let mut reading = Reading {
+        times: Vec::new(alloc),
+        before: 0,
+        line: 1,
+        fall: None,
+    };
+    while !rest.is_empty() {
+        let (line, after) = first_part(rest, Separator::LineFeed);
+        reading.take(trace_line(line))?;
+        rest = after;
+    }
+    Ok(reading)
+}
+
+/// What a line says, without a CR at its end and without the blanks around.
+fn trace_line(line: &[u8]) -> TraceLine
+    ensures { result ≡ line_of line.now }
+{
+    word_line(trimmed_end(trimmed_start(without_return(line))))
+}
+
+fn word_line(word: &[u8]) -> TraceLine
+    ensures { result ≡ word_line word.now }
+{
+    if word.is_empty() {
+        return TraceLine::Nothing;
+    }
+    match numeral(word) {
+        Some(time) if time <= u64::from(LONGEST_MS) => TraceLine::Time(time as u32),
+        _ => TraceLine::Bad,
+    }
+}
+
+fn trimmed_start(bytes: &[u8]) -> &[u8]
+    ensures { result.now ≡ without_first_blanks bytes.now }
+{
+    let mut rest = bytes;
+    while let Some((first, after)) = rest.split_first() {
+        if !Separator::Blank.is(*first) {
+            return rest;
+        }
+        rest = after;
+    }
+    rest
+}
+
+fn trimmed_end(bytes: &[u8]) -> &[u8]
+    ensures { result.now ≡ without_last_blanks bytes.now }
+{
+    let mut rest = bytes;
+    while let Some((last, before)) = rest.split_last() {
+        if !Separator::Blank.is(*last) {
+            return rest;
+        }
+        rest = before;
+    }
+    rest
+}
