@@ -1,0 +1,4 @@
+pub mod Parts
+pub mod Kinds
+pub mod Spelling
+pub mod Frames
