@@ -2,6 +2,7 @@
 //! byte rules of the frames of every kind stand in this crate's definitions, and reading keeps to all of them.
 #![tactic(auto)]
 
+mod bodies;
 mod fault;
 mod head;
 mod outline;
