@@ -1,4 +1,5 @@
 pub mod Parts
 pub mod Kinds
-pub mod Spelling
 pub mod Frames
+pub mod Spelling
+pub mod Decoding

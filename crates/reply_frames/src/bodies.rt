@@ -2,12 +2,15 @@
 
 ghost use Rattle.std.specs.Prelude.{◌≡◌, ℕ, ◌≤◌, IfOk};
 ghost use Rattle.std.specs.Int.{w64};
+ghost use Rattle.reply_frames.specs.Kinds.{most_n1};
 ghost use Rattle.reply_frames.specs.Parts.{Gives, passed, number_at, repeated_at};
-ghost use Rattle.reply_frames.specs.Frames.{start_at, event_at, register_number_at, register_at, instruction_at, count_at, create_at, measure_at, install_at, fault_at, ack_at, refused_at};
+ghost use Rattle.reply_frames.specs.Frames.{start_at, event_at, register_number_at, register_at, instruction_at, count_at, create_at, measure_at, install_at, fault_at, ack_at, refused_at, body_at};
 
 use crate::fault::{BadKind, Stop};
-use crate::outline::{Counts, Version};
+use crate::outline::{Counts, FrameKind, Outline, Version};
 use crate::parts::{byte, limited, number16, number32, number64};
+use crate::values::{change, update};
+use ccp_base::Fields;
 
 /// The bytes after a declared register.
 #[tactic(auto, unfolding(crate::specs::Frames::start_at))]
@@ -123,7 +126,7 @@ fn count(bytes: &[u8], version: Version) -> Result<(u64, &[u8]), Stop>
 
 /// The bytes after a Create's body.
 #[tactic(auto, unfolding(crate::specs::Frames::create_at))]
-pub fn create(bytes: &[u8]) -> Result<&[u8], Stop>
+fn create(bytes: &[u8]) -> Result<&[u8], Stop>
     ensures { Gives (λ rest. rest.now) result (passed (create_at bytes.now)) }
 {
     let (_, rest) = number64(bytes)?;
@@ -133,7 +136,7 @@ pub fn create(bytes: &[u8]) -> Result<&[u8], Stop>
 
 /// The bytes after a Measure's body.
 #[tactic(auto, unfolding(crate::specs::Frames::measure_at))]
-pub fn measure(bytes: &[u8], version: Version, fields: u8) -> Result<&[u8], Stop>
+fn measure(bytes: &[u8], version: Version, fields: u8) -> Result<&[u8], Stop>
     ensures { Gives (λ rest. rest.now) result (passed (measure_at version fields bytes.now)) }
 {
     let (_, rest) = number32(bytes)?;
@@ -148,7 +151,7 @@ pub fn measure(bytes: &[u8], version: Version, fields: u8) -> Result<&[u8], Stop
 
 /// The bytes after an Install's body.
 #[tactic(auto, unfolding(crate::specs::Frames::install_at))]
-pub fn install(bytes: &[u8], counts: Counts) -> Result<&[u8], Stop>
+fn install(bytes: &[u8], counts: Counts) -> Result<&[u8], Stop>
     ensures { Gives (λ rest. rest.now) result (passed (install_at counts bytes.now)) }
 {
     let (_, rest) = number32(bytes)?;
@@ -160,7 +163,7 @@ pub fn install(bytes: &[u8], counts: Counts) -> Result<&[u8], Stop>
 
 /// The bytes after a Fault's body.
 #[tactic(auto, unfolding(crate::specs::Frames::fault_at))]
-pub fn fault(bytes: &[u8], version: Version) -> Result<&[u8], Stop>
+fn fault(bytes: &[u8], version: Version) -> Result<&[u8], Stop>
     ensures { Gives (λ rest. rest.now) result (passed (fault_at version bytes.now)) }
 {
     let (_, rest) = number32(bytes)?;
@@ -175,7 +178,7 @@ pub fn fault(bytes: &[u8], version: Version) -> Result<&[u8], Stop>
 
 /// The bytes after an Ack's body.
 #[tactic(auto, unfolding(crate::specs::Frames::ack_at))]
-pub fn ack(bytes: &[u8]) -> Result<&[u8], Stop>
+fn ack(bytes: &[u8]) -> Result<&[u8], Stop>
     ensures { Gives (λ rest. rest.now) result (passed (ack_at bytes.now)) }
 {
     let rest = numbers(bytes, 14)?;
@@ -185,10 +188,30 @@ pub fn ack(bytes: &[u8]) -> Result<&[u8], Stop>
 
 /// The bytes after the body of a Refused.
 #[tactic(auto, unfolding(crate::specs::Frames::refused_at))]
-pub fn refused(bytes: &[u8]) -> Result<&[u8], Stop>
+fn refused(bytes: &[u8]) -> Result<&[u8], Stop>
     ensures { Gives (λ rest. rest.now) result (passed (refused_at bytes.now)) }
 {
     let (_, rest) = byte(bytes, BadKind::Kind, 1, 9)?;
     let (_, rest) = number32(rest)?;
     Ok(rest)
+}
+
+/// The bytes after the body of a frame of any kind.
+pub fn body(bytes: &[u8], head: Outline) -> Result<&[u8], Stop>
+    requires { head.counts.n1 ≤ most_n1 head.kind head.version }
+    ensures { Gives (λ rest. rest.now) result (passed (body_at head.kind head.version head.counts bytes.now)) }
+{
+    match head.kind {
+        FrameKind::Create => create(bytes),
+        FrameKind::Measure => measure(bytes, head.version, head.counts.n1),
+        FrameKind::Install => install(bytes, head.counts),
+        FrameKind::Update => update(bytes, head.counts.n1, &mut Fields::new()),
+        FrameKind::Change => {
+            let (_, rest) = change(bytes, head.counts.n1, &mut Fields::new())?;
+            Ok(rest)
+        }
+        FrameKind::Fault => fault(bytes, head.version),
+        FrameKind::Ack => ack(bytes),
+        FrameKind::Refused => refused(bytes),
+    }
 }

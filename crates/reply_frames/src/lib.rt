@@ -3,11 +3,13 @@
 #![tactic(auto)]
 
 mod bodies;
+mod decode;
 mod fault;
 mod head;
 mod outline;
 mod parts;
 mod values;
 
+pub use decode::{Head, decode_fields};
 pub use fault::{BadKind, FrameFault, Short, Stop};
 pub use outline::{Counts, FrameKind, Outline, Version};

@@ -2,10 +2,10 @@ ghost use Rattle.std.specs.Prelude.{◌≡◌, ℕ, ◌≤◌, IfOk};
 ghost use Rattle.ccp_base.specs.FieldReg.{pair_of};
 ghost use Rattle.reply_frames.specs.Parts.{Gives};
 ghost use Rattle.reply_frames.specs.Spelling.{IsTarget};
-ghost use Rattle.reply_frames.specs.Frames.{target_at, value_at, values_at};
+ghost use Rattle.reply_frames.specs.Frames.{Update, Change, target_at, value_at, values_at, update_at, change_at};
 
 use crate::fault::{BadKind, Stop};
-use crate::parts::{byte, number64};
+use crate::parts::{byte, number32, number64};
 use ccp_base::{FieldReg, Fields};
 
 /// What a value is written to, and the bytes after it.
@@ -38,17 +38,38 @@ fn value(bytes: &[u8]) -> Result<((FieldReg, u64), &[u8]), Stop>
     Ok(((reg, value), rest))
 }
 
-/// So many values, and the bytes after them.
-pub fn values(bytes: &[u8], count: u8) -> Result<(Fields, &[u8]), Stop>
+/// Reads so many values into `fields`, in place of what it has, and gives the bytes after them.
+pub fn values<'a>(bytes: &'a [u8], count: u8, fields: &mut Fields) -> Result<&'a [u8], Stop>
     requires { count ≤ 66 }
-    ensures { Gives (λ x. (x.0, x.1.now)) result (values_at count bytes.now) }
+    ensures { Gives (λ rest. (fields.new, rest.now)) result (values_at count bytes.now) }
 {
-    let mut fields = Fields::new();
+    fields.clear();
     let mut rest = bytes;
     for _ in 0..count {
         let ((reg, number), after) = value(rest)?;
         fields.push(reg, number);
         rest = after;
     }
-    Ok((fields, rest))
+    Ok(rest)
+}
+
+/// Reads the values of an Update's body, and gives the bytes after it.
+#[tactic(auto, unfolding(crate::specs::Frames::update_at))]
+pub fn update<'a>(bytes: &'a [u8], count: u8, fields: &mut Fields) -> Result<&'a [u8], Stop>
+    requires { count ≤ 66 }
+    ensures { Gives (λ rest. (Update fields.new, rest.now)) result (update_at count bytes.now) }
+{
+    let rest = values(bytes, count, fields)?;
+    Ok(rest)
+}
+
+/// Reads the program and the values of a Change's body, and gives the program and the bytes after it.
+#[tactic(auto, unfolding(crate::specs::Frames::change_at))]
+pub fn change<'a>(bytes: &'a [u8], count: u8, fields: &mut Fields) -> Result<(u32, &'a [u8]), Stop>
+    requires { count ≤ 66 }
+    ensures { Gives (λ x. (Change x.0 fields.new, x.1.now)) result (change_at count bytes.now) }
+{
+    let (program, rest) = number32(bytes)?;
+    let rest = values(rest, count, fields)?;
+    Ok((program, rest))
 }
