@@ -1,0 +1,41 @@
+-- What bytes are to one who reads an Update or a Change from their front.
+use Rattle.std.specs.Prelude.{ℕ, ◌-◌, nat_lt, List, length, take, drop, Option, Some, None, Result, Ok, Err, if◌then◌else◌}
+use Rattle.std.specs.Int.{w32, from_le_bytes}
+use Rattle.ccp_base.specs.FieldReg.{Pair}
+use Rattle.reply_frames.specs.declared.fault.Stop.{Stop}
+use Rattle.reply_frames.specs.declared.fault.Stop.TheVariants as stops
+use Rattle.reply_frames.specs.declared.fault.FrameFault.{FrameFault}
+use Rattle.reply_frames.specs.declared.fault.FrameFault.TheVariants.{More, Bad, Other}
+use Rattle.reply_frames.specs.declared.outline.FrameKind.{FrameKind}
+use Rattle.reply_frames.specs.declared.outline.FrameKind.TheVariants as kinds
+use Rattle.reply_frames.specs.declared.outline.Outline.{Outline}
+use Rattle.reply_frames.specs.declared.decode.Head.{Head}
+use Rattle.reply_frames.specs.Parts.{Read}
+use Rattle.reply_frames.specs.Kinds.{number_of}
+use Rattle.reply_frames.specs.Frames.{Frame, Body, Update, Change, frame_at}
+
+-- how many bytes the front of a frame goes on to: a head's 16, or the length that the head says
+unfoldable pub needed_of : List ℕ → ℕ
+needed_of bytes = if nat_lt (length bytes) 16 then 16 else from_le_bytes w32 (take 4 (drop 12 bytes))
+
+-- what it is that reading stopped
+abbrev pub fault_of : List ℕ → Stop → FrameFault
+fault_of bytes stops.Cut = More (needed_of bytes)
+fault_of bytes (stops.Bad kind left) = Bad kind (length bytes - left)
+
+abbrev pub head_of : Outline → Option ℕ → ℕ → Head
+head_of outline program used = record { flow = outline.flow; program = program; version = outline.version; used = used }
+
+-- what a whole frame is to a reader of Update and Change
+abbrev pub answer_of : FrameKind → Outline → Body → ℕ → Result (Head × List Pair) FrameFault
+answer_of kinds.Update outline (Update values) used = Ok (head_of outline None used, values)
+answer_of kinds.Change outline (Change program values) used = Ok (head_of outline (Some program) used, values)
+answer_of kind outline body used = Err (Other (number_of kind))
+
+abbrev pub decoded_from : List ℕ → Read Frame → Result (Head × List Pair) FrameFault
+decoded_from bytes (Ok (frame, rest)) = answer_of frame.outline.kind frame.outline frame.body (length bytes - length rest)
+decoded_from bytes (Err stop) = Err (fault_of bytes stop)
+
+-- the head and the values of the Update or the Change that begins the bytes, or what they are instead
+abbrev pub decoded_of : List ℕ → Result (Head × List Pair) FrameFault
+decoded_of bytes = decoded_from bytes (frame_at bytes)

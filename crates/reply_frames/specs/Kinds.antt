@@ -1,0 +1,93 @@
+-- The kinds of frames: their numbers, the bounds of their counts, and their lengths.
+use Rattle.std.specs.Prelude.{ℕ, ◌+◌, ◌*◌, ◌==◌, if◌then◌else◌}
+use Rattle.reply_frames.specs.declared.outline.FrameKind.{FrameKind}
+use Rattle.reply_frames.specs.declared.outline.FrameKind.TheVariants.{Create, Measure, Install, Update, Change, Fault, Ack, Refused}
+use Rattle.reply_frames.specs.declared.outline.Version.{Version}
+use Rattle.reply_frames.specs.declared.outline.Version.TheVariants.{One, Two}
+use Rattle.reply_frames.specs.declared.outline.Counts.{Counts}
+
+-- the number of a kind, in a frame's first byte
+abbrev pub number_of : FrameKind → ℕ
+number_of Create = 1
+number_of Measure = 2
+number_of Install = 3
+number_of Update = 4
+number_of Change = 5
+number_of Fault = 6
+number_of Ack = 7
+number_of Refused = 8
+
+-- the kind of a number from 1 to 8
+abbrev pub kind_of : ℕ → FrameKind
+kind_of n =
+    if n == 1 then Create else
+    if n == 2 then Measure else
+    if n == 3 then Install else
+    if n == 4 then Update else
+    if n == 5 then Change else
+    if n == 6 then Fault else
+    if n == 7 then Ack else Refused
+
+-- the number of a version, in a frame's second byte
+abbrev pub version_number : Version → ℕ
+version_number One = 1
+version_number Two = 2
+
+abbrev pub version_of : ℕ → Version
+version_of n = if n == 1 then One else Two
+
+-- the most that each count may be: fields, reports or values; controls; events; instructions
+abbrev pub most_n1 : FrameKind → Version → ℕ
+most_n1 Create version = 0
+most_n1 Measure One = 32
+most_n1 Measure Two = 64
+most_n1 Install One = 32
+most_n1 Install Two = 64
+most_n1 Update version = 66
+most_n1 Change version = 66
+most_n1 Fault version = 0
+most_n1 Ack version = 0
+most_n1 Refused version = 0
+
+abbrev pub most_n2 : FrameKind → ℕ
+most_n2 Create = 0
+most_n2 Measure = 0
+most_n2 Install = 64
+most_n2 Update = 0
+most_n2 Change = 0
+most_n2 Fault = 0
+most_n2 Ack = 0
+most_n2 Refused = 0
+
+abbrev pub most_n3 : FrameKind → ℕ
+most_n3 Create = 0
+most_n3 Measure = 0
+most_n3 Install = 64
+most_n3 Update = 0
+most_n3 Change = 0
+most_n3 Fault = 0
+most_n3 Ack = 0
+most_n3 Refused = 0
+
+abbrev pub most_n4 : FrameKind → ℕ
+most_n4 Create = 0
+most_n4 Measure = 0
+most_n4 Install = 256
+most_n4 Update = 0
+most_n4 Change = 0
+most_n4 Fault = 0
+most_n4 Ack = 0
+most_n4 Refused = 0
+
+-- the length of the whole frame, in bytes
+abbrev pub size_of : FrameKind → Version → Counts → ℕ
+size_of Create version c = 28
+size_of Measure One c = 56 + 8 * c.n1
+size_of Measure Two c = 64 + 8 * c.n1
+size_of Install version c = 20 + 9 * c.n1 + 9 * c.n2 + 4 * c.n3 + 28 * c.n4
+size_of Update version c = 16 + 10 * c.n1
+size_of Change version c = 20 + 10 * c.n1
+size_of Fault One c = 47
+size_of Fault Two c = 51
+size_of Ack version c = 136
+size_of Refused version c = 21

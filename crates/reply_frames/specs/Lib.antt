@@ -1,0 +1,5 @@
+pub mod Parts
+pub mod Kinds
+pub mod Frames
+pub mod Spelling
+pub mod Decoding

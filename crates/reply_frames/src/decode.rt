@@ -1,0 +1,93 @@
+ghost use Rattle.std.specs.Prelude.{◌≡◌, ℕ, ◌-◌, ◌≤◌, length, Option, OnErr, IfOk, IfErr, Ok, Err};
+ghost use Rattle.reply_frames.specs.Decoding.{needed_of, fault_of, head_of, decoded_of};
+
+use crate::bodies::body;
+use crate::fault::{FrameFault, Stop};
+use crate::head::outline;
+use crate::outline::{FrameKind, Outline, Version, kind_number};
+use crate::values::{change, update};
+use ccp_base::Fields;
+
+/// What an Update or a Change says beside its values.
+#[derive(Clone, Copy, PartialEq, Eq, Debug)]
+pub struct Head {
+    /// The flow.
+    pub flow: u32,
+    /// The program that is to run; None for an Update.
+    pub program: Option<u32>,
+    /// The version that the frame is written in.
+    pub version: Version,
+    /// The length of the frame, in bytes.
+    pub used: usize,
+}
+
+/// How many bytes the front of a frame goes on to.
+#[tactic(auto, unfolding(crate::specs::Decoding::needed_of))]
+fn needed(bytes: &[u8]) -> usize
+    ensures { result ≡ needed_of bytes.now }
+{
+    if bytes.len() < 16 {
+        16
+    } else {
+        let length = &bytes[12..16];
+        u32::from_le_bytes([length[0], length[1], length[2], length[3]]) as usize
+    }
+}
+
+/// Why bytes are no whole frame, where reading them stopped.
+fn stopped(bytes: &[u8], stop: Stop) -> FrameFault
+    ensures { result ≡ fault_of bytes.now stop }
+{
+    match stop {
+        Stop::Cut => FrameFault::More(needed(bytes)),
+        Stop::Bad(field, left) => FrameFault::Bad(field, bytes.len().saturating_sub(left)),
+    }
+}
+
+/// The head with this program, of a frame after which these bytes stand.
+fn headed(head: Outline, program: Option<u32>, bytes: &[u8], rest: &[u8]) -> Head
+    ensures { result ≡ head_of head program (length bytes.now - length rest.now) }
+{
+    Head {
+        flow: head.flow,
+        program,
+        version: head.version,
+        used: bytes.len().saturating_sub(rest.len()),
+    }
+}
+
+/// The head and the values of the Update or the Change at the front of bytes.
+#[tactic(auto, unfolding(crate::specs::Frames::frame_at))]
+fn found(bytes: &[u8]) -> Result<(Head, Fields), FrameFault>
+    ensures { result ≡ decoded_of bytes.now }
+{
+    let (head, rest) = outline(bytes).map_err(|stop| stopped(bytes, stop))?;
+    let mut fields = Fields::new();
+    match head.kind {
+        FrameKind::Update => {
+            let rest = update(rest, head.counts.n1, &mut fields).map_err(|stop| stopped(bytes, stop))?;
+            Ok((headed(head, None, bytes, rest), fields))
+        }
+        FrameKind::Change => {
+            let (program, rest) =
+                change(rest, head.counts.n1, &mut fields).map_err(|stop| stopped(bytes, stop))?;
+            Ok((headed(head, Some(program), bytes, rest), fields))
+        }
+        kind => {
+            body(rest, head).map_err(|stop| stopped(bytes, stop))?;
+            Err(FrameFault::Other(kind_number(kind)))
+        }
+    }
+}
+
+/// Reads the Update or the Change at the front of bytes: its values go into `values`, which are as before where the
+/// answer isn't Ok. The faults are those of `FrameFault`.
+pub fn decode_fields(bytes: &[u8], values: &mut Fields) -> Result<Head, FrameFault>
+    ensures found { IfOk result (λ head. decoded_of bytes.now ≡ Ok (head, values.new)) }
+    ensures fault { IfErr result (λ fault. decoded_of bytes.now ≡ Err fault) }
+    ensures unchanged { OnErr result (values.new ≡ values.old) }
+{
+    let (head, fields) = found(bytes)?;
+    *values = fields;
+    Ok(head)
+}

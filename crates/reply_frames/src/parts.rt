@@ -1,0 +1,89 @@
+ghost use Rattle.std.specs.Prelude.{◌≡◌, ℕ, ◌≤◌, length, IfOk};
+ghost use Rattle.std.specs.Int.{w16, w32, w64};
+ghost use Rattle.reply_frames.specs.Parts.{Gives, byte_at, number_at, limited_at, exactly_at};
+
+use crate::fault::{BadKind, Stop};
+
+/// A byte between two bounds, and the bytes after it.
+pub fn byte(bytes: &[u8], field: BadKind, least: u8, most: u64) -> Result<(u8, &[u8]), Stop>
+    ensures read { Gives (λ x. (x.0, x.1.now)) result (byte_at field least most bytes.now) }
+    ensures within { IfOk result (λ x. x.0 ≤ most) }
+{
+    match bytes {
+        [] => Err(Stop::Cut),
+        [first, rest @ ..] => {
+            if least <= *first && u64::from(*first) <= most {
+                Ok((*first, rest))
+            } else {
+                Err(Stop::Bad(field, bytes.len()))
+            }
+        }
+    }
+}
+
+/// A number of two bytes, and the bytes after it.
+pub fn number16(bytes: &[u8]) -> Result<(u16, &[u8]), Stop>
+    ensures { Gives (λ x. (x.0, x.1.now)) result (number_at w16 bytes.now) }
+{
+    if bytes.len() < 2 {
+        return Err(Stop::Cut);
+    }
+    let (front, rest) = bytes.split_at(2);
+    Ok((u16::from_le_bytes([front[0], front[1]]), rest))
+}
+
+/// A number of four bytes, and the bytes after it.
+pub fn number32(bytes: &[u8]) -> Result<(u32, &[u8]), Stop>
+    ensures { Gives (λ x. (x.0, x.1.now)) result (number_at w32 bytes.now) }
+{
+    if bytes.len() < 4 {
+        return Err(Stop::Cut);
+    }
+    let (front, rest) = bytes.split_at(4);
+    let number = u32::from_le_bytes([front[0], front[1], front[2], front[3]]);
+    Ok((number, rest))
+}
+
+/// A number of eight bytes, and the bytes after it.
+pub fn number64(bytes: &[u8]) -> Result<(u64, &[u8]), Stop>
+    ensures { Gives (λ x. (x.0, x.1.now)) result (number_at w64 bytes.now) }
+{
+    if bytes.len() < 8 {
+        return Err(Stop::Cut);
+    }
+    let (front, rest) = bytes.split_at(8);
+    let number = u64::from_le_bytes([
+        front[0], front[1], front[2], front[3], front[4], front[5], front[6], front[7],
+    ]);
+    Ok((number, rest))
+}
+
+/// A number of so many bytes that is at most `most`, and the bytes after it.
+#[tactic(auto, unfolding(crate::specs::Parts::limited_at))]
+pub fn limited(bytes: &[u8], field: BadKind, width: u32, most: u64) -> Result<(u64, &[u8]), Stop>
+    ensures read { Gives (λ x. (x.0, x.1.now)) result (limited_at field width most bytes.now) }
+    ensures within { IfOk result (λ x. x.0 ≤ most) }
+{
+    if width == 0 {
+        return Ok((0, bytes));
+    }
+    let (low, rest) = byte(bytes, field, 0, most)?;
+    let low = u64::from(low);
+    let (high, rest) = limited(rest, field, width - 1, (most - low) / 256)?;
+    Ok((low + 256 * high, rest))
+}
+
+/// The bytes after this number, which stands in so many bytes.
+#[tactic(auto, unfolding(crate::specs::Parts::exactly_at))]
+pub fn exactly(bytes: &[u8], field: BadKind, width: u32, number: u32) -> Result<(u64, &[u8]), Stop>
+    ensures read { Gives (λ x. (x.0, x.1.now)) result (exactly_at field width number bytes.now) }
+    ensures within { IfOk result (λ x. x.0 ≤ number) }
+{
+    if width == 0 {
+        return Ok((0, bytes));
+    }
+    let digit = (number % 256) as u8;
+    let (low, rest) = byte(bytes, field, digit, u64::from(digit))?;
+    let (high, rest) = exactly(rest, field, width - 1, number / 256)?;
+    Ok((u64::from(low) + 256 * high, rest))
+}
