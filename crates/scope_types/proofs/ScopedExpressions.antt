@@ -28,24 +28,24 @@ spelt a b h = (bytes_eq-Decides a b).0 h
 pub spells : (a b : List ℕ) → a ≡ b → bytes_eq a b ≡ true
 spells a b e = (bytes_eq-Decides a b).1 e
 
-some_mono : {A : Type 0} (r : Option A) (P Q : A → Type 0) → IfSome r P → ((a : A) → P a → Q a) → IfSome r Q
+pub some_mono : {A : Type 0} (r : Option A) (P Q : A → Type 0) → IfSome r P → ((a : A) → P a → Q a) → IfSome r Q
 some_mono (Some a) P Q p f = f a p
 some_mono None P Q p f = tt
 
 -- the choice of `if_some`, with what the test says
-some_case : {A : Type 0} (b : Bool) (r s : Option A) (P : A → Type 0) → (b ≡ true → IfSome r P) → (b ≡ false → IfSome s P) → IfSome (if b then r else s) P
+pub some_case : {A : Type 0} (b : Bool) (r s : Option A) (P : A → Type 0) → (b ≡ true → IfSome r P) → (b ≡ false → IfSome s P) → IfSome (if b then r else s) P
 some_case true r s P f g = f refl
 some_case false r s P f g = g refl
 
 -- a declaration of the name, counted from `i`
-record IsFound (i : ℕ) (decls : List Decl) (w : List ℕ) (n : ℕ) : Type 0 where
-  k : ℕ
-  at : n ≡ i + k
-  decl : Decl
-  there : slice_get decls k ≡ Some decl
-  named : decl.name ≡ w
+pub record IsFound (i : ℕ) (decls : List Decl) (w : List ℕ) (n : ℕ) : Type 0 where
+  pub k : ℕ
+  pub at : n ≡ i + k
+  pub decl : Decl
+  pub there : slice_get decls k ≡ Some decl
+  pub named : decl.name ≡ w
 
-decl_found : (i : ℕ) (ds : List Decl) (w : List ℕ) → IfSome (decl_from i ds w) (IsFound i ds w)
+pub decl_found : (i : ℕ) (ds : List Decl) (w : List ℕ) → IfSome (decl_from i ds w) (IsFound i ds w)
 decl_found i [] w = tt
 decl_found i (d ∷ ds) w =
     some_case (bytes_eq d.name w) _ _ _
@@ -54,14 +54,14 @@ decl_found i (d ∷ ds) w =
       (λ n f. record { k = suc f.k; at = let e = f.at in omega arith; decl = f.decl; there = f.there; named = f.named }))
 
 -- the local of the name, counted from `i`
-record IsFoundLocal (i : ℕ) (locals : List Local) (w : List ℕ) (n : ℕ) : Type 0 where
-  k : ℕ
-  at : n ≡ i + k
-  local : Local
-  there : slice_get locals k ≡ Some local
-  named : local.name ≡ w
+pub record IsFoundLocal (i : ℕ) (locals : List Local) (w : List ℕ) (n : ℕ) : Type 0 where
+  pub k : ℕ
+  pub at : n ≡ i + k
+  pub local : Local
+  pub there : slice_get locals k ≡ Some local
+  pub named : local.name ≡ w
 
-local_found : (i : ℕ) (ls : List Local) (w : List ℕ) → IfSome (local_from i ls w) (IsFoundLocal i ls w)
+pub local_found : (i : ℕ) (ls : List Local) (w : List ℕ) → IfSome (local_from i ls w) (IsFoundLocal i ls w)
 local_found i [] w = tt
 local_found i (l ∷ ls) w =
     some_case (bytes_eq l.name w) _ _ _
@@ -73,7 +73,7 @@ local_found i (l ∷ ls) w =
 abbrev pub told_of : Scope → Var → Bool
 told_of scope v = is_truth (known_in scope) v
 
-declared_of : (ds : List Decl) (w : List ℕ) (n : ℕ) → IsFound 0 ds w n → IsDeclared ds n w (declares_truth (slice_get ds n))
+pub declared_of : (ds : List Decl) (w : List ℕ) (n : ℕ) → IsFound 0 ds w n → IsDeclared ds n w (declares_truth (slice_get ds n))
 declared_of ds w n f =
     let e : n ≡ f.k = let at = f.at in omega arith in
     let there : slice_get ds n ≡ Some f.decl = ap (slice_get ds) e ∙ f.there in
@@ -84,7 +84,7 @@ slice_get-map [] n = refl
 slice_get-map (l ∷ ls) zero = refl
 slice_get-map (l ∷ ls) (suc n) = slice_get-map ls n
 
-local_of : (ls : List Local) (w : List ℕ) (n : ℕ) → IsFoundLocal 0 ls w n → IsLocal ls n w (is_told (slice_get (map (λ (l : Local). l.truth) ls) n))
+pub local_of : (ls : List Local) (w : List ℕ) (n : ℕ) → IsFoundLocal 0 ls w n → IsLocal ls n w (is_told (slice_get (map (λ (l : Local). l.truth) ls) n))
 local_of ls w n f =
     let e : n ≡ f.k = let at = f.at in omega arith in
     let there : slice_get ls n ≡ Some f.local = ap (slice_get ls) e ∙ f.there in
@@ -94,7 +94,7 @@ named_means : (P : Var → Type 0) (kind : ℕ → Var) (n : Option ℕ) (rest :
 named_means P kind (Some i) rest p q = p
 named_means P kind None rest p q = q
 
-prim_means : (w : List ℕ) (n : Option ℕ) → primitive_of w ≡ n → IfSome n (λ i. IsPrimitive i w (i == 14))
+pub prim_means : (w : List ℕ) (n : Option ℕ) → primitive_of w ≡ n → IfSome n (λ i. IsPrimitive i w (i == 14))
 prim_means w (Some n) e = record { spelt = e; kind = refl }
 prim_means w None e = tt
 

@@ -1,0 +1,69 @@
+use Rattle.std.proofs.Common.{◌≡◌, ◌≢◌, ◌⊎◌, inl, inr, ℕ, zero, suc, ◌+◌, ◌<◌, Bool, true, false, refl, List, [], ◌∷◌, ◌++◌, length, Option, Some, None, IfSome, IsFalse, slice_get, if◌then◌else◌, bytes_eq, arith, ap, ◌∙◌, sym, subst}
+use Rattle.portus_core.specs.declared.program.Decl.{Decl}
+use Rattle.portus_core.specs.declared.program.Var.{Var}
+use Rattle.portus_core.specs.declared.program.Var.TheVariants as var
+use Rattle.scope_types.specs.declared.names.Local.{Local}
+use Rattle.scope_types.specs.Words.{primitive_of, is_field_use}
+use Rattle.scope_types.specs.Scope.{Scope, with_local}
+use Rattle.scope_types.specs.Names.{decl_from, local_from}
+use Rattle.scope_types.specs.WellScoped.{IsDeclared, IsLocal, IsPrimitive, IsFresh}
+use Rattle.scope_types.proofs.ScopedExpressions.{spells, some_mono, decl_found, declared_of, local_found, local_of, prim_means, IsControl, IsOwnLocal, IsProper}
+
+nowhere : {A : Type 0} (o : Option A) (P : A → Type 0) → IfSome o P → ((a : A) → P a → ⊥) → o ≡ None
+nowhere (Some a) P h never = absurd (never a h)
+nowhere None P h never = refl
+
+pub slice_get-append : {A : Type 0} (xs : List A) (x : A) (i : ℕ) (y : A) → slice_get (xs ++ x ∷ []) i ≡ Some y → (slice_get xs i ≡ Some y) ⊎ ((i ≡ length xs) × (y ≡ x))
+slice_get-append [] x zero y h = inr (refl, cc)
+slice_get-append [] x (suc i) y h = absurd (cc)
+slice_get-append (z ∷ xs) x zero y h = inl h
+slice_get-append (z ∷ xs) x (suc i) y h =
+    elim (slice_get-append xs x i y h) [ inl e ↦ inl e | inr e ↦ inr (ap suc e.0, e.1) ]
+
+local_some_append : (i : ℕ) (ls : List Local) (x : Local) (w : List ℕ) (n : ℕ) → local_from i ls w ≡ Some n → local_from i (ls ++ x ∷ []) w ≡ Some n
+local_some_append i [] x w n h = absurd (cc)
+local_some_append i (l ∷ ls) x w n given =
+    elim (bytes_eq l.name w) as (λ b. (if b then Some i else local_from (i + 1) ls w) ≡ Some n → (if b then Some i else local_from (i + 1) (ls ++ x ∷ []) w) ≡ Some n)
+    [ true ↦ λ h. h | false ↦ λ h. local_some_append (i + 1) ls x w n h ] given
+
+local_none_append : (i : ℕ) (ls : List Local) (x : Local) (w : List ℕ) → x.name ≡ w → local_from i ls w ≡ None → local_from i (ls ++ x ∷ []) w ≡ Some (i + length ls)
+local_none_append i [] x w e h =
+    ap (λ b. if b then Some i else None) (spells x.name w e) ∙ ap Some (let n : i ≡ i + 0 = omega arith in n)
+local_none_append i (l ∷ ls) x w e given =
+    elim (bytes_eq l.name w) as (λ b. (if b then Some i else local_from (i + 1) ls w) ≡ None → (if b then Some i else local_from (i + 1) (ls ++ x ∷ []) w) ≡ Some (i + length (l ∷ ls)))
+    [ true ↦ λ h. absurd (cc) | false ↦ λ h. local_none_append (i + 1) ls x w e h ∙ ap Some (let n : i + 1 + length ls ≡ i + length (l ∷ ls) = omega arith in n) ] given
+
+-- a word without a meaning is in no list of the scope
+pub fresh_local : (scope : Scope) (w : List ℕ) → IsFresh scope w → local_from 0 scope.locals w ≡ None
+fresh_local scope w f =
+    nowhere (local_from 0 scope.locals w) _ (local_found 0 scope.locals w)
+    (λ n found. f.unknown (var.Local n) _ (local_of scope.locals w n found))
+
+pub fresh_control : (scope : Scope) (w : List ℕ) → IsFresh scope w → decl_from 0 scope.controls w ≡ None
+fresh_control scope w f =
+    nowhere (decl_from 0 scope.controls w) _ (decl_found 0 scope.controls w)
+    (λ n found. f.unknown (var.Control n) _ (declared_of scope.controls w n found))
+
+pub fresh_primitive : (scope : Scope) (w : List ℕ) → IsFresh scope w → primitive_of w ≡ None
+fresh_primitive scope w f =
+    nowhere (primitive_of w) _ (prim_means w (primitive_of w) refl) (λ n p. f.unknown (var.Prim n) _ p)
+
+-- one more local keeps a scope in order
+pub proper_with_local : (scope : Scope) (w : List ℕ) (told : Bool) → IsProper scope → IsFresh scope w → IsProper (with_local scope w told)
+proper_with_local scope w told p f = record {
+  fields = p.fields;
+  controls = λ i d h. let c = p.controls i d h in record { found = c.found; no_field = c.no_field; no_primitive = c.no_primitive };
+  locals = λ i l h. elim (slice_get-append scope.locals _ i l h) [
+    inl e ↦
+      (let c = p.locals i l e in
+       record { found = local_some_append 0 scope.locals _ l.name i c.found; no_control = c.no_control; no_field = c.no_field; no_primitive = c.no_primitive })
+  | inr e ↦
+      (let same : l.name ≡ w = ap (λ (x : Local). x.name) e.1 in
+       record {
+         found = local_none_append 0 scope.locals _ l.name (sym same) (ap (local_from 0 scope.locals) same ∙ fresh_local scope w f) ∙ ap Some (let n : 0 + length scope.locals ≡ i = let k = e.0 in omega arith in n);
+         no_control = ap (decl_from 0 scope.controls) same ∙ fresh_control scope w f;
+         no_field = ap is_field_use same ∙ f.no_field;
+         no_primitive = ap primitive_of same ∙ fresh_primitive scope w f
+       })
+  ]
+}
