@@ -8,6 +8,7 @@ use Rattle.portus_core.specs.ValidPrograms.{Known, is_condition, is_body, is_par
 use Rattle.scope_types.specs.declared.declaration.Declaration.{Declaration}
 use Rattle.scope_types.specs.declared.fault.ScopeFault.{ScopeFault}
 use Rattle.scope_types.specs.Names.{decl_from}
+use Rattle.scope_types.specs.Words.{is_field_name, is_control_name}
 use Rattle.scope_types.specs.Scope.{Scope, known_in}
 use Rattle.scope_types.specs.ExpressionWalk.{expression_walk}
 use Rattle.scope_types.specs.DeclarationWalk as walk
@@ -35,7 +36,7 @@ room n h = grind (arith, nat_tests)
 
 field_within : (names : Scope) (d : Declaration) → IsWithin names → IfOk (walk.field_walk names d) IsWithin
 field_within names d h =
-    if_ok (not (walk.is_field_name d.decl.name)) _ _ _ (λ _. tt) (λ _.
+    if_ok (not (is_field_name d.decl.name)) _ _ _ (λ _. tt) (λ _.
     if_ok (is_some (decl_from 0 names.fields d.decl.name)) _ _ _ (λ _. tt) (λ _.
     if_ok (nat_le 64 (length names.fields)) _ _ _ (λ _. tt) (λ k.
     let within : IsWithin (walk.with_field names d.decl) = record {
@@ -45,7 +46,7 @@ field_within names d h =
 
 control_within : (names : Scope) (d : Declaration) → IsWithin names → IfOk (walk.control_walk names d) IsWithin
 control_within names d h =
-    if_ok (not (walk.is_control_name d.decl.name)) _ _ _ (λ _. tt) (λ _.
+    if_ok (not (is_control_name d.decl.name)) _ _ _ (λ _. tt) (λ _.
     if_ok (is_some (decl_from 0 names.controls d.decl.name)) _ _ _ (λ _. tt) (λ _.
     if_ok (nat_le 64 (length names.controls)) _ _ _ (λ _. tt) (λ k.
     let within : IsWithin (walk.with_control names d.decl) = record {

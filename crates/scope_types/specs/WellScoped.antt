@@ -1,4 +1,4 @@
-use Rattle.std.specs.Prelude.{◌≡◌, ◌⊎◌, ℕ, ◌+◌, ◌<◌, ◌≤◌, ◌^◌, ◌==◌, Bool, true, false, IsTrue, IsFalse, List, [], ◌∷◌, ◌++◌, length, Option, Some, None, codes, slice_get}
+use Rattle.std.specs.Prelude.{◌≡◌, ◌⊎◌, ℕ, ◌+◌, ◌<◌, ◌≤◌, ◌-◌, ◌^◌, ◌==◌, Bool, true, false, IsTrue, IsFalse, List, [], ◌∷◌, ◌++◌, length, Option, Some, None, codes, slice_get}
 use Rattle.portus_core.specs.declared.program.Decl.{Decl}
 use Rattle.portus_core.specs.declared.program.Op2.{Op2}
 use Rattle.portus_core.specs.declared.program.Var.{Var}
@@ -11,7 +11,7 @@ use Rattle.ccp_base.specs.declared.place.Place.{Place}
 use Rattle.scope_types.specs.declared.names.Local.{Local}
 use Rattle.scope_types.specs.declared.declaration.Start.{Start}
 use Rattle.scope_types.specs.Scope.{Scope, with_local}
-use Rattle.scope_types.specs.Words.{operator_of, constant_of, constant_truth, variable_of, primitive_of, is_name_shaped, is_reserved, is_field_use, is_primitive_use}
+use Rattle.scope_types.specs.Words.{operator_of, constant_of, constant_truth, variable_of, primitive_of, is_name_shaped, is_reserved, is_field_use, is_primitive_use, is_field_name, is_control_name}
 
 -- the declaration of this number has this name
 pub record IsDeclared (decls : List Decl) (i : ℕ) (w : List ℕ) (told : Bool) : Type 0 where
@@ -192,3 +192,92 @@ IsBody scope none (action ∷ actions) after = ⊥
 IsBody scope (more node rest) [] after = ⊥
 IsBody scope (more node rest) (action ∷ actions) after =
     IsNext (IsCommand scope node) (λ between. IsBody between rest actions after) action
+
+-- a declared value, and whether it is a Bool
+abbrev pub IsStart : Node → ℕ → Bool → Type 0
+IsStart (number at n) value told = (value ≡ n) × (told ≡ false)
+IsStart (word at w) value told =
+    ((w ≡ codes "true") × (value ≡ 1) × (told ≡ true))
+    ⊎ (((w ≡ codes "false") × (value ≡ 0) × (told ≡ true)) ⊎ ((w ≡ codes "+infinity") × (value ≡ 2 ^ 64 - 1) × (told ≡ false)))
+IsStart (list at parts) value told = ⊥
+
+pub record IsDeclarationOf (volatile : Bool) (w : List ℕ) (value : Node) (decl : Decl) : Type 0 where
+  pub named : decl.name ≡ w
+  pub kept : decl.volatile ≡ volatile
+  pub start : IsStart value decl.start decl.truth
+
+-- a word and a value, or `volatile`, a word and a value
+abbrev pub Declares : Node → Decl → Type 0
+Declares (list at (more (word word_at w) (more value none))) decl = IsDeclarationOf false w value decl
+Declares (list at (more (word head v) (more (word word_at w) (more value none)))) decl = (v ≡ codes "volatile") × IsDeclarationOf true w value decl
+Declares node decl = ⊥
+
+-- the parts of the group of fields
+abbrev pub AreFields : Nodes → List Decl → Type 0
+AreFields none [] = Unit {0}
+AreFields none (decl ∷ decls) = ⊥
+AreFields (more node rest) [] = ⊥
+AreFields (more node rest) (decl ∷ decls) = Declares node decl × IsTrue (is_field_name decl.name) × AreFields rest decls
+
+abbrev pub IsGroup : Node → List Decl → Type 0
+IsGroup (list at (more (word head w) fields)) decls = (w ≡ codes "Report") × AreFields fields decls
+IsGroup node decls = ⊥
+
+pub record IsControlPart (node : Node) (Rest : List Decl → Type 0) (controls : List Decl) : Type 0 where
+  pub decl : Decl
+  pub others : List Decl
+  pub whole : controls ≡ decl ∷ others
+  pub declared : Declares node decl
+  pub allowed : IsTrue (is_control_name decl.name)
+  pub rest : Rest others
+
+pub record IsGroupPart (node : Node) (grouped : Bool) (Rest : Type 0) (fields : List Decl) : Type 0 where
+  pub first : IsFalse grouped
+  pub group : IsGroup node fields
+  pub rest : Rest
+
+-- the parts of `def`, after a group of fields or not: one group at most, and control variables, in their order
+abbrev pub AreParts : Nodes → Bool → List Decl → List Decl → Type 0
+AreParts none grouped fields controls = (fields ≡ []) × (controls ≡ [])
+AreParts (more node rest) grouped fields controls =
+    IsGroupPart node grouped (AreParts rest true [] controls) fields
+    ⊎ IsControlPart node (AreParts rest grouped fields) controls
+
+-- no name is declared twice
+abbrev pub AreDistinct : List Decl → Type 0
+AreDistinct decls = (i j : ℕ) (d e : Decl) → slice_get decls i ≡ Some d → slice_get decls j ≡ Some e → d.name ≡ e.name → i ≡ j
+
+-- the names that a block begins with
+abbrev pub first_names : List Decl → List Decl → Scope
+first_names fields controls = record { fields = fields; controls = controls; locals = [] }
+
+pub record IsBlock (names : Scope) (condition : Node) (commands : Nodes) (part : Part) : Type 0 where
+  pub is_condition : IsTerm names condition part.condition true
+  pub after : Scope
+  pub is_body : IsBody names commands part.body after
+  pub locals : part.locals ≡ length after.locals
+
+abbrev pub IsWhen : Scope → Node → Part → Type 0
+IsWhen names (list at (more (word head w) (more condition commands))) part = (w ≡ codes "when") × IsBlock names condition commands part
+IsWhen names node part = ⊥
+
+abbrev pub AreBlocks : Scope → Nodes → List Part → Type 0
+AreBlocks names none [] = Unit {0}
+AreBlocks names none (part ∷ parts) = ⊥
+AreBlocks names (more node rest) [] = ⊥
+AreBlocks names (more node rest) (part ∷ parts) = IsWhen names node part × AreBlocks names rest parts
+
+-- the parts of `def` and the forms after it, with what they stand for
+pub record IsProgram (parts forms : Nodes) (form : Form) : Type 0 where
+  pub declared : AreParts parts false form.fields form.controls
+  pub fields_distinct : AreDistinct form.fields
+  pub controls_distinct : AreDistinct form.controls
+  pub few_fields : length form.fields ≤ 64
+  pub few_controls : length form.controls ≤ 64
+  pub blocks : AreBlocks (first_names form.fields form.controls) forms form.blocks
+  pub few_blocks : length form.blocks ≤ 64
+
+-- a text's forms are well scoped and stand for the program
+abbrev pub IsScoped : Nodes → Form → Type 0
+IsScoped (more (list at (more (word head w) parts)) forms) form = (w ≡ codes "def") × IsProgram parts forms form
+IsScoped nodes form = ⊥
