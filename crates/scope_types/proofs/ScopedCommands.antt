@@ -78,16 +78,16 @@ word_target scope at w None p h =
     if_ok (is_reserved w) _ _ _ (λ _. tt) (λ k. meaning_target scope at w (meaning_of scope w) p k refl (meaning_means scope w))
 
 -- the expression itself, which is a Bool where one is wanted
-record IsKind (scope : Scope) (wanted : Bool) (term found : Term) : Type 0 where
-  same : found ≡ term
-  fits : FitsKind wanted (term_is_truth (known_in scope) term)
+pub record IsKind (scope : Scope) (wanted : Bool) (term found : Term) : Type 0 where
+  pub same : found ≡ term
+  pub fits : FitsKind wanted (term_is_truth (known_in scope) term)
 
 fits_kind : (wanted told : Bool) → (wanted && not told) ≡ false → FitsKind wanted told
 fits_kind true true h w = refl
 fits_kind true false h w = sym h
 fits_kind false told h w = absurd (cc)
 
-kind_scoped : (scope : Scope) (wanted : Bool) (at : Place) (term : Term) → IfOk (walk.kind_walk scope wanted at term) (IsKind scope wanted term)
+pub kind_scoped : (scope : Scope) (wanted : Bool) (at : Place) (term : Term) → IfOk (walk.kind_walk scope wanted at term) (IsKind scope wanted term)
 kind_scoped scope wanted at term =
     if_ok (wanted && not (walk.is_bool scope term)) _ _ _ (λ _. tt) (λ k. record { same = refl; fits = fits_kind wanted (walk.is_bool scope term) k })
 
@@ -104,7 +104,7 @@ plain_scoped scope at v value =
 plain_assigned : (scope : Scope) (at : Place) (v : Var) (value : Node) → IfOk (walk.plain_walk scope (Meant at v) value) (IsAssigned scope v value)
 plain_assigned scope at v value = ok_map (walk.plain_walk scope (Meant at v) value) _ _ (plain_scoped scope at v value) (λ step h. (inl h.0, h.1))
 
-told_true : (scope : Scope) (node : Node) (t found : Term) → IsTerm scope node t (term_is_truth (known_in scope) t) → IsKind scope true t found → IsTerm scope node found true
+pub told_true : (scope : Scope) (node : Node) (t found : Term) → IsTerm scope node t (term_is_truth (known_in scope) t) → IsKind scope true t found → IsTerm scope node found true
 told_true scope node t found h k =
     subst (λ (e : Term). IsTerm scope node e true) (sym k.same) (subst (λ b. IsTerm scope node t b) (k.fits refl) h)
 

@@ -130,3 +130,65 @@ control_parts declared between after node rest d h same one r = record {
   are = inr (record { decl = d.decl; others = r.controls; whole = refl; declared = h; allowed = one.right; rest = subst (λ b. AreParts rest b r.fields r.controls) same r.are });
   proper = r.proper
 }
+
+-- a part that is the group of fields
+record IsGroupStep (declared : walk.Declaring) (node : Node) (between : walk.Declaring) : Type 0 where
+  group : Nodes
+  is_group : (decls : List Decl) → AreFields group decls → IsGroup node decls
+  first : declared.grouped ≡ false
+  second : between.grouped ≡ true
+  adds : AddsFields declared.names group between.names
+
+-- a part that declares a control variable
+record IsControlStep (declared : walk.Declaring) (node : Node) (between : walk.Declaring) : Type 0 where
+  declaration : Declaration
+  declares : Declares node declaration.decl
+  same : between.grouped ≡ declared.grouped
+  one : AddsOne is_control_name declared.names.controls (walk.with_control declared.names) declaration between.names
+
+abbrev IsPartStep : walk.Declaring → Node → walk.Declaring → Type 0
+IsPartStep declared node between = IsGroupStep declared node between ⊎ IsControlStep declared node between
+
+control_part_scoped : (declared : walk.Declaring) (node : Node) → IfOk (walk.control_part_walk declared node) (IsPartStep declared node)
+control_part_scoped declared node =
+    then_ok (walk.declaration_walk node) _ _ _ (declaration_scoped node) (λ d h.
+    then_ok (walk.control_walk declared.names d) _ _ _ (control_scoped declared.names d) (λ names one.
+    inr (record { declaration = d; declares = h; same = refl; one = one })))
+
+part_scoped : (declared : walk.Declaring) (node : Node) → IsProper declared.names → IfOk (walk.part_walk declared node) (IsPartStep declared node)
+part_scoped declared (list at (more (word head w) fields)) p =
+    if_ok (bytes_eq w (codes "Report")) _ _ _
+    (λ h. if_ok declared.grouped _ _ _ (λ _. tt) (λ first.
+      then_ok (walk.fields_walk declared.names fields) _ _ _ (fields_scoped declared.names fields p) (λ names adds.
+      inl (record { group = fields; is_group = λ decls are. (spelt w (codes "Report") h, are); first = first; second = refl; adds = adds }))))
+    (λ _. control_part_scoped declared (list at (more (word head w) fields)))
+part_scoped declared (list at none) p = control_part_scoped declared (list at none)
+part_scoped declared (list at (more (number a n) rest)) p = control_part_scoped declared (list at (more (number a n) rest))
+part_scoped declared (list at (more (list a ps) rest)) p = control_part_scoped declared (list at (more (list a ps) rest))
+part_scoped declared (number at n) p = control_part_scoped declared (number at n)
+part_scoped declared (word at w) p = control_part_scoped declared (word at w)
+
+step_proper : (declared : walk.Declaring) (node : Node) (between : walk.Declaring) → IsProper declared.names → declared.names.locals ≡ [] → IsPartStep declared node between → IsProper between.names
+step_proper declared node between p e s =
+    elim s [ inl g ↦ g.adds.proper
+           | inr c ↦ subst IsProper (sym c.one.whole) (proper_with_control declared.names c.declaration.decl p e c.one.new c.one.right) ]
+
+step_locals : (declared : walk.Declaring) (node : Node) (between : walk.Declaring) → declared.names.locals ≡ [] → IsPartStep declared node between → between.names.locals ≡ []
+step_locals declared node between e s =
+    elim s [ inl g ↦ g.adds.locals ∙ e | inr c ↦ ap (λ (s : Scope). s.locals) c.one.whole ∙ e ]
+
+step_parts : (declared : walk.Declaring) (node : Node) (rest : Nodes) (between after : walk.Declaring) → IsPartStep declared node between → AddsParts between rest after → AddsParts declared (more node rest) after
+step_parts declared node rest between after s r =
+    elim s [ inl g ↦ group_parts declared between after node rest g.group g.is_group g.first g.second g.adds r
+           | inr c ↦ control_parts declared between after node rest c.declaration c.declares c.same c.one r ]
+
+-- what the walk of the parts of `def` gives is scoped
+pub parts_scoped : (declared : walk.Declaring) (nodes : Nodes) → IsProper declared.names → declared.names.locals ≡ [] → IfOk (walk.parts_walk declared nodes) (AddsParts declared nodes)
+parts_scoped declared none p e = record {
+  fields = []; controls = []; all_fields = sym (append-nil declared.names.fields); all_controls = sym (append-nil declared.names.controls);
+  locals = e; are = (refl, refl); proper = p
+}
+parts_scoped declared (more node rest) p e =
+    then_ok (walk.part_walk declared node) _ _ _ (part_scoped declared node p) (λ between s.
+    ok_map (walk.parts_walk between rest) _ _ (parts_scoped between rest (step_proper declared node between p e s) (step_locals declared node between e s))
+    (λ after r. step_parts declared node rest between after s r))

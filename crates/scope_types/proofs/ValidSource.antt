@@ -91,7 +91,7 @@ parts_within declared none h = h
 parts_within declared (more node rest) h =
     then_ok (walk.part_walk declared node) _ _ _ (part_within declared node h) (λ after k. parts_within after rest k)
 
-def_within : (node : Node) → IfOk (def_walk node) IsWithin
+pub def_within : (node : Node) → IfOk (def_walk node) IsWithin
 def_within (list at (more (word head w) parts)) =
     if_ok (bytes_eq w (codes "def")) _ _ _
     (λ _. then_ok (walk.parts_walk nothing_declared parts) _ _ _ (parts_within nothing_declared parts (record { fields = lit≤ tt; controls = lit≤ tt })) (λ declared h. h))
@@ -99,7 +99,7 @@ def_within (list at (more (word head w) parts)) =
 def_within node = tt
 
 -- the names that each block begins with
-abbrev block_names : Scope → Known
+abbrev pub block_names : Scope → Known
 block_names names = record { fields = names.fields; controls = names.controls; locals = [] }
 
 condition_valid : (names : Scope) (node : Node) → IfOk (condition_walk names node) (λ t. IsTrue (is_condition (known_in names) t))
@@ -134,7 +134,7 @@ block_valid : (names : Scope) (at : Place) (nodes : Nodes) → IfOk (block_walk 
 block_valid names at none = tt
 block_valid names at (more condition commands) = inner_valid names condition commands
 
-form_valid : (names : Scope) (count : ℕ) (node : Node) → IfOk (form_walk names count node) (IsForm names count)
+pub form_valid : (names : Scope) (count : ℕ) (node : Node) → IfOk (form_walk names count node) (IsForm names count)
 form_valid names count (list at (more (word head w) parts)) =
     if_ok (not (bytes_eq w (codes "when"))) _ _ _ (λ _. tt) (λ _.
     if_ok (nat_le 64 count) _ _ _ (λ _. tt) (λ few.
@@ -166,7 +166,7 @@ after_block names block blocks b r = record {
   controls = r.controls ∙ b.controls;
 }
 
-blocks_valid : (names : Scope) (done : List Part) (nodes : Nodes) → IsTrue (are_parts (block_names names) done) → length done ≤ 64 → IfOk (blocks_walk names done nodes) (AreBlocks names)
+pub blocks_valid : (names : Scope) (done : List Part) (nodes : Nodes) → IsTrue (are_parts (block_names names) done) → length done ≤ 64 → IfOk (blocks_walk names done nodes) (AreBlocks names)
 blocks_valid names done none d n = record { valid = d; few = n; fields = refl; controls = refl }
 blocks_valid names done (more node rest) d n =
     then_ok (form_walk names (length done) node) _ _ _ (form_valid names (length done) node) (λ block f.
