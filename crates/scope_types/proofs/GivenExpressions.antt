@@ -24,7 +24,7 @@ pub record IsMeaning (scope : Scope) (w : List ℕ) (v : Var) (told : Bool) : Ty
   pub gives : meaning_of scope w ≡ Some v
   pub kind : told ≡ told_of scope v
 
-outside_fields : (scope : Scope) (w : List ℕ) → is_field_use w ≡ false → meaning_of scope w ≡ named var.Prim (primitive_of w) (named var.Control (decl_from 0 scope.controls w) (named var.Local (local_from 0 scope.locals w) None))
+pub outside_fields : (scope : Scope) (w : List ℕ) → is_field_use w ≡ false → meaning_of scope w ≡ named var.Prim (primitive_of w) (named var.Control (decl_from 0 scope.controls w) (named var.Local (local_from 0 scope.locals w) None))
 outside_fields scope w h = ap (λ b. if b then named var.Field (decl_from 0 scope.fields (drop 7 w)) None else named var.Prim (primitive_of w) (named var.Control (decl_from 0 scope.controls w) (named var.Local (local_from 0 scope.locals w) None))) h
 
 field_given : (scope : Scope) (i : ℕ) (w : List ℕ) (told : Bool) → IsProper scope → IsField scope.fields i w told → IsMeaning scope w (var.Field i) told
