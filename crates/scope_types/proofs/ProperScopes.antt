@@ -10,7 +10,7 @@ use Rattle.scope_types.specs.Names.{decl_from, local_from}
 use Rattle.scope_types.specs.WellScoped.{IsDeclared, IsLocal, IsPrimitive, IsFresh}
 use Rattle.scope_types.proofs.ScopedExpressions.{spells, some_mono, decl_found, declared_of, local_found, local_of, prim_means, IsControl, IsOwnLocal, IsProper, primitive_word}
 
-nowhere : {A : Type 0} (o : Option A) (P : A → Type 0) → IfSome o P → ((a : A) → P a → ⊥) → o ≡ None
+pub nowhere : {A : Type 0} (o : Option A) (P : A → Type 0) → IfSome o P → ((a : A) → P a → ⊥) → o ≡ None
 nowhere (Some a) P h never = absurd (never a h)
 nowhere None P h never = refl
 
