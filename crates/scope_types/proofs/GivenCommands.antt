@@ -86,7 +86,7 @@ kind_test : (wanted told : Bool) → FitsKind wanted told → (wanted && not tol
 kind_test true told h = ap not (h refl)
 kind_test false told h = refl
 
-kind_given : (scope : Scope) (wanted : Bool) (at : Place) (term : Term) (told : Bool) → told ≡ term_is_truth (known_in scope) term → FitsKind wanted told → walk.kind_walk scope wanted at term ≡ Ok term
+pub kind_given : (scope : Scope) (wanted : Bool) (at : Place) (term : Term) (told : Bool) → told ≡ term_is_truth (known_in scope) term → FitsKind wanted told → walk.kind_walk scope wanted at term ≡ Ok term
 kind_given scope wanted at term told e h =
     if_false (wanted && not (walk.is_bool scope term)) _ _ _ (kind_test wanted _ (subst (FitsKind wanted) e h)) refl
 

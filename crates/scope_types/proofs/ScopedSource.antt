@@ -32,7 +32,7 @@ abbrev Defines : Node → Scope → Type 0
 Defines (list at (more (word head w) parts)) names = (w ≡ codes "def") × IsDef parts names
 Defines node names = ⊥
 
-nothing_proper : IsProper nothing_declared.names
+pub nothing_proper : IsProper nothing_declared.names
 nothing_proper = record {
   fields = λ i d h. absurd (cc);
   controls = λ i d h. absurd (cc);
@@ -89,7 +89,7 @@ form_scoped names count (list at (more (word head w) (more condition commands)))
 form_scoped names count node p = tt
 
 -- a block leaves the declared names
-same_start : (names after : Scope) → after.fields ≡ names.fields → after.controls ≡ names.controls → without_locals names ≡ without_locals after
+pub same_start : (names after : Scope) → after.fields ≡ names.fields → after.controls ≡ names.controls → without_locals names ≡ without_locals after
 same_start names after e f =
     ap (λ (ds : List Decl). let scope : Scope = record { fields = ds; controls = names.controls; locals = [] } in scope) (sym e)
     ∙ ap (λ (ds : List Decl). let scope : Scope = record { fields = after.fields; controls = ds; locals = [] } in scope) (sym f)
@@ -132,7 +132,7 @@ program_of parts forms names blocks d w b v = record {
   few_blocks = v.few
 }
 
-proper_start : (names : Scope) → names.locals ≡ [] → IsProper names → IsProper (without_locals names)
+pub proper_start : (names : Scope) → names.locals ≡ [] → IsProper names → IsProper (without_locals names)
 proper_start names e p = subst IsProper (ap (λ (ls : List Local). let scope : Scope = record { fields = names.fields; controls = names.controls; locals = ls } in scope) e) p
 
 scoped_of : (first : Node) (forms : Nodes) (names : Scope) (blocks : List Part × Scope) → Defines first names → valid.IsWithin names → AddsBlocks names [] forms blocks → valid.AreBlocks names blocks → IsScoped (more first forms) (form_of blocks)
