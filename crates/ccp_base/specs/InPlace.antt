@@ -1,4 +1,4 @@
-use Rattle.std.specs.Prelude.{◌≡◌, ℕ, ◌+◌, ◌-◌, ◌<◌, ◌≤◌, List, [], ◌∷◌, ◌++◌, length, take, drop, replicate, slice_set}
+use Rattle.std.specs.Prelude.{◌≡◌, ℕ, ◌+◌, ◌-◌, ◌<◌, ◌≤◌, List, ◌++◌, length, take, drop, replicate, slice_set}
 use Rattle.std.proofs.Common.{ap, ◌∙◌, sym, arith, length-append, length-set}
 use Rattle.std.proofs.Math.Seq.{drop-append_seam}
 use Rattle.std.proofs.lemmas.List.{take-append-drop, drop-set-lt, length-take-le, drop-replicate, drop-drop, length-replicate}
@@ -29,11 +29,11 @@ IsPadded-push size blank places count item room held = record {
   full = length-set places count item ∙ held.full;
   within = omega arith;
   rest =
-    drop-set-lt (count + 1) places count item (omega arith)
-    ∙ sym (drop-drop 1 count places)
-    ∙ ap (drop 1) held.rest
-    ∙ drop-replicate 1 (size - count) blank
-    ∙ ap (λ n. replicate n blank) (let n : (size - count) - 1 ≡ size - (count + 1) = omega arith in n)
+      drop-set-lt (count + 1) places count item (omega arith)
+      ∙ sym (drop-drop 1 count places)
+      ∙ ap (drop 1) held.rest
+      ∙ drop-replicate 1 (size - count) blank
+      ∙ ap (λ n. replicate n blank) (let n : (size - count) - 1 ≡ size - (count + 1) = omega arith in n);
 }
 
 -- the same, where what is known is the length of the list at the front
@@ -47,5 +47,5 @@ pub IsPadded-padded : {A : Type 0} (size : ℕ) (blank : A) (items : List A) →
 IsPadded-padded size blank items fits = record {
   full = length-append items (replicate (size - length items) blank) ∙ ap (λ n. length items + n) (length-replicate (size - length items) blank) ∙ omega arith;
   within = fits;
-  rest = drop-append_seam items (replicate (size - length items) blank)
+  rest = drop-append_seam items (replicate (size - length items) blank);
 }

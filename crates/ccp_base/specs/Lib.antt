@@ -3,3 +3,5 @@ pub mod Acknowledgement
 pub mod InPlace
 pub mod FieldReg
 pub mod Named
+pub mod Numerals
+pub mod Outside

@@ -50,7 +50,8 @@ pub fn prim(ack: &Ack, number: u32) -> u64
     }
 }
 
-fn bool_number(truth: bool) -> u64
+/// A Bool as a number: 1 where it is true, else 0.
+pub fn bool_number(truth: bool) -> u64
     ensures { result ≡ number_of truth }
 {
     if truth { 1 } else { 0 }

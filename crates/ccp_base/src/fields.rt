@@ -86,6 +86,14 @@ impl Fields {
         }
     }
 
+    /// The pairs in order.
+    pub fn as_slice(&self) -> &[(FieldReg, u64)]
+        ensures items { result.now ≡ self.now }
+        ensures within { length self.now ≤ PAIRS }
+    {
+        &self.pairs[..self.count as usize]
+    }
+
     /// Makes the list empty.
     pub fn clear(&mut self)
         ensures { self.new ≡ [] }

@@ -6,20 +6,36 @@ mod ack;
 mod arithmetic;
 mod exchange;
 mod fields;
+mod gate;
 mod look;
+mod memory;
 mod name;
+mod numerals;
+mod outside;
 mod place;
 mod sequence;
+mod sink;
+mod source;
+mod stream;
+#[cfg(test)]
+mod tests;
 mod values;
 
-pub use ack::{Ack, Acks, PRIMITIVES, prim};
+pub use ack::{Ack, Acks, PRIMITIVES, bool_number, prim};
 pub use arithmetic::{FaultKind, add, div, mul, sub};
 pub use exchange::{Notice, Reply, Report, Reports, Told};
 pub use fields::{FieldReg, Fields, PAIRS};
+pub use gate::{Gate, OpenGate, Point};
 pub use look::{Look, Role};
+pub use memory::{MemSink, MemSource};
 pub use name::{NAME_BYTES, Name, Names};
+pub use numerals::numeral;
+pub use outside::{Failed, NoMemory, ReadFault};
 pub use place::Place;
 pub use sequence::{Bytes, Numbers, Sequence};
+pub use sink::{Sink, write_all};
+pub use source::{Source, read_all};
+pub use stream::{StdErr, StdIn, StdOut};
 pub use values::{VALUES, Values};
 
 /// The most report fields that a program declares.

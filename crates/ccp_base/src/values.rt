@@ -38,6 +38,18 @@ impl Values {
         }
     }
 
+    /// The list of these numbers, of which there are at most 64.
+    pub fn from_slice(numbers: &[u64]) -> Self
+        requires { length numbers.now ≤ VALUES }
+        ensures { result ≡ numbers.now }
+    {
+        let mut values = Values::new();
+        for number in numbers {
+            values.push(*number);
+        }
+        values
+    }
+
     /// How many numbers the list has.
     pub fn len(&self) -> u32
         ensures len { result ≡ length self.now }
@@ -60,6 +72,14 @@ impl Values {
     {
         self.numbers[self.count as usize] = value;
         self.count += 1;
+    }
+
+    /// The numbers in order.
+    pub fn as_slice(&self) -> &[u64]
+        ensures items { result.now ≡ self.now }
+        ensures within { length self.now ≤ VALUES }
+    {
+        &self.numbers[..self.count as usize]
     }
 
     /// The number at a place, counted from 0; None exactly where the list isn't that long.

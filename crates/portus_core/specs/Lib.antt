@@ -1,3 +1,15 @@
 pub mod Trees
 pub mod Programs
 pub mod ValidPrograms
+pub mod Value
+pub mod Command
+pub mod Blocks
+pub mod OneAcknowledgement
+pub mod Epoch
+pub mod Reports
+pub mod ProgramForm
+pub mod EnvShapes
+pub mod Progress
+pub mod Runnable
+pub mod PrintedTree
+pub mod EventLaws

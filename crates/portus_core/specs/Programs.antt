@@ -10,8 +10,10 @@ use Rattle.portus_core.specs.declared.program.Block.{Block}
 use Rattle.portus_core.specs.declared.program.Cmd.{Cmd}
 use Rattle.portus_core.specs.declared.program.Cmd.TheVariants as rust
 use Rattle.portus_core.specs.declared.program.Expr.{Expr}
+use Rattle.portus_core.specs.declared.program.Expr.TheVariants as expr
 use Rattle.portus_core.specs.declared.program.Expr.TheOpen.{Expr-F}
 use Rattle.portus_core.specs.declared.program.Expr.TheOpen as layer
+use Rattle.portus_core.specs.declared.program.Expr.TheViews.{rolls-Num, rolls-Truth, rolls-Var, rolls-Pair}
 use Rattle.portus_core.specs.declared.program.Expr.TheFolds.{fold-Expr, fold-roll-Expr}
 
 -- an expression as data: what definitions speak of
@@ -75,3 +77,17 @@ part_of block = record {
 -- what the lists of a program stand for
 abbrev pub form_over : List Decl → List Decl → List Block → Form
 form_over fields controls blocks = record { fields = fields; controls = controls; blocks = map part_of blocks }
+
+pub term_of-Num : (value : ℕ) → term_of (expr.Num value) ≡ number value
+term_of-Num value = ap term_of (sym (rolls-Num value)) ∙ fold-roll-Expr Term term_step (layer.Num value)
+
+pub term_of-Truth : (value : Bool) → term_of (expr.Truth value) ≡ truth value
+term_of-Truth value = ap term_of (sym (rolls-Truth value)) ∙ fold-roll-Expr Term term_step (layer.Truth value)
+
+pub term_of-Var : (var : Var) → term_of (expr.Var var) ≡ name var
+term_of-Var var = ap term_of (sym (rolls-Var var)) ∙ fold-roll-Expr Term term_step (layer.Var var)
+
+pub term_of-Pair : (op : Op2) (place : Place) (left right : Box Expr Global) → term_of (expr.Pair op place left right) ≡ pair op place (term_of left.value) (term_of right.value)
+term_of-Pair op place left right = ap term_of (sym (rolls-Pair op place left right)) ∙ fold-roll-Expr Term term_step (layer.Pair op place left right)
+
+pub ruleset terms = (term_of-Num, term_of-Truth, term_of-Var, term_of-Pair)

@@ -1,8 +1,21 @@
 //! Trees and programs of the datapath language, and what a program means.
 #![tactic(auto)]
 
+mod blocks;
+mod command;
+mod env;
+mod mean;
+mod printing;
 mod program;
+mod progress;
+mod start;
 mod tree;
+mod value;
 
+pub use env::{Env, Mean, StartFault};
+pub use printing::print_tree;
 pub use program::{Block, Cmd, Decl, Expr, Op2, Program, Var};
 pub use tree::{Parts, Source, Tree, take_apart};
+
+#[cfg(test)]
+mod tests;

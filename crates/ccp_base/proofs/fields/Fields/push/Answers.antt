@@ -1,4 +1,4 @@
-use Rattle.std.proofs.Common.{ℕ, ◌<◌, List, length, subst, sym}
+use Rattle.std.proofs.Common.{◌<◌, List, length, subst, sym}
 use Rattle.ccp_base.specs.InPlace.{IsPadded-push_held}
 use Rattle.ccp_base.specs.FieldReg.{Pair, pair_of, blank}
 use Rattle.ccp_base.proofs.fields.Fields.push.Goals as goal

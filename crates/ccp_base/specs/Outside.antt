@@ -1,0 +1,61 @@
+use Rattle.std.specs.Prelude.{◌≡◌, ℕ, ◌-◌, ◌^◌, ◌<◌, ◌≤◌, Option, Some, None, option_map, List, [], ◌++◌, length, take}
+use Rattle.std.proofs.Common.{ap, ◌∙◌, sym, arith, append_assoc, length-append}
+
+-- what a source has left, or what a sink was given, where it tells them
+abbrev pub Known : Type 0
+Known = Option (List ℕ)
+
+-- a count of faults rose; one that stands at its type's end counts as risen
+abbrev pub Rose : ℕ → ℕ → Type 0
+Rose before now = before < 2 ^ 64 - 1 → before < now
+
+-- these bytes were taken from the front of what was left
+abbrev pub Takes : Known → Known → List ℕ → Type 0
+Takes old new taken = old ≡ option_map (λ left. taken ++ left) new
+
+-- nothing is left
+abbrev pub IsAtEnd : Known → Type 0
+IsAtEnd left = left ≡ option_map (λ bytes. []) left
+
+-- more bytes than the limit were taken
+pub record TakesOver (limit : ℕ) (old new : Known) : Type 0 where
+  pub taken : List ℕ
+  pub takes : Takes old new taken
+  pub over : limit < length taken
+
+-- at most as many bytes as the limit were taken
+pub record TakesWithin (limit : ℕ) (old new : Known) : Type 0 where
+  pub taken : List ℕ
+  pub takes : Takes old new taken
+  pub within : length taken ≤ limit
+
+-- these bytes were put at the end of what was written
+abbrev pub Appends : Known → Known → List ℕ → Type 0
+Appends old new bytes = new ≡ option_map (λ written. written ++ bytes) old
+
+-- a front of these bytes was put at the end of what was written
+pub record AppendsPrefix (old new : Known) (bytes : List ℕ) : Type 0 where
+  pub count : ℕ
+  pub within : count ≤ length bytes
+  pub appends : Appends old new (take count bytes)
+
+-- what is taken in turn is taken at once
+pub Takes-append : (old middle new : Known) (first next : List ℕ) → Takes old middle first → Takes middle new next → Takes old new (first ++ next)
+Takes-append old middle None first next before after = cc
+Takes-append old middle (Some left) first next before after =
+    before ∙ ap (option_map (λ bytes. first ++ bytes)) after ∙ ap Some (sym (append_assoc first next left))
+
+-- what is put at the end in turn is put there at once
+pub Appends-append : (old middle new : Known) (first next : List ℕ) → Appends old middle first → Appends middle new next → Appends old new (first ++ next)
+Appends-append None middle new first next before after = cc
+Appends-append (Some written) middle new first next before after =
+    after ∙ ap (option_map (λ bytes. bytes ++ next)) before ∙ ap Some (append_assoc written first next)
+
+-- where a source tells its bytes, it isn't so that both more than the limit and at most the limit were taken
+pub TakesOver-within : (limit : ℕ) (before after : List ℕ) → TakesOver limit (Some before) (Some after) → TakesWithin limit (Some before) (Some after) → ⊥
+TakesOver-within limit before after more less =
+    let same : Some (more.taken ++ after) ≡ Some (less.taken ++ after) = sym more.takes ∙ less.takes in
+    let lists : more.taken ++ after ≡ less.taken ++ after = cc in
+    let over : limit < length more.taken = more.over in
+    let within : length less.taken ≤ limit = less.within in
+    absurd (omega (arith, ap length lists, length-append more.taken after, length-append less.taken after))

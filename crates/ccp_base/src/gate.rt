@@ -1,0 +1,33 @@
+/// A point of a worker's way at which it passes a gate.
+#[derive(Clone, Copy, Debug, PartialEq, Eq)]
+pub enum Point {
+    /// Before an acknowledgement, without the flow's lock.
+    BeforeAck,
+    /// At an acknowledgement, with the flow's lock held.
+    InAck,
+    /// After an acknowledgement, without the flow's lock.
+    AfterAck,
+    /// After a report or notice was taken or none was there, without the flow's lock.
+    AfterTake,
+    /// After an answer was settled, without the flow's lock.
+    AfterSettle,
+    /// Before a case of a campaign.
+    InCase,
+    /// After a case of a campaign.
+    AfterCase,
+}
+
+/// What workers pass, so that a test can see and hold them.
+pub trait Gate {
+    /// May wait, and answers nothing. The number is that of the flow, or at `InCase` and `AfterCase` that of
+    /// the case.
+    fn pass(&self, worker: u32, point: Point, number: u32);
+}
+
+/// The gate that holds nobody.
+#[derive(Clone, Copy, Debug, PartialEq, Eq)]
+pub struct OpenGate;
+
+impl Gate for OpenGate {
+    fn pass(&self, _worker: u32, _point: Point, _number: u32) {}
+}

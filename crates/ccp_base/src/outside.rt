@@ -1,0 +1,57 @@
+ghost use Rattle.std.specs.Prelude.{◌≡◌, ◌+◌, ◌≤◌, min};
+ghost use Rattle.ccp_base.specs.Outside.{Rose};
+ghost use Rattle.ccp_base.specs.declared.outside.ReadFault.TheVariants as read_fault;
+
+use std::alloc::{AllocError, AllocFailed};
+
+/// That memory was wanted and not found.
+#[derive(Clone, Copy, Debug, PartialEq, Eq)]
+pub struct NoMemory;
+
+impl From<AllocError> for NoMemory {
+    ghost from_gives = { λ _ fault. fault ≡ record {} };
+
+    fn from(_error: AllocError) -> NoMemory {
+        NoMemory
+    }
+}
+
+impl<T: Drop> From<AllocFailed<T>> for NoMemory {
+    ghost from_gives = { λ _ fault. fault ≡ record {} };
+
+    fn from(_error: AllocFailed<T>) -> NoMemory {
+        NoMemory
+    }
+}
+
+/// That a read or a write failed.
+#[derive(Clone, Copy, Debug, PartialEq, Eq)]
+pub struct Failed;
+
+/// Counts a fault, up to 2^64-1.
+pub(crate) fn fault(faults: &mut u64) -> Failed
+    ensures count { faults.new ≡ min (faults.old + 1) u64.MAX }
+    ensures counted { faults.old ≤ faults.new }
+    ensures rose { Rose faults.old faults.new }
+{
+    *faults = faults.saturating_add(1);
+    Failed
+}
+
+/// Why a source wasn't read to its end.
+#[derive(Clone, Copy, Debug, PartialEq, Eq)]
+pub enum ReadFault {
+    /// A read failed.
+    Read,
+    /// The source has more bytes than the limit.
+    TooLong,
+    NoMemory,
+}
+
+impl From<AllocError> for ReadFault {
+    ghost from_gives = { λ _ fault. fault ≡ read_fault.NoMemory };
+
+    fn from(_error: AllocError) -> ReadFault {
+        ReadFault::NoMemory
+    }
+}

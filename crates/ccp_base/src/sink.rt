@@ -1,0 +1,49 @@
+ghost use Rattle.std.specs.Prelude.{◌≡◌, ℕ, ◌<◌, ◌≤◌, Option, List, IfOk, OnOk, OnErr, take, length};
+ghost use Rattle.ccp_base.specs.Outside.{Rose, Appends, AppendsPrefix};
+
+use crate::outside::Failed;
+
+/// What bytes are written to.
+pub trait Sink {
+    // the bytes that were written, where the sink tells them
+    ghost written: { Self → Option (List ℕ) };
+
+    // how many writes failed, up to 2^64-1
+    ghost faults: { Self → ℕ };
+
+    // nothing of what was written is held back, where the sink tells it
+    ghost is_finished: { Self → Type 0 } = { λ _. Unit {0} };
+
+    /// Takes bytes from the front of `bytes` and answers how many, at least one of a piece that isn't empty.
+    /// `Failed` comes only where the count of faults rises.
+    fn write(&mut self, bytes: &[u8]) -> Result<usize, Failed>
+        ensures counted { faults self.old ≤ faults self.new }
+        ensures failed { OnErr result (Rose (faults self.old) (faults self.new)) }
+        ensures kept { OnErr result (written self.new ≡ written self.old) }
+        ensures some { IfOk result (λ n. 0 < length bytes.now → 0 < n) }
+        ensures within { IfOk result (λ n. n ≤ length bytes.now) }
+        ensures appends { IfOk result (λ n. Appends (written self.old) (written self.new) (take n bytes.now)) };
+
+    /// Hands on what was written and is still held back. `Failed` comes only where the count of faults rises.
+    fn finish(&mut self) -> Result<(), Failed>
+        ensures counted { faults self.old ≤ faults self.new }
+        ensures failed { OnErr result (Rose (faults self.old) (faults self.new)) }
+        ensures kept { written self.new ≡ written self.old }
+        ensures finished { OnOk result (is_finished self.new) };
+}
+
+/// Writes all the bytes and finishes. `Failed` comes only where the count of faults rises; then a front of the
+/// bytes was written.
+pub fn write_all<K: Sink>(sink: &mut K, bytes: &[u8]) -> Result<(), Failed>
+    ensures counted { K.faults sink.old ≤ K.faults sink.new }
+    ensures ok { OnOk result (Appends (K.written sink.old) (K.written sink.new) bytes.now) }
+    ensures finished { OnOk result (K.is_finished sink.new) }
+    ensures failed { OnErr result (Rose (K.faults sink.old) (K.faults sink.new)) }
+    ensures front { OnErr result (AppendsPrefix (K.written sink.old) (K.written sink.new) bytes.now) }
+{
+    let mut done = 0;
+    while done < bytes.len() {
+        done += sink.write(&bytes[done..])?;
+    }
+    sink.finish()
+}

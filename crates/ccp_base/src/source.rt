@@ -1,0 +1,59 @@
+ghost use Rattle.std.specs.Prelude.{◌≡◌, ◌≢◌, ℕ, ◌<◌, ◌≤◌, Option, List, IfOk, OnErr, IsErrOf, take, length};
+ghost use Rattle.ccp_base.specs.Outside.{Rose, Takes, IsAtEnd, TakesOver, TakesWithin};
+
+use crate::outside::{Failed, ReadFault};
+use crate::sequence::Bytes;
+use std::alloc::Global;
+
+/// What bytes are read from.
+pub trait Source {
+    // the bytes that are left, where the source tells them
+    ghost remaining: { Self → Option (List ℕ) };
+
+    // how many reads failed, up to 2^64-1
+    ghost faults: { Self → ℕ };
+
+    /// Writes the next bytes over the front of `out` and answers how many, 0 for a piece that isn't empty at
+    /// the end alone. `Failed` comes only where the count of faults rises.
+    fn read(&mut self, out: &mut [u8]) -> Result<usize, Failed>
+        ensures counted { faults self.old ≤ faults self.new }
+        ensures failed { OnErr result (Rose (faults self.old) (faults self.new)) }
+        ensures kept { OnErr result (remaining self.new ≡ remaining self.old) }
+        ensures within { IfOk result (λ n. n ≤ length out.old) }
+        ensures taken { IfOk result (λ n. Takes (remaining self.old) (remaining self.new) (take n out.new)) }
+        ensures end { IfOk result (λ n. n ≡ 0 → 0 < length out.old → IsAtEnd (remaining self.old)) };
+}
+
+/// How many bytes are asked for at a time.
+const PIECE: usize = 4096;
+
+/// All the bytes that are left, of which there are at most `limit`. `Read` comes only where the count of
+/// faults rises, and `TooLong` exactly where more than `limit` bytes were taken.
+pub fn read_all<S: Source>(alloc: Global, source: &mut S, limit: usize) -> Result<Bytes, ReadFault>
+    ensures counted { S.faults source.old ≤ S.faults source.new }
+    ensures short { IfOk result (λ bytes. length bytes ≤ limit) }
+    ensures taken { IfOk result (λ bytes. Takes (S.remaining source.old) (S.remaining source.new) bytes) }
+    ensures end { IfOk result (λ bytes. IsAtEnd (S.remaining source.new)) }
+    ensures read { IsErrOf result ReadFault.Read → Rose (S.faults source.old) (S.faults source.new) }
+    ensures too_long { IsErrOf result ReadFault.TooLong
+        → TakesOver limit (S.remaining source.old) (S.remaining source.new) }
+    ensures within { result ≢ Err ReadFault.TooLong
+        → TakesWithin limit (S.remaining source.old) (S.remaining source.new) }
+{
+    let mut bytes = Bytes::new(alloc);
+    let mut buffer = [0u8; PIECE];
+    loop {
+        let room = limit - bytes.len();
+        let asked = room.saturating_add(1).min(PIECE);
+        let Ok(count) = source.read(&mut buffer[..asked]) else {
+            return Err(ReadFault::Read);
+        };
+        if count == 0 {
+            return Ok(bytes);
+        }
+        if count > room {
+            return Err(ReadFault::TooLong);
+        }
+        bytes.extend(&buffer[..count])?;
+    }
+}

@@ -1,0 +1,101 @@
+use Rattle.std.specs.Prelude.{ℕ, Option, Some, None, List, [], codes, decimal}
+use Rattle.ccp_base.specs.declared.place.Place.{Place}
+use Rattle.portus_parser.specs.declared.fault.ParseFault.{ParseFault}
+use Rattle.portus_parser.specs.declared.fault.ParseFault.TheVariants as parse
+use Rattle.scope_types.specs.declared.fault.ScopeFault.{ScopeFault}
+use Rattle.scope_types.specs.declared.fault.ScopeFault.TheVariants as scope
+use Rattle.scope_types.specs.declared.fault.What.{What}
+use Rattle.scope_types.specs.declared.fault.What.TheVariants.{Fields, Controls, Locals, Blocks}
+use Rattle.ccp_run.specs.declared.refusal.ProgramFault.{ProgramFault}
+use Rattle.ccp_run.specs.declared.refusal.ProgramFault.TheVariants as program
+use Rattle.ccp_run.specs.declared.refusal.Refusal.{Refusal}
+use Rattle.ccp_run.specs.declared.refusal.Refusal.TheVariants.{TooLong, NoSeparator, Program, Line, TooManyAcks}
+use Rattle.ccp_run.specs.Text.{◌⧺◌}
+
+abbrev pub parse_name : ParseFault → List ℕ
+parse_name parse.SourceTooLong = codes "SourceTooLong"
+parse_name (parse.NotText place) = codes "NotText"
+parse_name (parse.Unexpected place) = codes "Unexpected"
+parse_name (parse.BadNumeral place) = codes "BadNumeral"
+parse_name (parse.BadName place) = codes "BadName"
+parse_name (parse.Nesting place) = codes "Nesting"
+parse_name (parse.Unclosed place) = codes "Unclosed"
+parse_name parse.NoMemory = codes "NoMemory"
+
+abbrev pub parse_place : ParseFault → Option Place
+parse_place parse.SourceTooLong = None
+parse_place (parse.NotText place) = Some place
+parse_place (parse.Unexpected place) = Some place
+parse_place (parse.BadNumeral place) = Some place
+parse_place (parse.BadName place) = Some place
+parse_place (parse.Nesting place) = Some place
+parse_place (parse.Unclosed place) = Some place
+parse_place parse.NoMemory = None
+
+abbrev pub too_many_name : What → List ℕ
+too_many_name Fields = codes "TooMany fields"
+too_many_name Controls = codes "TooMany controls"
+too_many_name Locals = codes "TooMany locals"
+too_many_name Blocks = codes "TooMany blocks"
+
+abbrev pub scope_name : ScopeFault → List ℕ
+scope_name (scope.Unknown place) = codes "Unknown"
+scope_name (scope.Twice place) = codes "Twice"
+scope_name (scope.NotWritable place) = codes "NotWritable"
+scope_name (scope.Kind place) = codes "Kind"
+scope_name (scope.Misplaced place) = codes "Misplaced"
+scope_name (scope.Micros place) = codes "Micros"
+scope_name (scope.TooMany place what) = too_many_name what
+scope_name scope.NoMemory = codes "NoMemory"
+
+abbrev pub scope_place : ScopeFault → Option Place
+scope_place (scope.Unknown place) = Some place
+scope_place (scope.Twice place) = Some place
+scope_place (scope.NotWritable place) = Some place
+scope_place (scope.Kind place) = Some place
+scope_place (scope.Misplaced place) = Some place
+scope_place (scope.Micros place) = Some place
+scope_place (scope.TooMany place what) = Some place
+scope_place scope.NoMemory = None
+
+abbrev pub fault_name : ProgramFault → List ℕ
+fault_name (program.Parse fault) = parse_name fault
+fault_name (program.Scope fault) = scope_name fault
+
+abbrev pub fault_place : ProgramFault → Option Place
+fault_place (program.Parse fault) = parse_place fault
+fault_place (program.Scope fault) = scope_place fault
+
+abbrev pub place_part : Option Place → List ℕ
+place_part None = []
+place_part (Some place) = codes " at " ⧺ decimal place.line ⧺ codes ":" ⧺ decimal place.column
+
+abbrev pub program_part : ProgramFault → List ℕ
+program_part fault = codes "program " ⧺ fault_name fault ⧺ place_part (fault_place fault) ⧺ codes "\n"
+
+abbrev pub line_part : ℕ → List ℕ
+line_part number = codes "acknowledgement line " ⧺ decimal number ⧺ codes "\n"
+
+abbrev pub refusal_part : Refusal → List ℕ
+refusal_part TooLong = codes "more than 1048576 bytes\n"
+refusal_part NoSeparator = codes "no separator\n"
+refusal_part (Program fault) = program_part fault
+refusal_part (Line number) = line_part number
+refusal_part TooManyAcks = codes "too many acknowledgements\n"
+
+-- the line that tells why an input is refused
+abbrev pub refusal_line : Refusal → List ℕ
+refusal_line refusal = codes "ccp: input refused: " ⧺ refusal_part refusal
+
+-- the lines that tell that the words are refused, that a read or a write failed, and that memory was wanted
+abbrev pub words_line : List ℕ
+words_line = codes "ccp: words refused\n"
+
+abbrev pub read_line : List ℕ
+read_line = codes "ccp: read fault\n"
+
+abbrev pub write_line : List ℕ
+write_line = codes "ccp: write fault\n"
+
+abbrev pub memory_line : List ℕ
+memory_line = codes "ccp: no memory\n"

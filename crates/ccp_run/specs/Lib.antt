@@ -1,0 +1,11 @@
+pub mod Parts
+pub mod AckLine
+pub mod Separated
+pub mod Acknowledgements
+pub mod Text
+pub mod FoldText
+pub mod ErrorLine
+pub mod Told
+pub mod Words
+pub mod Fold
+pub mod Folding

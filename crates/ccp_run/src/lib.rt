@@ -1,0 +1,21 @@
+//! The whole tool as one call: words and bytes in, text and a status out.
+#![tactic(auto)]
+
+mod ack_line;
+mod acks;
+mod answer;
+pub mod calls;
+mod fold;
+mod mode;
+mod outcome;
+mod parts;
+mod refusal;
+mod separated;
+#[cfg(test)]
+mod tests;
+mod text;
+mod top;
+
+pub use mode::{Alone, Mode};
+pub use outcome::Outcome;
+pub use top::run;

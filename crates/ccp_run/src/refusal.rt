@@ -1,0 +1,167 @@
+ghost use Rattle.std.specs.Prelude.{◌≡◌, ◌++◌, Some, IfOk, OnOk};
+ghost use Rattle.ccp_run.specs.ErrorLine.{parse_name, parse_place, too_many_name, scope_name, scope_place, fault_name, fault_place, place_part, program_part, line_part, refusal_line};
+
+use ccp_base::{Bytes, NoMemory, Place};
+use portus_parser::ParseFault;
+use scope_types::{ScopeFault, What};
+use std::alloc::Global;
+
+/// Why a program's text is refused.
+#[derive(Clone, Copy, PartialEq, Eq, Debug)]
+pub enum ProgramFault {
+    Parse(ParseFault),
+    Scope(ScopeFault),
+}
+
+/// Why an input is refused.
+#[derive(Clone, Copy, PartialEq, Eq, Debug)]
+pub enum Refusal {
+    /// It has more than 1,048,576 bytes.
+    TooLong,
+    /// No line is `---`.
+    NoSeparator,
+    Program(ProgramFault),
+    /// The line of this number is no acknowledgement.
+    Line(u64),
+    /// There are more than 65,536 acknowledgements.
+    TooManyAcks,
+}
+
+/// The line that tells why an input is refused.
+pub fn refusal_line(alloc: Global, refusal: Refusal) -> Result<Bytes, NoMemory>
+    ensures { IfOk result (λ line. line ≡ refusal_line refusal) }
+{
+    let mut line = Bytes::new(alloc);
+    line.extend(b"ccp: input refused: ")?;
+    match refusal {
+        Refusal::TooLong => line.extend(b"more than 1048576 bytes\n")?,
+        Refusal::NoSeparator => line.extend(b"no separator\n")?,
+        Refusal::Program(fault) => put_program_fault(alloc, &mut line, fault)?,
+        Refusal::Line(number) => put_line_fault(alloc, &mut line, number)?,
+        Refusal::TooManyAcks => line.extend(b"too many acknowledgements\n")?,
+    }
+    Ok(line)
+}
+
+fn put_line_fault(alloc: Global, line: &mut Bytes, number: u64) -> Result<(), NoMemory>
+    ensures { OnOk result (line.new ≡ line.old ++ line_part number) }
+{
+    let part = format!(in alloc; "acknowledgement line {number}\n")?;
+    line.extend(part.as_bytes())?;
+    Ok(())
+}
+
+fn put_program_fault(alloc: Global, line: &mut Bytes, fault: ProgramFault) -> Result<(), NoMemory>
+    ensures { OnOk result (line.new ≡ line.old ++ program_part fault) }
+{
+    line.extend(b"program ")?;
+    line.extend(fault_name(fault).as_bytes())?;
+    put_place(alloc, line, fault_place(fault))?;
+    line.push(b'\n')?;
+    Ok(())
+}
+
+fn put_place(alloc: Global, line: &mut Bytes, place: Option<Place>) -> Result<(), NoMemory>
+    ensures { OnOk result (line.new ≡ line.old ++ place_part place) }
+{
+    match place {
+        None => Ok(()),
+        Some(place) => put_some_place(alloc, line, place),
+    }
+}
+
+fn put_some_place(alloc: Global, line: &mut Bytes, place: Place) -> Result<(), NoMemory>
+    ensures { OnOk result (line.new ≡ line.old ++ place_part (Some place)) }
+{
+    let part = format!(in alloc; " at {}:{}", place.line, place.column)?;
+    line.extend(part.as_bytes())?;
+    Ok(())
+}
+
+fn fault_name(fault: ProgramFault) -> &'static str
+    ensures { result.now ≡ fault_name fault }
+{
+    match fault {
+        ProgramFault::Parse(fault) => parse_name(fault),
+        ProgramFault::Scope(fault) => scope_name(fault),
+    }
+}
+
+fn fault_place(fault: ProgramFault) -> Option<Place>
+    ensures { result ≡ fault_place fault }
+{
+    match fault {
+        ProgramFault::Parse(fault) => parse_place(fault),
+        ProgramFault::Scope(fault) => scope_place(fault),
+    }
+}
+
+fn parse_name(fault: ParseFault) -> &'static str
+    ensures { result.now ≡ parse_name fault }
+{
+    match fault {
+        ParseFault::SourceTooLong => "SourceTooLong",
+        ParseFault::NotText(_) => "NotText",
+        ParseFault::Unexpected(_) => "Unexpected",
+        ParseFault::BadNumeral(_) => "BadNumeral",
+        ParseFault::BadName(_) => "BadName",
+        ParseFault::Nesting(_) => "Nesting",
+        ParseFault::Unclosed(_) => "Unclosed",
+        ParseFault::NoMemory => "NoMemory",
+    }
+}
+
+fn parse_place(fault: ParseFault) -> Option<Place>
+    ensures { result ≡ parse_place fault }
+{
+    match fault {
+        ParseFault::SourceTooLong | ParseFault::NoMemory => None,
+        ParseFault::NotText(place) => Some(place),
+        ParseFault::Unexpected(place) => Some(place),
+        ParseFault::BadNumeral(place) => Some(place),
+        ParseFault::BadName(place) => Some(place),
+        ParseFault::Nesting(place) => Some(place),
+        ParseFault::Unclosed(place) => Some(place),
+    }
+}
+
+fn scope_name(fault: ScopeFault) -> &'static str
+    ensures { result.now ≡ scope_name fault }
+{
+    match fault {
+        ScopeFault::Unknown(_) => "Unknown",
+        ScopeFault::Twice(_) => "Twice",
+        ScopeFault::NotWritable(_) => "NotWritable",
+        ScopeFault::Kind(_) => "Kind",
+        ScopeFault::Misplaced(_) => "Misplaced",
+        ScopeFault::Micros(_) => "Micros",
+        ScopeFault::TooMany(_, what) => too_many_name(what),
+        ScopeFault::NoMemory => "NoMemory",
+    }
+}
+
+fn too_many_name(what: What) -> &'static str
+    ensures { result.now ≡ too_many_name what }
+{
+    match what {
+        What::Fields => "TooMany fields",
+        What::Controls => "TooMany controls",
+        What::Locals => "TooMany locals",
+        What::Blocks => "TooMany blocks",
+    }
+}
+
+fn scope_place(fault: ScopeFault) -> Option<Place>
+    ensures { result ≡ scope_place fault }
+{
+    match fault {
+        ScopeFault::Unknown(place) => Some(place),
+        ScopeFault::Twice(place) => Some(place),
+        ScopeFault::NotWritable(place) => Some(place),
+        ScopeFault::Kind(place) => Some(place),
+        ScopeFault::Misplaced(place) => Some(place),
+        ScopeFault::Micros(place) => Some(place),
+        ScopeFault::TooMany(place, _) => Some(place),
+        ScopeFault::NoMemory => None,
+    }
+}

@@ -1,0 +1,76 @@
+//! Cube roots and scaled quotients of whole numbers.
+#![tactic(auto)]
+
+ghost use Rattle.std.specs.Prelude.{◌≡◌, ℕ, ◌+◌, ◌-◌, ◌*◌, ◌/◌, ◌^◌, ◌<◌, ◌≤◌, min};
+ghost use Rattle.int_roots.specs.Roots.{IsCubeRoot, root};
+
+/// The number of bits of a cube root of a number below 2^96.
+const ROOT_BITS: u32 = 32;
+
+/// The cube root of `n`, cut to a whole number: the greatest `k` with `k^3 <= n`.
+///
+/// It is found bit by bit, so the work is the same for every `n`.
+pub fn cbrt(n: u128) -> u64
+    requires { n < 2 ^ 96 }
+    ensures greatest { IsCubeRoot n result }
+    ensures value { result ≡ root n }
+{
+    let mut k: u64 = 0;
+    for bit in (0..ROOT_BITS).rev() {
+        let candidate = k + (1 << bit);
+        if cube(candidate) <= n {
+            k = candidate;
+        }
+    }
+    k
+}
+
+/// The third power of `k`.
+fn cube(k: u64) -> u128
+    requires { k < 2 ^ 32 }
+    ensures { result ≡ k * k * k }
+{
+    let k = u128::from(k);
+    k * k * k
+}
+
+/// `a * b / c`, cut to a whole number, and 2^64 - 1 where that is more.
+pub fn muldiv(a: u64, b: u64, c: u64) -> u64
+    requires { 0 < c }
+    ensures { result ≡ min (a * b / c) (2 ^ 64 - 1) }
+{
+    let quotient = u128::from(a) * u128::from(b) / u128::from(c);
+    quotient.min(u128::from(u64::MAX)) as u64
+}
+
+#[cfg(test)]
+mod tests {
+    use super::*;
+
+    #[test]
+    fn cube_roots_are_cut(rt: HostRuntime) {
+        for (n, root) in [
+            (0, 0),
+            (7, 1),
+            (8, 2),
+            (999_999_999, 999),
+            (1_000_000_000, 1000),
+            ((1 << 96) - 1, 4_294_967_295),
+        ] {
+            assert_eq!(rt; cbrt(n), root, "at {n}");
+        }
+    }
+
+    #[test]
+    fn quotients_are_cut_and_bounded(rt: HostRuntime) {
+        for (a, b, c, quotient) in [
+            (u64::MAX, 2, 1, u64::MAX),
+            (u64::MAX, 2, 4, 9_223_372_036_854_775_807),
+            (u64::MAX, u64::MAX, u64::MAX, u64::MAX),
+            (1448, 1448, 4344, 482),
+            (0, 5, 7, 0),
+        ] {
+            assert_eq!(rt; muldiv(a, b, c), quotient, "at {a} * {b} / {c}");
+        }
+    }
+}

@@ -1,0 +1,3 @@
+pub mod ResetLemmas
+pub mod ValidIsRunnable
+pub mod WorkedCases

@@ -1,0 +1,38 @@
+use Rattle.std.specs.Prelude.{◌≡◌, ℕ, Bool, true, false, if◌then◌else◌, Result, Ok, Err, List, ◌∷◌, length}
+use Rattle.ccp_base.specs.declared.ack.Ack.{Ack}
+use Rattle.portus_core.specs.declared.env.Env.{Env}
+use Rattle.portus_core.specs.declared.env.Mean.{Mean}
+use Rattle.portus_core.specs.declared.env.Mean.TheVariants.{Quiet, Reported, Held, Fault}
+use Rattle.portus_core.specs.declared.program.Decl.{Decl}
+use Rattle.portus_core.specs.Programs.{Form}
+use Rattle.portus_core.specs.Value.{Cause}
+use Rattle.portus_core.specs.Command.{Going}
+use Rattle.portus_core.specs.Blocks.{begun, blocks_of}
+
+-- an env of a program has a number for each field and each control variable that it declares
+pub record IsEnvOf (form : Form) (env : Env) : Type 0 where
+  pub fields : length env.fields ≡ length form.fields
+  pub controls : length env.controls ≡ length form.controls
+
+-- each volatile name with its declared value again
+abbrev pub reset : List Decl → List ℕ → List ℕ
+reset (decl ∷ decls) (value ∷ values) = (if decl.volatile then decl.start else value) ∷ reset decls values
+reset _ values = values
+
+abbrev pub reset_of : Form → Env → Env
+reset_of form env = record env { fields = reset form.fields env.fields; controls = reset form.controls env.controls }
+
+-- a report that was asked for is made where there is room, and held else
+abbrev pub answered : Form → Bool → Bool → Env → Mean × Env
+answered form false room env = (Quiet, env)
+answered form true false env = (Held, env)
+answered form true true env = (Reported env.fields, reset_of form env)
+
+-- a fault leaves all as it was
+abbrev pub settled : Form → Env → Bool → Result Going Cause → Mean × Env
+settled form env room (Ok going) = answered form going.asked room going.env
+settled form env room (Err cause) = (Fault cause.0 cause.1, env)
+
+-- what the program makes of one acknowledgement, where `room` says whether there is room for a report
+abbrev pub one_of : Form → Env → Ack → Bool → Mean × Env
+one_of form env ack room = settled form env room (blocks_of form.blocks ack (begun env))

@@ -1,0 +1,17 @@
+use Rattle.std.specs.Prelude.{◌≡◌, ℕ, Option, Result, Ok, Err, List, slice_get}
+use Rattle.std.specs.Option.{option_flatten}
+use Rattle.portus_core.specs.declared.progress.Progress.{Progress}
+use Rattle.portus_core.specs.Value.{Cause, Locals}
+use Rattle.portus_core.specs.Command.{Going}
+
+-- the locals whose values stand in a list, each at its number
+abbrev pub locals_of : List (Option ℕ) → Locals
+locals_of values i = option_flatten (slice_get values i)
+
+abbrev pub going_of : Progress → Going
+going_of progress = record { env = progress.env; locals = locals_of progress.locals; asked = progress.asked; falls = progress.falls }
+
+-- a run came to where it was meant to, or to the fault that was meant
+abbrev pub IsRun : Result (Unit {0}) Cause → Progress → Result Going Cause → Type 0
+IsRun (Ok done) progress meant = meant ≡ Ok (going_of progress)
+IsRun (Err fault) progress meant = meant ≡ Err fault

@@ -1,0 +1,69 @@
+use Rattle.std.specs.Prelude.{ℕ, ◌-◌, Bool, not, ◌&&◌, ◌||◌, ◌==◌, nat_lt, max, min, Option, None, unwrap_or, Result, Ok, Err, slice_index}
+use Rattle.ccp_base.specs.declared.arithmetic.FaultKind.{FaultKind}
+use Rattle.ccp_base.specs.declared.place.Place.{Place}
+use Rattle.ccp_base.specs.declared.ack.Ack.{Ack}
+use Rattle.ccp_base.specs.Acknowledgement.{number_of, prim}
+use Rattle.ccp_base.specs.CheckedNumbers.{sum_of, difference_of, product_of, quotient_of}
+use Rattle.portus_core.specs.declared.env.Env.{Env}
+use Rattle.portus_core.specs.declared.program.Op2.{Op2}
+use Rattle.portus_core.specs.declared.program.Op2.TheVariants as op
+use Rattle.portus_core.specs.declared.program.Var.{Var}
+use Rattle.portus_core.specs.declared.program.Var.TheVariants as var
+use Rattle.portus_core.specs.Programs.{Term, number, truth, name, pair}
+
+-- a fault, with the place of its operation
+abbrev pub Cause : Type 0
+Cause = FaultKind × Place
+
+-- what comes next, unless there was a fault
+abbrev pub then_do : {A B F : Type 0} → Result A F → (A → Result B F) → Result B F
+then_do (Ok a) next = next a
+then_do (Err fault) next = Err fault
+
+-- the value of each local that has one
+abbrev pub Locals : Type 0
+Locals = ℕ → Option ℕ
+
+abbrev pub no_locals : Locals
+no_locals i = None
+
+-- a number is true where it isn't 0
+abbrev pub is_true : ℕ → Bool
+is_true n = not (n == 0)
+
+-- the operation on two values
+abbrev pub applied : Op2 → ℕ → ℕ → Result ℕ FaultKind
+applied op.Add a b = sum_of a b
+applied op.Sub a b = difference_of a b
+applied op.Mul a b = product_of a b
+applied op.Div a b = quotient_of a b
+applied op.Max a b = Ok (max a b)
+applied op.Min a b = Ok (min a b)
+applied op.Gt a b = Ok (number_of (nat_lt b a))
+applied op.Lt a b = Ok (number_of (nat_lt a b))
+applied op.Eq a b = Ok (number_of (a == b))
+applied op.And a b = Ok (number_of (is_true a && is_true b))
+applied op.Or a b = Ok (number_of (is_true a || is_true b))
+
+-- a fault of an operation, with its place
+abbrev pub at_place : Place → Result ℕ FaultKind → Result ℕ Cause
+at_place place (Ok value) = Ok value
+at_place place (Err kind) = Err (kind, place)
+
+-- the value of a name; `Micros` is the time since time zero, 0 before it
+abbrev pub read_of : Var → Env → Locals → Ack → ℕ
+read_of (var.Field i) env locals ack = slice_index env.fields i
+read_of (var.Control i) env locals ack = slice_index env.controls i
+read_of (var.Local i) env locals ack = unwrap_or (locals i) 0
+read_of var.Cwnd env locals ack = env.cwnd
+read_of var.Rate env locals ack = env.rate
+read_of var.Micros env locals ack = ack.now - env.zero
+read_of (var.Prim n) env locals ack = prim n ack
+
+-- the value of an expression: of an operation both parts are worked out, the left one first
+abbrev pub value_of : Term → Env → Locals → Ack → Result ℕ Cause
+value_of (number n) env locals ack = Ok n
+value_of (truth b) env locals ack = Ok (number_of b)
+value_of (name v) env locals ack = Ok (read_of v env locals ack)
+value_of (pair o place left right) env locals ack =
+    then_do (value_of left env locals ack) (λ a. then_do (value_of right env locals ack) (λ b. at_place place (applied o a b)))

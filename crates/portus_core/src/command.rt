@@ -1,0 +1,67 @@
+ghost use Rattle.std.specs.Prelude.{◌≡◌, ◌≤◌, IsTrue, Ok};
+ghost use Rattle.portus_core.specs.Programs.{action_of};
+ghost use Rattle.portus_core.specs.Runnable.{is_runnable};
+ghost use Rattle.portus_core.specs.Command.{blended, command_of};
+ghost use Rattle.portus_core.specs.Progress.{going_of, IsRun};
+
+use crate::program::Cmd;
+use crate::progress::Progress;
+use crate::value::{Fault, is_true};
+use ccp_base::{Ack, FaultKind, add, div, mul};
+
+/// Runs a command. A condition and a value are both worked out, whatever the condition is.
+pub fn command(cmd: &Cmd, ack: &Ack, progress: &mut Progress) -> Result<(), Fault>
+    requires { IsTrue (is_runnable (action_of cmd.now)) }
+    ensures { IsRun result progress.new (command_of (action_of cmd.now) ack.entry.now (going_of progress.old)) }
+{
+    match cmd {
+        Cmd::Set(var, expr) => {
+            let value = progress.value(expr, ack)?;
+            progress.write(*var, value);
+            Ok(())
+        }
+        Cmd::SetIf(_, var, condition, expr) => {
+            let held = progress.value(condition, ack)?;
+            let value = progress.value(expr, ack)?;
+            progress.write_where(is_true(held), *var, value);
+            Ok(())
+        }
+        Cmd::SetUnless(_, var, condition, expr) => {
+            let held = progress.value(condition, ack)?;
+            let value = progress.value(expr, ack)?;
+            progress.write_where(!is_true(held), *var, value);
+            Ok(())
+        }
+        Cmd::Ewma(place, var, weight, expr) => {
+            let value = progress.value(expr, ack)?;
+            let old = progress.read(*var, ack);
+            let mixed = blended(*weight, old, value).map_err(|kind| (kind, *place))?;
+            progress.write(*var, mixed);
+            Ok(())
+        }
+        Cmd::ZeroMicros => {
+            progress.env.zero = ack.now;
+            Ok(())
+        }
+        Cmd::Report => {
+            progress.asked = true;
+            Ok(())
+        }
+        Cmd::Fall => {
+            progress.falls = true;
+            Ok(())
+        }
+    }
+}
+
+/// A number moved towards a value, with its own weight in tenths; at 0 it becomes the value.
+fn blended(weight: u64, old: u64, value: u64) -> Result<u64, FaultKind>
+    requires { weight ≤ 10 }
+    ensures { result ≡ blended weight old value }
+{
+    if old == 0 {
+        return Ok(value);
+    }
+    let sum = add(mul(weight, old)?, mul(10 - weight, value)?)?;
+    div(sum, 10)
+}

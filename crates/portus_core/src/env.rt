@@ -1,0 +1,72 @@
+ghost use Rattle.std.specs.Prelude.{◌≡◌, IfOk};
+
+use ccp_base::{FaultKind, NoMemory, Numbers, Place, Values};
+use std::alloc::{AllocError, Global};
+
+/// What a program keeps from one acknowledgement to the next.
+#[derive(Debug, Drop)]
+pub struct Env {
+    /// The report fields in order of declaration.
+    pub fields: Numbers,
+    /// The control variables in order of declaration.
+    pub controls: Numbers,
+    /// The congestion window, in bytes.
+    pub cwnd: u64,
+    /// The pacing rate, in bytes a second.
+    pub rate: u64,
+    /// Time zero, in microseconds: `Micros` counts from it.
+    pub zero: u64,
+}
+
+impl Env {
+    /// An equal env in memory of its own.
+    pub(crate) fn copy(&self, alloc: Global) -> Result<Env, NoMemory>
+        ensures { IfOk result (λ env. env ≡ self.now) }
+    {
+        Ok(Env {
+            fields: copy_of(alloc, &self.fields)?,
+            controls: copy_of(alloc, &self.controls)?,
+            cwnd: self.cwnd,
+            rate: self.rate,
+            zero: self.zero,
+        })
+    }
+}
+
+fn copy_of(alloc: Global, numbers: &Numbers) -> Result<Numbers, NoMemory>
+    ensures { IfOk result (λ copy. copy ≡ numbers.now) }
+{
+    Ok(Numbers::from_vec(numbers.as_slice().to_vec(alloc)?))
+}
+
+/// What an acknowledgement comes to.
+#[derive(Clone, Copy, PartialEq, Eq, Debug)]
+pub enum Mean {
+    /// No report was asked for.
+    Quiet,
+    /// A report was made, with these fields in order of declaration.
+    Reported(Values),
+    /// A report was asked for, and there was no room for it.
+    Held,
+    /// An operation had no result. It has the place of its head atom.
+    Fault(FaultKind, Place),
+}
+
+/// Why a program isn't started.
+#[derive(Clone, Copy, PartialEq, Eq, Debug)]
+pub enum StartFault {
+    /// The pair at this place of the values, counted from 0, is the first that names a control variable which
+    /// the program doesn't have.
+    BadRegister(u32),
+    NoMemory,
+}
+
+impl From<AllocError> for StartFault {
+    ghost use Rattle.portus_core.specs.declared.env.StartFault.TheVariants.{NoMemory};
+
+    ghost from_gives = { λ _ e. e ≡ NoMemory };
+
+    fn from(_e: AllocError) -> Self {
+        StartFault::NoMemory
+    }
+}

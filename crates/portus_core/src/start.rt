@@ -1,0 +1,105 @@
+ghost use Rattle.std.specs.Prelude.{◌≡◌, ◌↔◌, ℕ, ◌<◌, IfOk, IfSome, Some, Err, length, map};
+ghost use Rattle.portus_core.specs.declared.program.Decl.{Decl};
+ghost use Rattle.portus_core.specs.ProgramForm.{form_of};
+ghost use Rattle.portus_core.specs.OneAcknowledgement.{IsEnvOf};
+ghost use Rattle.portus_core.specs.Epoch.{with_value, with_values, is_bad, first_bad, declared_env, start_of};
+
+use crate::env::{Env, StartFault};
+use crate::program::{Decl, Program};
+use ccp_base::{FieldReg, Fields, Numbers};
+use std::alloc::{AllocError, Global};
+
+impl Program {
+    /// The env at the start of an epoch: each name has its declared value, and then the values are written in
+    /// order. `cwnd` is in bytes, `rate` in bytes a second; `now` is the time of the flow's last acknowledgement
+    /// in microseconds, 0 where there is none, and becomes time zero.
+    pub fn start(
+        &self,
+        alloc: Global,
+        values: &Fields,
+        cwnd: u64,
+        rate: u64,
+        now: u64,
+    ) -> Result<Env, StartFault>
+        ensures started { IfOk result (λ env. start_of (form_of self.now) values.now cwnd rate now ≡ Ok env) }
+        ensures shape { IfOk result (λ env. IsEnvOf (form_of self.now) env) }
+
+        // A register that isn't there is refused before memory is taken.
+        ensures refused { let meant = start_of (form_of self.now) values.now cwnd rate now in
+            (i : ℕ) → (result ≡ Err (StartFault.BadRegister i)) ↔ (meant ≡ Err (StartFault.BadRegister i)) }
+    {
+        if let Some(i) = first_bad(self.controls.len(), values) {
+            return Err(StartFault::BadRegister(i));
+        }
+        let mut env = self.declared_env(alloc, cwnd, rate, now)?;
+        write_all(&mut env, values);
+        Ok(env)
+    }
+
+    /// Every name with its declared value.
+    fn declared_env(&self, alloc: Global, cwnd: u64, rate: u64, now: u64) -> Result<Env, AllocError>
+        ensures { IfOk result (λ env. env ≡ declared_env (form_of self.now) cwnd rate now) }
+    {
+        Ok(Env {
+            fields: declared_values(alloc, &self.fields)?,
+            controls: declared_values(alloc, &self.controls)?,
+            cwnd,
+            rate,
+            zero: now,
+        })
+    }
+}
+
+/// The place of the first pair that names a control variable past this many.
+fn first_bad(controls: usize, values: &Fields) -> Option<u32>
+    ensures { result ≡ first_bad controls values.now }
+{
+    let place = place_of_bad(controls, values.as_slice())?;
+    Some(place as u32)
+}
+
+fn place_of_bad(controls: usize, pairs: &[(FieldReg, u64)]) -> Option<usize>
+    ensures place { result ≡ first_bad controls pairs.now }
+    ensures within { IfSome result (λ i. i < length pairs.now) }
+{
+    pairs.iter().position(|pair| is_bad(controls, pair.0))
+}
+
+fn is_bad(controls: usize, reg: FieldReg) -> bool
+    ensures { result ≡ is_bad controls reg }
+{
+    match reg {
+        FieldReg::Control(i) => usize::from(i) >= controls,
+        FieldReg::Cwnd | FieldReg::Rate => false,
+    }
+}
+
+fn declared_values(alloc: Global, decls: &[Decl]) -> Result<Numbers, AllocError>
+    ensures { IfOk result (λ values. values ≡ map (λ (decl : Decl). decl.start) decls.now) }
+{
+    let values: Vec<u64> = decls.iter().map(|decl| decl.start).collect(alloc)?;
+    Ok(Numbers::from_vec(values))
+}
+
+/// Writes the values in order. A control variable that isn't there isn't written.
+fn write_all(env: &mut Env, values: &Fields)
+    ensures { env.new ≡ with_values values.now env.old }
+{
+    for (reg, value) in values.as_slice() {
+        write(env, *reg, *value);
+    }
+}
+
+fn write(env: &mut Env, reg: FieldReg, value: u64)
+    ensures { env.new ≡ with_value reg value env.old }
+{
+    match reg {
+        FieldReg::Cwnd => env.cwnd = value,
+        FieldReg::Rate => env.rate = value,
+        FieldReg::Control(i) => {
+            if usize::from(i) < env.controls.len() {
+                env.controls.set(usize::from(i), value);
+            }
+        }
+    }
+}

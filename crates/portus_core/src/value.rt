@@ -1,0 +1,99 @@
+ghost use Rattle.std.specs.Prelude.{◌≡◌, slice_index, unwrap_or};
+ghost use Rattle.ccp_base.specs.Acknowledgement.{prim};
+ghost use Rattle.portus_core.specs.Programs.{term_of};
+ghost use Rattle.portus_core.specs.Value.{is_true, applied, read_of, value_of};
+ghost use Rattle.portus_core.specs.Progress.{locals_of};
+
+use crate::env::Env;
+use crate::program::{Expr, Op2, Var};
+use ccp_base::{Ack, FaultKind, PRIMITIVES, Place, add, bool_number, div, mul, prim, sub};
+
+/// An operation that has no result, with the place of its head atom.
+pub type Fault = (FaultKind, Place);
+
+/// The values of a body's locals by number, None before their first assignment.
+pub type Locals = [Option<u64>; 8];
+
+/// The value of an expression. Both parts of an operation are worked out, the left one first, and the first
+/// fault is the answer.
+#[tactic(auto, using(crate::specs::Programs::terms))]
+pub fn value(expr: &Expr, env: &Env, locals: &Locals, ack: &Ack) -> Result<u64, Fault>
+    ensures { result ≡ value_of (term_of expr.now) env.now (locals_of locals.now) ack.entry.now }
+{
+    match expr {
+        Expr::Num(number) => Ok(*number),
+        Expr::Truth(truth) => Ok(bool_number(*truth)),
+        Expr::Var(var) => Ok(read(*var, env, locals, ack)),
+        Expr::Pair(op, place, left, right) => {
+            let a = value(left, env, locals, ack)?;
+            let b = value(right, env, locals, ack)?;
+            applied(*op, a, b).map_err(|kind| (kind, *place))
+        }
+    }
+}
+
+/// The value of a name, 0 where the name stands for nothing.
+pub fn read(var: Var, env: &Env, locals: &Locals, ack: &Ack) -> u64
+    ensures { result ≡ read_of var env.now (locals_of locals.now) ack.entry.now }
+{
+    match var {
+        Var::Field(i) => number_at(env.fields.as_slice(), i),
+        Var::Control(i) => number_at(env.controls.as_slice(), i),
+        Var::Local(i) => local_at(locals, i),
+        Var::Cwnd => env.cwnd,
+        Var::Rate => env.rate,
+        Var::Micros => ack.now.saturating_sub(env.zero),
+        Var::Prim(n) => prim_at(ack, n),
+    }
+}
+
+fn number_at(numbers: &[u64], i: u32) -> u64
+    ensures { result ≡ slice_index numbers.now i }
+{
+    if (i as usize) < numbers.len() {
+        numbers[i as usize]
+    } else {
+        0
+    }
+}
+
+fn local_at(locals: &Locals, i: u32) -> u64
+    ensures { result ≡ unwrap_or (locals_of locals.now i) 0 }
+{
+    if (i as usize) < locals.len() {
+        locals[i as usize].unwrap_or(0)
+    } else {
+        0
+    }
+}
+
+fn prim_at(ack: &Ack, n: u32) -> u64
+    ensures { result ≡ prim n ack.entry.now }
+{
+    if n < PRIMITIVES { prim(ack, n) } else { 0 }
+}
+
+fn applied(op: Op2, a: u64, b: u64) -> Result<u64, FaultKind>
+    ensures { result ≡ applied op a b }
+{
+    match op {
+        Op2::Add => add(a, b),
+        Op2::Sub => sub(a, b),
+        Op2::Mul => mul(a, b),
+        Op2::Div => div(a, b),
+        Op2::Max => Ok(a.max(b)),
+        Op2::Min => Ok(a.min(b)),
+        Op2::Gt => Ok(bool_number(a > b)),
+        Op2::Lt => Ok(bool_number(a < b)),
+        Op2::Eq => Ok(bool_number(a == b)),
+        Op2::And => Ok(bool_number(is_true(a) && is_true(b))),
+        Op2::Or => Ok(bool_number(is_true(a) || is_true(b))),
+    }
+}
+
+/// A number is true where it isn't 0.
+pub fn is_true(number: u64) -> bool
+    ensures { result ≡ is_true number }
+{
+    number != 0
+}

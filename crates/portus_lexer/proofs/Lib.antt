@@ -1,0 +1,7 @@
+pub mod ByteKinds
+pub mod Divisions
+pub mod Scans
+pub mod Uniqueness
+pub mod StrayScans
+pub mod Slices
+pub mod Laws

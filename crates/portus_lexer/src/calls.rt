@@ -1,0 +1,99 @@
+ghost use Rattle.std.specs.Prelude.{◌≡◌, ◌≤◌, List, length, IfOk, IfErr, OnOk};
+ghost use Rattle.portus_lexer.specs.declared.token.Token.{Token};
+ghost use Rattle.portus_lexer.specs.declared.within.Within.TheVariants.{Gap};
+ghost use Rattle.portus_lexer.specs.Places.{first_place};
+ghost use Rattle.portus_lexer.specs.Lexemes.{AreTokens};
+ghost use Rattle.portus_lexer.specs.Strays.{stray_of, HasCause};
+ghost use Rattle.portus_lexer.specs.Scanning.{scan, EndsScan};
+
+use crate::scan::Scan;
+use crate::token::{LexFault, Tokens};
+use std::alloc::Global;
+
+/// The tokens that one pass over the text finds.
+fn scanned(alloc: Global, text: &[u8]) -> Result<Tokens, LexFault>
+    requires { length text.now ≤ 65536 }
+    ensures found { IfOk result (λ tokens. scan Gap first_place 0 text.now ≡ Ok tokens) }
+    ensures refused { IfErr result (EndsScan (scan Gap first_place 0 text.now)) }
+{
+    let mut tokens = Tokens::new(alloc);
+    let mut scan = Scan::start();
+    for byte in text {
+        scan = scan.read(&mut tokens, *byte)?;
+    }
+    scan.close(&mut tokens)?;
+    Ok(tokens)
+}
+
+/// The tokens of a text in order, each with its span. The text has at most 65,536 bytes.
+#[tactic(auto, using(crate::proofs::Laws::exact))]
+pub fn tokens(alloc: Global, text: &[u8]) -> Result<Tokens, LexFault>
+    requires { length text.now ≤ 65536 }
+    ensures found { IfOk result (AreTokens text.now) }
+
+    // A text has one list of tokens.
+    ensures only { IfOk result (λ tokens. (others : List Token) → AreTokens text.now others → others ≡ tokens) }
+
+    // The place of the first byte outside comments that isn't allowed there is answered where there is one.
+    ensures clean { OnOk result (stray_of text.now ≡ None) }
+    ensures refused { IfErr result (HasCause text.now) }
+{
+    scanned(alloc, text)
+}
+
+#[cfg(test)]
+mod tests {
+    use super::*;
+    use crate::token::Token;
+    use ccp_base::Place;
+    use std::test::Fail;
+
+    fn token(line: u32, column: u32, start: u32, end: u32) -> Token {
+        Token {
+            place: Place { line, column },
+            start,
+            end,
+        }
+    }
+
+    #[test]
+    fn tokens_have_places_and_spans(rt: HostRuntime) -> Result<(), Fail> {
+        let tokens = tokens(rt.alloc(), b"(ab#\x00(\n\t) \x7e\r\nc")?;
+        let want = [
+            token(1, 1, 0, 1),
+            token(1, 2, 1, 3),
+            token(2, 2, 8, 9),
+            token(2, 4, 10, 11),
+            token(3, 1, 13, 14),
+        ];
+        assert_eq!(rt; tokens.as_slice(), want.as_slice());
+        Ok(())
+    }
+
+    #[test]
+    fn the_first_byte_that_is_no_text_is_answered(rt: HostRuntime) {
+        let cases: [(&[u8], Option<LexFault>); 6] = [
+            (b"", None),
+            (b"#\xff", None),
+            (
+                b"a\x1f\x00",
+                Some(LexFault::NotText(Place { line: 1, column: 2 })),
+            ),
+            (
+                b"#\x7f\n \x7f",
+                Some(LexFault::NotText(Place { line: 2, column: 2 })),
+            ),
+            (
+                b"#\r\x00\n\n\x0b",
+                Some(LexFault::NotText(Place { line: 3, column: 1 })),
+            ),
+            (
+                b"\t\n\r ~\xff",
+                Some(LexFault::NotText(Place { line: 2, column: 4 })),
+            ),
+        ];
+        for (text, want) in cases {
+            assert_eq!(rt; tokens(rt.alloc(), text).err(), want, "at {text:?}");
+        }
+    }
+}

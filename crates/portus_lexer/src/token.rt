@@ -1,0 +1,36 @@
+ghost use Rattle.std.specs.Prelude.{◌≡◌};
+ghost use Rattle.portus_lexer.specs.declared.token.LexFault.TheVariants.{NoMemory};
+
+use ccp_base::{Place, Sequence};
+use std::alloc::AllocError;
+
+/// The longest text, in bytes.
+pub const TEXT_BYTES: usize = 65536;
+
+/// A parenthesis or an atom of a text: its place, and its bytes from `start` to `end`, which is left out.
+/// `start` and `end` count the text's bytes from 0.
+#[derive(Clone, Copy, Debug, PartialEq, Eq)]
+pub struct Token {
+    pub place: Place,
+    pub start: u32,
+    pub end: u32,
+}
+
+/// The tokens of a text, in order.
+pub type Tokens = Sequence<Token>;
+
+/// Why a text has no tokens.
+#[derive(Clone, Copy, Debug, PartialEq, Eq)]
+pub enum LexFault {
+    /// A byte outside comments isn't tab, LF, CR or one of 0x20 to 0x7E. The place is that of the first one.
+    NotText(Place),
+    NoMemory,
+}
+
+impl From<AllocError> for LexFault {
+    ghost from_gives = { λ _ fault. fault ≡ NoMemory };
+
+    fn from(_error: AllocError) -> Self {
+        LexFault::NoMemory
+    }
+}

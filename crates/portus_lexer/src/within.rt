@@ -1,0 +1,10 @@
+use ccp_base::Place;
+
+/// What the next byte of a text lies in.
+#[derive(Clone, Copy)]
+pub enum Within {
+    Gap,
+    Comment,
+    /// An atom that began at this place, with the byte of this number.
+    Atom(Place, u32),
+}

@@ -1,0 +1,10 @@
+pub mod Numerals
+pub mod Frames
+pub mod Joins
+pub mod Turns
+pub mod Spelled
+pub mod Finishes
+pub mod FirstFaults
+pub mod Lexical
+pub mod Exact
+mod Rows

@@ -1,0 +1,7 @@
+use Rattle.std.proofs.Common.{◌≡◌, Ok, map, drop}
+use Rattle.portus_parser.specs.Readings.{read, unread, lexeme_in, reading_of}
+use Rattle.portus_parser.proofs.reading.read.Given as goal
+
+abbrev pub invariant-loop-token : goal.invariant-loop-token
+invariant-loop-token l =
+    read (Ok (reading_of l.frames.items l.parts.items)) (map (lexeme_in l.text) (drop l.token-index l.tokens)) ≡ read unread (map (lexeme_in l.text) l.tokens)

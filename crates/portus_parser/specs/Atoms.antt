@@ -1,0 +1,69 @@
+use Rattle.std.specs.Prelude.{ℕ, ◌+◌, ◌-◌, ◌*◌, ◌^◌, Bool, false, ◌&&◌, ◌||◌, ◌==◌, nat_lt, nat_le, Option, Some, None, Result, Ok, Err, if◌then◌else◌, List, [], ◌∷◌, length, codes}
+use Rattle.std.specs.List.{list_all}
+use Rattle.std.specs.Str.{bytes_eq}
+use Rattle.ccp_base.specs.declared.place.Place.{Place}
+use Rattle.portus_core.specs.Trees.{Node, number, word}
+use Rattle.portus_parser.specs.declared.fault.ParseFault.{ParseFault}
+use Rattle.portus_parser.specs.declared.fault.ParseFault.TheVariants.{BadNumeral, BadName}
+
+abbrev pub is_digit : ℕ → Bool
+is_digit b = nat_le 48 b && nat_le b 57
+
+-- a letter or `_`
+abbrev pub is_initial : ℕ → Bool
+is_initial b = (nat_le 97 b && nat_le b 122) || (nat_le 65 b && nat_le b 90) || b == 95
+
+-- a letter, `_`, a digit or `.`
+abbrev pub is_name_byte : ℕ → Bool
+is_name_byte b = is_initial b || is_digit b || b == 46
+
+abbrev pub begins_as_name : List ℕ → Bool
+begins_as_name [] = false
+begins_as_name (b ∷ rest) = is_initial b
+
+-- whether the text is shaped as a name
+abbrev pub is_named : List ℕ → Bool
+is_named text = begins_as_name text && list_all is_name_byte text
+
+-- whether the text is one of the words that aren't shaped as a name
+abbrev pub is_mark : List ℕ → Bool
+is_mark text =
+    bytes_eq text (codes "+") || bytes_eq text (codes "-") || bytes_eq text (codes "*") || bytes_eq text (codes "/")
+    || bytes_eq text (codes ">") || bytes_eq text (codes "<") || bytes_eq text (codes "==") || bytes_eq text (codes "&&")
+    || bytes_eq text (codes "||") || bytes_eq text (codes ":=") || bytes_eq text (codes "!if") || bytes_eq text (codes "+infinity")
+
+-- whether the text is a word
+abbrev pub is_word : List ℕ → Bool
+is_word text = (is_named text || is_mark text) && nat_le (length text) 64
+
+-- the number that has these decimal digits after those of another number
+abbrev pub decimal_from : ℕ → List ℕ → ℕ
+decimal_from value [] = value
+decimal_from value (b ∷ rest) = decimal_from (value * 10 + (b - 48)) rest
+
+-- the number with one more digit at its end, where the byte is a digit and the number is below 2^64
+abbrev pub shifted : ℕ → ℕ → Option ℕ
+shifted value b = if is_digit b && nat_lt (value * 10 + (b - 48)) (2 ^ 64) then Some (value * 10 + (b - 48)) else None
+
+-- the number that has these digits after those of another, where the text is digits alone and the number is below 2^64
+abbrev pub numeral_from : ℕ → List ℕ → Option ℕ
+numeral_from value text =
+    if list_all is_digit text && nat_lt (decimal_from value text) (2 ^ 64) then Some (decimal_from value text) else None
+
+abbrev pub numeral_of : List ℕ → Option ℕ
+numeral_of text = numeral_from 0 text
+
+abbrev pub begins_with_digit : List ℕ → Bool
+begins_with_digit [] = false
+begins_with_digit (b ∷ rest) = is_digit b
+
+abbrev pub number_at : Place → Option ℕ → Result Node ParseFault
+number_at place (Some value) = Ok (number place value)
+number_at place None = Err (BadNumeral place)
+
+-- what an atom stands for: its value where it is a numeral, and itself where it is a word
+abbrev pub atom_of : Place → List ℕ → Result Node ParseFault
+atom_of place text =
+    if begins_with_digit text
+    then number_at place (numeral_of text)
+    else (if is_word text then Ok (word place text) else Err (BadName place))

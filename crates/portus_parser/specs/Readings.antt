@@ -1,0 +1,94 @@
+-- The words of the private contracts: what the stack of open lists and the parts so far become, lexeme by lexeme.
+-- What a text spells and is refused by stands in Spelling and Refusals, apart from these.
+use Rattle.std.specs.Prelude.{◌≡◌, ℕ, nat_le, Result, Ok, Err, if◌then◌else◌, List, [], ◌∷◌, ◌++◌, length, map}
+use Rattle.ccp_base.specs.declared.place.Place.{Place}
+use Rattle.portus_core.specs.declared.tree.Tree.{Tree}
+use Rattle.portus_core.specs.Trees.{Node, list, collected, node_of}
+use Rattle.portus_lexer.specs.declared.token.Token.{Token}
+use Rattle.portus_lexer.specs.Lexemes.{Lexeme, slice_of}
+use Rattle.portus_parser.specs.declared.fault.ParseFault.{ParseFault}
+use Rattle.portus_parser.specs.declared.fault.ParseFault.TheVariants.{Unexpected, Nesting, Unclosed, NoMemory}
+use Rattle.portus_parser.specs.declared.frame.Frame.{Frame}
+use Rattle.portus_parser.specs.Atoms.{atom_of}
+use Rattle.portus_parser.specs.Refusals.{is_opening, is_closing}
+
+-- a list that is open: its place, and the parts that its own list had before it
+pub record Opened : Type 0 where
+  pub place : Place
+  pub before : List Node
+
+-- the open lists, the innermost one first, and its parts so far
+pub record Reading : Type 0 where
+  pub opens : List Opened
+  pub parts : List Node
+
+abbrev pub opened_at : Place → Reading → Result Reading ParseFault
+opened_at place reading =
+    if nat_le 64 (length reading.opens)
+    then Err (Nesting place)
+    else Ok (record { opens = record { place = place; before = reading.parts } ∷ reading.opens; parts = [] })
+
+abbrev pub closed_over : Place → List Opened → List Node → Result Reading ParseFault
+closed_over place [] parts = Err (Unexpected place)
+closed_over place (opened ∷ opens) parts = Ok (record { opens = opens; parts = opened.before ++ list opened.place (collected parts) ∷ [] })
+
+abbrev pub with_part : Reading → Result Node ParseFault → Result Reading ParseFault
+with_part reading (Ok node) = Ok (record { opens = reading.opens; parts = reading.parts ++ node ∷ [] })
+with_part reading (Err fault) = Err fault
+
+abbrev pub put_in : Place → List ℕ → Reading → List Opened → Result Reading ParseFault
+put_in place text reading [] = Err (Unexpected place)
+put_in place text reading (opened ∷ opens) = with_part reading (atom_of place text)
+
+-- the reading after a lexeme
+abbrev pub turn_of : Reading → Place → List ℕ → Result Reading ParseFault
+turn_of reading place text =
+    if is_opening text
+    then opened_at place reading
+    else (if is_closing text then closed_over place reading.opens reading.parts else put_in place text reading reading.opens)
+
+abbrev pub finished : List Opened → List Node → Result (List Node) ParseFault
+finished [] parts = Ok parts
+finished (opened ∷ opens) parts = Err (Unclosed opened.place)
+
+abbrev pub turn_on : Result Reading ParseFault → Lexeme → Result Reading ParseFault
+turn_on (Ok reading) lexeme = turn_of reading lexeme.place lexeme.text
+turn_on (Err fault) lexeme = Err fault
+
+abbrev pub finish : Result Reading ParseFault → Result (List Node) ParseFault
+finish (Ok reading) = finished reading.opens reading.parts
+finish (Err fault) = Err fault
+
+-- the forms that the reading ends with
+abbrev pub read : Result Reading ParseFault → List Lexeme → Result (List Node) ParseFault
+read reading [] = finish reading
+read reading (lexeme ∷ rest) = read (turn_on reading lexeme) rest
+
+-- before the first lexeme
+abbrev pub unread : Result Reading ParseFault
+unread = Ok (record { opens = []; parts = [] })
+
+abbrev pub opened_of : Frame → Opened
+opened_of frame = record { place = frame.place; before = map node_of frame.before.items }
+
+-- frames as open lists, before others
+abbrev pub stacked : List Opened → List Frame → List Opened
+stacked opens [] = opens
+stacked opens (frame ∷ rest) = stacked (opened_of frame ∷ opens) rest
+
+-- what frames and the parts so far stand for
+abbrev pub reading_of : List Frame → List Tree → Reading
+reading_of frames parts = record { opens = stacked [] frames; parts = map node_of parts }
+
+-- a token with its bytes
+abbrev pub lexeme_in : List ℕ → Token → Lexeme
+lexeme_in text token = record { place = token.place; start = token.start; text = slice_of text token }
+
+-- a fault is the outcome's, but for want of memory
+abbrev pub EndsTurn : Result Reading ParseFault → ParseFault → Type 0
+EndsTurn outcome NoMemory = Unit {0}
+EndsTurn outcome fault = outcome ≡ Err fault
+
+abbrev pub EndsReading : Result (List Node) ParseFault → ParseFault → Type 0
+EndsReading outcome NoMemory = Unit {0}
+EndsReading outcome fault = outcome ≡ Err fault

@@ -1,0 +1,139 @@
+ghost use Rattle.std.specs.Prelude.{◌≡◌, ◌&&◌, IsTrue, IfOk, IfErr, Ok, Err, Some, None, if◌then◌else◌};
+ghost use Rattle.std.specs.Str.{bytes_eq};
+ghost use Rattle.std.specs.List.{list_all};
+ghost use Rattle.portus_core.specs.Trees.{node_of};
+ghost use Rattle.portus_parser.specs.Atoms.{is_digit, is_initial, is_name_byte, is_named, is_mark, is_word, numeral_of, begins_with_digit, begins_as_name, atom_of, shifted};
+
+use crate::fault::ParseFault;
+use ccp_base::{Name, Place};
+use portus_core::Tree;
+
+/// Whether the byte is a decimal digit.
+fn is_digit(byte: u8) -> bool
+    ensures { result ≡ is_digit byte }
+{
+    byte >= b'0' && byte <= b'9'
+}
+
+/// Whether the byte begins a name: a letter or `_`.
+fn is_initial(byte: u8) -> bool
+    ensures { result ≡ is_initial byte }
+{
+    (byte >= b'a' && byte <= b'z') || (byte >= b'A' && byte <= b'Z') || byte == b'_'
+}
+
+/// Whether the byte belongs to a name: a letter, `_`, a digit or `.`.
+fn is_name_byte(byte: u8) -> bool
+    ensures { result ≡ is_name_byte byte }
+{
+    is_initial(byte) || is_digit(byte) || byte == b'.'
+}
+
+/// Whether the text begins with a digit.
+fn begins_with_digit(text: &[u8]) -> bool
+    ensures { result ≡ begins_with_digit text.now }
+{
+    match text.first() {
+        Some(first) => is_digit(*first),
+        None => false,
+    }
+}
+
+/// Whether the text begins as a name.
+fn begins_as_name(text: &[u8]) -> bool
+    ensures { result ≡ begins_as_name text.now }
+{
+    match text.first() {
+        Some(first) => is_initial(*first),
+        None => false,
+    }
+}
+
+/// Whether each byte of the text belongs to a name.
+fn are_name_bytes(text: &[u8]) -> bool
+    ensures { result ≡ list_all is_name_byte text.now }
+{
+    text.iter().all(|byte| is_name_byte(*byte))
+}
+
+/// Whether the text is shaped as a name.
+fn is_named(text: &[u8]) -> bool
+    ensures { result ≡ is_named text.now }
+{
+    begins_as_name(text) && are_name_bytes(text)
+}
+
+/// Whether two texts are equal.
+pub fn same(left: &[u8], right: &[u8]) -> bool
+    ensures { result ≡ bytes_eq left.now right.now }
+{
+    left == right
+}
+
+/// Whether the text is one of the words that aren't shaped as a name.
+fn is_mark(text: &[u8]) -> bool
+    ensures { result ≡ is_mark text.now }
+{
+    same(text, b"+")
+        || same(text, b"-")
+        || same(text, b"*")
+        || same(text, b"/")
+        || same(text, b">")
+        || same(text, b"<")
+        || same(text, b"==")
+        || same(text, b"&&")
+        || same(text, b"||")
+        || same(text, b":=")
+        || same(text, b"!if")
+        || same(text, b"+infinity")
+}
+
+/// The number with one more digit at its end; None where the byte is no digit, or the number is 2^64 or more.
+fn shifted(value: u64, byte: u8) -> Option<u64>
+    ensures { result ≡ shifted value byte }
+{
+    if !is_digit(byte) {
+        return None;
+    }
+    value.checked_mul(10)?.checked_add(u64::from(byte - b'0'))
+}
+
+/// The value of decimal digits; None where there is another byte, or the value is 2^64 or more.
+fn numeral(text: &[u8]) -> Option<u64>
+    ensures { result ≡ numeral_of text.now }
+{
+    let mut value: u64 = 0;
+    for byte in text {
+        value = shifted(value, *byte)?;
+    }
+    Some(value)
+}
+
+/// The word that is this text; None where it is none.
+fn word(text: &[u8]) -> Option<Name>
+    ensures { result ≡ (if is_word text.now then Some text.now else None) }
+{
+    if is_named(text) || is_mark(text) {
+        Name::new(text)
+    } else {
+        None
+    }
+}
+
+/// The tree of an atom.
+pub fn atom(place: Place, text: &[u8]) -> Result<Tree, ParseFault>
+    ensures tree { IfOk result (λ tree. atom_of place text.now ≡ Ok (node_of tree)) }
+    ensures refused { IfErr result (λ fault. atom_of place text.now ≡ Err fault) }
+{
+    if begins_with_digit(text) {
+        match numeral(text) {
+            Some(value) => Ok(Tree::Num(place, value)),
+            None => Err(ParseFault::BadNumeral(place)),
+        }
+    } else {
+        match word(text) {
+            Some(name) => Ok(Tree::Word(place, name)),
+            None => Err(ParseFault::BadName(place)),
+        }
+    }
+}

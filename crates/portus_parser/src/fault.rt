@@ -1,0 +1,55 @@
+ghost use Rattle.std.specs.Prelude.{◌≡◌};
+ghost use Rattle.portus_parser.specs.LexFaults.{lex_fault};
+ghost use Rattle.portus_parser.specs.declared.fault.ParseFault.TheVariants.{NoMemory};
+
+use ccp_base::Place;
+use portus_lexer::LexFault;
+use std::alloc::{AllocError, AllocFailed};
+
+/// Why a text can't be read. The first cause in this order is the one that is answered; of the four from
+/// `Unexpected` to `Nesting` it is the first in the text, and `Unexpected` where two have one place.
+#[derive(Clone, Copy, Debug, PartialEq, Eq)]
+pub enum ParseFault {
+    /// The text is longer than 65,536 bytes.
+    SourceTooLong,
+    /// A byte outside comments isn't tab, LF, CR or one of 0x20 to 0x7E. The place is that of the first one.
+    NotText(Place),
+    /// A `)` closes nothing, or an atom stands outside all lists.
+    Unexpected(Place),
+    /// An atom begins with a digit and isn't decimal digits with a value below 2^64.
+    BadNumeral(Place),
+    /// An atom doesn't begin with a digit and isn't a word of the language, which has at most 64 bytes.
+    BadName(Place),
+    /// A `(` stands inside 64 open lists.
+    Nesting(Place),
+    /// The list that was opened last of those that the text leaves open. The place is that of its `(`.
+    Unclosed(Place),
+    NoMemory,
+}
+
+impl From<AllocError> for ParseFault {
+    ghost from_gives = { λ _ fault. fault ≡ NoMemory };
+
+    fn from(_error: AllocError) -> Self {
+        ParseFault::NoMemory
+    }
+}
+
+impl<T: Drop> From<AllocFailed<T>> for ParseFault {
+    ghost from_gives = { λ _ fault. fault ≡ NoMemory };
+
+    fn from(_error: AllocFailed<T>) -> Self {
+        ParseFault::NoMemory
+    }
+}
+
+impl From<LexFault> for ParseFault {
+    ghost from_gives = { λ fault result. result ≡ lex_fault fault };
+
+    fn from(fault: LexFault) -> Self {
+        match fault {
+            LexFault::NotText(place) => ParseFault::NotText(place),
+            LexFault::NoMemory => ParseFault::NoMemory,
+        }
+    }
+}

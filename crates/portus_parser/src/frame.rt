@@ -1,0 +1,9 @@
+use ccp_base::Place;
+use portus_core::Tree;
+
+/// A list that is open: the place of its `(`, and the parts that its own list had before it.
+#[derive(Drop)]
+pub struct Frame {
+    pub place: Place,
+    pub before: Vec<Tree>,
+}

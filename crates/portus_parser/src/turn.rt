@@ -1,0 +1,102 @@
+ghost use Rattle.std.specs.Prelude.{◌≡◌, IfOk, IfErr, Ok, [], length};
+ghost use Rattle.portus_core.specs.Trees.{node_of};
+ghost use Rattle.portus_parser.specs.Refusals.{is_opening, is_closing};
+ghost use Rattle.portus_parser.specs.Readings.{opened_at, closed_over, put_in, turn_of, reading_of, EndsTurn};
+
+use crate::atom::{atom, same};
+use crate::fault::ParseFault;
+use crate::frame::Frame;
+use ccp_base::Place;
+use portus_core::Tree;
+use std::alloc::Global;
+
+/// The most lists that may lie inside one another.
+pub const DEPTH: usize = 64;
+
+/// Opens a list: the parts so far wait in a frame, and the list's own ones begin.
+fn open(
+    alloc: Global,
+    frames: &mut Vec<Frame>,
+    parts: Vec<Tree>,
+    place: Place,
+) -> Result<Vec<Tree>, ParseFault>
+    ensures ok { IfOk result (λ own.
+        opened_at place (reading_of frames.old.items parts.items) ≡ Ok (reading_of frames.new.items own.items)) }
+    ensures err { IfErr result (EndsTurn (opened_at place (reading_of frames.old.items parts.items))) }
+{
+    if frames.len() >= DEPTH {
+        return Err(ParseFault::Nesting(place));
+    }
+    frames.push(Frame {
+        place,
+        before: parts,
+    })?;
+    Ok(Vec::new(alloc))
+}
+
+/// Closes the list that was opened last: it becomes a part of its own list.
+fn close(frames: &mut Vec<Frame>, parts: Vec<Tree>, place: Place) -> Result<Vec<Tree>, ParseFault>
+    ensures ok { let reading = reading_of frames.old.items parts.items in
+        IfOk result (λ own.
+        closed_over place reading.opens reading.parts ≡ Ok (reading_of frames.new.items own.items)) }
+    ensures err { let reading = reading_of frames.old.items parts.items in
+        IfErr result (EndsTurn (closed_over place reading.opens reading.parts)) }
+{
+    match frames.pop() {
+        Some(frame) => {
+            let Frame {
+                place: opened,
+                mut before,
+            } = frame;
+            before.push(Tree::List(opened, parts))?;
+            Ok(before)
+        }
+        None => Err(ParseFault::Unexpected(place)),
+    }
+}
+
+/// Puts an atom at the end of the parts of the list that was opened last.
+fn put(
+    frames: &[Frame],
+    mut parts: Vec<Tree>,
+    place: Place,
+    text: &[u8],
+) -> Result<Vec<Tree>, ParseFault>
+    ensures ok { let reading = reading_of frames.now parts.items in
+        IfOk result (λ own. put_in place text.now reading reading.opens ≡ Ok (reading_of frames.now own.items)) }
+    ensures err { let reading = reading_of frames.now parts.items in
+        IfErr result (EndsTurn (put_in place text.now reading reading.opens)) }
+{
+    if frames.is_empty() {
+        return Err(ParseFault::Unexpected(place));
+    }
+    match atom(place, text) {
+        Ok(tree) => {
+            parts.push(tree)?;
+            Ok(parts)
+        }
+        Err(fault) => Err(fault),
+    }
+}
+
+/// Reads a token, given the frames of the open lists and the parts so far of the list that was opened last.
+pub fn turn(
+    alloc: Global,
+    frames: &mut Vec<Frame>,
+    parts: Vec<Tree>,
+    place: Place,
+    text: &[u8],
+) -> Result<Vec<Tree>, ParseFault>
+    ensures ok { IfOk result (λ own.
+        turn_of (reading_of frames.old.items parts.items) place text.now
+        ≡ Ok (reading_of frames.new.items own.items)) }
+    ensures err { IfErr result (EndsTurn (turn_of (reading_of frames.old.items parts.items) place text.now)) }
+{
+    if same(text, b"(") {
+        open(alloc, frames, parts, place)
+    } else if same(text, b")") {
+        close(frames, parts, place)
+    } else {
+        put(frames.as_slice(), parts, place, text)
+    }
+}

@@ -1,0 +1,68 @@
+-- The words of a slot, when words of a region are written.
+use Rattle.std.proofs.Common.{◌≡◌, ◌≢◌, ℕ, ◌+◌, ◌*◌, ◌<◌, ◌≤◌, List, length, get_or, set, take, drop, sym, ap, ◌∙◌, inl, inr, arith}
+use Rattle.std.proofs.Math.Nat.{mul-le-mul_right}
+use Rattle.std.proofs.Math.Seq.{take-set-lt}
+use Rattle.std.proofs.lemmas.Bool.{cases_order}
+use Rattle.std.proofs.lemmas.List.{drop-set-add, drop-set-lt, take-set-le, drop-take, get_or-take, get_or-drop, drop_at, take_at, length-take-le, length-append, length-take, length-drop}
+use Rattle.std.proofs.lemmas.Slice.{take-put_mid_below, drop-put_mid}
+use borrow.Rule.Slice.PartMut.{put_mid}
+use Rattle.slot_pool.specs.Region.{words_in}
+
+-- a slot ends before each later one begins
+pub slots_in_order : (words a b : ℕ) → a < b → a * words + words ≤ b * words
+slots_in_order words a b h = omega (arith, mul-le-mul_right words (suc_le a b h))
+  where
+    suc_le : (a b : ℕ) → a < b → a + 1 ≤ b
+    suc_le a b h = omega arith
+
+-- the first word of a slot
+pub first_word : (region : List ℕ) (words slot : ℕ) → 0 < words → get_or (words_in region words slot) 0 0 ≡ get_or region (slot * words) 0
+first_word region words slot h =
+    get_or-take words (drop (slot * words) region) 0 0 h ∙ get_or-drop (slot * words) region 0 0 ∙ ap (λ i. get_or region i 0) (omega arith)
+
+-- a slot has so many words
+pub length-words_in : (region : List ℕ) (words slot : ℕ) → slot * words + words ≤ length region → length (words_in region words slot) ≡ words
+length-words_in region words slot room = simp (length-take, length-drop) (omega arith)
+
+-- after a write within a slot
+pub words_in-set : (region : List ℕ) (words slot at word : ℕ) → at < words → words_in (set region (slot * words + at) word) words slot ≡ set (words_in region words slot) at word
+words_in-set region words slot at word h =
+    ap (take words) (drop-set-add (slot * words) region at word) ∙ take-set-lt words (drop (slot * words) region) at word h
+
+pub words_in-set_other : (region : List ℕ) (words slot at word other : ℕ) → at < words → other ≢ slot → words_in (set region (slot * words + at) word) words other ≡ words_in region words other
+words_in-set_other region words slot at word other h apart =
+    elim (cases_order other slot) [
+      | inl e ↦ absurd (apart e)
+      | inr (inl below) ↦
+          let order = slots_in_order words other slot below in
+          sym (drop-take (other * words) words _)
+          ∙ ap (drop (other * words)) (take-set-le (other * words + words) region (slot * words + at) word (omega arith))
+          ∙ drop-take (other * words) words region
+      | inr (inr above) ↦
+          let order = slots_in_order words slot other above in
+          ap (take words) (drop-set-lt (other * words) region (slot * words + at) word (omega arith))
+    ]
+
+-- after the words of a slot are written as a whole
+pub words_in-put : (region : List ℕ) (words slot : ℕ) (written : List ℕ) → slot * words + words ≤ length region → length written ≡ words → words_in (put_mid (slot * words) words region written) words slot ≡ written
+words_in-put region words slot written room len =
+    ap (take words) (drop_at (take (slot * words) region) _ (slot * words) (length-take-le (slot * words) region (omega arith)))
+    ∙ take_at written _ words len
+
+pub words_in-put_other : (region : List ℕ) (words slot : ℕ) (written : List ℕ) (other : ℕ) → slot * words + words ≤ length region → length written ≡ words → other ≢ slot → words_in (put_mid (slot * words) words region written) words other ≡ words_in region words other
+words_in-put_other region words slot written other room len apart =
+    elim (cases_order other slot) [
+      | inl e ↦ absurd (apart e)
+      | inr (inl below) ↦
+          let order = slots_in_order words other slot below in
+          sym (drop-take (other * words) words _)
+          ∙ ap (drop (other * words)) (take-put_mid_below (slot * words) words region written (other * words + words) order (omega arith))
+          ∙ drop-take (other * words) words region
+      | inr (inr above) ↦
+          let order = slots_in_order words slot other above in
+          ap (take words) (drop-put_mid (slot * words) words region written (other * words) order (omega arith) len)
+    ]
+
+-- such a write keeps the length
+pub length-put : (region : List ℕ) (start words : ℕ) (written : List ℕ) → start + words ≤ length region → length written ≡ words → length (put_mid start words region written) ≡ length region
+length-put region start words written room len = simp (length-append, length-take, length-drop) (omega arith)

@@ -1,0 +1,5 @@
+pub mod Pool
+pub mod PoolLaws
+pub mod Without
+pub mod Region
+pub mod FreeList

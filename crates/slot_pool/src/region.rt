@@ -1,0 +1,72 @@
+ghost use Rattle.std.specs.Prelude.{◌≡◌, ℕ, ◌+◌, ◌*◌, ◌^◌, ◌<◌, ◌≤◌, length, IfOk, replicate, slice_index, slice_set};
+
+use std::alloc::{AllocError, Global};
+
+/// A region of words, cut into slots of the same number of words.
+#[derive(Drop)]
+pub(crate) struct Region {
+    /// The words of slot 0, then those of slot 1, and so on.
+    items: Vec<u64>,
+    /// The number of slots.
+    pub(crate) slots: usize,
+    /// The number of words of each slot.
+    pub(crate) words: usize,
+    ghost whole: { length items.items ≡ slots * words },
+    ghost has_words: { 0 < words },
+    ghost small: { slots * words ≤ 2 ^ 24 },
+}
+
+impl Region {
+    ghost use Rattle.slot_pool.specs.Region.{words_of, ChangesWords};
+
+    /// A region of so many slots of so many words.
+    pub(crate) fn new(alloc: Global, slots: usize, words: usize) -> Result<Region, AllocError>
+        requires has_words { 0 < words }
+        requires small { slots * words ≤ 2 ^ 24 }
+        ensures slots { IfOk result (λ region. region.slots ≡ slots) }
+        ensures words { IfOk result (λ region. region.words ≡ words) }
+    {
+        let items = vec![in alloc; 0u64; slots * words]?;
+        Ok(Region {
+            items,
+            slots,
+            words,
+        })
+    }
+
+    /// The words of a slot.
+    pub(crate) fn words_of(&self, slot: usize) -> &[u64]
+        requires { slot < self.now.slots }
+        ensures words { result.now ≡ words_of self.now slot }
+        ensures len { length result.now ≡ self.now.words }
+    {
+        let start = slot * self.words;
+        &self.items[start..start + self.words]
+    }
+
+    /// The first word of a slot.
+    pub(crate) fn first_word(&self, slot: usize) -> u64
+        requires { slot < self.now.slots }
+        ensures { result ≡ slice_index (words_of self.now slot) 0 }
+    {
+        self.items[slot * self.words]
+    }
+
+    /// Writes one word of a slot.
+    pub(crate) fn write(&mut self, slot: usize, at: usize, word: u64)
+        requires slot_in { slot < self.old.slots }
+        requires at_in { at < self.old.words }
+        ensures { ChangesWords self.old self.new slot (slice_set (words_of self.old slot) at word) }
+    {
+        self.items[slot * self.words + at] = word;
+    }
+
+    /// Writes 0 into each word of a slot.
+    pub(crate) fn clear(&mut self, slot: usize)
+        requires { slot < self.old.slots }
+        ensures { ChangesWords self.old self.new slot (replicate self.old.words 0) }
+    {
+        let start = slot * self.words;
+        self.items[start..start + self.words].fill(0);
+    }
+}
