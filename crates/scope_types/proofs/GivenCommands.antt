@@ -1,25 +1,23 @@
-use Rattle.std.proofs.Common.{◌≡◌, ◌≢◌, ◌⊎◌, inl, inr, ℕ, ◌+◌, ◌<◌, ◌≤◌, ◌==◌, Bool, true, false, not, ◌&&◌, ◌||◌, refl, List, [], ◌∷◌, ◌++◌, length, drop, Option, Some, None, IfSome, is_some, Result, Ok, Err, IsTrue, IsFalse, nat_le, if◌then◌else◌, bytes_eq, codes, arith, ap, ◌∙◌, sym, subst, append-nil, append_assoc}
+use Rattle.std.proofs.Common.{◌≡◌, inl, inr, ℕ, ◌<◌, ◌≤◌, ◌==◌, Bool, true, false, not, ◌&&◌, ◌||◌, refl, List, [], ◌∷◌, ◌++◌, length, Option, Some, None, IfSome, is_some, Result, Ok, IsTrue, nat_le, if◌then◌else◌, bytes_eq, codes, arith, ap, ◌∙◌, sym, subst, append-nil, append_assoc}
 use Rattle.std.proofs.lemmas.Bool.Decides.{nat_tests, Decides-eqb}
 use Rattle.ccp_base.specs.declared.place.Place.{Place}
 use Rattle.portus_core.specs.declared.program.Op2.{Op2}
 use Rattle.portus_core.specs.declared.program.Var.{Var}
 use Rattle.portus_core.specs.declared.program.Var.TheVariants as var
-use Rattle.portus_core.specs.Programs.{Term, Action, set, set_if, set_unless, ewma, zero_micros, report, fall}
+use Rattle.portus_core.specs.Programs.{Term, Action, set, zero_micros}
 use Rattle.portus_core.specs.Trees.{Node, Nodes, none, more, number, word, list}
 use Rattle.portus_core.specs.ValidPrograms.{is_writable, term_is_truth}
 use Rattle.scope_types.specs.declared.fault.ScopeFault.{ScopeFault}
-use Rattle.scope_types.specs.declared.fault.ScopeFault.TheVariants as fault
-use Rattle.scope_types.specs.declared.fault.What.TheVariants as what
 use Rattle.scope_types.specs.declared.target.Target.{Target}
 use Rattle.scope_types.specs.declared.target.Target.TheVariants.{Known as Meant, Fresh}
-use Rattle.scope_types.specs.Words.{operator_of, variable_of, primitive_of, is_name_shaped, is_heading, is_constant, is_reserved, is_field_use, is_primitive_use}
+use Rattle.scope_types.specs.Words.{operator_of, variable_of, is_name_shaped, is_heading, is_constant, is_reserved, is_field_use, is_primitive_use}
 use Rattle.scope_types.specs.Scope.{Scope, known_in, with_local}
 use Rattle.scope_types.specs.Names.{decl_from, local_from, named, meaning_of}
 use Rattle.scope_types.specs.Walk.{place_of, and_then}
 use Rattle.scope_types.specs.ExpressionWalk.{expression_walk}
 use Rattle.scope_types.specs.CommandWalk as walk
-use Rattle.scope_types.specs.WellScoped.{Means, Names, IsTerm, FitsKind, IsPlain, IsChoice, IsWeight, IsEwma, IsSpecial, IsValue, IsZero, IsZeroAssignment, IsKnownAssignment, IsFresh, IsFirstAssignment, IsAssignment, IsCommand, IsNext, IsBody}
-use Rattle.scope_types.proofs.ScopedExpressions.{told_of, spelt, spells, variable_kind, IsProper}
+use Rattle.scope_types.specs.WellScoped.{NamesVariable, IsTerm, FitsKind, IsPlain, IsChoice, IsWeight, IsEwma, IsSpecial, IsValue, IsZero, IsZeroAssignment, IsKnownAssignment, IsFresh, IsFirstAssignment, IsAssignment, IsCommand, IsBody}
+use Rattle.scope_types.proofs.ScopedExpressions.{told_of, spelt, variable_kind, IsProper}
 use Rattle.scope_types.proofs.GivenExpressions.{outside_fields, meaning_given, expression_given}
 use Rattle.scope_types.proofs.ProperScopes.{fresh_local, fresh_control, fresh_primitive}
 use Rattle.scope_types.proofs.ScopedCommands.{command_proper}
@@ -48,13 +46,13 @@ writable_named at w var.Cwnd h = refl
 writable_named at w var.Rate h = refl
 writable_named at w var.Micros h = refl
 
-target_given : (scope : Scope) (at : Place) (w : List ℕ) (lang : Option Var) (v : Var) (told : Bool) → IsProper scope → IfSome lang (λ v. told_of scope v ≡ false) → Names scope w lang v told → IsTrue (is_writable v) → IsTarget scope (walk.word_target_walk scope at w lang) at v told
+target_given : (scope : Scope) (at : Place) (w : List ℕ) (lang : Option Var) (v : Var) (told : Bool) → IsProper scope → IfSome lang (λ v. told_of scope v ≡ false) → NamesVariable scope w lang v told → IsTrue (is_writable v) → IsTarget scope (walk.word_target_walk scope at w lang) at v told
 target_given scope at w (Some u) v told p k n h = record { gives = ap (λ x. Ok (Meant at x)) (sym n.0); kind = n.1 ∙ sym (ap (told_of scope) n.0 ∙ k) }
 target_given scope at w None v told p k n h =
     let m = meaning_given scope w v told p n.1 in
     record {
       gives = if_false (is_reserved w) _ _ _ n.0 (ap (walk.named_target_walk at w) m.gives ∙ writable_named at w v h);
-      kind = m.kind
+      kind = m.kind;
     }
 
 writable_assigned : (scope : Scope) (at : Place) (v : Var) (value : Node) → IsTrue (is_writable v) → walk.assigned_walk scope (Meant at v) value ≡ walk.value_walk scope (Meant at v) value
@@ -95,8 +93,8 @@ plain_given scope at v value action p h =
     let g = expression_given scope value h.term h.told p h.is_value in
     value_plain scope (Meant at v) value h.term h.told h.is_value
     ∙ then_given (expression_walk scope value) _ h.term _ g.gives
-      (then_given (walk.kind_walk scope (told_of scope v) (place_of value) h.term) _ h.term _ (kind_given scope (told_of scope v) (place_of value) h.term h.told g.kind h.fits)
-        (ap (λ a. Ok (a, scope)) (sym h.command)))
+    (then_given (walk.kind_walk scope (told_of scope v) (place_of value) h.term) _ h.term _ (kind_given scope (told_of scope v) (place_of value) h.term h.told g.kind h.fits)
+    (ap (λ a. Ok (a, scope)) (sym h.command)))
 
 choice_given : (scope : Scope) (at : Place) (v : Var) (when_so : Bool) (value_at head : Place) (condition value : Node) (action : Action) → IsProper scope → IsChoice scope (told_of scope v) (λ c e. walk.choice_action when_so head v c e) condition value action → walk.choice_walk scope (Meant at v) when_so value_at head (more condition (more value none)) ≡ Ok (action, scope)
 choice_given scope at v when_so value_at head condition value action p h =
@@ -128,10 +126,10 @@ special_given : (scope : Scope) (at : Place) (v : Var) (value : Node) (action : 
 special_given scope at v (list value_at (more (word head w) (more first (more second none)))) action p h =
     let headed : List ℕ → Result walk.Step ScopeFault = λ u. walk.value_walk scope (Meant at v) (list value_at (more (word head u) (more first (more second none)))) in
     elim h [
-      inl c ↦ ap headed c.0 ∙ choice_given scope at v true value_at head first second action p c.1
-    | inr o ↦ elim o [
-        inl c ↦ ap headed c.0 ∙ choice_given scope at v false value_at head first second action p c.1
-      | inr c ↦ ap headed c.0 ∙ ewma_given scope at v value_at head first second action p c.1
+      | inl c ↦ ap headed c.0 ∙ choice_given scope at v true value_at head first second action p c.1
+      | inr o ↦ elim o [
+        | inl c ↦ ap headed c.0 ∙ choice_given scope at v false value_at head first second action p c.1
+        | inr c ↦ ap headed c.0 ∙ ewma_given scope at v value_at head first second action p c.1
       ]
     ]
 special_given scope at v value action p h = absurd h
@@ -145,8 +143,8 @@ known_given scope at w value action after p h =
     let t = target_given scope at w (variable_of w) h.variable h.told p (variable_kind scope w) h.named h.writable in
     then_given (walk.target_walk scope (word at w)) _ (Meant at h.variable) _ t.gives
     (writable_assigned scope at h.variable value h.writable
-     ∙ value_given scope at h.variable value action p (subst (λ b. IsValue scope h.variable b value action) t.kind h.assigned)
-     ∙ ap (λ s. Ok (action, s)) (sym h.names))
+    ∙ value_given scope at h.variable value action p (subst (λ b. IsValue scope h.variable b value action) t.kind h.assigned)
+    ∙ ap (λ s. Ok (action, s)) (sym h.names))
 
 zero_given : (scope : Scope) (value : Node) → IsZero value → walk.micros_walk scope value ≡ Ok (zero_micros, scope)
 zero_given scope (number at n) h = if_true (n == 0) _ _ _ ((Decides-eqb n 0).1 h) refl
@@ -190,8 +188,8 @@ fresh_target : (scope : Scope) (at : Place) (w : List ℕ) → IsFresh scope w �
 fresh_target scope at w f =
     ap (walk.word_target_walk scope at w) (unreserved_variable w f.unreserved)
     ∙ if_false (is_reserved w) _ _ _ f.unreserved
-      (ap (walk.named_target_walk at w) (fresh_meaning scope w f)
-       ∙ if_false (is_field_use w || is_primitive_use w) _ _ _ (unclaimed _ _ f.no_field f.no_primitive) refl)
+    (ap (walk.named_target_walk at w) (fresh_meaning scope w f)
+    ∙ if_false (is_field_use w || is_primitive_use w) _ _ _ (unclaimed _ _ f.no_field f.no_primitive) refl)
 
 room_test : (n : ℕ) → n < 8 → nat_le 8 n ≡ false
 room_test n h = grind (arith, nat_tests)
@@ -201,17 +199,17 @@ first_given scope at w value action after p h =
     let g = expression_given scope value h.term h.told p h.is_value in
     then_given (walk.target_walk scope (word at w)) _ (Fresh at w) _ (fresh_target scope at w h.fresh)
     (value_plain scope (Fresh at w) value h.term h.told h.is_value
-     ∙ then_given (expression_walk scope value) _ h.term _ g.gives
-       (if_false (nat_le 8 (length scope.locals)) _ _ _ (room_test _ h.few)
-         (ap (λ b. Ok (set (var.Local (length scope.locals)) h.term, with_local scope w b)) (sym g.kind)
-          ∙ ap (λ a. Ok (a, with_local scope w h.told)) (sym h.command)
-          ∙ ap (λ s. Ok (action, s)) (sym h.names))))
+    ∙ then_given (expression_walk scope value) _ h.term _ g.gives
+    (if_false (nat_le 8 (length scope.locals)) _ _ _ (room_test _ h.few)
+    (ap (λ b. Ok (set (var.Local (length scope.locals)) h.term, with_local scope w b)) (sym g.kind)
+    ∙ ap (λ a. Ok (a, with_local scope w h.told)) (sym h.command)
+    ∙ ap (λ s. Ok (action, s)) (sym h.names))))
 
 assignment_given : (scope : Scope) (at : Place) (w : List ℕ) (value : Node) (action : Action) (after : Scope) → IsProper scope → IsAssignment scope w value action after → walk.assignment_walk scope (word at w) value ≡ Ok (action, after)
 assignment_given scope at w value action after p h =
     elim h [
-      inl z ↦ micros_given scope at w value action after z
-    | inr o ↦ elim o [ inl k ↦ known_given scope at w value action after p k | inr f ↦ first_given scope at w value action after p f ]
+      | inl z ↦ micros_given scope at w value action after z
+      | inr o ↦ elim o [ inl k ↦ known_given scope at w value action after p k | inr f ↦ first_given scope at w value action after p f ]
     ]
 
 -- what is scoped, a command's walk gives
@@ -219,8 +217,8 @@ pub command_given : (scope : Scope) (node : Node) (action : Action) (after : Sco
 command_given scope (list at (more (word head w) none)) action after p h =
     let headed : List ℕ → Result walk.Step ScopeFault = λ u. walk.command_walk scope (list at (more (word head u) none)) in
     elim h [
-      inl r ↦ ap headed r.0 ∙ ap (λ a. Ok (a, scope)) (sym r.1) ∙ ap (λ s. Ok (action, s)) (sym r.2)
-    | inr r ↦ ap headed r.0 ∙ ap (λ a. Ok (a, scope)) (sym r.1) ∙ ap (λ s. Ok (action, s)) (sym r.2)
+      | inl r ↦ ap headed r.0 ∙ ap (λ a. Ok (a, scope)) (sym r.1) ∙ ap (λ s. Ok (action, s)) (sym r.2)
+      | inr r ↦ ap headed r.0 ∙ ap (λ a. Ok (a, scope)) (sym r.1) ∙ ap (λ s. Ok (action, s)) (sym r.2)
     ]
 command_given scope (list at (more (word head w) (more (word target_at target) (more value none)))) action after p h =
     let headed : List ℕ → Result walk.Step ScopeFault = λ u. walk.command_walk scope (list at (more (word head u) (more (word target_at target) (more value none)))) in
@@ -236,4 +234,4 @@ body_given scope done (more node rest) [] after p h = absurd h
 body_given scope done (more node rest) (action ∷ actions) after p h =
     then_given (walk.command_walk scope node) _ (action, h.between) _ (command_given scope node action h.between p h.command)
     (body_given h.between (done ++ action ∷ []) rest actions after (command_proper scope node action h.between p h.command) h.rest
-     ∙ ap (λ ds. Ok (ds, after)) (append_assoc done (action ∷ []) actions))
+    ∙ ap (λ ds. Ok (ds, after)) (append_assoc done (action ∷ []) actions))

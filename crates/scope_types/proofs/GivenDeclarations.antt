@@ -1,4 +1,4 @@
-use Rattle.std.proofs.Common.{◌≡◌, ◌≢◌, ◌⊎◌, inl, inr, ℕ, zero, suc, ◌+◌, ◌<◌, ◌≤◌, Bool, true, false, not, refl, List, [], ◌∷◌, ◌++◌, length, Option, Some, None, IfSome, is_some, Result, Ok, Err, IsTrue, IsFalse, nat_le, slice_get, if◌then◌else◌, bytes_eq, codes, arith, ap, ◌∙◌, sym, subst, append-nil, append_assoc, length-append}
+use Rattle.std.proofs.Common.{◌≡◌, inl, inr, ℕ, zero, suc, ◌<◌, ◌≤◌, Bool, true, false, not, refl, List, [], ◌∷◌, ◌++◌, length, Option, Some, None, is_some, Result, Ok, IsTrue, nat_le, slice_get, bytes_eq, codes, arith, ap, ◌∙◌, sym, subst, append-nil, append_assoc, length-append}
 use Rattle.std.proofs.lemmas.Bool.Decides.{nat_tests}
 use Rattle.ccp_base.specs.declared.place.Place.{Place}
 use Rattle.portus_core.specs.declared.program.Decl.{Decl}
@@ -10,7 +10,7 @@ use Rattle.scope_types.specs.Words.{is_field_name, is_control_name}
 use Rattle.scope_types.specs.Scope.{Scope}
 use Rattle.scope_types.specs.Names.{decl_from}
 use Rattle.scope_types.specs.DeclarationWalk as walk
-use Rattle.scope_types.specs.WellScoped.{IsStart, IsDeclarationOf, Declares, AreFields, IsGroup, IsControlPart, IsGroupPart, AreParts, AreDistinct}
+use Rattle.scope_types.specs.WellScoped.{IsStart, IsDeclarationOf, Declares, AreFields, IsGroup, AreParts, AreDistinct}
 use Rattle.scope_types.proofs.ScopedExpressions.{spelt, spells, decl_found}
 use Rattle.scope_types.proofs.ProperScopes.{nowhere}
 use Rattle.scope_types.proofs.GivenCommands.{then_given, if_false, if_true}
@@ -22,13 +22,13 @@ start_given (number at m) n told h =
 start_given (list at parts) n told h = absurd h
 start_given (word at w) n told h =
     let back : (u : List ℕ) (k : ℕ) (b : Bool) → (w ≡ u) × (n ≡ k) × (told ≡ b) → walk.start_word u ≡ Some (record { value = k; truth = b }) → walk.start_word w ≡ Some (record { value = n; truth = told }) =
-      λ u k b g e.
-        ap walk.start_word g.0 ∙ e
-        ∙ ap (λ j. let start : Option Start = Some (record { value = j; truth = b }) in start) (sym g.1)
-        ∙ ap (λ c. let start : Option Start = Some (record { value = n; truth = c }) in start) (sym g.2) in
+    λ u k b g e.
+    ap walk.start_word g.0 ∙ e
+    ∙ ap (λ j. let start : Option Start = Some (record { value = j; truth = b }) in start) (sym g.1)
+    ∙ ap (λ c. let start : Option Start = Some (record { value = n; truth = c }) in start) (sym g.2) in
     elim h [
-      inl g ↦ back (codes "true") 1 true g refl
-    | inr o ↦ elim o [ inl g ↦ back (codes "false") 0 true g refl | inr g ↦ back (codes "+infinity") _ false g refl ]
+      | inl g ↦ back (codes "true") 1 true g refl
+      | inr o ↦ elim o [ inl g ↦ back (codes "false") 0 true g refl | inr g ↦ back (codes "+infinity") _ false g refl ]
     ]
 
 -- the walk gives the declaration, with the place of its word
@@ -46,7 +46,7 @@ declaration_given : (node : Node) (decl : Decl) → Declares node decl → IsDec
 declaration_given (list at (more (word word_at w) (more value none))) decl h = record { at = word_at; gives = declares_given at false word_at w value decl h }
 declaration_given (list at (more (word head v) (more (word word_at w) (more value none)))) decl h = record {
   at = word_at;
-  gives = if_true (bytes_eq v (codes "volatile")) _ _ _ (spells v (codes "volatile") h.0) (declares_given at true word_at w value decl h.1)
+  gives = if_true (bytes_eq v (codes "volatile")) _ _ _ (spells v (codes "volatile") h.0) (declares_given at true word_at w value decl h.1);
 }
 declaration_given node decl h = absurd h
 
@@ -106,7 +106,7 @@ fields_given names (more node rest) (x ∷ xs) h distinct few =
     then_given (walk.declaration_walk node) _ (record { at = d.at; decl = x }) _ d.gives
     (then_given (walk.field_walk names (record { at = d.at; decl = x })) _ (walk.with_field names x) _ (field_given names d.at x xs h.1 distinct few)
     (fields_given (walk.with_field names x) rest xs h.2 (subst AreDistinct (sym e) distinct) (subst (λ (ds : List Decl). length ds ≤ 64) (sym e) few)
-     ∙ ap (λ ds. Ok (with_fields names ds)) e))
+    ∙ ap (λ ds. Ok (with_fields names ds)) e))
 
 group_given : (declared : walk.Declaring) (node : Node) (fresh : List Decl) → IsGroup node fresh → declared.grouped ≡ false → AreDistinct (declared.names.fields ++ fresh) → length (declared.names.fields ++ fresh) ≤ 64 → walk.part_walk declared node ≡ Ok (record { names = with_fields declared.names (declared.names.fields ++ fresh); grouped = true })
 group_given declared (list at (more (word head w) fields)) fresh h first distinct few =
@@ -140,7 +140,7 @@ control_part_given declared node x ys h right distinct few =
     let d = declaration_given node x h in
     control_part declared node x h right
     ∙ then_given (walk.declaration_walk node) _ (record { at = d.at; decl = x }) _ d.gives
-      (then_given (walk.control_walk declared.names (record { at = d.at; decl = x })) _ (walk.with_control declared.names x) _ (control_given declared.names d.at x ys right distinct few) refl)
+    (then_given (walk.control_walk declared.names (record { at = d.at; decl = x })) _ (walk.with_control declared.names x) _ (control_given declared.names d.at x ys right distinct few) refl)
 
 -- the walk of the parts gives these declarations after those that are there
 pub record ArePartsGiven (declared : walk.Declaring) (nodes : Nodes) (fields controls : List Decl) : Type 0 where
@@ -154,32 +154,32 @@ pub parts_given : (declared : walk.Declaring) (nodes : Nodes) (fields controls :
 parts_given declared none fields controls h df dc ff fc = record {
   grouped = declared.grouped;
   gives =
-    ap (λ ds. declaring declared.names ds declared.names.controls declared.grouped) (sym (append-nil declared.names.fields) ∙ ap (λ ds. declared.names.fields ++ ds) (sym h.0))
-    ∙ ap (λ ds. declaring declared.names (declared.names.fields ++ fields) ds declared.grouped) (sym (append-nil declared.names.controls) ∙ ap (λ ds. declared.names.controls ++ ds) (sym h.1))
+      ap (λ ds. declaring declared.names ds declared.names.controls declared.grouped) (sym (append-nil declared.names.fields) ∙ ap (λ ds. declared.names.fields ++ ds) (sym h.0))
+      ∙ ap (λ ds. declaring declared.names (declared.names.fields ++ fields) ds declared.grouped) (sym (append-nil declared.names.controls) ∙ ap (λ ds. declared.names.controls ++ ds) (sym h.1));
 }
 parts_given declared (more node rest) fields controls h df dc ff fc =
     elim h [
-      inl g ↦
-        (let between : walk.Declaring = record { names = with_fields declared.names (declared.names.fields ++ fields); grouped = true } in
-         let e = append-nil (declared.names.fields ++ fields) in
-         let r = parts_given between rest [] controls g.rest (subst AreDistinct (sym e) df) dc (subst (λ (ds : List Decl). length ds ≤ 64) (sym e) ff) fc in
-         record {
-           grouped = r.grouped;
-           gives =
-             then_given (walk.part_walk declared node) _ between _ (group_given declared node fields g.group g.first df ff)
-             (r.gives ∙ ap (λ ds. declaring declared.names ds (declared.names.controls ++ controls) r.grouped) e)
-         })
-    | inr c ↦
-        (let between : walk.Declaring = record { names = walk.with_control declared.names c.decl; grouped = declared.grouped } in
-         let e = append_assoc declared.names.controls (c.decl ∷ []) c.others in
-         let w : declared.names.controls ++ controls ≡ declared.names.controls ++ c.decl ∷ c.others = ap (λ ds. declared.names.controls ++ ds) c.whole in
-         let dc' = subst AreDistinct w dc in
-         let fc' = subst (λ (ds : List Decl). length ds ≤ 64) w fc in
-         let r = parts_given between rest fields c.others c.rest df (subst AreDistinct (sym e) dc') ff (subst (λ (ds : List Decl). length ds ≤ 64) (sym e) fc') in
-         record {
-           grouped = r.grouped;
-           gives =
-             then_given (walk.part_walk declared node) _ between _ (control_part_given declared node c.decl c.others c.declared c.allowed dc' fc')
-             (r.gives ∙ ap (λ ds. declaring declared.names (declared.names.fields ++ fields) ds r.grouped) (e ∙ sym w))
-         })
+      | inl g ↦
+          (let between : walk.Declaring = record { names = with_fields declared.names (declared.names.fields ++ fields); grouped = true } in
+          let e = append-nil (declared.names.fields ++ fields) in
+          let r = parts_given between rest [] controls g.rest (subst AreDistinct (sym e) df) dc (subst (λ (ds : List Decl). length ds ≤ 64) (sym e) ff) fc in
+          record {
+            grouped = r.grouped;
+            gives =
+                then_given (walk.part_walk declared node) _ between _ (group_given declared node fields g.group g.first df ff)
+                (r.gives ∙ ap (λ ds. declaring declared.names ds (declared.names.controls ++ controls) r.grouped) e);
+          })
+      | inr c ↦
+          (let between : walk.Declaring = record { names = walk.with_control declared.names c.decl; grouped = declared.grouped } in
+          let e = append_assoc declared.names.controls (c.decl ∷ []) c.others in
+          let w : declared.names.controls ++ controls ≡ declared.names.controls ++ c.decl ∷ c.others = ap (λ ds. declared.names.controls ++ ds) c.whole in
+          let dc' = subst AreDistinct w dc in
+          let fc' = subst (λ (ds : List Decl). length ds ≤ 64) w fc in
+          let r = parts_given between rest fields c.others c.rest df (subst AreDistinct (sym e) dc') ff (subst (λ (ds : List Decl). length ds ≤ 64) (sym e) fc') in
+          record {
+            grouped = r.grouped;
+            gives =
+                then_given (walk.part_walk declared node) _ between _ (control_part_given declared node c.decl c.others c.declared c.allowed dc' fc')
+                (r.gives ∙ ap (λ ds. declaring declared.names (declared.names.fields ++ fields) ds r.grouped) (e ∙ sym w));
+          })
     ]

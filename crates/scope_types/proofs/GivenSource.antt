@@ -1,24 +1,23 @@
-use Rattle.std.proofs.Common.{◌≡◌, ◌≢◌, ℕ, ◌≤◌, ◌<◌, ◌+◌, Bool, true, false, not, refl, List, [], ◌∷◌, ◌++◌, length, Option, Some, None, Result, Ok, Err, IfOk, IsTrue, nat_le, if◌then◌else◌, bytes_eq, codes, arith, ap, ◌∙◌, sym, subst, append-nil, append_assoc, length-append}
+use Rattle.std.proofs.Common.{◌≡◌, ℕ, ◌≤◌, ◌<◌, true, false, not, refl, List, [], ◌∷◌, ◌++◌, length, Result, Ok, IfOk, nat_le, bytes_eq, codes, arith, ap, ◌∙◌, sym, subst, append-nil, append_assoc, length-append}
 use Rattle.std.proofs.lemmas.Bool.Decides.{nat_tests}
 use Rattle.ccp_base.specs.declared.place.Place.{Place}
 use Rattle.portus_core.specs.declared.program.Decl.{Decl}
-use Rattle.portus_core.specs.Programs.{Term, Action, Part, Form}
-use Rattle.portus_core.specs.Trees.{Node, Nodes, none, more, number, word, list}
-use Rattle.scope_types.specs.declared.names.Local.{Local}
+use Rattle.portus_core.specs.Programs.{Term, Part, Form}
+use Rattle.portus_core.specs.Trees.{Node, Nodes, none, more, word, list}
 use Rattle.scope_types.specs.declared.fault.ScopeFault.{ScopeFault}
 use Rattle.scope_types.specs.Scope.{Scope}
 use Rattle.scope_types.specs.Walk.{place_of}
 use Rattle.scope_types.specs.ExpressionWalk.{expression_walk}
 use Rattle.scope_types.specs.DeclarationWalk.{Declaring, parts_walk}
-use Rattle.scope_types.specs.CommandWalk.{kind_walk, body_walk}
-use Rattle.scope_types.specs.ProgramWalk.{nothing_declared, without_locals, part_of, condition_walk, inner_walk, block_walk, form_walk, blocks_walk, def_walk, form_of, source_walk}
-use Rattle.scope_types.specs.WellScoped.{IsTerm, AreParts, IsBlock, IsWhen, AreBlocks, IsProgram, IsScoped, first_names}
+use Rattle.scope_types.specs.CommandWalk.{body_walk}
+use Rattle.scope_types.specs.ProgramWalk.{nothing_declared, without_locals, condition_walk, inner_walk, form_walk, blocks_walk, def_walk, source_walk}
+use Rattle.scope_types.specs.WellScoped.{IsTerm, IsBlock, IsWhen, AreBlocks, IsProgram, IsScoped, first_names}
 use Rattle.scope_types.proofs.ScopedExpressions.{spells, IsProper}
 use Rattle.scope_types.proofs.ScopedDeclarations.{AddsParts, parts_scoped}
-use Rattle.scope_types.proofs.ScopedSource.{nothing_proper, proper_start, same_start}
+use Rattle.scope_types.proofs.ScopedSource.{nothing_proper, same_start}
 use Rattle.scope_types.proofs.GivenExpressions.{expression_given}
 use Rattle.scope_types.proofs.GivenCommands.{then_given, if_false, if_true, kind_given, body_given}
-use Rattle.scope_types.proofs.GivenDeclarations.{ArePartsGiven, parts_given}
+use Rattle.scope_types.proofs.GivenDeclarations.{parts_given}
 use Rattle.scope_types.proofs.ValidSource as valid
 
 condition_given : (names : Scope) (node : Node) (t : Term) → IsProper names → IsTerm names node t true → condition_walk names node ≡ Ok t
@@ -41,8 +40,8 @@ form_given : (names : Scope) (count : ℕ) (node : Node) (part : Part) → IsPro
 form_given names count (list at (more (word head w) (more condition commands))) part p few h = record {
   after = h.1.after;
   gives =
-    if_false (not (bytes_eq w (codes "when"))) _ _ _ (ap not (spells w (codes "when") h.0))
-    (if_false (nat_le 64 count) _ _ _ few (inner_given (without_locals names) condition commands part p h.1))
+      if_false (not (bytes_eq w (codes "when"))) _ _ _ (ap not (spells w (codes "when") h.0))
+      (if_false (nat_le 64 count) _ _ _ few (inner_given (without_locals names) condition commands part p h.1));
 }
 form_given names count node part p few h = absurd h
 
@@ -78,13 +77,13 @@ blocks_given names done (more node rest) (part ∷ parts) p few h =
     let v = form_block names f.after (length done) node part f.gives in
     let start = same_start names f.after v.fields v.controls in
     let r = blocks_given f.after (done ++ part ∷ []) rest parts (subst IsProper start p)
-      (subst (λ (ds : List Part). length ds ≤ 64) (sym (append_assoc done (part ∷ []) parts)) few)
-      (subst (λ (scope : Scope). AreBlocks scope rest parts) start h.1) in
+    (subst (λ (ds : List Part). length ds ≤ 64) (sym (append_assoc done (part ∷ []) parts)) few)
+    (subst (λ (scope : Scope). AreBlocks scope rest parts) start h.1) in
     record {
       after = r.after;
       gives = more_given names f.after r.after done node rest part parts f.gives r.gives;
       fields = back f.after.fields names.fields r.after.fields r.fields v.fields;
-      controls = back f.after.controls names.controls r.after.controls r.controls v.controls
+      controls = back f.after.controls names.controls r.after.controls r.controls v.controls;
     }
 
 program_given : (at head : Place) (w : List ℕ) (parts forms : Nodes) (form : Form) → w ≡ codes "def" → IsProgram parts forms form → source_walk (more (list at (more (word head w) parts)) forms) ≡ Ok form
@@ -97,7 +96,7 @@ program_given at head w parts forms form e h =
     (if_true (bytes_eq w (codes "def")) _ _ _ (spells w (codes "def") e) (then_given (parts_walk nothing_declared parts) _ after _ d.gives refl))
     (then_given (blocks_walk (first_names form.fields form.controls) [] forms) _ (form.blocks, b.after) _ b.gives
     (ap (λ ds. let made : Result Form ScopeFault = Ok (record { fields = ds; controls = b.after.controls; blocks = form.blocks }) in made) b.fields
-     ∙ ap (λ ds. let made : Result Form ScopeFault = Ok (record { fields = form.fields; controls = ds; blocks = form.blocks }) in made) b.controls))
+    ∙ ap (λ ds. let made : Result Form ScopeFault = Ok (record { fields = form.fields; controls = ds; blocks = form.blocks }) in made) b.controls))
 
 -- what a text's forms stand for, their walk gives
 pub source_given : (nodes : Nodes) (form : Form) → IsScoped nodes form → source_walk nodes ≡ Ok form

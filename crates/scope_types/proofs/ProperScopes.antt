@@ -1,14 +1,13 @@
-use Rattle.std.proofs.Common.{◌≡◌, ◌≢◌, ◌⊎◌, inl, inr, ℕ, zero, suc, ◌+◌, ◌<◌, Bool, true, false, refl, List, [], ◌∷◌, ◌++◌, length, Option, Some, None, IfSome, IsTrue, IsFalse, not, ◌||◌, slice_get, if◌then◌else◌, bytes_eq, arith, ap, ◌∙◌, sym, subst}
+use Rattle.std.proofs.Common.{◌≡◌, ◌⊎◌, inl, inr, ℕ, zero, suc, ◌+◌, Bool, true, false, refl, List, [], ◌∷◌, ◌++◌, length, Option, Some, None, IfSome, IsTrue, not, ◌||◌, slice_get, if◌then◌else◌, bytes_eq, arith, ap, ◌∙◌, sym}
 use Rattle.portus_core.specs.declared.program.Decl.{Decl}
-use Rattle.portus_core.specs.declared.program.Var.{Var}
 use Rattle.portus_core.specs.declared.program.Var.TheVariants as var
 use Rattle.scope_types.specs.declared.names.Local.{Local}
 use Rattle.scope_types.specs.Words.{primitive_of, is_reserved, is_field_use, is_primitive_use, is_control_name}
 use Rattle.scope_types.specs.DeclarationWalk.{with_field, with_control}
 use Rattle.scope_types.specs.Scope.{Scope, with_local}
 use Rattle.scope_types.specs.Names.{decl_from, local_from}
-use Rattle.scope_types.specs.WellScoped.{IsDeclared, IsLocal, IsPrimitive, IsFresh}
-use Rattle.scope_types.proofs.ScopedExpressions.{spells, some_mono, decl_found, declared_of, local_found, local_of, prim_means, IsControl, IsOwnLocal, IsProper, primitive_word}
+use Rattle.scope_types.specs.WellScoped.{IsFresh}
+use Rattle.scope_types.proofs.ScopedExpressions.{spells, decl_found, declared_of, local_found, local_of, prim_means, IsProper, primitive_word}
 
 pub nowhere : {A : Type 0} (o : Option A) (P : A → Type 0) → IfSome o P → ((a : A) → P a → ⊥) → o ≡ None
 nowhere (Some a) P h never = absurd (never a h)
@@ -55,18 +54,18 @@ proper_with_local scope w told p f = record {
   fields = p.fields;
   controls = λ i d h. let c = p.controls i d h in record { found = c.found; no_field = c.no_field; no_primitive = c.no_primitive };
   locals = λ i l h. elim (slice_get-append scope.locals _ i l h) [
-    inl e ↦
-      (let c = p.locals i l e in
-       record { found = local_some_append 0 scope.locals _ l.name i c.found; no_control = c.no_control; no_field = c.no_field; no_primitive = c.no_primitive })
-  | inr e ↦
-      (let same : l.name ≡ w = ap (λ (x : Local). x.name) e.1 in
-       record {
-         found = local_none_append 0 scope.locals _ l.name (sym same) (ap (local_from 0 scope.locals) same ∙ fresh_local scope w f) ∙ ap Some (let n : 0 + length scope.locals ≡ i = let k = e.0 in omega arith in n);
-         no_control = ap (decl_from 0 scope.controls) same ∙ fresh_control scope w f;
-         no_field = ap is_field_use same ∙ f.no_field;
-         no_primitive = ap primitive_of same ∙ fresh_primitive scope w f
-       })
-  ]
+    | inl e ↦
+        (let c = p.locals i l e in
+        record { found = local_some_append 0 scope.locals _ l.name i c.found; no_control = c.no_control; no_field = c.no_field; no_primitive = c.no_primitive })
+    | inr e ↦
+        (let same : l.name ≡ w = ap (λ (x : Local). x.name) e.1 in
+        record {
+          found = local_none_append 0 scope.locals _ l.name (sym same) (ap (local_from 0 scope.locals) same ∙ fresh_local scope w f) ∙ ap Some (let n : 0 + length scope.locals ≡ i = let k = e.0 in omega arith in n);
+          no_control = ap (decl_from 0 scope.controls) same ∙ fresh_control scope w f;
+          no_field = ap is_field_use same ∙ f.no_field;
+          no_primitive = ap primitive_of same ∙ fresh_primitive scope w f;
+        })
+  ];
 }
 
 decl_some_append : (i : ℕ) (ds : List Decl) (x : Decl) (w : List ℕ) (n : ℕ) → decl_from i ds w ≡ Some n → decl_from i (ds ++ x ∷ []) w ≡ Some n
@@ -86,10 +85,10 @@ decl_none_append i (d ∷ ds) x w e given =
 decl_append_found : (ds : List Decl) (x : Decl) → ((i : ℕ) (d : Decl) → slice_get ds i ≡ Some d → decl_from 0 ds d.name ≡ Some i) → decl_from 0 ds x.name ≡ None → (i : ℕ) (d : Decl) → slice_get (ds ++ x ∷ []) i ≡ Some d → decl_from 0 (ds ++ x ∷ []) d.name ≡ Some i
 decl_append_found ds x found new i d h =
     elim (slice_get-append ds x i d h) [
-      inl e ↦ decl_some_append 0 ds x d.name i (found i d e)
-    | inr e ↦
-        (let same : d.name ≡ x.name = ap (λ (y : Decl). y.name) e.1 in
-         decl_none_append 0 ds x d.name (sym same) (ap (decl_from 0 ds) same ∙ new) ∙ ap Some (let n : 0 + length ds ≡ i = let k = e.0 in omega arith in n))
+      | inl e ↦ decl_some_append 0 ds x d.name i (found i d e)
+      | inr e ↦
+          (let same : d.name ≡ x.name = ap (λ (y : Decl). y.name) e.1 in
+          decl_none_append 0 ds x d.name (sym same) (ap (decl_from 0 ds) same ∙ new) ∙ ap Some (let n : 0 + length ds ≡ i = let k = e.0 in omega arith in n))
     ]
 
 -- one more field keeps a scope in order
@@ -97,7 +96,7 @@ pub proper_with_field : (scope : Scope) (x : Decl) → IsProper scope → decl_f
 proper_with_field scope x p new = record {
   fields = decl_append_found scope.fields x p.fields new;
   controls = λ i d h. let c = p.controls i d h in record { found = c.found; no_field = c.no_field; no_primitive = c.no_primitive };
-  locals = λ i l h. let c = p.locals i l h in record { found = c.found; no_control = c.no_control; no_field = c.no_field; no_primitive = c.no_primitive }
+  locals = λ i l h. let c = p.locals i l h in record { found = c.found; no_control = c.no_control; no_field = c.no_field; no_primitive = c.no_primitive };
 }
 
 -- what a control variable's name isn't
@@ -125,13 +124,13 @@ proper_with_control scope x p empty new allowed = record {
   controls = λ i d h. record {
     found = decl_append_found scope.controls x (λ j e k. (p.controls j e k).found) new i d h;
     no_field = elim (slice_get-append scope.controls x i d h) [
-      inl e ↦ (p.controls i d e).no_field
-    | inr e ↦ ap (λ (y : Decl). is_field_use y.name) e.1 ∙ (control_word x.name allowed).no_field
+      | inl e ↦ (p.controls i d e).no_field
+      | inr e ↦ ap (λ (y : Decl). is_field_use y.name) e.1 ∙ (control_word x.name allowed).no_field
     ];
     no_primitive = elim (slice_get-append scope.controls x i d h) [
-      inl e ↦ (p.controls i d e).no_primitive
-    | inr e ↦ ap (λ (y : Decl). primitive_of y.name) e.1 ∙ control_no_primitive x.name (control_word x.name allowed)
-    ]
+      | inl e ↦ (p.controls i d e).no_primitive
+      | inr e ↦ ap (λ (y : Decl). primitive_of y.name) e.1 ∙ control_no_primitive x.name (control_word x.name allowed)
+    ];
   };
-  locals = λ i l h. absurd (let e : None ≡ Some l = sym (ap (λ (ls : List Local). slice_get ls i) empty) ∙ h in cc)
+  locals = λ i l h. absurd (let e : None ≡ Some l = sym (ap (λ (ls : List Local). slice_get ls i) empty) ∙ h in cc);
 }

@@ -1,21 +1,19 @@
-use Rattle.std.proofs.Common.{◌≡◌, ◌≢◌, ◌⊎◌, inl, inr, ℕ, ◌+◌, ◌<◌, ◌≤◌, ◌==◌, Bool, true, false, not, ◌&&◌, ◌||◌, refl, List, [], ◌∷◌, ◌++◌, length, Option, Some, None, IfSome, Result, Ok, Err, IfOk, IsTrue, IsFalse, nat_lt, nat_le, if◌then◌else◌, bytes_eq, codes, arith, ap, ◌∙◌, sym, subst, append-nil, append_assoc}
+use Rattle.std.proofs.Common.{◌≡◌, ◌⊎◌, inl, inr, ℕ, ◌<◌, ◌≤◌, ◌==◌, Bool, true, false, not, ◌&&◌, ◌||◌, refl, List, [], ◌∷◌, ◌++◌, length, Option, Some, None, IfSome, IfOk, IsTrue, IsFalse, nat_le, bytes_eq, codes, arith, ap, ◌∙◌, sym, subst, append-nil, append_assoc}
 use Rattle.std.proofs.lemmas.Bool.Decides.{nat_tests, Decides-eqb}
 use Rattle.ccp_base.specs.declared.place.Place.{Place}
 use Rattle.portus_core.specs.declared.program.Var.{Var}
 use Rattle.portus_core.specs.declared.program.Var.TheVariants as var
-use Rattle.portus_core.specs.Programs.{Term, Action, set, set_if, set_unless, ewma, zero_micros, report, fall}
+use Rattle.portus_core.specs.Programs.{Term, Action, set, ewma}
 use Rattle.portus_core.specs.Trees.{Node, Nodes, none, more, number, word, list}
-use Rattle.portus_core.specs.ValidPrograms.{is_truth, is_writable, term_is_truth}
-use Rattle.scope_types.specs.declared.fault.ScopeFault.{ScopeFault}
+use Rattle.portus_core.specs.ValidPrograms.{is_writable, term_is_truth}
 use Rattle.scope_types.specs.declared.target.Target.{Target}
 use Rattle.scope_types.specs.declared.target.Target.TheVariants.{Known as Meant, Fresh}
 use Rattle.scope_types.specs.Words.{variable_of, is_reserved, is_field_use, is_primitive_use}
-use Rattle.scope_types.specs.Scope.{Scope, known_in, with_local}
+use Rattle.scope_types.specs.Scope.{Scope, known_in}
 use Rattle.scope_types.specs.Names.{meaning_of}
-use Rattle.scope_types.specs.Walk.{and_then}
 use Rattle.scope_types.specs.ExpressionWalk.{expression_walk}
 use Rattle.scope_types.specs.CommandWalk as walk
-use Rattle.scope_types.specs.WellScoped.{Means, Names, IsTerm, FitsKind, IsPlain, IsChoice, IsWeight, IsEwma, IsSpecial, IsValue, IsZero, IsZeroAssignment, IsKnownAssignment, IsFresh, IsFirstAssignment, IsAssignment, IsCommand, IsNext, IsBody}
+use Rattle.scope_types.specs.WellScoped.{Means, NamesVariable, IsTerm, FitsKind, IsPlain, IsChoice, IsWeight, IsEwma, IsValue, IsFresh, IsFirstAssignment, IsAssignment, IsCommand, IsBody}
 use Rattle.scope_types.proofs.Results.{if_ok, then_ok, ok_map}
 use Rattle.scope_types.proofs.ScopedExpressions.{told_of, some_case, spelt, meaning_means, expression_scoped, IsProper}
 use Rattle.scope_types.proofs.GivenExpressions.{meaning_given}
@@ -24,7 +22,7 @@ use Rattle.scope_types.proofs.ProperScopes.{proper_with_local}
 -- what a target's walk finds of a word
 abbrev pub TargetIs : Scope → List ℕ → Option Var → Target → Type 0
 TargetIs scope w lang (Meant at var.Micros) = w ≡ codes "Micros"
-TargetIs scope w lang (Meant at v) = Names scope w lang v (told_of scope v) × IsTrue (is_writable v)
+TargetIs scope w lang (Meant at v) = NamesVariable scope w lang v (told_of scope v) × IsTrue (is_writable v)
 TargetIs scope w lang (Fresh at u) = (u ≡ w) × IsFresh scope w
 
 -- a variable of the language, with the spelling of `Micros`
@@ -113,11 +111,18 @@ choice_scoped scope at v when_so value_at head condition value =
     then_ok (expression_walk scope condition) _ _ _ (expression_scoped scope condition) (λ c p.
     then_ok (expression_walk scope value) _ _ _ (expression_scoped scope value) (λ e q.
     then_ok (walk.kind_walk scope true _ c) _ _ _ (kind_scoped scope true _ c) (λ c' k.
-    then_ok (walk.kind_walk scope (told_of scope v) _ e) _ _ _ (kind_scoped scope (told_of scope v) _ e) (λ e' l.
-    (record {
-       condition_term = c'; is_condition = told_true scope condition c c' p k; term = e; told = _; is_value = q; fits = l.fits;
-       command = ap (walk.choice_action when_so head v c') l.same
-     }, refl)))))
+    then_ok (walk.kind_walk scope (told_of scope v) _ e) _ _ _ (kind_scoped scope (told_of scope v) _ e) (λ e' l. (
+      record {
+        condition_term = c';
+        is_condition = told_true scope condition c c' p k;
+        term = e;
+        told = _;
+        is_value = q;
+        fits = l.fits;
+        command = ap (walk.choice_action when_so head v c') l.same;
+      },
+      refl,
+    )))))
 
 within_fact : (a b : ℕ) → nat_le a b ≡ true → a ≤ b
 within_fact a b h = grind (arith, nat_tests)
@@ -142,13 +147,13 @@ special_scoped : (scope : Scope) (at : Place) (v : Var) (value_at head : Place) 
 special_scoped scope at v value_at head w (more first (more second none)) =
     if_ok (bytes_eq w (codes "if")) _ _ _
     (λ h. ok_map (walk.choice_walk scope (Meant at v) true value_at head (more first (more second none))) _ _ (choice_scoped scope at v true value_at head first second)
-      (λ step c. (inr (inl (spelt w (codes "if") h, c.0)), c.1))) (λ _.
+    (λ step c. (inr (inl (spelt w (codes "if") h, c.0)), c.1))) (λ _.
     if_ok (bytes_eq w (codes "!if")) _ _ _
     (λ h. ok_map (walk.choice_walk scope (Meant at v) false value_at head (more first (more second none))) _ _ (choice_scoped scope at v false value_at head first second)
-      (λ step c. (inr (inr (inl (spelt w (codes "!if") h, c.0))), c.1))) (λ _.
+    (λ step c. (inr (inr (inl (spelt w (codes "!if") h, c.0))), c.1))) (λ _.
     if_ok (bytes_eq w (codes "ewma")) _ _ _
     (λ h. ok_map (walk.ewma_walk scope (Meant at v) value_at head (more first (more second none))) _ _ (ewma_scoped scope at v value_at head first second)
-      (λ step c. (inr (inr (inr (spelt w (codes "ewma") h, c.0))), c.1))) (λ _.
+    (λ step c. (inr (inr (inr (spelt w (codes "ewma") h, c.0))), c.1))) (λ _.
     plain_assigned scope at v (list value_at (more (word head w) (more first (more second none)))))))
 special_scoped scope at v value_at head w parts =
     if_ok (bytes_eq w (codes "if")) _ _ _ (λ _. tt) (λ _.
@@ -203,7 +208,7 @@ micros_scoped scope w (number at n) e =
 micros_scoped scope w (word at u) e = tt
 micros_scoped scope w (list at parts) e = tt
 
-known_assignment : (scope : Scope) (w : List ℕ) (at : Place) (v : Var) (value : Node) → Names scope w (variable_of w) v (told_of scope v) → IsTrue (is_writable v) → IfOk (walk.value_walk scope (Meant at v) value) (AssignmentIs scope w value)
+known_assignment : (scope : Scope) (w : List ℕ) (at : Place) (v : Var) (value : Node) → NamesVariable scope w (variable_of w) v (told_of scope v) → IsTrue (is_writable v) → IfOk (walk.value_walk scope (Meant at v) value) (AssignmentIs scope w value)
 known_assignment scope w at v value n h =
     ok_map (walk.value_walk scope (Meant at v) value) _ _ (value_scoped scope at v value)
     (λ step a. inr (inl (record { variable = v; told = _; named = n; writable = h; assigned = a.0; names = a.1 })))
@@ -256,10 +261,10 @@ command_proper scope (list at (more (word head w) none)) action after p c =
     elim c [ inl r ↦ subst IsProper (sym r.2) p | inr r ↦ subst IsProper (sym r.2) p ]
 command_proper scope (list at (more (word head w) (more (word target_at target) (more value none)))) action after p c =
     elim c.1 [
-      inl z ↦ subst IsProper (sym z.names) p
-    | inr o ↦ elim o [
-        inl k ↦ subst IsProper (sym k.names) p
-      | inr f ↦ subst IsProper (sym f.names) (proper_with_local scope target f.told p f.fresh)
+      | inl z ↦ subst IsProper (sym z.names) p
+      | inr o ↦ elim o [
+        | inl k ↦ subst IsProper (sym k.names) p
+        | inr f ↦ subst IsProper (sym f.names) (proper_with_local scope target f.told p f.fresh)
       ]
     ]
 command_proper scope node action after p c = absurd c
@@ -279,5 +284,5 @@ body_scoped scope done (more node rest) p =
     (λ body r. record {
       rest = step.0 ∷ r.rest;
       whole = r.whole ∙ append_assoc done (step.0 ∷ []) r.rest;
-      scoped = record { between = step.1; command = c; rest = r.scoped }
+      scoped = record { between = step.1; command = c; rest = r.scoped };
     }))

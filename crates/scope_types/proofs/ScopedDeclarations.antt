@@ -1,16 +1,14 @@
-use Rattle.std.proofs.Common.{◌≡◌, ◌≢◌, ◌⊎◌, inl, inr, ℕ, ◌+◌, ◌-◌, ◌^◌, ◌<◌, ◌≤◌, Bool, true, false, not, refl, List, [], ◌∷◌, ◌++◌, length, Option, Some, None, IfSome, is_some, Result, Ok, Err, IfOk, IsTrue, IsFalse, nat_le, if◌then◌else◌, bytes_eq, codes, arith, ap, ◌∙◌, sym, subst, append-nil, append_assoc}
-use Rattle.std.proofs.lemmas.Bool.Decides.{nat_tests}
+use Rattle.std.proofs.Common.{◌≡◌, ◌⊎◌, inl, inr, ℕ, Bool, true, false, not, refl, List, [], ◌∷◌, ◌++◌, length, Option, Some, None, IfSome, is_some, IfOk, IsTrue, nat_le, bytes_eq, codes, ap, ◌∙◌, sym, subst, append-nil, append_assoc}
 use Rattle.ccp_base.specs.declared.place.Place.{Place}
 use Rattle.portus_core.specs.declared.program.Decl.{Decl}
 use Rattle.portus_core.specs.Trees.{Node, Nodes, none, more, number, word, list}
 use Rattle.scope_types.specs.declared.declaration.Start.{Start}
 use Rattle.scope_types.specs.declared.declaration.Declaration.{Declaration}
-use Rattle.scope_types.specs.declared.fault.ScopeFault.{ScopeFault}
 use Rattle.scope_types.specs.Words.{is_field_name, is_control_name}
 use Rattle.scope_types.specs.Scope.{Scope}
 use Rattle.scope_types.specs.Names.{decl_from}
 use Rattle.scope_types.specs.DeclarationWalk as walk
-use Rattle.scope_types.specs.WellScoped.{IsStart, IsDeclarationOf, Declares, AreFields, IsGroup, IsControlPart, IsGroupPart, AreParts}
+use Rattle.scope_types.specs.WellScoped.{IsStart, IsDeclarationOf, Declares, AreFields, IsGroup, AreParts}
 use Rattle.scope_types.proofs.Results.{if_ok, then_ok, ok_map}
 use Rattle.scope_types.proofs.ScopedExpressions.{some_case, spelt, IsProper}
 use Rattle.scope_types.proofs.ProperScopes.{proper_with_field, proper_with_control}
@@ -79,7 +77,7 @@ more_fields names node rest d between after declared one r = record {
   controls = r.controls ∙ ap (λ (s : Scope). s.controls) one.whole;
   locals = r.locals ∙ ap (λ (s : Scope). s.locals) one.whole;
   are = (declared, one.right, r.are);
-  proper = r.proper
+  proper = r.proper;
 }
 
 fields_scoped : (names : Scope) (nodes : Nodes) → IsProper names → IfOk (walk.fields_walk names nodes) (AddsFields names nodes)
@@ -117,7 +115,7 @@ group_parts declared between after node rest group is_group first second g r =
       all_controls = r.all_controls ∙ ap (λ ds. ds ++ r.controls) g.controls;
       locals = r.locals;
       are = inl (record { first = first; group = is_group g.fresh g.are; rest = subst (λ ds. AreParts rest true ds r.controls) none_left rest_parts });
-      proper = r.proper
+      proper = r.proper;
     }
 
 control_parts : (declared between after : walk.Declaring) (node : Node) (rest : Nodes) (d : Declaration) → Declares node d.decl → between.grouped ≡ declared.grouped → AddsOne is_control_name declared.names.controls (walk.with_control declared.names) d between.names → AddsParts between rest after → AddsParts declared (more node rest) after
@@ -128,7 +126,7 @@ control_parts declared between after node rest d h same one r = record {
   all_controls = r.all_controls ∙ ap (λ (s : Scope). s.controls ++ r.controls) one.whole ∙ append_assoc declared.names.controls (d.decl ∷ []) r.controls;
   locals = r.locals;
   are = inr (record { decl = d.decl; others = r.controls; whole = refl; declared = h; allowed = one.right; rest = subst (λ b. AreParts rest b r.fields r.controls) same r.are });
-  proper = r.proper
+  proper = r.proper;
 }
 
 -- a part that is the group of fields
@@ -159,8 +157,8 @@ part_scoped : (declared : walk.Declaring) (node : Node) → IsProper declared.na
 part_scoped declared (list at (more (word head w) fields)) p =
     if_ok (bytes_eq w (codes "Report")) _ _ _
     (λ h. if_ok declared.grouped _ _ _ (λ _. tt) (λ first.
-      then_ok (walk.fields_walk declared.names fields) _ _ _ (fields_scoped declared.names fields p) (λ names adds.
-      inl (record { group = fields; is_group = λ decls are. (spelt w (codes "Report") h, are); first = first; second = refl; adds = adds }))))
+    then_ok (walk.fields_walk declared.names fields) _ _ _ (fields_scoped declared.names fields p) (λ names adds.
+    inl (record { group = fields; is_group = λ decls are. (spelt w (codes "Report") h, are); first = first; second = refl; adds = adds }))))
     (λ _. control_part_scoped declared (list at (more (word head w) fields)))
 part_scoped declared (list at none) p = control_part_scoped declared (list at none)
 part_scoped declared (list at (more (number a n) rest)) p = control_part_scoped declared (list at (more (number a n) rest))
@@ -170,8 +168,10 @@ part_scoped declared (word at w) p = control_part_scoped declared (word at w)
 
 step_proper : (declared : walk.Declaring) (node : Node) (between : walk.Declaring) → IsProper declared.names → declared.names.locals ≡ [] → IsPartStep declared node between → IsProper between.names
 step_proper declared node between p e s =
-    elim s [ inl g ↦ g.adds.proper
-           | inr c ↦ subst IsProper (sym c.one.whole) (proper_with_control declared.names c.declaration.decl p e c.one.new c.one.right) ]
+    elim s [
+      | inl g ↦ g.adds.proper
+      | inr c ↦ subst IsProper (sym c.one.whole) (proper_with_control declared.names c.declaration.decl p e c.one.new c.one.right)
+    ]
 
 step_locals : (declared : walk.Declaring) (node : Node) (between : walk.Declaring) → declared.names.locals ≡ [] → IsPartStep declared node between → between.names.locals ≡ []
 step_locals declared node between e s =
@@ -179,14 +179,21 @@ step_locals declared node between e s =
 
 step_parts : (declared : walk.Declaring) (node : Node) (rest : Nodes) (between after : walk.Declaring) → IsPartStep declared node between → AddsParts between rest after → AddsParts declared (more node rest) after
 step_parts declared node rest between after s r =
-    elim s [ inl g ↦ group_parts declared between after node rest g.group g.is_group g.first g.second g.adds r
-           | inr c ↦ control_parts declared between after node rest c.declaration c.declares c.same c.one r ]
+    elim s [
+      | inl g ↦ group_parts declared between after node rest g.group g.is_group g.first g.second g.adds r
+      | inr c ↦ control_parts declared between after node rest c.declaration c.declares c.same c.one r
+    ]
 
 -- what the walk of the parts of `def` gives is scoped
 pub parts_scoped : (declared : walk.Declaring) (nodes : Nodes) → IsProper declared.names → declared.names.locals ≡ [] → IfOk (walk.parts_walk declared nodes) (AddsParts declared nodes)
 parts_scoped declared none p e = record {
-  fields = []; controls = []; all_fields = sym (append-nil declared.names.fields); all_controls = sym (append-nil declared.names.controls);
-  locals = e; are = (refl, refl); proper = p
+  fields = [];
+  controls = [];
+  all_fields = sym (append-nil declared.names.fields);
+  all_controls = sym (append-nil declared.names.controls);
+  locals = e;
+  are = (refl, refl);
+  proper = p;
 }
 parts_scoped declared (more node rest) p e =
     then_ok (walk.part_walk declared node) _ _ _ (part_scoped declared node p) (λ between s.

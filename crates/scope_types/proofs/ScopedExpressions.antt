@@ -1,4 +1,4 @@
-use Rattle.std.proofs.Common.{◌≡◌, ◌≢◌, ℕ, zero, suc, ◌+◌, ◌<◌, ◌^◌, ◌==◌, Bool, true, false, refl, List, [], ◌∷◌, ◌++◌, length, map, drop, take, Option, Some, None, IfSome, Result, Ok, Err, IfOk, IsTrue, IsFalse, nat_lt, nat_eq, slice_get, if◌then◌else◌, bytes_eq, codes, arith, ap, ◌∙◌, sym, subst}
+use Rattle.std.proofs.Common.{◌≡◌, ℕ, zero, suc, ◌+◌, ◌<◌, ◌^◌, ◌==◌, Bool, true, false, refl, List, [], ◌∷◌, ◌++◌, map, drop, Option, Some, None, IfSome, Result, Ok, Err, IfOk, nat_lt, slice_get, if◌then◌else◌, bytes_eq, codes, arith, ap, ◌∙◌, sym, subst}
 use Rattle.std.proofs.lemmas.Bool.Decides.{nat_tests, Decides-eqb}
 use Rattle.std.proofs.lemmas.Slice.Eq.{bytes_eq-Decides, starts_is}
 use Rattle.ccp_base.specs.declared.place.Place.{Place}
@@ -6,20 +6,18 @@ use Rattle.portus_core.specs.declared.program.Decl.{Decl}
 use Rattle.portus_core.specs.declared.program.Op2.{Op2}
 use Rattle.portus_core.specs.declared.program.Var.{Var}
 use Rattle.portus_core.specs.declared.program.Var.TheVariants as var
-use Rattle.portus_core.specs.Programs.{Term, name, pair}
-use Rattle.portus_core.specs.Programs as term
-use Rattle.portus_core.specs.Trees.{Node, Nodes, none, more, number, word, list}
-use Rattle.portus_core.specs.ValidPrograms.{Known, is_truth, term_is_truth, gives_truth, declares_truth, is_told}
+use Rattle.portus_core.specs.Programs.{Term}
+use Rattle.portus_core.specs.Trees.{Node, none, more, number, word, list}
+use Rattle.portus_core.specs.ValidPrograms.{is_truth, term_is_truth, declares_truth, is_told}
 use Rattle.scope_types.specs.declared.names.Local.{Local}
 use Rattle.scope_types.specs.declared.fault.ScopeFault.{ScopeFault}
-use Rattle.scope_types.specs.declared.fault.ScopeFault.TheVariants.{Unknown, Misplaced}
+use Rattle.scope_types.specs.declared.fault.ScopeFault.TheVariants.{Unknown}
 use Rattle.scope_types.specs.Words.{operator_of, constant_of, constant_truth, variable_of, primitive_of, acknowledged_of, is_reserved, is_field_use, is_primitive_use}
 use Rattle.scope_types.specs.Scope.{Scope, known_in}
 use Rattle.scope_types.specs.Names.{decl_from, local_from, named, meaning_of}
 use Rattle.scope_types.specs.ExpressionWalk.{or_refused, name_walk, variable_walk, word_walk, pair_walk, expression_walk}
-use Rattle.scope_types.specs.WellScoped.{IsDeclared, IsField, IsLocal, IsPrimitive, Means, Names, IsName, IsWord, IsPair, IsTerm}
+use Rattle.scope_types.specs.WellScoped.{IsDeclared, IsField, IsLocal, IsPrimitive, Means, NamesVariable, IsName, IsWord, IsPair, IsTerm}
 use Rattle.scope_types.proofs.Results.{if_ok, ok_map}
-use Rattle.scope_types.proofs.ValidExpressions.{if_some}
 
 -- a test of two texts tells whether they are one
 pub spelt : (a b : List ℕ) → bytes_eq a b ≡ true → a ≡ b
@@ -51,7 +49,7 @@ decl_found i (d ∷ ds) w =
     some_case (bytes_eq d.name w) _ _ _
     (λ h. record { k = 0; at = omega arith; decl = d; there = refl; named = spelt d.name w h })
     (λ _. some_mono (decl_from (i + 1) ds w) _ _ (decl_found (i + 1) ds w)
-      (λ n f. record { k = suc f.k; at = let e = f.at in omega arith; decl = f.decl; there = f.there; named = f.named }))
+    (λ n f. record { k = suc f.k; at = let e = f.at in omega arith; decl = f.decl; there = f.there; named = f.named }))
 
 -- the local of the name, counted from `i`
 pub record IsFoundLocal (i : ℕ) (locals : List Local) (w : List ℕ) (n : ℕ) : Type 0 where
@@ -67,7 +65,7 @@ local_found i (l ∷ ls) w =
     some_case (bytes_eq l.name w) _ _ _
     (λ h. record { k = 0; at = omega arith; local = l; there = refl; named = spelt l.name w h })
     (λ _. some_mono (local_from (i + 1) ls w) _ _ (local_found (i + 1) ls w)
-      (λ n f. record { k = suc f.k; at = let e = f.at in omega arith; local = f.local; there = f.there; named = f.named }))
+    (λ n f. record { k = suc f.k; at = let e = f.at in omega arith; local = f.local; there = f.there; named = f.named }))
 
 -- whether the variable is a Bool
 abbrev pub told_of : Scope → Var → Bool
@@ -110,10 +108,10 @@ meaning_means scope w =
     some_case (is_field_use w) _ _ P
     (λ h. named_means P var.Field (decl_from 0 scope.fields (drop 7 w)) None (field_means scope.fields w ((starts_is Decides-eqb w (codes "Report.") (is_field_use w) refl).0 h)) tt)
     (λ _. named_means P var.Prim (primitive_of w) _ (prim_means w (primitive_of w) refl)
-      (named_means P var.Control (decl_from 0 scope.controls w) _
-        (some_mono (decl_from 0 scope.controls w) _ _ (decl_found 0 scope.controls w) (λ i f. declared_of scope.controls w i f))
-        (named_means P var.Local (local_from 0 scope.locals w) None
-          (some_mono (local_from 0 scope.locals w) _ _ (local_found 0 scope.locals w) (λ i f. local_of scope.locals w i f)) tt)))
+    (named_means P var.Control (decl_from 0 scope.controls w) _
+    (some_mono (decl_from 0 scope.controls w) _ _ (decl_found 0 scope.controls w) (λ i f. declared_of scope.controls w i f))
+    (named_means P var.Local (local_from 0 scope.locals w) None
+    (some_mono (local_from 0 scope.locals w) _ _ (local_found 0 scope.locals w) (λ i f. local_of scope.locals w i f)) tt)))
 
 pub variable_kind : (scope : Scope) (w : List ℕ) → IfSome (variable_of w) (λ v. told_of scope v ≡ false)
 variable_kind scope w = grind (arith, nat_tests)
@@ -125,13 +123,13 @@ refused_means : (scope : Scope) (w : List ℕ) (v : Option Var) (fault : ScopeFa
 refused_means scope w (Some v) fault h = h
 refused_means scope w None fault h = tt
 
-variable_names : (scope : Scope) (at : Place) (w : List ℕ) (lang : Option Var) → IfSome lang (λ v. told_of scope v ≡ false) → IfOk (variable_walk scope at w lang) (λ v. Names scope w lang v (told_of scope v))
+variable_names : (scope : Scope) (at : Place) (w : List ℕ) (lang : Option Var) → IfSome lang (λ v. told_of scope v ≡ false) → IfOk (variable_walk scope at w lang) (λ v. NamesVariable scope w lang v (told_of scope v))
 variable_names scope at w (Some v) h = (refl, h)
 variable_names scope at w None h =
     if_ok (is_reserved w) _ _ _ (λ _. tt)
     (λ k. ok_map (or_refused (meaning_of scope w) (Unknown at)) _ _ (refused_means scope w (meaning_of scope w) (Unknown at) (meaning_means scope w)) (λ v m. (k, m)))
 
-name_scoped : (scope : Scope) (w : List ℕ) (v : Result Var ScopeFault) → IfOk v (λ v. Names scope w (variable_of w) v (told_of scope v)) → IfOk (name_walk v) (λ t. IsName scope w t (term_is_truth (known_in scope) t))
+name_scoped : (scope : Scope) (w : List ℕ) (v : Result Var ScopeFault) → IfOk v (λ v. NamesVariable scope w (variable_of w) v (told_of scope v)) → IfOk (name_walk v) (λ t. IsName scope w t (term_is_truth (known_in scope) t))
 name_scoped scope w (Ok v) h = record { variable = v; names = h; term = refl }
 name_scoped scope w (Err e) h = tt
 
@@ -144,7 +142,16 @@ pair_scoped scope at head None Left Right l r p q = tt
 pair_scoped scope at head (Some op) Left Right (Err e) r p q = tt
 pair_scoped scope at head (Some op) Left Right (Ok l) (Err e) p q = tt
 pair_scoped scope at head (Some op) Left Right (Ok l) (Ok r) p q = record {
-  operator = op; spelt = refl; left = l; left_told = _; is_left = p; right = r; right_told = _; is_right = q; term = refl; kind = refl
+  operator = op;
+  spelt = refl;
+  left = l;
+  left_told = _;
+  is_left = p;
+  right = r;
+  right_told = _;
+  is_right = q;
+  term = refl;
+  kind = refl;
 }
 
 below_fact : (a b : ℕ) → nat_lt a b ≡ true → a < b

@@ -1,17 +1,15 @@
-use Rattle.std.proofs.Common.{◌≡◌, ◌≢◌, ℕ, ◌≤◌, Bool, true, false, not, refl, List, [], ◌∷◌, ◌++◌, length, Option, Some, None, Result, Ok, Err, IfOk, IsTrue, nat_le, slice_get, if◌then◌else◌, bytes_eq, codes, ap, ◌∙◌, sym, subst, append-nil, append_assoc, lit≤}
-use Rattle.ccp_base.specs.declared.place.Place.{Place}
+use Rattle.std.proofs.Common.{◌≡◌, ℕ, ◌≤◌, Bool, true, false, not, refl, List, [], ◌∷◌, ◌++◌, length, Some, Result, Ok, Err, IfOk, nat_le, slice_get, bytes_eq, codes, ap, ◌∙◌, sym, subst, append-nil, append_assoc, lit≤}
 use Rattle.portus_core.specs.declared.program.Decl.{Decl}
-use Rattle.portus_core.specs.Programs.{Term, Action, Part, Form}
+use Rattle.portus_core.specs.Programs.{Term, Action, Part}
 use Rattle.portus_core.specs.Trees.{Node, Nodes, none, more, number, word, list}
 use Rattle.scope_types.specs.declared.names.Local.{Local}
-use Rattle.scope_types.specs.declared.fault.ScopeFault.{ScopeFault}
 use Rattle.scope_types.specs.Scope.{Scope}
 use Rattle.scope_types.specs.Names.{decl_from}
 use Rattle.scope_types.specs.ExpressionWalk.{expression_walk}
 use Rattle.scope_types.specs.DeclarationWalk.{Declaring, parts_walk}
 use Rattle.scope_types.specs.CommandWalk.{kind_walk, body_walk}
-use Rattle.scope_types.specs.ProgramWalk.{nothing_declared, without_locals, part_of, condition_walk, inner_walk, block_walk, form_walk, blocks_walk, def_walk, form_of, source_walk}
-use Rattle.scope_types.specs.WellScoped.{IsTerm, IsBody, AreParts, AreDistinct, IsBlock, IsWhen, AreBlocks, IsProgram, IsScoped, first_names}
+use Rattle.scope_types.specs.ProgramWalk.{nothing_declared, without_locals, part_of, condition_walk, inner_walk, form_walk, blocks_walk, def_walk, form_of, source_walk}
+use Rattle.scope_types.specs.WellScoped.{IsTerm, IsBody, AreParts, AreDistinct, IsBlock, IsWhen, AreBlocks, IsProgram, IsScoped}
 use Rattle.scope_types.proofs.Results.{if_ok, then_ok, ok_map}
 use Rattle.scope_types.proofs.ScopedExpressions.{spelt, expression_scoped, IsProper}
 use Rattle.scope_types.proofs.ScopedCommands.{kind_scoped, told_true, IsRestScoped, body_scoped}
@@ -36,16 +34,16 @@ pub nothing_proper : IsProper nothing_declared.names
 nothing_proper = record {
   fields = λ i d h. absurd (cc);
   controls = λ i d h. absurd (cc);
-  locals = λ i l h. absurd (cc)
+  locals = λ i l h. absurd (cc);
 }
 
 def_of : (parts : Nodes) (after : Declaring) → AddsParts nothing_declared parts after → IsDef parts after.names
 def_of parts after a = record {
   are =
-    subst (λ ds. AreParts parts false ds after.names.controls) (sym a.all_fields)
-    (subst (λ ds. AreParts parts false a.fields ds) (sym a.all_controls) a.are);
+      subst (λ ds. AreParts parts false ds after.names.controls) (sym a.all_fields)
+      (subst (λ ds. AreParts parts false a.fields ds) (sym a.all_controls) a.are);
   locals = a.locals;
-  proper = a.proper
+  proper = a.proper;
 }
 
 def_scoped : (node : Node) → IfOk (def_walk node) (Defines node)
@@ -65,7 +63,7 @@ block_of names condition commands c body h r = record {
   is_condition = h;
   after = body.1;
   is_body = subst (λ actions. IsBody names commands actions body.1) (sym r.whole) r.scoped;
-  locals = refl
+  locals = refl;
 }
 
 inner_scoped : (names : Scope) (condition : Node) (commands : Nodes) → IsProper names → IfOk (inner_walk names condition commands) (λ block. IsBlock names condition commands block.0)
@@ -103,7 +101,7 @@ more_blocks : (names : Scope) (done : List Part) (node : Node) (rest : Nodes) (b
 more_blocks names done node rest block blocks w e r = record {
   parts = block.0 ∷ r.parts;
   whole = r.whole ∙ append_assoc done (block.0 ∷ []) r.parts;
-  are = (w, subst (λ (scope : Scope). AreBlocks scope rest r.parts) (sym e) r.are)
+  are = (w, subst (λ (scope : Scope). AreBlocks scope rest r.parts) (sym e) r.are);
 }
 
 blocks_scoped : (names : Scope) (done : List Part) (nodes : Nodes) → IsProper (without_locals names) → IfOk (blocks_walk names done nodes) (AddsBlocks names done nodes)
@@ -122,14 +120,14 @@ distinct_of decls found i j d e h k same =
 program_of : (parts forms : Nodes) (names : Scope) (blocks : List Part × Scope) → IsDef parts names → valid.IsWithin names → AddsBlocks names [] forms blocks → valid.AreBlocks names blocks → IsProgram parts forms (form_of blocks)
 program_of parts forms names blocks d w b v = record {
   declared =
-    subst (λ ds. AreParts parts false ds blocks.1.controls) (sym v.fields)
-    (subst (λ ds. AreParts parts false names.fields ds) (sym v.controls) d.are);
+      subst (λ ds. AreParts parts false ds blocks.1.controls) (sym v.fields)
+      (subst (λ ds. AreParts parts false names.fields ds) (sym v.controls) d.are);
   fields_distinct = subst AreDistinct (sym v.fields) (distinct_of names.fields d.proper.fields);
   controls_distinct = subst AreDistinct (sym v.controls) (distinct_of names.controls (λ i e h. (d.proper.controls i e h).found));
   few_fields = subst (λ (ds : List Decl). length ds ≤ 64) (sym v.fields) w.fields;
   few_controls = subst (λ (ds : List Decl). length ds ≤ 64) (sym v.controls) w.controls;
   blocks = subst (λ (scope : Scope). AreBlocks scope forms blocks.0) (same_start names blocks.1 v.fields v.controls) (subst (AreBlocks (without_locals names) forms) (sym b.whole) b.are);
-  few_blocks = v.few
+  few_blocks = v.few;
 }
 
 pub proper_start : (names : Scope) → names.locals ≡ [] → IsProper names → IsProper (without_locals names)

@@ -1,4 +1,4 @@
-use Rattle.std.specs.Prelude.{◌≡◌, ◌⊎◌, ℕ, ◌+◌, ◌<◌, ◌≤◌, ◌-◌, ◌^◌, ◌==◌, Bool, true, false, IsTrue, IsFalse, List, [], ◌∷◌, ◌++◌, length, Option, Some, None, codes, slice_get}
+use Rattle.std.specs.Prelude.{◌≡◌, ◌⊎◌, ℕ, ◌<◌, ◌≤◌, ◌-◌, ◌^◌, ◌==◌, Bool, true, false, IsTrue, IsFalse, List, [], ◌∷◌, ◌++◌, length, Option, Some, None, codes, slice_get}
 use Rattle.portus_core.specs.declared.program.Decl.{Decl}
 use Rattle.portus_core.specs.declared.program.Op2.{Op2}
 use Rattle.portus_core.specs.declared.program.Var.{Var}
@@ -9,9 +9,8 @@ use Rattle.portus_core.specs.Trees.{Node, Nodes, number, word, list, none, more}
 use Rattle.portus_core.specs.ValidPrograms.{gives_truth, is_writable}
 use Rattle.ccp_base.specs.declared.place.Place.{Place}
 use Rattle.scope_types.specs.declared.names.Local.{Local}
-use Rattle.scope_types.specs.declared.declaration.Start.{Start}
 use Rattle.scope_types.specs.Scope.{Scope, with_local}
-use Rattle.scope_types.specs.Words.{operator_of, constant_of, constant_truth, variable_of, primitive_of, is_name_shaped, is_reserved, is_field_use, is_primitive_use, is_field_name, is_control_name}
+use Rattle.scope_types.specs.Words.{operator_of, constant_of, constant_truth, variable_of, primitive_of, is_reserved, is_field_use, is_primitive_use, is_field_name, is_control_name}
 
 -- the declaration of this number has this name
 pub record IsDeclared (decls : List Decl) (i : ℕ) (w : List ℕ) (told : Bool) : Type 0 where
@@ -48,13 +47,13 @@ Means scope w var.Rate told = ⊥
 Means scope w var.Micros told = ⊥
 
 -- a word that names a variable: one of the language, or one that has a meaning
-abbrev pub Names : Scope → List ℕ → Option Var → Var → Bool → Type 0
-Names scope w (Some u) v told = (v ≡ u) × (told ≡ false)
-Names scope w None v told = IsFalse (is_reserved w) × Means scope w v told
+abbrev pub NamesVariable : Scope → List ℕ → Option Var → Var → Bool → Type 0
+NamesVariable scope w (Some u) v told = (v ≡ u) × (told ≡ false)
+NamesVariable scope w None v told = IsFalse (is_reserved w) × Means scope w v told
 
 pub record IsName (scope : Scope) (w : List ℕ) (t : Term) (told : Bool) : Type 0 where
   pub variable : Var
-  pub names : Names scope w (variable_of w) variable told
+  pub names : NamesVariable scope w (variable_of w) variable told
   pub term : t ≡ name variable
 
 -- a word that is an expression: a value, or a name
@@ -145,7 +144,7 @@ pub record IsZeroAssignment (scope : Scope) (w : List ℕ) (value : Node) (actio
 pub record IsKnownAssignment (scope : Scope) (w : List ℕ) (value : Node) (action : Action) (after : Scope) : Type 0 where
   pub variable : Var
   pub told : Bool
-  pub named : Names scope w (variable_of w) variable told
+  pub named : NamesVariable scope w (variable_of w) variable told
   pub writable : IsTrue (is_writable variable)
   pub assigned : IsValue scope variable told value action
   pub names : after ≡ scope
