@@ -14,6 +14,7 @@ use Rattle.scope_types.specs.Words.{variable_of, is_reserved, is_field_use, is_p
 use Rattle.scope_types.specs.Names.{meaning_of}
 use Rattle.scope_types.specs.Scope.{Scope, known_in}
 use Rattle.scope_types.specs.ExpressionWalk.{expression_walk}
+use Rattle.scope_types.specs.Scope as scope
 use Rattle.scope_types.specs.CommandWalk as walk
 use Rattle.scope_types.proofs.Results.{if_ok, then_ok, both_true, ok_map}
 use Rattle.scope_types.proofs.ValidExpressions.{meaning_known, expression_valid}
@@ -137,7 +138,7 @@ set_known names v term t f = (
 next_test : (n m : ℕ) → m ≡ n → nat_le 8 n ≡ false → ((n == m) && nat_lt n 8) ≡ true
 next_test n m e h = grind (arith, nat_tests)
 
-set_fresh : (names : Scope) (w : List ℕ) (term : Term) → nat_le 8 (length names.locals) ≡ false → IsTrue (is_term (known_in names) term) → IsStep names (set (var.Local (length names.locals)) term, walk.with_local names w (walk.is_bool names term))
+set_fresh : (names : Scope) (w : List ℕ) (term : Term) → nat_le 8 (length names.locals) ≡ false → IsTrue (is_term (known_in names) term) → IsStep names (set (var.Local (length names.locals)) term, scope.with_local names w (walk.is_bool names term))
 set_fresh names w term room t =
     let next : is_next_local (known_in names) (var.Local (length names.locals)) ≡ true = next_test (length names.locals) _ (length-map names.locals (λ (l : Local). l.truth)) room in (
       or_right _ _ (both_true _ _ next t),

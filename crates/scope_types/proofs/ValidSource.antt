@@ -8,6 +8,7 @@ use Rattle.portus_core.specs.ValidPrograms.{Known, is_condition, is_body, is_par
 use Rattle.scope_types.specs.declared.declaration.Declaration.{Declaration}
 use Rattle.scope_types.specs.declared.fault.ScopeFault.{ScopeFault}
 use Rattle.scope_types.specs.Names.{decl_from}
+use Rattle.scope_types.specs.Words.{is_field_name, is_control_name}
 use Rattle.scope_types.specs.Scope.{Scope, known_in}
 use Rattle.scope_types.specs.ExpressionWalk.{expression_walk}
 use Rattle.scope_types.specs.DeclarationWalk as walk
@@ -35,7 +36,7 @@ room n h = grind (arith, nat_tests)
 
 field_within : (names : Scope) (d : Declaration) → IsWithin names → IfOk (walk.field_walk names d) IsWithin
 field_within names d h =
-    if_ok (not (walk.is_field_name d.decl.name)) _ _ _ (λ _. tt) (λ _.
+    if_ok (not (is_field_name d.decl.name)) _ _ _ (λ _. tt) (λ _.
     if_ok (is_some (decl_from 0 names.fields d.decl.name)) _ _ _ (λ _. tt) (λ _.
     if_ok (nat_le 64 (length names.fields)) _ _ _ (λ _. tt) (λ k.
     let within : IsWithin (walk.with_field names d.decl) = record {
@@ -45,7 +46,7 @@ field_within names d h =
 
 control_within : (names : Scope) (d : Declaration) → IsWithin names → IfOk (walk.control_walk names d) IsWithin
 control_within names d h =
-    if_ok (not (walk.is_control_name d.decl.name)) _ _ _ (λ _. tt) (λ _.
+    if_ok (not (is_control_name d.decl.name)) _ _ _ (λ _. tt) (λ _.
     if_ok (is_some (decl_from 0 names.controls d.decl.name)) _ _ _ (λ _. tt) (λ _.
     if_ok (nat_le 64 (length names.controls)) _ _ _ (λ _. tt) (λ k.
     let within : IsWithin (walk.with_control names d.decl) = record {
@@ -90,7 +91,7 @@ parts_within declared none h = h
 parts_within declared (more node rest) h =
     then_ok (walk.part_walk declared node) _ _ _ (part_within declared node h) (λ after k. parts_within after rest k)
 
-def_within : (node : Node) → IfOk (def_walk node) IsWithin
+pub def_within : (node : Node) → IfOk (def_walk node) IsWithin
 def_within (list at (more (word head w) parts)) =
     if_ok (bytes_eq w (codes "def")) _ _ _
     (λ _. then_ok (walk.parts_walk nothing_declared parts) _ _ _ (parts_within nothing_declared parts (record { fields = lit≤ tt; controls = lit≤ tt })) (λ declared h. h))
@@ -98,7 +99,7 @@ def_within (list at (more (word head w) parts)) =
 def_within node = tt
 
 -- the names that each block begins with
-abbrev block_names : Scope → Known
+abbrev pub block_names : Scope → Known
 block_names names = record { fields = names.fields; controls = names.controls; locals = [] }
 
 condition_valid : (names : Scope) (node : Node) → IfOk (condition_walk names node) (λ t. IsTrue (is_condition (known_in names) t))
@@ -133,7 +134,7 @@ block_valid : (names : Scope) (at : Place) (nodes : Nodes) → IfOk (block_walk 
 block_valid names at none = tt
 block_valid names at (more condition commands) = inner_valid names condition commands
 
-form_valid : (names : Scope) (count : ℕ) (node : Node) → IfOk (form_walk names count node) (IsForm names count)
+pub form_valid : (names : Scope) (count : ℕ) (node : Node) → IfOk (form_walk names count node) (IsForm names count)
 form_valid names count (list at (more (word head w) parts)) =
     if_ok (not (bytes_eq w (codes "when"))) _ _ _ (λ _. tt) (λ _.
     if_ok (nat_le 64 count) _ _ _ (λ _. tt) (λ few.
@@ -165,7 +166,7 @@ after_block names block blocks b r = record {
   controls = r.controls ∙ b.controls;
 }
 
-blocks_valid : (names : Scope) (done : List Part) (nodes : Nodes) → IsTrue (are_parts (block_names names) done) → length done ≤ 64 → IfOk (blocks_walk names done nodes) (AreBlocks names)
+pub blocks_valid : (names : Scope) (done : List Part) (nodes : Nodes) → IsTrue (are_parts (block_names names) done) → length done ≤ 64 → IfOk (blocks_walk names done nodes) (AreBlocks names)
 blocks_valid names done none d n = record { valid = d; few = n; fields = refl; controls = refl }
 blocks_valid names done (more node rest) d n =
     then_ok (form_walk names (length done) node) _ _ _ (form_valid names (length done) node) (λ block f.

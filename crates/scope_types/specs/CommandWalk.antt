@@ -12,7 +12,7 @@ use Rattle.scope_types.specs.declared.target.Target.{Target}
 use Rattle.scope_types.specs.declared.target.Target.TheVariants.{Known, Fresh}
 use Rattle.scope_types.specs.Words.{variable_of, is_reserved, is_field_use, is_primitive_use}
 use Rattle.scope_types.specs.Names.{meaning_of}
-use Rattle.scope_types.specs.Scope.{Scope, known_in}
+use Rattle.scope_types.specs.Scope.{Scope, known_in, with_local}
 use Rattle.scope_types.specs.Walk.{place_of, and_then}
 use Rattle.scope_types.specs.ExpressionWalk.{expression_walk}
 
@@ -90,9 +90,6 @@ ewma_walk names target value_at head (more weight (more value none)) =
     and_then (expression_walk names value) (λ e.
     Ok (ewma head v w e, names))))
 ewma_walk names target value_at head parts = Err (fault.Misplaced value_at)
-
-abbrev pub with_local : Scope → List ℕ → Bool → Scope
-with_local names w told = record names { locals = names.locals ++ record { name = w; truth = told } ∷ [] }
 
 -- a target that is a Bool wants a Bool; a word without a meaning becomes a local
 abbrev pub set_walk : Scope → Target → Place → Term → Result Step ScopeFault

@@ -1,5 +1,4 @@
-use Rattle.std.specs.Prelude.{ℕ, ◌-◌, ◌^◌, ◌==◌, Bool, true, false, not, ◌&&◌, ◌||◌, nat_le, List, [], ◌∷◌, ◌++◌, length, Option, Some, None, is_some, Result, Ok, Err, codes, if◌then◌else◌, bytes_eq}
-use Rattle.std.specs.List.{list_any}
+use Rattle.std.specs.Prelude.{ℕ, ◌-◌, ◌^◌, Bool, true, false, not, nat_le, List, [], ◌∷◌, ◌++◌, length, Option, Some, None, is_some, Result, Ok, Err, codes, if◌then◌else◌, bytes_eq}
 use Rattle.ccp_base.specs.declared.place.Place.{Place}
 use Rattle.portus_core.specs.declared.program.Decl.{Decl}
 use Rattle.portus_core.specs.Trees.{Node, Nodes, number, word, list, none, more}
@@ -9,7 +8,7 @@ use Rattle.scope_types.specs.declared.fault.What.TheVariants as what
 use Rattle.scope_types.specs.declared.declaration.Start.{Start}
 use Rattle.scope_types.specs.declared.declaration.Declaration.{Declaration}
 use Rattle.scope_types.specs.declared.declaration.Declared.{Declared}
-use Rattle.scope_types.specs.Words.{is_name_shaped, is_reserved, is_field_use, is_primitive_use}
+use Rattle.scope_types.specs.Words.{is_field_name, is_control_name}
 use Rattle.scope_types.specs.Names.{decl_from}
 use Rattle.scope_types.specs.Scope.{Scope, scope_of}
 use Rattle.scope_types.specs.Walk.{place_of, and_then}
@@ -46,19 +45,6 @@ declaration_walk (list at (more (word word_at w) (more value none))) = declares 
 declaration_walk (list at (more (word head v) (more (word word_at w) (more value none)))) =
     if bytes_eq v (codes "volatile") then declares at true word_at w (start_of value) else Err (Misplaced at)
 declaration_walk node = Err (Misplaced (place_of node))
-
-abbrev pub has_dot : List ℕ → Bool
-has_dot w = list_any (λ c. c == 46) w
-
--- a word that a field may have
-abbrev pub is_field_name : List ℕ → Bool
-is_field_name w =
-    is_name_shaped w
-    && not (has_dot w || bytes_eq w (codes "volatile") || bytes_eq w (codes "true") || bytes_eq w (codes "false"))
-
--- a word that a control variable may have
-abbrev pub is_control_name : List ℕ → Bool
-is_control_name w = not (is_reserved w || is_field_use w || is_primitive_use w)
 
 abbrev pub with_field : Scope → Decl → Scope
 with_field names decl = record names { fields = names.fields ++ decl ∷ [] }

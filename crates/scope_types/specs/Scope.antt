@@ -1,4 +1,4 @@
-use Rattle.std.specs.Prelude.{Bool, List, map}
+use Rattle.std.specs.Prelude.{ℕ, Bool, List, [], ◌∷◌, ◌++◌, map}
 use Rattle.portus_core.specs.declared.program.Decl.{Decl}
 use Rattle.portus_core.specs.ValidPrograms.{Known}
 use Rattle.scope_types.specs.declared.names.Local.{Local}
@@ -16,3 +16,7 @@ scope_of names = record { fields = names.fields; controls = names.controls; loca
 -- the names without their texts
 abbrev pub known_in : Scope → Known
 known_in names = record { fields = names.fields; controls = names.controls; locals = map (λ (l : Local). l.truth) names.locals }
+
+-- the names with one more local
+abbrev pub with_local : Scope → List ℕ → Bool → Scope
+with_local scope w told = record scope { locals = scope.locals ++ record { name = w; truth = told } ∷ [] }

@@ -1,4 +1,4 @@
-use Rattle.std.specs.Prelude.{◌≡◌, ◌⊎◌, ℕ, ◌+◌, ◌<◌, ◌≤◌, ◌^◌, ◌==◌, Bool, true, false, IsTrue, IsFalse, List, [], ◌∷◌, ◌++◌, length, Option, Some, None, codes, slice_get}
+use Rattle.std.specs.Prelude.{◌≡◌, ◌⊎◌, ℕ, ◌<◌, ◌≤◌, ◌-◌, ◌^◌, ◌==◌, Bool, true, false, IsTrue, IsFalse, List, [], ◌∷◌, ◌++◌, length, Option, Some, None, codes, slice_get}
 use Rattle.portus_core.specs.declared.program.Decl.{Decl}
 use Rattle.portus_core.specs.declared.program.Op2.{Op2}
 use Rattle.portus_core.specs.declared.program.Var.{Var}
@@ -9,9 +9,8 @@ use Rattle.portus_core.specs.Trees.{Node, Nodes, number, word, list, none, more}
 use Rattle.portus_core.specs.ValidPrograms.{gives_truth, is_writable}
 use Rattle.ccp_base.specs.declared.place.Place.{Place}
 use Rattle.scope_types.specs.declared.names.Local.{Local}
-use Rattle.scope_types.specs.declared.declaration.Start.{Start}
-use Rattle.scope_types.specs.Scope.{Scope}
-use Rattle.scope_types.specs.Words.{operator_of, constant_of, constant_truth, variable_of, primitive_of, is_name_shaped, is_reserved, is_field_use, is_primitive_use}
+use Rattle.scope_types.specs.Scope.{Scope, with_local}
+use Rattle.scope_types.specs.Words.{operator_of, constant_of, constant_truth, variable_of, primitive_of, is_reserved, is_field_use, is_primitive_use, is_field_name, is_control_name}
 
 -- the declaration of this number has this name
 pub record IsDeclared (decls : List Decl) (i : ℕ) (w : List ℕ) (told : Bool) : Type 0 where
@@ -48,13 +47,13 @@ Means scope w var.Rate told = ⊥
 Means scope w var.Micros told = ⊥
 
 -- a word that names a variable: one of the language, or one that has a meaning
-abbrev pub Names : Scope → List ℕ → Option Var → Var → Bool → Type 0
-Names scope w (Some u) v told = (v ≡ u) × (told ≡ false)
-Names scope w None v told = IsFalse (is_reserved w) × Means scope w v told
+abbrev pub NamesVariable : Scope → List ℕ → Option Var → Var → Bool → Type 0
+NamesVariable scope w (Some u) v told = (v ≡ u) × (told ≡ false)
+NamesVariable scope w None v told = IsFalse (is_reserved w) × Means scope w v told
 
 pub record IsName (scope : Scope) (w : List ℕ) (t : Term) (told : Bool) : Type 0 where
   pub variable : Var
-  pub names : Names scope w (variable_of w) variable told
+  pub names : NamesVariable scope w (variable_of w) variable told
   pub term : t ≡ name variable
 
 -- a word that is an expression: a value, or a name
@@ -82,3 +81,202 @@ IsTerm scope (word at w) t told = IsWord scope w (constant_of w) t told
 IsTerm scope (list at (more (word head o) (more left (more right none)))) t told =
     IsPair (operator_of o) head (IsTerm scope left) (IsTerm scope right) t told
 IsTerm scope (list at parts) t told = ⊥
+
+-- a value that is a Bool where one is wanted
+abbrev pub FitsKind : Bool → Bool → Type 0
+FitsKind wanted told = IsTrue wanted → IsTrue told
+
+-- the assignment of an expression
+pub record IsPlain (scope : Scope) (v : Var) (wanted : Bool) (value : Node) (action : Action) : Type 0 where
+  pub term : Term
+  pub told : Bool
+  pub is_value : IsTerm scope value term told
+  pub fits : FitsKind wanted told
+  pub command : action ≡ set v term
+
+-- the assignment of a value under a condition
+pub record IsChoice (scope : Scope) (wanted : Bool) (make : Term → Term → Action) (condition value : Node) (action : Action) : Type 0 where
+  pub condition_term : Term
+  pub is_condition : IsTerm scope condition condition_term true
+  pub term : Term
+  pub told : Bool
+  pub is_value : IsTerm scope value term told
+  pub fits : FitsKind wanted told
+  pub command : action ≡ make condition_term term
+
+abbrev pub IsWeight : Node → ℕ → Type 0
+IsWeight (number at m) n = (m ≡ n) × (n ≤ 10)
+IsWeight (word at w) n = ⊥
+IsWeight (list at parts) n = ⊥
+
+-- the move of a number towards a value
+pub record IsEwma (scope : Scope) (v : Var) (wanted : Bool) (head : Place) (weight value : Node) (action : Action) : Type 0 where
+  pub number : IsFalse wanted
+  pub tenths : ℕ
+  pub is_weight : IsWeight weight tenths
+  pub term : Term
+  pub told : Bool
+  pub is_value : IsTerm scope value term told
+  pub command : action ≡ ewma head v tenths term
+
+abbrev pub IsSpecial : Scope → Var → Bool → Node → Action → Type 0
+IsSpecial scope v wanted (list at (more (word head w) (more first (more second none)))) action =
+    ((w ≡ codes "if") × IsChoice scope wanted (set_if head v) first second action)
+    ⊎ (((w ≡ codes "!if") × IsChoice scope wanted (set_unless head v) first second action)
+    ⊎ ((w ≡ codes "ewma") × IsEwma scope v wanted head first second action))
+IsSpecial scope v wanted value action = ⊥
+
+-- what a variable may be assigned
+abbrev pub IsValue : Scope → Var → Bool → Node → Action → Type 0
+IsValue scope v wanted value action = IsPlain scope v wanted value action ⊎ IsSpecial scope v wanted value action
+
+abbrev pub IsZero : Node → Type 0
+IsZero (number at n) = n ≡ 0
+IsZero (word at w) = ⊥
+IsZero (list at parts) = ⊥
+
+pub record IsZeroAssignment (scope : Scope) (w : List ℕ) (value : Node) (action : Action) (after : Scope) : Type 0 where
+  pub named : w ≡ codes "Micros"
+  pub zero : IsZero value
+  pub command : action ≡ zero_micros
+  pub names : after ≡ scope
+
+pub record IsKnownAssignment (scope : Scope) (w : List ℕ) (value : Node) (action : Action) (after : Scope) : Type 0 where
+  pub variable : Var
+  pub told : Bool
+  pub named : NamesVariable scope w (variable_of w) variable told
+  pub writable : IsTrue (is_writable variable)
+  pub assigned : IsValue scope variable told value action
+  pub names : after ≡ scope
+
+-- a word that has no meaning, and may get one
+pub record IsFresh (scope : Scope) (w : List ℕ) : Type 0 where
+  pub unreserved : IsFalse (is_reserved w)
+  pub no_field : IsFalse (is_field_use w)
+  pub no_primitive : IsFalse (is_primitive_use w)
+  pub unknown : (v : Var) (told : Bool) → Means scope w v told → ⊥
+
+-- the first assignment of the body's next local
+pub record IsFirstAssignment (scope : Scope) (w : List ℕ) (value : Node) (action : Action) (after : Scope) : Type 0 where
+  pub fresh : IsFresh scope w
+  pub term : Term
+  pub told : Bool
+  pub is_value : IsTerm scope value term told
+  pub few : length scope.locals < 8
+  pub command : action ≡ set (var.Local (length scope.locals)) term
+  pub names : after ≡ with_local scope w told
+
+abbrev pub IsAssignment : Scope → List ℕ → Node → Action → Scope → Type 0
+IsAssignment scope w value action after =
+    IsZeroAssignment scope w value action after
+    ⊎ (IsKnownAssignment scope w value action after ⊎ IsFirstAssignment scope w value action after)
+
+-- a command, with the names before and after it
+abbrev pub IsCommand : Scope → Node → Action → Scope → Type 0
+IsCommand scope (list at (more (word head w) none)) action after =
+    ((w ≡ codes "report") × (action ≡ report) × (after ≡ scope)) ⊎ ((w ≡ codes "fallthrough") × (action ≡ fall) × (after ≡ scope))
+IsCommand scope (list at (more (word head w) (more (word target_at target) (more value none)))) action after =
+    ((w ≡ codes ":=") ⊎ (w ≡ codes "bind")) × IsAssignment scope target value action after
+IsCommand scope node action after = ⊥
+
+pub record IsNext (Command : Action → Scope → Type 0) (Rest : Scope → Type 0) (action : Action) : Type 0 where
+  pub between : Scope
+  pub command : Command action between
+  pub rest : Rest between
+
+-- the commands of a body, with the names before and after them
+abbrev pub IsBody : Scope → Nodes → List Action → Scope → Type 0
+IsBody scope none [] after = after ≡ scope
+IsBody scope none (action ∷ actions) after = ⊥
+IsBody scope (more node rest) [] after = ⊥
+IsBody scope (more node rest) (action ∷ actions) after =
+    IsNext (IsCommand scope node) (λ between. IsBody between rest actions after) action
+
+-- a declared value, and whether it is a Bool
+abbrev pub IsStart : Node → ℕ → Bool → Type 0
+IsStart (number at n) value told = (value ≡ n) × (told ≡ false)
+IsStart (word at w) value told =
+    ((w ≡ codes "true") × (value ≡ 1) × (told ≡ true))
+    ⊎ (((w ≡ codes "false") × (value ≡ 0) × (told ≡ true)) ⊎ ((w ≡ codes "+infinity") × (value ≡ 2 ^ 64 - 1) × (told ≡ false)))
+IsStart (list at parts) value told = ⊥
+
+pub record IsDeclarationOf (volatile : Bool) (w : List ℕ) (value : Node) (decl : Decl) : Type 0 where
+  pub named : decl.name ≡ w
+  pub kept : decl.volatile ≡ volatile
+  pub start : IsStart value decl.start decl.truth
+
+-- a word and a value, or `volatile`, a word and a value
+abbrev pub Declares : Node → Decl → Type 0
+Declares (list at (more (word word_at w) (more value none))) decl = IsDeclarationOf false w value decl
+Declares (list at (more (word head v) (more (word word_at w) (more value none)))) decl = (v ≡ codes "volatile") × IsDeclarationOf true w value decl
+Declares node decl = ⊥
+
+-- the parts of the group of fields
+abbrev pub AreFields : Nodes → List Decl → Type 0
+AreFields none [] = Unit {0}
+AreFields none (decl ∷ decls) = ⊥
+AreFields (more node rest) [] = ⊥
+AreFields (more node rest) (decl ∷ decls) = Declares node decl × IsTrue (is_field_name decl.name) × AreFields rest decls
+
+abbrev pub IsGroup : Node → List Decl → Type 0
+IsGroup (list at (more (word head w) fields)) decls = (w ≡ codes "Report") × AreFields fields decls
+IsGroup node decls = ⊥
+
+pub record IsControlPart (node : Node) (Rest : List Decl → Type 0) (controls : List Decl) : Type 0 where
+  pub decl : Decl
+  pub others : List Decl
+  pub whole : controls ≡ decl ∷ others
+  pub declared : Declares node decl
+  pub allowed : IsTrue (is_control_name decl.name)
+  pub rest : Rest others
+
+pub record IsGroupPart (node : Node) (grouped : Bool) (Rest : Type 0) (fields : List Decl) : Type 0 where
+  pub first : IsFalse grouped
+  pub group : IsGroup node fields
+  pub rest : Rest
+
+-- the parts of `def`, after a group of fields or not: one group at most, and control variables, in their order
+abbrev pub AreParts : Nodes → Bool → List Decl → List Decl → Type 0
+AreParts none grouped fields controls = (fields ≡ []) × (controls ≡ [])
+AreParts (more node rest) grouped fields controls =
+    IsGroupPart node grouped (AreParts rest true [] controls) fields
+    ⊎ IsControlPart node (AreParts rest grouped fields) controls
+
+-- no name is declared twice
+abbrev pub AreDistinct : List Decl → Type 0
+AreDistinct decls = (i j : ℕ) (d e : Decl) → slice_get decls i ≡ Some d → slice_get decls j ≡ Some e → d.name ≡ e.name → i ≡ j
+
+-- the names that a block begins with
+abbrev pub first_names : List Decl → List Decl → Scope
+first_names fields controls = record { fields = fields; controls = controls; locals = [] }
+
+pub record IsBlock (names : Scope) (condition : Node) (commands : Nodes) (part : Part) : Type 0 where
+  pub is_condition : IsTerm names condition part.condition true
+  pub after : Scope
+  pub is_body : IsBody names commands part.body after
+  pub locals : part.locals ≡ length after.locals
+
+abbrev pub IsWhen : Scope → Node → Part → Type 0
+IsWhen names (list at (more (word head w) (more condition commands))) part = (w ≡ codes "when") × IsBlock names condition commands part
+IsWhen names node part = ⊥
+
+abbrev pub AreBlocks : Scope → Nodes → List Part → Type 0
+AreBlocks names none [] = Unit {0}
+AreBlocks names none (part ∷ parts) = ⊥
+AreBlocks names (more node rest) [] = ⊥
+AreBlocks names (more node rest) (part ∷ parts) = IsWhen names node part × AreBlocks names rest parts
+
+-- the parts of `def` and the forms after it, with what they stand for
+pub record IsProgram (parts forms : Nodes) (form : Form) : Type 0 where
+  pub declared : AreParts parts false form.fields form.controls
+  pub fields_distinct : AreDistinct form.fields
+  pub controls_distinct : AreDistinct form.controls
+  pub few_fields : length form.fields ≤ 64
+  pub few_controls : length form.controls ≤ 64
+  pub blocks : AreBlocks (first_names form.fields form.controls) forms form.blocks
+  pub few_blocks : length form.blocks ≤ 64
+
+-- a text's forms are well scoped and stand for the program
+abbrev pub IsScoped : Nodes → Form → Type 0
+IsScoped (more (list at (more (word head w) parts)) forms) form = (w ≡ codes "def") × IsProgram parts forms form
+IsScoped nodes form = ⊥

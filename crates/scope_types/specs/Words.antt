@@ -1,5 +1,5 @@
 use Rattle.std.specs.Prelude.{ℕ, ◌-◌, ◌^◌, Bool, true, false, ◌&&◌, ◌||◌, not, ◌==◌, List, [], ◌∷◌, Option, Some, None, is_some, codes, if◌then◌else◌, bytes_eq, nat_eq}
-use Rattle.std.specs.List.{starts_with, list_all}
+use Rattle.std.specs.List.{starts_with, list_all, list_any}
 use Rattle.std.specs.Char.{is_ascii_alphabetic, is_ascii_alphanumeric}
 use Rattle.portus_core.specs.declared.program.Op2.{Op2}
 use Rattle.portus_core.specs.declared.program.Op2.TheVariants as op
@@ -103,3 +103,16 @@ is_primitive_use w = starts_with nat_eq w (codes "Ack.") || starts_with nat_eq w
 abbrev pub constant_truth : Term → Bool
 constant_truth (truth b) = true
 constant_truth _ = false
+
+abbrev pub has_dot : List ℕ → Bool
+has_dot w = list_any (λ c. c == 46) w
+
+-- a word that a field may have
+abbrev pub is_field_name : List ℕ → Bool
+is_field_name w =
+    is_name_shaped w
+    && not (has_dot w || bytes_eq w (codes "volatile") || bytes_eq w (codes "true") || bytes_eq w (codes "false"))
+
+-- a word that a control variable may have
+abbrev pub is_control_name : List ℕ → Bool
+is_control_name w = not (is_reserved w || is_field_use w || is_primitive_use w)

@@ -1,10 +1,12 @@
-ghost use Rattle.std.specs.Prelude.{◌≡◌, ◌≢◌, IsTrue, IfOk, IfErr, Ok, Err};
+ghost use Rattle.std.specs.Prelude.{◌≡◌, ◌≢◌, IsTrue, IfOk, IfErr, MatchResult, Ok, Err};
 ghost use Rattle.portus_core.specs.Trees.{node_of, nodes_of};
-ghost use Rattle.portus_core.specs.Programs.{form_over};
+ghost use Rattle.portus_core.specs.Programs.{Form, form_over};
+ghost use Rattle.portus_core.specs.ProgramForm.{form_of};
 ghost use Rattle.portus_core.specs.ValidPrograms.{is_valid};
 ghost use Rattle.scope_types.specs.DeclarationWalk.{declaring_of};
 ghost use Rattle.scope_types.specs.ProgramWalk.{nothing_declared, def_walk, source_walk};
 ghost use Rattle.scope_types.specs.Scope.{scope_of};
+ghost use Rattle.scope_types.specs.WellScoped.{IsScoped};
 
 use crate::block::{Blocks, later_forms};
 use crate::declaration::{Declared, parts};
@@ -61,7 +63,7 @@ fn program(names: Names, blocks: Vec<Block>) -> Program
 
 /// The program of a text's forms, or the first refusal in the order of the text.
 fn scope_forms(alloc: Global, forms: &[Tree]) -> Result<Program, ScopeFault>
-    ensures ok { IfOk result (λ p. source_walk (nodes_of forms.now) ≡ Ok (form_over p.fields.items p.controls.items p.blocks.items)) }
+    ensures ok { IfOk result (λ p. source_walk (nodes_of forms.now) ≡ Ok (form_of p)) }
     ensures err { IfErr result (λ e. e ≢ ScopeFault.NoMemory → source_walk (nodes_of forms.now) ≡ Err e) }
 {
     let Cut::First(first, rest) = cut_first(forms) else {
@@ -72,10 +74,15 @@ fn scope_forms(alloc: Global, forms: &[Tree]) -> Result<Program, ScopeFault>
     Ok(program(names, all))
 }
 
-/// The program of a text's forms, or the first refusal in the order of the text.
+/// The program that a text's forms stand for, or the first refusal in the order of the text. Where they stand for
+/// a program, only want of memory can refuse them.
 pub fn scope(alloc: Global, source: Source) -> Result<Program, ScopeFault>
-    ensures ok { IfOk result (λ p. source_walk (nodes_of source.forms.items) ≡ Ok (form_over p.fields.items p.controls.items p.blocks.items)) }
-    ensures err { IfErr result (λ e. e ≢ ScopeFault.NoMemory → source_walk (nodes_of source.forms.items) ≡ Err e) }
+    ensures found { IfOk result (λ p. IsScoped (nodes_of source.forms.items) (form_of p)) }
+    ensures only { (form : Form) → IsScoped (nodes_of source.forms.items) form → MatchResult result (λ p. form_of p ≡ form) (λ e. e ≡ ScopeFault.NoMemory) }
+
+    // The same as equations with the walk over the forms, which is the order of the refusals.
+    ensures gives { IfOk result (λ p. source_walk (nodes_of source.forms.items) ≡ Ok (form_of p)) }
+    ensures refused { IfErr result (λ e. e ≢ ScopeFault.NoMemory → source_walk (nodes_of source.forms.items) ≡ Err e) }
 {
     scope_forms(alloc, source.forms.as_slice())
 }
