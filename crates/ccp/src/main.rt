@@ -27,6 +27,14 @@ fn main(rt: HostRuntime) -> ExitCode {
     let mut source = StdIn::new(rt.stdin());
     let mut sink = StdOut::new(rt.stdout());
     let mut errors = StdErr::new(rt.stderr());
-    let outcome = run(&rt, alloc, words, &mut source, &mut sink, &mut errors, &OpenGate);
+    let outcome = run(
+        &rt,
+        alloc,
+        words,
+        &mut source,
+        &mut sink,
+        &mut errors,
+        &OpenGate,
+    );
     ExitCode::from(outcome.status)
 }

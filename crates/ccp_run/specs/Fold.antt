@@ -1,9 +1,8 @@
-use Rattle.std.specs.Prelude.{ℕ, true, Option, option_map, List, map}
+use Rattle.std.specs.Prelude.{ℕ, true, option_map, List, map}
 use Rattle.ccp_base.specs.declared.ack.Ack.{Ack}
-use Rattle.portus_core.specs.declared.env.Env.{Env}
 use Rattle.portus_core.specs.Programs.{Form}
 use Rattle.portus_core.specs.Value.{Cause}
-use Rattle.portus_core.specs.Epoch.{Event, acknowledged, Reading, by_source, Track, track_at, declared_env, after}
+use Rattle.portus_core.specs.Epoch.{Event, acknowledged, by_source, Track, track_at, declared_env, after}
 use Rattle.portus_core.specs.Reports.{Epoch, reports, fault_of}
 use Rattle.ccp_run.specs.declared.text.Fault.{Fault}
 use Rattle.ccp_run.specs.declared.text.End.{End}

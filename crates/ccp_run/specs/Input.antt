@@ -6,6 +6,7 @@ use Rattle.portus_parser.specs.Spelling.{Spells}
 use Rattle.portus_parser.specs.Refusals.{IsRefused}
 use Rattle.scope_types.specs.declared.fault.ScopeFault.{ScopeFault}
 use Rattle.scope_types.specs.ProgramWalk.{source_walk}
+use Rattle.scope_types.specs.WellScoped.{IsScoped}
 use Rattle.ccp_run.specs.declared.acks.LineFault.{LineFault}
 use Rattle.ccp_run.specs.declared.acks.LineFault.TheVariants as lines
 use Rattle.ccp_run.specs.declared.answer.Stop.{Stop}
@@ -18,13 +19,13 @@ use Rattle.ccp_run.specs.Separated.{Cut, cut_of}
 use Rattle.ccp_run.specs.Acknowledgements.{acks_of}
 use Rattle.ccp_run.specs.Fold.{folded_text}
 
--- a text stands for a program: it spells forms, and they are that program
+-- a text stands for a program: it spells forms, and they are well scoped and that program
 pub record StandsFor (text : List ℕ) (form : Form) : Type 0 where
   pub forms : Nodes
   pub spelled : Spells text forms
-  pub scoped : source_walk forms ≡ Ok form
+  pub scoped : IsScoped forms form
 
--- the forms of a text are refused
+-- a text spells forms, and this is their first refusal
 pub record IsMisscoped (text : List ℕ) (fault : ScopeFault) : Type 0 where
   pub forms : Nodes
   pub spelled : Spells text forms

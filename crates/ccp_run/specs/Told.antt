@@ -1,4 +1,4 @@
-use Rattle.std.specs.Prelude.{◌≡◌, ℕ, List, take, length}
+use Rattle.std.specs.Prelude.{ℕ, List}
 use Rattle.ccp_base.specs.Outside.{Known, Rose, Appends, AppendsPrefix}
 
 -- the line was put at the end of what was written, or a front of it where the count of faults rose

@@ -1,4 +1,4 @@
-use Rattle.std.proofs.Common.{◌≡◌, ◌∙◌, ap}
+use Rattle.std.proofs.Common.{◌∙◌, ap}
 use Rattle.portus_core.specs.ProgramForm.{form_of}
 use Rattle.ccp_run.specs.declared.parts.Separator.TheVariants.{LineFeed}
 use Rattle.ccp_run.specs.Parts.{parts_of}

@@ -1,4 +1,4 @@
-use Rattle.std.proofs.Common.{◌≡◌, ℕ, ◌+◌, ◌≤◌, ◌++◌, List, length, map, option_map}
+use Rattle.std.proofs.Common.{◌≡◌, ◌+◌, ◌≤◌, ◌++◌, List, length, map, option_map}
 use Rattle.std.specs.Option.{option_or}
 use Rattle.ccp_base.specs.declared.ack.Ack.{Ack}
 use Rattle.portus_core.specs.Programs.{Form}
