@@ -1,0 +1,120 @@
+-- Reno, by RFC 5681, sections 3.1 and 3.2, in whole numbers. It differs from the RFC in three points: it is
+-- worked out once per report, not once per acknowledgement; quotients are cut; and a mark is answered as a
+-- loss without lost packets. Windows, caps and thresholds are in bytes, times in microseconds.
+use Rattle.std.specs.Prelude.{ℕ, ◌-◌, ◌*◌, ◌/◌, ◌^◌, ◌≤◌, ◌==◌, ◌||◌, nat_lt, nat_le, min, max, if◌then◌else◌}
+use Rattle.ccp_base.specs.Saturating.{◌+ˢ◌, ◌*ˢ◌, muldiv, held}
+use Rattle.ccp_base.specs.Reading.{reading_of}
+use Rattle.ccp_base.specs.Course.{epoch_of, first_course, role_of, course_after, change_to, initial_segments}
+use Rattle.ccp_base.specs.declared.look.Role.{Role}
+use Rattle.ccp_base.specs.declared.reading.Reading.{Reading}
+use Rattle.ccp_base.specs.declared.course.Course.{Course}
+use Rattle.ccp_base.specs.declared.course.Mode.{Mode}
+use Rattle.ccp_base.specs.declared.course.Mode.TheVariants.{SlowStart, Avoidance}
+use Rattle.ccp_base.specs.declared.exchange.Reply.{Reply}
+use Rattle.ccp_base.specs.declared.exchange.Reply.TheVariants.{Nothing, Update}
+use Rattle.ccp_base.specs.declared.exchange.Told.{Told}
+use Rattle.ccp_base.specs.declared.exchange.Told.TheVariants.{Report, Fault}
+
+pub record RenoState : Type 0 where
+  -- the segment's size, in bytes
+  pub mss : ℕ
+  pub course : Course
+  -- the congestion window, in bytes
+  pub window : ℕ
+  -- the slow start threshold, in bytes; 2^64-1 before the first loss
+  pub ssthresh : ℕ
+  -- a loss or a mark before this time, in microseconds, belongs to the loss event that was answered last
+  pub calm : ℕ
+
+-- the ranges of a state
+pub record IsInRange (mss window : ℕ) : Type 0 where
+  pub segment : 1 ≤ mss
+  pub segment_most : mss ≤ 65535
+  pub window_least : mss ≤ window
+  pub window_most : window ≤ 4096 * mss
+
+-- what a state becomes, and the reply
+abbrev pub Turn : Type 0
+Turn = RenoState × Reply
+
+-- an agent that was told nothing yet
+abbrev pub first_reno : ℕ → Role → Role → RenoState
+first_reno mss ss ca = record {
+  mss = mss;
+  course = first_course ss ca;
+  window = initial_segments mss *ˢ mss;
+  ssthresh = 2 ^ 64 - 1;
+  calm = 0;
+}
+
+-- a window held from one segment to 4,096 segments
+abbrev pub held_window : ℕ → ℕ → ℕ
+held_window mss window = held mss (4096 *ˢ mss) window
+
+-- half of the flight before the losses were noticed, at least 2 segments (RFC 5681, equation 4) and at most 4,096
+abbrev pub cut_of : ℕ → Reading → ℕ
+cut_of mss r = min (max ((r.inflight +ˢ r.loss *ˢ mss) / 2) (2 *ˢ mss)) (4096 *ˢ mss)
+
+-- the retransmission timer ran out: the window is one segment (RFC 5681, section 3.1)
+abbrev pub after_timeout : Reading → RenoState → Turn
+after_timeout r s =
+    let cut = cut_of s.mss r in (
+      record s { course = course_after SlowStart s.course; window = s.mss; ssthresh = cut; calm = 0 },
+      change_to SlowStart s.course s.mss cut,
+    )
+
+-- packets were lost or marked: the window is the threshold, once in a round-trip time (RFC 5681, section 3.2)
+abbrev pub after_loss : Reading → RenoState → Turn
+after_loss r s =
+    let cut = cut_of s.mss r in
+    if nat_lt r.now s.calm then (s, Nothing) else (
+      record s { course = course_after Avoidance s.course; window = cut; ssthresh = cut; calm = r.now +ˢ r.rtt },
+      change_to Avoidance s.course cut cut,
+    )
+
+-- slow start ends where the window has reached the threshold (RFC 5681, section 3.1)
+abbrev pub in_slow_start : Reading → RenoState → Turn
+in_slow_start r s =
+    if nat_le s.ssthresh r.cwnd then (record s { course = course_after Avoidance s.course }, change_to Avoidance s.course s.window s.ssthresh)
+    else (s, Nothing)
+
+-- congestion avoidance: the window grows by about one segment in a round-trip time, and by at least one byte
+-- (RFC 5681, equation 3, with the bytes of the whole report)
+abbrev pub in_avoidance : Reading → RenoState → Turn
+in_avoidance r s =
+    let window = held_window s.mss (s.window +ˢ max 1 (muldiv s.mss r.acked s.window)) in
+    if r.acked == 0 then (s, Nothing) else (record s { window = window }, Update window)
+
+-- a report without a timeout, a loss or a mark
+abbrev pub in_mode : Mode → Reading → RenoState → Turn
+in_mode SlowStart r s = in_slow_start r s
+in_mode Avoidance r s = in_avoidance r s
+
+-- a report is treated by the first case that holds
+abbrev pub after_reading : Reading → RenoState → Turn
+after_reading r s =
+    if nat_lt 0 r.timeout then after_timeout r s
+    else if nat_lt 0 r.loss || nat_lt 0 r.ecn then after_loss r s
+    else in_mode s.course.mode r s
+
+-- in slow start the datapath moves the window, and the agent takes it from the report
+abbrev pub window_told : Mode → Reading → RenoState → RenoState
+window_told SlowStart r s = record s { window = held_window s.mss r.cwnd }
+window_told Avoidance r s = s
+
+-- the program stopped by a fault is started again where the agent stands
+abbrev pub after_fault : RenoState → Turn
+after_fault s =
+    let mode = s.course.mode in
+    (record s { course = course_after mode s.course }, change_to mode s.course s.window s.ssthresh)
+
+-- what is told of the agent's epoch
+abbrev pub after_told : Told → RenoState → Turn
+after_told (Report report) s =
+    let r = reading_of (role_of s.course.mode s.course).look report in
+    after_reading r (window_told s.course.mode r s)
+after_told (Fault notice) s = after_fault s
+
+-- Reno: what is told of another epoch is passed over
+abbrev pub reno : RenoState → Told → Turn
+reno s told = if epoch_of told == s.course.epoch then after_told told s else (s, Nothing)

@@ -1,0 +1,8 @@
+//! The agent Reno: congestion control by RFC 5681, sections 3.1 and 3.2, over the reports of a flow.
+#![tactic(auto)]
+
+mod reno;
+#[cfg(test)]
+mod tests;
+
+pub use reno::Reno;
