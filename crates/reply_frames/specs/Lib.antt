@@ -3,3 +3,4 @@ pub mod Kinds
 pub mod Frames
 pub mod Spelling
 pub mod Decoding
+pub mod Writing
