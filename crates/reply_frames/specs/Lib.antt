@@ -4,3 +4,4 @@ pub mod Frames
 pub mod Spelling
 pub mod Decoding
 pub mod Writing
+pub mod Exact
