@@ -3,3 +3,5 @@ pub mod Kinds
 pub mod Frames
 pub mod Spelling
 pub mod Decoding
+pub mod Writing
+pub mod Exact

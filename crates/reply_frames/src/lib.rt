@@ -4,6 +4,7 @@
 
 mod bodies;
 mod decode;
+mod encode;
 mod fault;
 mod head;
 mod outline;
@@ -11,5 +12,6 @@ mod parts;
 mod values;
 
 pub use decode::{Head, decode_fields};
+pub use encode::{encode_change, encode_update};
 pub use fault::{BadKind, FrameFault, Short, Stop};
 pub use outline::{Counts, FrameKind, Outline, Version};

@@ -1,0 +1,10 @@
+use Rattle.std.proofs.Common.{◌≡◌, ◌+◌, ◌*◌, take}
+use Rattle.reply_frames.specs.Spelling.{values_bytes}
+use Rattle.reply_frames.specs.Writing.{placed}
+use Rattle.reply_frames.proofs.encode.put_values.Given as goal
+
+abbrev pub invariant-loop-reg : goal.invariant-loop-reg
+invariant-loop-reg l = record {
+  end : l.end ≡ l.at + 10 * l.reg-index;
+  written : l.out ≡ placed l.at (values_bytes (take l.reg-index l.values)) l.initial.out;
+}

@@ -1,0 +1,10 @@
+-- Bytes that are written into others.
+use Rattle.std.specs.Prelude.{ℕ, ◌+◌, List, ◌++◌, length, take, drop}
+
+-- bytes from a place on in place of what stood there; what stands before and after them is as it was
+abbrev pub placed : ℕ → List ℕ → List ℕ → List ℕ
+placed at bytes old = take at old ++ bytes ++ drop (at + length bytes) old
+
+-- bytes at the front, and after them what stood there
+abbrev pub over : List ℕ → List ℕ → List ℕ
+over bytes old = bytes ++ drop (length bytes) old
