@@ -286,6 +286,26 @@ fn words_ask_for_a_mode(rt: HostRuntime) -> Result<(), Fail> {
 }
 
 #[test]
+fn a_status_stays_where_errors_cannot_be_told(rt: HostRuntime) -> Result<(), Fail> {
+    let words = words(rt.alloc(), &["ccp", "fold", "--workers", "33"])?;
+    let mut source = MemSource::new(FIRST_REPORT.as_bytes(), 4096, &[]);
+    let mut sink = MemSink::new(rt.alloc(), 4096, &[]);
+    let mut errors = MemSink::new(rt.alloc(), 4096, &[0]);
+    let outcome = run(
+        &rt,
+        rt.alloc(),
+        words,
+        &mut source,
+        &mut sink,
+        &mut errors,
+        &OpenGate,
+    );
+    assert_eq!(rt; outcome.status, 2);
+    assert_eq!(rt; errors.as_slice().len(), 0);
+    Ok(())
+}
+
+#[test]
 fn inputs_past_the_limit_are_refused(rt: HostRuntime) -> Result<(), Fail> {
     let blanks = vec![in rt.alloc(); b' '; 1_048_577]?;
     let mut source = MemSource::new(&blanks, 65_536, &[]);
