@@ -1,5 +1,5 @@
 -- What the definition of the link gives for a few short lists of windows.
-use Rattle.std.proofs.Common.{◌≡◌, ℕ, ◌≤◌, [], ◌∷◌, Some, None, true, refl, arith, lit≤}
+use Rattle.std.proofs.Common.{◌≡◌, List, ℕ, ◌≤◌, [], ◌∷◌, Some, None, true, refl, arith, lit≤}
 use Rattle.std.specs.Option.{ForSome}
 use Rattle.std.specs.List.Sorted.{IsStrictlyIncreasing}
 use Rattle.link_model.specs.Chances.{chance_time}
@@ -7,8 +7,12 @@ use Rattle.link_model.specs.Link.{ack_after}
 use Rattle.link_model.specs.declared.link_case.LinkCase.{LinkCase}
 use Rattle.ccp_base.specs.declared.ack.Ack.{Ack}
 
-chances_begin_anew : (chance_time (1 ∷ 1 ∷ 3 ∷ []) 3 ≡ 4000) × (chance_time (1 ∷ 1 ∷ 3 ∷ []) 5 ≡ 6000)
-chances_begin_anew = (refl, refl)
+abbrev first_six : List ℕ → List ℕ
+first_six times =
+    chance_time times 0 ∷ chance_time times 1 ∷ chance_time times 2 ∷ chance_time times 3 ∷ chance_time times 4 ∷ chance_time times 5 ∷ []
+
+chances_begin_anew : first_six (1 ∷ 1 ∷ 3 ∷ []) ≡ 1000 ∷ 1000 ∷ 3000 ∷ 4000 ∷ 4000 ∷ 6000 ∷ []
+chances_begin_anew = refl
 
 none : (P : ℕ → Type 0) → ForSome None P
 none P x is = absurd (let h : None ≡ Some x = is in (cc))

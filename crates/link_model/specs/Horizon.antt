@@ -1,5 +1,5 @@
 -- How far the times of a link can come: bounds by the packets sent and the calls made, so that its numbers fit.
-use Rattle.std.specs.Prelude.{ℕ, ◌+◌, ◌*◌, ◌<◌, ◌≤◌, List, [], ◌∷◌, length}
+use Rattle.std.specs.Prelude.{ℕ, ◌+◌, ◌*◌, ◌^◌, ◌<◌, ◌≤◌, List, [], ◌∷◌, length}
 use Rattle.link_model.specs.declared.link_case.LinkCase.{LinkCase}
 use Rattle.link_model.specs.declared.packet.Packet.{Packet}
 use Rattle.link_model.specs.declared.packet.Fate.{Fate}
@@ -28,6 +28,13 @@ pub record IsTimely (case : LinkCase) (standing : Standing) : Type 0 where
   pub time : standing.time ≤ horizon standing.sent standing.calls
   pub chances : (k : ℕ) → k < standing.chance → chance_time case.trace k ≤ horizon standing.sent standing.calls
   pub flight : AllServedWithin case.trace standing.chance standing.flight
+
+-- the counts of a link are within the bounds of 65,536 calls
+pub record IsCounted (standing : Standing) : Type 0 where
+  pub flight : length standing.flight ≤ 4096
+  pub sent : standing.sent ≤ 2 ^ 28
+  pub acked : standing.acked ≤ 65536
+  pub calls : standing.calls ≤ 65536
 
 -- what landed, its sending time and its chance, within a horizon
 abbrev pub LandsWithin : List ℕ → ℕ → Landing → Type 0

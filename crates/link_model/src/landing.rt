@@ -6,12 +6,18 @@ use circular_buffer::HeapCircularBuffer;
 
 /// What comes of the packets in flight.
 #[derive(Clone, Copy, PartialEq, Eq, Debug)]
-pub enum Landing {
-    /// The first packet that isn't lost arrives: when it was sent, the number of its chance, whether it is marked,
-    /// and how many lost packets were before it.
-    Arrived(u64, u128, bool, u64),
-    /// All packets are lost, so many.
-    AllLost(u64),
+pub(crate) enum Landing {
+    /// The first packet that isn't lost arrives, after so many lost ones.
+    Arrived {
+        sent_at: u64,
+        chance: u128,
+        marked: bool,
+        lost: u64,
+    },
+    /// All packets are lost.
+    AllLost {
+        lost: u64,
+    },
 }
 
 /// Takes the packets off, up to the first one that isn't lost.
@@ -23,10 +29,15 @@ pub(crate) fn land(flight: &mut HeapCircularBuffer<Packet>) -> Landing
 {
     let mut lost = 0;
     while let Some(packet) = flight.pop_front() {
-        if let Fate::Served(chance, marked) = packet.fate {
-            return Landing::Arrived(packet.sent_at, chance, marked, lost);
+        if let Fate::Served { chance, marked } = packet.fate {
+            return Landing::Arrived {
+                sent_at: packet.sent_at,
+                chance,
+                marked,
+                lost,
+            };
         }
         lost += 1;
     }
-    Landing::AllLost(lost)
+    Landing::AllLost { lost }
 }

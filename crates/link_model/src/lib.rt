@@ -11,12 +11,10 @@ mod trace;
 mod trace_text;
 mod traffic;
 
-pub use landing::Landing;
 pub use link::Link;
 pub use link_case::LinkCase;
 pub use packet::{Fate, Packet};
 pub use trace::{LONGEST_MS, Trace, TraceFault};
-pub use trace_text::TraceLine;
 
 #[cfg(test)]
 mod tests;

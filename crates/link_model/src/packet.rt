@@ -2,8 +2,8 @@
 #[derive(Clone, Copy, PartialEq, Eq, Debug)]
 pub enum Fate {
     Lost,
-    /// The link sends it on at the chance of this number. The second part says whether it is marked.
-    Served(u128, bool),
+    /// The link sends it on at the chance of this number, and may mark it.
+    Served { chance: u128, marked: bool },
 }
 
 /// A packet that was sent.

@@ -12,7 +12,7 @@ use std::alloc::Global;
 
 /// What one line of a trace text says.
 #[derive(Clone, Copy, PartialEq, Eq, Debug)]
-pub enum TraceLine {
+pub(crate) enum TraceLine {
     /// The line is blank.
     Nothing,
     /// A time in milliseconds, from 0 to 3,600,000.

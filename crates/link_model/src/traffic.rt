@@ -4,7 +4,7 @@ ghost use Rattle.link_model.specs.Chances.{chance_time};
 ghost use Rattle.link_model.specs.Traces.{IsTrace};
 ghost use Rattle.link_model.specs.Link.{fate_by, is_marked, is_listed, rate_of, arrival_ack, timeout_ack};
 ghost use Rattle.link_model.specs.Standing.{packet_by, with_packet, sending_now, landing, staying, ack_by, with_flight, with_ack};
-ghost use Rattle.link_model.specs.Horizon.{IsTimely, LandsWithin, horizon, IsChanceBelow};
+ghost use Rattle.link_model.specs.Horizon.{IsTimely, IsCounted, LandsWithin, horizon, IsChanceBelow};
 
 use crate::chance::{chance_time, first_chance};
 use crate::landing::{Landing, land};
@@ -87,7 +87,7 @@ impl Traffic {
         requires chance { IsChanceBelow packet.fate (2 ^ 127) }
         ensures { self.new ≡ with_packet self.old packet }
     {
-        if let Fate::Served(chance, _marked) = packet.fate {
+        if let Fate::Served { chance, .. } = packet.fate {
             self.chance = self.chance.max(chance + 1);
         }
         self.flight.push_back(packet);
@@ -157,29 +157,26 @@ impl Traffic {
     fn ack(&self, case: &LinkCase, landing: Landing) -> Ack
         requires within { LandsWithin case.now.trace (horizon self.now.sent self.now.calls) landing }
         requires time { self.now.time ≤ horizon self.now.sent self.now.calls }
-        requires flight { length self.now.flight ≤ 4096 }
-        requires sent { self.now.sent ≤ 2 ^ 28 }
-        requires acked { self.now.acked ≤ 65536 }
-        requires calls { self.now.calls ≤ 65536 }
+        requires counted { IsCounted self.now }
         ensures ack { result ≡ ack_by case.now self.now landing }
         ensures time { result.now ≤ horizon self.now.sent (self.now.calls + 1) }
         ensures acked { result.packets_acked ≤ 1 }
     {
         match landing {
-            Landing::Arrived(sent_at, chance, marked, lost) => {
-                self.arrival(case, sent_at, chance, marked, lost)
-            }
-            Landing::AllLost(lost) => self.timeout(case, lost),
+            Landing::Arrived {
+                sent_at,
+                chance,
+                marked,
+                lost,
+            } => self.arrival(case, sent_at, chance, marked, lost),
+            Landing::AllLost { lost } => self.timeout(case, lost),
         }
     }
 
     fn arrival(&self, case: &LinkCase, sent_at: u64, chance: u128, marked: bool, lost: u64) -> Ack
         requires sent_at { sent_at ≤ chance_time case.now.trace chance }
         requires chance { chance_time case.now.trace chance ≤ horizon self.now.sent self.now.calls }
-        requires flight { length self.now.flight ≤ 4096 }
-        requires sent { self.now.sent ≤ 2 ^ 28 }
-        requires acked { self.now.acked ≤ 65536 }
-        requires calls { self.now.calls ≤ 65536 }
+        requires counted { IsCounted self.now }
         ensures { result ≡ arrival_ack case.now sent_at chance marked lost (length self.now.flight) (self.now.acked + 1) self.now.sent }
     {
         let now = chance_time(case.trace.as_slice(), chance) + case.delay_us;
@@ -206,10 +203,7 @@ impl Traffic {
 
     fn timeout(&self, case: &LinkCase, lost: u64) -> Ack
         requires time { self.now.time ≤ horizon self.now.sent self.now.calls }
-        requires flight { length self.now.flight ≤ 4096 }
-        requires sent { self.now.sent ≤ 2 ^ 28 }
-        requires acked { self.now.acked ≤ 65536 }
-        requires calls { self.now.calls ≤ 65536 }
+        requires counted { IsCounted self.now }
         ensures { result ≡ timeout_ack case.now (self.now.time + case.now.timeout_us) self.now.sample lost (length self.now.flight) self.now.acked self.now.sent }
     {
         let now = self.time + case.timeout_us;
@@ -235,7 +229,10 @@ fn fate(case: &LinkCase, number: u32, queued: u128, chance: u128) -> Fate
     if is_listed(case.losses.as_slice(), number) || queued >= u128::from(case.queue) {
         return Fate::Lost;
     }
-    Fate::Served(chance, is_marked(case.mark, queued))
+    Fate::Served {
+        chance,
+        marked: is_marked(case.mark, queued),
+    }
 }
 
 fn is_marked(mark: Option<u32>, queued: u128) -> bool

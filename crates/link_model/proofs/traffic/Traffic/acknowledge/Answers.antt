@@ -13,10 +13,18 @@ ack-ack-requires-clause-within c =
     subst (λ (l : Landing). LandsWithin case.trace (horizon c.self.inside.sent c.self.inside.calls) l) (sym c.land-landing.ensures.landed)
     (lands_within case.trace c.self.inside.chance _ c.self.inside.flight.items 0 timely.chances timely.flight (omega (arith, few)))
 
-pub ack-ack-requires-clause-flight : goal.ack-ack-requires-clause-flight
-ack-ack-requires-clause-flight c =
+pub ack-ack-requires-clause-counted : goal.ack-ack-requires-clause-counted
+ack-ack-requires-clause-counted c =
     let few = subst (λ (s : Standing). length s.flight ≤ 4096) (sym c.self.view_is) c.requires.flight in
-    omega (arith, ap length c.land-landing.ensures.left, staying_fewer c.self.inside.flight.items, few)
+    let sent = ap (λ s. s.sent) c.self.view_is in
+    let acked = ap (λ s. s.acked) c.self.view_is in
+    let calls = ap (λ s. s.calls) c.self.view_is in
+    record {
+      flight = omega (arith, ap length c.land-landing.ensures.left, staying_fewer c.self.inside.flight.items, few);
+      sent = omega arith;
+      acked = omega arith;
+      calls = omega arith;
+    }
 
 pub returns-clause-timely : goal.returns-clause-timely
 returns-clause-timely c =
