@@ -1,5 +1,5 @@
 -- What the definition of the link gives for a few short lists of windows.
-use Rattle.std.proofs.Common.{◌≡◌, ℕ, ◌≤◌, [], ◌∷◌, Some, None, true, refl, arith, lit≤}
+use Rattle.std.proofs.Common.{◌≡◌, List, ℕ, ◌≤◌, [], ◌∷◌, Some, None, true, refl, arith, lit≤}
 use Rattle.std.specs.Option.{ForSome}
 use Rattle.std.specs.List.Sorted.{IsStrictlyIncreasing}
 use Rattle.link_model.specs.Chances.{chance_time}
