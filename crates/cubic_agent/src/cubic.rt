@@ -6,6 +6,11 @@ use ccp_base::{Course, Mode, Reading, Reply, Role, Told, initial_segments};
 use int_roots::muldiv;
 use std::marker::Model;
 
+/// The RFC's alpha, `3 * (1 - beta) / (1 + beta)`, is 9/17 of a segment: `ALPHA / ALPHA_UNIT` thousandths of one.
+const ALPHA: u64 = 9000;
+
+const ALPHA_UNIT: u64 = 17;
+
 /// Microseconds in a millisecond.
 const MILLISECOND: u64 = 1000;
 
@@ -232,9 +237,9 @@ impl Cubic {
         ensures { result ≡ estimate_of acked self.now }
     {
         let growth = if self.growth.w_est < self.growth.w_prior {
-            9000u64.saturating_mul(acked) / 17u64.saturating_mul(self.growth.window)
+            ALPHA.saturating_mul(acked) / ALPHA_UNIT.saturating_mul(self.growth.window)
         } else {
-            1000u64.saturating_mul(acked) / self.growth.window
+            SEGMENT.saturating_mul(acked) / self.growth.window
         };
         self.growth.w_est.saturating_add(growth).min(WINDOW_MOST)
     }

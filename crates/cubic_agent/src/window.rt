@@ -10,6 +10,16 @@ pub(crate) const WINDOW_MOST: u64 = 4_096_000;
 /// The least threshold, in thousandths of a segment (RFC 9438, section 4.6).
 const THRESHOLD_LEAST: u64 = 2000;
 
+/// The RFC's beta, 0.7, is `BETA / BETA_UNIT`.
+const BETA: u64 = 7;
+
+const BETA_UNIT: u64 = 10;
+
+/// What fast convergence leaves of a window, `(1 + beta) / 2`, is `CONVERGENCE / CONVERGENCE_UNIT`.
+const CONVERGENCE: u64 = 17;
+
+const CONVERGENCE_UNIT: u64 = 20;
+
 /// A window in thousandths of a segment, in bytes.
 pub(crate) fn bytes(mss: u32, window: u64) -> u64
     ensures { result ≡ bytes_of mss window }
@@ -24,11 +34,11 @@ pub(crate) fn held_window(window: u64) -> u64
     window.min(WINDOW_MOST).max(SEGMENT)
 }
 
-/// The window after a loss event: beta, 0.7, of the one before, at least 2 segments (RFC 9438, section 4.6).
+/// The window after a loss event: beta of the one before, at least 2 segments (RFC 9438, section 4.6).
 pub(crate) fn decreased(window: u64) -> u64
     ensures { result ≡ decreased window }
 {
-    (window.saturating_mul(7) / 10).max(THRESHOLD_LEAST)
+    (window.saturating_mul(BETA) / BETA_UNIT).max(THRESHOLD_LEAST)
 }
 
 /// W_max after a loss event: the window, but (1 + beta) / 2 of it where it didn't reach the last W_max, so that
@@ -37,7 +47,7 @@ pub(crate) fn converged(w_max: u64, window: u64) -> u64
     ensures { result ≡ converged w_max window }
 {
     if window < w_max {
-        window.saturating_mul(17) / 20
+        window.saturating_mul(CONVERGENCE) / CONVERGENCE_UNIT
     } else {
         window
     }
