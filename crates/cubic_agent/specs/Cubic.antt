@@ -1,0 +1,175 @@
+-- CUBIC, by RFC 9438, section 4. It differs from the RFC in three points: it is worked out once per report, not
+-- once per acknowledgement; numbers are whole and quotients are cut; and a mark is answered as a loss without
+-- lost packets. Windows are in thousandths of a segment where nothing else is said; beta is 0.7, alpha 9/17.
+use Rattle.std.specs.Prelude.{ℕ, ◌-◌, ◌/◌, ◌^◌, ◌≤◌, ◌==◌, ◌||◌, nat_lt, nat_le, min, max, if◌then◌else◌}
+use Rattle.ccp_base.specs.Saturating.{◌+ˢ◌, ◌*ˢ◌, muldiv, held}
+use Rattle.ccp_base.specs.Reading.{reading_of}
+use Rattle.ccp_base.specs.Course.{epoch_of, first_course, role_of, course_after, change_to, initial_segments}
+use Rattle.ccp_base.specs.declared.look.Role.{Role}
+use Rattle.ccp_base.specs.declared.reading.Reading.{Reading}
+use Rattle.ccp_base.specs.declared.course.Course.{Course}
+use Rattle.ccp_base.specs.declared.course.Mode.{Mode}
+use Rattle.ccp_base.specs.declared.course.Mode.TheVariants.{SlowStart, Avoidance}
+use Rattle.ccp_base.specs.declared.exchange.Reply.{Reply}
+use Rattle.ccp_base.specs.declared.exchange.Reply.TheVariants.{Nothing, Update}
+use Rattle.ccp_base.specs.declared.exchange.Told.{Told}
+use Rattle.ccp_base.specs.declared.exchange.Told.TheVariants.{Report, Fault}
+use Rattle.cubic_agent.specs.Window.{bytes_of, held_window, decreased, converged}
+use Rattle.cubic_agent.specs.Curve.{w_cubic, k_of}
+
+pub record CubicState : Type 0 where
+  -- the segment's size, in bytes
+  pub mss : ℕ
+  pub course : Course
+  -- cwnd
+  pub window : ℕ
+  -- W_max: the window at the last loss event, less where it had shrunk since the one before
+  pub w_max : ℕ
+  -- cwnd_prior: the window at the last loss event
+  pub w_prior : ℕ
+  -- W_est: the window that Reno would have
+  pub w_est : ℕ
+  -- K: the time from the epoch's start to W_max, in milliseconds
+  pub k : ℕ
+  -- epoch_start: when congestion avoidance began, in microseconds
+  pub start : ℕ
+  -- the slow start threshold, in bytes; 2^64-1 before the first loss
+  pub ssthresh : ℕ
+  -- a loss or a mark before this time, in microseconds, belongs to the loss event that was answered last
+  pub calm : ℕ
+
+-- the ranges of a state
+pub record IsInRange (mss window w_max w_prior w_est : ℕ) : Type 0 where
+  pub segment : 1 ≤ mss
+  pub segment_most : mss ≤ 65535
+  pub window_least : 1000 ≤ window
+  pub window_most : window ≤ 4096000
+  pub w_max_most : w_max ≤ 4096000
+  pub w_prior_most : w_prior ≤ 4096000
+  pub w_est_most : w_est ≤ 4096000
+
+-- what a state becomes, and the reply
+abbrev pub Turn : Type 0
+Turn = CubicState × Reply
+
+-- an agent that was told nothing yet
+abbrev pub first_cubic : ℕ → Role → Role → CubicState
+first_cubic mss ss ca = record {
+  mss = mss;
+  course = first_course ss ca;
+  window = initial_segments mss *ˢ 1000;
+  w_max = 0;
+  w_prior = 0;
+  w_est = 0;
+  k = 0;
+  start = 0;
+  ssthresh = 2 ^ 64 - 1;
+  calm = 0;
+}
+
+-- the retransmission timer ran out: the window is one segment (RFC 9438, section 4.8)
+abbrev pub after_timeout : CubicState → Turn
+after_timeout s =
+    let ssthresh = bytes_of s.mss (decreased s.window) in (
+      record s { course = course_after SlowStart s.course; w_prior = s.window; ssthresh = ssthresh; window = 1000; calm = 0 },
+      change_to SlowStart s.course (bytes_of s.mss 1000) ssthresh,
+    )
+
+-- packets were lost or marked: the window decreases, once in a round-trip time, and a new epoch of congestion
+-- avoidance starts (RFC 9438, sections 4.6 and 4.7)
+abbrev pub after_loss : Reading → CubicState → Turn
+after_loss r s =
+    let w_max = converged s.w_max s.window in
+    let window = decreased s.window in
+    let ssthresh = bytes_of s.mss window in
+    if nat_lt r.now s.calm then (s, Nothing) else (
+      record s {
+        course = course_after Avoidance s.course;
+        w_prior = s.window;
+        w_max = w_max;
+        window = window;
+        w_est = window;
+        start = r.now;
+        k = k_of w_max window;
+        ssthresh = ssthresh;
+        calm = r.now +ˢ r.rtt;
+      },
+      change_to Avoidance s.course ssthresh ssthresh,
+    )
+
+-- slow start ends where the window has reached the threshold; the curve then starts at its middle
+-- (RFC 9438, section 4.10)
+abbrev pub in_slow_start : Reading → CubicState → Turn
+in_slow_start r s =
+    if nat_le s.ssthresh r.cwnd then (
+      record s { course = course_after Avoidance s.course; w_max = s.window; w_est = s.window; k = 0; start = r.now },
+      change_to Avoidance s.course (bytes_of s.mss s.window) s.ssthresh,
+    )
+    else (s, Nothing)
+
+-- what was acknowledged, in thousandths of a segment, at most the greatest window
+abbrev pub acked_of : ℕ → Reading → ℕ
+acked_of mss r = min 4096000 (muldiv r.acked 1000 mss)
+
+-- W_est after these acknowledgements: it grows by alpha segments in a round-trip time until it has reached
+-- cwnd_prior, and by one segment from then on (RFC 9438, section 4.3)
+abbrev pub estimate_of : ℕ → CubicState → ℕ
+estimate_of acked s =
+    let slow = (9000 *ˢ acked) / (17 *ˢ s.window) in
+    let fast = (1000 *ˢ acked) / s.window in
+    min (s.w_est +ˢ (if nat_lt s.w_est s.w_prior then slow else fast)) 4096000
+
+-- the window one round-trip time from now, from the window to half as much again (RFC 9438, section 4.2)
+abbrev pub target_of : ℕ → CubicState → ℕ
+target_of t s = held s.window (s.window +ˢ s.window / 2) (w_cubic s.w_max s.k t)
+
+-- the window after these acknowledgements, t milliseconds into the epoch, with a round-trip time in milliseconds
+abbrev pub grown : ℕ → ℕ → ℕ → CubicState → ℕ
+grown acked t rtt s =
+    let gap = target_of (t +ˢ rtt) s - s.window in
+    -- the Reno-friendly region (RFC 9438, section 4.3)
+    if nat_lt (w_cubic s.w_max s.k t) s.w_est then max s.window s.w_est
+    -- the concave and the convex region (RFC 9438, sections 4.4 and 4.5)
+    else held_window (s.window +ˢ min gap ((gap *ˢ acked) / s.window))
+
+-- congestion avoidance: W_est first, then the window
+abbrev pub in_avoidance : Reading → CubicState → Turn
+in_avoidance r s =
+    let acked = acked_of s.mss r in
+    let estimated = record s { w_est = estimate_of acked s } in
+    let window = grown acked ((r.now - s.start) / 1000) (r.rtt / 1000) estimated in
+    if r.acked == 0 then (s, Nothing) else (record estimated { window = window }, Update (bytes_of s.mss window))
+
+-- a report without a timeout, a loss or a mark
+abbrev pub in_mode : Mode → Reading → CubicState → Turn
+in_mode SlowStart r s = in_slow_start r s
+in_mode Avoidance r s = in_avoidance r s
+
+-- a report is treated by the first case that holds
+abbrev pub after_reading : Reading → CubicState → Turn
+after_reading r s =
+    if nat_lt 0 r.timeout then after_timeout s
+    else if nat_lt 0 r.loss || nat_lt 0 r.ecn then after_loss r s
+    else in_mode s.course.mode r s
+
+-- in slow start the datapath moves the window, and the agent takes it from the report
+abbrev pub window_told : Mode → Reading → CubicState → CubicState
+window_told SlowStart r s = record s { window = held_window (muldiv r.cwnd 1000 s.mss) }
+window_told Avoidance r s = s
+
+-- the program stopped by a fault is started again where the agent stands
+abbrev pub after_fault : CubicState → Turn
+after_fault s =
+    let mode = s.course.mode in
+    (record s { course = course_after mode s.course }, change_to mode s.course (bytes_of s.mss s.window) s.ssthresh)
+
+-- what is told of the agent's epoch
+abbrev pub after_told : Told → CubicState → Turn
+after_told (Report report) s =
+    let r = reading_of (role_of s.course.mode s.course).look report in
+    after_reading r (window_told s.course.mode r s)
+after_told (Fault notice) s = after_fault s
+
+-- CUBIC: what is told of another epoch is passed over
+abbrev pub cubic : CubicState → Told → Turn
+cubic s told = if epoch_of told == s.course.epoch then after_told told s else (s, Nothing)

@@ -1,0 +1,3 @@
+pub mod Window
+pub mod Curve
+pub mod Cubic

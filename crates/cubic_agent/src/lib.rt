@@ -1,0 +1,10 @@
+//! The agent CUBIC: congestion control by RFC 9438, section 4, over the reports of a flow.
+#![tactic(auto)]
+
+mod cubic;
+mod curve;
+#[cfg(test)]
+mod tests;
+mod window;
+
+pub use cubic::Cubic;
