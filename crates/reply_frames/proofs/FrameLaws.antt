@@ -1,6 +1,6 @@
 -- What reading says of the frames that there are.
 use Rattle.std.proofs.Common.{◌≡◌, ◌≢◌, ℕ, ◌+◌, ◌-◌, ◌<◌, ◌≤◌, List, [], ◌∷◌, ◌++◌, length, take, Result, Ok, Err, Option, Some, None, refl, sym, ap, ◌∙◌, append_assoc, arith, length-append}
-use Rattle.std.specs.Prelude.{◌↔◌}
+use Rattle.std.specs.Prelude.{IfOk, IfErr}
 use Rattle.std.proofs.lemmas.List.{append-nil, take_at}
 use Rattle.ccp_base.specs.FieldReg.{Pair}
 use Rattle.reply_frames.specs.declared.fault.BadKind.{BadKind}
@@ -111,3 +111,22 @@ pub bad_from_is : (bytes : List ℕ) (field : BadKind) (place : ℕ) → decoded
 bad_from_is bytes field place e =
     let b = bad-from bytes (frame_at bytes) field place e in
     rw b.2 (bad_is bytes field b.0 b.1)
+
+-- ---- the same of what a call answers
+
+pub told_more : (bytes : List ℕ) (result : Result Head FrameFault) → IfErr result (λ fault. decoded_of bytes ≡ Err fault) → (n : ℕ) → result ≡ Err (More n) → IsCut bytes
+told_more bytes (Ok head) told n e = absurd cc
+told_more bytes (Err fault) told n e = let same : fault ≡ More n = cc in more_is bytes n (told ∙ ap Err same)
+
+pub told_bad : (bytes : List ℕ) (result : Result Head FrameFault) → IfErr result (λ fault. decoded_of bytes ≡ Err fault) → (field : BadKind) (place : ℕ) → result ≡ Err (Bad field place) → IsBadFrom bytes place
+told_bad bytes (Ok head) told field place e = absurd cc
+told_bad bytes (Err fault) told field place e = let same : fault ≡ Bad field place = cc in bad_from_is bytes field place (told ∙ ap Err same)
+
+pub told_cut : (bytes : List ℕ) (result : Result Head FrameFault) (values : List Pair) → IfOk result (λ head. decoded_of bytes ≡ Ok (head, values)) → IfErr result (λ fault. decoded_of bytes ≡ Err fault) → IsCut bytes → result ≡ Err (More (needed_of bytes))
+told_cut bytes (Ok head) values found told cut =
+    let clash : ◌≡◌ {A = Result (Head × List Pair) FrameFault} (Ok (head, values)) (Err (More (needed_of bytes))) = sym found ∙ is_more bytes cut in
+    absurd cc
+told_cut bytes (Err fault) values found told cut =
+    let same : ◌≡◌ {A = Result (Head × List Pair) FrameFault} (Err fault) (Err (More (needed_of bytes))) = sym told ∙ is_more bytes cut in
+    let faults : fault ≡ More (needed_of bytes) = cc in
+    ap Err faults
