@@ -100,24 +100,24 @@ both-bad_next part next bytes x rest field left t r = record {
 pub exact-then : {A B : Type 0} (part : List ℕ → Read A) (next : A × List ℕ → Read B) → IsExact part → ((x : A) → IsExact (λ rest. next (x, rest))) → IsExact (λ bytes. part bytes >>= next)
 exact-then part next exact exact_next = record {
   taken = λ bytes y rest e.
-    let b = bind_ok (part bytes) next (y, rest) e in
-    let t = exact.taken bytes b.0.0 b.0.1 b.1 in
-    let u = (exact_next b.0.0).taken b.0.1 y rest b.2 in
-    record {
-      front = t.front ++ u.front;
-      parts = t.parts ∙ ap (λ xs. t.front ++ xs) u.parts ∙ sym (append_assoc t.front u.front rest);
-      again = λ other. both-taken part next bytes b.0.0 b.0.1 t u.front other ∙ u.again other;
-    };
+      let b = bind_ok (part bytes) next (y, rest) e in
+      let t = exact.taken bytes b.0.0 b.0.1 b.1 in
+      let u = (exact_next b.0.0).taken b.0.1 y rest b.2 in
+      record {
+        front = t.front ++ u.front;
+        parts = t.parts ∙ ap (λ xs. t.front ++ xs) u.parts ∙ sym (append_assoc t.front u.front rest);
+        again = λ other. both-taken part next bytes b.0.0 b.0.1 t u.front other ∙ u.again other;
+      };
   cut = λ bytes e.
-    elim (bind_err (part bytes) next Cut e) [
-      | inl first ↦ both-cut_first part next exact exact_next bytes (exact.cut bytes first) (next ((exact.cut bytes first).value, [])) refl
-      | inr b ↦ both-cut_next part next bytes b.0.0 b.0.1 (exact.taken bytes b.0.0 b.0.1 b.1) ((exact_next b.0.0).cut b.0.1 b.2)
-    ];
+      elim (bind_err (part bytes) next Cut e) [
+        | inl first ↦ both-cut_first part next exact exact_next bytes (exact.cut bytes first) (next ((exact.cut bytes first).value, [])) refl
+        | inr b ↦ both-cut_next part next bytes b.0.0 b.0.1 (exact.taken bytes b.0.0 b.0.1 b.1) ((exact_next b.0.0).cut b.0.1 b.2)
+      ];
   bad = λ bytes field left e.
-    elim (bind_err (part bytes) next (Bad field left) e) [
-      | inl first ↦ both-bad_first part next bytes field left (exact.bad bytes field left first)
-      | inr b ↦ both-bad_next part next bytes b.0.0 b.0.1 field left (exact.taken bytes b.0.0 b.0.1 b.1) ((exact_next b.0.0).bad b.0.1 field left b.2)
-    ];
+      elim (bind_err (part bytes) next (Bad field left) e) [
+        | inl first ↦ both-bad_first part next bytes field left (exact.bad bytes field left first)
+        | inr b ↦ both-bad_next part next bytes b.0.0 b.0.1 field left (exact.taken bytes b.0.0 b.0.1 b.1) ((exact_next b.0.0).bad b.0.1 field left b.2)
+      ];
 }
 
 -- no bytes at all
@@ -223,30 +223,30 @@ front-there n number front other len =
 exact-front : (n : ℕ) (number : List ℕ → ℕ) → IsExact (front_at n number)
 exact-front n number = record {
   taken = λ bytes value rest e.
-    let f = front-ok (ltb (length bytes) n) (number (take n bytes), drop n bytes) (value, rest) e in
-    let long : n ≤ length bytes = ltb-false _ _ f.0 in
-    let value_is : number (take n bytes) ≡ value = ap (λ (p : ℕ × List ℕ). p.0) f.1 in
-    let rest_is : drop n bytes ≡ rest = ap (λ (p : ℕ × List ℕ). p.1) f.1 in
-    record {
-      front = take n bytes;
-      parts = sym (take-append-drop n bytes) ∙ ap (λ xs. take n bytes ++ xs) rest_is;
-      again = λ other. front-there n number (take n bytes) other (length-take-le n bytes long) ∙ ap (λ v. Ok (v, other)) value_is;
-    };
+      let f = front-ok (ltb (length bytes) n) (number (take n bytes), drop n bytes) (value, rest) e in
+      let long : n ≤ length bytes = ltb-false _ _ f.0 in
+      let value_is : number (take n bytes) ≡ value = ap (λ (p : ℕ × List ℕ). p.0) f.1 in
+      let rest_is : drop n bytes ≡ rest = ap (λ (p : ℕ × List ℕ). p.1) f.1 in
+      record {
+        front = take n bytes;
+        parts = sym (take-append-drop n bytes) ∙ ap (λ xs. take n bytes ++ xs) rest_is;
+        again = λ other. front-there n number (take n bytes) other (length-take-le n bytes long) ∙ ap (λ v. Ok (v, other)) value_is;
+      };
   cut = λ bytes e.
-    let f = front-err (ltb (length bytes) n) (number (take n bytes), drop n bytes) Cut e in
-    let short : length bytes < n = ltb-true _ _ f.0 in
-    let zeros : List ℕ = replicate (n - length bytes) 0 in
-    let len : length (bytes ++ zeros) ≡ n = omega (arith, length-append bytes zeros, length-replicate {A = ℕ} (n - length bytes) 0) in
-    record {
-      more = zeros;
-      are_bytes = AreBytes-zeros (n - length bytes);
-      value = number (bytes ++ zeros);
-      whole = ap (front_at n number) (sym (append-nil (bytes ++ zeros))) ∙ front-there n number (bytes ++ zeros) [] len;
-    };
+      let f = front-err (ltb (length bytes) n) (number (take n bytes), drop n bytes) Cut e in
+      let short : length bytes < n = ltb-true _ _ f.0 in
+      let zeros : List ℕ = replicate (n - length bytes) 0 in
+      let len : length (bytes ++ zeros) ≡ n = omega (arith, length-append bytes zeros, length-replicate {A = ℕ} (n - length bytes) 0) in
+      record {
+        more = zeros;
+        are_bytes = AreBytes-zeros (n - length bytes);
+        value = number (bytes ++ zeros);
+        whole = ap (front_at n number) (sym (append-nil (bytes ++ zeros))) ∙ front-there n number (bytes ++ zeros) [] len;
+      };
   bad = λ bytes field left e.
-    let f = front-err (ltb (length bytes) n) (number (take n bytes), drop n bytes) (Bad field left) e in
-    let same : Cut ≡ Bad field left = f.1 in
-    absurd cc;
+      let f = front-err (ltb (length bytes) n) (number (take n bytes), drop n bytes) (Bad field left) e in
+      let same : Cut ≡ Bad field left = f.1 in
+      absurd cc;
 }
 
 pub exact-number : (w : Width) → IsExact (number_at w)
@@ -259,20 +259,20 @@ unfolding limited_at
 exact-limited field zero most = exact-ok 0
 exact-limited field (suc width) most =
     exact-then (byte_at field 0 most) (λ low. limited_at field width ((most - low.0) / 256) low.1 >>= λ high. Ok (low.0 + 256 * high.0, high.1))
-      (exact-byte field 0 most (omega arith) (omega arith))
-      (λ low. exact-then (limited_at field width ((most - low) / 256)) (λ high. Ok (low + 256 * high.0, high.1)) (exact-limited field width ((most - low) / 256)) (λ high. exact-ok (low + 256 * high)))
+    (exact-byte field 0 most (omega arith) (omega arith))
+    (λ low. exact-then (limited_at field width ((most - low) / 256)) (λ high. Ok (low + 256 * high.0, high.1)) (exact-limited field width ((most - low) / 256)) (λ high. exact-ok (low + 256 * high)))
 
 pub exact-exactly : (field : BadKind) (width number : ℕ) → IsExact (exactly_at field width number)
 unfolding exactly_at
 exact-exactly field zero number = exact-ok 0
 exact-exactly field (suc width) number =
     exact-then (byte_at field (number % 256) (number % 256)) (λ low. exactly_at field width (number / 256) low.1 >>= λ high. Ok (low.0 + 256 * high.0, high.1))
-      (exact-byte field (number % 256) (number % 256) (omega arith) (omega arith))
-      (λ low. exact-then (exactly_at field width (number / 256)) (λ high. Ok (low + 256 * high.0, high.1)) (exact-exactly field width (number / 256)) (λ high. exact-ok (low + 256 * high)))
+    (exact-byte field (number % 256) (number % 256) (omega arith) (omega arith))
+    (λ low. exact-then (exactly_at field width (number / 256)) (λ high. Ok (low + 256 * high.0, high.1)) (exact-exactly field width (number / 256)) (λ high. exact-ok (low + 256 * high)))
 
 pub exact-repeated : {A : Type 0} (part : List ℕ → Read A) → IsExact part → (count : ℕ) → IsExact (repeated_at part count)
 unfolding repeated_at
 exact-repeated part exact zero = exact-ok []
 exact-repeated part exact (suc count) =
     exact-then part (λ first. repeated_at part count first.1 >>= λ others. Ok (first.0 ∷ others.0, others.1)) exact
-      (λ first. exact-then (repeated_at part count) (λ others. Ok (first ∷ others.0, others.1)) (exact-repeated part exact count) (λ others. exact-ok (first ∷ others)))
+    (λ first. exact-then (repeated_at part count) (λ others. Ok (first ∷ others.0, others.1)) (exact-repeated part exact count) (λ others. exact-ok (first ∷ others)))

@@ -38,7 +38,7 @@ cut_is bytes e =
       more = c.more;
       are_bytes = c.are_bytes;
       some = λ none. let whole : frame_at bytes ≡ Ok (c.value, []) = ap frame_at (sym (ap (λ more. bytes ++ more) none ∙ append-nil bytes)) ∙ c.whole in
-        let clash : ◌≡◌ {A = Read Frame} (Err stops.Cut) (Ok (c.value, [])) = sym e ∙ whole in cc;
+          let clash : ◌≡◌ {A = Read Frame} (Err stops.Cut) (Ok (c.value, [])) = sym e ∙ whole in cc;
       frame = record { frame = c.value; whole = c.whole };
     }
 
@@ -71,9 +71,9 @@ bad_is bytes field left e =
       within = omega (arith, ap length r.parts, length-append r.front (r.byte ∷ r.after), place);
       cut = let cut : IsCut r.front = cut_is r.front r.cut in rw front cut;
       none = λ more frame.
-        let again : frame_at (take (length bytes - left + 1) bytes ++ more) ≡ Err (stops.Bad field (length (r.byte ∷ more))) = ap (λ xs. frame_at (xs ++ more)) one_more ∙ ap frame_at (append_assoc r.front (r.byte ∷ []) more) ∙ r.again more in
-        let clash : ◌≡◌ {A = Read Frame} (Err (stops.Bad field (length (r.byte ∷ more)))) (Ok (frame.frame, [])) = sym again ∙ frame.whole in
-        cc;
+          let again : frame_at (take (length bytes - left + 1) bytes ++ more) ≡ Err (stops.Bad field (length (r.byte ∷ more))) = ap (λ xs. frame_at (xs ++ more)) one_more ∙ ap frame_at (append_assoc r.front (r.byte ∷ []) more) ∙ r.again more in
+          let clash : ◌≡◌ {A = Read Frame} (Err (stops.Bad field (length (r.byte ∷ more)))) (Ok (frame.frame, [])) = sym again ∙ frame.whole in
+          cc;
     }
 
 -- ---- what decoding answers

@@ -57,8 +57,8 @@ unfolding repeated_at
 passes_on part count i bytes after total lt is so_far =
     let k : count - i ≡ suc (count - (i + 1)) = omega arith in
     let one : passed (repeated_at part (suc (count - (i + 1))) bytes) ≡ passed (repeated_at part (count - (i + 1)) after) =
-      passed-then (part bytes) after (λ x. repeated_at part (count - (i + 1)) x.1 >>= λ others. Ok (x.0 ∷ others.0, others.1)) (λ rest. passed (repeated_at part (count - (i + 1)) rest))
-        (λ x. passed-item x.0 (repeated_at part (count - (i + 1)) x.1)) is in
+    passed-then (part bytes) after (λ x. repeated_at part (count - (i + 1)) x.1 >>= λ others. Ok (x.0 ∷ others.0, others.1)) (λ rest. passed (repeated_at part (count - (i + 1)) rest))
+    (λ x. passed-item x.0 (repeated_at part (count - (i + 1)) x.1)) is in
     sym one ∙ ap (λ n. passed (repeated_at part n bytes)) (sym k) ∙ so_far
 
 pub passing_stops : {A : Type 0} (part : List ℕ → Read A) (stop : Stop) (count i : ℕ) (bytes : List ℕ) (total : Result (List ℕ) Stop) → i < count → passed (part bytes) ≡ Err stop
@@ -67,7 +67,7 @@ unfolding repeated_at
 passing_stops part stop count i bytes total lt is so_far =
     let k : count - i ≡ suc (count - (i + 1)) = omega arith in
     let one : passed (repeated_at part (suc (count - (i + 1))) bytes) ≡ Err stop =
-      passed-stops (part bytes) stop (λ x. repeated_at part (count - (i + 1)) x.1 >>= λ others. Ok (x.0 ∷ others.0, others.1)) is in
+    passed-stops (part bytes) stop (λ x. repeated_at part (count - (i + 1)) x.1 >>= λ others. Ok (x.0 ∷ others.0, others.1)) is in
     sym so_far ∙ ap (λ n. passed (repeated_at part n bytes)) k ∙ one
 
 pub passing_is_done : {A : Type 0} (part : List ℕ → Read A) (count i : ℕ) (bytes : List ℕ) (total : Result (List ℕ) Stop) → count ≤ i → passed (repeated_at part (count - i) bytes) ≡ total → total ≡ Ok bytes

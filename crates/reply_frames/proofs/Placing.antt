@@ -52,7 +52,7 @@ placed-values at end i values other old is lt within =
     let value : Pair = get_or values i other in
     let len : length (values_bytes (take i values)) ≡ 10 * i = length-values_bytes (take i values) ∙ ap (λ n. 10 * n) (length-take-le i values (omega arith)) in
     let more : values_bytes (take (i + 1) values) ≡ values_bytes (take i values) ++ value_bytes value =
-      ap values_bytes (take_more values i other lt) ∙ flat_map-append value_bytes (take i values) (value ∷ []) ∙ ap (λ xs. values_bytes (take i values) ++ xs) (flat_map-cons value_bytes value [] ∙ append-nil (value_bytes value)) in
+    ap values_bytes (take_more values i other lt) ∙ flat_map-append value_bytes (take i values) (value ∷ []) ∙ ap (λ xs. values_bytes (take i values) ++ xs) (flat_map-cons value_bytes value [] ∙ append-nil (value_bytes value)) in
     placed-placed at (values_bytes (take i values)) (value_bytes value) old end (omega (arith, len)) within ∙ ap (λ bytes. placed at bytes old) (sym more)
 
 pub over-values : (head next values out out' out'' old : List ℕ) (n m : ℕ) → n ≡ length head → m ≡ n + length next → out ≡ over head old → out' ≡ placed n next out → out'' ≡ placed m values out' → out'' ≡ over (head ++ next ++ values) old

@@ -93,12 +93,12 @@ unfoldable pub target_at : List ℕ → Read FieldReg
 target_at bytes = do
   class ← byte_at bad.Class 3 4 bytes
   if class.0 == 3
-    then (do
-      number ← byte_at bad.Index 0 63 class.1
-      Ok (Control number.0, number.1))
-    else (do
-      number ← byte_at bad.Index 4 5 class.1
-      Ok ((if number.0 == 4 then Cwnd else Rate), number.1))
+      then (do
+        number ← byte_at bad.Index 0 63 class.1
+        Ok (Control number.0, number.1))
+      else (do
+        number ← byte_at bad.Index 4 5 class.1
+        Ok ((if number.0 == 4 then Cwnd else Rate), number.1))
 
 unfoldable pub value_at : List ℕ → Read Pair
 value_at bytes = do

@@ -67,12 +67,15 @@ fn found(bytes: &[u8]) -> Result<(Head, Fields), FrameFault>
     let mut fields = Fields::new();
     match head.kind {
         FrameKind::Update => {
-            let rest = update(rest, head.counts.n1, &mut fields).map_err(|stop| stopped(bytes, stop))?;
+            let rest = update(rest, head.counts.n1, &mut fields).map_err(|stop| stopped(
+                bytes, stop,
+            ))?;
             Ok((headed(head, None, bytes, rest), fields))
         }
         FrameKind::Change => {
-            let (program, rest) =
-                change(rest, head.counts.n1, &mut fields).map_err(|stop| stopped(bytes, stop))?;
+            let (program, rest) = change(rest, head.counts.n1, &mut fields).map_err(|stop| stopped(
+                bytes, stop,
+            ))?;
             Ok((headed(head, Some(program), bytes, rest), fields))
         }
         kind => {

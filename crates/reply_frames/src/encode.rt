@@ -87,7 +87,12 @@ pub fn encode_update(flow: u32, values: &Fields, out: &mut [u8]) -> Result<usize
 
 /// Writes the frame that starts a program on a flow with these values, in version 1, at the front of `out`, and gives
 /// its length. Short exactly where `out` is shorter than that; then nothing is written.
-pub fn encode_change(flow: u32, program: u32, values: &Fields, out: &mut [u8]) -> Result<usize, Short>
+pub fn encode_change(
+    flow: u32,
+    program: u32,
+    values: &Fields,
+    out: &mut [u8],
+) -> Result<usize, Short>
     requires { AreTargets values.now }
     ensures ok { IfOk result (λ size. (size ≡ 20 + 10 * length values.now) × (out.new ≡ over (change_bytes One flow program values.now) out.old)) }
     ensures short { IfErr result (λ short. short ≡ record { 0 = 20 + 10 * length values.now }) }

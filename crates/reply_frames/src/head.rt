@@ -5,8 +5,8 @@ ghost use Rattle.reply_frames.specs.Frames.{counts_at, outline_at};
 
 use crate::fault::{BadKind, Stop};
 use crate::outline::{
-    Counts, FrameKind, Outline, Version, first_limit, frame_size, install_limit, instruction_limit, numbered_kind,
-    numbered_version,
+    Counts, FrameKind, Outline, Version, first_limit, frame_size, install_limit, instruction_limit,
+    numbered_kind, numbered_version,
 };
 use crate::parts::{byte, exactly, limited, number32};
 
@@ -17,7 +17,12 @@ fn counts(bytes: &[u8], kind: FrameKind, version: Version) -> Result<(Counts, &[
     ensures within { IfOk result (λ x. x.0.n1 ≤ most_n1 kind version) }
 {
     let most = install_limit(kind);
-    let (n1, rest) = byte(bytes, BadKind::Count, 0, u64::from(first_limit(kind, version)))?;
+    let (n1, rest) = byte(
+        bytes,
+        BadKind::Count,
+        0,
+        u64::from(first_limit(kind, version)),
+    )?;
     let (n2, rest) = byte(rest, BadKind::Count, 0, u64::from(most))?;
     let (n3, rest) = limited(rest, BadKind::Count, 2, u64::from(most))?;
     let (n4, rest) = limited(rest, BadKind::Count, 2, u64::from(instruction_limit(kind)))?;

@@ -87,7 +87,11 @@ pub fn numbered_kind(number: u8) -> FrameKind
 pub fn numbered_version(number: u8) -> Version
     ensures { result ≡ version_of number }
 {
-    if number == 1 { Version::One } else { Version::Two }
+    if number == 1 {
+        Version::One
+    } else {
+        Version::Two
+    }
 }
 
 /// The most that the first count may be.
@@ -127,7 +131,10 @@ pub fn frame_size(kind: FrameKind, version: Version, counts: Counts) -> u32
         (FrameKind::Measure, Version::One) => 56 + 8 * first,
         (FrameKind::Measure, Version::Two) => 64 + 8 * first,
         (FrameKind::Install, _) => {
-            20 + 9 * first + 9 * u32::from(counts.n2) + 4 * u32::from(counts.n3) + 28 * u32::from(counts.n4)
+            20 + 9 * first
+                + 9 * u32::from(counts.n2)
+                + 4 * u32::from(counts.n3)
+                + 28 * u32::from(counts.n4)
         }
         (FrameKind::Update, _) => 16 + 10 * first,
         (FrameKind::Change, _) => 20 + 10 * first,

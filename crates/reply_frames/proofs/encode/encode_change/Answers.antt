@@ -15,8 +15,9 @@ returns-clause-ok c =
     let program = to_le_bytes w32 c.args.program in
     let len : c.len-count.result ≡ length values = c.len-count.ensures.len in
     let head : c.put_head.new.out ≡ over (head_bytes Change One (length values) flow (20 + 10 * length values)) old =
-      c.put_head.ensures ∙ ap (λ n. over (head_bytes Change One n flow (20 + 10 * n)) old) len in
+    c.put_head.ensures ∙ ap (λ n. over (head_bytes Change One n flow (20 + 10 * n)) old) len in
     let put : c.put.new.out ≡ placed 16 program c.put_head.new.out = c.put.ensures ∙ ap (λ bytes. placed 16 bytes c.put_head.new.out) c.to_le_bytes.ensures in
-    let rest : c.put_values.new.out ≡ placed 20 (values_bytes values) c.put.new.out = c.put_values.ensures in
-    (ap (λ n. 20 + 10 * n) len,
-      over-values (head_bytes Change One (length values) flow (20 + 10 * length values)) program (values_bytes values) c.put_head.new.out c.put.new.out c.put_values.new.out old 16 20 refl refl head put rest)
+    let rest : c.put_values.new.out ≡ placed 20 (values_bytes values) c.put.new.out = c.put_values.ensures in (
+      ap (λ n. 20 + 10 * n) len,
+      over-values (head_bytes Change One (length values) flow (20 + 10 * length values)) program (values_bytes values) c.put_head.new.out c.put.new.out c.put_values.new.out old 16 20 refl refl head put rest,
+    )

@@ -14,8 +14,8 @@ loop-reg-preserved c =
     record {
       end = omega (arith, c.loop-reg.invariant.end);
       written =
-        put
-        ∙ ap (λ xs. placed c.loop-reg.end (value_bytes (get_or xs c.loop-reg.reg-index blank)) c.loop-reg.out) items
-        ∙ ap (placed c.loop-reg.end (value_bytes (get_or c.args.values.now c.loop-reg.reg-index blank))) c.loop-reg.invariant.written
-        ∙ placed-values c.args.at c.loop-reg.end c.loop-reg.reg-index c.args.values.now blank c.args.out.now c.loop-reg.invariant.end lt within;
+          put
+          ∙ ap (λ xs. placed c.loop-reg.end (value_bytes (get_or xs c.loop-reg.reg-index blank)) c.loop-reg.out) items
+          ∙ ap (placed c.loop-reg.end (value_bytes (get_or c.args.values.now c.loop-reg.reg-index blank))) c.loop-reg.invariant.written
+          ∙ placed-values c.args.at c.loop-reg.end c.loop-reg.reg-index c.args.values.now blank c.args.out.now c.loop-reg.invariant.end lt within;
     }
