@@ -1,3 +1,5 @@
 pub mod Loops
 pub mod Placing
 pub mod ExactParts
+pub mod ExactFrames
+pub mod FrameLaws

@@ -5,3 +5,4 @@ pub mod Spelling
 pub mod Decoding
 pub mod Writing
 pub mod Exact
+pub mod Whole

@@ -1,4 +1,6 @@
 ghost use Rattle.std.specs.Prelude.{◌≡◌, ℕ, ◌-◌, ◌≤◌, length, Option, OnErr, IfOk, IfErr, Ok, Err};
+ghost use Rattle.reply_frames.specs.declared.fault.BadKind.{BadKind};
+ghost use Rattle.reply_frames.specs.Whole.{IsCut, IsBadFrom};
 ghost use Rattle.reply_frames.specs.Decoding.{needed_of, fault_of, head_of, decoded_of};
 
 use crate::bodies::body;
@@ -88,6 +90,13 @@ fn found(bytes: &[u8]) -> Result<(Head, Fields), FrameFault>
 pub fn decode_fields(bytes: &[u8], values: &mut Fields) -> Result<Head, FrameFault>
     ensures found { IfOk result (λ head. decoded_of bytes.now ≡ Ok (head, values.new)) }
     ensures fault { IfErr result (λ fault. decoded_of bytes.now ≡ Err fault) }
+
+    // More comes exactly where the bytes are a proper prefix of a frame.
+    ensures more { (n : ℕ) → result ≡ Err (FrameFault.More n) → IsCut bytes.now }
+    ensures cut { IsCut bytes.now → result ≡ Err (FrameFault.More (needed_of bytes.now)) }
+
+    // Bad says how long the longest prefix is that a frame begins with.
+    ensures bad { (field : BadKind) (place : ℕ) → result ≡ Err (FrameFault.Bad field place) → IsBadFrom bytes.now place }
     ensures unchanged { OnErr result (values.new ≡ values.old) }
 {
     let (head, fields) = found(bytes)?;

@@ -9,6 +9,8 @@ mod fault;
 mod head;
 mod outline;
 mod parts;
+#[cfg(test)]
+mod tests;
 mod values;
 
 pub use decode::{Head, decode_fields};

@@ -1,0 +1,23 @@
+use Rattle.std.proofs.Common.{rules, ◌≡◌, [], Ok, Err, sym}
+use Rattle.std.specs.Prelude.{IfErr}
+use Rattle.reply_frames.specs.Decoding.{decoded_of}
+use Rattle.reply_frames.proofs.FrameLaws.{told_more, told_bad, told_cut}
+use Rattle.reply_frames.proofs.decode.decode_fields.Goals as goal
+
+pub returns-in_err-head-clause-more : goal.returns-in_err-head-clause-more
+returns-in_err-head-clause-more c =
+    let told : IfErr c.from_residual.result (λ fault. decoded_of c.args.bytes.now ≡ Err fault) = search rules in
+    told_more c.args.bytes.now c.from_residual.result told
+
+pub returns-in_err-head-clause-cut : goal.returns-in_err-head-clause-cut
+returns-in_err-head-clause-cut c =
+    let told : IfErr c.from_residual.result (λ fault. decoded_of c.args.bytes.now ≡ Err fault) = search rules in
+    told_cut c.args.bytes.now c.from_residual.result [] (search rules) told
+
+pub returns-in_err-head-clause-bad : goal.returns-in_err-head-clause-bad
+returns-in_err-head-clause-bad c =
+    let told : IfErr c.from_residual.result (λ fault. decoded_of c.args.bytes.now ≡ Err fault) = search rules in
+    told_bad c.args.bytes.now c.from_residual.result told
+
+pub returns-clause-cut : goal.returns-clause-cut
+returns-clause-cut c = told_cut c.args.bytes.now (Ok c.in_ok-head.head) c.in_ok-head.fields (sym c.in_ok-head.ensures) tt

@@ -1,0 +1,22 @@
+-- Whole frames, and bytes that are cut or bad.
+use Rattle.std.specs.Prelude.{◌≡◌, ◌≢◌, ℕ, ◌+◌, ◌<◌, List, [], ◌++◌, length, take, Ok}
+use Rattle.reply_frames.specs.Exact.{AreBytes}
+use Rattle.reply_frames.specs.Frames.{Frame, frame_at}
+
+-- these bytes are one whole frame
+pub record IsFrame (bytes : List ℕ) : Type 0 where
+  pub frame : Frame
+  pub whole : frame_at bytes ≡ Ok (frame, [])
+
+-- they are a proper prefix of a frame
+pub record IsCut (bytes : List ℕ) : Type 0 where
+  pub more : List ℕ
+  pub are_bytes : AreBytes more
+  pub some : more ≢ []
+  pub frame : IsFrame (bytes ++ more)
+
+-- the bytes before this place are a proper prefix of a frame, and no frame begins with one byte more
+pub record IsBadFrom (bytes : List ℕ) (place : ℕ) : Type 0 where
+  pub within : place < length bytes
+  pub cut : IsCut (take place bytes)
+  pub none : (more : List ℕ) → ¬ IsFrame (take (place + 1) bytes ++ more)
