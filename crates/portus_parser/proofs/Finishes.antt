@@ -44,7 +44,7 @@ node-front (word place name) depth at part inner others h =
     record { inside = h.inside; atom = and_from (is_atom part) (ends_atom inner) atom.0 (ends_atom-front inner others atom.1); spelled = h.spelled }
 node-front (list place parts) depth at part inner others h = h
 
-parts-more : (node : Node) (rest : Nodes) (depth : ℕ) (at : Place) (gap part others : List ℕ) → is_blank false gap ≡ true → SpellsNode depth (place_after at gap) part others node → SpellsParts depth (place_after (place_after at gap) part) others rest → SpellsParts depth at (gap ++ (part ++ others)) (more node rest)
+pub parts-more : (node : Node) (rest : Nodes) (depth : ℕ) (at : Place) (gap part others : List ℕ) → is_blank false gap ≡ true → SpellsNode depth (place_after at gap) part others node → SpellsParts depth (place_after (place_after at gap) part) others rest → SpellsParts depth at (gap ++ (part ++ others)) (more node rest)
 parts-more node rest depth at gap part others blank h k = (record { gap = gap; part = part; others = others; whole = refl; blank = blank }, (h, k))
 
 -- a node in front of what finishes

@@ -7,4 +7,6 @@ pub mod Finishes
 pub mod FirstFaults
 pub mod Lexical
 pub mod Exact
+pub mod PrintedAtoms
+pub mod Printed
 mod Rows

@@ -4,3 +4,4 @@ pub mod Spelling
 pub mod Refusals
 pub mod Readings
 pub mod Outcomes
+pub mod PrintedBack

@@ -4,8 +4,10 @@
 mod atom;
 mod fault;
 mod frame;
+mod printing_law;
 mod reading;
 mod turn;
 
 pub use fault::ParseFault;
+pub use printing_law::print_tree_law;
 pub use reading::parse;

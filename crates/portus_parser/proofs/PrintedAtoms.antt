@@ -1,0 +1,112 @@
+use Rattle.std.specs.Prelude.{◌≡◌, ℕ, ◌^◌, ◌<◌, Bool, true, false, ◌&&◌, nat_le, nat_lt, Option, Some, None, Ok, Err, if◌then◌else◌, List, [], ◌∷◌, length}
+use Rattle.std.specs.List.{list_all}
+use Rattle.std.specs.Fmt.{decimal}
+use Rattle.std.specs.Int.{IsInRange}
+use Rattle.std.proofs.Common.{arith, refl, ap, subst}
+use Rattle.std.proofs.lemmas.Bool.{and_parts, and_from, lt-ltb, ltb-true, leb-true, le-leb}
+use Rattle.std.proofs.lemmas.Bool.Decides.{nat_tests}
+use Rattle.std.proofs.lemmas.Str.Parse.{IsNumeralModel, IsDigitsTest, FoldsDigits, numerals_by_fold}
+use Rattle.std.proofs.lemmas.Fmt.{digits_decimal, digits_value-decimal, decimal_nonempty}
+use Rattle.ccp_base.specs.declared.place.Place.{Place}
+use Rattle.portus_core.specs.Trees.{number, word}
+use Rattle.portus_lexer.specs.Bytes.{is_atom_byte}
+use Rattle.portus_lexer.specs.Lexemes.{is_atom, ends_atom}
+use Rattle.portus_parser.specs.declared.fault.ParseFault.TheVariants.{BadName}
+use Rattle.portus_parser.specs.Atoms.{is_digit, decimal_from, numeral_of, begins_with_digit, number_at, is_word, atom_of}
+use Rattle.portus_parser.specs.Spelling.{SpellsAtom}
+
+abbrev AreDigits : List ℕ → Type 0
+AreDigits ds = list_all is_digit ds ≡ true
+
+digit_in_range : (b : ℕ) → is_digit b ≡ true → IsInRange 48 57 b
+digit_in_range b h = let parts = and_parts (nat_le 48 b) (nat_le b 57) h in (leb-true 48 b parts.0, leb-true b 57 parts.1)
+
+tells_digits : IsDigitsTest AreDigits
+tells_digits = record {
+  empty = refl;
+  parts = λ c cs h. let parts = and_parts (is_digit c) (list_all is_digit cs) h in (digit_in_range c parts.0, parts.1);
+  more = λ c cs h k. and_from (is_digit c) (list_all is_digit cs) (and_from (nat_le 48 c) (nat_le c 57) (le-leb 48 c h.0) (le-leb c 57 h.1)) k;
+}
+
+folds_digits : FoldsDigits decimal_from
+folds_digits = record { empty = λ n. refl; more = λ n c cs h. refl }
+
+digits_model : IsNumeralModel AreDigits (decimal_from 0)
+digits_model = numerals_by_fold AreDigits tells_digits decimal_from folds_digits
+
+-- the decimal digits of a number below 2^64 are its numeral
+numeral_of-decimal : (value : ℕ) → value < 2 ^ 64 → numeral_of (decimal value) ≡ Some value
+numeral_of-decimal value fits =
+    let digits = digits_decimal digits_model value fits in
+    let same = digits_value-decimal digits_model value fits in
+    rw (digits, same, lt-ltb value (2 ^ 64) fits) refl
+
+digit_is_atom_byte : (b : ℕ) → is_digit b ≡ true → is_atom_byte b ≡ true
+digit_is_atom_byte b h = grind (arith, nat_tests)
+
+digits_are_atom_bytes : (ds : List ℕ) → AreDigits ds → list_all is_atom_byte ds ≡ true
+digits_are_atom_bytes [] h = refl
+digits_are_atom_bytes (d ∷ ds) h =
+    let parts = and_parts (is_digit d) (list_all is_digit ds) h in
+    and_from (is_atom_byte d) (list_all is_atom_byte ds) (digit_is_atom_byte d parts.0) (digits_are_atom_bytes ds parts.1)
+
+digits_are_atom : (ds : List ℕ) → AreDigits ds → 0 < length ds → is_atom ds ≡ true
+digits_are_atom [] h some = absurd (omega arith)
+digits_are_atom (d ∷ ds) h some = digits_are_atom_bytes (d ∷ ds) h
+
+digits_begin_with_digit : (ds : List ℕ) → AreDigits ds → 0 < length ds → begins_with_digit ds ≡ true
+digits_begin_with_digit [] h some = absurd (omega arith)
+digits_begin_with_digit (d ∷ ds) h some = (and_parts (is_digit d) (list_all is_digit ds) h).0
+
+record HasValue (test : Bool) (own value : ℕ) : Type 0 where
+  holds : test ≡ true
+  same : own ≡ value
+
+has_value : (digit test here : Bool) (at place : Place) (text : List ℕ) (own value : ℕ) → (if digit then number_at at (if test then Some own else None) else (if here then Ok (word at text) else Err (BadName at))) ≡ Ok (number place value) → HasValue test own value
+has_value true true here at place text own value h = record { holds = refl; same = cc }
+has_value true false here at place text own value h = absurd (cc)
+has_value false test true at place text own value h = absurd (cc)
+has_value false test false at place text own value h = absurd (cc)
+
+-- an atom's number is below 2^64
+value_fits : (at place : Place) (text : List ℕ) (value : ℕ) → atom_of at text ≡ Ok (number place value) → value < 2 ^ 64
+value_fits at place text value h =
+    let own = decimal_from 0 text in
+    let has = has_value (begins_with_digit text) (list_all is_digit text && nat_lt own (2 ^ 64)) (is_word text) at place text own value h in
+    let below = ltb-true own (2 ^ 64) (and_parts (list_all is_digit text) (nat_lt own (2 ^ 64)) has.holds).1 in
+    omega (arith, below, has.same)
+
+record IsWordItself (digit here : Bool) (text name : List ℕ) : Type 0 where
+  no_digit : digit ≡ false
+  is : here ≡ true
+  same : text ≡ name
+
+word_itself : (digit here : Bool) (at place : Place) (text name : List ℕ) (value : Option ℕ) → (if digit then number_at at value else (if here then Ok (word at text) else Err (BadName at))) ≡ Ok (word place name) → IsWordItself digit here text name
+word_itself true here at place text name (Some value) h = absurd (cc)
+word_itself true here at place text name None h = absurd (cc)
+word_itself false true at place text name value h = record { no_digit = refl; is = refl; same = cc }
+word_itself false false at place text name value h = absurd (cc)
+
+-- a number's digits spell it again at any place
+pub spells_number : (depth : ℕ) (at there : Place) (part others back : List ℕ) (place : Place) (value : ℕ) → SpellsAtom depth at part others (number place value) → ends_atom back ≡ true → SpellsAtom depth there (decimal value) back (number there value)
+spells_number depth at there part others back place value h ends =
+    let fits = value_fits at place part value h.spelled in
+    let digits = digits_decimal digits_model value fits in
+    let some = decimal_nonempty value fits in
+    record {
+      inside = h.inside;
+      atom = and_from (is_atom (decimal value)) (ends_atom back) (digits_are_atom (decimal value) digits some) ends;
+      spelled = rw (digits_begin_with_digit (decimal value) digits some) (ap (number_at there) (numeral_of-decimal value fits));
+    }
+
+-- a word spells itself at any place
+pub spells_word : (depth : ℕ) (at there : Place) (part others back : List ℕ) (place : Place) (name : List ℕ) → SpellsAtom depth at part others (word place name) → ends_atom back ≡ true → SpellsAtom depth there name back (word there name)
+spells_word depth at there part others back place name h ends =
+    let itself = word_itself (begins_with_digit part) (is_word part) at place part name (numeral_of part) h.spelled in
+    let atom = (and_parts (is_atom part) (ends_atom others) h.atom).0 in
+    let spelled : SpellsAtom depth there part back (word there part) = record {
+      inside = h.inside;
+      atom = and_from (is_atom part) (ends_atom back) atom ends;
+      spelled = rw (itself.no_digit, itself.is) refl;
+    } in
+    subst (λ (text : List ℕ). SpellsAtom depth there text back (word there text)) itself.same spelled
