@@ -27,7 +27,7 @@ not_nil : (front : List ℕ) (byte : ℕ) (after : List ℕ) → [] ≡ front ++
 not_nil [] byte after e = cc
 not_nil (first ∷ front) byte after e = cc
 
-bind_ok : {A B : Type 0} (read : Result A Stop) (next : A → Result B Stop) (y : B) → (read >>= next) ≡ Ok y → (x : A) × (read ≡ Ok x) × (next x ≡ Ok y)
+pub bind_ok : {A B : Type 0} (read : Result A Stop) (next : A → Result B Stop) (y : B) → (read >>= next) ≡ Ok y → (x : A) × (read ≡ Ok x) × (next x ≡ Ok y)
 bind_ok (Ok x) next y e = (x, refl, e)
 bind_ok (Err stop) next y e = absurd cc
 
@@ -134,7 +134,7 @@ exact-if false one other exact exact' = exact'
 
 -- ---- a byte
 
-byte-ok : (field : BadKind) (b : Bool) (byte : ℕ) (bytes : List ℕ) (value : ℕ) (rest : List ℕ) (stop : Stop) → cond {A = Read ℕ} b (Ok (byte, bytes)) (Err stop) ≡ Ok (value, rest) → (b ≡ true) × (byte ≡ value) × (bytes ≡ rest)
+pub byte-ok : (field : BadKind) (b : Bool) (byte : ℕ) (bytes : List ℕ) (value : ℕ) (rest : List ℕ) (stop : Stop) → cond {A = Read ℕ} b (Ok (byte, bytes)) (Err stop) ≡ Ok (value, rest) → (b ≡ true) × (byte ≡ value) × (bytes ≡ rest)
 byte-ok field true byte bytes value rest stop e =
     let pair : ◌≡◌ {A = ℕ × List ℕ} (byte, bytes) (value, rest) = cc in
     (refl, ap (λ (p : ℕ × List ℕ). p.0) pair, ap (λ (p : ℕ × List ℕ). p.1) pair)
@@ -144,16 +144,16 @@ byte-err : (b : Bool) (byte : ℕ) (bytes : List ℕ) (stop stop' : Stop) → co
 byte-err true byte bytes stop stop' e = absurd cc
 byte-err false byte bytes stop stop' e = (refl, cc)
 
-abbrev within : ℕ → ℕ → ℕ → Bool
+abbrev pub within : ℕ → ℕ → ℕ → Bool
 within least most byte = leb least byte && leb byte most
 
-byte-within : (field : BadKind) (least most byte : ℕ) (bytes : List ℕ) → within least most byte ≡ true → byte_at field least most (byte ∷ bytes) ≡ Ok (byte, bytes)
+pub byte-within : (field : BadKind) (least most byte : ℕ) (bytes : List ℕ) → within least most byte ≡ true → byte_at field least most (byte ∷ bytes) ≡ Ok (byte, bytes)
 byte-within field least most byte bytes e = ap (λ b. cond b (Ok (byte, bytes)) (Err (Bad field (length (byte ∷ bytes))))) e
 
 byte-outside : (field : BadKind) (least most byte : ℕ) (bytes : List ℕ) → within least most byte ≡ false → byte_at field least most (byte ∷ bytes) ≡ Err (Bad field (length (byte ∷ bytes)))
 byte-outside field least most byte bytes e = ap (λ b. cond b (Ok (byte, bytes)) (Err (Bad field (length (byte ∷ bytes))))) e
 
-and-true : (a b : Bool) → a ≡ true → b ≡ true → (a && b) ≡ true
+pub and-true : (a b : Bool) → a ≡ true → b ≡ true → (a && b) ≡ true
 and-true a b p q = ap (λ x. x && b) p ∙ q
 
 byte-taken : (field : BadKind) (least most : ℕ) (bytes : List ℕ) (value : ℕ) (rest : List ℕ) → byte_at field least most bytes ≡ Ok (value, rest) → Takes (byte_at field least most) bytes value rest
@@ -204,7 +204,7 @@ exact-byte field least most some small = record {
 
 -- ---- a number of any value
 
-front-ok : {A : Type 0} (b : Bool) (x y : A) → cond b (Err Cut) (Ok x) ≡ Ok y → (b ≡ false) × (x ≡ y)
+pub front-ok : {A : Type 0} (b : Bool) (x y : A) → cond b (Err Cut) (Ok x) ≡ Ok y → (b ≡ false) × (x ≡ y)
 front-ok true x y e = absurd cc
 front-ok false x y e = (refl, cc)
 
@@ -212,10 +212,10 @@ front-err : {A : Type 0} (b : Bool) (x : A) (stop : Stop) → cond b (Err Cut) (
 front-err true x stop e = (refl, cc)
 front-err false x stop e = absurd cc
 
-abbrev front_at : ℕ → (List ℕ → ℕ) → List ℕ → Read ℕ
+abbrev pub front_at : ℕ → (List ℕ → ℕ) → List ℕ → Read ℕ
 front_at n number bytes = cond (ltb (length bytes) n) (Err Cut) (Ok (number (take n bytes), drop n bytes))
 
-front-there : (n : ℕ) (number : List ℕ → ℕ) (front other : List ℕ) → length front ≡ n → front_at n number (front ++ other) ≡ Ok (number front, other)
+pub front-there : (n : ℕ) (number : List ℕ → ℕ) (front other : List ℕ) → length front ≡ n → front_at n number (front ++ other) ≡ Ok (number front, other)
 front-there n number front other len =
     let long : ltb (length (front ++ other)) n ≡ false = le-ltb _ _ (omega (arith, length-append front other)) in
     rw (long, take_at front other n len, drop_at front other n len) refl

@@ -3,3 +3,5 @@ pub mod Placing
 pub mod ExactParts
 pub mod ExactFrames
 pub mod FrameLaws
+pub mod Again
+pub mod Spelled

@@ -6,3 +6,4 @@ pub mod Decoding
 pub mod Writing
 pub mod Exact
 pub mod Whole
+pub mod Replies

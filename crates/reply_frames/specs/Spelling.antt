@@ -1,6 +1,6 @@
 -- The bytes of the frames that answer: Update and Change.
-use Rattle.std.specs.Prelude.{ℕ, ◌+◌, ◌*◌, ◌<◌, ◌^◌, ◌≡◌, List, [], ◌∷◌, ◌++◌, length, All}
-use Rattle.std.specs.List.{flat_map}
+use Rattle.std.specs.Prelude.{ℕ, ◌+◌, ◌*◌, ◌<◌, ◌^◌, ◌≡◌, List, [], ◌∷◌, ◌++◌, length}
+use Rattle.std.specs.List.{flat_map, AllByRecursion}
 use Rattle.std.specs.Int.{w16, w32, w64, to_le_bytes}
 use Rattle.ccp_base.specs.declared.fields.FieldReg.{FieldReg}
 use Rattle.ccp_base.specs.declared.fields.FieldReg.TheVariants.{Cwnd, Rate, Control}
@@ -45,4 +45,4 @@ IsTarget Rate = Unit {0}
 
 -- each control number among these is below 64
 abbrev pub AreTargets : List Pair → Type 0
-AreTargets values = All (λ value. IsTarget value.0) values
+AreTargets values = AllByRecursion (λ value. IsTarget value.0) values

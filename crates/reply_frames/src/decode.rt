@@ -1,5 +1,8 @@
-ghost use Rattle.std.specs.Prelude.{◌≡◌, ℕ, ◌-◌, ◌≤◌, length, Option, OnErr, IfOk, IfErr, Ok, Err};
+ghost use Rattle.std.specs.Prelude.{◌≡◌, ℕ, ◌-◌, ◌≤◌, List, length, Option, OnErr, IfOk, IfErr, Ok, Err};
 ghost use Rattle.reply_frames.specs.declared.fault.BadKind.{BadKind};
+ghost use Rattle.ccp_base.specs.FieldReg.{Pair};
+ghost use Rattle.reply_frames.specs.Replies.{IsReply};
+ghost use Rattle.reply_frames.specs.declared.decode.Head.{Head};
 ghost use Rattle.reply_frames.specs.Whole.{IsCut, IsBadFrom};
 ghost use Rattle.reply_frames.specs.Decoding.{needed_of, fault_of, head_of, decoded_of};
 
@@ -64,18 +67,16 @@ fn found(bytes: &[u8]) -> Result<(Head, Fields), FrameFault>
     ensures { result ≡ decoded_of bytes.now }
 {
     let (head, rest) = outline(bytes).map_err(|stop| stopped(bytes, stop))?;
+    let count = head.counts.n1;
     let mut fields = Fields::new();
     match head.kind {
         FrameKind::Update => {
-            let rest = update(rest, head.counts.n1, &mut fields).map_err(|stop| stopped(
-                bytes, stop,
-            ))?;
+            let rest = update(rest, count, &mut fields).map_err(|stop| stopped(bytes, stop))?;
             Ok((headed(head, None, bytes, rest), fields))
         }
         FrameKind::Change => {
-            let (program, rest) = change(rest, head.counts.n1, &mut fields).map_err(|stop| stopped(
-                bytes, stop,
-            ))?;
+            let (program, rest) =
+                change(rest, count, &mut fields).map_err(|stop| stopped(bytes, stop))?;
             Ok((headed(head, Some(program), bytes, rest), fields))
         }
         kind => {
@@ -91,12 +92,22 @@ pub fn decode_fields(bytes: &[u8], values: &mut Fields) -> Result<Head, FrameFau
     ensures found { IfOk result (λ head. decoded_of bytes.now ≡ Ok (head, values.new)) }
     ensures fault { IfErr result (λ fault. decoded_of bytes.now ≡ Err fault) }
 
+    // What is read is spelled so, and what is spelled so is read.
+    ensures spelled { IfOk result (λ head. IsReply bytes.now head values.new) }
+    ensures only {
+        (head : Head) (pairs : List Pair) → IsReply bytes.now head pairs
+        → (result ≡ Ok head) × (values.new ≡ pairs)
+    }
+
     // More comes exactly where the bytes are a proper prefix of a frame.
     ensures more { (n : ℕ) → result ≡ Err (FrameFault.More n) → IsCut bytes.now }
     ensures cut { IsCut bytes.now → result ≡ Err (FrameFault.More (needed_of bytes.now)) }
 
     // Bad says how long the longest prefix is that a frame begins with.
-    ensures bad { (field : BadKind) (place : ℕ) → result ≡ Err (FrameFault.Bad field place) → IsBadFrom bytes.now place }
+    ensures bad {
+        (field : BadKind) (place : ℕ) → result ≡ Err (FrameFault.Bad field place)
+        → IsBadFrom bytes.now place
+    }
     ensures unchanged { OnErr result (values.new ≡ values.old) }
 {
     let (head, fields) = found(bytes)?;

@@ -1,0 +1,26 @@
+-- The bytes that begin with an Update or a Change.
+use Rattle.std.specs.Prelude.{◌≡◌, ℕ, ◌<◌, ◌≤◌, ◌^◌, List, ◌++◌, length, Option, Some, None, IfSome}
+use Rattle.std.specs.List.{AllByRecursion}
+use Rattle.ccp_base.specs.FieldReg.{Pair}
+use Rattle.reply_frames.specs.declared.outline.Version.{Version}
+use Rattle.reply_frames.specs.declared.decode.Head.{Head}
+use Rattle.reply_frames.specs.Spelling.{IsTarget, update_bytes, change_bytes}
+
+-- the frame with these values: an Update where there is no program, else a Change
+abbrev pub reply_bytes : Version → ℕ → Option ℕ → List Pair → List ℕ
+reply_bytes version flow None values = update_bytes version flow values
+reply_bytes version flow (Some program) values = change_bytes version flow program values
+
+-- a value that has a place in a frame
+abbrev pub IsSendable : Pair → Type 0
+IsSendable value = IsTarget value.0 × (value.1 < 2 ^ 64)
+
+-- these bytes begin with the frame of this head and these values
+pub record IsReply (bytes : List ℕ) (head : Head) (values : List Pair) : Type 0 where
+  pub rest : List ℕ
+  pub parts : bytes ≡ reply_bytes head.version head.flow head.program values ++ rest
+  pub used : head.used ≡ length (reply_bytes head.version head.flow head.program values)
+  pub flow : head.flow < 2 ^ 32
+  pub program : IfSome head.program (λ program. program < 2 ^ 32)
+  pub few : length values ≤ 66
+  pub values_fit : AllByRecursion IsSendable values
