@@ -77,10 +77,11 @@ exactly-again : (field : BadKind) (width n : ℕ) (rest : List ℕ) → (x : ℕ
 unfolding exactly_at
 exactly-again field zero n rest = (0, refl)
 exactly-again field (suc width) n rest =
-    let high = exactly-again field width (n / 256) rest in
-    (n % 256 + 256 * high.0,
+    let high = exactly-again field width (n / 256) rest in (
+      n % 256 + 256 * high.0,
       ap (λ (read : Read ℕ). read >>= λ low. exactly_at field width (n / 256) low.1 >>= λ high. Ok (low.0 + 256 * high.0, high.1)) (byte-again field (n % 256) (n % 256) (n % 256) (low_digits width (n / 256) ++ rest) (omega arith) (omega arith))
-      ∙ ap (λ (read : Read ℕ). read >>= λ high. Ok (n % 256 + 256 * high.0, high.1)) high.1)
+          ∙ ap (λ (read : Read ℕ). read >>= λ high. Ok (n % 256 + 256 * high.0, high.1)) high.1,
+    )
 
 abbrev pub few_counts : ℕ → Counts
 few_counts count = record { n1 = count; n2 = 0; n3 = 0; n4 = 0 }
@@ -94,13 +95,13 @@ counts-again : (kind : FrameKind) (version : Version) (count : ℕ) (rest : List
 unfolding counts_at
 counts-again kind version count rest few n2 n3 n4 =
     ap (λ (read : Read ℕ). read >>= λ n1. byte_at bad.Count 0 (most_n2 kind) n1.1 >>= λ n2. limited_at bad.Count 2 (most_n3 kind) n2.1 >>= λ n3. limited_at bad.Count 2 (most_n4 kind) n3.1 >>= λ n4. Ok (record { n1 = n1.0; n2 = n2.0; n3 = n3.0; n4 = n4.0 }, n4.1))
-      (byte-again bad.Count 0 (most_n1 kind version) count (0 ∷ 0 ∷ 0 ∷ 0 ∷ 0 ∷ rest) (omega arith) few)
+    (byte-again bad.Count 0 (most_n1 kind version) count (0 ∷ 0 ∷ 0 ∷ 0 ∷ 0 ∷ rest) (omega arith) few)
     ∙ ap (λ (read : Read ℕ). read >>= λ n2. limited_at bad.Count 2 (most_n3 kind) n2.1 >>= λ n3. limited_at bad.Count 2 (most_n4 kind) n3.1 >>= λ n4. Ok (record { n1 = count; n2 = n2.0; n3 = n3.0; n4 = n4.0 }, n4.1))
-      (byte-again bad.Count 0 (most_n2 kind) 0 (0 ∷ 0 ∷ 0 ∷ 0 ∷ rest) (omega arith) (omega arith))
+    (byte-again bad.Count 0 (most_n2 kind) 0 (0 ∷ 0 ∷ 0 ∷ 0 ∷ rest) (omega arith) (omega arith))
     ∙ ap (λ (read : Read ℕ). read >>= λ n3. limited_at bad.Count 2 (most_n4 kind) n3.1 >>= λ n4. Ok (record { n1 = count; n2 = 0; n3 = n3.0; n4 = n4.0 }, n4.1))
-      (limited-none bad.Count (most_n3 kind) (0 ∷ 0 ∷ rest) n3)
+    (limited-none bad.Count (most_n3 kind) (0 ∷ 0 ∷ rest) n3)
     ∙ ap (λ (read : Read ℕ). read >>= λ n4. Ok (record { n1 = count; n2 = 0; n3 = 0; n4 = n4.0 }, n4.1))
-      (limited-none bad.Count (most_n4 kind) rest n4)
+    (limited-none bad.Count (most_n4 kind) rest n4)
 
 version-again : (version : Version) (rest : List ℕ) → byte_at bad.Version 1 2 (version_number version ∷ rest) ≡ Ok (version_number version, rest)
 version-again One rest = refl
@@ -130,9 +131,9 @@ outline-again kind version count flow rest low high is few n2 n3 n4 fits =
     ∙ ap (λ version'. after_version kind version' tail) (version_of-number version)
     ∙ ap (λ xs. after_version kind version (count ∷ 0 ∷ 0 ∷ 0 ∷ 0 ∷ 0 ∷ xs)) regrouped
     ∙ ap (λ (read : Read Counts). read >>= λ counts. number_at w32 counts.1 >>= λ flow. exactly_at bad.Length 4 (size_of kind version counts.0) flow.1 >>= λ size. Ok (record { kind = kind; version = version; counts = counts.0; flow = flow.0 }, size.1))
-      (counts-again kind version count (to_le_bytes w32 flow ++ (low_digits 4 size ++ rest)) few n2 n3 n4)
+    (counts-again kind version count (to_le_bytes w32 flow ++ (low_digits 4 size ++ rest)) few n2 n3 n4)
     ∙ ap (λ (read : Read ℕ). read >>= λ flow. exactly_at bad.Length 4 size flow.1 >>= λ size. Ok (record { kind = kind; version = version; counts = few_counts count; flow = flow.0 }, size.1))
-      (number32-again flow (low_digits 4 size ++ rest) fits)
+    (number32-again flow (low_digits 4 size ++ rest) fits)
     ∙ ap (λ (read : Read ℕ). read >>= λ size. Ok (record { kind = kind; version = version; counts = few_counts count; flow = flow }, size.1)) end.1
 
 -- ---- frames

@@ -80,7 +80,7 @@ number32-is bytes x fits e =
     let front : to_le_bytes w32 (from_le_bytes w32 (take 4 bytes)) ≡ take 4 bytes = le_bytes_4 (take 4 bytes) _ (omega (arith, length-take 4 bytes)) front_fits refl in
     let below : from_le_bytes w32 (take 4 bytes) < 2 ^ 32 = omega (arith, front_fits 0, front_fits 1, front_fits 2, front_fits 3) in
     subst (λ (x : ℕ × List ℕ). IsSpelled bytes (to_le_bytes w32 x.0) x.1 × (x.0 < 2 ^ 32)) f.1
-      (record { parts = sym (take-append-drop 4 bytes) ∙ ap (λ xs. xs ++ drop 4 bytes) (sym front); rest_fits = AllBytes-drop 4 bytes fits }, below)
+    (record { parts = sym (take-append-drop 4 bytes) ∙ ap (λ xs. xs ++ drop 4 bytes) (sym front); rest_fits = AllBytes-drop 4 bytes fits }, below)
 
 number64-is : (bytes : List ℕ) (x : ℕ × List ℕ) → AllBytes bytes → number_at w64 bytes ≡ Ok x → IsSpelled bytes (to_le_bytes w64 x.0) x.1 × (x.0 < 2 ^ 64)
 number64-is bytes x fits e =
@@ -90,7 +90,7 @@ number64-is bytes x fits e =
     let front : to_le_bytes w64 (from_le_bytes w64 (take 8 bytes)) ≡ take 8 bytes = le_bytes_8 (take 8 bytes) _ (omega (arith, length-take 8 bytes)) front_fits refl in
     let below : from_le_bytes w64 (take 8 bytes) < 2 ^ 64 = omega (arith, front_fits 0, front_fits 1, front_fits 2, front_fits 3, front_fits 4, front_fits 5, front_fits 6, front_fits 7) in
     subst (λ (x : ℕ × List ℕ). IsSpelled bytes (to_le_bytes w64 x.0) x.1 × (x.0 < 2 ^ 64)) f.1
-      (record { parts = sym (take-append-drop 8 bytes) ∙ ap (λ xs. xs ++ drop 8 bytes) (sym front); rest_fits = AllBytes-drop 8 bytes fits }, below)
+    (record { parts = sym (take-append-drop 8 bytes) ∙ ap (λ xs. xs ++ drop 8 bytes) (sym front); rest_fits = AllBytes-drop 8 bytes fits }, below)
 
 -- ---- heads
 
@@ -219,25 +219,27 @@ target-is bytes x fits e =
   where
     target-pair : (bytes : List ℕ) (class : ℕ) (rest : List ℕ) (number : ℕ) (after : List ℕ) (reg : FieldReg) → target_bytes reg ≡ class ∷ number ∷ [] → IsSpelled bytes (class ∷ []) rest → IsSpelled rest (number ∷ []) after → IsSpelled bytes (target_bytes reg) after
     target-pair bytes class rest number after reg is first second = subst (λ text. IsSpelled bytes text after) (sym is) (spelled-then bytes (class ∷ []) rest (number ∷ []) after first second)
+
     reg_of : (number : ℕ) (b : Bool) → eqb number 4 ≡ b → 4 ≤ number → number ≤ 5 → (target_bytes (cond b Cwnd Rate) ≡ 4 ∷ number ∷ []) × IsTarget (cond b Cwnd Rate)
     reg_of number true e low high = (ap (λ n. 4 ∷ n ∷ []) (sym (eqb-true number 4 e)), tt)
     reg_of number false e low high = (ap (λ n. 4 ∷ n ∷ []) (let five : 5 ≡ number = omega (arith, eqb-false number 4 e) in five), tt)
+
     target_from : (bytes : List ℕ) (class : ℕ × List ℕ) (x : FieldReg × List ℕ) (b : Bool) → eqb class.0 3 ≡ b → IsSpelled bytes (class.0 ∷ []) class.1 → 3 ≤ class.0 → class.0 ≤ 4
-      → cond b (byte_at bad.Index 0 63 class.1 >>= λ number. Ok (Control number.0, number.1)) (byte_at bad.Index 4 5 class.1 >>= λ number. Ok (cond (eqb number.0 4) Cwnd Rate, number.1)) ≡ Ok x
-      → IsSpelled bytes (target_bytes x.0) x.1 × IsTarget x.0
+        → cond b (byte_at bad.Index 0 63 class.1 >>= λ number. Ok (Control number.0, number.1)) (byte_at bad.Index 4 5 class.1 >>= λ number. Ok (cond (eqb number.0 4) Cwnd Rate, number.1)) ≡ Ok x
+        → IsSpelled bytes (target_bytes x.0) x.1 × IsTarget x.0
     target_from bytes class x true is first low high e =
-      let b = bind_ok (byte_at bad.Index 0 63 class.1) (λ number. Ok (Control number.0, number.1)) x e in
-      let number = byte-is bad.Index 0 63 class.1 b.0 first.rest_fits b.1 in
-      let three : class.0 ≡ 3 = eqb-true class.0 3 is in
-      subst (λ (x : FieldReg × List ℕ). IsSpelled bytes (target_bytes x.0) x.1 × IsTarget x.0) (ok-pair (pair (Control b.0.0) b.0.1) x b.2)
+        let b = bind_ok (byte_at bad.Index 0 63 class.1) (λ number. Ok (Control number.0, number.1)) x e in
+        let number = byte-is bad.Index 0 63 class.1 b.0 first.rest_fits b.1 in
+        let three : class.0 ≡ 3 = eqb-true class.0 3 is in
+        subst (λ (x : FieldReg × List ℕ). IsSpelled bytes (target_bytes x.0) x.1 × IsTarget x.0) (ok-pair (pair (Control b.0.0) b.0.1) x b.2)
         (target-pair bytes class.0 class.1 b.0.0 b.0.1 (Control b.0.0) (ap (λ n. n ∷ b.0.0 ∷ []) (sym three)) first number.0, omega (arith, number.2))
     target_from bytes class x false is first low high e =
-      let b = bind_ok (byte_at bad.Index 4 5 class.1) (λ number. Ok (cond (eqb number.0 4) Cwnd Rate, number.1)) x e in
-      let number = byte-is bad.Index 4 5 class.1 b.0 first.rest_fits b.1 in
-      let four : 4 ≡ class.0 = omega (arith, eqb-false class.0 3 is) in
-      let reg : FieldReg = cond (eqb b.0.0 4) Cwnd Rate in
-      let r = reg_of b.0.0 (eqb b.0.0 4) refl number.1 number.2 in
-      subst (λ (x : FieldReg × List ℕ). IsSpelled bytes (target_bytes x.0) x.1 × IsTarget x.0) (ok-pair (pair reg b.0.1) x b.2)
+        let b = bind_ok (byte_at bad.Index 4 5 class.1) (λ number. Ok (cond (eqb number.0 4) Cwnd Rate, number.1)) x e in
+        let number = byte-is bad.Index 4 5 class.1 b.0 first.rest_fits b.1 in
+        let four : 4 ≡ class.0 = omega (arith, eqb-false class.0 3 is) in
+        let reg : FieldReg = cond (eqb b.0.0 4) Cwnd Rate in
+        let r = reg_of b.0.0 (eqb b.0.0 4) refl number.1 number.2 in
+        subst (λ (x : FieldReg × List ℕ). IsSpelled bytes (target_bytes x.0) x.1 × IsTarget x.0) (ok-pair (pair reg b.0.1) x b.2)
         (target-pair bytes class.0 class.1 b.0.0 b.0.1 reg (r.0 ∙ ap (λ n. n ∷ b.0.0 ∷ []) four) first number.0, r.1)
 
 value-is : (bytes : List ℕ) (x : Pair × List ℕ) → AllBytes bytes → value_at bytes ≡ Ok x → IsSpelled bytes (value_bytes x.0) x.1 × IsSendable x.0
@@ -249,7 +251,7 @@ value-is bytes x fits e =
     let number = number64-is a.0.1 b.0 target.0.rest_fits b.1 in
     let made : Pair × List ℕ = ((a.0.0, b.0.0), b.0.1) in
     subst (λ (x : Pair × List ℕ). IsSpelled bytes (value_bytes x.0) x.1 × IsSendable x.0) (ok-pair made x b.2)
-      (spelled-then bytes (target_bytes a.0.0) a.0.1 (to_le_bytes w64 b.0.0) b.0.1 target.0 number.0, (target.1, number.1))
+    (spelled-then bytes (target_bytes a.0.0) a.0.1 (to_le_bytes w64 b.0.0) b.0.1 target.0 number.0, (target.1, number.1))
 
 record AreValues (count : ℕ) (bytes : List ℕ) (x : List Pair × List ℕ) : Type 0 where
   spelled : IsSpelled bytes (values_bytes x.0) x.1
@@ -293,9 +295,11 @@ update-read bytes rest version counts flow x fits e e' =
     let x_is : pair (Update b.0.0) b.0.1 ≡ x = ok-pair (pair (Update b.0.0) b.0.1) x b.2 in
     let both = spelled-then bytes (head_bytes kinds.Update version counts.n1 flow (16 + 10 * counts.n1)) rest (values_bytes b.0.0) b.0.1 head.spelled values.spelled in
     let text : head_bytes kinds.Update version counts.n1 flow (16 + 10 * counts.n1) ++ values_bytes b.0.0 ≡ update_bytes version flow b.0.0 = ap (λ n. head_bytes kinds.Update version n flow (16 + 10 * n) ++ values_bytes b.0.0) (sym values.counted) in
-    let rest_is : b.0.1 ≡ x.1 = ap (λ (p : Body × List ℕ). p.1) x_is in
-    (b.0.0, sym (ap (λ (p : Body × List ℕ). p.0) x_is),
-      record { parts = both.parts ∙ ap (λ text. text ++ b.0.1) text ∙ ap (λ rest. update_bytes version flow b.0.0 ++ rest) rest_is; flow = head.flow; program_fits = tt; few = omega (arith, values.counted, head.few); sendable = values.sendable })
+    let rest_is : b.0.1 ≡ x.1 = ap (λ (p : Body × List ℕ). p.1) x_is in (
+      b.0.0,
+      sym (ap (λ (p : Body × List ℕ). p.0) x_is),
+      record { parts = both.parts ∙ ap (λ text. text ++ b.0.1) text ∙ ap (λ rest. update_bytes version flow b.0.0 ++ rest) rest_is; flow = head.flow; program_fits = tt; few = omega (arith, values.counted, head.few); sendable = values.sendable },
+    )
 
 change-read : (bytes rest : List ℕ) (version : Version) (counts : Counts) (flow : ℕ) (x : Body × List ℕ) → AllBytes bytes → outline_at bytes ≡ Ok (record { kind = kinds.Change; version = version; counts = counts; flow = flow }, rest) → change_at counts.n1 rest ≡ Ok x
     → (program : ℕ) × (values : List Pair) × (x.0 ≡ Change program values) × IsRead bytes (record { kind = kinds.Change; version = version; counts = counts; flow = flow }) (Some program) values x.1
@@ -311,9 +315,12 @@ change-read bytes rest version counts flow x fits e e' =
     let front = spelled-then bytes (head_bytes kinds.Change version counts.n1 flow (20 + 10 * counts.n1)) rest (to_le_bytes w32 a.0.0) a.0.1 head.spelled program.0 in
     let both = spelled-then bytes (head_bytes kinds.Change version counts.n1 flow (20 + 10 * counts.n1) ++ to_le_bytes w32 a.0.0) a.0.1 (values_bytes b.0.0) b.0.1 front values.spelled in
     let text : head_bytes kinds.Change version counts.n1 flow (20 + 10 * counts.n1) ++ to_le_bytes w32 a.0.0 ++ values_bytes b.0.0 ≡ change_bytes version flow a.0.0 b.0.0 = ap (λ n. head_bytes kinds.Change version n flow (20 + 10 * n) ++ to_le_bytes w32 a.0.0 ++ values_bytes b.0.0) (sym values.counted) in
-    let rest_is : b.0.1 ≡ x.1 = ap (λ (p : Body × List ℕ). p.1) x_is in
-    (a.0.0, b.0.0, sym (ap (λ (p : Body × List ℕ). p.0) x_is),
-      record { parts = both.parts ∙ ap (λ text. text ++ b.0.1) text ∙ ap (λ rest. change_bytes version flow a.0.0 b.0.0 ++ rest) rest_is; flow = head.flow; program_fits = program.1; few = omega (arith, values.counted, head.few); sendable = values.sendable })
+    let rest_is : b.0.1 ≡ x.1 = ap (λ (p : Body × List ℕ). p.1) x_is in (
+      a.0.0,
+      b.0.0,
+      sym (ap (λ (p : Body × List ℕ). p.0) x_is),
+      record { parts = both.parts ∙ ap (λ text. text ++ b.0.1) text ∙ ap (λ rest. change_bytes version flow a.0.0 b.0.0 ++ rest) rest_is; flow = head.flow; program_fits = program.1; few = omega (arith, values.counted, head.few); sendable = values.sendable },
+    )
 
 kind-read : (bytes rest : List ℕ) (kind : FrameKind) (version : Version) (counts : Counts) (flow : ℕ) (x : Body × List ℕ) (head : Head) (values : List Pair) → AllBytes bytes
     → outline_at bytes ≡ Ok (record { kind = kind; version = version; counts = counts; flow = flow }, rest) → body_at kind version counts rest ≡ Ok x
@@ -347,7 +354,7 @@ decoded-read bytes head values (Ok (frame, rest)) e fits d =
     let made : Frame × List ℕ = (record { outline = o.0.0; body = b.0.0 }, b.0.1) in
     let frame_is : made ≡ (frame, rest) = ok-pair made (frame, rest) b.2 in
     let d' : answer_of o.0.0.kind o.0.0 b.0.0 (length bytes - length b.0.1) ≡ Ok (head, values) =
-      subst (λ (p : Frame × List ℕ). answer_of p.0.outline.kind p.0.outline p.0.body (length bytes - length p.1) ≡ Ok (head, values)) (sym frame_is) d in
+    subst (λ (p : Frame × List ℕ). answer_of p.0.outline.kind p.0.outline p.0.body (length bytes - length p.1) ≡ Ok (head, values)) (sym frame_is) d in
     kind-read bytes o.0.1 o.0.0.kind o.0.0.version o.0.0.counts o.0.0.flow b.0 head values fits o.1 b.1 d'
 
 pub reply_is : (bytes : List ℕ) (head : Head) (values : List Pair) → AllBytes bytes → decoded_of bytes ≡ Ok (head, values) → IsReply bytes head values

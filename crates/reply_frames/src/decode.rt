@@ -75,8 +75,9 @@ fn found(bytes: &[u8]) -> Result<(Head, Fields), FrameFault>
             Ok((headed(head, None, bytes, rest), fields))
         }
         FrameKind::Change => {
-            let (program, rest) =
-                change(rest, count, &mut fields).map_err(|stop| stopped(bytes, stop))?;
+            let (program, rest) = change(rest, count, &mut fields).map_err(|stop| stopped(
+                bytes, stop,
+            ))?;
             Ok((headed(head, Some(program), bytes, rest), fields))
         }
         kind => {
@@ -94,20 +95,16 @@ pub fn decode_fields(bytes: &[u8], values: &mut Fields) -> Result<Head, FrameFau
 
     // What is read is spelled so, and what is spelled so is read.
     ensures spelled { IfOk result (λ head. IsReply bytes.now head values.new) }
-    ensures only {
-        (head : Head) (pairs : List Pair) → IsReply bytes.now head pairs
-        → (result ≡ Ok head) × (values.new ≡ pairs)
-    }
+    ensures only { (head : Head) (pairs : List Pair) → IsReply bytes.now head pairs
+        → (result ≡ Ok head) × (values.new ≡ pairs) }
 
     // More comes exactly where the bytes are a proper prefix of a frame.
     ensures more { (n : ℕ) → result ≡ Err (FrameFault.More n) → IsCut bytes.now }
     ensures cut { IsCut bytes.now → result ≡ Err (FrameFault.More (needed_of bytes.now)) }
 
     // Bad says how long the longest prefix is that a frame begins with.
-    ensures bad {
-        (field : BadKind) (place : ℕ) → result ≡ Err (FrameFault.Bad field place)
-        → IsBadFrom bytes.now place
-    }
+    ensures bad { (field : BadKind) (place : ℕ) → result ≡ Err (FrameFault.Bad field place)
+        → IsBadFrom bytes.now place }
     ensures unchanged { OnErr result (values.new ≡ values.old) }
 {
     let (head, fields) = found(bytes)?;
