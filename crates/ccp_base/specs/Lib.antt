@@ -8,3 +8,4 @@ pub mod Outside
 pub mod Saturating
 pub mod Reading
 pub mod Course
+pub mod Parts

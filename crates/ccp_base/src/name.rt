@@ -9,7 +9,7 @@ use std::marker::Model;
 pub const NAME_BYTES: usize = 64;
 
 /// A text of 1 to 64 bytes, held in place.
-#[derive(Clone, Copy, PartialEq, Eq, Debug)]
+#[derive(Clone, Copy, PartialEq, Eq, Hash, Debug)]
 pub struct Name {
     bytes: [u8; 64],
     count: usize,

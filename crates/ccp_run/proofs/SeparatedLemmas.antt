@@ -2,8 +2,8 @@ use Rattle.std.proofs.Common.{◌≡◌, ℕ, ◌+◌, ◌-◌, ◌<◌, true, f
 use Rattle.std.proofs.Math.Seq.{take-append_seam, drop-append_seam}
 use Rattle.std.proofs.lemmas.List.{take-append-drop}
 use Rattle.std.proofs.lemmas.Bool.Decides.{nat_tests}
-use Rattle.ccp_run.specs.declared.parts.Separator.TheVariants.{LineFeed}
-use Rattle.ccp_run.specs.Parts.{separates, parts_of, IsSplit}
+use Rattle.ccp_base.specs.declared.parts.Separator.TheVariants.{LineFeed}
+use Rattle.ccp_base.specs.Parts.{separates, parts_of, IsSplit}
 use Rattle.ccp_run.specs.Separated.{Cut, is_separator, cut_from}
 
 module _ (text front after : List ℕ) (whole : text ≡ front ++ after) where

@@ -6,8 +6,8 @@ use Rattle.ccp_base.specs.declared.ack.Ack.{Ack}
 use Rattle.ccp_base.specs.Numerals.{numeral_of}
 use Rattle.ccp_run.specs.declared.ack_line.AckLine.{AckLine}
 use Rattle.ccp_run.specs.declared.ack_line.AckLine.TheVariants.{Nothing, Given, Refused}
-use Rattle.ccp_run.specs.declared.parts.Separator.TheVariants.{Blank}
-use Rattle.ccp_run.specs.Parts.{separates, parts_of}
+use Rattle.ccp_base.specs.declared.parts.Separator.TheVariants.{Blank}
+use Rattle.ccp_base.specs.Parts.{separates, parts_of}
 
 -- the names of an acknowledgement's values, in the order of the primitives
 abbrev pub field_names : List (List ℕ)

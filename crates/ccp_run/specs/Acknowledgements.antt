@@ -4,7 +4,7 @@ use Rattle.ccp_run.specs.declared.ack_line.AckLine.{AckLine}
 use Rattle.ccp_run.specs.declared.ack_line.AckLine.TheVariants.{Nothing, Given, Refused}
 use Rattle.ccp_run.specs.declared.acks.LineFault.{LineFault}
 use Rattle.ccp_run.specs.declared.acks.LineFault.TheVariants.{Line, TooMany}
-use Rattle.ccp_run.specs.Parts.{without_last}
+use Rattle.ccp_base.specs.Parts.{without_last}
 use Rattle.ccp_run.specs.AckLine.{line_of}
 
 -- the acknowledgements with what the line of this number says, or why there are none

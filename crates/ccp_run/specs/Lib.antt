@@ -1,4 +1,3 @@
-pub mod Parts
 pub mod AckLine
 pub mod Separated
 pub mod Acknowledgements

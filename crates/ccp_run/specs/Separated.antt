@@ -1,7 +1,7 @@
 use Rattle.std.specs.Prelude.{ℕ, ◌+◌, Bool, if◌then◌else◌, Option, Some, None, List, [], ◌∷◌, ◌++◌, codes}
 use Rattle.std.specs.Str.{bytes_eq}
-use Rattle.ccp_run.specs.declared.parts.Separator.TheVariants.{LineFeed}
-use Rattle.ccp_run.specs.Parts.{parts_of, without_last}
+use Rattle.ccp_base.specs.declared.parts.Separator.TheVariants.{LineFeed}
+use Rattle.ccp_base.specs.Parts.{parts_of, without_last}
 
 -- a text that is cut in two at a line: the bytes before that line, and the lines after it, the first of which
 -- has this number in the whole text, counted from 1

@@ -2,11 +2,10 @@ ghost use Rattle.std.specs.Prelude.{◌≡◌, ◌<◌, ◌==◌, Some, None, le
 ghost use Rattle.std.specs.Str.{bytes_eq};
 ghost use Rattle.std.specs.List.{list_all};
 ghost use Rattle.std.specs.Option.{ForSome};
-ghost use Rattle.ccp_run.specs.Parts.{separates, parts_of};
+ghost use Rattle.ccp_base.specs.Parts.{separates, parts_of};
 ghost use Rattle.ccp_run.specs.AckLine.{field_number, with_value, with_item, with_word, with_words, value_at, ack_of, begins_blank, ends_blank, line_of};
 
-use crate::parts::{Separator, first_part};
-use ccp_base::{Ack, numeral};
+use ccp_base::{Ack, Separator, first_part, numeral};
 
 /// What a line below the separator says.
 #[derive(Clone, Copy, PartialEq, Eq, Debug)]

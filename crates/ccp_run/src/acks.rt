@@ -1,11 +1,10 @@
 ghost use Rattle.std.specs.Prelude.{◌≡◌, ◌≢◌, ◌+◌, ◌^◌, ◌<◌, ◌≤◌, IfOk, IfErr, OnOk, Ok, Err, length};
 ghost use Rattle.ccp_run.specs.declared.acks.LineFault.TheVariants.{NoMemory};
-ghost use Rattle.ccp_run.specs.Parts.{parts_of};
+ghost use Rattle.ccp_base.specs.Parts.{parts_of};
 ghost use Rattle.ccp_run.specs.Acknowledgements.{with_line, acks_of};
 
 use crate::ack_line::{AckLine, ack_line};
-use crate::parts::{Separator, first_part, without_return};
-use ccp_base::Acks;
+use ccp_base::{Acks, Separator, first_part, without_return};
 use std::alloc::{AllocError, Global};
 
 /// The most acknowledgements of one input.

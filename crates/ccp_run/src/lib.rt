@@ -8,7 +8,6 @@ pub mod calls;
 mod fold;
 mod mode;
 mod outcome;
-mod parts;
 mod refusal;
 mod separated;
 #[cfg(test)]

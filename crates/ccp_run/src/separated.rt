@@ -1,10 +1,10 @@
 ghost use Rattle.std.specs.Prelude.{◌≡◌, ◌+◌, ◌<◌, ◌≤◌, IfSome, IfNone, Some, None, length, codes};
 ghost use Rattle.std.specs.Bool.{OnTrue};
 ghost use Rattle.std.specs.Str.{bytes_eq};
-ghost use Rattle.ccp_run.specs.Parts.{parts_of};
+ghost use Rattle.ccp_base.specs.Parts.{parts_of};
 ghost use Rattle.ccp_run.specs.Separated.{is_separator, cut_of};
 
-use crate::parts::{Separator, first_part, without_return};
+use ccp_base::{Separator, first_part, without_return};
 
 /// A text that is cut in two at its first line `---`.
 #[derive(Clone, Copy, Debug)]

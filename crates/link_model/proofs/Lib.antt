@@ -1,4 +1,3 @@
-mod PartLemmas
 mod TraceTextLemmas
 mod TraceLemmas
 mod ChanceLemmas

@@ -3,7 +3,7 @@ use Rattle.std.proofs.lemmas.Bool.Decides.{nat_tests}
 use Rattle.std.proofs.lemmas.Option.{slice_get_within, get_or_from_slice_get}
 use Rattle.std.specs.List.{slice_get}
 use Rattle.ccp_base.specs.Numerals.{numeral_of}
-use Rattle.link_model.specs.Parts.{without_last}
+use Rattle.ccp_base.specs.Parts.{without_last}
 use Rattle.link_model.specs.Traces.{period, IsTrace}
 use Rattle.link_model.specs.declared.trace_text.TraceLine.{TraceLine}
 use Rattle.link_model.specs.declared.trace_text.TraceLine.TheVariants.{Nothing, Time, Bad}

@@ -1,7 +1,7 @@
 use Rattle.std.proofs.Common.{◌≡◌, ℕ, ◌+◌, Bool, true, false, cond, List, [], ◌∷◌, ◌++◌, Option, Some, None, refl, ap, sym, ◌∙◌, append_assoc}
 use Rattle.std.specs.Option.{option_or}
-use Rattle.link_model.specs.Parts.{separates}
-use Rattle.link_model.specs.declared.parts.Separator.TheVariants.{Blank}
+use Rattle.ccp_base.specs.Parts.{separates}
+use Rattle.ccp_base.specs.declared.parts.Separator.TheVariants.{Blank}
 use Rattle.link_model.specs.declared.trace_text.TraceLine.{TraceLine}
 use Rattle.link_model.specs.declared.trace_text.TraceLine.TheVariants.{Nothing, Time, Bad}
 use Rattle.link_model.specs.TraceText.{in_front, without_last_blanks, line_of, is_bad, with_time, is_below, time_after, times_of, first_bad, first_fall}

@@ -2,7 +2,6 @@ pub mod Chances
 pub mod Horizon
 pub mod Link
 pub mod LinkLaws
-pub mod Parts
 pub mod Standing
 pub mod TraceText
 pub mod Traces

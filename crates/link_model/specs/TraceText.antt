@@ -1,8 +1,8 @@
 use Rattle.std.specs.Prelude.{ℕ, ◌+◌, Bool, true, false, ◌==◌, nat_lt, nat_le, Option, Some, None, Result, Ok, Err, if◌then◌else◌, List, [], ◌∷◌}
 use Rattle.ccp_base.specs.Numerals.{numeral_of}
-use Rattle.link_model.specs.Parts.{separates, parts_of, without_last}
+use Rattle.ccp_base.specs.Parts.{separates, parts_of, without_last}
 use Rattle.link_model.specs.Traces.{period}
-use Rattle.link_model.specs.declared.parts.Separator.TheVariants.{LineFeed, Blank}
+use Rattle.ccp_base.specs.declared.parts.Separator.TheVariants.{LineFeed, Blank}
 use Rattle.link_model.specs.declared.trace_text.TraceLine.{TraceLine}
 use Rattle.link_model.specs.declared.trace_text.TraceLine.TheVariants.{Nothing, Time, Bad}
 use Rattle.link_model.specs.declared.trace.TraceFault.{TraceFault}

@@ -6,7 +6,6 @@ mod landing;
 mod link;
 mod link_case;
 mod packet;
-mod parts;
 mod trace;
 mod trace_text;
 mod traffic;

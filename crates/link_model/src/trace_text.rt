@@ -1,13 +1,12 @@
 ghost use Rattle.std.specs.Prelude.{◌≡◌, ℕ, ◌+◌, ◌^◌, ◌<◌, ◌≤◌, Some, None, IfOk, IfErr, OnOk, ◌≢◌, [], ◌++◌, true, false, length, if◌then◌else◌};
 ghost use Rattle.std.specs.Option.{option_or};
-ghost use Rattle.link_model.specs.Parts.{parts_of};
+ghost use Rattle.ccp_base.specs.Parts.{parts_of};
 ghost use Rattle.link_model.specs.TraceText.{without_first_blanks, without_last_blanks, word_line, line_of, is_bad, with_time, is_below, time_after, times_of, first_bad, first_fall};
-ghost use Rattle.link_model.specs.declared.parts.Separator.TheVariants as separator;
+ghost use Rattle.ccp_base.specs.declared.parts.Separator.TheVariants as separator;
 ghost use Rattle.link_model.specs.declared.trace.TraceFault.TheVariants as fault;
 
-use crate::parts::{Separator, first_part, without_return};
 use crate::trace::{LONGEST_MS, TraceFault};
-use ccp_base::numeral;
+use ccp_base::{Separator, first_part, numeral, without_return};
 use std::alloc::Global;
 
 /// What one line of a trace text says.

@@ -1,6 +1,6 @@
 use Rattle.std.proofs.Common.{◌≡◌, Some, None, length, replicate}
-use Rattle.ccp_run.specs.declared.parts.Separator.TheVariants.{Blank}
-use Rattle.ccp_run.specs.Parts.{parts_of}
+use Rattle.ccp_base.specs.declared.parts.Separator.TheVariants.{Blank}
+use Rattle.ccp_base.specs.Parts.{parts_of}
 use Rattle.ccp_run.specs.AckLine.{with_words}
 use Rattle.ccp_run.proofs.ack_line.values_of.Given as goal
 

@@ -1,6 +1,6 @@
 use Rattle.std.proofs.Common.{◌≡◌, ◌≤◌, ◌<◌, ◌+◌, ◌^◌, Ok, length}
-use Rattle.ccp_run.specs.declared.parts.Separator.TheVariants.{LineFeed}
-use Rattle.ccp_run.specs.Parts.{parts_of}
+use Rattle.ccp_base.specs.declared.parts.Separator.TheVariants.{LineFeed}
+use Rattle.ccp_base.specs.Parts.{parts_of}
 use Rattle.ccp_run.specs.Acknowledgements.{with_lines, acks_of}
 use Rattle.ccp_run.proofs.acks.acknowledgements.Given as goal
 

@@ -1,7 +1,7 @@
 use Rattle.std.proofs.Common.{◌∙◌, ap}
 use Rattle.portus_core.specs.ProgramForm.{form_of}
-use Rattle.ccp_run.specs.declared.parts.Separator.TheVariants.{LineFeed}
-use Rattle.ccp_run.specs.Parts.{parts_of}
+use Rattle.ccp_base.specs.declared.parts.Separator.TheVariants.{LineFeed}
+use Rattle.ccp_base.specs.Parts.{parts_of}
 use Rattle.ccp_run.specs.Fold.{folded_text}
 use Rattle.ccp_run.proofs.answer.fold_output.Goals as goal
 

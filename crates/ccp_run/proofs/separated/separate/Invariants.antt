@@ -1,6 +1,6 @@
 use Rattle.std.proofs.Common.{◌≡◌, ◌≤◌, ◌+◌, ◌-◌, length, take, drop}
-use Rattle.ccp_run.specs.declared.parts.Separator.TheVariants.{LineFeed}
-use Rattle.ccp_run.specs.Parts.{parts_of}
+use Rattle.ccp_base.specs.declared.parts.Separator.TheVariants.{LineFeed}
+use Rattle.ccp_base.specs.Parts.{parts_of}
 use Rattle.ccp_run.specs.Separated.{cut_from, cut_of}
 use Rattle.ccp_run.proofs.separated.separate.Given as goal
 

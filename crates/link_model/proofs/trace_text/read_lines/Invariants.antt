@@ -1,7 +1,7 @@
 use Rattle.std.proofs.Common.{◌+◌, ◌≤◌, length}
-use Rattle.link_model.specs.Parts.{parts_of}
+use Rattle.ccp_base.specs.Parts.{parts_of}
 use Rattle.link_model.proofs.TraceTextLemmas.{IsReadingOf}
-use Rattle.link_model.specs.declared.parts.Separator.TheVariants as separator
+use Rattle.ccp_base.specs.declared.parts.Separator.TheVariants as separator
 use Rattle.link_model.proofs.trace_text.read_lines.Given as goal
 
 abbrev pub invariant-loop-rest : goal.invariant-loop-rest

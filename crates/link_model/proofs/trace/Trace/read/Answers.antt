@@ -1,8 +1,8 @@
 use Rattle.std.specs.Option.{option_copied}
 use Rattle.std.proofs.Common.{List, ℕ, subst, sym, ◌∙◌, ap, length, ◌-◌, ◌≡◌, Some}
 use Rattle.std.specs.List.{slice_get}
-use Rattle.link_model.specs.Parts.{parts_of}
-use Rattle.link_model.specs.declared.parts.Separator.TheVariants as separator
+use Rattle.ccp_base.specs.Parts.{parts_of}
+use Rattle.ccp_base.specs.declared.parts.Separator.TheVariants as separator
 use Rattle.link_model.proofs.TraceLemmas.{are_trace, last_above}
 use Rattle.link_model.proofs.trace.Trace.read.Goals as goal
 

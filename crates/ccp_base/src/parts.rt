@@ -1,5 +1,5 @@
 ghost use Rattle.std.specs.Prelude.{◌≡◌, ◌+◌, ◌<◌, ◌≤◌, ◌∷◌, length};
-ghost use Rattle.ccp_run.specs.Parts.{separates, parts_of, IsSplit, without_last};
+ghost use Rattle.ccp_base.specs.Parts.{separates, parts_of, IsSplit, without_last};
 
 /// What ends a part of a text.
 #[derive(Clone, Copy, PartialEq, Eq, Debug)]

@@ -1,6 +1,6 @@
-use Rattle.std.specs.Prelude.{ℕ, Bool, ◌||◌, ◌==◌, if◌then◌else◌, List, [], ◌∷◌}
-use Rattle.link_model.specs.declared.parts.Separator.{Separator}
-use Rattle.link_model.specs.declared.parts.Separator.TheVariants.{LineFeed, Blank}
+use Rattle.std.specs.Prelude.{◌≡◌, ℕ, Bool, true, ◌||◌, ◌==◌, if◌then◌else◌, List, [], ◌∷◌, ◌++◌}
+use Rattle.ccp_base.specs.declared.parts.Separator.{Separator}
+use Rattle.ccp_base.specs.declared.parts.Separator.TheVariants.{LineFeed, Blank}
 
 -- the bytes that separate lines, and those that separate words
 abbrev pub separates : Separator → ℕ → Bool
@@ -17,6 +17,12 @@ abbrev pub parts_of : Separator → List ℕ → List (List ℕ)
 parts_of separator [] = []
 parts_of separator (byte ∷ rest) =
     if separates separator byte then [] ∷ parts_of separator rest else with_first byte (parts_of separator rest)
+
+-- a text is this part, a separator and the rest
+pub record IsSplit (separator : Separator) (text part rest : List ℕ) : Type 0 where
+  pub byte : ℕ
+  pub separated : separates separator byte ≡ true
+  pub whole : text ≡ part ++ byte ∷ rest
 
 -- a list without its last item, where that is this byte
 abbrev pub without_last : ℕ → List ℕ → List ℕ

@@ -1,5 +1,5 @@
-use Rattle.ccp_run.proofs.PartLemmas.{without_last-same, without_last-other}
-use Rattle.ccp_run.proofs.parts.without_return.Goals as goal
+use Rattle.ccp_base.proofs.PartLemmas.{without_last-same, without_last-other}
+use Rattle.ccp_base.proofs.parts.without_return.Goals as goal
 
 pub returns-then-last-eq13-clause-line : goal.returns-then-last-eq13-clause-line
 returns-then-last-eq13-clause-line c =

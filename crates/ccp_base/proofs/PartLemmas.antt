@@ -1,9 +1,9 @@
 use Rattle.std.proofs.Common.{◌≡◌, ◌≢◌, ℕ, ◌+◌, ◌-◌, ◌<◌, true, false, List, [], ◌∷◌, ◌++◌, length, take, drop, get_or, refl, ap, sym, ◌∙◌, arith, cond, eqb, add-one, append-nil}
 use Rattle.std.proofs.Math.Seq.{drop-cons, drop-length, take-length}
-use Rattle.std.proofs.lemmas.List.{take_more, take_rest}
+use Rattle.std.proofs.lemmas.List.{take_more, take_rest, take-append-drop}
 use Rattle.std.proofs.lemmas.Bool.Decides.{nat_tests}
-use Rattle.link_model.specs.declared.parts.Separator.{Separator}
-use Rattle.link_model.specs.Parts.{separates, with_first, parts_of, without_last}
+use Rattle.ccp_base.specs.declared.parts.Separator.{Separator}
+use Rattle.ccp_base.specs.Parts.{separates, with_first, parts_of, IsSplit, without_last}
 
 -- the bytes at the front of the first part
 abbrev pub prefixed : List ℕ → List (List ℕ) → List (List ℕ)
@@ -35,6 +35,16 @@ module _ (separator : Separator) (text : List ℕ) (i : ℕ) (within : i < lengt
       ∙ prefixed-cons (take i text) [] (parts_of separator (drop (i + 1) text))
       ∙ ap (λ front. front ∷ parts_of separator (drop (i + 1) text)) (append-nil (take i text))
       ∙ ap (λ rest. take i text ∷ parts_of separator rest) (sym (take_rest text (i + 1)))
+
+  pub IsSplit_at_separator : separates separator (get_or text i 0) ≡ true → IsSplit separator text (take i text) (take (length text - (i + 1)) (drop (i + 1) text))
+  IsSplit_at_separator is = record {
+    byte = get_or text i 0;
+    separated = is;
+    whole =
+        sym (take-append-drop i text)
+        ∙ ap (λ rest. take i text ++ rest) (rw (add-one, drop-cons text i 0 within) refl)
+        ∙ ap (λ rest. take i text ++ get_or text i 0 ∷ rest) (sym (take_rest text (i + 1)));
+  }
 
   -- at another byte it goes on
   pub parts_past_byte : separates separator (get_or text i 0) ≡ false → parts_of separator text ≡ prefixed (take i text) (parts_of separator (drop i text)) → parts_of separator text ≡ prefixed (take (i + 1) text) (parts_of separator (drop (i + 1) text))

@@ -1,7 +1,0 @@
-use Rattle.std.proofs.Common.{◌≡◌, take, drop}
-use Rattle.link_model.specs.Parts.{parts_of}
-use Rattle.link_model.proofs.PartLemmas.{prefixed}
-use Rattle.link_model.proofs.parts.first_part.Given as goal
-
-abbrev pub invariant-loop-i : goal.invariant-loop-i
-invariant-loop-i l = parts_of l.separator l.text ≡ prefixed (take l.i l.text) (parts_of l.separator (drop l.i l.text))
