@@ -5,7 +5,6 @@ ghost use Rattle.scope_types.specs.DeclarationWalk.{declaring_of, start_word, st
 ghost use Rattle.scope_types.specs.Scope.{scope_of};
 
 use crate::fault::{ScopeFault, What};
-use crate::meaning::find_decl;
 use crate::names::Names;
 use crate::parts::{Cut, cut_first, place_of};
 use crate::words::{is_field_use, is_name_shaped, is_primitive_use, is_reserved, same};
@@ -136,7 +135,7 @@ fn field(mut names: Names, d: Declaration) -> Result<Names, ScopeFault>
     if !is_field_name(d.decl.name.as_slice()) {
         return Err(ScopeFault::Misplaced(d.at));
     }
-    if find_decl(names.fields.as_slice(), d.decl.name.as_slice()).is_some() {
+    if names.fields.position(d.decl.name.as_slice()).is_some() {
         return Err(ScopeFault::Twice(d.at));
     }
     if names.fields.len() >= FIELDS as usize {
@@ -154,7 +153,7 @@ fn control(mut names: Names, d: Declaration) -> Result<Names, ScopeFault>
     if !is_control_name(d.decl.name.as_slice()) {
         return Err(ScopeFault::Misplaced(d.at));
     }
-    if find_decl(names.controls.as_slice(), d.decl.name.as_slice()).is_some() {
+    if names.controls.position(d.decl.name.as_slice()).is_some() {
         return Err(ScopeFault::Twice(d.at));
     }
     if names.controls.len() >= CONTROLS {

@@ -5,6 +5,7 @@
 mod block;
 mod command;
 mod declaration;
+mod declarations;
 mod expression;
 mod fault;
 mod meaning;

@@ -3,29 +3,13 @@ ghost use Rattle.portus_core.specs.Programs.{term_of};
 ghost use Rattle.portus_core.specs.ValidPrograms.{declares_truth, is_told, gives_truth};
 ghost use Rattle.scope_types.specs.declared.names.Local.{Local};
 ghost use Rattle.scope_types.specs.CommandWalk.{is_bool, wants_bool};
-ghost use Rattle.scope_types.specs.Names.{decl_from, local_from, meaning_of};
+ghost use Rattle.scope_types.specs.Names.{local_from, meaning_of};
 ghost use Rattle.scope_types.specs.Scope.{scope_of};
 
+use crate::declarations::Declarations;
 use crate::names::{Local, Names};
 use crate::words::{is_field_use, primitive_of, same};
-use portus_core::{Decl, Expr, Op2, Var};
-
-/// The number of the declaration that has this name.
-pub(crate) fn find_decl(decls: &[Decl], name: &[u8]) -> Option<u32>
-    requires { length decls.now ≤ 64 }
-    ensures { result ≡ decl_from 0 decls.now name.now }
-{
-    let mut i = 0;
-    let mut rest = decls;
-    while let Some((decl, later)) = rest.split_first() {
-        if same(decl.name.as_slice(), name) {
-            return Some(i);
-        }
-        i += 1;
-        rest = later;
-    }
-    None
-}
+use portus_core::{Expr, Op2, Var};
 
 /// The number of the local that has this name.
 fn find_local(locals: &[Local], name: &[u8]) -> Option<u32>
@@ -49,22 +33,22 @@ pub(crate) fn meaning_of(names: &Names, w: &[u8]) -> Option<Var>
     ensures { result ≡ meaning_of (scope_of names.now) w.now }
 {
     if is_field_use(w) {
-        return find_decl(names.fields.as_slice(), &w[7..]).map(Var::Field);
+        return names.fields.position(&w[7..]).map(Var::Field);
     }
     if let Some(number) = primitive_of(w) {
         return Some(Var::Prim(number));
     }
-    if let Some(number) = find_decl(names.controls.as_slice(), w) {
+    if let Some(number) = names.controls.position(w) {
         return Some(Var::Control(number));
     }
     find_local(names.locals.as_slice(), w).map(Var::Local)
 }
 
 /// Whether a declaration is of a Bool.
-fn is_bool_decl(decls: &[Decl], number: u32) -> bool
+fn is_bool_decl(decls: &Declarations, number: u32) -> bool
     ensures { result ≡ declares_truth (slice_get decls.now number) }
 {
-    match decls.get(number as usize) {
+    match decls.get(number) {
         Some(decl) => decl.truth,
         None => false,
     }
@@ -85,8 +69,8 @@ pub(crate) fn is_bool_variable(names: &Names, var: Var) -> bool
     ensures { result ≡ wants_bool (scope_of names.now) var }
 {
     match var {
-        Var::Field(number) => is_bool_decl(names.fields.as_slice(), number),
-        Var::Control(number) => is_bool_decl(names.controls.as_slice(), number),
+        Var::Field(number) => is_bool_decl(&names.fields, number),
+        Var::Control(number) => is_bool_decl(&names.controls, number),
         Var::Local(number) => is_bool_local(names.locals.as_slice(), number),
         Var::Prim(number) => number == 14,
         Var::Cwnd | Var::Rate | Var::Micros => false,

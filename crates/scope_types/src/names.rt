@@ -1,7 +1,7 @@
 ghost use Rattle.std.specs.Prelude.{◌≡◌, ◌≤◌, length};
 
+use crate::declarations::Declarations;
 use ccp_base::{Name, Sequence};
-use portus_core::Decl;
 
 /// A local of a block's body.
 #[derive(Clone, Copy, PartialEq, Eq, Debug)]
@@ -14,8 +14,8 @@ pub(crate) struct Local {
 /// The names that have a meaning beside those of the language.
 #[derive(Debug, Drop)]
 pub(crate) struct Names {
-    pub fields: Sequence<Decl>,
-    pub controls: Sequence<Decl>,
+    pub fields: Declarations,
+    pub controls: Declarations,
     pub locals: Sequence<Local>,
     ghost few_fields: { length fields ≤ 64 },
     ghost few_controls: { length controls ≤ 64 },

@@ -10,13 +10,14 @@ ghost use Rattle.scope_types.specs.WellScoped.{IsScoped};
 
 use crate::block::{Blocks, later_forms};
 use crate::declaration::{Declared, parts};
+use crate::declarations::Declarations;
 use crate::fault::ScopeFault;
 use crate::names::Names;
 use crate::parts::{Cut, cut_first, place_of};
 use crate::words::same;
 use ccp_base::{Place, Sequence};
 use portus_core::{Block, Program, Source, Tree};
-use std::alloc::Global;
+use std::alloc::{AllocError, Global};
 
 /// What is declared before the first part of `def`.
 fn nothing_declared(alloc: Global) -> Declared
@@ -24,8 +25,8 @@ fn nothing_declared(alloc: Global) -> Declared
 {
     Declared {
         names: Names {
-            fields: Sequence::new(alloc),
-            controls: Sequence::new(alloc),
+            fields: Declarations::new(alloc),
+            controls: Declarations::new(alloc),
             locals: Sequence::new(alloc),
         },
         grouped: false,
@@ -48,17 +49,17 @@ fn def(alloc: Global, tree: &Tree) -> Result<Names, ScopeFault>
 }
 
 /// A program of valid parts.
-fn program(names: Names, blocks: Vec<Block>) -> Program
+fn program(alloc: Global, names: Names, blocks: Vec<Block>) -> Result<Program, AllocError>
     requires { IsTrue (is_valid (form_over names.fields names.controls blocks.items)) }
-    ensures fields { result.fields.items ≡ names.fields }
-    ensures controls { result.controls.items ≡ names.controls }
-    ensures blocks { result.blocks.items ≡ blocks.items }
+    ensures fields { IfOk result (λ p. p.fields.items ≡ names.fields) }
+    ensures controls { IfOk result (λ p. p.controls.items ≡ names.controls) }
+    ensures blocks { IfOk result (λ p. p.blocks.items ≡ blocks.items) }
 {
-    Program {
-        fields: names.fields.into_vec(),
-        controls: names.controls.into_vec(),
+    Ok(Program {
+        fields: names.fields.to_vec(alloc)?,
+        controls: names.controls.to_vec(alloc)?,
         blocks,
-    }
+    })
 }
 
 /// The program of a text's forms, or the first refusal in the order of the text.
@@ -71,7 +72,7 @@ fn scope_forms(alloc: Global, forms: &[Tree]) -> Result<Program, ScopeFault>
     };
     let names = def(alloc, first)?;
     let Blocks { all, names } = later_forms(alloc, names, rest)?;
-    Ok(program(names, all))
+    Ok(program(alloc, names, all)?)
 }
 
 /// The program that a text's forms stand for, or the first refusal in the order of the text. Where they stand for
