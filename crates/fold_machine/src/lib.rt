@@ -1,0 +1,10 @@
+//! A machine that runs accepted register code, one acknowledgement after another. Its registers, the copy that a
+//! fault goes back to, and the last report lie in slots of one pool, which can have further slots for its holder.
+#![tactic(auto)]
+
+mod places;
+mod registers;
+mod steps;
+mod store;
+
+pub use steps::Steps;
