@@ -4,6 +4,8 @@
 
 mod places;
 mod registers;
+mod run;
+mod step;
 mod steps;
 mod store;
 
