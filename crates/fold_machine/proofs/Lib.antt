@@ -1,2 +1,5 @@
 pub mod StoreLemmas
 pub mod LayoutLemmas
+pub mod KeptLemmas
+pub mod RunnableLemmas
+pub mod RefinementLemmas

@@ -1,3 +1,4 @@
 pub mod Store
 pub mod Layout
 pub mod Running
+pub mod KeptWords

@@ -2,6 +2,7 @@
 //! fault goes back to, and the last report lie in slots of one pool, which can have further slots for its holder.
 #![tactic(auto)]
 
+mod kept;
 mod places;
 mod registers;
 mod run;

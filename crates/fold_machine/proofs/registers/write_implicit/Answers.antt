@@ -10,21 +10,21 @@ pub returns-in-Flag-clause-written : goal.returns-in-Flag-clause-written
 returns-in-Flag-clause-written c =
     let words = c.args.store.now.registers in
     ap (λ (s : StoreState). regs_in c.args.sizes s.registers) c.set_register.ensures
-    ∙ regs-flag c.args.sizes words c.args.value c.args.ack.now c.requires.room
+    ∙ regs-flag c.args.sizes words c.args.value c.requires.room
     ∙ ap (λ (w : Implicit). written_implicit w c.args.value c.args.ack.now (regs_in c.args.sizes words)) (sym c.in-Flag.is)
 
 pub returns-in-Fall-clause-written : goal.returns-in-Fall-clause-written
 returns-in-Fall-clause-written c =
     let words = c.args.store.now.registers in
     ap (λ (s : StoreState). regs_in c.args.sizes s.registers) c.set_register-in-Fall.ensures
-    ∙ regs-fall c.args.sizes words c.args.value c.args.ack.now c.requires.room
+    ∙ regs-fall c.args.sizes words c.args.value c.requires.room
     ∙ ap (λ (w : Implicit). written_implicit w c.args.value c.args.ack.now (regs_in c.args.sizes words)) (sym c.in-Fall.is)
 
 pub returns-in-Send-clause-written : goal.returns-in-Send-clause-written
 returns-in-Send-clause-written c =
     let words = c.args.store.now.registers in
     ap (λ (s : StoreState). regs_in c.args.sizes s.registers) c.set_register-in-Send.ensures
-    ∙ regs-send c.args.sizes words c.args.value c.args.ack.now c.requires.room
+    ∙ regs-send c.args.sizes words c.args.value c.requires.room
     ∙ ap (λ (w : Implicit). written_implicit w c.args.value c.args.ack.now (regs_in c.args.sizes words)) (sym c.in-Send.is)
 
 pub returns-in-Micros-clause-written : goal.returns-in-Micros-clause-written
