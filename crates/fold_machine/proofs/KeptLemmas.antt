@@ -6,7 +6,8 @@ use Rattle.reg_code.specs.declared.rule.Sizes.{Sizes}
 use Rattle.reg_code.specs.AcceptedCode.{sizes_of}
 use Rattle.reg_code.specs.CodeStep.{Kept, reset, reset_of}
 use Rattle.reg_code.specs.CodeStart.{declared_kept}
-use Rattle.fold_machine.specs.Layout.{words_from, kept_in, HasRoom}
+use Rattle.fold_machine.specs.Store.{StoreState}
+use Rattle.fold_machine.specs.Layout.{words_from, kept_in, HasRoom, KeepsOthers}
 use Rattle.fold_machine.specs.KeptWords.{declared_words, reset_words}
 use Rattle.fold_machine.proofs.LayoutLemmas.{from-same, from-apart, kept-zero}
 
@@ -117,3 +118,27 @@ kept-reset code words room =
       rate = before 1 (omega arith) i;
       zero = before 2 (omega arith) i;
     }
+
+-- nothing but the registers changed
+pub others-from : (old new : StoreState) (words : List ℕ) → new ≡ record old { registers = words } → length words ≡ length old.registers → KeepsOthers old new
+others-from old new words is same = record {
+  rollback = ap (λ (s : StoreState). s.rollback) is;
+  report = ap (λ (s : StoreState). s.report) is;
+  further = ap (λ (s : StoreState). s.further) is;
+  length = ap (λ (s : StoreState). length s.registers) is ∙ same;
+}
+
+pub set-past : (xs : List ℕ) (i value : ℕ) → length xs ≤ i → slice_set xs i value ≡ xs
+set-past [] i value past = refl
+set-past (x ∷ xs) zero value past = absurd (omega arith)
+set-past (x ∷ xs) (suc i) value past = ap (λ ys. x ∷ ys) (set-past xs i value (omega arith))
+
+pub declared-twice : (code : Code) (words : List ℕ) (now : ℕ) → length (declared_words code.controls (3 + length code.reports) (declared_words code.reports 3 (slice_set words 2 now))) ≡ length words
+declared-twice code words now =
+    declared-length code.controls (3 + length code.reports) (declared_words code.reports 3 (slice_set words 2 now))
+    ∙ declared-length code.reports 3 (slice_set words 2 now)
+    ∙ length-set words 2 now
+
+pub reset-twice : (code : Code) (words : List ℕ) → length (reset_words code.controls (3 + length code.reports) (reset_words code.reports 3 words)) ≡ length words
+reset-twice code words =
+    reset_words-length code.controls (3 + length code.reports) (reset_words code.reports 3 words) ∙ reset_words-length code.reports 3 words
