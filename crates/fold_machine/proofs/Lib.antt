@@ -3,3 +3,4 @@ pub mod LayoutLemmas
 pub mod KeptLemmas
 pub mod RunnableLemmas
 pub mod RefinementLemmas
+pub mod WorkLemmas

@@ -2,6 +2,7 @@
 //! fault goes back to, and the last report lie in slots of one pool, which can have further slots for its holder.
 #![tactic(auto)]
 
+mod acked;
 mod kept;
 mod places;
 mod registers;
@@ -9,5 +10,7 @@ mod run;
 mod step;
 mod steps;
 mod store;
+mod work;
 
+pub use acked::{Acked, BadRegister};
 pub use steps::Steps;
