@@ -4,3 +4,4 @@ pub mod KeptLemmas
 pub mod RunnableLemmas
 pub mod RefinementLemmas
 pub mod WorkLemmas
+pub mod MachineLemmas

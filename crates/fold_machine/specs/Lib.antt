@@ -5,3 +5,5 @@ pub mod KeptWords
 pub mod Ready
 pub mod MachineState
 pub mod Heard
+pub mod RestLaws
+pub mod Held

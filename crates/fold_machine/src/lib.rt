@@ -4,7 +4,9 @@
 
 mod acked;
 mod kept;
+mod machine;
 mod places;
+mod refusal;
 mod registers;
 mod run;
 mod step;
@@ -13,4 +15,5 @@ mod store;
 mod work;
 
 pub use acked::{Acked, BadRegister};
+pub use machine::Machine;
 pub use steps::Steps;
