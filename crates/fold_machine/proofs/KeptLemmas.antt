@@ -1,15 +1,14 @@
 -- What start values make of the registers that are kept.
-use Rattle.std.proofs.Common.{◌≡◌, ◌≢◌, ℕ, zero, suc, ◌+◌, ◌<◌, ◌≤◌, Bool, true, false, cond, List, [], ◌∷◌, length, length-set, map, slice_index, slice_set, get_or-set_other, get_or-set_same, refl, sym, ap, ◌∙◌, inl, inr, ◌⊎◌, arith}
+use Rattle.std.proofs.Common.{◌≡◌, ◌≢◌, ℕ, zero, suc, ◌+◌, ◌<◌, ◌≤◌, Bool, true, false, cond, List, [], ◌∷◌, length, length-set, map, slice_index, slice_set, get_or-set_other, get_or-set_same, refl, ap, ◌∙◌, inl, inr, ◌⊎◌, arith}
 use Rattle.reg_code.specs.declared.code.Code.{Code}
 use Rattle.reg_code.specs.declared.code.Start.{Start}
-use Rattle.reg_code.specs.declared.rule.Sizes.{Sizes}
 use Rattle.reg_code.specs.AcceptedCode.{sizes_of}
-use Rattle.reg_code.specs.CodeStep.{Kept, reset, reset_of}
+use Rattle.reg_code.specs.CodeStep.{reset, reset_of}
 use Rattle.reg_code.specs.CodeStart.{declared_kept}
 use Rattle.fold_machine.specs.Store.{StoreState}
 use Rattle.fold_machine.specs.Layout.{words_from, kept_in, HasRoom, KeepsOthers}
 use Rattle.fold_machine.specs.KeptWords.{declared_words, reset_words}
-use Rattle.fold_machine.proofs.LayoutLemmas.{from-same, from-apart, kept-zero}
+use Rattle.fold_machine.proofs.LayoutLemmas.{from-same}
 
 -- the word at a place is outside of so many from another place on
 abbrev IsOutside : ℕ → ℕ → ℕ → Type 0
@@ -41,7 +40,6 @@ declared-from (start ∷ rest) at words fits =
     let first : slice_index (declared_words rest (at + 1) next) at ≡ start.value =
     declared-other rest (at + 1) next at (inl (omega arith)) ∙ get_or-set_same words at start.value 0 (omega arith) in
     λ i. first i ∷ declared-from rest (at + 1) next (omega arith) i
-
 
 word-length : (volatile : Bool) (at value : ℕ) (words : List ℕ) → length (cond volatile (slice_set words at value) words) ≡ length words
 word-length true at value words = length-set words at value

@@ -150,10 +150,10 @@ OnOk-with (Err e) P Q R p q both = tt
 
 -- three slots were taken, one after another
 module _ (slots : ℕ) (p q r s : PoolState) (a b c : ℕ) (zeros : List ℕ)
-  (begins : p ≡ unused (slots + 3) 160) (zero : zeros ≡ replicate 160 0)
-  (free_a : words_at p a ≡ None) (took_a : ChangesSlot p q a (Some zeros))
-  (free_b : words_at q b ≡ None) (took_b : ChangesSlot q r b (Some zeros))
-  (free_c : words_at r c ≡ None) (took_c : ChangesSlot r s c (Some zeros)) where
+    (begins : p ≡ unused (slots + 3) 160) (zero : zeros ≡ replicate 160 0)
+    (free_a : words_at p a ≡ None) (took_a : ChangesSlot p q a (Some zeros))
+    (free_b : words_at q b ≡ None) (took_b : ChangesSlot q r b (Some zeros))
+    (free_c : words_at r c ≡ None) (took_c : ChangesSlot r s c (Some zeros)) where
   out_a : IsOut q a
   out_a = ap is_some took_a.changed
 

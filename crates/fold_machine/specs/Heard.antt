@@ -1,9 +1,8 @@
 -- What starts, updates and acknowledgements make of a machine.
-use Rattle.std.specs.Prelude.{◌≡◌, ℕ, Bool, true, false, Option, Some, None, List}
+use Rattle.std.specs.Prelude.{ℕ, Bool, true, false, Option, Some, None, List}
 use Rattle.ccp_base.specs.declared.ack.Ack.{Ack}
 use Rattle.ccp_base.specs.FieldReg.{Pair}
 use Rattle.reg_code.specs.declared.code.Code.{Code}
-use Rattle.reg_code.specs.declared.rule.Sizes.{Sizes}
 use Rattle.reg_code.specs.CodeStep.{Outcome, quiet, reported, held, faulted, lost, Made, mone}
 use Rattle.reg_code.specs.CodeStart.{with_values, started}
 use Rattle.fold_machine.specs.declared.acked.Acked.{Acked}

@@ -1,5 +1,5 @@
 -- The numbers of a machine's rest determine all that they stand for.
-use Rattle.std.proofs.Common.{◌≡◌, ℕ, suc, Bool, true, false, List, [], ◌∷◌, ◌++◌, length, drop, slice_index, refl, ap, arith}
+use Rattle.std.proofs.Common.{◌≡◌, ℕ, Bool, true, false, List, [], ◌∷◌, ◌++◌, length, drop, slice_index, refl, ap, arith}
 use Rattle.ccp_base.specs.Acknowledgement.{number_of}
 use Rattle.fold_machine.specs.MachineState.{MachineState, rest_of}
 

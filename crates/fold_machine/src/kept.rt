@@ -98,7 +98,11 @@ pub(crate) fn declare(store: &mut Store, code: &Code, now: u64)
 {
     store.set_register(ZERO, now);
     declare_from(store, code.reports.as_slice(), REPORTS);
-    declare_from(store, code.controls.as_slice(), REPORTS + code.reports.len() as u32);
+    declare_from(
+        store,
+        code.controls.as_slice(),
+        REPORTS + code.reports.len() as u32,
+    );
 }
 
 /// Writes the start value of each volatile register.
@@ -108,7 +112,11 @@ pub(crate) fn reset(store: &mut Store, code: &Code)
     ensures others { KeepsOthers store.old store.new }
 {
     reset_from(store, code.reports.as_slice(), REPORTS);
-    reset_from(store, code.controls.as_slice(), REPORTS + code.reports.len() as u32);
+    reset_from(
+        store,
+        code.controls.as_slice(),
+        REPORTS + code.reports.len() as u32,
+    );
 }
 
 /// Writes values in order. A control variable that isn't there isn't written.

@@ -4,6 +4,7 @@
 
 mod acked;
 mod kept;
+mod laws;
 mod machine;
 mod places;
 mod refusal;
@@ -12,8 +13,11 @@ mod run;
 mod step;
 mod steps;
 mod store;
+#[cfg(test)]
+mod tests;
 mod work;
 
 pub use acked::{Acked, BadRegister};
+pub use laws::rest_determines_machine;
 pub use machine::Machine;
 pub use steps::Steps;

@@ -131,7 +131,15 @@ impl Machine {
         }
         let mut ran = 0;
         let code = code.code();
-        let acked = work(&mut self.store, self.sizes, code, ack, room, &mut ran, steps);
+        let acked = work(
+            &mut self.store,
+            self.sizes,
+            code,
+            ack,
+            room,
+            &mut ran,
+            steps,
+        );
         self.reported = count_after(acked, self.sizes.reports as u32, self.reported);
         self.stopped = is_fault(acked);
         self.ran = ran;

@@ -1,4 +1,4 @@
-ghost use Rattle.std.specs.Prelude.{◌≡◌, ◌+◌};
+ghost use Rattle.std.specs.Prelude.{◌≡◌, ◌+◌, ◌<◌};
 
 use std::marker::Model;
 use std::sync::ledger::{Blank, Book, Ledger, Share};
@@ -21,6 +21,17 @@ impl<L: Ledger> Model for Steps<L> {
 }
 
 impl<L: Ledger> Steps<L> {
+    /// No steps so far, in the ledger of a blank with some parts.
+    pub fn new(blank: Blank) -> Self
+        requires name { blank.name ≡ L.name }
+        requires parts { blank.parts ≡ L.parts }
+        requires some { 0 < blank.parts }
+        ensures { result ≡ 0 }
+    {
+        let (book, share) = blank.open::<L>();
+        Steps { book, share }
+    }
+
     /// Counts one step.
     pub(crate) fn tick(&mut self)
         ensures { self.new ≡ self.old + 1 }

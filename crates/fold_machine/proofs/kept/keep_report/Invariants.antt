@@ -1,5 +1,4 @@
 use Rattle.std.proofs.Common.{◌≡◌, ℕ, ◌+◌, ◌<◌, length, slice_index}
-use Rattle.fold_machine.specs.Layout.{KeepsOthers}
 use Rattle.fold_machine.proofs.kept.keep_report.Given as goal
 
 abbrev pub invariant-loop-at : goal.invariant-loop-at

@@ -1,6 +1,5 @@
 use Rattle.std.proofs.Common.{◌≡◌, ◌+◌, ◌<◌, ◌≤◌, length, slice_set, sym, ap, ◌∙◌, arith}
 use Rattle.ccp_base.specs.declared.fields.FieldReg.{FieldReg}
-use Rattle.reg_code.specs.CodeStep.{Kept}
 use Rattle.reg_code.specs.CodeStart.{with_value}
 use Rattle.fold_machine.specs.Store.{StoreState}
 use Rattle.fold_machine.specs.Layout.{words_from, kept_in}

@@ -1,4 +1,4 @@
-use Rattle.std.proofs.Common.{◌≡◌, sym, ap, ◌∙◌}
+use Rattle.std.proofs.Common.{sym, ap, ◌∙◌}
 use Rattle.reg_code.specs.declared.code.Implicit.{Implicit}
 use Rattle.reg_code.specs.CodeStep.{written_implicit}
 use Rattle.fold_machine.specs.Store.{StoreState}

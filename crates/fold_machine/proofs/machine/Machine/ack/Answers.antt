@@ -1,5 +1,4 @@
-use Rattle.std.proofs.Common.{◌≡◌, sym, subst, ap, ◌∙◌}
-use Rattle.reg_code.specs.declared.code.Code.{Code}
+use Rattle.std.proofs.Common.{sym, ap, ◌∙◌}
 use Rattle.reg_code.specs.AcceptedCode.{sizes_of}
 use Rattle.fold_machine.proofs.RunnableLemmas.{IsRunnable-accepted}
 use Rattle.fold_machine.proofs.MachineLemmas.{sizes-fit}

@@ -1,5 +1,4 @@
-use Rattle.std.proofs.Common.{◌≡◌, subst, ◌∙◌, ap, length, refl}
-use Rattle.reg_code.specs.declared.code.Code.{Code}
+use Rattle.std.proofs.Common.{◌≡◌, ◌∙◌, ap, refl}
 use Rattle.reg_code.specs.declared.rule.Sizes.{Sizes}
 use Rattle.reg_code.specs.AcceptedCode.{sizes_of}
 use Rattle.fold_machine.proofs.MachineLemmas.{Fits-sizes}

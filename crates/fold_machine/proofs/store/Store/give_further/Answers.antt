@@ -1,5 +1,5 @@
 use Rattle.std.proofs.Common.{None, sym, ap, ◌∙◌, ◌+◌, subst}
-use Rattle.slot_pool.specs.Pool.{PoolState, IsOut, free_of, ChangesSlot}
+use Rattle.slot_pool.specs.Pool.{IsOut, free_of, ChangesSlot}
 use Rattle.fold_machine.specs.Store.{StoreState, further_of}
 use Rattle.fold_machine.proofs.StoreLemmas.{IsApart, further_apart, further_out, free_of-further, further-changes, IsOwned-kept, own-kept}
 use Rattle.fold_machine.proofs.store.Store.give_further.Goals as goal

@@ -1,5 +1,5 @@
 use Rattle.std.proofs.Common.{sym, ap, ◌∙◌, subst}
-use Rattle.slot_pool.specs.Pool.{PoolState, IsOut, free_of, ChangesSlot, with_word}
+use Rattle.slot_pool.specs.Pool.{IsOut, free_of, ChangesSlot, with_word}
 use Rattle.fold_machine.specs.Store.{StoreState, further_of, IsOwned}
 use Rattle.fold_machine.proofs.StoreLemmas.{IsApart, further_apart, further_out, IsOut-further, with_word-further, free_of-further, further-changes, IsOwned-kept, own-kept}
 use Rattle.fold_machine.proofs.store.Store.set_further.Goals as goal

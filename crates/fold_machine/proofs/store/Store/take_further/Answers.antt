@@ -1,5 +1,5 @@
 use Rattle.std.proofs.Common.{◌≡◌, ℕ, ◌+◌, Some, None, IsErr, replicate, sym, ap, ◌∙◌, subst}
-use Rattle.slot_pool.specs.Pool.{PoolState, words_at, IsOut, free_of, ChangesSlot}
+use Rattle.slot_pool.specs.Pool.{words_at, free_of, ChangesSlot}
 use Rattle.fold_machine.specs.Store.{StoreState, further_of, IsOwned}
 use Rattle.fold_machine.proofs.StoreLemmas.{free_slot, words_at-further, free_of-further, further-changes, IsOwned-kept, IfOk-with, OnOk-with}
 use Rattle.fold_machine.proofs.store.Store.take_further.Goals as goal
