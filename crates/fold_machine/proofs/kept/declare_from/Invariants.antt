@@ -1,0 +1,12 @@
+use Rattle.std.proofs.Common.{◌≡◌, ◌+◌, ◌≤◌, length}
+use Rattle.fold_machine.specs.KeptWords.{declared_words}
+use Rattle.fold_machine.proofs.kept.declare_from.Given as goal
+
+abbrev pub invariant-loop-start : goal.invariant-loop-start
+invariant-loop-start l = record {
+  at : l.at + length l.left ≤ 160;
+  words : record l.store { registers = declared_words l.left l.at l.store.registers } ≡ record l.initial.store { registers = declared_words l.starts l.first l.initial.store.registers };
+}
+
+abbrev pub decreases-loop-start : goal.decreases-loop-start
+decreases-loop-start l = length l.left

@@ -1,0 +1,9 @@
+pub mod Store
+pub mod Layout
+pub mod Running
+pub mod KeptWords
+pub mod Ready
+pub mod MachineState
+pub mod Heard
+pub mod RestLaws
+pub mod Held

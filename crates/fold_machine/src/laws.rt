@@ -1,0 +1,8 @@
+ghost use Rattle.std.specs.Prelude.{◌≡◌};
+ghost use Rattle.fold_machine.specs.MachineState.{MachineState, rest_of};
+
+/// The numbers of a machine's rest determine all that contracts see of it besides its further slots. So the calls
+/// of `Slots`, which leave the rest as it is, leave all of that as it is.
+pub fn rest_determines_machine()
+    ensures { (a b : MachineState) → rest_of a ≡ rest_of b → a ≡ record b { further = a.further } }
+{}

@@ -1,0 +1,23 @@
+//! A machine that runs accepted register code, one acknowledgement after another. Its registers, the copy that a
+//! fault goes back to, and the last report lie in slots of one pool, which can have further slots for its holder.
+#![tactic(auto)]
+
+mod acked;
+mod kept;
+mod laws;
+mod machine;
+mod places;
+mod refusal;
+mod registers;
+mod run;
+mod step;
+mod steps;
+mod store;
+#[cfg(test)]
+mod tests;
+mod work;
+
+pub use acked::{Acked, BadRegister};
+pub use laws::rest_determines_machine;
+pub use machine::Machine;
+pub use steps::Steps;

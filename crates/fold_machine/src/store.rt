@@ -1,0 +1,155 @@
+ghost use Rattle.std.specs.Prelude.{◌≡◌, ℕ, ◌+◌, ◌<◌, ◌≤◌, ◌≢◌, ◌↔◌, [], length, None, Some, IsErr, IfOk, OnOk, OnErr, replicate, slice_set};
+ghost use Rattle.slot_pool.specs.Pool.{PoolState, words_at, IsOut, free_of, unused, ChangesSlot, with_word};
+ghost use Rattle.fold_machine.specs.Store.{StoreState, fresh_store};
+
+use crate::places::{OWN_SLOTS, WORDS};
+use slot_pool::{Full, Pool, Slot};
+use std::alloc::{AllocError, Global};
+use std::marker::Model;
+
+/// The machine's memory: one pool, of which three slots hold its registers, the copy that a fault goes back to,
+/// and the last report.
+#[derive(Drop)]
+pub(crate) struct Store {
+    pool: Pool,
+    registers: Slot,
+    rollback: Slot,
+    report: Slot,
+}
+
+impl Model for Store {
+    ghost use Rattle.fold_machine.specs.Store.{StoreState, store_code};
+
+    ghost Value = { StoreState };
+
+    ghost coded = { store_code };
+
+    ghost use Rattle.fold_machine.specs.Store.{store_of, IsOwned};
+
+    ghost view = { λ s. store_of s.pool s.registers s.rollback s.report };
+
+    ghost invariant = { λ s. IsOwned s.pool s.registers s.rollback s.report };
+}
+
+impl Store {
+    /// A memory with so many further slots. Each word is 0.
+    pub(crate) fn new(alloc: Global, slots: u32) -> Result<Store, AllocError>
+        requires { slots ≤ 64 }
+        ensures { IfOk result (λ store. store ≡ fresh_store slots) }
+    {
+        let mut pool = Pool::new(alloc, slots + OWN_SLOTS, WORDS)?;
+        let registers = own(&mut pool);
+        let rollback = own(&mut pool);
+        let report = own(&mut pool);
+        Ok(Store {
+            pool,
+            registers,
+            rollback,
+            report,
+        })
+    }
+
+    /// The words of the registers.
+    pub(crate) fn registers(&self) -> &[u64]
+        ensures words { result.now ≡ self.now.registers }
+        ensures len { length result.now ≡ WORDS }
+    {
+        self.pool.words(&self.registers)
+    }
+
+    /// The words of the copy.
+    pub(crate) fn rollback(&self) -> &[u64]
+        ensures words { result.now ≡ self.now.rollback }
+        ensures len { length result.now ≡ WORDS }
+    {
+        self.pool.words(&self.rollback)
+    }
+
+    /// The words of the last report.
+    pub(crate) fn report(&self) -> &[u64]
+        ensures words { result.now ≡ self.now.report }
+        ensures len { length result.now ≡ WORDS }
+    {
+        self.pool.words(&self.report)
+    }
+
+    /// Writes a word of the registers.
+    pub(crate) fn set_register(&mut self, at: u32, word: u64)
+        requires { at < WORDS }
+        ensures { self.new ≡ record self.old { registers = slice_set self.old.registers at word } }
+    {
+        self.pool.write(&self.registers, at, word);
+    }
+
+    /// Writes a word of the copy.
+    pub(crate) fn set_rollback(&mut self, at: u32, word: u64)
+        requires { at < WORDS }
+        ensures { self.new ≡ record self.old { rollback = slice_set self.old.rollback at word } }
+    {
+        self.pool.write(&self.rollback, at, word);
+    }
+
+    /// Writes a word of the last report.
+    pub(crate) fn set_report(&mut self, at: u32, word: u64)
+        requires { at < WORDS }
+        ensures { self.new ≡ record self.old { report = slice_set self.old.report at word } }
+    {
+        self.pool.write(&self.report, at, word);
+    }
+
+    /// Takes a further slot that isn't out. Its words are all 0.
+    pub(crate) fn take_further(&mut self) -> Result<Slot, Full>
+        ensures full { IsErr result ↔ (free_of self.old.further ≡ 0) }
+        ensures was_free { IfOk result (λ slot. words_at self.old.further slot ≡ None) }
+        ensures zeros { IfOk result (λ slot. ChangesSlot self.old.further self.new.further slot (Some (replicate self.old.further.words 0))) }
+        ensures counted { OnOk result (free_of self.new.further + 1 ≡ free_of self.old.further) }
+        ensures unchanged { OnErr result (self.new.further ≡ self.old.further) }
+        ensures own { self.new ≡ record self.old { further = self.new.further } }
+    {
+        self.pool.take()
+    }
+
+    /// Gives a further slot back. It must be out.
+    pub(crate) fn give_further(&mut self, slot: Slot)
+        requires { IsOut self.old.further slot }
+        ensures given { ChangesSlot self.old.further self.new.further slot None }
+        ensures counted { free_of self.new.further ≡ free_of self.old.further + 1 }
+        ensures own { self.new ≡ record self.old { further = self.new.further } }
+    {
+        self.pool.give(slot);
+    }
+
+    /// The words of a further slot. It must be out.
+    pub(crate) fn further(&self, slot: &Slot) -> &[u64]
+        requires { IsOut self.now.further slot.now }
+        ensures words { words_at self.now.further slot.now ≡ Some result.now }
+        ensures len { length result.now ≡ self.now.further.words }
+    {
+        self.pool.words(slot)
+    }
+
+    /// Writes one word of a further slot, at a place from 0 on. The slot must be out.
+    pub(crate) fn set_further(&mut self, slot: &Slot, at: u32, word: u64)
+        requires out { IsOut self.old.further slot.now }
+        requires within { at < self.old.further.words }
+        ensures written { ChangesSlot self.old.further self.new.further slot.now (with_word self.old.further slot.now at word) }
+        ensures out { IsOut self.new.further slot.now }
+        ensures counted { free_of self.new.further ≡ free_of self.old.further }
+        ensures own { self.new ≡ record self.old { further = self.new.further } }
+    {
+        self.pool.write(slot, at, word);
+    }
+}
+
+/// A slot of a pool that has one left.
+fn own(pool: &mut Pool) -> Slot
+    requires { 0 < free_of pool.old }
+    ensures was_free { words_at pool.old result ≡ None }
+    ensures zeros { ChangesSlot pool.old pool.new result (Some (replicate pool.old.words 0)) }
+    ensures counted { free_of pool.new + 1 ≡ free_of pool.old }
+{
+    match pool.take() {
+        Ok(slot) => slot,
+        Err(Full) => unreachable!(),
+    }
+}
