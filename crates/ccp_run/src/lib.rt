@@ -9,6 +9,8 @@ mod fold;
 mod mode;
 mod outcome;
 mod refusal;
+#[cfg(test)]
+mod refused_programs;
 mod separated;
 #[cfg(test)]
 mod tests;
