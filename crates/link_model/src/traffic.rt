@@ -6,7 +6,7 @@ ghost use Rattle.link_model.specs.Link.{fate_by, is_marked, is_listed, rate_of, 
 ghost use Rattle.link_model.specs.Standing.{packet_by, with_packet, sending_now, landing, staying, ack_by, with_flight, with_ack};
 ghost use Rattle.link_model.specs.Horizon.{IsTimely, IsCounted, LandsWithin, horizon, IsChanceBelow};
 
-use crate::chance::{chance_time, first_chance};
+use crate::chance::{chance_time, first_chance, place_of};
 use crate::landing::{Landing, land};
 use crate::link_case::LinkCase;
 use crate::packet::{Fate, Packet};
@@ -122,8 +122,8 @@ impl Traffic {
         ensures calls { self.new.calls ≡ self.old.calls }
     {
         let times = case.trace.as_slice();
-        let due = first_chance(times, self.time);
-        let later = first_chance(times, self.time + 1);
+        let due = first_chance(times, self.time, 0);
+        let later = first_chance(times, self.time + 1, place_of(times, due));
         for _done in 0..more {
             let packet = self.packet(case, due, later);
             self.push(packet);

@@ -1,7 +1,7 @@
 use Rattle.std.proofs.Common.{ltb, ltb-true, arith, rules}
 use Rattle.std.proofs.lemmas.List.Sorted.{IsPartitionPoint-from_clause, IsPartitionedBy-ltb}
 use Rattle.link_model.proofs.ChanceLemmas.{not_below}
-use Rattle.link_model.proofs.chance.place_from.Goals as goal
+use Rattle.link_model.proofs.chance.searched_place.Goals as goal
 
 pub returns-clause-before : goal.returns-clause-before
 returns-clause-before c =
