@@ -1,7 +1,10 @@
 use crate::calls::alone;
 use crate::mode::Alone;
 use crate::top::run;
-use ccp_base::{MemSink, MemSource, OpenGate};
+use ccp_base::{FieldReg, Fields, MemSink, MemSource, OpenGate};
+use portus_core::StartFault;
+use portus_parser::parse;
+use scope_types::scope;
 use std::alloc::Global;
 use std::process::Abort;
 use std::test::Fail;
@@ -324,5 +327,15 @@ fn inputs_past_the_limit_are_refused(rt: HostRuntime) -> Result<(), Fail> {
         errors.as_slice(),
         b"ccp: input refused: more than 1048576 bytes\n".as_slice()
     );
+    Ok(())
+}
+
+#[test]
+fn a_program_without_controls_takes_no_value_of_one(rt: HostRuntime) -> Result<(), Fail> {
+    let program = scope(rt.alloc(), parse(rt.alloc(), b"(def)")?)?;
+    let mut values = Fields::new();
+    values.push(FieldReg::Control(0), 7);
+    let started = program.start(rt.alloc(), &values, 0, 0, 0);
+    assert_eq!(rt; started.err(), Some(StartFault::BadRegister(0)));
     Ok(())
 }
