@@ -16,6 +16,7 @@ pub use env::{Env, Mean, StartFault};
 pub use printing::print_tree;
 pub use program::{Block, Cmd, Decl, Expr, Op2, Program, Var};
 pub use tree::{Parts, Source, Tree, take_apart};
+pub use value::applied;
 
 #[cfg(test)]
 mod tests;

@@ -73,7 +73,8 @@ fn prim_at(ack: &Ack, n: u32) -> u64
     if n < PRIMITIVES { prim(ack, n) } else { 0 }
 }
 
-fn applied(op: Op2, a: u64, b: u64) -> Result<u64, FaultKind>
+/// The operation on two values, or why it has no result.
+pub fn applied(op: Op2, a: u64, b: u64) -> Result<u64, FaultKind>
     ensures { result ≡ applied op a b }
 {
     match op {

@@ -1,0 +1,107 @@
+-- A program's code is at most as long as its lean count, which is at most its count.
+use Rattle.std.proofs.Common.{ℕ, ◌+◌, ◌≤◌, max, Option, Some, None, option_map, List, [], ◌∷◌, ◌++◌, length, arith, length-append}
+use Rattle.ccp_base.specs.declared.place.Place.{Place}
+use Rattle.portus_core.specs.Programs.{Term, number, truth, name, pair, Action, set, set_if, set_unless, ewma, zero_micros, report, fall, Part, Form}
+use Rattle.reg_code.specs.declared.code.Implicit.TheVariants.{Flag}
+use Rattle.reg_code.specs.declared.code.Op.{Op}
+use Rattle.reg_code.specs.declared.code.Op.TheVariants as op
+use Rattle.reg_code.specs.declared.code.Reg.{Reg}
+use Rattle.reg_code.specs.declared.code.Reg.TheVariants as reg
+use Rattle.reg_compiler.specs.declared.line.Line.{Line}
+use Rattle.reg_compiler.specs.Known.{known_value}
+use Rattle.reg_compiler.specs.Counts.{count_of, action_count, body_count, parts_count, form_count, lean_where, lean_of, action_lean, body_lean, parts_lean, lean}
+use Rattle.reg_compiler.specs.CompiledCode.{reg_of, op_of, line_of, direct, operand, free_after, unless_direct, joined, unless_known, into, both_into, action_lines, body_lines, condition_lines, lines_of}
+
+unless_known-length : (known : Option ℕ) (to : Reg) (lines : List Line) (few : ℕ) → length lines ≤ few → length (unless_known known to lines) ≤ max 1 (lean_where known few)
+unless_known-length (Some value) to lines few within = omega arith
+unless_known-length None to lines few within = omega (arith, within)
+
+-- the lines of a pair as an operand: none where it is known
+unless_direct-length : (known : Option ℕ) (lines : List Line) (few : ℕ) → 1 ≤ few → length lines ≤ max 1 (lean_where known few) → length (unless_direct (option_map reg.Imm known) lines) ≤ lean_where known few
+unless_direct-length (Some value) lines few some within = omega arith
+unless_direct-length None lines few some within = omega (arith, some, within)
+
+operand-length : (term : Term) (lines : List Line) → length lines ≤ max 1 (lean_of term) → length (unless_direct (direct term) lines) ≤ lean_of term
+operand-length (number n) lines within = omega arith
+operand-length (truth b) lines within = omega arith
+operand-length (name v) lines within = omega arith
+operand-length (pair o place left right) lines within = unless_direct-length (known_value (pair o place left right)) lines (1 + (lean_of left + lean_of right)) (omega arith) within
+
+joined-length : (o : Op) (to : Reg) (place : Place) (left : Term) (left_lines : List Line) (right : Term) (right_lines : List Line) (free : ℕ) → length left_lines ≤ max 1 (lean_of left) → length right_lines ≤ max 1 (lean_of right) → length (joined o to place left left_lines right right_lines free) ≤ 1 + (lean_of left + lean_of right)
+joined-length o to place left left_lines right right_lines free left_few right_few =
+    let first = unless_direct (direct left) left_lines in
+    let second = unless_direct (direct right) right_lines in
+    let last : List Line = line_of o to (operand left free) (operand right (free_after left free)) place ∷ [] in
+    omega (arith, length-append first (second ++ last), length-append second last, operand-length left left_lines left_few, operand-length right right_lines right_few)
+
+into-length : (term : Term) (to : Reg) (free : ℕ) → length (into to term free) ≤ max 1 (lean_of term)
+into-length (number n) to free = omega arith
+into-length (truth b) to free = omega arith
+into-length (name v) to free = omega arith
+into-length (pair o place left right) to free =
+    unless_known-length (known_value (pair o place left right)) to _ (1 + (lean_of left + lean_of right))
+    (joined-length (op_of o) to place left (into (reg.Temp free) left free) right (into (reg.Temp (free_after left free)) right (free_after left free)) free (into-length left (reg.Temp free) free) (into-length right (reg.Temp (free_after left free)) (free_after left free)))
+
+both_into-length : (o : Op) (to : Reg) (place : Place) (left right : Term) → length (both_into o to place left right) ≤ 1 + (lean_of left + lean_of right)
+both_into-length o to place left right =
+    joined-length o to place left (into (reg.Temp 0) left 0) right (into (reg.Temp (free_after left 0)) right (free_after left 0)) 0 (into-length left (reg.Temp 0) 0) (into-length right (reg.Temp (free_after left 0)) (free_after left 0))
+
+action-length : (action : Action) → length (action_lines action) ≤ action_lean action
+action-length (set v term) = into-length term (reg_of v) 0
+action-length (set_if place v condition term) = both_into-length op.If (reg_of v) place condition term
+action-length (set_unless place v condition term) = both_into-length op.NotIf (reg_of v) place condition term
+action-length (ewma place v weight term) = omega (arith, both_into-length op.Ewma (reg_of v) place (number weight) term)
+action-length zero_micros = omega arith
+action-length report = omega arith
+action-length fall = omega arith
+
+body-length : (body : List Action) → length (body_lines body) ≤ body_lean body
+body-length [] = omega arith
+body-length (action ∷ rest) = omega (arith, length-append (action_lines action) (body_lines rest), action-length action, body-length rest)
+
+parts-length : (parts : List Part) → length (lines_of parts) ≤ parts_lean parts
+parts-length [] = omega arith
+parts-length (part ∷ rest) =
+    omega (
+      arith,
+      length-append (condition_lines part.condition) (body_lines part.body ++ lines_of rest),
+      length-append (body_lines part.body) (lines_of rest),
+      into-length part.condition (reg.Implicit Flag) 0,
+      body-length part.body,
+      parts-length rest,
+    )
+
+-- the lines are at most as many as the lean count
+pub length-lines : (form : Form) → length (lines_of form.blocks) ≤ lean form
+length-lines form = parts-length form.blocks
+
+lean_where-le : (known : Option ℕ) (few many : ℕ) → few ≤ many → lean_where known few ≤ many
+lean_where-le (Some value) few many within = omega arith
+lean_where-le None few many within = within
+
+lean_of-le : (term : Term) → lean_of term ≤ count_of term
+lean_of-le (number n) = omega arith
+lean_of-le (truth b) = omega arith
+lean_of-le (name v) = omega arith
+lean_of-le (pair o place left right) = lean_where-le (known_value (pair o place left right)) (1 + (lean_of left + lean_of right)) _ (omega (arith, lean_of-le left, lean_of-le right))
+
+action_lean-le : (action : Action) → action_lean action ≤ action_count action
+action_lean-le (set v term) = omega (arith, lean_of-le term)
+action_lean-le (set_if place v condition term) = omega (arith, lean_of-le condition, lean_of-le term)
+action_lean-le (set_unless place v condition term) = omega (arith, lean_of-le condition, lean_of-le term)
+action_lean-le (ewma place v weight term) = omega (arith, lean_of-le term)
+action_lean-le zero_micros = omega arith
+action_lean-le report = omega arith
+action_lean-le fall = omega arith
+
+body_lean-le : (body : List Action) → body_lean body ≤ body_count body
+body_lean-le [] = omega arith
+body_lean-le (action ∷ rest) = omega (arith, action_lean-le action, body_lean-le rest)
+
+parts_lean-le : (parts : List Part) → parts_lean parts ≤ parts_count parts
+parts_lean-le [] = omega arith
+parts_lean-le (part ∷ rest) = omega (arith, lean_of-le part.condition, body_lean-le part.body, parts_lean-le rest)
+
+-- the lean count is at most the count
+pub lean-count : (form : Form) → lean form ≤ form_count form
+lean-count form = parts_lean-le form.blocks

@@ -1,0 +1,13 @@
+use Rattle.std.proofs.Common.{◌+◌, ◌*◌}
+use Rattle.portus_core.specs.Programs.{term_of}
+use Rattle.reg_compiler.specs.Counts.{count_of}
+use Rattle.reg_compiler.proofs.expression.+expression.Given as goal
+
+abbrev pub decreases-into : goal.decreases-into
+decreases-into l = 3 * count_of (term_of l.expr.now)
+
+abbrev pub decreases-operand : goal.decreases-operand
+decreases-operand l = 3 * count_of (term_of l.expr.now) + 1
+
+abbrev pub decreases-joined : goal.decreases-joined
+decreases-joined l = 3 * (count_of (term_of l.left.now) + count_of (term_of l.right.now)) + 2

@@ -1,0 +1,146 @@
+-- The code that is made of a program.
+use Rattle.std.specs.Prelude.{ℕ, ◌+◌, Option, Some, None, option_map, unwrap_or, List, [], ◌∷◌, ◌++◌, length, map}
+use Rattle.ccp_base.specs.declared.place.Place.{Place}
+use Rattle.ccp_base.specs.Acknowledgement.{number_of}
+use Rattle.portus_core.specs.declared.program.Op2.{Op2}
+use Rattle.portus_core.specs.declared.program.Op2.TheVariants as source
+use Rattle.portus_core.specs.declared.program.Var.{Var}
+use Rattle.portus_core.specs.declared.program.Var.TheVariants as var
+use Rattle.portus_core.specs.Programs.{Term, number, truth, name, pair, Action, set, set_if, set_unless, ewma, zero_micros, report, fall, Part, Form}
+use Rattle.reg_code.specs.declared.code.Code.{Code}
+use Rattle.reg_code.specs.declared.code.Event.{Event}
+use Rattle.reg_code.specs.declared.code.Implicit.TheVariants.{Flag, Fall, Send, Micros, Cwnd, Rate}
+use Rattle.reg_code.specs.declared.code.Instr.{Instr}
+use Rattle.reg_code.specs.declared.code.Op.{Op}
+use Rattle.reg_code.specs.declared.code.Op.TheVariants as op
+use Rattle.reg_code.specs.declared.code.Reg.{Reg}
+use Rattle.reg_code.specs.declared.code.Reg.TheVariants as reg
+use Rattle.reg_compiler.specs.declared.line.Line.{Line}
+use Rattle.reg_compiler.specs.Known.{known_value}
+use Rattle.reg_compiler.specs.Simulation.{start_of}
+
+-- the register of a name
+abbrev pub reg_of : Var → Reg
+reg_of (var.Field i) = reg.Report i
+reg_of (var.Control i) = reg.Control i
+reg_of (var.Local i) = reg.Local i
+reg_of var.Cwnd = reg.Implicit Cwnd
+reg_of var.Rate = reg.Implicit Rate
+reg_of var.Micros = reg.Implicit Micros
+reg_of (var.Prim n) = reg.Prim n
+
+abbrev pub op_of : Op2 → Op
+op_of source.Add = op.Add
+op_of source.Sub = op.Sub
+op_of source.Mul = op.Mul
+op_of source.Div = op.Div
+op_of source.Max = op.Max
+op_of source.Min = op.Min
+op_of source.Gt = op.Gt
+op_of source.Lt = op.Lt
+op_of source.Eq = op.Eq
+op_of source.And = op.And
+op_of source.Or = op.Or
+
+-- the place of an instruction that can't fault
+abbrev pub no_place : Place
+no_place = record { line = 1; column = 1 }
+
+abbrev pub line_of : Op → Reg → Reg → Reg → Place → Line
+line_of o to left right place = record { instr = record { op = o; to = to; left = left; right = right }; place = place }
+
+-- a register is given another one's value
+abbrev pub bind_line : Reg → Reg → Line
+bind_line to from = line_of op.Bind to from (reg.Imm 0) no_place
+
+-- the operand of an expression that needs no instruction: a name, or a number that is known
+abbrev pub direct : Term → Option Reg
+direct (number n) = Some (reg.Imm n)
+direct (truth b) = Some (reg.Imm (number_of b))
+direct (name v) = Some (reg_of v)
+direct (pair o place left right) = option_map reg.Imm (known_value (pair o place left right))
+
+-- the operand of an expression: without an instruction, or else the first free temporary
+abbrev pub operand : Term → ℕ → Reg
+operand term free = unwrap_or (direct term) (reg.Temp free)
+
+abbrev pub next_free : Option Reg → ℕ → ℕ
+next_free (Some from) free = free
+next_free None free = free + 1
+
+-- the first temporary that is free after the operand
+abbrev pub free_after : Term → ℕ → ℕ
+free_after term free = next_free (direct term) free
+
+-- lines, unless there is an operand without them
+abbrev pub unless_direct : Option Reg → List Line → List Line
+unless_direct (Some from) lines = []
+unless_direct None lines = lines
+
+-- the lines of two operands, and then the operation on them
+abbrev pub joined : Op → Reg → Place → Term → List Line → Term → List Line → ℕ → List Line
+joined o to place left left_lines right right_lines free =
+    unless_direct (direct left) left_lines
+    ++ (unless_direct (direct right) right_lines
+    ++ (line_of o to (operand left free) (operand right (free_after left free)) place ∷ []))
+
+-- a known value is bound; else these are the lines
+abbrev pub unless_known : Option ℕ → Reg → List Line → List Line
+unless_known (Some value) to lines = bind_line to (reg.Imm value) ∷ []
+unless_known None to lines = lines
+
+-- the lines that put an expression's value into a register; the last one writes it
+abbrev pub into : Reg → Term → ℕ → List Line
+into to (number n) free = bind_line to (reg.Imm n) ∷ []
+into to (truth b) free = bind_line to (reg.Imm (number_of b)) ∷ []
+into to (name v) free = bind_line to (reg_of v) ∷ []
+into to (pair o place left right) free =
+    unless_known (known_value (pair o place left right)) to
+    (joined (op_of o) to place left (into (reg.Temp free) left free) right (into (reg.Temp (free_after left free)) right (free_after left free)) free)
+
+-- the lines of an operation on two expressions, into a register
+abbrev pub both_into : Op → Reg → Place → Term → Term → List Line
+both_into o to place left right =
+    joined o to place left (into (reg.Temp 0) left 0) right (into (reg.Temp (free_after left 0)) right (free_after left 0)) 0
+
+abbrev pub action_lines : Action → List Line
+action_lines (set v term) = into (reg_of v) term 0
+action_lines (set_if place v condition term) = both_into op.If (reg_of v) place condition term
+action_lines (set_unless place v condition term) = both_into op.NotIf (reg_of v) place condition term
+action_lines (ewma place v weight term) = both_into op.Ewma (reg_of v) place (number weight) term
+action_lines zero_micros = bind_line (reg.Implicit Micros) (reg.Imm 0) ∷ []
+action_lines report = bind_line (reg.Implicit Send) (reg.Imm 1) ∷ []
+action_lines fall = bind_line (reg.Implicit Fall) (reg.Imm 1) ∷ []
+
+abbrev pub body_lines : List Action → List Line
+body_lines [] = []
+body_lines (action ∷ rest) = action_lines action ++ body_lines rest
+
+abbrev pub condition_lines : Term → List Line
+condition_lines condition = into (reg.Implicit Flag) condition 0
+
+abbrev pub lines_of : List Part → List Line
+lines_of [] = []
+lines_of (part ∷ rest) = condition_lines part.condition ++ (body_lines part.body ++ lines_of rest)
+
+abbrev pub event_of : Part → Event
+event_of part = record { condition = length (condition_lines part.condition); body = length (body_lines part.body) }
+
+abbrev pub instr_of : Line → Instr
+instr_of line = line.instr
+
+abbrev pub place_of : Line → Place
+place_of line = line.place
+
+-- the code of a program
+abbrev pub code_of : Form → Code
+code_of form = record {
+  reports = map start_of form.fields;
+  controls = map start_of form.controls;
+  events = map event_of form.blocks;
+  instrs = map instr_of (lines_of form.blocks);
+}
+
+-- the place of each instruction of that code
+abbrev pub places_of : Form → List Place
+places_of form = map place_of (lines_of form.blocks)

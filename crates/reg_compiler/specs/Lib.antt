@@ -1,0 +1,7 @@
+pub mod Known
+pub mod Needs
+pub mod Counts
+pub mod Refusal
+pub mod Simulation
+pub mod CompiledCode
+pub mod Numbered

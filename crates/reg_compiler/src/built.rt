@@ -1,0 +1,21 @@
+ghost use Rattle.portus_core.specs.ProgramForm.{form_of};
+ghost use Rattle.reg_compiler.specs.Simulation.{Simulates};
+
+use ccp_base::{Place, Sequence};
+use portus_core::Program;
+use reg_code::Checked;
+
+/// A program and code that simulates it: for every state that the program can have, every acknowledgement and either
+/// room, the code comes to the same outcome with the same fields, and leaves the same state. Where the program faults,
+/// the code faults at an instruction with the same place, and the other way round.
+#[derive(Debug, Drop)]
+pub struct Built {
+    pub program: Program,
+    pub code: Checked,
+    /// The place of each instruction: that of its operation's head atom.
+    pub places: Sequence<Place>,
+    pub ghost simulates: { Simulates (form_of program) code.code places },
+}
+
+/// Programs with their code, each with its number.
+pub type Builts = Sequence<(u32, Built)>;

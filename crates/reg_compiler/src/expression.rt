@@ -1,0 +1,103 @@
+ghost use Rattle.std.specs.Prelude.{◌≡◌, ◌+◌, ◌++◌, ◌∷◌, [], ◌≤◌, max, IsTrue, IfOk, OnOk};
+ghost use Rattle.portus_core.specs.Programs.{term_of};
+ghost use Rattle.reg_compiler.specs.Needs.{beside, need_of};
+ghost use Rattle.reg_compiler.specs.Numbered.{is_numbered_term};
+ghost use Rattle.reg_compiler.specs.CompiledCode.{direct, operand, free_after, unless_direct, joined, into};
+
+use crate::known::known;
+use crate::line::{Lines, bind_line, operation_line};
+use crate::registers::{op_of, reg_of};
+use ccp_base::{Place, bool_number};
+use portus_core::Expr;
+use reg_code::{Op, Reg};
+use std::alloc::AllocError;
+
+/// Appends the lines that put an expression's value into a register. The last one writes it, and the others write
+/// temporaries from `free` on.
+#[cycle(expression)]
+#[tactic(auto, using(portus_core::specs::Programs::terms))]
+pub fn into(expr: &Expr, to: Reg, free: u8, lines: &mut Lines) -> Result<(), AllocError>
+    requires names { IsTrue (is_numbered_term (term_of expr.now)) }
+    requires fits { need_of (term_of expr.now) + free ≤ 8 }
+    ensures { OnOk result (lines.new ≡ lines.old ++ into to (term_of expr.now) free) }
+{
+    match expr {
+        Expr::Num(number) => lines.push(bind_line(to, Reg::Imm(*number))),
+        Expr::Truth(truth) => lines.push(bind_line(to, Reg::Imm(bool_number(*truth)))),
+        Expr::Var(var) => lines.push(bind_line(to, reg_of(*var))),
+        Expr::Pair(op, place, left, right) => match known(expr) {
+            Some(value) => lines.push(bind_line(to, Reg::Imm(value))),
+            None => joined(op_of(*op), to, *place, left, right, free, lines),
+        },
+    }
+}
+
+/// Appends the lines of two operands and of the operation on them.
+#[cycle(expression)]
+pub fn joined(
+    op: Op,
+    to: Reg,
+    place: Place,
+    left: &Expr,
+    right: &Expr,
+    free: u8,
+    lines: &mut Lines,
+) -> Result<(), AllocError>
+    requires left_names { IsTrue (is_numbered_term (term_of left.now)) }
+    requires right_names { IsTrue (is_numbered_term (term_of right.now)) }
+    requires left_fits { need_of (term_of left.now) + free ≤ 8 }
+    requires right_fits { need_of (term_of right.now) + beside (term_of left.now) + free ≤ 8 }
+    ensures { OnOk result (lines.new ≡ lines.old ++ joined op to place
+        (term_of left.now) (into (Reg.Temp free) (term_of left.now) free)
+        (term_of right.now) (into (Reg.Temp (free_after (term_of left.now) free)) (term_of right.now) (free_after (term_of left.now) free)) free) }
+{
+    let first = operand(left, free, lines)?;
+    let second = operand(right, free_after(left, free), lines)?;
+    lines.push(operation_line(op, to, first, second, place))
+}
+
+/// The operand of an expression: the register of a name, a number that is known, or else the temporary `free`, with
+/// the lines appended that put the value there.
+#[cycle(expression)]
+pub fn operand(expr: &Expr, free: u8, lines: &mut Lines) -> Result<Reg, AllocError>
+    requires names { IsTrue (is_numbered_term (term_of expr.now)) }
+    requires fits { need_of (term_of expr.now) + free ≤ 8 }
+    ensures operand { IfOk result (λ register. register ≡ operand (term_of expr.now) free) }
+    ensures lines { OnOk result (lines.new ≡ lines.old ++ unless_direct (direct (term_of expr.now)) (into (Reg.Temp free) (term_of expr.now) free)) }
+{
+    match direct(expr) {
+        Some(register) => Ok(register),
+        None => {
+            into(expr, Reg::Temp(free), free, lines)?;
+            Ok(Reg::Temp(free))
+        }
+    }
+}
+
+/// The operand of an expression that needs no instruction.
+#[tactic(auto, using(portus_core::specs::Programs::terms))]
+fn direct(expr: &Expr) -> Option<Reg>
+    requires { IsTrue (is_numbered_term (term_of expr.now)) }
+    ensures { result ≡ direct (term_of expr.now) }
+{
+    match expr {
+        Expr::Num(number) => Some(Reg::Imm(*number)),
+        Expr::Truth(truth) => Some(Reg::Imm(bool_number(*truth))),
+        Expr::Var(var) => Some(reg_of(*var)),
+        Expr::Pair(..) => known(expr).map(Reg::Imm),
+    }
+}
+
+/// The first temporary that is free after the operand of an expression.
+fn free_after(expr: &Expr, free: u8) -> u8
+    requires names { IsTrue (is_numbered_term (term_of expr.now)) }
+    requires fits { free ≤ 8 }
+    ensures free { result ≡ free_after (term_of expr.now) free }
+    ensures within { result ≤ free + beside (term_of expr.now) }
+{
+    if direct(expr).is_some() {
+        free
+    } else {
+        free + 1
+    }
+}

@@ -1,0 +1,165 @@
+ghost use Rattle.std.specs.Prelude.{◌≡◌, ◌≤◌, IsTrue, IfOk, length};
+ghost use Rattle.portus_core.specs.Programs.{term_of};
+ghost use Rattle.portus_core.specs.ValidPrograms.{Known, is_term};
+
+use crate::{CompileFault, compile, greatest_need, instruction_count};
+use ccp_base::{Name, Place};
+use portus_core::{Block, Cmd, Decl, Expr, Op2, Program, Var};
+use reg_code::listing;
+use std::alloc::{AllocError, Global};
+use std::process::Abort;
+use std::test::Fail;
+
+/// A part of an operation.
+#[derive(Clone, Copy)]
+enum Leaf {
+    Number(u64),
+    Field,
+}
+
+fn expr_of(leaf: Leaf) -> Expr
+    ensures { (known : Known) → 1 ≤ length known.fields → IsTrue (is_term known (term_of result)) }
+{
+    match leaf {
+        Leaf::Number(number) => Expr::Num(number),
+        Leaf::Field => Expr::Var(Var::Field(0)),
+    }
+}
+
+/// An operation at this line.
+fn operation(alloc: Global, op: Op2, line: u32, left: Expr, right: Expr) -> Result<Expr, AllocError>
+    requires left { (known : Known) → 1 ≤ length known.fields → IsTrue (is_term known (term_of left)) }
+    requires right { (known : Known) → 1 ≤ length known.fields → IsTrue (is_term known (term_of right)) }
+    ensures { IfOk result (λ expr. (known : Known) → 1 ≤ length known.fields → IsTrue (is_term known (term_of expr))) }
+{
+    let place = Place { line, column: 1 };
+    let left = Box::new(alloc, left)?;
+    let right = Box::new(alloc, right)?;
+    Ok(Expr::Pair(op, place, left, right))
+}
+
+/// A program with one field, which gets this value at each acknowledgement.
+fn assigning(alloc: Global, value: Expr) -> Result<Program, Fail>
+    requires { (known : Known) → 1 ≤ length known.fields → IsTrue (is_term known (term_of value)) }
+{
+    let field = Decl {
+        name: Name::new(b"x").ok_or("a name")?,
+        volatile: false,
+        start: 0,
+        truth: false,
+    };
+    let block = Block {
+        condition: Expr::Truth(true),
+        body: Vec::from_array(alloc, [Cmd::Set(Var::Field(0), value)])?,
+        locals: 0,
+    };
+    Ok(Program {
+        fields: Vec::from_array(alloc, [field])?,
+        controls: Vec::new(alloc),
+        blocks: Vec::from_array(alloc, [block])?,
+    })
+}
+
+/// The code of an assignment of an operation on two leaves.
+fn code_text(alloc: Global, op: Op2, left: Leaf, right: Leaf) -> Result<Vec<u8>, Fail> {
+    let value = operation(alloc, op, 1, expr_of(left), expr_of(right))?;
+    let built = compile(alloc, assigning(alloc, value)?)?;
+    Ok(listing(alloc, &built.code.code)?.into_vec())
+}
+
+fn has_line(
+    rt: &impl Abort,
+    alloc: Global,
+    op: Op2,
+    left: Leaf,
+    right: Leaf,
+    line: &str,
+) -> Result<(), Fail> {
+    let text = code_text(alloc, op, left, right)?;
+    let expected = format!(in alloc;
+        "report 0 fixed 0\nevent 0 condition 0..1 body 1..2\n0 bind flag #1 #0\n1 {line}\n"
+    )?;
+    assert_eq!(rt; text.as_slice(), expected.as_bytes());
+    Ok(())
+}
+
+#[test]
+fn the_last_line_writes_the_target(rt: HostRuntime) -> Result<(), Fail> {
+    let rows = [
+        (
+            Op2::Add,
+            Leaf::Number(1),
+            Leaf::Number(2),
+            "bind report0 #3 #0",
+        ),
+        (
+            Op2::Add,
+            Leaf::Field,
+            Leaf::Number(1),
+            "add report0 report0 #1",
+        ),
+        (
+            Op2::Div,
+            Leaf::Number(1),
+            Leaf::Number(0),
+            "div report0 #1 #0",
+        ),
+    ];
+    for (op, left, right, line) in rows {
+        has_line(&rt, rt.alloc(), op, left, right, line)?;
+    }
+    Ok(())
+}
+
+/// Operations inside one another, each the right part of the next one, at the lines from 1 on.
+fn nested(alloc: Global, levels: u32) -> Result<Expr, AllocError>
+    ensures { IfOk result (λ expr. (known : Known) → 1 ≤ length known.fields → IsTrue (is_term known (term_of expr))) }
+{
+    let pair = operation(
+        alloc,
+        Op2::Add,
+        1,
+        expr_of(Leaf::Field),
+        expr_of(Leaf::Field),
+    )?;
+    if levels <= 1 {
+        return Ok(pair);
+    }
+    let inner = nested(alloc, levels - 1)?;
+    operation(alloc, Op2::Add, levels, pair, inner)
+}
+
+/// A full tree of operations.
+fn balanced(alloc: Global, levels: u32) -> Result<Expr, AllocError>
+    ensures { IfOk result (λ expr. (known : Known) → 1 ≤ length known.fields → IsTrue (is_term known (term_of expr))) }
+{
+    if levels == 0 {
+        return Ok(expr_of(Leaf::Field));
+    }
+    let left = balanced(alloc, levels - 1)?;
+    let right = balanced(alloc, levels - 1)?;
+    operation(alloc, Op2::Add, levels, left, right)
+}
+
+#[test]
+fn refusals_by_need_and_count(rt: HostRuntime) -> Result<(), Fail> {
+    let deep = |line| Some(CompileFault::TooDeep(Place { line, column: 1 }));
+    let rows = [
+        (nested(rt.alloc(), 8)?, 8, 17, None),
+        (nested(rt.alloc(), 9)?, 9, 19, deep(9)),
+        (
+            balanced(rt.alloc(), 8)?,
+            8,
+            257,
+            Some(CompileFault::CodeTooLong(257)),
+        ),
+        (balanced(rt.alloc(), 9)?, 9, 513, deep(9)),
+    ];
+    for (value, need, count, fault) in rows {
+        let program = assigning(rt.alloc(), value)?;
+        assert_eq!(rt; greatest_need(&program), need);
+        assert_eq!(rt; instruction_count(&program), count);
+        assert_eq!(rt; compile(rt.alloc(), program).err(), fault);
+    }
+    Ok(())
+}
