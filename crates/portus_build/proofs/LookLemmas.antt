@@ -1,0 +1,35 @@
+use Rattle.std.specs.Prelude.{◌≡◌, ℕ, ◌<◌, Option}
+use Rattle.std.specs.Option.{ForSome}
+use Rattle.std.specs.Coded.{le_prop}
+use Rattle.std.proofs.Math.Path.{PathP, to_path_p}
+use Rattle.ccp_base.specs.declared.look.Look.{Look}
+
+abbrev IsBelow : Option ℕ → Type 0
+IsBelow number = ForSome number (λ n. n < 64)
+
+IsBelow-prop : (number : Option ℕ) → IsProp (IsBelow number)
+IsBelow-prop number = hlevel le_prop
+
+same_below : (a b : Option ℕ) (e : a ≡ b) (x : IsBelow a) (y : IsBelow b) → PathP (λ i. IsBelow (e i)) x y
+same_below a b e x y = to_path_p (λ i. IsBelow (e i)) (IsBelow-prop b _ y)
+
+-- two looks with the same numbers are equal
+pub same_look : (a b : Look) → a.acked ≡ b.acked → a.loss ≡ b.loss → a.timeout ≡ b.timeout → a.rtt ≡ b.rtt → a.inflight ≡ b.inflight → a.cap ≡ b.cap → a.mss ≡ b.mss → a.ecn ≡ b.ecn → a ≡ b
+same_look a b acked loss timeout rtt inflight cap mss ecn = λ i. record {
+  acked = acked i;
+  loss = loss i;
+  timeout = timeout i;
+  rtt = rtt i;
+  inflight = inflight i;
+  cap = cap i;
+  mss = mss i;
+  ecn = ecn i;
+  acked_below = same_below a.acked b.acked acked a.acked_below b.acked_below i;
+  loss_below = same_below a.loss b.loss loss a.loss_below b.loss_below i;
+  timeout_below = same_below a.timeout b.timeout timeout a.timeout_below b.timeout_below i;
+  rtt_below = same_below a.rtt b.rtt rtt a.rtt_below b.rtt_below i;
+  inflight_below = same_below a.inflight b.inflight inflight a.inflight_below b.inflight_below i;
+  cap_below = same_below a.cap b.cap cap a.cap_below b.cap_below i;
+  mss_below = same_below a.mss b.mss mss a.mss_below b.mss_below i;
+  ecn_below = same_below a.ecn b.ecn ecn a.ecn_below b.ecn_below i;
+}

@@ -1,0 +1,5 @@
+pub mod Texts
+pub mod StepFaults
+pub mod Outcomes
+pub mod Builtins
+pub mod Looks

@@ -1,0 +1,57 @@
+-- Where a program keeps what agents read and write.
+use Rattle.std.specs.Prelude.{◌≡◌, ℕ, ◌<◌, ◌≤◌, Bool, nat_lt, cond, Option, Some, None, List, length, take, position, codes}
+use Rattle.std.specs.Option.{ForSome}
+use Rattle.std.specs.Str.{bytes_eq}
+use Rattle.std.specs.List.{position_or_len}
+use Rattle.std.proofs.Common.{arith, ap}
+use Rattle.std.proofs.lemmas.List.{length-take, take_all}
+use Rattle.std.proofs.lemmas.Bool.Decides.{nat_tests}
+use Rattle.ccp_base.specs.declared.look.Look.{Look}
+use Rattle.portus_core.specs.declared.program.Decl.{Decl}
+use Rattle.portus_core.specs.Programs.{Form}
+
+abbrev pub has_name : List ℕ → Decl → Bool
+has_name name decl = bytes_eq decl.name name
+
+-- the number of the declaration with this name, counted from 0; a program declares at most 64
+abbrev pub number_of : List ℕ → List Decl → Option ℕ
+number_of name decls = position (has_name name) (take 64 decls)
+
+-- a program's declarations are all among the first 64
+pub number_of-all : (name : List ℕ) (decls : List Decl) → length decls ≤ 64 → number_of name decls ≡ position (has_name name) decls
+number_of-all name decls short = ap (position (has_name name)) (take_all 64 decls short)
+
+below_where : (n m limit x : ℕ) → m ≤ limit → cond (nat_lt n m) (Some n) None ≡ Some x → x < limit
+below_where n m limit x short found = grind (arith, nat_tests)
+
+below_limit : (name : List ℕ) (decls : List Decl) (limit : ℕ) → length (take 64 decls) ≤ limit → ForSome (number_of name decls) (λ n. n < limit)
+below_limit name decls limit short = λ x found.
+    below_where (position_or_len (has_name name) (take 64 decls)) (length (take 64 decls)) limit x short found
+
+pub number_of-below : (name : List ℕ) (decls : List Decl) → ForSome (number_of name decls) (λ n. n < 64)
+number_of-below name decls = below_limit name decls 64 (omega (arith, length-take 64 decls))
+
+-- the number is that of one of the declarations
+pub number_of-within : (name : List ℕ) (decls : List Decl) → ForSome (number_of name decls) (λ n. n < length decls)
+number_of-within name decls = below_limit name decls (length decls) (omega (arith, length-take 64 decls))
+
+-- the numbers of the fields and control variables with the names that agents know
+abbrev pub look_of : Form → Look
+look_of form = record {
+  acked = number_of (codes "acked") form.fields;
+  loss = number_of (codes "loss") form.fields;
+  timeout = number_of (codes "timeout") form.fields;
+  rtt = number_of (codes "rtt") form.fields;
+  inflight = number_of (codes "inflight") form.fields;
+  cap = number_of (codes "cap") form.controls;
+  mss = number_of (codes "mss") form.controls;
+  ecn = number_of (codes "ecn") form.fields;
+  acked_below = number_of-below (codes "acked") form.fields;
+  loss_below = number_of-below (codes "loss") form.fields;
+  timeout_below = number_of-below (codes "timeout") form.fields;
+  rtt_below = number_of-below (codes "rtt") form.fields;
+  inflight_below = number_of-below (codes "inflight") form.fields;
+  cap_below = number_of-below (codes "cap") form.controls;
+  mss_below = number_of-below (codes "mss") form.controls;
+  ecn_below = number_of-below (codes "ecn") form.fields;
+}

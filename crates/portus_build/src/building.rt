@@ -1,0 +1,34 @@
+ghost use Rattle.std.specs.Prelude.{◌≡◌, ◌≢◌, ◌≤◌, IfOk, IfErr, MatchResult, length};
+ghost use Rattle.portus_core.specs.Programs.{Form};
+ghost use Rattle.portus_core.specs.ProgramForm.{form_of};
+ghost use Rattle.reg_compiler.specs.Counts.{form_count, lean};
+ghost use Rattle.portus_build.specs.declared.fault.BuildFault.{BuildFault};
+ghost use Rattle.portus_build.specs.declared.fault.BuildFault.TheVariants.{NoMemory};
+ghost use Rattle.portus_build.specs.Outcomes.{RefusesAs};
+ghost use Rattle.portus_build.specs.Texts.{IsNoProgram, IsBuiltFrom};
+
+use crate::fault::BuildFault;
+use portus_parser::parse;
+use reg_compiler::{Built, compile};
+use scope_types::scope;
+use std::alloc::Global;
+
+/// Reads a text, finds what its names stand for, and compiles it. The refusals are those of `BuildFault`.
+pub fn build(alloc: Global, text: &[u8]) -> Result<Built, BuildFault>
+    // The answer's program is the one that the text stands for, and a text of a program that is compiled is built.
+    ensures found { IfOk result (λ built. IsBuiltFrom text.now (form_of built.program)) }
+    ensures only { (form : Form) → IsBuiltFrom text.now form
+        → MatchResult result (λ built. form_of built.program ≡ form) (λ e. e ≡ NoMemory) }
+
+    // Each refusal is the text's first one, and a text that has a first refusal is answered by it.
+    ensures refused { IfErr result (λ e. e ≢ NoMemory → IsNoProgram text.now e) }
+    ensures first { (refusal : BuildFault) → IsNoProgram text.now refusal → RefusesAs result refusal }
+
+    // The code is no longer than the count and the lean count of the program.
+    ensures within { IfOk result (λ built. length built.code.code.instrs ≤ form_count (form_of built.program)) }
+    ensures lean { IfOk result (λ built. length built.code.code.instrs ≤ lean (form_of built.program)) }
+{
+    let source = parse(alloc, text)?;
+    let program = scope(alloc, source)?;
+    Ok(compile(alloc, program)?)
+}

@@ -1,0 +1,13 @@
+//! From a text of the datapath language to a program with code that means the same.
+#![tactic(auto)]
+
+mod building;
+mod builtins;
+pub mod calls;
+mod fault;
+#[cfg(test)]
+mod tests;
+
+pub use building::build;
+pub use builtins::builtin;
+pub use fault::BuildFault;
