@@ -1,7 +1,6 @@
 -- Frames are read exactly.
-use Rattle.std.proofs.Common.{◌≡◌, ℕ, ◌+◌, ◌-◌, ◌*◌, ◌/◌, ◌≤◌, ◌<◌, eqb, cond, List, Ok, Err, arith}
+use Rattle.std.proofs.Common.{ℕ, eqb, cond, Ok, arith}
 use Rattle.std.specs.Int.{w16, w32, w64}
-use Rattle.ccp_base.specs.declared.fields.FieldReg.{FieldReg}
 use Rattle.ccp_base.specs.declared.fields.FieldReg.TheVariants.{Cwnd, Rate, Control}
 use Rattle.ccp_base.specs.FieldReg.{Pair}
 use Rattle.reply_frames.specs.declared.fault.BadKind.TheVariants as bad
@@ -10,10 +9,9 @@ use Rattle.reply_frames.specs.declared.outline.FrameKind.TheVariants as kinds
 use Rattle.reply_frames.specs.declared.outline.Version.{Version}
 use Rattle.reply_frames.specs.declared.outline.Version.TheVariants.{One, Two}
 use Rattle.reply_frames.specs.declared.outline.Counts.{Counts}
-use Rattle.reply_frames.specs.declared.outline.Outline.{Outline}
-use Rattle.reply_frames.specs.Parts.{Read, ◌>>=◌, byte_at, number_at, limited_at, exactly_at, repeated_at}
+use Rattle.reply_frames.specs.Parts.{◌>>=◌, byte_at, number_at, limited_at, exactly_at, repeated_at}
 use Rattle.reply_frames.specs.Kinds.{kind_of, version_of, most_n1, most_n2, most_n3, most_n4, size_of}
-use Rattle.reply_frames.specs.Frames.{counts_at, outline_at, Start, start_at, Event, event_at, Register, register_number_at, register_at, Instruction, instruction_at, target_at, value_at, values_at, Body, Create, Measure, Install, Update, Change, Fault, Ack, Refused, create_at, count_at, measure_at, install_at, update_at, change_at, fault_at, ack_at, refused_at, body_at, Frame, frame_at}
+use Rattle.reply_frames.specs.Frames.{counts_at, outline_at, start_at, event_at, register_number_at, register_at, instruction_at, target_at, value_at, values_at, Create, Measure, Install, Update, Change, Fault, Ack, Refused, create_at, count_at, measure_at, install_at, update_at, change_at, fault_at, ack_at, refused_at, body_at, frame_at}
 use Rattle.reply_frames.specs.Exact.{IsExact}
 use Rattle.reply_frames.proofs.ExactParts.{exact-then, exact-ok, exact-if, exact-byte, exact-number, exact-limited, exact-exactly, exact-repeated}
 

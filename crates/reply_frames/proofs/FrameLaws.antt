@@ -1,10 +1,9 @@
 -- What reading says of the frames that there are.
-use Rattle.std.proofs.Common.{◌≡◌, ◌≢◌, ℕ, ◌+◌, ◌-◌, ◌<◌, ◌≤◌, List, [], ◌∷◌, ◌++◌, length, take, Result, Ok, Err, Option, Some, None, refl, sym, ap, ◌∙◌, append_assoc, arith, length-append}
+use Rattle.std.proofs.Common.{◌≡◌, ℕ, ◌+◌, ◌-◌, List, [], ◌∷◌, ◌++◌, length, take, Result, Ok, Err, refl, sym, ap, ◌∙◌, append_assoc, arith, length-append}
 use Rattle.std.specs.Prelude.{IfOk, IfErr}
 use Rattle.std.proofs.lemmas.List.{append-nil, take_at}
 use Rattle.ccp_base.specs.FieldReg.{Pair}
 use Rattle.reply_frames.specs.declared.fault.BadKind.{BadKind}
-use Rattle.reply_frames.specs.declared.fault.Stop.{Stop}
 use Rattle.reply_frames.specs.declared.fault.Stop.TheVariants as stops
 use Rattle.reply_frames.specs.declared.fault.FrameFault.{FrameFault}
 use Rattle.reply_frames.specs.declared.fault.FrameFault.TheVariants.{More, Bad, Other}
@@ -14,8 +13,8 @@ use Rattle.reply_frames.specs.declared.outline.Outline.{Outline}
 use Rattle.reply_frames.specs.declared.decode.Head.{Head}
 use Rattle.reply_frames.specs.Parts.{Read}
 use Rattle.reply_frames.specs.Kinds.{number_of}
-use Rattle.reply_frames.specs.Frames.{Frame, frame_at, Body, Create, Measure, Install, Update, Change, Fault, Ack, Refused}
-use Rattle.reply_frames.specs.Decoding.{needed_of, fault_of, answer_of, decoded_from, decoded_of}
+use Rattle.reply_frames.specs.Frames.{Frame, frame_at, Body, Update, Change}
+use Rattle.reply_frames.specs.Decoding.{needed_of, answer_of, decoded_from, decoded_of}
 use Rattle.reply_frames.specs.Whole.{IsFrame, IsCut, IsBadFrom}
 use Rattle.reply_frames.proofs.ExactFrames.{exact-frame}
 

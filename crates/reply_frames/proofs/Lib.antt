@@ -1,7 +1,10 @@
 pub mod Loops
 pub mod Placing
+pub mod Taken
 pub mod ExactParts
 pub mod ExactFrames
 pub mod FrameLaws
-pub mod Again
-pub mod Spelled
+pub mod Codec
+pub mod CodecFrames
+pub mod FrameSizes
+pub mod ReplyLaws

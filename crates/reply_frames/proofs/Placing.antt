@@ -1,14 +1,14 @@
 -- What is written in turn is written at once.
-use Rattle.std.proofs.Common.{◌≡◌, ℕ, ◌+◌, ◌*◌, ◌≤◌, ◌<◌, List, [], ◌∷◌, ◌++◌, length, take, drop, get_or, refl, sym, ap, ◌∙◌, append_assoc, arith, length-append}
+use Rattle.std.proofs.Common.{◌≡◌, ℕ, ◌+◌, ◌*◌, ◌≤◌, ◌<◌, List, [], ◌∷◌, ◌++◌, length, take, drop, get_or, refl, sym, ap, subst, ◌∙◌, append_assoc, arith, length-append}
 use Rattle.std.specs.List.{flat_map}
 use Rattle.std.specs.Int.{w64, to_le_bytes}
-use Rattle.std.proofs.lemmas.List.{take_at, drop_at, drop-drop, length-take-le, take_more, append-nil}
+use Rattle.std.proofs.lemmas.List.{take_at, drop_at, drop-drop, length-take-le, take_more, append-nil, take-append-drop}
 use Rattle.std.proofs.lemmas.List.Concat.{flat_map-cons, flat_map-append}
 use Rattle.ccp_base.specs.declared.fields.FieldReg.{FieldReg}
 use Rattle.ccp_base.specs.declared.fields.FieldReg.TheVariants.{Cwnd, Rate, Control}
 use Rattle.ccp_base.specs.FieldReg.{Pair}
 use Rattle.reply_frames.specs.Spelling.{target_bytes, value_bytes, values_bytes}
-use Rattle.reply_frames.specs.Writing.{placed, over}
+use Rattle.reply_frames.specs.Writing.{placed, over, Wrote}
 
 -- plain form: bytes after a front that is written
 joined : (front next tail : List ℕ) (n end : ℕ) → n ≡ length front → end ≡ n + length next → take n (front ++ tail) ++ next ++ drop end (front ++ tail) ≡ (front ++ next) ++ drop (length next) tail
@@ -58,3 +58,38 @@ placed-values at end i values other old is lt within =
 pub over-values : (head next values out out' out'' old : List ℕ) (n m : ℕ) → n ≡ length head → m ≡ n + length next → out ≡ over head old → out' ≡ placed n next out → out'' ≡ placed m values out' → out'' ≡ over (head ++ next ++ values) old
 over-values head next values out out' out'' old n m long is a b c =
     c ∙ ap (placed m values) (b ∙ ap (placed n next) a ∙ over-placed head next old n long) ∙ over-placed (head ++ next) values old m (omega (arith, length-append head next))
+
+-- one more text after a front that is written
+pub over-then : (front next out out' old : List ℕ) (n : ℕ) → n ≡ length front → out ≡ over front old → out' ≡ placed n next out → out' ≡ over (front ++ next) old
+over-then front next out out' old n long a b = b ∙ ap (placed n next) a ∙ over-placed front next old n long
+
+-- and the same from a place on
+pub placed-then : (at : ℕ) (front next out out' old : List ℕ) (n : ℕ) → n ≡ at + length front → at ≤ length old → out ≡ placed at front old → out' ≡ placed n next out → out' ≡ placed at (front ++ next) old
+placed-then at front next out out' old n long within a b = b ∙ ap (placed n next) a ∙ placed-placed at front next old n long within
+
+pub over-first : (first old : List ℕ) → placed 0 first old ≡ over first old
+over-first first old = ap (λ k. first ++ drop k old) (let e : 0 + length first ≡ length first = omega arith in e)
+
+-- one more text after those that were written
+pub wrote-then : {at : ℕ} {a b old out out' : List ℕ} {end end' : ℕ} → Wrote at a old out end → Wrote end b out out' end' → at ≤ length old → Wrote at (a ++ b) old out' end'
+wrote-then {at = at} {a = a} {b = b} {old = old} {out = out} {out' = out'} {end = end} {end' = end'} first next within = record {
+  is = placed-then at a b out out' old end first.end_is within first.is next.is;
+  end_is = omega (arith, first.end_is, next.end_is, length-append a b);
+}
+
+-- nothing was written yet
+pub wrote-none : (at : ℕ) (old : List ℕ) → Wrote at [] old old at
+wrote-none at old = record { is = sym (ap (λ xs. xs ++ drop (at + 0) old) (append-nil (take at old)) ∙ ap (λ n. take at old ++ drop n old) (let e : at + 0 ≡ at = omega arith in e) ∙ take-append-drop at old); end_is = omega arith }
+
+-- one more item of a list
+pub wrote-more : {A : Type 0} (text : A → List ℕ) (items : List A) (i at : ℕ) (item : A) (old out out' : List ℕ) (end end' : ℕ) → i < length items → at ≤ length old
+    → Wrote at (flat_map text (take i items)) old out end → Wrote end (text (get_or items i item)) out out' end' → Wrote at (flat_map text (take (i + 1) items)) old out' end'
+wrote-more text items i at item old out out' end end' lt within first next =
+    let more : flat_map text (take i items) ++ text (get_or items i item) ≡ flat_map text (take (i + 1) items) =
+    ap (λ xs. flat_map text (take i items) ++ xs) (sym (flat_map-cons text (get_or items i item) [] ∙ append-nil (text (get_or items i item)))) ∙ sym (flat_map-append text (take i items) (get_or items i item ∷ [])) ∙ ap (flat_map text) (sym (take_more items i item lt)) in
+    subst (λ bytes. Wrote at bytes old out' end') more (wrote-then first next within)
+
+-- what follows a head
+pub over-wrote : (head body old out out' : List ℕ) (n end : ℕ) → n ≡ length head → out ≡ over head old → Wrote n body out out' end → (end ≡ length (head ++ body)) × (out' ≡ over (head ++ body) old)
+over-wrote head body old out out' n end long first next =
+    (omega (arith, next.end_is, long, length-append head body), over-then head body out out' old n long first next.is)

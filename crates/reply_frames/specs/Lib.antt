@@ -7,3 +7,4 @@ pub mod Writing
 pub mod Exact
 pub mod Whole
 pub mod Replies
+pub mod FrameBytes

@@ -1,7 +1,7 @@
 -- The bytes of the frames that answer: Update and Change.
-use Rattle.std.specs.Prelude.{ℕ, ◌+◌, ◌*◌, ◌<◌, ◌^◌, ◌≡◌, List, [], ◌∷◌, ◌++◌, length}
+use Rattle.std.specs.Prelude.{ℕ, ◌+◌, ◌*◌, ◌<◌, ◌^◌, List, [], ◌∷◌, ◌++◌, length}
 use Rattle.std.specs.List.{flat_map, AllByRecursion}
-use Rattle.std.specs.Int.{w16, w32, w64, to_le_bytes}
+use Rattle.std.specs.Int.{w32, w64, to_le_bytes}
 use Rattle.ccp_base.specs.declared.fields.FieldReg.{FieldReg}
 use Rattle.ccp_base.specs.declared.fields.FieldReg.TheVariants.{Cwnd, Rate, Control}
 use Rattle.ccp_base.specs.FieldReg.{Pair}
@@ -46,3 +46,7 @@ IsTarget Rate = Unit {0}
 -- each control number among these is below 64
 abbrev pub AreTargets : List Pair → Type 0
 AreTargets values = AllByRecursion (λ value. IsTarget value.0) values
+
+-- the number of a value fits a frame
+abbrev pub IsValue : Pair → Type 0
+IsValue value = value.1 < 2 ^ 64

@@ -1,5 +1,5 @@
 -- Bytes that are written into others.
-use Rattle.std.specs.Prelude.{ℕ, ◌+◌, List, ◌++◌, length, take, drop}
+use Rattle.std.specs.Prelude.{◌≡◌, ℕ, ◌+◌, List, ◌++◌, length, take, drop}
 
 -- bytes from a place on in place of what stood there; what stands before and after them is as it was
 abbrev pub placed : ℕ → List ℕ → List ℕ → List ℕ
@@ -8,3 +8,8 @@ placed at bytes old = take at old ++ bytes ++ drop (at + length bytes) old
 -- bytes at the front, and after them what stood there
 abbrev pub over : List ℕ → List ℕ → List ℕ
 over bytes old = bytes ++ drop (length bytes) old
+
+-- bytes were written from a place on, up to this end
+pub record Wrote (at : ℕ) (bytes old out : List ℕ) (end : ℕ) : Type 0 where
+  pub is : out ≡ placed at bytes old
+  pub end_is : end ≡ at + length bytes

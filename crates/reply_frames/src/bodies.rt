@@ -1,6 +1,7 @@
-//! The bodies of the frames that are passed over: each byte is checked, and none is kept.
+//! The bodies of frames that are passed over: each byte is checked, and none is kept. Beside them the readers of a
+//! register and of a count of acknowledgements, which give what they read.
 
-ghost use Rattle.std.specs.Prelude.{◌≡◌, ℕ, ◌≤◌, IfOk};
+ghost use Rattle.std.specs.Prelude.{◌≡◌, ℕ, ◌<◌, ◌≤◌, IfOk};
 ghost use Rattle.std.specs.Int.{w64};
 ghost use Rattle.reply_frames.specs.Kinds.{most_n1};
 ghost use Rattle.reply_frames.specs.Parts.{Gives, passed, number_at, repeated_at};
@@ -35,7 +36,8 @@ fn event(bytes: &[u8]) -> Result<&[u8], Stop>
 /// A register's number, or an immediate value, and the bytes after it.
 #[tactic(auto, unfolding(crate::specs::Frames::register_number_at))]
 fn register_number(bytes: &[u8], class: u8) -> Result<(u64, &[u8]), Stop>
-    ensures { Gives (λ x. (x.0, x.1.now)) result (register_number_at class bytes.now) }
+    ensures read { Gives (λ x. (x.0, x.1.now)) result (register_number_at class bytes.now) }
+    ensures within { IfOk result (λ x. 0 < class → x.0 < 256) }
 {
     match class {
         0 => number64(bytes),
@@ -44,10 +46,11 @@ fn register_number(bytes: &[u8], class: u8) -> Result<(u64, &[u8]), Stop>
     }
 }
 
-/// A register, as its class and its number, and the bytes after it.
+/// A register, as its class and its number or its immediate value, and the bytes after it.
 #[tactic(auto, unfolding(crate::specs::Frames::register_at))]
-fn register(bytes: &[u8]) -> Result<((u8, u64), &[u8]), Stop>
-    ensures { Gives (λ x. (record { class = x.0.0; number = x.0.1 }, x.1.now)) result (register_at bytes.now) }
+pub fn register(bytes: &[u8]) -> Result<((u8, u64), &[u8]), Stop>
+    ensures read { Gives (λ x. (record { class = x.0.0; number = x.0.1 }, x.1.now)) result (register_at bytes.now) }
+    ensures within { IfOk result (λ x. 0 < x.0.0 → x.0.1 < 256) }
 {
     let (class, rest) = byte(bytes, BadKind::Class, 0, 6)?;
     let (number, rest) = register_number(rest, class)?;
@@ -111,8 +114,8 @@ fn numbers(bytes: &[u8], count: u8) -> Result<&[u8], Stop>
     Ok(rest)
 }
 
-/// A count of acknowledgements, and the bytes after it.
-fn count(bytes: &[u8], version: Version) -> Result<(u64, &[u8]), Stop>
+/// A count of acknowledgements, which is wider in version 2, and the bytes after it.
+pub fn count(bytes: &[u8], version: Version) -> Result<(u64, &[u8]), Stop>
     ensures { Gives (λ x. (x.0, x.1.now)) result (count_at version bytes.now) }
 {
     match version {

@@ -1,4 +1,4 @@
-ghost use Rattle.std.specs.Prelude.{◌≡◌, ℕ, ◌-◌, ◌≤◌, List, length, Option, OnErr, IfOk, IfErr, Ok, Err};
+ghost use Rattle.std.specs.Prelude.{◌≡◌, ℕ, ◌-◌, List, length, Option, OnErr, IfOk, IfErr, Ok, Err};
 ghost use Rattle.reply_frames.specs.declared.fault.BadKind.{BadKind};
 ghost use Rattle.ccp_base.specs.FieldReg.{Pair};
 ghost use Rattle.reply_frames.specs.Replies.{IsReply};
@@ -26,9 +26,9 @@ pub struct Head {
     pub used: usize,
 }
 
-/// How many bytes the front of a frame goes on to.
+/// How many bytes the front of a frame goes on to: to the 16 of a head, or to the length that the head says.
 #[tactic(auto, unfolding(crate::specs::Decoding::needed_of))]
-fn needed(bytes: &[u8]) -> usize
+pub fn needed(bytes: &[u8]) -> usize
     ensures { result ≡ needed_of bytes.now }
 {
     if bytes.len() < 16 {

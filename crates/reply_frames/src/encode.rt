@@ -1,12 +1,17 @@
-ghost use Rattle.std.specs.Prelude.{◌≡◌, ℕ, ◌+◌, ◌*◌, ◌<◌, ◌≤◌, ◌++◌, ◌↔◌, length, take, drop, IfOk, IfErr, OnOk, OnErr, IsErr};
-ghost use Rattle.std.specs.Int.{w32, to_le_bytes};
+//! Update and Change, written in place, and the parts that they are made of.
+
+ghost use Rattle.std.specs.Prelude.{◌≡◌, ◌+◌, ◌*◌, ◌<◌, ◌≤◌, ◌↔◌, length, IfOk, IfErr, OnErr, IsErr};
 ghost use Rattle.ccp_base.specs.FieldReg.{pair_of};
 ghost use Rattle.reply_frames.specs.declared.outline.Version.TheVariants.{One};
-ghost use Rattle.reply_frames.specs.Spelling.{target_bytes, value_bytes, values_bytes, head_bytes, update_bytes, change_bytes, AreTargets};
+ghost use Rattle.reply_frames.specs.Spelling.{target_bytes, value_bytes, values_bytes, update_bytes, change_bytes, AreTargets, IsValue};
+ghost use Rattle.std.specs.List.{AllByRecursion};
+ghost use Rattle.reply_frames.specs.FrameBytes.{outline_bytes};
 ghost use Rattle.reply_frames.specs.Writing.{placed, over};
 
 use crate::fault::Short;
-use crate::outline::{FrameKind, kind_number};
+use crate::outline::{
+    Counts, FrameKind, Outline, Version, frame_size, kind_number, version_number,
+};
 use ccp_base::{FieldReg, Fields};
 
 /// The length of a head, in bytes.
@@ -16,7 +21,7 @@ const HEAD: usize = 16;
 const VALUE: usize = 10;
 
 /// Puts bytes at a place; what stands before and after them stays.
-fn put(out: &mut [u8], at: usize, bytes: &[u8])
+pub fn put(out: &mut [u8], at: usize, bytes: &[u8])
     requires { at + length bytes.now ≤ length out.old }
     ensures { out.new ≡ placed at bytes.now out.old }
 {
@@ -35,29 +40,57 @@ fn target(reg: FieldReg) -> [u8; 2]
     }
 }
 
-/// Puts a head at the front, with one count and the length of the whole frame.
-fn put_head(out: &mut [u8], kind: FrameKind, count: u8, flow: u32, size: u32)
+/// Puts a head at the front: kind, version, counts, flow, and the length of the whole frame.
+pub fn put_outline(out: &mut [u8], head: Outline)
     requires { 16 ≤ length out.old }
-    ensures { out.new ≡ over (head_bytes kind One count flow size) out.old }
+    ensures { out.new ≡ over (outline_bytes head) out.old }
 {
-    put(out, 0, &[kind_number(kind), 1, count, 0, 0, 0, 0, 0]);
-    put(out, 8, &flow.to_le_bytes());
+    let size = frame_size(head.kind, head.version, head.counts);
+    let numbers = [
+        kind_number(head.kind),
+        version_number(head.version),
+        head.counts.n1,
+        head.counts.n2,
+    ];
+    put(out, 0, &numbers);
+    put(out, 4, &head.counts.n3.to_le_bytes());
+    put(out, 6, &head.counts.n4.to_le_bytes());
+    put(out, 8, &head.flow.to_le_bytes());
     put(out, 12, &size.to_le_bytes());
+}
+
+/// The head of a frame of version 1 with one count.
+fn replying(kind: FrameKind, count: u8, flow: u32) -> Outline
+    ensures { result ≡ record { kind = kind; version = One; counts = record { n1 = count; n2 = 0; n3 = 0; n4 = 0 }; flow = flow } }
+{
+    Outline {
+        kind,
+        version: Version::One,
+        counts: Counts {
+            n1: count,
+            n2: 0,
+            n3: 0,
+            n4: 0,
+        },
+        flow,
+    }
 }
 
 /// Puts a value at a place.
 fn put_value(out: &mut [u8], at: usize, reg: FieldReg, value: u64)
     requires { at + 10 ≤ length out.old }
-    ensures { out.new ≡ placed at (value_bytes (pair_of reg value)) out.old }
+    ensures placed { out.new ≡ placed at (value_bytes (pair_of reg value)) out.old }
+    ensures typed { IsValue (pair_of reg value) }
 {
     put(out, at, &target(reg));
     put(out, at + 2, &value.to_le_bytes());
 }
 
 /// Puts values at a place, one after the other.
-fn put_values(out: &mut [u8], at: usize, values: &Fields)
+pub fn put_values(out: &mut [u8], at: usize, values: &Fields)
     requires { at + 10 * length values.now ≤ length out.old }
-    ensures { out.new ≡ placed at (values_bytes values.now) out.old }
+    ensures placed { out.new ≡ placed at (values_bytes values.now) out.old }
+    ensures typed { AllByRecursion IsValue values.now }
 {
     let mut end = at;
     for (reg, value) in values.as_slice() {
@@ -80,7 +113,7 @@ pub fn encode_update(flow: u32, values: &Fields, out: &mut [u8]) -> Result<usize
     if out.len() < size {
         return Err(Short(size));
     }
-    put_head(out, FrameKind::Update, count as u8, flow, size as u32);
+    put_outline(out, replying(FrameKind::Update, count as u8, flow));
     put_values(out, HEAD, values);
     Ok(size)
 }
@@ -104,7 +137,7 @@ pub fn encode_change(
     if out.len() < size {
         return Err(Short(size));
     }
-    put_head(out, FrameKind::Change, count as u8, flow, size as u32);
+    put_outline(out, replying(FrameKind::Change, count as u8, flow));
     put(out, HEAD, &program.to_le_bytes());
     put_values(out, HEAD + 4, values);
     Ok(size)

@@ -1,3 +1,5 @@
+//! The head of a frame, read from the front of bytes.
+
 ghost use Rattle.std.specs.Prelude.{◌≡◌, ℕ, ◌≤◌, IfOk};
 ghost use Rattle.reply_frames.specs.Parts.{Gives};
 ghost use Rattle.reply_frames.specs.Kinds.{most_n1};
@@ -35,7 +37,8 @@ fn counts(bytes: &[u8], kind: FrameKind, version: Version) -> Result<(Counts, &[
     Ok((counts, rest))
 }
 
-/// The head of a frame, and the bytes after it.
+/// The head of a frame, whose counts are within the bounds of its kind and whose length is theirs, and the bytes
+/// after it.
 #[tactic(auto, unfolding(crate::specs::Frames::outline_at))]
 pub fn outline(bytes: &[u8]) -> Result<(Outline, &[u8]), Stop>
     ensures read { Gives (λ x. (x.0, x.1.now)) result (outline_at bytes.now) }

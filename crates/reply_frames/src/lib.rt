@@ -1,19 +1,20 @@
 //! The frames with which an agent answers a datapath, Update and Change: they are written and read in place. The
-//! byte rules of the frames of every kind stand in this crate's definitions, and reading keeps to all of them.
+//! byte rules of the frames of every kind stand in this crate's definitions, and reading keeps to all of them. The
+//! public modules have the readers and writers of parts, of which the other kinds are made as well.
 #![tactic(auto)]
 
-mod bodies;
+pub mod bodies;
 mod decode;
-mod encode;
+pub mod encode;
 mod fault;
-mod head;
-mod outline;
-mod parts;
+pub mod head;
+pub mod outline;
+pub mod parts;
 #[cfg(test)]
 mod tests;
-mod values;
+pub mod values;
 
-pub use decode::{Head, decode_fields};
+pub use decode::{Head, decode_fields, needed};
 pub use encode::{encode_change, encode_update};
 pub use fault::{BadKind, FrameFault, Short, Stop};
 pub use outline::{Counts, FrameKind, Outline, Version};

@@ -1,3 +1,5 @@
+//! What the head of a frame says, and what follows from it.
+
 ghost use Rattle.std.specs.Prelude.{◌≡◌, ℕ, ◌+◌, ◌*◌, ◌<◌, ◌≤◌};
 ghost use Rattle.reply_frames.specs.Kinds.{number_of, kind_of, version_number, version_of, most_n1, most_n2, most_n3, most_n4, size_of};
 
@@ -64,6 +66,16 @@ pub fn kind_number(kind: FrameKind) -> u8
         FrameKind::Fault => 6,
         FrameKind::Ack => 7,
         FrameKind::Refused => 8,
+    }
+}
+
+/// The number of a version, 1 or 2.
+pub fn version_number(version: Version) -> u8
+    ensures { result ≡ version_number version }
+{
+    match version {
+        Version::One => 1,
+        Version::Two => 2,
     }
 }
 

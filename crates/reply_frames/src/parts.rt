@@ -1,10 +1,13 @@
+//! Bytes and numbers, read from the front of bytes. Each reader stops at the end of the bytes where the part goes on,
+//! or at the first byte that can't stand there.
+
 ghost use Rattle.std.specs.Prelude.{◌≡◌, ℕ, ◌≤◌, length, IfOk};
 ghost use Rattle.std.specs.Int.{w16, w32, w64};
 ghost use Rattle.reply_frames.specs.Parts.{Gives, byte_at, number_at, limited_at, exactly_at};
 
 use crate::fault::{BadKind, Stop};
 
-/// A byte between two bounds, and the bytes after it.
+/// A byte from `least` to `most`, and the bytes after it. Another byte is a bad one of `field`.
 pub fn byte(bytes: &[u8], field: BadKind, least: u8, most: u64) -> Result<(u8, &[u8]), Stop>
     ensures read { Gives (λ x. (x.0, x.1.now)) result (byte_at field least most bytes.now) }
     ensures within { IfOk result (λ x. x.0 ≤ most) }
@@ -58,7 +61,8 @@ pub fn number64(bytes: &[u8]) -> Result<(u64, &[u8]), Stop>
     Ok((number, rest))
 }
 
-/// A number of so many bytes that is at most `most`, and the bytes after it.
+/// A number of `width` bytes that is at most `most`, and the bytes after it. A byte is a bad one of `field` where
+/// every number that goes on so is above `most`.
 #[tactic(auto, unfolding(crate::specs::Parts::limited_at))]
 pub fn limited(bytes: &[u8], field: BadKind, width: u32, most: u64) -> Result<(u64, &[u8]), Stop>
     ensures read { Gives (λ x. (x.0, x.1.now)) result (limited_at field width most bytes.now) }
@@ -73,7 +77,7 @@ pub fn limited(bytes: &[u8], field: BadKind, width: u32, most: u64) -> Result<(u
     Ok((low + 256 * high, rest))
 }
 
-/// The bytes after this number, which stands in so many bytes.
+/// This number alone, in `width` bytes, and the bytes after it. Another byte is a bad one of `field`.
 #[tactic(auto, unfolding(crate::specs::Parts::exactly_at))]
 pub fn exactly(bytes: &[u8], field: BadKind, width: u32, number: u32) -> Result<(u64, &[u8]), Stop>
     ensures read { Gives (λ x. (x.0, x.1.now)) result (exactly_at field width number bytes.now) }

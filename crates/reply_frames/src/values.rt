@@ -1,7 +1,7 @@
-ghost use Rattle.std.specs.Prelude.{◌≡◌, ℕ, ◌≤◌, IfOk};
-ghost use Rattle.ccp_base.specs.FieldReg.{pair_of};
+//! The values of an Update or a Change, read from the front of bytes.
+
+ghost use Rattle.std.specs.Prelude.{◌≤◌};
 ghost use Rattle.reply_frames.specs.Parts.{Gives};
-ghost use Rattle.reply_frames.specs.Spelling.{IsTarget};
 ghost use Rattle.reply_frames.specs.Frames.{Update, Change, target_at, value_at, values_at, update_at, change_at};
 
 use crate::fault::{BadKind, Stop};
@@ -38,7 +38,7 @@ fn value(bytes: &[u8]) -> Result<((FieldReg, u64), &[u8]), Stop>
     Ok(((reg, value), rest))
 }
 
-/// Reads so many values into `fields`, in place of what it has, and gives the bytes after them.
+/// Reads so many values, at most 66, into `fields` in place of what it has, and gives the bytes after them.
 pub fn values<'a>(bytes: &'a [u8], count: u8, fields: &mut Fields) -> Result<&'a [u8], Stop>
     requires { count ≤ 66 }
     ensures { Gives (λ rest. (fields.new, rest.now)) result (values_at count bytes.now) }

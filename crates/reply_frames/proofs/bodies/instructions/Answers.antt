@@ -1,4 +1,3 @@
-use Rattle.std.proofs.Common.{ap}
 use Rattle.std.proofs.lemmas.Result.{err_from_is_err_and}
 use Rattle.reply_frames.specs.Parts.{passed, repeated_at}
 use Rattle.reply_frames.specs.Frames.{instruction_at}

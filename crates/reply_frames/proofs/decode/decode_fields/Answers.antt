@@ -2,8 +2,7 @@ use Rattle.std.proofs.Common.{rules, ◌≡◌, [], Ok, Err, sym, arith}
 use Rattle.std.specs.Prelude.{IfErr}
 use Rattle.reply_frames.specs.Decoding.{decoded_of}
 use Rattle.reply_frames.proofs.FrameLaws.{told_more, told_bad, told_cut}
-use Rattle.reply_frames.proofs.Again.{told_only}
-use Rattle.reply_frames.proofs.Spelled.{told_reply}
+use Rattle.reply_frames.proofs.ReplyLaws.{told_only, told_reply}
 use Rattle.reply_frames.proofs.decode.decode_fields.Goals as goal
 
 pub returns-in_err-head-clause-only : goal.returns-in_err-head-clause-only

@@ -1,0 +1,187 @@
+-- What decoding answers, and the laws of messages and frames.
+use Rattle.std.proofs.Common.{◌≡◌, ◌≢◌, ℕ, zero, suc, ◌-◌, List, [], ◌∷◌, ◌++◌, length, Result, Ok, Err, refl, sym, ap, subst, ◌∙◌, arith, length-append}
+use Rattle.std.specs.Prelude.{IfOk}
+use Rattle.std.proofs.lemmas.List.{append-nil}
+use Rattle.reply_frames.specs.declared.fault.BadKind.{BadKind}
+use Rattle.reply_frames.specs.declared.fault.Stop.{Stop}
+use Rattle.reply_frames.specs.declared.fault.Stop.TheVariants as stops
+use Rattle.reply_frames.specs.declared.outline.Version.{Version}
+use Rattle.reply_frames.specs.declared.outline.Version.TheVariants.{One, Two}
+use Rattle.reply_frames.specs.Exact.{AreBytes}
+use Rattle.reply_frames.specs.Parts.{Read}
+use Rattle.reply_frames.specs.Frames.{Frame, frame_at}
+use Rattle.reply_frames.specs.Decoding.{needed_of}
+use Rattle.reply_frames.specs.Whole.{IsCut, IsBadFrom}
+use Rattle.reply_frames.specs.FrameBytes.{spelled, outline_of}
+use Rattle.reply_frames.proofs.Codec.{AllBytes}
+use Rattle.reply_frames.proofs.CodecFrames.{frame-writes, frame-reads}
+use Rattle.reply_frames.proofs.FrameSizes.{frame-bytes}
+use Rattle.reply_frames.proofs.ExactFrames.{exact-frame}
+use Rattle.reply_frames.proofs.FrameLaws.{frame_alone, cut_is, is_cut, bad_is}
+use Rattle.ccp_messages.specs.declared.fault.DecodeFault.{DecodeFault}
+use Rattle.ccp_messages.specs.declared.fault.DecodeFault.TheVariants.{More, Bad, NoMemory}
+use Rattle.ccp_messages.specs.declared.message.Message.{Message}
+use Rattle.ccp_messages.specs.Messages.{Meets, flow_of, body_of, frame_bytes, message_of, IsTyped}
+use Rattle.ccp_messages.specs.Decoding.{Found, Begins, found_from, decoded_from, decoded_of, IsAnswer, IsBad, IsBadIn}
+use Rattle.ccp_messages.specs.Laws.{IsReadAs, OneFrame, NoOther, PrefixFree, BothVersions}
+use Rattle.ccp_messages.proofs.MessageLaws.{message-back, message-fits, meets-both, meets-one, IsSaid, body-said}
+
+pub all-bytes : (bytes : List ℕ) → AreBytes bytes → AllBytes bytes
+all-bytes [] are i = omega arith
+all-bytes (byte ∷ bytes) are zero = are.0
+all-bytes (byte ∷ bytes) are (suc i) = all-bytes bytes are.1 i
+
+-- ---- what is read begins the bytes, and what begins them is read
+
+abbrev said : Frame → Message
+said frame = message_of frame.outline.flow frame.body
+
+frame-said : (bytes : List ℕ) (frame : Frame) (rest : List ℕ) → AllBytes bytes → frame_at bytes ≡ Ok (frame, rest)
+    → (bytes ≡ frame_bytes frame.outline.version (said frame) ++ rest) × IsSaid frame.outline.version frame.outline.flow frame.body
+frame-said bytes frame rest fits e =
+    let r = frame-reads bytes (frame, rest) fits e in
+    let s = body-said frame.outline.version frame.outline.flow frame.body r.1.0 in
+    (r.0.parts ∙ ap (λ flow. spelled frame.outline.version flow frame.body ++ rest) (sym s.flow_is) ∙ ap (λ body. spelled frame.outline.version (flow_of (said frame)) body ++ rest) (sym s.body_is), s)
+
+begins-read : (bytes : List ℕ) (read : Read Frame) (m : Message) (v : Version) (n : ℕ) → AllBytes bytes → frame_at bytes ≡ read → found_from (length bytes) read ≡ Ok (m, v, n) → Begins bytes m v n
+begins-read bytes (Ok (frame, rest)) m v n fits e d =
+    let s = frame-said bytes frame rest fits e in
+    let made : Found = (said frame, frame.outline.version, length bytes - length rest) in
+    let is : made ≡ (m, v, n) = cc in
+    let len : length bytes - length rest ≡ length (frame_bytes frame.outline.version (said frame)) = omega (arith, ap length s.0, length-append (frame_bytes frame.outline.version (said frame)) rest) in
+    let here : Begins bytes made.0 made.1 made.2 = record { rest = rest; parts = s.0; used_is = len; meets = s.1.meets; typed = s.1.typed } in
+    subst (λ (f : Found). Begins bytes f.0 f.1 f.2) is here
+begins-read bytes (Err stop) m v n fits e d = absurd cc
+
+decoded-found : (bytes : List ℕ) (found : Result Found Stop) (f : Found) → decoded_from bytes found ≡ Ok f → found ≡ Ok f
+decoded-found bytes (Ok found) f e = let same : found ≡ f = cc in ap Ok same
+decoded-found bytes (Err stop) f e = absurd cc
+
+pub decoded-begins : (bytes : List ℕ) (f : Found) → AllBytes bytes → decoded_of bytes ≡ Ok f → Begins bytes f.0 f.1 f.2
+decoded-begins bytes f fits e = begins-read bytes (frame_at bytes) f.0 f.1 f.2 fits refl (decoded-found bytes (found_from (length bytes) (frame_at bytes)) f e)
+
+-- the frame of a message is read as it, whatever follows
+frame-read : (v : Version) (m : Message) (rest : List ℕ) → Meets v m → IsTyped m → frame_at (frame_bytes v m ++ rest) ≡ Ok (record { outline = outline_of v (flow_of m) (body_of m); body = body_of m }, rest)
+frame-read v m rest meets typed = (frame-writes v (flow_of m) (body_of m) (message-fits v m meets typed)).again rest
+
+pub begins-decoded : (bytes : List ℕ) (m : Message) (v : Version) (n : ℕ) → Begins bytes m v n → decoded_of bytes ≡ Ok (m, v, n)
+begins-decoded bytes m v n b =
+    let read : frame_at bytes ≡ Ok (record { outline = outline_of v (flow_of m) (body_of m); body = body_of m }, b.rest) = ap frame_at b.parts ∙ frame-read v m b.rest b.meets b.typed in
+    let len : length bytes - length b.rest ≡ n = omega (arith, b.used_is, ap length b.parts, length-append (frame_bytes v m) b.rest) in
+    ap (λ read. decoded_from bytes (found_from (length bytes) read)) read
+    ∙ ap (λ message. decoded_from bytes (Ok (message, v, length bytes - length b.rest))) (message-back m)
+    ∙ ap (λ n. decoded_from bytes (Ok (m, v, n))) len
+
+-- ---- what is cut, and what is bad
+
+found-stops : (total : ℕ) (read : Read Frame) (stop : Stop) → found_from total read ≡ Err stop → read ≡ Err stop
+found-stops total (Ok (frame, rest)) stop e = absurd cc
+found-stops total (Err other) stop e = let same : other ≡ stop = cc in ap Err same
+
+cut-decoded : (bytes : List ℕ) (found : Result Found Stop) (n : ℕ) → decoded_from bytes found ≡ Err (More n) → (found ≡ Err stops.Cut) × (n ≡ needed_of bytes)
+cut-decoded bytes (Ok found) n e = absurd cc
+cut-decoded bytes (Err stops.Cut) n e = let same : needed_of bytes ≡ n = cc in (refl, sym same)
+cut-decoded bytes (Err (stops.Bad field left)) n e = absurd cc
+
+pub decoded-more : (bytes : List ℕ) (n : ℕ) → decoded_of bytes ≡ Err (More n) → IsCut bytes × (n ≡ needed_of bytes)
+decoded-more bytes n e =
+    let c = cut-decoded bytes (found_from (length bytes) (frame_at bytes)) n e in
+    (cut_is bytes (found-stops (length bytes) (frame_at bytes) stops.Cut c.0), c.1)
+
+pub cut-more : (bytes : List ℕ) → IsCut bytes → decoded_of bytes ≡ Err (More (needed_of bytes))
+cut-more bytes cut = ap (λ read. decoded_from bytes (found_from (length bytes) read)) (is_cut bytes cut)
+
+bad-decoded : (bytes : List ℕ) (found : Result Found Stop) (field : BadKind) (place : ℕ) → decoded_from bytes found ≡ Err (Bad field place) → (left : ℕ) × (found ≡ Err (stops.Bad field left)) × (place ≡ length bytes - left)
+bad-decoded bytes (Ok found) field place e = absurd cc
+bad-decoded bytes (Err stops.Cut) field place e = absurd cc
+bad-decoded bytes (Err (stops.Bad field' left)) field place e =
+    let fields : field' ≡ field = cc in
+    let places : length bytes - left ≡ place = cc in
+    (left, ap (λ f. Err (stops.Bad f left)) fields, sym places)
+
+pub decoded-bad : (bytes : List ℕ) (field : BadKind) (place : ℕ) → decoded_of bytes ≡ Err (Bad field place) → IsBadIn bytes field place
+decoded-bad bytes field place e =
+    let b = bad-decoded bytes (found_from (length bytes) (frame_at bytes)) field place e in
+    let read : frame_at bytes ≡ Err (stops.Bad field b.0) = found-stops (length bytes) (frame_at bytes) (stops.Bad field b.0) b.1 in
+    let r = exact-frame.bad bytes field b.0 read in
+    let left : b.0 ≡ length bytes - place = omega (arith, b.2, r.left_is, ap length r.parts, length-append r.front (r.byte ∷ r.after)) in
+    (subst (IsBadFrom bytes) (sym b.2) (bad_is bytes field b.0 read), read ∙ ap (λ left. Err (stops.Bad field left)) left)
+
+-- ---- what a call answers, where there was memory
+
+abbrev pub IsTold : List ℕ → Result Found DecodeFault → Type 0
+IsTold bytes result = IsAnswer result (decoded_of bytes)
+
+told-ok : (bytes : List ℕ) (f : Found) → IsTold bytes (Ok f) → decoded_of bytes ≡ Ok f
+told-ok bytes f told = sym (told (λ (e : ◌≡◌ {A = Result Found DecodeFault} (Ok f) (Err NoMemory)). cc))
+
+told-err : (bytes : List ℕ) (fault : DecodeFault) → fault ≢ NoMemory → IsTold bytes (Err fault) → decoded_of bytes ≡ Err fault
+told-err bytes fault some told = sym (told (λ (e : ◌≡◌ {A = Result Found DecodeFault} (Err fault) (Err NoMemory)). some cc))
+
+pub told_found : (bytes : List ℕ) (result : Result Found DecodeFault) → AllBytes bytes → IsTold bytes result → IfOk result (λ x. Begins bytes x.0 x.1 x.2)
+told_found bytes (Ok f) fits told = decoded-begins bytes f fits (told-ok bytes f told)
+told_found bytes (Err fault) fits told = tt
+
+pub told_only : (bytes : List ℕ) (result : Result Found DecodeFault) → IsTold bytes result → (m : Message) (v : Version) (n : ℕ) → Begins bytes m v n → IsAnswer result (Ok (m, v, n))
+told_only bytes result told m v n begins some = told some ∙ begins-decoded bytes m v n begins
+
+pub told_more : (bytes : List ℕ) (result : Result Found DecodeFault) → IsTold bytes result → (n : ℕ) → result ≡ Err (More n) → IsCut bytes × (n ≡ needed_of bytes)
+told_more bytes result told n e =
+    let some : (result ≢ Err NoMemory) = λ none. let clash : ◌≡◌ {A = Result Found DecodeFault} (Err (More n)) (Err NoMemory) = sym e ∙ none in cc in
+    decoded-more bytes n (sym (told some) ∙ e)
+
+pub told_cut : (bytes : List ℕ) (result : Result Found DecodeFault) → IsTold bytes result → IsCut bytes → IsAnswer result (Err (More (needed_of bytes)))
+told_cut bytes result told cut some = told some ∙ cut-more bytes cut
+
+pub told_bad : (bytes : List ℕ) (result : Result Found DecodeFault) → IsTold bytes result → (field : BadKind) (place : ℕ) → result ≡ Err (Bad field place) → IsBadIn bytes field place
+told_bad bytes result told field place e =
+    let some : (result ≢ Err NoMemory) = λ none. let clash : ◌≡◌ {A = Result Found DecodeFault} (Err (Bad field place)) (Err NoMemory) = sym e ∙ none in cc in
+    decoded-bad bytes field place (sym (told some) ∙ e)
+
+pub told_refused : (bytes : List ℕ) (result : Result Found DecodeFault) → AllBytes bytes → IsTold bytes result → ((m : Message) (v : Version) (n : ℕ) → ¬ Begins bytes m v n) → ¬ IsCut bytes → IsBad result
+told_refused bytes (Ok f) fits told none whole = none f.0 f.1 f.2 (decoded-begins bytes f fits (told-ok bytes f told))
+told_refused bytes (Err (More n)) fits told none whole =
+    whole (decoded-more bytes n (told-err bytes (More n) (λ (e : More n ≡ NoMemory). cc) told)).0
+told_refused bytes (Err (Bad field place)) fits told none whole = tt
+told_refused bytes (Err NoMemory) fits told none whole = tt
+
+-- ---- the laws
+
+frame-alone : (v : Version) (m : Message) → Meets v m → IsTyped m → frame_at (frame_bytes v m) ≡ Ok (record { outline = outline_of v (flow_of m) (body_of m); body = body_of m }, [])
+frame-alone v m meets typed = ap frame_at (sym (append-nil (frame_bytes v m))) ∙ frame-read v m [] meets typed
+
+read-frame : (v : Version) (m : Message) → Meets v m → IsTyped m → IsReadAs (frame_bytes v m) m v
+read-frame v m meets typed = record {
+  are_bytes = frame-bytes v (flow_of m) (body_of m) (message-fits v m meets typed);
+  frame = record { outline = outline_of v (flow_of m) (body_of m); body = body_of m };
+  whole = frame-alone v m meets typed;
+  said = message-back m;
+  version_is = refl;
+}
+
+-- what is read as a message is its frame, and meets the conditions
+read-said : (bytes : List ℕ) (m : Message) (v : Version) → IsReadAs bytes m v → (bytes ≡ frame_bytes v m) × Meets v m
+read-said bytes m v r =
+    let s = frame-said bytes r.frame [] (all-bytes bytes r.are_bytes) r.whole in (
+      s.0 ∙ append-nil (frame_bytes r.frame.outline.version (said r.frame)) ∙ ap (λ v. frame_bytes v (said r.frame)) r.version_is ∙ ap (frame_bytes v) r.said,
+      subst (λ v. Meets v m) r.version_is (subst (Meets r.frame.outline.version) r.said s.1.meets),
+    )
+
+pub one_frame : OneFrame
+one_frame v m typed meets = (read-frame v m meets typed, λ bytes r. (read-said bytes m v r).0)
+
+pub no_other : NoOther
+no_other v m has = (read-said has.0 m v has.1).1
+
+pub prefix_free : PrefixFree
+prefix_free bytes more one other = frame_alone bytes more one other
+
+pub both_versions : BothVersions
+both_versions m typed = (
+  λ has.
+      let both = meets-both m (read-said has.0 m One has.1).1 in
+      ((frame_bytes Two m, read-frame Two m both.0 typed), both.1),
+  λ has.
+      let meets : Meets One m = meets-one m (read-said has.0.0 m Two has.0.1).1 has.1 in
+      (frame_bytes One m, read-frame One m meets typed),
+)

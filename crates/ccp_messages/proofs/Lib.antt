@@ -1,0 +1,6 @@
+pub mod CodeLaws
+pub mod MessageLaws
+pub mod DecodeLaws
+pub mod Encoding
+pub mod Reading
+pub mod NeededLaw

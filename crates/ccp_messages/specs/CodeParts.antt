@@ -1,0 +1,105 @@
+-- The parts of a code as an Install frame has them, and back.
+use Rattle.std.specs.Prelude.{ℕ, ◌==◌, if◌then◌else◌, List}
+use Rattle.ccp_base.specs.Acknowledgement.{number_of}
+use Rattle.reg_code.specs.declared.code.Event.{Event}
+use Rattle.reg_code.specs.declared.code.Implicit.{Implicit}
+use Rattle.reg_code.specs.declared.code.Implicit.TheVariants.{Flag, Fall, Send, Micros, Cwnd, Rate}
+use Rattle.reg_code.specs.declared.code.Instr.{Instr}
+use Rattle.reg_code.specs.declared.code.Op.{Op}
+use Rattle.reg_code.specs.declared.code.Op.TheVariants as op
+use Rattle.reg_code.specs.declared.code.Reg.{Reg}
+use Rattle.reg_code.specs.declared.code.Reg.TheVariants as reg
+use Rattle.reg_code.specs.declared.code.Start.{Start}
+use Rattle.std.specs.List.{flat_map}
+use Rattle.reply_frames.specs.Frames as parts
+use Rattle.reply_frames.specs.FrameBytes.{start_bytes, event_bytes, instruction_bytes}
+
+-- the operations by number
+abbrev pub op_number : Op → ℕ
+op_number op.Add = 0
+op_number op.Sub = 1
+op_number op.Mul = 2
+op_number op.Div = 3
+op_number op.Max = 4
+op_number op.Min = 5
+op_number op.Gt = 6
+op_number op.Lt = 7
+op_number op.Eq = 8
+op_number op.And = 9
+op_number op.Or = 10
+op_number op.Bind = 11
+op_number op.If = 12
+op_number op.NotIf = 13
+op_number op.Ewma = 14
+
+abbrev pub op_of : ℕ → Op
+op_of n =
+    if n == 0 then op.Add else if n == 1 then op.Sub else if n == 2 then op.Mul else if n == 3 then op.Div else
+    if n == 4 then op.Max else if n == 5 then op.Min else if n == 6 then op.Gt else if n == 7 then op.Lt else
+    if n == 8 then op.Eq else if n == 9 then op.And else if n == 10 then op.Or else if n == 11 then op.Bind else
+    if n == 12 then op.If else if n == 13 then op.NotIf else op.Ewma
+
+-- the implicit registers by number
+abbrev pub implicit_number : Implicit → ℕ
+implicit_number Flag = 0
+implicit_number Fall = 1
+implicit_number Send = 2
+implicit_number Micros = 3
+implicit_number Cwnd = 4
+implicit_number Rate = 5
+
+abbrev pub implicit_of : ℕ → Implicit
+implicit_of n =
+    if n == 0 then Flag else if n == 1 then Fall else if n == 2 then Send else
+    if n == 3 then Micros else if n == 4 then Cwnd else Rate
+
+abbrev pub register : ℕ → ℕ → parts.Register
+register class number = record { class = class; number = number }
+
+-- a register by its class and its number, an immediate one by its value
+abbrev pub register_part : Reg → parts.Register
+register_part (reg.Imm value) = register 0 value
+register_part (reg.Prim n) = register 1 n
+register_part (reg.Report i) = register 2 i
+register_part (reg.Control i) = register 3 i
+register_part (reg.Implicit which) = register 4 (implicit_number which)
+register_part (reg.Local i) = register 5 i
+register_part (reg.Temp i) = register 6 i
+
+abbrev pub reg_by : ℕ → ℕ → Reg
+reg_by class number =
+    if class == 0 then reg.Imm number else if class == 1 then reg.Prim number else if class == 2 then reg.Report number else
+    if class == 3 then reg.Control number else if class == 4 then reg.Implicit (implicit_of number) else
+    if class == 5 then reg.Local number else reg.Temp number
+
+abbrev pub reg_of : parts.Register → Reg
+reg_of r = reg_by r.class r.number
+
+abbrev pub start_part : Start → parts.Start
+start_part start = record { volatile = number_of start.volatile; value = start.value }
+
+abbrev pub start_of : parts.Start → Start
+start_of start = record { volatile = start.volatile == 1; value = start.value }
+
+abbrev pub event_part : Event → parts.Event
+event_part event = record { condition = event.condition; block = event.body }
+
+abbrev pub event_of : parts.Event → Event
+event_of event = record { condition = event.condition; body = event.block }
+
+abbrev pub instruction_part : Instr → parts.Instruction
+instruction_part i = record { op = op_number i.op; to = register_part i.to; left = register_part i.left; right = register_part i.right }
+
+abbrev pub instr_of : parts.Instruction → Instr
+instr_of i = record { op = op_of i.op; to = reg_of i.to; left = reg_of i.left; right = reg_of i.right }
+
+-- ---- the bytes of the lists of a code
+
+abbrev pub starts_bytes : List Start → List ℕ
+starts_bytes starts = flat_map (λ start. start_bytes (start_part start)) starts
+
+abbrev pub events_bytes : List Event → List ℕ
+events_bytes events = flat_map (λ event. event_bytes (event_part event)) events
+
+abbrev pub instrs_bytes : List Instr → List ℕ
+instrs_bytes instrs = flat_map (λ instr. instruction_bytes (instruction_part instr)) instrs

@@ -1,0 +1,103 @@
+-- What bytes are to one who reads a message from their front.
+use Rattle.std.specs.Prelude.{◌≡◌, ◌≢◌, ℕ, ◌-◌, List, ◌++◌, length, Result, Ok, Err}
+use Rattle.std.specs.Int.{w32}
+use Rattle.reply_frames.specs.declared.fault.BadKind.{BadKind}
+use Rattle.reply_frames.specs.declared.fault.Stop.{Stop}
+use Rattle.reply_frames.specs.declared.fault.Stop.TheVariants as stops
+use Rattle.reply_frames.specs.declared.outline.Version.{Version}
+use Rattle.reply_frames.specs.declared.outline.Counts.{Counts}
+use Rattle.reply_frames.specs.Parts.{Read, ◌>>=◌, number_at, repeated_at}
+use Rattle.reply_frames.specs.Frames.{start_at, event_at, instruction_at, Frame, frame_at}
+use Rattle.reply_frames.specs.Decoding.{needed_of}
+use Rattle.reply_frames.specs.Whole.{IsBadFrom}
+use Rattle.ccp_messages.specs.declared.fault.DecodeFault.{DecodeFault}
+use Rattle.ccp_messages.specs.declared.fault.DecodeFault.TheVariants.{More, Bad, NoMemory}
+use Rattle.ccp_messages.specs.declared.fault.Halt.{Halt}
+use Rattle.ccp_messages.specs.declared.fault.Halt.TheVariants as halt
+use Rattle.reg_code.specs.declared.code.Event.{Event}
+use Rattle.reg_code.specs.declared.code.Instr.{Instr}
+use Rattle.reg_code.specs.declared.code.Start.{Start}
+use Rattle.ccp_messages.specs.declared.message.Message.{Message}
+use Rattle.ccp_messages.specs.declared.message.Message.TheVariants.{Install}
+use Rattle.ccp_messages.specs.CodeParts.{start_of, event_of, instr_of}
+use Rattle.ccp_messages.specs.Messages.{Meets, IsTyped, frame_bytes, message_of}
+
+-- a message, its version, and the length of its frame
+abbrev pub Found : Type 0
+Found = Message × Version × ℕ
+
+-- the bytes begin with the message's frame in the version, which is so long
+pub record Begins (bytes : List ℕ) (message : Message) (version : Version) (used : ℕ) : Type 0 where
+  pub rest : List ℕ
+  pub parts : bytes ≡ frame_bytes version message ++ rest
+  pub used_is : used ≡ length (frame_bytes version message)
+  pub meets : Meets version message
+  pub typed : IsTyped message
+
+-- ---- the reading of a frame, as an answer
+
+-- what is made of a part that is read
+abbrev pub made : {A B : Type 0} → (A → B) → Read A → Read B
+made make (Ok x) = Ok (make x.0, x.1)
+made make (Err stop) = Err stop
+
+-- what a function returned, seen by view, is what reading gives, where there was memory
+abbrev pub Answers : {X Y : Type 0} → (X → Y) → Result X Halt → Result Y Stop → Type 0
+Answers view (Ok x) read = read ≡ Ok (view x)
+Answers view (Err (halt.Stopped stop)) read = read ≡ Err stop
+Answers view (Err halt.NoMemory) read = Unit {0}
+
+-- the parts of a code
+abbrev pub code_start_at : List ℕ → Read Start
+code_start_at bytes = made start_of (start_at bytes)
+
+abbrev pub code_event_at : List ℕ → Read Event
+code_event_at bytes = made event_of (event_at bytes)
+
+abbrev pub code_instr_at : List ℕ → Read Instr
+code_instr_at bytes = made instr_of (instruction_at bytes)
+
+-- the Install with a program and its code
+unfoldable pub code_at : ℕ → Counts → List ℕ → Read Message
+code_at flow counts bytes = do
+  program ← number_at w32 bytes
+  reports ← repeated_at code_start_at counts.n1 program.1
+  controls ← repeated_at code_start_at counts.n2 reports.1
+  events ← repeated_at code_event_at counts.n3 controls.1
+  instrs ← repeated_at code_instr_at counts.n4 events.1
+  Ok (Install flow program.0 (record { reports = reports.0; controls = controls.0; events = events.0; instrs = instrs.0 }), instrs.1)
+
+-- the message of a frame that is read from so many bytes
+abbrev pub found_from : ℕ → Read Frame → Result Found Stop
+found_from total (Ok (frame, rest)) = Ok (message_of frame.outline.flow frame.body, frame.outline.version, total - length rest)
+found_from total (Err stop) = Err stop
+
+-- what it is that reading stopped
+abbrev pub fault_of : List ℕ → Stop → DecodeFault
+fault_of bytes stops.Cut = More (needed_of bytes)
+fault_of bytes (stops.Bad field left) = Bad field (length bytes - left)
+
+abbrev pub decoded_from : List ℕ → Result Found Stop → Result Found DecodeFault
+decoded_from bytes (Ok found) = Ok found
+decoded_from bytes (Err stop) = Err (fault_of bytes stop)
+
+-- the message whose frame begins the bytes, or why there is none
+abbrev pub decoded_of : List ℕ → Result Found DecodeFault
+decoded_of bytes = decoded_from bytes (found_from (length bytes) (frame_at bytes))
+
+-- ---- words on an answer, where there was memory
+
+-- it is this one
+abbrev pub IsAnswer : Result Found DecodeFault → Result Found DecodeFault → Type 0
+IsAnswer result answer = (result ≢ Err NoMemory) → result ≡ answer
+
+-- it refuses a byte
+abbrev pub IsBad : Result Found DecodeFault → Type 0
+IsBad (Ok found) = ⊥
+IsBad (Err (More needed)) = ⊥
+IsBad (Err (Bad field place)) = Unit {0}
+IsBad (Err NoMemory) = Unit {0}
+
+-- the byte at this place is the first that no frame goes on with, and it lies in this field
+abbrev pub IsBadIn : List ℕ → BadKind → ℕ → Type 0
+IsBadIn bytes field place = IsBadFrom bytes place × (frame_at bytes ≡ Err (stops.Bad field (length bytes - place)))

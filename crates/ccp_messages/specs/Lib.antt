@@ -1,0 +1,4 @@
+pub mod CodeParts
+pub mod Messages
+pub mod Decoding
+pub mod Laws

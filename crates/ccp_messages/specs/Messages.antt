@@ -1,0 +1,195 @@
+-- Messages, and the one frame of each version that a message has.
+use Rattle.std.specs.Prelude.{◌≡◌, ℕ, ◌<◌, ◌≤◌, ◌^◌, ◌==◌, List, length, take, map, slice_index, if◌then◌else◌}
+use Rattle.std.specs.List.{AllByRecursion}
+use Rattle.ccp_base.specs.declared.ack.Ack.{Ack}
+use Rattle.ccp_base.specs.declared.arithmetic.FaultKind.{FaultKind}
+use Rattle.ccp_base.specs.declared.arithmetic.FaultKind.TheVariants.{Overflow, Underflow, ZeroDivisor}
+use Rattle.ccp_base.specs.declared.exchange.Report.{Report}
+use Rattle.ccp_base.specs.declared.exchange.Notice.{Notice}
+use Rattle.ccp_base.specs.Acknowledgement.{number_of, primitives}
+use Rattle.ccp_base.specs.FieldReg.{Pair}
+use Rattle.reg_code.specs.declared.code.Code.{Code}
+use Rattle.reg_code.specs.declared.code.Event.{Event}
+use Rattle.reg_code.specs.declared.code.Instr.{Instr}
+use Rattle.reg_code.specs.declared.code.Reg.{Reg}
+use Rattle.reg_code.specs.declared.code.Reg.TheVariants as reg
+use Rattle.reg_code.specs.declared.code.Start.{Start}
+use Rattle.reply_frames.specs.declared.outline.Version.{Version}
+use Rattle.reply_frames.specs.declared.outline.Version.TheVariants.{One, Two}
+use Rattle.reply_frames.specs.Frames.{Body}
+use Rattle.reply_frames.specs.Frames as body
+use Rattle.reply_frames.specs.Spelling.{AreTargets, IsValue}
+use Rattle.reply_frames.specs.FrameBytes.{spelled, IsNumber}
+use Rattle.ccp_messages.specs.declared.message.Message.{Message}
+use Rattle.ccp_messages.specs.declared.message.Message.TheVariants.{Create, Measure, Install, Update, Change, Fault, Refused}
+use Rattle.ccp_messages.specs.declared.message.Message.TheVariants as message
+use Rattle.ccp_messages.specs.CodeParts.{start_part, start_of, event_part, event_of, instruction_part, instr_of}
+
+-- ---- the conditions of the encoder
+
+-- a count of acknowledgements that version 1 has room for
+abbrev pub IsShortCount : Version → ℕ → Type 0
+IsShortCount One n = n < 2 ^ 32
+IsShortCount Two n = Unit {0}
+
+-- so many fields or reports are few enough for version 1
+abbrev pub AreFew : Version → ℕ → Type 0
+AreFew One n = n ≤ 32
+AreFew Two n = Unit {0}
+
+abbrev pub Meets : Version → Message → Type 0
+Meets version (Create flow mss cwnd) = Unit {0}
+Meets version (Measure report) = IsShortCount version report.first × IsShortCount version report.end × AreFew version (length report.fields)
+Meets version (Install flow program code) =
+    (length code.reports ≤ 64) × (length code.controls ≤ 64) × (length code.events ≤ 64) × (length code.instrs ≤ 256)
+    × AreFew version (length code.reports)
+Meets version (Update flow values) = AreTargets values
+Meets version (Change flow program values) = AreTargets values
+Meets version (Fault notice) = IsShortCount version notice.at
+Meets version (message.Ack flow ack) = Unit {0}
+Meets version (Refused flow reason index) = (1 ≤ reason) × (reason ≤ 9)
+
+-- its counts of acknowledgements are below 2^32, and it has at most 32 fields or reports
+abbrev pub IsNarrow : Message → Type 0
+IsNarrow (Create flow mss cwnd) = Unit {0}
+IsNarrow (Measure report) = (report.first < 2 ^ 32) × (report.end < 2 ^ 32) × (length report.fields ≤ 32)
+IsNarrow (Install flow program code) = length code.reports ≤ 32
+IsNarrow (Update flow values) = Unit {0}
+IsNarrow (Change flow program values) = Unit {0}
+IsNarrow (Fault notice) = notice.at < 2 ^ 32
+IsNarrow (message.Ack flow ack) = Unit {0}
+IsNarrow (Refused flow reason index) = Unit {0}
+
+-- ---- the frame of a message
+
+-- the kinds of faults by number
+abbrev pub fault_number : FaultKind → ℕ
+fault_number Overflow = 0
+fault_number Underflow = 1
+fault_number ZeroDivisor = 2
+
+abbrev pub fault_kind_of : ℕ → FaultKind
+fault_kind_of n = if n == 0 then Overflow else if n == 1 then Underflow else ZeroDivisor
+
+abbrev pub flow_of : Message → ℕ
+flow_of (Create flow mss cwnd) = flow
+flow_of (Measure report) = report.flow
+flow_of (Install flow program code) = flow
+flow_of (Update flow values) = flow
+flow_of (Change flow program values) = flow
+flow_of (Fault notice) = notice.flow
+flow_of (message.Ack flow ack) = flow
+flow_of (Refused flow reason index) = flow
+
+-- what the frame says after its head
+abbrev pub body_of : Message → Body
+body_of (Create flow mss cwnd) = body.Create cwnd mss
+body_of (Measure r) = body.Measure r.program r.epoch r.first r.end r.now r.cwnd r.rate r.fields
+body_of (Install flow program code) =
+    body.Install program (map start_part code.reports) (map start_part code.controls) (map event_part code.events) (map instruction_part code.instrs)
+body_of (Update flow values) = body.Update values
+body_of (Change flow program values) = body.Change program values
+body_of (Fault n) = body.Fault n.program n.epoch n.at (fault_number n.kind) n.index n.now n.cwnd
+body_of (message.Ack flow ack) = body.Ack (take 14 (primitives ack)) (number_of ack.was_timeout)
+body_of (Refused flow reason index) = body.Refused reason index
+
+-- the message's frame in a version, where it meets the conditions
+abbrev pub frame_bytes : Version → Message → List ℕ
+frame_bytes version message = spelled version (flow_of message) (body_of message)
+
+-- these bytes are the frame of the message
+abbrev pub IsFrameOf : Message → Version → List ℕ → Type 0
+IsFrameOf message version bytes = Meets version message × (bytes ≡ frame_bytes version message)
+
+-- ---- the message of a frame
+
+abbrev pub ack_of : List ℕ → ℕ → Ack
+ack_of n was_timeout = record {
+  bytes_acked = slice_index n 0;
+  packets_acked = slice_index n 1;
+  bytes_misordered = slice_index n 2;
+  packets_misordered = slice_index n 3;
+  ecn_bytes = slice_index n 4;
+  ecn_packets = slice_index n 5;
+  lost_pkts_sample = slice_index n 6;
+  now = slice_index n 7;
+  bytes_in_flight = slice_index n 8;
+  packets_in_flight = slice_index n 9;
+  bytes_pending = slice_index n 10;
+  rate_incoming = slice_index n 11;
+  rate_outgoing = slice_index n 12;
+  rtt_sample_us = slice_index n 13;
+  was_timeout = was_timeout == 1;
+}
+
+abbrev pub message_of : ℕ → Body → Message
+message_of flow (body.Create cwnd mss) = Create flow mss cwnd
+message_of flow (body.Measure program epoch first last now cwnd rate fields) =
+    Measure (record { flow = flow; program = program; epoch = epoch; first = first; end = last; now = now; cwnd = cwnd; rate = rate; fields = fields })
+message_of flow (body.Install program reports controls events instructions) =
+    Install flow program (record { reports = map start_of reports; controls = map start_of controls; events = map event_of events; instrs = map instr_of instructions })
+message_of flow (body.Update values) = Update flow values
+message_of flow (body.Change program values) = Change flow program values
+message_of flow (body.Fault program epoch place kind index now cwnd) =
+    Fault (record { flow = flow; program = program; epoch = epoch; at = place; kind = fault_kind_of kind; index = index; now = now; cwnd = cwnd })
+message_of flow (body.Ack numbers was_timeout) = message.Ack flow (ack_of numbers was_timeout)
+message_of flow (body.Refused reason index) = Refused flow reason index
+
+-- ---- what types of the language give
+
+abbrev pub IsTypedStart : Start → Type 0
+IsTypedStart start = start.value < 2 ^ 64
+
+abbrev pub IsTypedEvent : Event → Type 0
+IsTypedEvent event = (event.condition < 2 ^ 16) × (event.body < 2 ^ 16)
+
+abbrev pub IsTypedReg : Reg → Type 0
+IsTypedReg (reg.Imm value) = value < 2 ^ 64
+IsTypedReg (reg.Prim n) = n < 2 ^ 8
+IsTypedReg (reg.Report i) = i < 2 ^ 8
+IsTypedReg (reg.Control i) = i < 2 ^ 8
+IsTypedReg (reg.Implicit which) = Unit {0}
+IsTypedReg (reg.Local i) = i < 2 ^ 8
+IsTypedReg (reg.Temp i) = i < 2 ^ 8
+
+abbrev pub IsTypedInstr : Instr → Type 0
+IsTypedInstr i = IsTypedReg i.to × IsTypedReg i.left × IsTypedReg i.right
+
+abbrev pub IsTypedCode : Code → Type 0
+IsTypedCode code =
+    AllByRecursion IsTypedStart code.reports × AllByRecursion IsTypedStart code.controls
+    × AllByRecursion IsTypedEvent code.events × AllByRecursion IsTypedInstr code.instrs
+
+abbrev pub IsTypedAck : Ack → Type 0
+IsTypedAck ack = AllByRecursion IsNumber (take 14 (primitives ack))
+
+abbrev pub AreTypedNumbers : List ℕ → Type 0
+AreTypedNumbers numbers = (length numbers ≤ 64) × AllByRecursion IsNumber numbers
+
+abbrev pub AreTypedPairs : List Pair → Type 0
+AreTypedPairs values = (length values ≤ 66) × AllByRecursion IsValue values
+
+abbrev pub IsTypedReport : Report → Type 0
+IsTypedReport r =
+    (r.program < 2 ^ 32) × (r.epoch < 2 ^ 32) × (r.first < 2 ^ 64) × (r.end < 2 ^ 64)
+    × (r.now < 2 ^ 64) × (r.cwnd < 2 ^ 64) × (r.rate < 2 ^ 64) × AreTypedNumbers r.fields
+
+abbrev pub IsTypedNotice : Notice → Type 0
+IsTypedNotice n =
+    (n.program < 2 ^ 32) × (n.epoch < 2 ^ 32) × (n.at < 2 ^ 64) × (n.index < 2 ^ 16)
+    × (n.now < 2 ^ 64) × (n.cwnd < 2 ^ 64)
+
+-- what the frame says after its head
+abbrev pub IsTypedBody : Message → Type 0
+IsTypedBody (Create flow mss cwnd) = (mss < 2 ^ 32) × (cwnd < 2 ^ 64)
+IsTypedBody (Measure report) = IsTypedReport report
+IsTypedBody (Install flow program code) = (program < 2 ^ 32) × IsTypedCode code
+IsTypedBody (Update flow values) = AreTypedPairs values
+IsTypedBody (Change flow program values) = (program < 2 ^ 32) × AreTypedPairs values
+IsTypedBody (Fault notice) = IsTypedNotice notice
+IsTypedBody (message.Ack flow ack) = IsTypedAck ack
+IsTypedBody (Refused flow reason index) = index < 2 ^ 32
+
+-- the ranges of a message's numbers, and the most that its lists in place hold
+abbrev pub IsTyped : Message → Type 0
+IsTyped message = (flow_of message < 2 ^ 32) × IsTypedBody message

@@ -1,0 +1,71 @@
+ghost use Rattle.std.specs.Prelude.{◌≡◌, ℕ, length, IfOk, Ok, Err};
+ghost use Rattle.reply_frames.specs.declared.fault.BadKind.{BadKind};
+ghost use Rattle.reply_frames.specs.declared.outline.Version.{Version};
+ghost use Rattle.reply_frames.specs.Frames.{frame_at};
+ghost use Rattle.reply_frames.specs.Decoding.{needed_of};
+ghost use Rattle.reply_frames.specs.Whole.{IsCut};
+ghost use Rattle.ccp_messages.specs.declared.message.Message.{Message};
+ghost use Rattle.ccp_messages.specs.Decoding.{Begins, Answers, found_from, fault_of, decoded_of, IsAnswer, IsBad, IsBadIn};
+
+use crate::fault::{DecodeFault, Halt};
+use crate::message::Message;
+use crate::read_body::body;
+use reply_frames::head::outline;
+use reply_frames::{Stop, Version, needed};
+use std::alloc::Global;
+
+/// Why bytes don't begin with a frame, where reading them stopped.
+fn stopped(bytes: &[u8], stop: Stop) -> DecodeFault
+    ensures { result ≡ fault_of bytes.now stop }
+{
+    match stop {
+        Stop::Cut => DecodeFault::More(needed(bytes)),
+        Stop::Bad(field, left) => DecodeFault::Bad(field, bytes.len().saturating_sub(left)),
+    }
+}
+
+/// The message whose frame begins the bytes, its version and its length.
+#[tactic(auto, unfolding(reply_frames::specs::Frames::frame_at))]
+fn found(alloc: Global, bytes: &[u8]) -> Result<(Message, Version, usize), Halt>
+    ensures { Answers (λ x. x) result (found_from (length bytes.now) (frame_at bytes.now)) }
+{
+    let (head, rest) = outline(bytes)?;
+    let (message, rest) = body(alloc, rest, head)?;
+    let used = bytes.len().saturating_sub(rest.len());
+    Ok((message, head.version, used))
+}
+
+/// The same, with its faults.
+fn answered(alloc: Global, bytes: &[u8]) -> Result<(Message, Version, usize), DecodeFault>
+    ensures { IsAnswer result (decoded_of bytes.now) }
+{
+    match found(alloc, bytes) {
+        Ok(found) => Ok(found),
+        Err(Halt::Stopped(stop)) => Err(stopped(bytes, stop)),
+        Err(Halt::NoMemory) => Err(DecodeFault::NoMemory),
+    }
+}
+
+/// Reads the message whose frame begins the bytes, whatever follows it: the message, its version, and the frame's
+/// length. The code of an Install is any that a frame can have; `code_verifier` says which is accepted. The faults
+/// are those of `DecodeFault`.
+pub fn decode(alloc: Global, bytes: &[u8]) -> Result<(Message, Version, usize), DecodeFault>
+    ensures told { IsAnswer result (decoded_of bytes.now) }
+
+    // What is read begins the bytes, and what begins them is read.
+    ensures found { IfOk result (λ x. Begins bytes.now x.0 x.1 x.2) }
+    ensures only { (message : Message) (version : Version) (used : ℕ) → Begins bytes.now message version used
+        → IsAnswer result (Ok (message, version, used)) }
+
+    // More comes exactly where the bytes are a proper prefix of a frame.
+    ensures more { (n : ℕ) → result ≡ Err (DecodeFault.More n) → IsCut bytes.now × (n ≡ needed_of bytes.now) }
+    ensures cut { IsCut bytes.now → IsAnswer result (Err (DecodeFault.More (needed_of bytes.now))) }
+
+    // Bad says how long the longest prefix is that a frame begins with, and in which field the byte after it lies.
+    ensures bad { (field : BadKind) (place : ℕ) → result ≡ Err (DecodeFault.Bad field place)
+        → IsBadIn bytes.now field place }
+    ensures refused { ((message : Message) (version : Version) (used : ℕ) → ¬ Begins bytes.now message version used)
+        → ¬ IsCut bytes.now → IsBad result }
+{
+    answered(alloc, bytes)
+}

@@ -1,0 +1,128 @@
+ghost use Rattle.std.specs.Prelude.{◌≡◌, ◌↔◌, ◌^◌, ◌<◌, ◌≤◌, length, IfOk, IfErr, OnErr, OnOk, IsErr};
+ghost use Rattle.reply_frames.specs.Kinds.{size_of};
+ghost use Rattle.reply_frames.specs.FrameBytes.{kind_of_body, counts_of, outline_of, body_bytes};
+ghost use Rattle.reply_frames.specs.Writing.{over, Wrote};
+ghost use Rattle.ccp_messages.specs.Laws.{HasOneFrame};
+ghost use Rattle.ccp_messages.specs.Messages.{Meets, flow_of, body_of, frame_bytes, IsFrameOf, IsTypedBody, IsTyped};
+
+use crate::encode_body::{
+    put_ack, put_change, put_create, put_fault, put_measure, put_refused, put_values,
+};
+use crate::encode_code::put_code;
+use crate::message::Message;
+use reg_code::Code;
+use reply_frames::encode::put_outline;
+use reply_frames::outline::frame_size;
+use reply_frames::{Counts, FrameKind, Outline, Short, Version};
+
+/// The length of a head, in bytes.
+const HEAD: usize = 16;
+
+/// A head with one count at most.
+fn outlined(kind: FrameKind, version: Version, count: u8, flow: u32) -> Outline
+    ensures { result ≡ record { kind = kind; version = version; counts = record { n1 = count; n2 = 0; n3 = 0; n4 = 0 }; flow = flow } }
+{
+    Outline {
+        kind,
+        version,
+        counts: Counts {
+            n1: count,
+            n2: 0,
+            n3: 0,
+            n4: 0,
+        },
+        flow,
+    }
+}
+
+/// The counts of a code.
+fn code_counts(code: &Code) -> Counts
+    requires reports { length code.now.reports ≤ 64 }
+    requires controls { length code.now.controls ≤ 64 }
+    requires events { length code.now.events ≤ 64 }
+    requires instrs { length code.now.instrs ≤ 256 }
+    ensures { result ≡ record { n1 = length code.now.reports; n2 = length code.now.controls; n3 = length code.now.events; n4 = length code.now.instrs } }
+{
+    Counts {
+        n1: code.reports.len() as u8,
+        n2: code.controls.len() as u8,
+        n3: code.events.len() as u16,
+        n4: code.instrs.len() as u16,
+    }
+}
+
+/// The head of a message's frame.
+fn head_of(message: &Message, version: Version) -> Outline
+    requires { Meets version message.now }
+    ensures head { result ≡ outline_of version (flow_of message.now) (body_of message.now) }
+    ensures typed { flow_of message.now < 2 ^ 32 }
+{
+    match message {
+        Message::Create { flow, .. } => outlined(FrameKind::Create, version, 0, *flow),
+        Message::Measure(report) => {
+            let fields = report.fields.len() as u8;
+            outlined(FrameKind::Measure, version, fields, report.flow)
+        }
+        Message::Install { flow, code, .. } => Outline {
+            kind: FrameKind::Install,
+            version,
+            counts: code_counts(code),
+            flow: *flow,
+        },
+        Message::Update { flow, values } => {
+            outlined(FrameKind::Update, version, values.len() as u8, *flow)
+        }
+        Message::Change { flow, values, .. } => {
+            outlined(FrameKind::Change, version, values.len() as u8, *flow)
+        }
+        Message::Fault(notice) => outlined(FrameKind::Fault, version, 0, notice.flow),
+        Message::Ack { flow, .. } => outlined(FrameKind::Ack, version, 0, *flow),
+        Message::Refused { flow, .. } => outlined(FrameKind::Refused, version, 0, *flow),
+    }
+}
+
+/// Puts the body of a message's frame after its head.
+fn put_body(out: &mut [u8], message: &Message, version: Version) -> usize
+    requires room { size_of (kind_of_body (body_of message.now)) version (counts_of (body_of message.now)) ≤ length out.old }
+    requires meets { Meets version message.now }
+    ensures wrote { Wrote 16 (body_bytes version (body_of message.now)) out.old out.new result }
+    ensures typed { IsTypedBody message.now }
+{
+    match message {
+        Message::Create { mss, cwnd, .. } => put_create(out, HEAD, *cwnd, *mss),
+        Message::Measure(report) => put_measure(out, HEAD, version, *report),
+        Message::Install { program, code, .. } => put_code(out, HEAD, *program, code),
+        Message::Update { values, .. } => put_values(out, HEAD, values),
+        Message::Change {
+            program,
+            values,
+            ..
+        } => put_change(out, HEAD, *program, values),
+        Message::Fault(notice) => put_fault(out, HEAD, version, *notice),
+        Message::Ack { ack, .. } => put_ack(out, HEAD, *ack),
+        Message::Refused { reason, index, .. } => put_refused(out, HEAD, *reason, *index),
+    }
+}
+
+/// Writes the message's one frame of this version at the front of `out`, and gives its length. Short exactly where
+/// `out` is shorter than that; then nothing is written. An Install's code has at most 64 reports, 64 controls, 64
+/// events and 256 instructions; controls that are written to have numbers below 64; a reason is 1 to 9. In version 1
+/// the numbers of acknowledgements are below 2^32, and there are at most 32 fields or reports.
+pub fn encode_into(message: &Message, version: Version, out: &mut [u8]) -> Result<usize, Short>
+    requires { Meets version message.now }
+    ensures ok { IfOk result (λ size. (size ≡ length (frame_bytes version message.now)) × (out.new ≡ over (frame_bytes version message.now) out.old)) }
+    ensures frame { IsFrameOf message.now version (frame_bytes version message.now) }
+    ensures typed { OnOk result (IsTyped message.now) }
+    ensures one_frame { OnOk result (HasOneFrame version message.now) }
+    ensures short { IfErr result (λ short. short ≡ record { 0 = length (frame_bytes version message.now) }) }
+    ensures only_short { IsErr result ↔ (length out.old < length (frame_bytes version message.now)) }
+    ensures unchanged { OnErr result (out.new ≡ out.old) }
+{
+    let head = head_of(message, version);
+    let size = frame_size(head.kind, head.version, head.counts) as usize;
+    if out.len() < size {
+        return Err(Short(size));
+    }
+    put_outline(out, head);
+    Ok(put_body(out, message, version))
+}

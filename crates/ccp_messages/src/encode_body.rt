@@ -1,0 +1,124 @@
+//! The bodies of frames, put at a place of bytes. Each call gives the place after what it put.
+
+ghost use Rattle.std.specs.Prelude.{◌≡◌, ◌+◌, ◌*◌, ◌^◌, ◌<◌, ◌≤◌, ◌∷◌, ◌++◌, length, take};
+ghost use Rattle.std.specs.Int.{w16, w32, w64, to_le_bytes};
+ghost use Rattle.ccp_base.specs.Acknowledgement.{number_of, primitives};
+ghost use Rattle.reply_frames.specs.Spelling.{values_bytes};
+ghost use Rattle.reply_frames.specs.FrameBytes.{count_width, count_bytes, numbers_bytes};
+ghost use Rattle.reply_frames.specs.Writing.{Wrote};
+ghost use Rattle.ccp_messages.specs.Messages.{IsShortCount, fault_number, AreTypedPairs, IsTypedReport, IsTypedNotice, IsTypedAck};
+
+use crate::writing::{flag, put_count, put_numbers, put8, put16, put32, put64};
+use ccp_base::{Ack, FaultKind, Fields, Notice, Report};
+use reply_frames::Version;
+
+/// Puts the body of a Create.
+pub fn put_create(out: &mut [u8], at: usize, cwnd: u64, mss: u32) -> usize
+    requires { at + 12 ≤ length out.old }
+    ensures wrote { Wrote at (to_le_bytes w64 cwnd ++ to_le_bytes w32 mss) out.old out.new result }
+    ensures typed { (mss < 2 ^ 32) × (cwnd < 2 ^ 64) }
+{
+    let end = put64(out, at, cwnd);
+    put32(out, end, mss)
+}
+
+/// Puts the body of a Measure.
+pub fn put_measure(out: &mut [u8], at: usize, version: Version, report: Report) -> usize
+    requires room { at + (32 + 2 * count_width version + 8 * length report.fields) ≤ length out.old }
+    requires first { IsShortCount version report.first }
+    requires end { IsShortCount version report.end }
+    ensures typed { IsTypedReport report }
+    ensures wrote { Wrote at (to_le_bytes w32 report.program ++ to_le_bytes w32 report.epoch ++ count_bytes version report.first ++ count_bytes version report.end ++ to_le_bytes w64 report.now ++ to_le_bytes w64 report.cwnd ++ to_le_bytes w64 report.rate ++ numbers_bytes report.fields) out.old out.new result }
+{
+    let end = put32(out, at, report.program);
+    let end = put32(out, end, report.epoch);
+    let end = put_count(out, end, version, report.first);
+    let end = put_count(out, end, version, report.end);
+    let end = put64(out, end, report.now);
+    let end = put64(out, end, report.cwnd);
+    let end = put64(out, end, report.rate);
+    put_numbers(out, end, report.fields.as_slice())
+}
+
+/// Puts values, which are all of an Update's body.
+pub fn put_values(out: &mut [u8], at: usize, values: &Fields) -> usize
+    requires { at + 10 * length values.now ≤ length out.old }
+    ensures wrote { Wrote at (values_bytes values.now) out.old out.new result }
+    ensures typed { AreTypedPairs values.now }
+{
+    reply_frames::encode::put_values(out, at, values);
+    at + 10 * values.len() as usize
+}
+
+/// Puts the body of a Change.
+pub fn put_change(out: &mut [u8], at: usize, program: u32, values: &Fields) -> usize
+    requires { at + (4 + 10 * length values.now) ≤ length out.old }
+    ensures wrote { Wrote at (to_le_bytes w32 program ++ values_bytes values.now) out.old out.new result }
+    ensures typed { (program < 2 ^ 32) × AreTypedPairs values.now }
+{
+    let end = put32(out, at, program);
+    put_values(out, end, values)
+}
+
+/// The number of a kind of fault.
+fn fault_number(kind: FaultKind) -> u8
+    ensures { result ≡ fault_number kind }
+{
+    match kind {
+        FaultKind::Overflow => 0,
+        FaultKind::Underflow => 1,
+        FaultKind::ZeroDivisor => 2,
+    }
+}
+
+/// Puts the body of a Fault.
+pub fn put_fault(out: &mut [u8], at: usize, version: Version, notice: Notice) -> usize
+    requires room { at + (27 + count_width version) ≤ length out.old }
+    requires at { IsShortCount version notice.at }
+    ensures typed { IsTypedNotice notice }
+    ensures wrote { Wrote at (to_le_bytes w32 notice.program ++ to_le_bytes w32 notice.epoch ++ count_bytes version notice.at ++ fault_number notice.kind ∷ to_le_bytes w16 notice.index ++ to_le_bytes w64 notice.now ++ to_le_bytes w64 notice.cwnd) out.old out.new result }
+{
+    let end = put32(out, at, notice.program);
+    let end = put32(out, end, notice.epoch);
+    let end = put_count(out, end, version, notice.at);
+    let end = put8(out, end, fault_number(notice.kind));
+    let end = put16(out, end, notice.index);
+    let end = put64(out, end, notice.now);
+    put64(out, end, notice.cwnd)
+}
+
+/// Puts the body of an Ack.
+pub fn put_ack(out: &mut [u8], at: usize, ack: Ack) -> usize
+    requires { at + 120 ≤ length out.old }
+    ensures typed { IsTypedAck ack }
+    ensures wrote { Wrote at (numbers_bytes (take 14 (primitives ack)) ++ to_le_bytes w64 (number_of ack.was_timeout)) out.old out.new result }
+{
+    let numbers = [
+        ack.bytes_acked,
+        ack.packets_acked,
+        ack.bytes_misordered,
+        ack.packets_misordered,
+        ack.ecn_bytes,
+        ack.ecn_packets,
+        ack.lost_pkts_sample,
+        ack.now,
+        ack.bytes_in_flight,
+        ack.packets_in_flight,
+        ack.bytes_pending,
+        ack.rate_incoming,
+        ack.rate_outgoing,
+        ack.rtt_sample_us,
+    ];
+    let end = put_numbers(out, at, &numbers);
+    put64(out, end, u64::from(flag(ack.was_timeout)))
+}
+
+/// Puts the body of a Refused.
+pub fn put_refused(out: &mut [u8], at: usize, reason: u8, index: u32) -> usize
+    requires { at + 5 ≤ length out.old }
+    ensures wrote { Wrote at (reason ∷ to_le_bytes w32 index) out.old out.new result }
+    ensures typed { index < 2 ^ 32 }
+{
+    let end = put8(out, at, reason);
+    put32(out, end, index)
+}
