@@ -6,8 +6,10 @@ use Rattle.scope_types.specs.declared.fault.ScopeFault.{ScopeFault}
 use Rattle.scope_types.specs.declared.fault.ScopeFault.TheVariants as scope
 use Rattle.scope_types.specs.declared.fault.What.{What}
 use Rattle.scope_types.specs.declared.fault.What.TheVariants.{Fields, Controls, Locals, Blocks}
-use Rattle.ccp_run.specs.declared.refusal.ProgramFault.{ProgramFault}
-use Rattle.ccp_run.specs.declared.refusal.ProgramFault.TheVariants as program
+use Rattle.reg_compiler.specs.declared.fault.CompileFault.{CompileFault}
+use Rattle.reg_compiler.specs.declared.fault.CompileFault.TheVariants as compile
+use Rattle.portus_build.specs.declared.fault.BuildFault.{BuildFault}
+use Rattle.portus_build.specs.declared.fault.BuildFault.TheVariants as build
 use Rattle.ccp_run.specs.declared.refusal.Refusal.{Refusal}
 use Rattle.ccp_run.specs.declared.refusal.Refusal.TheVariants.{TooLong, NoSeparator, Program, Line, TooManyAcks}
 use Rattle.ccp_run.specs.Text.{◌⧺◌}
@@ -58,20 +60,23 @@ scope_place (scope.Micros place) = Some place
 scope_place (scope.TooMany place what) = Some place
 scope_place scope.NoMemory = None
 
-abbrev pub fault_name : ProgramFault → List ℕ
-fault_name (program.Parse fault) = parse_name fault
-fault_name (program.Scope fault) = scope_name fault
-
-abbrev pub fault_place : ProgramFault → Option Place
-fault_place (program.Parse fault) = parse_place fault
-fault_place (program.Scope fault) = scope_place fault
-
 abbrev pub place_part : Option Place → List ℕ
 place_part None = []
 place_part (Some place) = codes " at " ⧺ decimal place.line ⧺ codes ":" ⧺ decimal place.column
 
-abbrev pub program_part : ProgramFault → List ℕ
-program_part fault = codes "program " ⧺ fault_name fault ⧺ place_part (fault_place fault) ⧺ codes "\n"
+abbrev pub compile_part : CompileFault → List ℕ
+compile_part (compile.TooDeep place) = codes "TooDeep at " ⧺ decimal place.line ⧺ codes ":" ⧺ decimal place.column
+compile_part (compile.CodeTooLong count) = codes "CodeTooLong " ⧺ decimal count
+compile_part compile.NoMemory = codes "NoMemory"
+
+abbrev pub fault_part : BuildFault → List ℕ
+fault_part (build.Parse fault) = parse_name fault ⧺ place_part (parse_place fault)
+fault_part (build.Scope fault) = scope_name fault ⧺ place_part (scope_place fault)
+fault_part (build.Compile fault) = compile_part fault
+fault_part build.NoMemory = codes "NoMemory"
+
+abbrev pub program_part : BuildFault → List ℕ
+program_part fault = codes "program " ⧺ fault_part fault ⧺ codes "\n"
 
 abbrev pub line_part : ℕ → List ℕ
 line_part number = codes "acknowledgement line " ⧺ decimal number ⧺ codes "\n"

@@ -7,6 +7,9 @@ pub mod ErrorLine
 pub mod Told
 pub mod Words
 pub mod Fold
+pub mod Ran
+pub mod CheckText
 pub mod Folding
 pub mod Input
+pub mod Output
 pub mod Run

@@ -4,7 +4,11 @@
 mod ack_line;
 mod acks;
 mod answer;
+mod asked;
 pub mod calls;
+mod check;
+#[cfg(test)]
+mod checked_programs;
 mod fold;
 mod mode;
 mod outcome;

@@ -1,26 +1,41 @@
-ghost use Rattle.std.specs.Prelude.{◌≡◌, map, string_bytes};
-ghost use Rattle.ccp_run.specs.Words.{mode_in};
+use std::str::FromStr;
 
 /// What the words ask for.
 #[derive(Clone, Copy, PartialEq, Eq, Debug)]
 pub enum Mode {
+    /// A program's summary and the listing of its code.
+    Check,
     /// A program over given acknowledgements.
     Fold,
 }
 
-/// The mode that the words ask for, the program's name first; None exactly where they aren't accepted.
-pub fn mode_of(words: &[String]) -> Option<Mode>
-    ensures { result ≡ mode_in (map string_bytes words.now) }
-{
-    match words {
-        [_, mode] if mode.as_str() == "fold" => Some(Mode::Fold),
-        _ => None,
+/// A name that no mode has.
+#[derive(Clone, Copy, PartialEq, Eq, Debug)]
+pub struct NoMode;
+
+impl FromStr for Mode {
+    ghost use Rattle.std.specs.Prelude.{◌≡◌};
+    ghost use Rattle.std.specs.Result.{result_ok};
+    ghost use Rattle.ccp_run.specs.Words.{mode_named};
+
+    type Err = NoMode;
+
+    ghost from_str_gives = { λ name mode. result_ok mode ≡ mode_named name };
+
+    fn from_str(name: &str) -> Result<Mode, NoMode> {
+        match name {
+            "check" => Ok(Mode::Check),
+            "fold" => Ok(Mode::Fold),
+            _ => Err(NoMode),
+        }
     }
 }
 
 /// A mode whose work is done by its caller alone.
 #[derive(Clone, Copy, PartialEq, Eq, Debug)]
 pub enum Alone {
+    /// A program's summary and the listing of its code.
+    Check,
     /// A program over given acknowledgements.
     Fold,
 }

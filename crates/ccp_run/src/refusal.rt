@@ -1,17 +1,12 @@
 ghost use Rattle.std.specs.Prelude.{◌≡◌, ◌++◌, Some, IfOk, OnOk};
-ghost use Rattle.ccp_run.specs.ErrorLine.{parse_name, parse_place, too_many_name, scope_name, scope_place, fault_name, fault_place, place_part, program_part, line_part, refusal_line};
+ghost use Rattle.ccp_run.specs.ErrorLine.{parse_name, parse_place, too_many_name, scope_name, scope_place, place_part, compile_part, fault_part, program_part, line_part, refusal_line};
 
 use ccp_base::{Bytes, NoMemory, Place};
+use portus_build::BuildFault;
 use portus_parser::ParseFault;
+use reg_compiler::CompileFault;
 use scope_types::{ScopeFault, What};
 use std::alloc::Global;
-
-/// Why a program's text is refused.
-#[derive(Clone, Copy, PartialEq, Eq, Debug)]
-pub enum ProgramFault {
-    Parse(ParseFault),
-    Scope(ScopeFault),
-}
 
 /// Why an input is refused.
 #[derive(Clone, Copy, PartialEq, Eq, Debug)]
@@ -20,7 +15,8 @@ pub enum Refusal {
     TooLong,
     /// No line is `---`.
     NoSeparator,
-    Program(ProgramFault),
+    /// The text of the program is built into no code.
+    Program(BuildFault),
     /// The line of this number is no acknowledgement.
     Line(u64),
     /// There are more than 65,536 acknowledgements.
@@ -51,13 +47,55 @@ fn put_line_fault(alloc: Global, line: &mut Bytes, number: u64) -> Result<(), No
     Ok(())
 }
 
-fn put_program_fault(alloc: Global, line: &mut Bytes, fault: ProgramFault) -> Result<(), NoMemory>
+fn put_program_fault(alloc: Global, line: &mut Bytes, fault: BuildFault) -> Result<(), NoMemory>
     ensures { OnOk result (line.new ≡ line.old ++ program_part fault) }
 {
     line.extend(b"program ")?;
-    line.extend(fault_name(fault).as_bytes())?;
-    put_place(alloc, line, fault_place(fault))?;
+    put_fault(alloc, line, fault)?;
     line.push(b'\n')?;
+    Ok(())
+}
+
+fn put_fault(alloc: Global, line: &mut Bytes, fault: BuildFault) -> Result<(), NoMemory>
+    ensures { OnOk result (line.new ≡ line.old ++ fault_part fault) }
+{
+    match fault {
+        BuildFault::Parse(fault) => {
+            line.extend(parse_name(fault).as_bytes())?;
+            put_place(alloc, line, parse_place(fault))
+        }
+        BuildFault::Scope(fault) => {
+            line.extend(scope_name(fault).as_bytes())?;
+            put_place(alloc, line, scope_place(fault))
+        }
+        BuildFault::Compile(fault) => put_compile_fault(alloc, line, fault),
+        BuildFault::NoMemory => Ok(line.extend(b"NoMemory")?),
+    }
+}
+
+fn put_compile_fault(alloc: Global, line: &mut Bytes, fault: CompileFault) -> Result<(), NoMemory>
+    ensures { OnOk result (line.new ≡ line.old ++ compile_part fault) }
+{
+    match fault {
+        CompileFault::TooDeep(place) => put_too_deep(alloc, line, place),
+        CompileFault::CodeTooLong(count) => put_count(alloc, line, count),
+        CompileFault::NoMemory => Ok(line.extend(b"NoMemory")?),
+    }
+}
+
+fn put_too_deep(alloc: Global, line: &mut Bytes, place: Place) -> Result<(), NoMemory>
+    ensures { OnOk result (line.new ≡ line.old ++ compile_part (CompileFault.TooDeep place)) }
+{
+    let part = format!(in alloc; "TooDeep at {}:{}", place.line, place.column)?;
+    line.extend(part.as_bytes())?;
+    Ok(())
+}
+
+fn put_count(alloc: Global, line: &mut Bytes, count: u64) -> Result<(), NoMemory>
+    ensures { OnOk result (line.new ≡ line.old ++ compile_part (CompileFault.CodeTooLong count)) }
+{
+    let part = format!(in alloc; "CodeTooLong {count}")?;
+    line.extend(part.as_bytes())?;
     Ok(())
 }
 
@@ -76,24 +114,6 @@ fn put_some_place(alloc: Global, line: &mut Bytes, place: Place) -> Result<(), N
     let part = format!(in alloc; " at {}:{}", place.line, place.column)?;
     line.extend(part.as_bytes())?;
     Ok(())
-}
-
-fn fault_name(fault: ProgramFault) -> &'static str
-    ensures { result.now ≡ fault_name fault }
-{
-    match fault {
-        ProgramFault::Parse(fault) => parse_name(fault),
-        ProgramFault::Scope(fault) => scope_name(fault),
-    }
-}
-
-fn fault_place(fault: ProgramFault) -> Option<Place>
-    ensures { result ≡ fault_place fault }
-{
-    match fault {
-        ProgramFault::Parse(fault) => parse_place(fault),
-        ProgramFault::Scope(fault) => scope_place(fault),
-    }
 }
 
 fn parse_name(fault: ParseFault) -> &'static str

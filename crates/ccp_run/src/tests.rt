@@ -1,4 +1,5 @@
 use crate::calls::alone;
+use crate::checked_programs::NEED_8;
 use crate::mode::Alone;
 use crate::top::run;
 use ccp_base::{FieldReg, Fields, MemSink, MemSource, OpenGate};
@@ -7,7 +8,9 @@ use portus_parser::parse;
 use scope_types::scope;
 use std::alloc::Global;
 use std::process::Abort;
+use std::sync::Wait;
 use std::test::Fail;
+use std::thread::Threads;
 
 /// An input of `fold`, and what the run comes to: its status, what was written, and the error line.
 #[derive(Drop)]
@@ -211,45 +214,82 @@ fn folds_are_written_and_refusals_told(rt: HostRuntime) {
     }
 }
 
+/// Asserts what a run comes to whose read of this number fails.
+fn read_fails(rt: &impl Abort, alloc: Global, mode: Alone, input: &str, call: u64) {
+    let failing = [call];
+    let mut source = MemSource::new(input.as_bytes(), 16, &failing);
+    let mut sink = MemSink::new(alloc, 16, &[]);
+    let mut errors = MemSink::new(alloc, 4096, &[]);
+    let outcome = alone(alloc, mode, &mut source, &mut sink, &mut errors);
+    assert_eq!(rt; outcome.status, 4, "read {call}");
+    assert_eq!(rt; sink.as_slice().len(), 0, "read {call}");
+    assert_eq!(rt;
+        errors.as_slice(),
+        b"ccp: read fault\n".as_slice(),
+        "read {call}"
+    );
+    assert_eq!(rt; outcome.programs.len(), 0, "read {call}");
+}
+
+/// Asserts what a run comes to whose write of this number fails, where this is the whole output.
+fn write_fails(rt: &impl Abort, alloc: Global, mode: Alone, input: &str, output: &[u8], call: u64) {
+    let failing = [call];
+    let mut source = MemSource::new(input.as_bytes(), 4096, &[]);
+    let mut sink = MemSink::new(alloc, 16, &failing);
+    let mut errors = MemSink::new(alloc, 4096, &[]);
+    let outcome = alone(alloc, mode, &mut source, &mut sink, &mut errors);
+    let written = output.len().min((call as usize).saturating_mul(16));
+    assert_eq!(rt; outcome.status, 5, "write {call}");
+    assert!(rt; output.starts_with(sink.as_slice()), "write {call}");
+    assert_eq!(rt; sink.as_slice().len(), written, "write {call}");
+    assert_eq!(rt;
+        errors.as_slice(),
+        b"ccp: write fault\n".as_slice(),
+        "write {call}"
+    );
+    assert_eq!(rt; outcome.programs.len(), 0, "write {call}");
+}
+
+/// Lets each read and each write of 16 bytes fail in turn.
+fn each_call_fails(rt: &impl Abort, alloc: Global, mode: Alone, input: &str) {
+    let mut source = MemSource::new(input.as_bytes(), 4096, &[]);
+    let mut sink = MemSink::new(alloc, 4096, &[]);
+    let mut errors = MemSink::new(alloc, 4096, &[]);
+    let outcome = alone(alloc, mode, &mut source, &mut sink, &mut errors);
+    assert_eq!(rt; outcome.status, 0);
+    for call in 0..=input.len().div_ceil(16) {
+        read_fails(rt, alloc, mode, input, call as u64);
+    }
+    for call in 0..sink.as_slice().len().div_ceil(16) {
+        write_fails(rt, alloc, mode, input, sink.as_slice(), call as u64);
+    }
+}
+
 #[test]
 fn each_read_and_each_write_fails(rt: HostRuntime) {
-    let calls: [u64; 12] = [0, 1, 2, 3, 4, 5, 6, 7, 8, 9, 10, 11];
-    for call in &calls {
-        let failing = [*call];
-        let mut source = MemSource::new(FIRST_REPORT.as_bytes(), 16, &failing);
-        let mut sink = MemSink::new(rt.alloc(), 16, &[]);
+    each_call_fails(&rt, rt.alloc(), Alone::Fold, FIRST_REPORT);
+    each_call_fails(&rt, rt.alloc(), Alone::Check, NEED_8);
+}
+
+#[test]
+fn instructions_are_counted(rt: HostRuntime) {
+    let rows: [(&str, u64); 4] = [
+        ("(def) (when true (report))\n---\nnow=1\nnow=2\n", 4),
+        ("(def) (when true (report))\n---\n", 0),
+        ("(def) (when false (report))\n---\nnow=1\nnow=2\nnow=3\n", 3),
+        (
+            "(def (Report (x 0))) (when true (:= Report.x (/ 1 0)) (report))\n---\nnow=1\nnow=2\n",
+            2,
+        ),
+    ];
+    for (input, ran) in rows {
+        let mut source = MemSource::new(input.as_bytes(), 4096, &[]);
+        let mut sink = MemSink::new(rt.alloc(), 4096, &[]);
         let mut errors = MemSink::new(rt.alloc(), 4096, &[]);
         let outcome = alone(rt.alloc(), Alone::Fold, &mut source, &mut sink, &mut errors);
-        assert_eq!(rt; outcome.status, 4, "read {call}");
-        assert_eq!(rt; sink.as_slice().len(), 0, "read {call}");
-        assert_eq!(rt;
-            errors.as_slice(),
-            b"ccp: read fault\n".as_slice(),
-            "read {call}"
-        );
-    }
-    for call in &calls[..8] {
-        let failing = [*call];
-        let mut source = MemSource::new(FIRST_REPORT.as_bytes(), 4096, &[]);
-        let mut sink = MemSink::new(rt.alloc(), 16, &failing);
-        let mut errors = MemSink::new(rt.alloc(), 4096, &[]);
-        let outcome = alone(rt.alloc(), Alone::Fold, &mut source, &mut sink, &mut errors);
-        let written = FIRST_OUTPUT
-            .as_bytes()
-            .iter()
-            .take(*call as usize * 16)
-            .count();
-        assert_eq!(rt; outcome.status, 5, "write {call}");
-        assert!(rt;
-            FIRST_OUTPUT.as_bytes().starts_with(sink.as_slice()),
-            "write {call}"
-        );
-        assert_eq!(rt; sink.as_slice().len(), written, "write {call}");
-        assert_eq!(rt;
-            errors.as_slice(),
-            b"ccp: write fault\n".as_slice(),
-            "write {call}"
-        );
+        assert_eq!(rt; outcome.status, 0, "status of {input}");
+        assert_eq!(rt; outcome.ran, ran, "{input}");
+        assert_eq!(rt; outcome.programs.len(), 1, "programs of {input}");
     }
 }
 
@@ -262,35 +302,97 @@ fn words(alloc: Global, given: &[&str]) -> Result<Vec<String>, Fail> {
     Ok(words)
 }
 
+/// The status of a run on these words, and whether it wrote the output of `fold`.
+fn ran_on<R: Threads + Wait + Sync>(
+    rt: &R,
+    alloc: Global,
+    given: &[&str],
+) -> Result<(u8, bool), Fail> {
+    let words = words(alloc, given)?;
+    let mut source = MemSource::new(FIRST_REPORT.as_bytes(), 4096, &[]);
+    let mut sink = MemSink::new(alloc, 4096, &[]);
+    let mut errors = MemSink::new(alloc, 4096, &[]);
+    let outcome = run(
+        rt,
+        alloc,
+        words,
+        &mut source,
+        &mut sink,
+        &mut errors,
+        &OpenGate,
+    );
+    Ok((outcome.status, sink.as_slice() == FIRST_OUTPUT.as_bytes()))
+}
+
 #[test]
-fn words_ask_for_a_mode(rt: HostRuntime) -> Result<(), Fail> {
-    let rows: [(&[&str], u8); 5] = [
-        (&["ccp", "fold"], 0),
-        (&[], 2),
-        (&["ccp"], 2),
-        (&["ccp", "bend"], 2),
-        (&["ccp", "fold", "fold"], 2),
+fn accepted_words_ask_for_a_mode(rt: HostRuntime) -> Result<(), Fail> {
+    let rows: [&[&str]; 11] = [
+        &["ccp", "fold"],
+        &["", "fold"],
+        &["ccp", "--number", "7", "fold", "--wire"],
+        &["ccp", "fold", "--workers=+4"],
+        &["ccp", "fold", "--workers", "04"],
+        &["ccp", "fold", "--workers=1", "--agents", "32"],
+        &["ccp", "--datapaths=32", "fold"],
+        &["ccp", "fold", "--number=0"],
+        &["ccp", "fold", "--number=4294967295"],
+        &["ccp", "--", "fold"],
+        &["ccp", "--wire", "--", "fold"],
     ];
-    for (given, status) in rows {
-        let words = words(rt.alloc(), given)?;
-        let mut source = MemSource::new(FIRST_REPORT.as_bytes(), 4096, &[]);
-        let mut sink = MemSink::new(rt.alloc(), 4096, &[]);
-        let mut errors = MemSink::new(rt.alloc(), 4096, &[]);
-        let outcome = run(
-            &rt,
-            rt.alloc(),
-            words,
-            &mut source,
-            &mut sink,
-            &mut errors,
-            &OpenGate,
-        );
-        assert_eq!(rt; outcome.status, status, "at {given:?}");
-        assert_eq!(rt;
-            sink.as_slice() == FIRST_OUTPUT.as_bytes(),
-            status == 0,
-            "at {given:?}"
-        );
+    for given in rows {
+        assert_eq!(rt; ran_on(&rt, rt.alloc(), given)?, (0, true), "at {given:?}");
+    }
+    assert_eq!(rt; ran_on(&rt, rt.alloc(), &["ccp", "check"])?, (3, false));
+    Ok(())
+}
+
+#[test]
+fn other_words_are_refused(rt: HostRuntime) -> Result<(), Fail> {
+    let rows: [&[&str]; 41] = [
+        &[],
+        &["ccp"],
+        &["ccp", "bend"],
+        &["ccp", "fol"],
+        &["ccp", "Fold"],
+        &["ccp", ""],
+        &["ccp", "-"],
+        &["ccp", "fold", "fold"],
+        &["ccp", "--workers", "33"],
+        &["ccp", "fold", "--workers", "33"],
+        &["ccp", "fold", "--workers", "0"],
+        &["ccp", "fold", "--datapaths=33"],
+        &["ccp", "fold", "--agents=33"],
+        &["ccp", "fold", "--workers=-4"],
+        &["ccp", "fold", "--workers", "-4"],
+        &["ccp", "fold", "--workers= 4"],
+        &["ccp", "fold", "--workers=4 "],
+        &["ccp", "fold", "--workers="],
+        &["ccp", "fold", "--workers", ""],
+        &["ccp", "fold", "--workers"],
+        &["ccp", "fold", "--workers=4.0"],
+        &["ccp", "fold", "--workers=0x4"],
+        &["ccp", "fold", "--workers=++4"],
+        &["ccp", "fold", "--number=-0"],
+        &["ccp", "fold", "--number=4294967296"],
+        &["ccp", "fold", "--number=18446744073709551616"],
+        &["ccp", "fold", "--workers=4", "--workers=4"],
+        &["ccp", "fold", "--wire", "--wire"],
+        &["ccp", "fold", "--wire=x"],
+        &["ccp", "fold", "--wir"],
+        &["ccp", "fold", "--work=4"],
+        &["ccp", "fold", "-w", "4"],
+        &["ccp", "fold", "--", "--wire"],
+        &["ccp", "--", "--wire", "fold"],
+        &["ccp", "fold", "--help"],
+        &["ccp", "fold", "--version"],
+        &["ccp", "fold", "-h"],
+        &["ccp", "fold", "-V"],
+        &["ccp", "--help"],
+        &["ccp", "help"],
+        &["ccp", "help", "fold"],
+    ];
+    for given in rows {
+        assert_eq!(rt; ran_on(&rt, rt.alloc(), given)?, (2, false), "at {given:?}");
     }
     Ok(())
 }
