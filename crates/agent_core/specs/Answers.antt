@@ -12,6 +12,9 @@ use Rattle.agent_core.specs.Agents.{replied, values_of}
 abbrev pub after_of : Ticket → Agent
 after_of ticket = (replied ticket.before ticket.told).0
 
+abbrev pub reply_of : Ticket → Reply
+reply_of ticket = (replied ticket.before ticket.told).1
+
 -- the frame of a reply: no bytes where nothing is replied
 abbrev pub frame_by : ℕ → Agent → Reply → List ℕ
 frame_by flow agent Nothing = []
@@ -20,9 +23,10 @@ frame_by flow agent (Change program cwnd cap) = change_bytes One flow program (v
 
 -- the frame that tells the datapath
 abbrev pub frame_of : Ticket → List ℕ
-frame_of ticket = frame_by ticket.flow ticket.before (replied ticket.before ticket.told).1
+frame_of ticket = frame_by ticket.flow ticket.before (reply_of ticket)
 
--- agent and frame are those of the ticket
-pub record IsAnswered (ticket : Ticket) (after : Agent) (frame : List ℕ) : Type 0 where
+-- agent, reply and frame are those of the ticket
+pub record IsAnswered (ticket : Ticket) (after : Agent) (reply : Reply) (frame : List ℕ) : Type 0 where
   pub agent : after_of ticket ≡ after
+  pub said : reply_of ticket ≡ reply
   pub bytes : frame_of ticket ≡ frame

@@ -1,8 +1,9 @@
-ghost use Rattle.std.specs.Prelude.{◌≡◌, ◌++◌, ◌+◌, ◌<◌, ◌≤◌, length};
+ghost use Rattle.std.specs.Prelude.{◌≡◌, ◌++◌, ◌+◌, ◌<◌, ◌≤◌, ◌↔◌, IsTrue, length};
 ghost use Rattle.agent_core.specs.Agents.{begun, replied, course_of, mss_of, cap_of, segment_of, window_pair, control_pair, values_of};
 ghost use Rattle.std.specs.Option.{ForSome};
 ghost use Rattle.reply_frames.specs.Spelling.{AreTargets};
 
+use crate::same::same_agent;
 use ccp_base::{Course, FieldReg, Fields, Reply, Told};
 use cubic_agent::Cubic;
 use reno_agent::Reno;
@@ -33,6 +34,13 @@ impl Agent {
             Agent::Reno(reno) => reno.reply(told),
             Agent::Cubic(cubic) => cubic.reply(told),
         }
+    }
+
+    /// Whether two agents are equal.
+    pub fn same(&self, other: &Agent) -> bool
+        ensures { IsTrue result ↔ (self.now ≡ other.now) }
+    {
+        same_agent(self, other)
     }
 
     /// The agent's programs, and how far it went with them.

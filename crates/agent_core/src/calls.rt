@@ -15,7 +15,7 @@ pub fn answer(ticket: Ticket) -> Answer
     let mut after = ticket.before;
     let reply = after.reply(&ticket.told);
     let frame = frame(ticket.flow, &ticket.before, &reply);
-    Answer::new(ticket, after, frame)
+    Answer::new(ticket, after, reply, frame)
 }
 
 /// The frame of a reply.

@@ -1,4 +1,7 @@
+ghost use Rattle.std.specs.Prelude.{◌≡◌, ◌↔◌, IsTrue};
+
 use crate::agent::Agent;
+use crate::same::{same_agent, same_told};
 use ccp_base::Told;
 
 /// What an agent is to be told: of which flow, the ticket's number there from 0, the agent before it, and what is
@@ -9,4 +12,19 @@ pub struct Ticket {
     pub number: u32,
     pub before: Agent,
     pub told: Told,
+}
+
+impl Ticket {
+    /// Whether two tickets are equal.
+    pub fn same(&self, other: &Ticket) -> bool
+        ensures { IsTrue result ↔ (self.now ≡ other.now) }
+    {
+        if self.flow != other.flow || self.number != other.number {
+            return false;
+        }
+        if !same_agent(&self.before, &other.before) {
+            return false;
+        }
+        same_told(&self.told, &other.told)
+    }
 }

@@ -1,11 +1,12 @@
-pub mod CheckedNumbers
 pub mod Acknowledgement
-pub mod InPlace
+pub mod CheckedNumbers
+pub mod Course
 pub mod FieldReg
+pub mod InPlace
+pub mod Limits
 pub mod Named
 pub mod Numerals
 pub mod Outside
-pub mod Saturating
-pub mod Reading
-pub mod Course
 pub mod Parts
+pub mod Reading
+pub mod Saturating

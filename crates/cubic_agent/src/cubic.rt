@@ -17,19 +17,19 @@ const MILLISECOND: u64 = 1000;
 /// The window, and what CUBIC keeps of a loss event for the growth after it. Windows are in thousandths of a
 /// segment.
 #[derive(Clone, Copy, PartialEq, Eq, Debug)]
-struct Growth {
+pub struct Growth {
     /// The RFC's cwnd.
-    window: u64,
+    pub window: u64,
     /// W_max: the window at the last loss event, less where it had shrunk since the one before.
-    w_max: u64,
+    pub w_max: u64,
     /// The RFC's cwnd_prior: the window at the last loss event.
-    w_prior: u64,
+    pub w_prior: u64,
     /// W_est: the window that Reno would have.
-    w_est: u64,
+    pub w_est: u64,
     /// K: the time from the epoch's start to W_max, in milliseconds.
-    k: u64,
+    pub k: u64,
     /// The RFC's epoch_start: when congestion avoidance began, in microseconds.
-    start: u64,
+    pub start: u64,
 }
 
 /// The state of a CUBIC agent. Windows are in thousandths of a segment where nothing else is said.
@@ -96,6 +96,27 @@ impl Cubic {
         ensures { result ≡ self.now.course }
     {
         self.course
+    }
+
+    /// The window and what is kept of the last loss event.
+    pub fn growth(&self) -> Growth
+        ensures { result ≡ record { window = self.now.window; w_max = self.now.w_max; w_prior = self.now.w_prior; w_est = self.now.w_est; k = self.now.k; start = self.now.start } }
+    {
+        self.growth
+    }
+
+    /// The slow start threshold, in bytes; 2^64-1 before the first loss.
+    pub fn ssthresh(&self) -> u64
+        ensures { result ≡ self.now.ssthresh }
+    {
+        self.ssthresh
+    }
+
+    /// Until when a loss or a mark belongs to the loss event that was answered last, in microseconds.
+    pub fn calm(&self) -> u64
+        ensures { result ≡ self.now.calm }
+    {
+        self.calm
     }
 
     /// The change that starts a flow: slow start from the initial window, without a cap.

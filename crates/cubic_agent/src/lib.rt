@@ -7,4 +7,4 @@ mod curve;
 mod tests;
 mod window;
 
-pub use cubic::Cubic;
+pub use cubic::{Cubic, Growth};

@@ -71,6 +71,27 @@ impl Reno {
         self.course
     }
 
+    /// The congestion window, in bytes.
+    pub fn window(&self) -> u64
+        ensures { result ≡ self.now.window }
+    {
+        self.window
+    }
+
+    /// The slow start threshold, in bytes; 2^64-1 before the first loss.
+    pub fn ssthresh(&self) -> u64
+        ensures { result ≡ self.now.ssthresh }
+    {
+        self.ssthresh
+    }
+
+    /// Until when a loss or a mark belongs to the loss event that was answered last, in microseconds.
+    pub fn calm(&self) -> u64
+        ensures { result ≡ self.now.calm }
+    {
+        self.calm
+    }
+
     /// The change that starts a flow: slow start from the initial window, without a cap.
     pub fn begin(&self) -> Reply
         ensures { result ≡ opening_of self.now.mss self.now.course }

@@ -1,0 +1,82 @@
+-- What a step of a flow makes of its state, where each fault's instruction becomes its place.
+use Rattle.std.specs.Prelude.{◌≡◌, ℕ, Option, Some, None, option_map, List, [], ◌∷◌, map, refl}
+use Rattle.ccp_base.specs.declared.ack.Ack.{Ack}
+use Rattle.ccp_base.specs.declared.arithmetic.FaultKind.{FaultKind}
+use Rattle.ccp_base.specs.declared.place.Place.{Place}
+use Rattle.ccp_base.specs.declared.exchange.Report.{Report}
+use Rattle.ccp_base.specs.declared.exchange.Notice.{Notice}
+use Rattle.ccp_base.specs.declared.exchange.Told.TheVariants.{Fault}
+use Rattle.portus_core.specs.declared.env.Env.{Env}
+use Rattle.portus_core.specs.Epoch.{Outcome, quiet, reported, held, failed, stopped, Track}
+use Rattle.portus_core.specs.Reports.{Epoch, reports_met}
+use Rattle.agent_core.specs.declared.agent.Agent.{Agent}
+use Rattle.agent_core.specs.declared.agent.Agent.TheVariants.{Reno, Cubic}
+use Rattle.agent_core.specs.Agents.{replied}
+use Rattle.flow_core.specs.Readings.{Flow}
+use Rattle.flow_core.specs.World.{Failure, World, failures_met, untold_after, held_met, taking, with_taken, after_take}
+use Rattle.flow_core.specs.Lift.{Placing, map_failure, map_world}
+use Rattle.flow_core.proofs.SimulatedEpochs.{outcome_placed, met_placed}
+
+-- ---- answers
+
+-- what an agent replies to a fault notice, and what it becomes, depends on the notice's epoch alone: neither on the
+-- instruction nor on the kind
+pub replied-site : (agent : Agent) (one other : Notice) → one.epoch ≡ other.epoch → replied agent (Fault one) ≡ replied agent (Fault other)
+replied-site (Reno state) one other same = λ i. replied (Reno state) (Fault (record one { epoch = same i }))
+replied-site (Cubic state) one other same = λ i. replied (Cubic state) (Fault (record one { epoch = same i }))
+
+-- the fault notice of a failure
+abbrev pub notice_of : {X : Type 0} → Flow X → Failure X → Notice
+notice_of flow failure = record {
+  flow = flow.number;
+  program = failure.program;
+  epoch = failure.epoch;
+  at = failure.at;
+  kind = failure.kind;
+  index = flow.index failure.site;
+  now = failure.now;
+  cwnd = failure.cwnd;
+}
+
+-- ---- placed parts
+
+-- without an acknowledgement, a placing changes nothing that is taken
+take-placed : (place : Placing) (w : World ℕ) (waiting : List Report) (untold : Option (Failure ℕ))
+    → map_world place (with_taken (taking waiting untold) w)
+    ≡ with_taken (taking waiting (option_map (map_failure place) untold)) (map_world place w)
+take-placed place w (report ∷ rest) untold = refl
+take-placed place w [] (Some failure) = refl
+take-placed place w [] None = refl
+
+pub take-lifts : (place : Placing) (w : World ℕ) → map_world place (after_take w) ≡ after_take (map_world place w)
+take-lifts place w = take-placed place w w.waiting w.untold
+
+pub failures-placed : (place : Placing) (program epoch at : ℕ) (ack : Ack) (outcome : Outcome (FaultKind × ℕ)) (env : Env)
+    → map (map_failure place) (failures_met program epoch at ack (outcome, env))
+    ≡ failures_met program epoch at ack (met_placed (place program) (outcome, env))
+failures-placed place program epoch at ack quiet env = refl
+failures-placed place program epoch at ack (reported fields) env = refl
+failures-placed place program epoch at ack held env = refl
+failures-placed place program epoch at ack (failed fault) env = refl
+failures-placed place program epoch at ack stopped env = refl
+
+pub reports-placed : (place : ℕ → Place) (epoch : Epoch) (track : Track) (ack : Ack) (outcome : Outcome (FaultKind × ℕ)) (env : Env)
+    → reports_met epoch track ack outcome env ≡ reports_met epoch track ack (outcome_placed place outcome) env
+reports-placed place epoch track ack quiet env = refl
+reports-placed place epoch track ack (reported fields) env = refl
+reports-placed place epoch track ack held env = refl
+reports-placed place epoch track ack (failed fault) env = refl
+reports-placed place epoch track ack stopped env = refl
+
+pub held-placed : (place : ℕ → Place) (outcome : Outcome (FaultKind × ℕ)) → held_met outcome ≡ held_met (outcome_placed place outcome)
+held-placed place quiet = refl
+held-placed place (reported fields) = refl
+held-placed place held = refl
+held-placed place (failed fault) = refl
+held-placed place stopped = refl
+
+pub untold-placed : (place : Placing) (failures : List (Failure ℕ)) (untold : Option (Failure ℕ))
+    → option_map (map_failure place) (untold_after failures untold)
+    ≡ untold_after (map (map_failure place) failures) (option_map (map_failure place) untold)
+untold-placed place [] untold = refl
+untold-placed place (failure ∷ rest) untold = refl

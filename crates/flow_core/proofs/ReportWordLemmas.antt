@@ -1,0 +1,42 @@
+-- What a slot holds once a report was written over its words.
+use Rattle.std.proofs.Common.{◌≡◌, ℕ, ◌+◌, ◌≤◌, List, [], ◌∷◌, ◌++◌, length, take, drop, replicate, slice_set, Option, Some, option_map, refl, ap, sym, ◌∙◌, append_assoc, arith, length-append, length-drop}
+use Rattle.std.proofs.Math.Seq.{set-append_seam, take-append_seam}
+use Rattle.std.proofs.lemmas.List.{append-nil, length-replicate}
+use Rattle.ccp_base.specs.declared.exchange.Report.{Report}
+use Rattle.flow_core.specs.Outbox.{report_head, report_words, IsInRange}
+use Rattle.flow_core.specs.ReportWords.{written_over}
+
+-- one word is written at the place after a front
+written_once : (front : List ℕ) (x : ℕ) (rest : List ℕ) (at word : ℕ) → at ≡ length front → slice_set (front ++ x ∷ rest) at word ≡ (front ++ word ∷ []) ++ rest
+written_once front x rest at word e =
+    ap (λ n. slice_set (front ++ x ∷ rest) n word) e
+    ∙ set-append_seam front x rest word
+    ∙ sym (append_assoc front (word ∷ []) rest)
+
+-- words that are written after a front follow it, and the words after them stay
+pub written_after : (words front rest : List ℕ) (at : ℕ) → at ≡ length front → length words ≤ length rest → written_over (Some (front ++ rest)) at words ≡ Some ((front ++ words) ++ drop (length words) rest)
+written_after [] front rest at e fits = ap (λ xs. Some (xs ++ rest)) (sym (append-nil front))
+written_after (word ∷ words) front [] at e fits = absurd (let no : ⊥ = omega arith in no)
+written_after (word ∷ words) front (x ∷ rest) at e fits =
+    ap (λ xs. written_over (Some xs) (at + 1) words) (written_once front x rest at word e)
+    ∙ written_after words (front ++ word ∷ []) rest (at + 1) (omega (arith, e, length-append front (word ∷ []))) (omega (arith, fits))
+    ∙ ap (λ xs. Some (xs ++ drop (length words) rest)) (append_assoc front (word ∷ []) words)
+
+-- a slot of zeros over which the head of a report and then its fields are written
+pub written_report : (size : ℕ) (report : Report) (head fields : List ℕ) (fresh headed written : Option (List ℕ)) → 80 ≤ size → IsInRange report → head ≡ report_head report → fields ≡ report.fields → fresh ≡ Some (replicate size 0) → headed ≡ written_over fresh 0 head → written ≡ written_over headed 9 fields → option_map (take (length (report_words report))) written ≡ Some (report_words report)
+written_report size report head fields fresh headed written large range head_is fields_is zeros first second =
+    let zeros_all : List ℕ = replicate size 0 in
+    let rest = drop 9 zeros_all in
+    let with_head : headed ≡ Some (report_head report ++ rest) =
+    first
+    ∙ ap (written_over fresh 0) head_is
+    ∙ ap (λ o. written_over o 0 (report_head report)) zeros
+    ∙ written_after (report_head report) [] zeros_all 0 refl (omega (arith, length-replicate {A = ℕ} size 0)) in
+    let room : length report.fields ≤ length rest = omega (arith, range.fields, length-drop 9 zeros_all, length-replicate {A = ℕ} size 0) in
+    let with_fields : written ≡ Some (report_words report ++ drop (length report.fields) rest) =
+    second
+    ∙ ap (written_over headed 9) fields_is
+    ∙ ap (λ o. written_over o 9 report.fields) with_head
+    ∙ written_after report.fields (report_head report) rest 9 refl room in
+    ap (option_map (take (length (report_words report)))) with_fields
+    ∙ ap Some (take-append_seam (report_words report) (drop (length report.fields) rest))

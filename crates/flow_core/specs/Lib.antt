@@ -1,0 +1,16 @@
+pub mod Readings
+pub mod World
+pub mod Cases
+pub mod Words
+pub mod Roomy
+pub mod Outbox
+pub mod OutboxLaws
+pub mod ReportWords
+pub mod Lift
+pub mod WordLaws
+pub mod Books
+pub mod Cores
+pub mod States
+pub mod Hearing
+pub mod Settling
+pub mod Cells

@@ -1,0 +1,26 @@
+-- How the words of a report are written and read.
+use Rattle.std.specs.Prelude.{ℕ, ◌+◌, ◌-◌, ◌^◌, min, List, [], ◌∷◌, take, drop, slice_index, slice_set, Option, option_map}
+use Rattle.ccp_base.specs.declared.exchange.Report.{Report}
+
+-- the words of a slot, with these written over them from a place on
+abbrev pub written_over : Option (List ℕ) → ℕ → List ℕ → Option (List ℕ)
+written_over held at [] = held
+written_over held at (word ∷ rest) = written_over (option_map (λ words. slice_set words at word) held) (at + 1) rest
+
+-- a number of 32 bits that a word holds
+abbrev pub narrow : ℕ → ℕ
+narrow word = min word (2 ^ 32 - 1)
+
+-- the report that words begin with
+abbrev pub report_in : List ℕ → Report
+report_in words = record {
+  flow = narrow (slice_index words 0);
+  program = narrow (slice_index words 1);
+  epoch = narrow (slice_index words 2);
+  first = slice_index words 3;
+  end = slice_index words 4;
+  now = slice_index words 5;
+  cwnd = slice_index words 6;
+  rate = slice_index words 7;
+  fields = take (min (slice_index words 8) 64) (drop 9 words);
+}

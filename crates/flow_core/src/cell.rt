@@ -1,0 +1,161 @@
+ghost use Rattle.std.specs.Prelude.{◌≡◌, ◌+◌, ◌-◌, ◌≤◌, ◌↔◌, ◌∷◌, [], ◌++◌, ℕ, true, Some, Err, slice_get, length, IsOk, IsErr, IfOk, IfErr, OnOk, OnErr};
+ghost use Rattle.flow_core.specs.World.{track_of, after_ack, after_take, after_answer};
+ghost use Rattle.flow_core.specs.Words.{is_still, legal, is_complete};
+ghost use Rattle.flow_core.specs.Books.{IsBookOf};
+ghost use Rattle.flow_core.specs.Cells.{flow_at, world_at, ack_at, acked_at, ran_at, out_at, out_number_at, IsComplete, IsLifted};
+
+use crate::book::Book;
+use crate::case::Case;
+use crate::cores::{Core, Ended, Stale, TakeFault};
+use crate::letter::Letter;
+use agent_core::{Answer, Ticket};
+use ccp_base::{Ack, NoMemory};
+use fold_machine::{Acked, Steps};
+use link_model::Link;
+use std::alloc::Global;
+use std::marker::Model;
+use std::sync::ledger::Ledger;
+
+/// One flow: it has its link, which gives it its acknowledgements.
+#[derive(Drop)]
+pub struct Cell {
+    core: Core,
+    link: Link,
+}
+
+impl Model for Cell {
+    ghost use Rattle.flow_core.specs.Cells.{CellState};
+
+    ghost Value = { CellState };
+
+    ghost use Rattle.flow_core.specs.Cells.{IsCell};
+
+    ghost view = { λ c. record { case = c.core.case; word = c.core.word } };
+
+    ghost invariant = { λ c. IsCell c.core c.link };
+}
+
+impl Cell {
+    /// A flow without a letter. The word, the acknowledgements, the outbox, the link's packets in flight and a place for
+    /// one fault per acknowledgement of the case are reserved here.
+    pub fn new(alloc: Global, case: Case) -> Result<Cell, NoMemory>
+        ensures { IfOk result (λ cell. cell ≡ record { case = case; word = [] }) }
+    {
+        let link = Link::new(alloc, case.link.copy(alloc)?)?;
+        let core = Core::new(alloc, case)?;
+        Ok(Cell { core, link })
+    }
+
+    /// Takes the link's next acknowledgement. Ended exactly where all acknowledgements are in; then nothing has changed.
+    /// `steps` counts the instructions that are run.
+    pub fn ack<L: Ledger>(&mut self, steps: &mut Steps<L>) -> Result<Acked, Ended>
+        ensures ended { IsErr result ↔ (self.old.case.acks ≤ length (world_at self.old).acks) }
+        ensures ok { OnOk result (self.new ≡ record self.old { word = self.old.word ++ Letter.A ∷ [] }) }
+        ensures world { OnOk result (world_at self.new ≡ after_ack (flow_at self.old) (ack_at self.old) (world_at self.old)) }
+        ensures acked { IfOk result (λ acked. acked ≡ acked_at self.old) }
+        ensures steps { OnOk result (steps.new ≡ steps.old + ran_at self.old) }
+        ensures unchanged { OnErr result (self.new ≡ self.old) }
+        ensures idle { OnErr result (steps.new ≡ steps.old) }
+    {
+        if self.core.acks() >= self.core.case().acks {
+            return Err(Ended);
+        }
+        let window = self.core.cwnd();
+        let ack = self.link.next(window);
+        let Ok(acked) = self.core.ack(&ack, steps) else {
+            unreachable!()
+        };
+        Ok(acked)
+    }
+
+    /// Takes the oldest report, or else the untold fault notice, as a ticket. NotYet exactly where no ticket is out and
+    /// nothing can be taken, Out exactly where that ticket is out; nothing has changed then, nor for want of memory.
+    /// What the answer's settling needs is reserved here.
+    pub fn take(&mut self) -> Result<Ticket, TakeFault>
+        ensures not_yet { (result ≡ Err TakeFault.NotYet) ↔ (is_still (world_at self.old) ≡ true) }
+        ensures out { (n : ℕ) → (result ≡ Err (TakeFault.Out n)) ↔ (out_number_at self.old ≡ Some n) }
+        ensures ok { OnOk result (self.new ≡ record self.old { word = self.old.word ++ Letter.T ∷ [] }) }
+        ensures world { OnOk result (world_at self.new ≡ after_take (world_at self.old)) }
+        ensures ticket { IfOk result (λ ticket. out_at self.new ≡ Some ticket) }
+        ensures unchanged { OnErr result (self.new ≡ self.old) }
+    {
+        self.core.take()
+    }
+
+    /// Applies the answer to the ticket that is out. Stale exactly where the answer's ticket isn't that one; then nothing
+    /// has changed.
+    pub fn settle(&mut self, answer: Answer) -> Result<(), Stale>
+        ensures settled { IsOk result ↔ (out_at self.old ≡ Some answer) }
+        ensures ok { OnOk result (self.new ≡ record self.old { word = self.old.word ++ Letter.C ∷ [] }) }
+        ensures world { OnOk result (world_at self.new ≡ after_answer (flow_at self.old) (world_at self.old)) }
+        ensures stale { IfErr result (λ stale. (stale.answer ≡ answer) × (stale.out ≡ out_number_at self.old)) }
+        ensures unchanged { OnErr result (self.new ≡ self.old) }
+    {
+        self.core.settle(answer)
+    }
+
+    /// Whether all acknowledgements are in, nothing can be taken and no ticket is out.
+    pub fn is_complete(&self) -> bool
+        ensures { result ≡ is_complete (flow_at self.now) (world_at self.now) }
+    {
+        if self.core.acks() < self.core.case().acks {
+            return false;
+        }
+        self.core.is_still()
+    }
+
+    /// How many acknowledgements are in.
+    pub fn acks(&self) -> u32
+        ensures { result ≡ length (world_at self.now).acks }
+    {
+        self.core.acks()
+    }
+
+    /// How many reports wait.
+    pub fn waiting(&self) -> u32
+        ensures { result ≡ length (world_at self.now).waiting }
+    {
+        self.core.waiting()
+    }
+
+    /// The flow's case. For all programs that its codes simulate, the flow's state is the one over these sources.
+    pub fn case(&self) -> &Case
+        ensures case { result.now ≡ self.now.case }
+        ensures lifted { IsLifted self.now }
+    {
+        self.core.case()
+    }
+
+    /// The present congestion window, in bytes.
+    pub fn cwnd(&self) -> u64
+        ensures { result ≡ (track_of (flow_at self.now) (world_at self.now)).env.cwnd }
+    {
+        self.core.cwnd()
+    }
+
+    /// The last acknowledgement, None exactly where there is none.
+    pub fn last(&self) -> Option<Ack>
+        ensures { result ≡ slice_get (world_at self.now).acks (length (world_at self.now).acks - 1) }
+    {
+        self.core.last()
+    }
+
+    /// The ticket that is out, None exactly where none is.
+    pub fn out(&self) -> Option<Ticket>
+        ensures { result ≡ out_at self.now }
+    {
+        self.core.out()
+    }
+
+    /// What the history came to. The word must be complete.
+    pub fn finish(self) -> Book
+        requires { IsComplete self }
+        ensures case { result.case ≡ self.case }
+        ensures word { result.word ≡ self.word }
+        ensures legal { legal (flow_at self) self.case.link self.word ≡ true }
+        ensures book { IsBookOf (flow_at self) (world_at self) result }
+        ensures lifted { IsLifted self }
+    {
+        self.core.finish().book
+    }
+}

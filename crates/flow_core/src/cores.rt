@@ -1,0 +1,211 @@
+ghost use Rattle.std.specs.Prelude.{◌≡◌, ◌+◌, ◌-◌, ◌≤◌, ◌↔◌, ◌∷◌, [], ◌++◌, ℕ, true, Some, option_map, slice_get, length, Err, IsOk, IsErr, IfOk, IfErr, OnOk, OnErr};
+ghost use Rattle.flow_core.specs.World.{opening, track_of, after_ack, after_take, after_answer};
+ghost use Rattle.flow_core.specs.Words.{is_still, legal_over};
+ghost use Rattle.flow_core.specs.Books.{IsBookOf};
+ghost use Rattle.flow_core.specs.Cores.{flow_in, world_in, acked_in, ran_in, out_in, out_number};
+
+use crate::book::{Book, Given};
+use crate::case::Case;
+use crate::letter::Letter;
+use crate::state::State;
+use agent_core::{Answer, Ticket};
+use ccp_base::{Ack, NoMemory};
+use fold_machine::{Acked, Steps};
+use std::alloc::{AllocError, Global};
+use std::marker::Model;
+use std::sync::ledger::Ledger;
+
+/// All acknowledgements of the case are in.
+#[derive(Clone, Copy, PartialEq, Eq, Debug)]
+pub struct Ended;
+
+/// Why no ticket is taken.
+#[derive(Clone, Copy, PartialEq, Eq, Debug)]
+pub enum TakeFault {
+    /// No ticket is out, no report waits and no notice is untold.
+    NotYet,
+    /// The ticket with this number is out.
+    Out(u32),
+    NoMemory,
+}
+
+impl From<NoMemory> for TakeFault {
+    ghost use Rattle.flow_core.specs.declared.cores.TakeFault.TheVariants.{NoMemory};
+
+    ghost from_gives = { λ _ e. e ≡ NoMemory };
+
+    fn from(_e: NoMemory) -> Self {
+        TakeFault::NoMemory
+    }
+}
+
+/// The answer's ticket isn't the one that is out. The answer is handed back, with the number of the ticket that is
+/// out, if one is.
+#[derive(Debug, Drop)]
+pub struct Stale {
+    pub answer: Answer,
+    pub out: Option<u32>,
+}
+
+/// A flow without its link: it is given each acknowledgement.
+#[derive(Drop)]
+pub struct Core {
+    state: State,
+}
+
+impl Model for Core {
+    ghost use Rattle.flow_core.specs.Cores.{CoreState};
+
+    ghost Value = { CoreState };
+
+    ghost use Rattle.flow_core.specs.States.{IsCore};
+
+    ghost view = { λ c. record { case = c.state.case; acks = c.state.acks.items; word = c.state.word.items } };
+
+    ghost invariant = { λ c. IsCore c.state };
+}
+
+impl Core {
+    /// A flow without a letter. The word, the acknowledgements, the outbox and a place for one fault per
+    /// acknowledgement of the case are reserved here.
+    pub fn new(alloc: Global, case: Case) -> Result<Core, NoMemory>
+        ensures { IfOk result (λ core. core ≡ record { case = case; acks = []; word = [] }) }
+    {
+        let state = State::open(alloc, case)?;
+        Ok(Core { state })
+    }
+
+    /// Takes an acknowledgement. Ended exactly where all of the case's acknowledgements are in; then nothing has
+    /// changed. `steps` counts the instructions that are run.
+    pub fn ack<L: Ledger>(&mut self, ack: &Ack, steps: &mut Steps<L>) -> Result<Acked, Ended>
+        ensures ended { IsErr result ↔ (self.old.case.acks ≤ length self.old.acks) }
+        ensures ok { OnOk result (self.new ≡ record self.old { acks = self.old.acks ++ ack.entry.now ∷ []; word = self.old.word ++ Letter.A ∷ [] }) }
+        ensures world { OnOk result (world_in self.new ≡ after_ack (flow_in self.old) ack.entry.now (world_in self.old)) }
+        ensures acked { IfOk result (λ acked. acked ≡ acked_in self.old ack.entry.now) }
+        ensures steps { OnOk result (steps.new ≡ steps.old + ran_in self.old ack.entry.now) }
+        ensures unchanged { OnErr result (self.new ≡ self.old) }
+        ensures idle { OnErr result (steps.new ≡ steps.old) }
+    {
+        if self.state.acks.len() >= self.state.case.acks as usize {
+            return Err(Ended);
+        }
+        let acked = self.state.hear(ack, steps);
+        self.state.word.push(Letter::A);
+        Ok(acked)
+    }
+
+    /// Takes the oldest report, or else the untold fault notice, as a ticket. NotYet exactly where no ticket is out and
+    /// nothing can be taken, Out exactly where that ticket is out; nothing has changed then, nor for want of memory.
+    /// What the answer's settling needs is reserved here.
+    pub fn take(&mut self) -> Result<Ticket, TakeFault>
+        ensures not_yet { (result ≡ Err TakeFault.NotYet) ↔ (is_still (world_in self.old) ≡ true) }
+        ensures out { (n : ℕ) → (result ≡ Err (TakeFault.Out n)) ↔ (out_number self.old ≡ Some n) }
+        ensures ok { OnOk result (self.new ≡ record self.old { word = self.old.word ++ Letter.T ∷ [] }) }
+        ensures world { OnOk result (world_in self.new ≡ after_take (world_in self.old)) }
+        ensures ticket { IfOk result (λ ticket. out_in self.new ≡ Some ticket) }
+        ensures unchanged { OnErr result (self.new ≡ self.old) }
+    {
+        if let Some(ticket) = self.out() {
+            return Err(TakeFault::Out(ticket.number));
+        }
+        if !self.state.can_take() {
+            return Err(TakeFault::NotYet);
+        }
+        Ok(self.state.take()?)
+    }
+
+    /// Applies the answer to the ticket that is out. Stale exactly where the answer's ticket isn't that one; then nothing
+    /// has changed.
+    pub fn settle(&mut self, answer: Answer) -> Result<(), Stale>
+        ensures settled { IsOk result ↔ (out_in self.old ≡ Some answer) }
+        ensures ok { OnOk result (self.new ≡ record self.old { word = self.old.word ++ Letter.C ∷ [] }) }
+        ensures world { OnOk result (world_in self.new ≡ after_answer (flow_in self.old) (world_in self.old)) }
+        ensures stale { IfErr result (λ stale. (stale.answer ≡ answer) × (stale.out ≡ out_number self.old)) }
+        ensures unchanged { OnErr result (self.new ≡ self.old) }
+    {
+        let Some(ticket) = self.out() else {
+            return Err(Stale { answer, out: None });
+        };
+        if !ticket.same(answer.ticket()) {
+            let out = Some(ticket.number);
+            return Err(Stale { answer, out });
+        }
+        self.state.settle(&answer);
+        Ok(())
+    }
+
+    /// The ticket that is out, None exactly where none is.
+    pub fn out(&self) -> Option<Ticket>
+        ensures { result ≡ out_in self.now }
+    {
+        let issued = self.state.out.as_ref()?;
+        Some(self.state.ticket(&issued.told))
+    }
+
+    /// The present congestion window, in bytes.
+    pub fn cwnd(&self) -> u64
+        ensures { result ≡ (track_of (flow_in self.now) (world_in self.now)).env.cwnd }
+    {
+        self.state.machine.cwnd()
+    }
+
+    /// How many acknowledgements are in.
+    pub fn acks(&self) -> u32
+        ensures { result ≡ length self.now.acks }
+    {
+        self.state.acks.len() as u32
+    }
+
+    /// The last acknowledgement, None exactly where there is none.
+    pub fn last(&self) -> Option<Ack>
+        ensures { result ≡ slice_get self.now.acks (length self.now.acks - 1) }
+    {
+        self.state.acks.last().copied()
+    }
+
+    /// How many reports wait.
+    pub fn waiting(&self) -> u32
+        ensures { result ≡ length (world_in self.now).waiting }
+    {
+        self.state.outbox.waiting()
+    }
+
+    /// Whether no ticket is out and nothing can be taken.
+    pub fn is_still(&self) -> bool
+        ensures { result ≡ is_still (world_in self.now) }
+    {
+        self.state.out.is_none() && !self.state.can_take()
+    }
+
+    /// The flow's case.
+    pub fn case(&self) -> &Case
+        ensures { result.now ≡ self.now.case }
+    {
+        &self.state.case
+    }
+
+    /// What the history came to. No ticket may be out, and nothing may be left to take.
+    pub fn finish(self) -> Given
+        requires { is_still (world_in self) ≡ true }
+        ensures case { result.book.case ≡ self.case }
+        ensures word { result.book.word ≡ self.word }
+        ensures acks { result.acks ≡ self.acks }
+        ensures legal { legal_over (flow_in self) self.acks self.word ≡ true }
+        ensures book { IsBookOf (flow_in self) (world_in self) result.book }
+    {
+        let state = self.state;
+        Given {
+            book: Book {
+                case: state.case,
+                word: state.word.into_sequence(),
+                tickets: state.tickets.into_sequence(),
+                epochs: state.epochs.into_sequence(),
+                faults: state.faults.into_sequence(),
+                held: state.held,
+                first: state.first,
+                machine: state.machine,
+            },
+            acks: state.acks.into_sequence(),
+        }
+    }
+}

@@ -1,0 +1,138 @@
+//! An acknowledgement: it is run, and what comes of it is put down.
+ghost use Rattle.std.specs.Prelude.{◌≡◌, ◌+◌, ◌-◌, ◌<◌, ◌≤◌, length, ◌∷◌, [], ◌++◌};
+ghost use Rattle.portus_core.specs.Epoch.{heard, stops, reported, failed};
+ghost use Rattle.fold_machine.specs.MachineState.{Fits};
+ghost use Rattle.slot_pool.specs.Pool.{free_of};
+ghost use Rattle.flow_core.specs.Readings.{by_code, env_of};
+ghost use Rattle.flow_core.specs.Cores.{ran_by, met_in, acked_as, ran_met};
+ghost use Rattle.flow_core.specs.World.{after_ack};
+ghost use Rattle.flow_core.specs.Outbox.{AreOwned, Lies};
+ghost use Rattle.flow_core.specs.States.{outcome_by, flow_of, world_of, Keeps, IsReady, IsCore};
+ghost use Rattle.flow_core.specs.Hearing.{epoch_of, CanHear, PutDown};
+
+use crate::outbox::Outbox;
+use crate::state::State;
+use ccp_base::{Ack, FaultKind, Notice, Report};
+use fold_machine::{Acked, Machine, Steps};
+use reg_code::Checked;
+use std::sync::ledger::Ledger;
+
+/// Runs an acknowledgement on the machine.
+pub(crate) fn run<L: Ledger>(
+    machine: &mut Machine,
+    code: &Checked,
+    ack: &Ack,
+    room: bool,
+    steps: &mut Steps<L>,
+) -> Acked
+    requires { Fits machine.old code.now.code }
+    ensures met { heard (by_code code.now.code) machine.old.is_stopped (env_of machine.old.kept) ack.entry.now room ≡ (outcome_by result machine.new.report, env_of machine.new.kept) }
+    ensures stopped { machine.new.is_stopped ≡ stops (outcome_by result machine.new.report) }
+    ensures further { machine.new.further ≡ machine.old.further }
+    ensures fits { Fits machine.new code.now.code }
+    ensures steps { steps.new ≡ steps.old + ran_by machine.old.is_stopped code.now.code (env_of machine.old.kept) ack.entry.now room }
+{
+    machine.ack(code, ack, room, steps)
+}
+
+/// Puts a report at the outbox's end, into one of the machine's further slots.
+pub(crate) fn put_report(machine: &mut Machine, outbox: &mut Outbox, report: &Report)
+    requires room { length outbox.old.slots < outbox.old.size }
+    requires free { 0 < free_of machine.old.further }
+    requires words { machine.old.further.words ≡ 160 }
+    requires owned { AreOwned machine.old.further outbox.old.slots }
+    ensures machine { machine.new ≡ record machine.old { further = machine.new.further } }
+    ensures words { machine.new.further.words ≡ 160 }
+    ensures free { free_of machine.new.further + length outbox.new.slots ≡ free_of machine.old.further + length outbox.old.slots }
+    ensures lies { (reports : _) → Lies machine.old.further outbox.old.slots reports → Lies machine.new.further outbox.new.slots (reports ++ report.entry.now ∷ []) }
+    ensures untold { outbox.new.untold ≡ outbox.old.untold }
+    ensures size { outbox.new.size ≡ outbox.old.size }
+{
+    outbox.push(machine, report);
+}
+
+impl State {
+    /// Takes an acknowledgement: it is run, what it comes to is put down, and it is the last one of the list.
+    pub(crate) fn hear<L: Ledger>(&mut self, ack: &Ack, steps: &mut Steps<L>) -> Acked
+        requires core { IsCore self.old }
+        requires left { length self.old.acks.items < self.old.case.acks }
+        ensures keeps { Keeps self.new (after_ack (flow_of self.old) ack.entry.now (world_of self.old)) }
+        ensures ready { IsReady self.new }
+        ensures frame { self.new ≡ record self.old { machine = self.new.machine; outbox = self.new.outbox; first = self.new.first; faults = self.new.faults; held = self.new.held; acks = self.new.acks } }
+        ensures acks { self.new.acks.items ≡ self.old.acks.items ++ ack.entry.now ∷ [] }
+        ensures acked { result ≡ acked_as (met_in (flow_of self.old) (world_of self.old) ack.entry.now).0 }
+        ensures steps { steps.new ≡ steps.old + ran_met self.old.case (world_of self.old) ack.entry.now }
+    {
+        let room = self.outbox.room();
+        let code = self.case.code(self.program);
+        let acked = run(&mut self.machine, code, ack, room, steps);
+        self.put_down(ack, acked);
+        self.acks.push(*ack);
+        acked
+    }
+
+    /// The present epoch's number.
+    fn epoch(&self) -> u32
+        requires some { 1 ≤ length self.now.epochs.items }
+        requires most { length self.now.epochs.items ≤ 65537 }
+        ensures { result ≡ epoch_of self.now }
+    {
+        (self.epochs.len() - 1) as u32
+    }
+
+    /// Puts down what an acknowledgement came to, by the machine's answer.
+    fn put_down(&mut self, ack: &Ack, acked: Acked)
+        requires can { CanHear self.old }
+        requires room { acked ≡ Acked.Reported → (length self.old.outbox.slots < self.old.outbox.size) × (0 < free_of self.old.machine.further) }
+        ensures { PutDown self.old self.new ack.entry.now (outcome_by acked self.old.machine.report, env_of self.old.machine.kept) }
+    {
+        match acked {
+            Acked::Quiet | Acked::Stopped => {}
+            Acked::Reported => self.put_down_report(ack),
+            Acked::Held => self.held += 1,
+            Acked::Faulted(kind, index) => self.put_down_fault(ack, kind, index),
+        }
+    }
+
+    /// Puts down the report that the machine made.
+    fn put_down_report(&mut self, ack: &Ack)
+        requires can { CanHear self.old }
+        requires room { length self.old.outbox.slots < self.old.outbox.size }
+        requires free { 0 < free_of self.old.machine.further }
+        ensures { PutDown self.old self.new ack.entry.now (reported self.old.machine.report, env_of self.old.machine.kept) }
+    {
+        let end = self.acks.len() as u64 + 1;
+        let report = Report {
+            flow: self.case.flow,
+            program: self.program,
+            epoch: self.epoch(),
+            first: self.first,
+            end,
+            now: ack.now,
+            cwnd: self.machine.cwnd(),
+            rate: self.machine.rate(),
+            fields: self.machine.reported(),
+        };
+        put_report(&mut self.machine, &mut self.outbox, &report);
+        self.first = end;
+    }
+
+    /// Puts down a fault of this kind at the instruction with this index.
+    fn put_down_fault(&mut self, ack: &Ack, kind: FaultKind, index: u16)
+        requires { CanHear self.old }
+        ensures { PutDown self.old self.new ack.entry.now (failed (kind, index), env_of self.old.machine.kept) }
+    {
+        let notice = Notice {
+            flow: self.case.flow,
+            program: self.program,
+            epoch: self.epoch(),
+            at: self.acks.len() as u64,
+            kind,
+            index,
+            now: ack.now,
+            cwnd: self.machine.cwnd(),
+        };
+        self.faults.push(notice);
+        self.outbox.note(notice);
+    }
+}

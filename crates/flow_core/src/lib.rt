@@ -1,0 +1,29 @@
+//! One flow: its programs' machine, its outbox, its agent and its link, and its history as a word of letters.
+#![tactic(auto)]
+
+mod book;
+mod case;
+mod cell;
+mod cores;
+#[cfg(test)]
+mod flow_tests;
+mod hearing;
+mod letter;
+mod opening;
+mod outbox;
+mod report_words;
+mod roomy;
+mod settling;
+mod state;
+mod taking;
+#[cfg(test)]
+mod tests;
+
+pub use book::{Book, EpochLine, Given, TicketLine};
+pub use case::{Case, Coded};
+pub use cell::Cell;
+pub use cores::{Core, Ended, Stale, TakeFault};
+pub use letter::{Letter, Words};
+pub use outbox::Outbox;
+pub use report_words::REPORT_WORDS;
+pub use roomy::Roomy;

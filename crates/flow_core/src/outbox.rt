@@ -1,0 +1,127 @@
+ghost use Rattle.std.specs.Prelude.{◌≡◌, ◌+◌, ◌<◌, ◌≤◌, ◌↔◌, nat_lt, List, [], ◌∷◌, ◌++◌, length, drop, None, Some, IsNone, IsTrue, IfOk};
+ghost use Rattle.ccp_base.specs.declared.exchange.Report.{Report};
+ghost use Rattle.slot_pool.specs.Pool.{words_at, free_of, ChangesSlot};
+ghost use Rattle.flow_core.specs.Outbox.{empty_outbox, AreOwned, Lies, newest, GivesFirst, next_told, untold_after};
+
+use crate::report_words::{REPORT_WORDS, store, unload};
+use ccp_base::{NoMemory, Notice, Report, Told};
+use circular_buffer::HeapCircularBuffer;
+use slot_pool::{Slot, Slots};
+use std::alloc::Global;
+use std::marker::Model;
+
+/// The reports of a flow that wait, each in a slot of its own, and a fault notice that is untold, or none. The slots
+/// are lent for each call that writes or reads one.
+#[derive(Drop)]
+pub struct Outbox {
+    waiting: HeapCircularBuffer<Slot>,
+    untold: Option<Notice>,
+}
+
+impl Model for Outbox {
+    ghost use Rattle.std.specs.Prelude.{◌≤◌};
+    ghost use Rattle.flow_core.specs.Outbox.{OutboxState};
+
+    ghost Value = { OutboxState };
+
+    ghost view = { λ o. record { slots = o.waiting.items; untold = o.untold; size = o.waiting.capacity } };
+
+    ghost invariant = { λ o. o.waiting.capacity ≤ 64 };
+}
+
+impl Outbox {
+    /// An empty outbox with room for so many reports, 1 to 64.
+    pub fn new(alloc: Global, slots: u32) -> Result<Outbox, NoMemory>
+        requires { (1 ≤ slots) × (slots ≤ 64) }
+        ensures { IfOk result (λ outbox. outbox ≡ empty_outbox slots) }
+    {
+        let waiting = HeapCircularBuffer::with_capacity(alloc, slots as usize)?;
+        Ok(Outbox {
+            waiting,
+            untold: None,
+        })
+    }
+
+    /// Whether fewer reports wait than there may.
+    pub fn room(&self) -> bool
+        ensures { result ≡ nat_lt (length self.now.slots) self.now.size }
+    {
+        self.waiting.len() < self.waiting.capacity()
+    }
+
+    /// How many reports wait.
+    pub fn waiting(&self) -> u32
+        ensures waiting { result ≡ length self.now.slots }
+        ensures within { length self.now.slots ≤ self.now.size }
+    {
+        self.waiting.len() as u32
+    }
+
+    /// Whether no report waits and no notice is untold.
+    pub fn is_empty(&self) -> bool
+        ensures { IsTrue result ↔ ((self.now.slots ≡ []) × (self.now.untold ≡ None)) }
+    {
+        self.waiting.is_empty() && self.untold.is_none()
+    }
+
+    /// Puts a report at the end, into a slot that it takes. There must be room, and a free slot.
+    pub fn push<P: Slots>(&mut self, slots: &mut P, report: &Report)
+        requires room { length self.old.slots < self.old.size }
+        requires free { 0 < free_of (P.pool slots.old) }
+        requires words { REPORT_WORDS ≤ (P.pool slots.old).words }
+        requires owned { AreOwned (P.pool slots.old) self.old.slots }
+        ensures slots { self.new.slots ≡ self.old.slots ++ newest self.new.slots ∷ [] }
+        ensures was_free { words_at (P.pool slots.old) (newest self.new.slots) ≡ None }
+        ensures owned { AreOwned (P.pool slots.new) self.new.slots }
+        ensures lies { (reports : List Report) → Lies (P.pool slots.old) self.old.slots reports → Lies (P.pool slots.new) self.new.slots (reports ++ report.entry.now ∷ []) }
+        ensures others { ChangesSlot (P.pool slots.old) (P.pool slots.new) (newest self.new.slots) (words_at (P.pool slots.new) (newest self.new.slots)) }
+        ensures counted { free_of (P.pool slots.new) + length self.new.slots ≡ free_of (P.pool slots.old) + length self.old.slots }
+        ensures number { (P.pool slots.new).slots ≡ (P.pool slots.old).slots }
+        ensures words { (P.pool slots.new).words ≡ (P.pool slots.old).words }
+        ensures rest { P.rest slots.new ≡ P.rest slots.old }
+        ensures untold { self.new.untold ≡ self.old.untold }
+        ensures size { self.new.size ≡ self.old.size }
+    {
+        let slot = store(slots, report);
+        self.waiting.push_back(slot);
+    }
+
+    /// Takes out the oldest report and gives its slot back, or else the notice, which is told then; None exactly
+    /// where neither is there.
+    pub fn pop<P: Slots>(&mut self, slots: &mut P) -> Option<Told>
+        requires words { REPORT_WORDS ≤ (P.pool slots.old).words }
+        requires owned { AreOwned (P.pool slots.old) self.old.slots }
+        ensures told { (reports : List Report) → Lies (P.pool slots.old) self.old.slots reports → result ≡ next_told reports self.old.untold }
+        ensures none { IsNone result ↔ ((self.old.slots ≡ []) × (self.old.untold ≡ None)) }
+        ensures slots { self.new.slots ≡ drop 1 self.old.slots }
+        ensures owned { AreOwned (P.pool slots.new) self.new.slots }
+        ensures lies { (reports : List Report) → Lies (P.pool slots.old) self.old.slots reports → Lies (P.pool slots.new) self.new.slots (drop 1 reports) }
+        ensures others { GivesFirst (P.pool slots.old) (P.pool slots.new) self.old.slots }
+        ensures counted { free_of (P.pool slots.new) + length self.new.slots ≡ free_of (P.pool slots.old) + length self.old.slots }
+        ensures number { (P.pool slots.new).slots ≡ (P.pool slots.old).slots }
+        ensures words { (P.pool slots.new).words ≡ (P.pool slots.old).words }
+        ensures rest { P.rest slots.new ≡ P.rest slots.old }
+        ensures untold { self.new.untold ≡ untold_after self.old.slots self.old.untold }
+        ensures size { self.new.size ≡ self.old.size }
+    {
+        if let Some(slot) = self.waiting.pop_front() {
+            return Some(Told::Report(unload(slots, slot)));
+        }
+        let notice = self.untold.take()?;
+        Some(Told::Fault(notice))
+    }
+
+    /// Makes this notice the untold one.
+    pub fn note(&mut self, notice: Notice)
+        ensures { self.new ≡ record self.old { untold = Some notice } }
+    {
+        self.untold = Some(notice);
+    }
+
+    /// Makes an untold notice void.
+    pub fn void(&mut self)
+        ensures { self.new ≡ record self.old { untold = None } }
+    {
+        self.untold = None;
+    }
+}

@@ -1,0 +1,112 @@
+//! Reports in the words of slots.
+ghost use Rattle.std.specs.Prelude.{◌≡◌, ◌+◌, ◌<◌, ◌≤◌, None, length};
+ghost use Rattle.ccp_base.specs.declared.exchange.Report.{Report};
+ghost use Rattle.slot_pool.specs.Pool.{words_at, IsOut, free_of, ChangesSlot};
+ghost use Rattle.flow_core.specs.Outbox.{report_head, IsInRange, Holds};
+ghost use Rattle.flow_core.specs.ReportWords.{written_over, narrow, report_in};
+
+use ccp_base::{Report, Values};
+use slot_pool::{Full, Slot, Slots};
+
+/// How many words a slot must have to hold a report.
+pub const REPORT_WORDS: u32 = 80;
+
+/// How many words stand before the fields of a report.
+const HEAD_WORDS: u32 = 9;
+
+/// Takes a free slot and writes a report into it.
+pub(crate) fn store<P: Slots>(slots: &mut P, report: &Report) -> Slot
+    requires free { 0 < free_of (P.pool slots.old) }
+    requires words { REPORT_WORDS ≤ (P.pool slots.old).words }
+    ensures was_free { words_at (P.pool slots.old) result ≡ None }
+    ensures changed { ChangesSlot (P.pool slots.old) (P.pool slots.new) result (words_at (P.pool slots.new) result) }
+    ensures holds { Holds (P.pool slots.new) result report.entry.now }
+    ensures counted { free_of (P.pool slots.new) + 1 ≡ free_of (P.pool slots.old) }
+    ensures rest { P.rest slots.new ≡ P.rest slots.old }
+{
+    let slot = match slots.take_slot() {
+        Ok(slot) => slot,
+        Err(Full) => unreachable!(),
+    };
+    write(slots, &slot, 0, &head(report));
+    write(slots, &slot, HEAD_WORDS, report.fields.as_slice());
+    slot
+}
+
+/// The words of a report that stand before its fields.
+fn head(report: &Report) -> [u64; 9]
+    ensures words { result ≡ report_head report.entry.now }
+    ensures in_range { IsInRange report.entry.now }
+{
+    [
+        u64::from(report.flow),
+        u64::from(report.program),
+        u64::from(report.epoch),
+        report.first,
+        report.end,
+        report.now,
+        report.cwnd,
+        report.rate,
+        u64::from(report.fields.len()),
+    ]
+}
+
+/// Writes words into a slot, from a place on. The slot must be out.
+fn write<P: Slots>(slots: &mut P, slot: &Slot, at: u32, words: &[u64])
+    requires out { IsOut (P.pool slots.old) slot.now }
+    requires within { at + length words.now ≤ REPORT_WORDS }
+    requires words { REPORT_WORDS ≤ (P.pool slots.old).words }
+    ensures written { ChangesSlot (P.pool slots.old) (P.pool slots.new) slot.now (written_over (words_at (P.pool slots.old) slot.now) at words.now) }
+    ensures out { IsOut (P.pool slots.new) slot.now }
+    ensures counted { free_of (P.pool slots.new) ≡ free_of (P.pool slots.old) }
+    ensures rest { P.rest slots.new ≡ P.rest slots.old }
+{
+    let mut at = at;
+    let mut left = words;
+    while let Some((word, rest)) = left.split_first() {
+        slots.set_slot(slot, at, *word);
+        at += 1;
+        left = rest;
+    }
+}
+
+/// Reads the report of a slot and gives the slot back. It must be out.
+pub(crate) fn unload<P: Slots>(slots: &mut P, slot: Slot) -> Report
+    requires out { IsOut (P.pool slots.old) slot }
+    requires words { REPORT_WORDS ≤ (P.pool slots.old).words }
+    ensures report { (report : Report) → Holds (P.pool slots.old) slot report → result ≡ report }
+    ensures given { ChangesSlot (P.pool slots.old) (P.pool slots.new) slot None }
+    ensures counted { free_of (P.pool slots.new) ≡ free_of (P.pool slots.old) + 1 }
+    ensures rest { P.rest slots.new ≡ P.rest slots.old }
+{
+    let report = read(slots.slot(&slot));
+    slots.give_slot(slot);
+    report
+}
+
+/// The report that words begin with.
+fn read(words: &[u64]) -> Report
+    requires { REPORT_WORDS ≤ length words.now }
+    ensures { result ≡ report_in words.now }
+{
+    let first = HEAD_WORDS as usize;
+    let count = words[8].min(64) as usize;
+    Report {
+        flow: narrow(words[0]),
+        program: narrow(words[1]),
+        epoch: narrow(words[2]),
+        first: words[3],
+        end: words[4],
+        now: words[5],
+        cwnd: words[6],
+        rate: words[7],
+        fields: Values::from_slice(&words[first..first + count]),
+    }
+}
+
+/// A number of 32 bits that a word holds.
+fn narrow(word: u64) -> u32
+    ensures { result ≡ narrow word }
+{
+    word.min(u64::from(u32::MAX)) as u32
+}

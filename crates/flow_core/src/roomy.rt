@@ -1,0 +1,84 @@
+ghost use Rattle.std.specs.Prelude.{◌≡◌, ◌+◌, ◌-◌, ◌<◌, ◌≤◌, [], ◌∷◌, ◌++◌, length, slice_get, option_copied, IfOk, OnOk, OnErr};
+
+use ccp_base::{NoMemory, Sequence};
+use std::alloc::Global;
+use std::marker::Model;
+
+/// A list with room kept for so many items, so that a later push takes no memory.
+#[derive(Debug, Drop)]
+pub struct Roomy<T> {
+    items: Vec<T>,
+}
+
+impl<T> Model for Roomy<T> {
+    ghost use Rattle.std.specs.Prelude.{vec_capacity};
+    ghost use Rattle.flow_core.specs.Roomy.{RoomyState, roomy_code};
+
+    ghost Value = { RoomyState T };
+
+    ghost coded = { roomy_code T.code };
+
+    ghost view = { λ r. record { items = r.items.items; room = vec_capacity r.items } };
+}
+
+impl<T> Roomy<T> {
+    /// The empty list, with room for so many items at least.
+    pub fn with_room(alloc: Global, n: usize) -> Result<Roomy<T>, NoMemory>
+        ensures items { IfOk result (λ list. list.items ≡ []) }
+        ensures room { IfOk result (λ list. n ≤ list.room) }
+    {
+        let items = Vec::with_capacity(alloc, n)?;
+        Ok(Roomy { items })
+    }
+
+    /// The items in order.
+    pub fn as_slice(&self) -> &[T]
+        ensures { result.now ≡ self.now.items }
+    {
+        self.items.as_slice()
+    }
+
+    /// How many items the list has.
+    pub fn len(&self) -> usize
+        ensures len { result ≡ length self.now.items }
+        ensures within { length self.now.items ≤ self.now.room }
+    {
+        self.items.len()
+    }
+
+    /// The last item, None exactly where the list is empty.
+    pub fn last(&self) -> Option<&T>
+        ensures { option_copied result ≡ slice_get self.now.items (length self.now.items - 1) }
+    {
+        self.items.last()
+    }
+
+    /// The plain list of the items, which takes no memory.
+    pub fn into_sequence(self) -> Sequence<T>
+        ensures { result ≡ self.items }
+    {
+        Sequence::from_vec(self.items)
+    }
+}
+
+impl<T: Drop> Roomy<T> {
+    /// Keeps room for so many items more than the list has.
+    pub fn reserve(&mut self, n: usize) -> Result<(), NoMemory>
+        ensures items { self.new.items ≡ self.old.items }
+        ensures room { OnOk result (length self.new.items + n ≤ self.new.room) }
+        ensures kept { self.old.room ≤ self.new.room }
+        ensures unchanged { OnErr result (self.new ≡ self.old) }
+    {
+        self.items.reserve(n)?;
+        Ok(())
+    }
+
+    /// Puts an item at the list's end, where there is room. It takes no memory.
+    pub fn push(&mut self, item: T)
+        requires { length self.old.items < self.old.room }
+        ensures items { self.new.items ≡ self.old.items ++ item ∷ [] }
+        ensures room { self.new.room ≡ self.old.room }
+    {
+        self.items.push_reserved(item);
+    }
+}
