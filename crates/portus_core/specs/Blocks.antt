@@ -1,3 +1,4 @@
+-- What the blocks of a program make of an acknowledgement.
 use Rattle.std.specs.Prelude.{Bool, true, false, Result, Ok, List, [], ◌∷◌}
 use Rattle.ccp_base.specs.declared.ack.Ack.{Ack}
 use Rattle.portus_core.specs.declared.env.Env.{Env}

@@ -1,3 +1,4 @@
+-- That the env of a program keeps its shape.
 use Rattle.std.specs.Prelude.{◌≡◌, ℕ, suc, Bool, true, false, not, Result, Ok, Err, IfOk, List, [], ◌∷◌, length, refl}
 use Rattle.std.proofs.Common.{ap, ◌∙◌, sym, subst, length-set}
 use Rattle.std.proofs.lemmas.List.{length-map}

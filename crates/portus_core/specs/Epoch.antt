@@ -1,3 +1,4 @@
+-- An epoch: its start, its events and what they come to.
 use Rattle.std.specs.Prelude.{ℕ, ◌+◌, Bool, true, false, not, nat_lt, Option, Some, None, Result, Ok, Err, List, [], ◌∷◌, length, map, position, slice_set}
 use Rattle.ccp_base.specs.declared.ack.Ack.{Ack}
 use Rattle.ccp_base.specs.declared.fields.FieldReg.{FieldReg}

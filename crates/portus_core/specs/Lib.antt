@@ -1,5 +1,6 @@
 pub mod Trees
 pub mod Programs
+pub mod Words
 pub mod ValidPrograms
 pub mod Value
 pub mod Command

@@ -1,6 +1,8 @@
+-- What an atom of a text stands for.
 use Rattle.std.specs.Prelude.{ℕ, ◌+◌, ◌-◌, ◌*◌, ◌^◌, Bool, false, ◌&&◌, ◌||◌, ◌==◌, nat_lt, nat_le, Option, Some, None, Result, Ok, Err, if◌then◌else◌, List, [], ◌∷◌, length, codes}
 use Rattle.std.specs.List.{list_all}
 use Rattle.std.specs.Str.{bytes_eq}
+use Rattle.ccp_base.specs.Limits.{most_name_bytes}
 use Rattle.ccp_base.specs.declared.place.Place.{Place}
 use Rattle.portus_core.specs.Trees.{Node, number, word}
 use Rattle.portus_parser.specs.declared.fault.ParseFault.{ParseFault}
@@ -34,7 +36,7 @@ is_mark text =
 
 -- whether the text is a word
 abbrev pub is_word : List ℕ → Bool
-is_word text = (is_named text || is_mark text) && nat_le (length text) 64
+is_word text = (is_named text || is_mark text) && nat_le (length text) most_name_bytes
 
 -- the number that has these decimal digits after those of another number
 abbrev pub decimal_from : ℕ → List ℕ → ℕ

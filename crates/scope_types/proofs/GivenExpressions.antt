@@ -11,7 +11,8 @@ use Rattle.portus_core.specs.ValidPrograms.{term_is_truth, declares_truth, is_to
 use Rattle.scope_types.specs.declared.names.Local.{Local}
 use Rattle.scope_types.specs.declared.fault.ScopeFault.{ScopeFault}
 use Rattle.scope_types.specs.declared.fault.ScopeFault.TheVariants.{Unknown, Misplaced}
-use Rattle.scope_types.specs.Words.{operator_of, constant_of, constant_truth, variable_of, primitive_of, is_field_use, is_primitive_use}
+use Rattle.portus_core.specs.Words.{operator_of, variable_of, is_field_use, is_primitive_use}
+use Rattle.scope_types.specs.ValueWords.{constant_of, constant_truth, primitive_of}
 use Rattle.scope_types.specs.Scope.{Scope, known_in}
 use Rattle.scope_types.specs.Names.{decl_from, local_from, named, meaning_of}
 use Rattle.scope_types.specs.ExpressionWalk.{or_refused, name_walk, variable_walk, word_walk, pair_walk, expression_walk}

@@ -2,7 +2,8 @@ use Rattle.std.proofs.Common.{◌≡◌, ◌⊎◌, inl, inr, ℕ, zero, suc, �
 use Rattle.portus_core.specs.declared.program.Decl.{Decl}
 use Rattle.portus_core.specs.declared.program.Var.TheVariants as var
 use Rattle.scope_types.specs.declared.names.Local.{Local}
-use Rattle.scope_types.specs.Words.{primitive_of, is_reserved, is_field_use, is_primitive_use, is_control_name}
+use Rattle.portus_core.specs.Words.{is_reserved, is_field_use, is_primitive_use, is_control_name}
+use Rattle.scope_types.specs.ValueWords.{primitive_of}
 use Rattle.scope_types.specs.DeclarationWalk.{with_field, with_control}
 use Rattle.scope_types.specs.Scope.{Scope, with_local}
 use Rattle.scope_types.specs.Names.{decl_from, local_from}

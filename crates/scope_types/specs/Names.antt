@@ -1,10 +1,12 @@
+-- What a name stands for among those in scope.
 use Rattle.std.specs.Prelude.{ℕ, ◌+◌, List, [], ◌∷◌, drop, Option, Some, None, if◌then◌else◌, bytes_eq}
 use Rattle.portus_core.specs.declared.program.Decl.{Decl}
 use Rattle.portus_core.specs.declared.program.Var.{Var}
 use Rattle.portus_core.specs.declared.program.Var.TheVariants as var
 use Rattle.scope_types.specs.declared.names.Local.{Local}
 use Rattle.scope_types.specs.Scope.{Scope}
-use Rattle.scope_types.specs.Words.{primitive_of, is_field_use}
+use Rattle.portus_core.specs.Words.{is_field_use}
+use Rattle.scope_types.specs.ValueWords.{primitive_of}
 
 -- the number of the declaration that has this name, counted from `i`
 abbrev pub decl_from : ℕ → List Decl → List ℕ → Option ℕ

@@ -1,6 +1,7 @@
 ghost use Rattle.std.specs.Prelude.{◌≡◌, bytes_eq};
 ghost use Rattle.std.specs.List.{list_all};
-ghost use Rattle.scope_types.specs.Words.{operator_of, is_constant, variable_of, acknowledged_of, primitive_of, is_first, is_later, is_name_shaped, is_heading, is_reserved, is_field_use, is_primitive_use};
+ghost use Rattle.portus_core.specs.Words.{operator_of, is_constant, variable_of, is_first, is_later, is_name_shaped, is_heading, is_reserved, is_field_use, is_primitive_use};
+ghost use Rattle.scope_types.specs.ValueWords.{acknowledged_of, primitive_of};
 
 use portus_core::{Op2, Var};
 
