@@ -9,8 +9,6 @@ pub mod OneAcknowledgement
 pub mod Epoch
 pub mod Reports
 pub mod ProgramForm
-pub mod EnvShapes
 pub mod Progress
 pub mod Runnable
 pub mod PrintedTree
-pub mod EventLaws

@@ -1,5 +1,6 @@
 -- Which programs are well scoped, typed and within the limits.
 use Rattle.std.specs.Prelude.{ℕ, ◌^◌, Bool, true, false, not, ◌&&◌, ◌||◌, ◌==◌, nat_lt, nat_le, Option, Some, None, List, [], ◌∷◌, ◌++◌, length, slice_get, bytes_eq}
+use Rattle.ccp_base.specs.Acknowledgement.{is_flag}
 use Rattle.ccp_base.specs.Limits.{most_fields, most_controls, most_blocks, most_locals, most_tenths, primitive_count}
 use Rattle.portus_core.specs.declared.program.Op2.{Op2}
 use Rattle.portus_core.specs.declared.program.Op2.TheVariants as op
@@ -38,7 +39,7 @@ abbrev pub is_truth : Known → Var → Bool
 is_truth known (var.Field i) = declares_truth (slice_get known.fields i)
 is_truth known (var.Control i) = declares_truth (slice_get known.controls i)
 is_truth known (var.Local i) = is_told (slice_get known.locals i)
-is_truth known (var.Prim n) = n == 14
+is_truth known (var.Prim n) = is_flag n
 is_truth known var.Cwnd = false
 is_truth known var.Rate = false
 is_truth known var.Micros = false
@@ -143,8 +144,8 @@ is_start decl = not decl.truth || nat_le decl.start 1
 
 -- whether one of the declarations has this name
 abbrev pub is_named_in : List ℕ → List Decl → Bool
-is_named_in name [] = false
-is_named_in name (decl ∷ rest) = bytes_eq name decl.name || is_named_in name rest
+is_named_in w [] = false
+is_named_in w (decl ∷ rest) = bytes_eq w decl.name || is_named_in w rest
 
 -- whether the declarations have values and names of their kind, and no name twice
 abbrev pub are_declared : (List ℕ → Bool) → List Decl → Bool

@@ -84,7 +84,7 @@ one_more is_allowed (first ∷ rest) decl i h allowed start new =
     (one_more is_allowed rest decl (i + 1) (and_right alone (are_declared is_allowed rest) h) allowed start n.1)
 
 -- a declared value is right
-is_right : Start → Bool
+abbrev is_right : Start → Bool
 is_right start = not start.truth || nat_le start.value 1
 
 word_start : (w : List ℕ) → IfSome (walk.start_word w) (λ s. is_right s ≡ true)

@@ -1,5 +1,6 @@
 -- Which forms are well scoped, and the program that they stand for.
 use Rattle.std.specs.Prelude.{◌≡◌, ◌⊎◌, ℕ, ◌<◌, ◌≤◌, ◌-◌, ◌^◌, ◌==◌, Bool, true, false, IsTrue, IsFalse, List, [], ◌∷◌, ◌++◌, length, Option, Some, None, codes, slice_get}
+use Rattle.ccp_base.specs.Acknowledgement.{is_flag}
 use Rattle.ccp_base.specs.Limits.{most_fields, most_controls, most_blocks, most_locals, most_tenths}
 use Rattle.portus_core.specs.declared.program.Decl.{Decl}
 use Rattle.portus_core.specs.declared.program.Op2.{Op2}
@@ -13,7 +14,8 @@ use Rattle.ccp_base.specs.declared.place.Place.{Place}
 use Rattle.scope_types.specs.declared.names.Local.{Local}
 use Rattle.scope_types.specs.Scope.{Scope, with_local}
 use Rattle.portus_core.specs.Words.{operator_of, variable_of, is_reserved, is_field_use, is_primitive_use, is_field_name, is_control_name}
-use Rattle.scope_types.specs.ValueWords.{constant_of, constant_truth, primitive_of}
+use Rattle.ccp_base.specs.PrimitiveNames.{primitive_named}
+use Rattle.scope_types.specs.ValueWords.{constant_of, constant_truth}
 
 -- the declaration of this number has this name
 pub record IsDeclared (decls : List Decl) (i : ℕ) (w : List ℕ) (told : Bool) : Type 0 where
@@ -36,8 +38,8 @@ pub record IsLocal (locals : List Local) (i : ℕ) (w : List ℕ) (told : Bool) 
   pub kind : told ≡ local.truth
 
 pub record IsPrimitive (n : ℕ) (w : List ℕ) (told : Bool) : Type 0 where
-  pub spelt : primitive_of w ≡ Some n
-  pub kind : told ≡ (n == 14)
+  pub spelt : primitive_named w ≡ Some n
+  pub kind : told ≡ is_flag n
 
 -- a word that a declaration, an assignment or the acknowledgement gives a meaning, and whether it is a Bool
 abbrev pub Means : Scope → List ℕ → Var → Bool → Type 0
