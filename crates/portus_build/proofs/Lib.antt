@@ -1,3 +1,3 @@
 mod LookLemmas
 mod Refusing
-pub mod Settled
+pub mod SettledTexts

@@ -3,8 +3,8 @@ use Rattle.std.specs.Prelude.{◌≡◌, ℕ, ◌<◌, ◌≤◌, Bool, nat_lt, 
 use Rattle.std.specs.Option.{ForSome}
 use Rattle.std.specs.Str.{bytes_eq}
 use Rattle.std.specs.List.{position_or_len}
-use Rattle.std.proofs.Common.{arith, ap}
-use Rattle.std.proofs.lemmas.List.{length-take, take_all}
+use Rattle.std.proofs.Common.{arith}
+use Rattle.std.proofs.lemmas.List.{length-take}
 use Rattle.std.proofs.lemmas.Bool.Decides.{nat_tests}
 use Rattle.ccp_base.specs.Limits.{most_fields}
 use Rattle.ccp_base.specs.declared.look.Look.{Look}
@@ -19,10 +19,6 @@ has_name name decl = bytes_eq decl.name name
 abbrev pub number_of : List ℕ → List Decl → Option ℕ
 number_of name decls = position (has_name name) (take most_fields decls)
 
--- a program's declarations are all among these
-pub number_of-all : (name : List ℕ) (decls : List Decl) → length decls ≤ most_fields → number_of name decls ≡ position (has_name name) decls
-number_of-all name decls short = ap (position (has_name name)) (take_all most_fields decls short)
-
 below_where : (n m limit x : ℕ) → m ≤ limit → cond (nat_lt n m) (Some n) None ≡ Some x → x < limit
 below_where n m limit x short found = grind (arith, nat_tests)
 
@@ -32,10 +28,6 @@ below_limit name decls limit short = λ x found.
 
 pub number_of-below : (name : List ℕ) (decls : List Decl) → ForSome (number_of name decls) (λ n. n < most_fields)
 number_of-below name decls = below_limit name decls most_fields (omega (arith, length-take most_fields decls))
-
--- the number is that of one of the declarations
-pub number_of-within : (name : List ℕ) (decls : List Decl) → ForSome (number_of name decls) (λ n. n < length decls)
-number_of-within name decls = below_limit name decls (length decls) (omega (arith, length-take most_fields decls))
 
 -- the numbers of the fields and control variables with the names that agents know
 abbrev pub look_of : Form → Look

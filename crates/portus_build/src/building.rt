@@ -15,7 +15,7 @@ use scope_types::scope;
 use std::alloc::Global;
 
 /// Reads a text, finds what its names stand for, and compiles it. The refusals are those of `BuildFault`.
-#[tactic(auto, using(crate::proofs::Settled::settled_text))]
+#[tactic(auto, using(crate::proofs::SettledTexts::settled_text))]
 pub fn build(alloc: Global, text: &[u8]) -> Result<Built, BuildFault>
     // The answer's program is the one that the text stands for, and a text of a program that is compiled is built.
     ensures found { IfOk result (λ built. IsBuiltFrom text.now (form_of built.program)) }
