@@ -70,7 +70,7 @@ place_text (Some place) = codes " at " ++ (decimal place.line ++ (codes ":" ++ d
 
 -- a refusal of compiling: the place of what needs too much, or the count of the program
 abbrev pub compile_text : CompileFault → List ℕ
-compile_text (compile.TooDeep place) = codes "TooDeep" ++ place_text (Some place)
+compile_text (compile.TooDeep place) = codes "TooDeep at " ++ (decimal place.line ++ (codes ":" ++ decimal place.column))
 compile_text (compile.CodeTooLong count) = codes "CodeTooLong " ++ decimal count
 compile_text compile.NoMemory = codes "NoMemory"
 
