@@ -1,11 +1,11 @@
-use Rattle.std.specs.Prelude.{ℕ, ◌-◌, ◌^◌, Bool, true, false, ◌&&◌, ◌||◌, not, ◌==◌, List, [], ◌∷◌, Option, Some, None, is_some, codes, if◌then◌else◌, bytes_eq, nat_eq}
+-- The words of the language, and the words that a program may declare.
+use Rattle.std.specs.Prelude.{ℕ, Bool, false, ◌&&◌, ◌||◌, not, ◌==◌, List, [], ◌∷◌, Option, Some, None, is_some, codes, if◌then◌else◌, bytes_eq, nat_eq}
 use Rattle.std.specs.List.{starts_with, list_all, list_any}
 use Rattle.std.specs.Char.{is_ascii_alphabetic, is_ascii_alphanumeric}
 use Rattle.portus_core.specs.declared.program.Op2.{Op2}
 use Rattle.portus_core.specs.declared.program.Op2.TheVariants as op
 use Rattle.portus_core.specs.declared.program.Var.{Var}
 use Rattle.portus_core.specs.declared.program.Var.TheVariants as var
-use Rattle.portus_core.specs.Programs.{Term, number, truth}
 
 -- the operation that an operator's spelling stands for
 abbrev pub operator_of : List ℕ → Option Op2
@@ -23,14 +23,6 @@ operator_of w =
     else if bytes_eq w (codes "min") then Some op.Min
     else None
 
--- the value that a word stands for
-abbrev pub constant_of : List ℕ → Option Term
-constant_of w =
-    if bytes_eq w (codes "true") then Some (truth true)
-    else if bytes_eq w (codes "false") then Some (truth false)
-    else if bytes_eq w (codes "+infinity") then Some (number (2 ^ 64 - 1))
-    else None
-
 -- the variable of the language that a word stands for
 abbrev pub variable_of : List ℕ → Option Var
 variable_of w =
@@ -38,30 +30,6 @@ variable_of w =
     else if bytes_eq w (codes "Rate") then Some var.Rate
     else if bytes_eq w (codes "Micros") then Some var.Micros
     else None
-
--- the number of the primitive that a word names
-abbrev pub acknowledged_of : List ℕ → Option ℕ
-acknowledged_of w =
-    if bytes_eq w (codes "Ack.bytes_acked") then Some 0
-    else if bytes_eq w (codes "Ack.packets_acked") then Some 1
-    else if bytes_eq w (codes "Ack.bytes_misordered") then Some 2
-    else if bytes_eq w (codes "Ack.packets_misordered") then Some 3
-    else if bytes_eq w (codes "Ack.ecn_bytes") then Some 4
-    else if bytes_eq w (codes "Ack.ecn_packets") then Some 5
-    else if bytes_eq w (codes "Ack.lost_pkts_sample") then Some 6
-    else if bytes_eq w (codes "Ack.now") then Some 7
-    else None
-
-abbrev pub primitive_of : List ℕ → Option ℕ
-primitive_of w =
-    if bytes_eq w (codes "Flow.bytes_in_flight") then Some 8
-    else if bytes_eq w (codes "Flow.packets_in_flight") then Some 9
-    else if bytes_eq w (codes "Flow.bytes_pending") then Some 10
-    else if bytes_eq w (codes "Flow.rate_incoming") then Some 11
-    else if bytes_eq w (codes "Flow.rate_outgoing") then Some 12
-    else if bytes_eq w (codes "Flow.rtt_sample_us") then Some 13
-    else if bytes_eq w (codes "Flow.was_timeout") then Some 14
-    else acknowledged_of w
 
 -- a letter or `_`
 abbrev pub is_first : ℕ → Bool
@@ -98,11 +66,6 @@ is_field_use w = starts_with nat_eq w (codes "Report.")
 -- a word that only a primitive may be
 abbrev pub is_primitive_use : List ℕ → Bool
 is_primitive_use w = starts_with nat_eq w (codes "Ack.") || starts_with nat_eq w (codes "Flow.")
-
--- whether a value is a Bool
-abbrev pub constant_truth : Term → Bool
-constant_truth (truth b) = true
-constant_truth _ = false
 
 abbrev pub has_dot : List ℕ → Bool
 has_dot w = list_any (λ c. c == 46) w

@@ -1,3 +1,4 @@
+-- That the env of a program keeps its shape.
 use Rattle.std.specs.Prelude.{◌≡◌, ℕ, suc, Bool, true, false, not, Result, Ok, Err, IfOk, List, [], ◌∷◌, length, refl}
 use Rattle.std.proofs.Common.{ap, ◌∙◌, sym, subst, length-set}
 use Rattle.std.proofs.lemmas.List.{length-map}
@@ -10,8 +11,11 @@ use Rattle.portus_core.specs.declared.program.Decl.{Decl}
 use Rattle.portus_core.specs.declared.program.Var.{Var}
 use Rattle.portus_core.specs.declared.program.Var.TheVariants as var
 use Rattle.portus_core.specs.Programs.{Action, set, set_if, set_unless, ewma, zero_micros, report, fall, Part, Form}
-use Rattle.portus_core.specs.Value.{Cause, then_do, is_true, at_place, read_of}
-use Rattle.portus_core.specs.Command.{Going, written, written_where, blended, value_in, command_of, body_of}
+use Rattle.ccp_base.specs.Blending.{blended}
+use Rattle.ccp_base.specs.Chaining.{then_do}
+use Rattle.ccp_base.specs.Truth.{is_true}
+use Rattle.portus_core.specs.Value.{Cause, at_place, read_of}
+use Rattle.portus_core.specs.Command.{Going, written, written_where, value_in, command_of, body_of}
 use Rattle.portus_core.specs.Blocks.{begun, at_block, after_body, after_condition, blocks_of}
 use Rattle.portus_core.specs.OneAcknowledgement.{IsEnvOf, reset, answered, settled, one_of}
 use Rattle.portus_core.specs.Epoch.{with_value, with_values, declared_env}

@@ -1,3 +1,4 @@
+-- That events can be taken one after another.
 use Rattle.std.specs.Prelude.{◌≡◌, List, [], ◌∷◌, ◌++◌, refl}
 use Rattle.std.proofs.Common.{ap, sym, ◌∙◌, append_assoc}
 use Rattle.ccp_base.specs.declared.exchange.Report.{Report}
