@@ -8,3 +8,4 @@ pub mod Codec
 pub mod CodecFrames
 pub mod FrameSizes
 pub mod ReplyLaws
+pub mod NeededLaw

@@ -9,8 +9,7 @@ use Rattle.reply_frames.specs.declared.outline.Version.TheVariants.{One, Two}
 use Rattle.reply_frames.specs.declared.outline.Counts.{Counts}
 use Rattle.reply_frames.specs.declared.outline.Outline.{Outline}
 use Rattle.reply_frames.specs.Kinds.{number_of, version_number, most_n1, most_n2, most_n3, most_n4, size_of}
-use Rattle.reply_frames.specs.Spelling.{values_bytes}
-use Rattle.reply_frames.specs.Replies.{IsSendable}
+use Rattle.reply_frames.specs.ValueBytes.{values_bytes, IsSendable}
 use Rattle.reply_frames.specs.Frames.{Start, Event, Register, Instruction, Body, Create, Measure, Install, Update, Change, Fault, Ack, Refused}
 
 -- the counts of a head

@@ -1,10 +1,12 @@
 pub mod Parts
 pub mod Kinds
 pub mod Frames
+pub mod ValueBytes
+pub mod FrameBytes
 pub mod Spelling
-pub mod Decoding
 pub mod Writing
 pub mod Exact
 pub mod Whole
+pub mod Decoding
+pub mod Laws
 pub mod Replies
-pub mod FrameBytes
