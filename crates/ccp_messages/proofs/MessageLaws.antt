@@ -13,8 +13,7 @@ use Rattle.reply_frames.specs.declared.outline.FrameKind.TheVariants as kinds
 use Rattle.reply_frames.specs.Kinds.{most_n1}
 use Rattle.reply_frames.specs.Frames.{Body}
 use Rattle.reply_frames.specs.Frames as body
-use Rattle.reply_frames.specs.Replies.{IsSendable}
-use Rattle.reply_frames.specs.Spelling.{AreTargets, IsValue}
+use Rattle.reply_frames.specs.ValueBytes.{AreTargets, IsValue, IsSendable}
 use Rattle.reply_frames.specs.FrameBytes.{IsNumber, IsCount, IsSpellable}
 use Rattle.ccp_messages.specs.declared.message.Message.{Message}
 use Rattle.ccp_messages.specs.declared.message.Message.TheVariants.{Create, Measure, Install, Update, Change, Fault, Refused}

@@ -8,6 +8,7 @@ use Rattle.ccp_base.specs.declared.exchange.Report.{Report}
 use Rattle.ccp_base.specs.declared.exchange.Notice.{Notice}
 use Rattle.ccp_base.specs.Acknowledgement.{number_of, primitives}
 use Rattle.ccp_base.specs.FieldReg.{Pair}
+use Rattle.ccp_base.specs.Limits.{most_fields, most_short_fields, most_controls, most_blocks, most_instrs, most_pairs}
 use Rattle.reg_code.specs.declared.code.Code.{Code}
 use Rattle.reg_code.specs.declared.code.Event.{Event}
 use Rattle.reg_code.specs.declared.code.Instr.{Instr}
@@ -18,7 +19,7 @@ use Rattle.reply_frames.specs.declared.outline.Version.{Version}
 use Rattle.reply_frames.specs.declared.outline.Version.TheVariants.{One, Two}
 use Rattle.reply_frames.specs.Frames.{Body}
 use Rattle.reply_frames.specs.Frames as body
-use Rattle.reply_frames.specs.Spelling.{AreTargets, IsValue}
+use Rattle.reply_frames.specs.ValueBytes.{AreTargets, IsValue}
 use Rattle.reply_frames.specs.FrameBytes.{spelled, IsNumber}
 use Rattle.ccp_messages.specs.declared.message.Message.{Message}
 use Rattle.ccp_messages.specs.declared.message.Message.TheVariants.{Create, Measure, Install, Update, Change, Fault, Refused}
@@ -34,15 +35,15 @@ IsShortCount Two n = Unit {0}
 
 -- so many fields or reports are few enough for version 1
 abbrev pub AreFew : Version → ℕ → Type 0
-AreFew One n = n ≤ 32
+AreFew One n = n ≤ most_short_fields
 AreFew Two n = Unit {0}
 
 abbrev pub Meets : Version → Message → Type 0
 Meets version (Create flow mss cwnd) = Unit {0}
 Meets version (Measure report) = IsShortCount version report.first × IsShortCount version report.end × AreFew version (length report.fields)
 Meets version (Install flow program code) =
-    (length code.reports ≤ 64) × (length code.controls ≤ 64) × (length code.events ≤ 64) × (length code.instrs ≤ 256)
-    × AreFew version (length code.reports)
+    (length code.reports ≤ most_fields) × (length code.controls ≤ most_controls) × (length code.events ≤ most_blocks)
+    × (length code.instrs ≤ most_instrs) × AreFew version (length code.reports)
 Meets version (Update flow values) = AreTargets values
 Meets version (Change flow program values) = AreTargets values
 Meets version (Fault notice) = IsShortCount version notice.at
@@ -52,8 +53,8 @@ Meets version (Refused flow reason index) = (1 ≤ reason) × (reason ≤ 9)
 -- its counts of acknowledgements are below 2^32, and it has at most 32 fields or reports
 abbrev pub IsNarrow : Message → Type 0
 IsNarrow (Create flow mss cwnd) = Unit {0}
-IsNarrow (Measure report) = (report.first < 2 ^ 32) × (report.end < 2 ^ 32) × (length report.fields ≤ 32)
-IsNarrow (Install flow program code) = length code.reports ≤ 32
+IsNarrow (Measure report) = (report.first < 2 ^ 32) × (report.end < 2 ^ 32) × (length report.fields ≤ most_short_fields)
+IsNarrow (Install flow program code) = length code.reports ≤ most_short_fields
 IsNarrow (Update flow values) = Unit {0}
 IsNarrow (Change flow program values) = Unit {0}
 IsNarrow (Fault notice) = notice.at < 2 ^ 32
@@ -164,10 +165,10 @@ abbrev pub IsTypedAck : Ack → Type 0
 IsTypedAck ack = AllByRecursion IsNumber (take 14 (primitives ack))
 
 abbrev pub AreTypedNumbers : List ℕ → Type 0
-AreTypedNumbers numbers = (length numbers ≤ 64) × AllByRecursion IsNumber numbers
+AreTypedNumbers numbers = (length numbers ≤ most_fields) × AllByRecursion IsNumber numbers
 
 abbrev pub AreTypedPairs : List Pair → Type 0
-AreTypedPairs values = (length values ≤ 66) × AllByRecursion IsValue values
+AreTypedPairs values = (length values ≤ most_pairs) × AllByRecursion IsValue values
 
 abbrev pub IsTypedReport : Report → Type 0
 IsTypedReport r =

@@ -3,7 +3,7 @@
 ghost use Rattle.std.specs.Prelude.{◌≡◌, ◌+◌, ◌*◌, ◌^◌, ◌<◌, ◌≤◌, ◌∷◌, ◌++◌, length, take};
 ghost use Rattle.std.specs.Int.{w16, w32, w64, to_le_bytes};
 ghost use Rattle.ccp_base.specs.Acknowledgement.{number_of, primitives};
-ghost use Rattle.reply_frames.specs.Spelling.{values_bytes};
+ghost use Rattle.reply_frames.specs.ValueBytes.{values_bytes};
 ghost use Rattle.reply_frames.specs.FrameBytes.{count_width, count_bytes, numbers_bytes};
 ghost use Rattle.reply_frames.specs.Writing.{Wrote};
 ghost use Rattle.ccp_messages.specs.Messages.{IsShortCount, fault_number, AreTypedPairs, IsTypedReport, IsTypedNotice, IsTypedAck};
