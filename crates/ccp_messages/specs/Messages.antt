@@ -1,12 +1,12 @@
 -- Messages, and the one frame of each version that a message has.
-use Rattle.std.specs.Prelude.{◌≡◌, ℕ, ◌<◌, ◌≤◌, ◌^◌, ◌==◌, List, length, take, map, slice_index, if◌then◌else◌}
+use Rattle.std.specs.Prelude.{◌≡◌, ℕ, ◌<◌, ◌≤◌, ◌^◌, ◌==◌, List, [], ◌∷◌, ◌++◌, length, take, map, if◌then◌else◌}
 use Rattle.std.specs.List.{AllByRecursion}
 use Rattle.ccp_base.specs.declared.ack.Ack.{Ack}
 use Rattle.ccp_base.specs.declared.arithmetic.FaultKind.{FaultKind}
 use Rattle.ccp_base.specs.declared.arithmetic.FaultKind.TheVariants.{Overflow, Underflow, ZeroDivisor}
 use Rattle.ccp_base.specs.declared.exchange.Report.{Report}
 use Rattle.ccp_base.specs.declared.exchange.Notice.{Notice}
-use Rattle.ccp_base.specs.Acknowledgement.{number_of, primitives}
+use Rattle.ccp_base.specs.Acknowledgement.{number_of, primitives, ack_of}
 use Rattle.ccp_base.specs.FieldReg.{Pair}
 use Rattle.ccp_base.specs.Limits.{most_fields, most_short_fields, most_controls, most_blocks, most_instrs, most_pairs}
 use Rattle.reg_code.specs.declared.code.Code.{Code}
@@ -104,25 +104,6 @@ IsFrameOf message version bytes = Meets version message × (bytes ≡ frame_byte
 
 -- ---- the message of a frame
 
-abbrev pub ack_of : List ℕ → ℕ → Ack
-ack_of n was_timeout = record {
-  bytes_acked = slice_index n 0;
-  packets_acked = slice_index n 1;
-  bytes_misordered = slice_index n 2;
-  packets_misordered = slice_index n 3;
-  ecn_bytes = slice_index n 4;
-  ecn_packets = slice_index n 5;
-  lost_pkts_sample = slice_index n 6;
-  now = slice_index n 7;
-  bytes_in_flight = slice_index n 8;
-  packets_in_flight = slice_index n 9;
-  bytes_pending = slice_index n 10;
-  rate_incoming = slice_index n 11;
-  rate_outgoing = slice_index n 12;
-  rtt_sample_us = slice_index n 13;
-  was_timeout = was_timeout == 1;
-}
-
 abbrev pub message_of : ℕ → Body → Message
 message_of flow (body.Create cwnd mss) = Create flow mss cwnd
 message_of flow (body.Measure program epoch first last now cwnd rate fields) =
@@ -133,7 +114,7 @@ message_of flow (body.Update values) = Update flow values
 message_of flow (body.Change program values) = Change flow program values
 message_of flow (body.Fault program epoch place kind index now cwnd) =
     Fault (record { flow = flow; program = program; epoch = epoch; at = place; kind = fault_kind_of kind; index = index; now = now; cwnd = cwnd })
-message_of flow (body.Ack numbers was_timeout) = message.Ack flow (ack_of numbers was_timeout)
+message_of flow (body.Ack numbers was_timeout) = message.Ack flow (ack_of (numbers ++ was_timeout ∷ []))
 message_of flow (body.Refused reason index) = Refused flow reason index
 
 -- ---- what types of the language give

@@ -8,8 +8,8 @@ ghost use Rattle.reply_frames.specs.FrameBytes.{count_width, count_bytes, number
 ghost use Rattle.reply_frames.specs.Writing.{Wrote};
 ghost use Rattle.ccp_messages.specs.Messages.{IsShortCount, fault_number, AreTypedPairs, IsTypedReport, IsTypedNotice, IsTypedAck};
 
-use crate::writing::{flag, put_count, put_numbers, put8, put16, put32, put64};
-use ccp_base::{Ack, FaultKind, Fields, Notice, Report};
+use crate::writing::{put_count, put_numbers, put8, put16, put32, put64};
+use ccp_base::{Ack, FaultKind, Fields, Notice, Report, bool_number, primitives};
 use reply_frames::Version;
 
 /// Puts the body of a Create.
@@ -93,24 +93,9 @@ pub fn put_ack(out: &mut [u8], at: usize, ack: Ack) -> usize
     ensures typed { IsTypedAck ack }
     ensures wrote { Wrote at (numbers_bytes (take 14 (primitives ack)) ++ to_le_bytes w64 (number_of ack.was_timeout)) out.old out.new result }
 {
-    let numbers = [
-        ack.bytes_acked,
-        ack.packets_acked,
-        ack.bytes_misordered,
-        ack.packets_misordered,
-        ack.ecn_bytes,
-        ack.ecn_packets,
-        ack.lost_pkts_sample,
-        ack.now,
-        ack.bytes_in_flight,
-        ack.packets_in_flight,
-        ack.bytes_pending,
-        ack.rate_incoming,
-        ack.rate_outgoing,
-        ack.rtt_sample_us,
-    ];
-    let end = put_numbers(out, at, &numbers);
-    put64(out, end, u64::from(flag(ack.was_timeout)))
+    let numbers = primitives(&ack);
+    let end = put_numbers(out, at, &numbers[..14]);
+    put64(out, end, bool_number(ack.was_timeout))
 }
 
 /// Puts the body of a Refused.

@@ -6,13 +6,13 @@ ghost use Rattle.ccp_base.specs.Limits.{most_fields, most_pairs};
 ghost use Rattle.reply_frames.specs.Kinds.{most_n1};
 ghost use Rattle.reply_frames.specs.Parts.{Gives, number_at, repeated_at};
 ghost use Rattle.reply_frames.specs.Frames.{create_at, measure_at, update_at, change_at, fault_at, ack_at, refused_at, body_at};
-ghost use Rattle.ccp_messages.specs.Messages.{fault_kind_of, ack_of, message_of};
+ghost use Rattle.ccp_messages.specs.Messages.{fault_kind_of, message_of};
 ghost use Rattle.ccp_messages.specs.Decoding.{Answers, made};
 
 use crate::fault::Halt;
 use crate::message::Message;
 use crate::read_code::install;
-use ccp_base::{Ack, FaultKind, Fields, Notice, Report, Values};
+use ccp_base::{FaultKind, Fields, Notice, Report, Values, ack_of};
 use reply_frames::bodies::count;
 use reply_frames::parts::{byte, limited, number16, number32, number64};
 use reply_frames::{BadKind, FrameKind, Outline, Stop, Version};
@@ -137,30 +137,6 @@ fn fault(bytes: &[u8], version: Version, flow: u32) -> Result<(Message, &[u8]), 
     Ok((Message::Fault(notice), rest))
 }
 
-/// The acknowledgement with these fourteen primitives, in their order, and the last one.
-fn acknowledgement(numbers: &[u64], was_timeout: bool) -> Ack
-    requires { length numbers.now ≡ 14 }
-    ensures { result ≡ record (ack_of numbers.now 0) { was_timeout = was_timeout } }
-{
-    Ack {
-        bytes_acked: numbers[0],
-        packets_acked: numbers[1],
-        bytes_misordered: numbers[2],
-        packets_misordered: numbers[3],
-        ecn_bytes: numbers[4],
-        ecn_packets: numbers[5],
-        lost_pkts_sample: numbers[6],
-        now: numbers[7],
-        bytes_in_flight: numbers[8],
-        packets_in_flight: numbers[9],
-        bytes_pending: numbers[10],
-        rate_incoming: numbers[11],
-        rate_outgoing: numbers[12],
-        rtt_sample_us: numbers[13],
-        was_timeout,
-    }
-}
-
 /// An Ack from its body, and the bytes after it.
 #[tactic(auto, unfolding(reply_frames::specs::Frames::ack_at))]
 fn ack(bytes: &[u8], flow: u32) -> Result<(Message, &[u8]), Stop>
@@ -169,7 +145,8 @@ fn ack(bytes: &[u8], flow: u32) -> Result<(Message, &[u8]), Stop>
     let mut primitives = Values::new();
     let rest = numbers(bytes, 14, &mut primitives)?;
     let (was_timeout, rest) = limited(rest, BadKind::Flag, 8, 1)?;
-    let ack = acknowledgement(primitives.as_slice(), was_timeout == 1);
+    primitives.push(was_timeout);
+    let ack = ack_of(primitives.as_slice());
     Ok((Message::Ack { flow, ack }, rest))
 }
 
