@@ -7,11 +7,10 @@ use Rattle.reply_frames.specs.declared.fault.Stop.{Stop}
 use Rattle.reply_frames.specs.declared.fault.Stop.TheVariants as stops
 use Rattle.reply_frames.specs.declared.outline.Version.{Version}
 use Rattle.reply_frames.specs.declared.outline.Version.TheVariants.{One, Two}
-use Rattle.reply_frames.specs.Exact.{AreBytes}
 use Rattle.reply_frames.specs.Parts.{Read}
 use Rattle.reply_frames.specs.Frames.{Frame, frame_at}
 use Rattle.reply_frames.specs.Decoding.{needed_of}
-use Rattle.reply_frames.specs.Whole.{IsCut, IsBadFrom, IsBadIn}
+use Rattle.reply_frames.specs.Whole.{AreBytes, IsCut, IsBadFrom, IsBadIn}
 use Rattle.reply_frames.specs.FrameBytes.{spelled, outline_of}
 use Rattle.reply_frames.proofs.Codec.{AllBytes}
 use Rattle.reply_frames.proofs.CodecFrames.{frame-writes, frame-reads}

@@ -2,7 +2,7 @@
 use Rattle.std.specs.Prelude.{◌≡◌, ℕ, ◌↔◌, List, [], Ok}
 use Rattle.reply_frames.specs.declared.outline.Version.{Version}
 use Rattle.reply_frames.specs.declared.outline.Version.TheVariants.{One, Two}
-use Rattle.reply_frames.specs.Exact.{AreBytes}
+use Rattle.reply_frames.specs.Whole.{AreBytes}
 use Rattle.reply_frames.specs.Frames.{Frame, frame_at}
 use Rattle.ccp_messages.specs.declared.message.Message.{Message}
 use Rattle.ccp_messages.specs.Messages.{Meets, IsNarrow, IsTyped, frame_bytes, message_of}

@@ -1,5 +1,5 @@
 -- Messages, and the one frame of each version that a message has.
-use Rattle.std.specs.Prelude.{◌≡◌, ℕ, ◌<◌, ◌≤◌, ◌^◌, ◌==◌, List, [], ◌∷◌, ◌++◌, length, take, map, if◌then◌else◌}
+use Rattle.std.specs.Prelude.{◌≡◌, ℕ, ◌<◌, ◌≤◌, ◌^◌, ◌-◌, ◌==◌, List, [], ◌∷◌, ◌++◌, length, take, map, if◌then◌else◌}
 use Rattle.std.specs.List.{AllByRecursion}
 use Rattle.ccp_base.specs.declared.ack.Ack.{Ack}
 use Rattle.ccp_base.specs.declared.arithmetic.FaultKind.{FaultKind}
@@ -8,7 +8,7 @@ use Rattle.ccp_base.specs.declared.exchange.Report.{Report}
 use Rattle.ccp_base.specs.declared.exchange.Notice.{Notice}
 use Rattle.ccp_base.specs.Acknowledgement.{number_of, primitives, ack_of}
 use Rattle.ccp_base.specs.FieldReg.{Pair}
-use Rattle.ccp_base.specs.Limits.{most_fields, most_short_fields, most_controls, most_blocks, most_instrs, most_pairs}
+use Rattle.ccp_base.specs.Limits.{most_fields, most_short_fields, most_controls, most_blocks, most_instrs, most_pairs, primitive_count}
 use Rattle.reg_code.specs.declared.code.Code.{Code}
 use Rattle.reg_code.specs.declared.code.Event.{Event}
 use Rattle.reg_code.specs.declared.code.Instr.{Instr}
@@ -91,7 +91,7 @@ body_of (Install flow program code) =
 body_of (Update flow values) = body.Update values
 body_of (Change flow program values) = body.Change program values
 body_of (Fault n) = body.Fault n.program n.epoch n.at (fault_number n.kind) n.index n.now n.cwnd
-body_of (message.Ack flow ack) = body.Ack (take 14 (primitives ack)) (number_of ack.was_timeout)
+body_of (message.Ack flow ack) = body.Ack (take (primitive_count - 1) (primitives ack)) (number_of ack.was_timeout)
 body_of (Refused flow reason index) = body.Refused reason index
 
 -- the message's frame in a version, where it meets the conditions
@@ -143,7 +143,7 @@ IsTypedCode code =
     × AllByRecursion IsTypedEvent code.events × AllByRecursion IsTypedInstr code.instrs
 
 abbrev pub IsTypedAck : Ack → Type 0
-IsTypedAck ack = AllByRecursion IsNumber (take 14 (primitives ack))
+IsTypedAck ack = AllByRecursion IsNumber (take (primitive_count - 1) (primitives ack))
 
 abbrev pub AreTypedNumbers : List ℕ → Type 0
 AreTypedNumbers numbers = (length numbers ≤ most_fields) × AllByRecursion IsNumber numbers

@@ -4,7 +4,7 @@ use Rattle.std.specs.Int.{w16, w32, w64}
 use Rattle.ccp_base.specs.declared.fields.FieldReg.{FieldReg}
 use Rattle.ccp_base.specs.declared.fields.FieldReg.TheVariants.{Cwnd, Rate, Control}
 use Rattle.ccp_base.specs.FieldReg.{Pair}
-use Rattle.ccp_base.specs.Limits.{most_controls}
+use Rattle.ccp_base.specs.Limits.{most_controls, primitive_count}
 use Rattle.reply_frames.specs.declared.fault.BadKind.TheVariants as bad
 use Rattle.reply_frames.specs.declared.outline.FrameKind.{FrameKind}
 use Rattle.reply_frames.specs.declared.outline.FrameKind.TheVariants as kinds
@@ -179,7 +179,7 @@ fault_at version bytes = do
 -- fourteen numbers, and whether there was a timeout
 unfoldable pub ack_at : List ℕ → Read Body
 ack_at bytes = do
-  primitives ← repeated_at (number_at w64) 14 bytes
+  primitives ← repeated_at (number_at w64) (primitive_count - 1) bytes
   was_timeout ← limited_at bad.Flag 8 1 primitives.1
   Ok (Ack primitives.0 was_timeout.0, was_timeout.1)
 

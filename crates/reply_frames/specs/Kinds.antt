@@ -1,6 +1,6 @@
 -- The kinds of frames: their numbers, the bounds of their counts, and their lengths.
 use Rattle.std.specs.Prelude.{ℕ, ◌+◌, ◌*◌, ◌==◌, if◌then◌else◌}
-use Rattle.ccp_base.specs.Limits.{most_fields, most_short_fields, most_controls, most_blocks, most_instrs, most_pairs}
+use Rattle.ccp_base.specs.Limits.{most_fields, most_short_fields, most_controls, most_blocks, most_instrs, most_pairs, primitive_count}
 use Rattle.reply_frames.specs.declared.outline.FrameKind.{FrameKind}
 use Rattle.reply_frames.specs.declared.outline.FrameKind.TheVariants.{Create, Measure, Install, Update, Change, Fault, Ack, Refused}
 use Rattle.reply_frames.specs.declared.outline.Version.{Version}
@@ -90,5 +90,5 @@ size_of Update version c = 16 + 10 * c.n1
 size_of Change version c = 20 + 10 * c.n1
 size_of Fault One c = 47
 size_of Fault Two c = 51
-size_of Ack version c = 136
+size_of Ack version c = 16 + 8 * primitive_count
 size_of Refused version c = 21

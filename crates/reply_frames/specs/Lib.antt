@@ -5,7 +5,6 @@ pub mod ValueBytes
 pub mod FrameBytes
 pub mod Spelling
 pub mod Writing
-pub mod Exact
 pub mod Whole
 pub mod Decoding
 pub mod Laws

@@ -1,9 +1,12 @@
 -- Whole frames, and bytes that are cut or bad.
 use Rattle.std.specs.Prelude.{◌≡◌, ◌≢◌, ℕ, ◌+◌, ◌-◌, ◌<◌, List, [], ◌++◌, length, take, Ok, Err}
+use Rattle.std.specs.List.{AllByRecursion}
 use Rattle.reply_frames.specs.declared.fault.BadKind.{BadKind}
 use Rattle.reply_frames.specs.declared.fault.Stop.TheVariants.{Bad}
-use Rattle.reply_frames.specs.Exact.{AreBytes}
 use Rattle.reply_frames.specs.Frames.{Frame, frame_at}
+
+abbrev pub AreBytes : List ℕ → Type 0
+AreBytes bytes = AllByRecursion (λ byte. byte < 256) bytes
 
 -- these are one whole frame
 pub record IsFrame (bytes : List ℕ) : Type 0 where
