@@ -1,5 +1,5 @@
 -- What decoding answers, and the laws of messages and frames.
-use Rattle.std.proofs.Common.{◌≡◌, ◌≢◌, ℕ, zero, suc, ◌-◌, List, [], ◌∷◌, ◌++◌, length, Result, Ok, Err, refl, sym, ap, subst, ◌∙◌, arith, length-append}
+use Rattle.std.proofs.Common.{◌≡◌, ◌≢◌, ℕ, ◌-◌, List, [], ◌∷◌, ◌++◌, length, Result, Ok, Err, refl, sym, ap, subst, ◌∙◌, arith, length-append}
 use Rattle.std.specs.Prelude.{IfOk}
 use Rattle.std.proofs.lemmas.List.{append-nil}
 use Rattle.reply_frames.specs.declared.fault.BadKind.{BadKind}
@@ -10,7 +10,7 @@ use Rattle.reply_frames.specs.declared.outline.Version.TheVariants.{One, Two}
 use Rattle.reply_frames.specs.Parts.{Read}
 use Rattle.reply_frames.specs.Frames.{Frame, frame_at}
 use Rattle.reply_frames.specs.Decoding.{needed_of}
-use Rattle.reply_frames.specs.Whole.{AreBytes, IsCut, IsBadFrom, IsBadIn}
+use Rattle.reply_frames.specs.Whole.{IsCut, IsBadFrom, IsBadIn}
 use Rattle.reply_frames.specs.FrameBytes.{spelled, outline_of}
 use Rattle.reply_frames.proofs.Codec.{AllBytes}
 use Rattle.reply_frames.proofs.CodecFrames.{frame-writes, frame-reads}

@@ -21,7 +21,7 @@ use Rattle.ccp_messages.specs.declared.message.Message.TheVariants.{Create, Meas
 use Rattle.ccp_messages.specs.declared.message.Message.TheVariants as message
 use Rattle.ccp_messages.specs.CodeParts.{start_part, start_of, event_part, event_of, instruction_part, instr_of}
 use Rattle.ccp_messages.specs.Messages.{IsShortCount, AreFew, IsNarrow, Meets, fault_number, fault_kind_of, flow_of, body_of, message_of, IsTyped}
-use Rattle.ccp_messages.proofs.CodeLaws.{truth-back, truth-again, truth-low, starts-back, events-back, instrs-back, starts-again, events-again, instructions-again, starts-fit, events-fit, instructions-fit}
+use Rattle.ccp_messages.proofs.CodeLaws.{truth-low, starts-back, events-back, instrs-back, starts-again, events-again, instructions-again, starts-fit, events-fit, instructions-fit}
 
 -- ---- from a message and back
 
