@@ -1,13 +1,10 @@
 -- What makes the reading of a part sound: a part that is read is told by its bytes alone, bytes that are cut can be
 -- completed, and a byte that is bad ends the longest front that can be completed.
-use Rattle.std.specs.Prelude.{◌≡◌, ℕ, ◌<◌, List, [], ◌∷◌, ◌++◌, length, Ok, Err}
-use Rattle.std.specs.List.{AllByRecursion}
+use Rattle.std.specs.Prelude.{◌≡◌, ℕ, List, [], ◌∷◌, ◌++◌, length, Ok, Err}
 use Rattle.reply_frames.specs.declared.fault.BadKind.{BadKind}
 use Rattle.reply_frames.specs.declared.fault.Stop.TheVariants.{Cut, Bad}
 use Rattle.reply_frames.specs.Parts.{Read}
-
-abbrev pub AreBytes : List ℕ → Type 0
-AreBytes bytes = AllByRecursion (λ byte. byte < 256) bytes
+use Rattle.reply_frames.specs.Whole.{AreBytes}
 
 -- the bytes begin with a front that is read so, whatever follows it
 pub record Takes {A : Type 0} (part : List ℕ → Read A) (bytes : List ℕ) (value : A) (rest : List ℕ) : Type 0 where
