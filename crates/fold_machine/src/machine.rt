@@ -12,17 +12,20 @@ use crate::steps::Steps;
 use crate::store::Store;
 use crate::work::work;
 use ccp_base::{Ack, Fields, NoMemory, Values};
-use reg_code::{Checked, Code, Sizes};
+use reg_code::{Checked, Code, Sizes, places};
 use slot_pool::{Full, Slot, Slots};
 use std::alloc::Global;
 use std::marker::Model;
 use std::sync::ledger::Ledger;
 
-/// The state of a running program: its registers, the copy that a fault goes back to, and the last report, in one
-/// pool of slots of 160 words. The pool can have further slots, which are the holder's.
+/// The state of a running program: its registers and the last report, in one pool of slots of 160 words. The pool can
+/// have further slots, which are the holder's. An acknowledgement is worked on in words beside it, so that a fault
+/// leaves the registers as they were.
 #[derive(Drop)]
 pub struct Machine {
     store: Store,
+    /// The words of an acknowledgement while it is worked on.
+    words: Vec<u64>,
     /// How many report fields and control variables the started program has.
     sizes: Sizes,
     /// How many fields the last report has.
@@ -43,7 +46,7 @@ impl Model for Machine {
 
     ghost view = { λ m. machine_of m.store m.sizes m.reported m.started m.stopped m.ran };
 
-    ghost invariant = { λ m. IsHeld m.store m.sizes m.reported };
+    ghost invariant = { λ m. IsHeld m.store m.words.items m.sizes m.reported };
 }
 
 impl Machine {
@@ -64,6 +67,7 @@ impl Machine {
         store.set_register(RATE, rate);
         Ok(Machine {
             store,
+            words: vec![in alloc; 0u64; places::ALL]?,
             sizes: Sizes {
                 reports: 0,
                 controls: 0,
@@ -133,6 +137,7 @@ impl Machine {
         let code = code.code();
         let acked = work(
             &mut self.store,
+            &mut self.words,
             self.sizes,
             code,
             ack,
