@@ -3,13 +3,11 @@
 #![tactic(auto)]
 
 mod acked;
-mod blended;
 mod frame;
 mod kept;
 mod laws;
 mod machine;
 mod places;
-mod refusal;
 mod run;
 mod step;
 mod steps;

@@ -1,13 +1,12 @@
 ghost use Rattle.std.specs.Prelude.{◌≡◌, ◌+◌, ◌≤◌, ◌↔◌, Some, None, IsTrue, IsOk, true, IfOk, IfErr, OnOk, OnErr, length};
 ghost use Rattle.reg_code.specs.AcceptedCode.{sizes_of};
-ghost use Rattle.reg_code.specs.CodeStart.{first_bad};
+ghost use Rattle.ccp_base.specs.FieldReg.{first_bad};
 ghost use Rattle.fold_machine.specs.MachineState.{fresh_machine, Fits};
 ghost use Rattle.fold_machine.specs.Heard.{started_by, updated_by, heard, is_fault, count_after};
 
 use crate::acked::{Acked, BadRegister};
 use crate::kept::{declare, write_values};
 use crate::places::{CWND, RATE, REPORTS};
-use crate::refusal::first_bad;
 use crate::steps::Steps;
 use crate::store::Store;
 use crate::work::work;
@@ -90,7 +89,7 @@ impl Machine {
         ensures unchanged { OnErr result (self.new ≡ self.old) }
     {
         let code = code.code();
-        if let Some(i) = first_bad(code.controls.len(), values) {
+        if let Some(i) = values.first_bad(code.controls.len()) {
             return Err(BadRegister(i));
         }
         self.sizes = Sizes {
@@ -161,7 +160,7 @@ impl Machine {
         ensures fits { Fits self.new code.now.code }
         ensures unchanged { OnErr result (self.new ≡ self.old) }
     {
-        if let Some(i) = first_bad(code.code().controls.len(), values) {
+        if let Some(i) = values.first_bad(code.code().controls.len()) {
             return Err(BadRegister(i));
         }
         write_values(&mut self.store, self.sizes, values);

@@ -15,7 +15,8 @@ use Rattle.portus_core.specs.Command as source
 use Rattle.portus_core.specs.ValidPrograms.{Known, is_known, is_term, is_truth, is_writable, is_target, is_next_local, is_condition, fits_target, term_is_truth, is_action, known_after, is_body}
 use Rattle.reg_code.specs.declared.code.Op.{Op}
 use Rattle.reg_code.specs.declared.code.Op.TheVariants as op
-use Rattle.reg_code.specs.CodeStep.{Variables, Regs, then_do, read, written, put, with_operand}
+use Rattle.ccp_base.specs.Chaining.{then_do}
+use Rattle.reg_code.specs.CodeStep.{Variables, Regs, read, written, put, with_operand}
 use Rattle.reg_code.specs.CodeStep as code
 use Rattle.reg_compiler.specs.declared.line.Line.{Line}
 use Rattle.reg_compiler.specs.Simulation.{kept_of}
