@@ -1,7 +1,8 @@
 ghost use Rattle.std.specs.Prelude.{◌≡◌, ℕ, ◌+◌, ◌<◌, ◌≤◌, List, [], ◌∷◌, ◌++◌, IfOk};
 ghost use Rattle.link_model.specs.Traces.{IsTrace};
-ghost use Rattle.link_model.specs.Link.{allowance, ack_after};
-ghost use Rattle.link_model.specs.Standing.{Stands, next_ack, next_standing};
+ghost use Rattle.link_model.specs.Link.{ack_after};
+ghost use Rattle.link_model.specs.Standing.{Stands};
+ghost use Rattle.link_model.specs.Steps.{next_ack, next_standing};
 
 use crate::link_case::LinkCase;
 use crate::traffic::Traffic;
@@ -18,13 +19,14 @@ pub struct Link {
 
 impl Model for Link {
     ghost use Rattle.link_model.specs.Standing.{LinkState};
-    ghost use Rattle.link_model.specs.Horizon.{IsFit};
+    ghost use Rattle.link_model.specs.Steps.{standing_in};
+    ghost use Rattle.link_model.specs.Horizon.{IsKept, IsCounted};
 
     ghost Value = { LinkState };
 
-    ghost view = { λ l. record { case = l.case; standing = l.traffic } };
+    ghost view = { λ l. record { case = l.case; standing = standing_in l.case.trace l.traffic } };
 
-    ghost invariant = { λ l. IsFit l.case l.traffic };
+    ghost invariant = { λ l. IsKept l.case l.traffic × IsCounted l.traffic };
 }
 
 impl Link {
@@ -34,7 +36,7 @@ impl Link {
         ensures stands { IfOk result (λ link. Stands link []) }
         ensures calls { IfOk result (λ link. link.standing.calls ≡ 0) }
     {
-        let traffic = Traffic::new(alloc)?;
+        let traffic = Traffic::new(alloc, &case)?;
         Ok(Link { case, traffic })
     }
 
@@ -42,7 +44,7 @@ impl Link {
     pub fn calls(&self) -> u32
         ensures { result ≡ self.now.standing.calls }
     {
-        self.traffic.calls()
+        self.traffic.calls
     }
 
     /// Gives the link a window, in bytes, and answers the acknowledgement. At most 65,536 windows are given. The
@@ -65,17 +67,8 @@ impl Link {
         ensures standing { self.new.standing ≡ next_standing self.old.case window self.old.standing }
         ensures calls { self.new.standing.calls ≡ self.old.standing.calls + 1 }
     {
-        let in_flight = self.traffic.in_flight();
-        let more = allowance(&self.case, window).saturating_sub(in_flight);
+        let more = self.case.allowance(window).saturating_sub(self.traffic.in_flight);
         self.traffic.send(&self.case, more);
         self.traffic.acknowledge(&self.case)
     }
-}
-
-/// How many packets a window allows to be in flight: one at least, and 4,096 at most.
-fn allowance(case: &LinkCase, window: u64) -> usize
-    ensures value { result ≡ allowance case.now window }
-    ensures within { result ≤ 4096 }
-{
-    (window / u64::from(case.mss)).max(1).min(4096) as usize
 }

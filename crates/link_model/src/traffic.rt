@@ -1,19 +1,17 @@
-ghost use Rattle.std.specs.Prelude.{◌≡◌, ℕ, ◌+◌, ◌-◌, ◌*◌, ◌^◌, ◌<◌, ◌≤◌, [], length, IfOk, if◌then◌else◌};
+ghost use Rattle.std.specs.Prelude.{◌≡◌, ℕ, ◌+◌, ◌-◌, ◌*◌, ◌^◌, ◌<◌, ◌≤◌, [], ◌∷◌, ◌++◌, length, slice_index, IfOk, if◌then◌else◌};
 ghost use Rattle.std.specs.List.Sorted.{IsStrictlyIncreasing};
-ghost use Rattle.link_model.specs.Chances.{chance_time};
-ghost use Rattle.link_model.specs.Traces.{IsTrace};
-ghost use Rattle.link_model.specs.Link.{fate_by, is_marked, is_listed, rate_of, arrival_ack, timeout_ack};
-ghost use Rattle.link_model.specs.Standing.{packet_by, with_packet, sending_now, landing, staying, ack_by, with_flight, with_ack};
-ghost use Rattle.link_model.specs.Horizon.{IsTimely, IsCounted, LandsWithin, horizon, IsChanceBelow};
+ghost use Rattle.link_model.specs.Link.{is_marked, is_listed, arrival_ack, run_of};
+ghost use Rattle.link_model.specs.Standing.{standing_of};
+ghost use Rattle.link_model.specs.Steps.{standing_in, with_lost, with_served, sending, waiting_now, chance_now, IsQueue, ack_of, after_ack};
+ghost use Rattle.link_model.specs.Horizon.{IsKept, IsCounted};
 
-use crate::chance::{chance_time, first_chance, place_of};
-use crate::landing::{Landing, land};
+use crate::arrival::Arrival;
+use crate::chance::Chance;
 use crate::link_case::LinkCase;
-use crate::packet::{Fate, Packet};
+use crate::queue::Queue;
 use ccp_base::Ack;
 use circular_buffer::HeapCircularBuffer;
 use std::alloc::{AllocError, Global};
-use std::marker::Model;
 
 /// The most packets in flight.
 const PACKETS: usize = 4096;
@@ -22,199 +20,269 @@ const PACKETS: usize = 4096;
 #[derive(Drop)]
 pub(crate) struct Traffic {
     /// The link's time, in microseconds.
-    time: u64,
+    pub(crate) time: u64,
     /// The last round-trip sample, in microseconds.
-    sample: u64,
-    /// The packets in flight, in the order of their numbers.
-    flight: HeapCircularBuffer<Packet>,
-    /// The number after the last chance that a packet got.
-    chance: u128,
+    pub(crate) sample: u64,
+    /// The packets in flight that aren't lost, in the order of their numbers.
+    pub(crate) flight: HeapCircularBuffer<Arrival>,
+    /// How many lost packets lie after them.
+    pub(crate) lost: u64,
+    /// How many packets are in flight, lost ones counted.
+    pub(crate) in_flight: u64,
+    /// The chance after the last one that a packet got.
+    pub(crate) next: Chance,
     /// How many packets were sent.
-    sent: u32,
+    pub(crate) sent: u64,
     /// How many packets were acknowledged.
-    acked: u64,
+    pub(crate) acked: u64,
     /// How many calls were made.
-    calls: u32,
-}
-
-impl Model for Traffic {
-    ghost use Rattle.std.specs.Prelude.{◌≡◌};
-    ghost use Rattle.link_model.specs.Standing.{Standing};
-
-    ghost Value = { Standing };
-
-    ghost view = { λ t. record { time = t.time; sample = t.sample; flight = t.flight.items; chance = t.chance; sent = t.sent; acked = t.acked; calls = t.calls } };
-
-    ghost invariant = { λ t. t.flight.capacity ≡ 4096 };
+    pub(crate) calls: u32,
+    /// How many of the losses listed have numbers below the next packet's; it may lag behind.
+    pub(crate) passed: usize,
+    /// The place in the trace of the last chance that was searched.
+    pub(crate) near: usize,
 }
 
 impl Traffic {
     /// Nothing was sent yet. The room for the packets in flight is reserved.
-    pub(crate) fn new(alloc: Global) -> Result<Traffic, AllocError>
-        ensures { IfOk result (λ t. t ≡ record { time = 0; sample = 0; flight = []; chance = 0; sent = 0; acked = 0; calls = 0 }) }
+    pub(crate) fn new(alloc: Global, case: &LinkCase) -> Result<Traffic, AllocError>
+        ensures kept { IfOk result (λ t. IsKept case.now t) }
+        ensures counted { IfOk result (λ t. IsCounted t) }
+        ensures standing { IfOk result (λ t. standing_in case.now.trace t ≡ standing_of case.now (run_of case.now [])) }
+        ensures calls { IfOk result (λ t. t.calls ≡ 0) }
     {
+        let times = case.trace.as_slice();
         let flight = HeapCircularBuffer::with_capacity(alloc, PACKETS)?;
         Ok(Traffic {
             time: 0,
             sample: 0,
             flight,
-            chance: 0,
+            lost: 0,
+            in_flight: 0,
+            next: Chance { turn: 0, place: 0 },
             sent: 0,
             acked: 0,
             calls: 0,
+            passed: 0,
+            near: times.len() - 1,
         })
     }
 
-    /// How many packets are in flight.
-    pub(crate) fn in_flight(&self) -> usize
-        ensures len { result ≡ length self.now.flight }
-        ensures within { result ≤ 4096 }
-    {
-        self.flight.len()
-    }
-
-    /// How many calls were made.
-    pub(crate) fn calls(&self) -> u32
-        ensures { result ≡ self.now.calls }
-    {
-        self.calls
-    }
-
-    /// Puts a packet into flight.
-    fn push(&mut self, packet: Packet)
-        requires room { length self.old.flight < 4096 }
-        requires sent { self.old.sent + 1 < 2 ^ 32 }
-        requires chance { IsChanceBelow packet.fate (2 ^ 127) }
-        ensures { self.new ≡ with_packet self.old packet }
-    {
-        if let Fate::Served { chance, .. } = packet.fate {
-            self.chance = self.chance.max(chance + 1);
-        }
-        self.flight.push_back(packet);
-        self.sent += 1;
-    }
-
-    /// The packet that is sent next, where `due` is the first chance that isn't before now and `later` the first
-    /// one after now. The packets with a chance later than now have the chances from `later` on, up to the last
-    /// one that was given.
-    fn packet(&self, case: &LinkCase, due: u128, later: u128) -> Packet
-        ensures { result ≡ packet_by case.now self.now due later }
-    {
-        let queued = self.chance.saturating_sub(later);
-        Packet {
-            sent_at: self.time,
-            fate: fate(case, self.sent, queued, self.chance.max(due)),
-        }
-    }
-
     /// Sends so many packets now.
-    pub(crate) fn send(&mut self, case: &LinkCase, more: usize)
-        requires timely { IsTimely case.now self.old }
-        requires room { length self.old.flight + more ≤ 4096 }
+    pub(crate) fn send(&mut self, case: &LinkCase, more: u64)
+        requires kept { IsKept case.now self.old }
+        requires room { self.old.in_flight + more ≤ 4096 }
         requires sent { self.old.sent + more ≤ 2 ^ 28 }
         requires calls { self.old.calls ≤ 65536 }
-        ensures valid { IsTrace case.now.trace }
-        ensures sending { self.new ≡ sending_now case.now more self.old }
-        ensures timely { IsTimely case.now self.new }
-        ensures flight { length self.new.flight ≡ length self.old.flight + more }
+        ensures sending { standing_in case.now.trace self.new ≡ sending case.now more (standing_in case.now.trace self.old) }
+        ensures kept { IsKept case.now self.new }
+        ensures in_flight { self.new.in_flight ≡ self.old.in_flight + more }
         ensures sent { self.new.sent ≡ self.old.sent + more }
         ensures acked { self.new.acked ≡ self.old.acked }
         ensures calls { self.new.calls ≡ self.old.calls }
     {
-        let times = case.trace.as_slice();
-        let due = first_chance(times, self.time, 0);
-        let later = first_chance(times, self.time + 1, place_of(times, due));
-        for _done in 0..more {
-            let packet = self.packet(case, due, later);
-            self.push(packet);
+        if more == 0 {
+            return;
+        }
+        let mut queue = self.queue(case);
+        self.near = queue.near;
+        let mut left = more;
+        while left > 0 {
+            left = self.send_some(case, &mut queue, left);
+        }
+    }
+
+    /// The queue now.
+    fn queue(&self, case: &LinkCase) -> Queue
+        requires kept { IsKept case.now self.now }
+        requires sent { self.now.sent ≤ 2 ^ 28 }
+        requires calls { self.now.calls ≤ 65536 }
+        ensures { IsQueue case.now (standing_in case.now.trace self.now) result }
+    {
+        let own = case.trace.time_of(self.next);
+        if own > self.time {
+            let later = case.trace.first_chance(self.time + 1, self.near);
+            return Queue {
+                next: self.next,
+                waiting: case.trace.between(later, self.next),
+                near: later.place,
+            };
+        }
+        if own < self.time {
+            let due = case.trace.first_chance(self.time, self.near);
+            return Queue {
+                next: due,
+                waiting: 0,
+                near: due.place,
+            };
+        }
+        Queue {
+            next: self.next,
+            waiting: 0,
+            near: self.near,
+        }
+    }
+
+    /// Sends one packet of so many, or all of them where the queue is full. Answers how many are left.
+    fn send_some(&mut self, case: &LinkCase, queue: &mut Queue, left: u64) -> u64
+        requires kept { IsKept case.now self.old }
+        requires queue { IsQueue case.now (standing_in case.now.trace self.old) queue.old }
+        requires some { 0 < left }
+        requires room { self.old.in_flight + left ≤ 4096 }
+        requires sent { self.old.sent + left ≤ 2 ^ 28 }
+        requires calls { self.old.calls ≤ 65536 }
+        ensures sending { sending case.now result (standing_in case.now.trace self.new) ≡ sending case.now left (standing_in case.now.trace self.old) }
+        ensures kept { IsKept case.now self.new }
+        ensures queue { IsQueue case.now (standing_in case.now.trace self.new) queue.new }
+        ensures fewer { result < left }
+        ensures in_flight { self.new.in_flight + result ≡ self.old.in_flight + left }
+        ensures sent { self.new.sent + result ≡ self.old.sent + left }
+        ensures acked { self.new.acked ≡ self.old.acked }
+        ensures calls { self.new.calls ≡ self.old.calls }
+    {
+        let losses = case.losses.as_slice();
+        self.passed = next_loss(losses, self.passed, self.sent);
+        if is_at(losses, self.passed, self.sent) {
+            self.lose(case, 1);
+            return left - 1;
+        }
+        if queue.waiting >= u128::from(case.queue) {
+            self.lose(case, left);
+            return 0;
+        }
+        self.serve(case, queue);
+        left - 1
+    }
+
+    /// Sends so many packets that are lost.
+    fn lose(&mut self, case: &LinkCase, more: u64)
+        requires kept { IsKept case.now self.old }
+        requires room { self.old.in_flight + more ≤ 4096 }
+        requires sent { self.old.sent + more ≤ 2 ^ 28 }
+        ensures standing { standing_in case.now.trace self.new ≡ with_lost more (standing_in case.now.trace self.old) }
+        ensures kept { IsKept case.now self.new }
+        ensures in_flight { self.new.in_flight ≡ self.old.in_flight + more }
+        ensures sent { self.new.sent ≡ self.old.sent + more }
+        ensures acked { self.new.acked ≡ self.old.acked }
+        ensures calls { self.new.calls ≡ self.old.calls }
+    {
+        let _ = case;
+        self.lost += more;
+        self.in_flight += more;
+        self.sent += more;
+    }
+
+    /// Sends a packet that gets the queue's next chance.
+    fn serve(&mut self, case: &LinkCase, queue: &mut Queue)
+        requires kept { IsKept case.now self.old }
+        requires queue { IsQueue case.now (standing_in case.now.trace self.old) queue.old }
+        requires waiting { queue.old.waiting < 4096 }
+        requires room { self.old.in_flight + 1 ≤ 4096 }
+        requires sent { self.old.sent + 1 ≤ 2 ^ 28 }
+        requires calls { self.old.calls ≤ 65536 }
+        ensures standing { standing_in case.now.trace self.new ≡ with_served case.now (chance_now case.now (standing_in case.now.trace self.old)) (is_marked case.now.mark (waiting_now case.now (standing_in case.now.trace self.old))) (standing_in case.now.trace self.old) }
+        ensures kept { IsKept case.now self.new }
+        ensures queue { IsQueue case.now (standing_in case.now.trace self.new) queue.new }
+        ensures in_flight { self.new.in_flight ≡ self.old.in_flight + 1 }
+        ensures sent { self.new.sent ≡ self.old.sent + 1 }
+        ensures acked { self.new.acked ≡ self.old.acked }
+        ensures calls { self.new.calls ≡ self.old.calls }
+    {
+        let own = case.trace.time_of(queue.next);
+        let arrival = Arrival {
+            lost: self.lost,
+            sent_at: self.time,
+            at: own + case.delay_us,
+            marked: is_marked(case.mark, queue.waiting),
+        };
+        put(&mut self.flight, arrival);
+        self.lost = 0;
+        self.in_flight += 1;
+        self.sent += 1;
+        self.next = case.trace.after(queue.next);
+        queue.next = self.next;
+        if own > self.time {
+            queue.waiting += 1;
         }
     }
 
     /// Acknowledges the first packet in flight that isn't lost, or times out.
     pub(crate) fn acknowledge(&mut self, case: &LinkCase) -> Ack
-        requires timely { IsTimely case.now self.old }
-        requires flight { length self.old.flight ≤ 4096 }
+        requires kept { IsKept case.now self.old }
         requires sent { self.old.sent ≤ 2 ^ 28 }
         requires acked { self.old.acked ≤ self.old.calls }
         requires calls { self.old.calls < 65536 }
-        ensures ack { result ≡ ack_by case.now (with_flight self.old (staying self.old.flight)) (landing self.old.flight 0) }
-        ensures standing { self.new ≡ with_ack (with_flight self.old (staying self.old.flight)) result }
-        ensures timely { IsTimely case.now self.new }
-        ensures flight { length self.new.flight ≤ 4096 }
+        ensures ack { result ≡ ack_of case.now (standing_in case.now.trace self.old) }
+        ensures standing { standing_in case.now.trace self.new ≡ after_ack case.now (standing_in case.now.trace self.old) }
+        ensures kept { IsKept case.now self.new }
         ensures sent { self.new.sent ≡ self.old.sent }
         ensures acked { self.new.acked ≤ self.new.calls }
         ensures calls { self.new.calls ≡ self.old.calls + 1 }
     {
-        let landing = land(&mut self.flight);
-        let ack = self.ack(case, landing);
-        self.time = ack.now;
-        self.sample = ack.rtt_sample_us;
-        self.acked += ack.packets_acked;
+        let Some(arrival) = self.flight.pop_front() else {
+            return self.time_out(case);
+        };
+        self.in_flight -= arrival.lost + 1;
+        self.acked += 1;
         self.calls += 1;
-        ack
+        self.time = arrival.at;
+        self.sample = arrival.at - arrival.sent_at;
+        self.arrived(case, arrival)
     }
 
-    fn ack(&self, case: &LinkCase, landing: Landing) -> Ack
-        requires within { LandsWithin case.now.trace (horizon self.now.sent self.now.calls) landing }
-        requires time { self.now.time ≤ horizon self.now.sent self.now.calls }
-        requires counted { IsCounted self.now }
-        ensures ack { result ≡ ack_by case.now self.now landing }
-        ensures time { result.now ≤ horizon self.now.sent (self.now.calls + 1) }
-        ensures acked { result.packets_acked ≤ 1 }
+    /// The acknowledgement of a packet that just arrived.
+    fn arrived(&self, case: &LinkCase, arrival: Arrival) -> Ack
+        requires order { arrival.sent_at ≤ arrival.at }
+        requires few { self.now.in_flight ≤ 4096 }
+        requires acked { self.now.acked ≤ 2 ^ 28 }
+        requires sent { self.now.sent ≤ 2 ^ 28 }
+        ensures { result ≡ arrival_ack case.now arrival.sent_at arrival.at arrival.marked arrival.lost self.now.in_flight self.now.acked self.now.sent }
     {
-        match landing {
-            Landing::Arrived {
-                sent_at,
-                chance,
-                marked,
-                lost,
-            } => self.arrival(case, sent_at, chance, marked, lost),
-            Landing::AllLost { lost } => self.timeout(case, lost),
-        }
-    }
-
-    fn arrival(&self, case: &LinkCase, sent_at: u64, chance: u128, marked: bool, lost: u64) -> Ack
-        requires sent_at { sent_at ≤ chance_time case.now.trace chance }
-        requires chance { chance_time case.now.trace chance ≤ horizon self.now.sent self.now.calls }
-        requires counted { IsCounted self.now }
-        ensures { result ≡ arrival_ack case.now sent_at chance marked lost (length self.now.flight) (self.now.acked + 1) self.now.sent }
-    {
-        let now = chance_time(case.trace.as_slice(), chance) + case.delay_us;
         let mss = u64::from(case.mss);
-        let stay = self.flight.len() as u64;
         Ack {
             bytes_acked: mss,
             packets_acked: 1,
-            bytes_misordered: number_if(lost != 0, mss),
-            packets_misordered: number_if(lost != 0, 1),
-            ecn_bytes: number_if(marked, mss),
-            ecn_packets: number_if(marked, 1),
-            lost_pkts_sample: lost,
-            now,
-            bytes_in_flight: mss * stay,
-            packets_in_flight: stay,
+            bytes_misordered: number_if(arrival.lost != 0, mss),
+            packets_misordered: number_if(arrival.lost != 0, 1),
+            ecn_bytes: number_if(arrival.marked, mss),
+            ecn_packets: number_if(arrival.marked, 1),
+            lost_pkts_sample: arrival.lost,
+            now: arrival.at,
+            bytes_in_flight: mss * self.in_flight,
+            packets_in_flight: self.in_flight,
             bytes_pending: 0,
-            rate_incoming: rate(case, self.acked + 1, now),
-            rate_outgoing: rate(case, u64::from(self.sent), now),
-            rtt_sample_us: now - sent_at,
+            rate_incoming: case.rate(self.acked, arrival.at),
+            rate_outgoing: case.rate(self.sent, arrival.at),
+            rtt_sample_us: arrival.at - arrival.sent_at,
             was_timeout: false,
         }
     }
 
-    fn timeout(&self, case: &LinkCase, lost: u64) -> Ack
-        requires time { self.now.time ≤ horizon self.now.sent self.now.calls }
-        requires counted { IsCounted self.now }
-        ensures { result ≡ timeout_ack case.now (self.now.time + case.now.timeout_us) self.now.sample lost (length self.now.flight) self.now.acked self.now.sent }
+    /// Times out: all packets in flight are lost.
+    fn time_out(&mut self, case: &LinkCase) -> Ack
+        requires kept { IsKept case.now self.old }
+        requires none { self.old.flight.items ≡ [] }
+        requires sent { self.old.sent ≤ 2 ^ 28 }
+        requires acked { self.old.acked ≤ self.old.calls }
+        requires calls { self.old.calls < 65536 }
+        ensures ack { result ≡ ack_of case.now (standing_in case.now.trace self.old) }
+        ensures standing { standing_in case.now.trace self.new ≡ after_ack case.now (standing_in case.now.trace self.old) }
+        ensures kept { IsKept case.now self.new }
+        ensures sent { self.new.sent ≡ self.old.sent }
+        ensures acked { self.new.acked ≡ self.old.acked }
+        ensures calls { self.new.calls ≡ self.old.calls + 1 }
     {
+        let lost = self.lost;
         let now = self.time + case.timeout_us;
-        let stay = self.flight.len() as u64;
+        self.lost = 0;
+        self.in_flight = 0;
+        self.calls += 1;
+        self.time = now;
         Ack {
             lost_pkts_sample: lost,
             now,
-            bytes_in_flight: u64::from(case.mss) * stay,
-            packets_in_flight: stay,
-            rate_incoming: rate(case, self.acked, now),
-            rate_outgoing: rate(case, u64::from(self.sent), now),
+            rate_incoming: case.rate(self.acked, now),
+            rate_outgoing: case.rate(self.sent, now),
             rtt_sample_us: self.sample,
             was_timeout: true,
             ..Ack::default()
@@ -222,17 +290,43 @@ impl Traffic {
     }
 }
 
-/// The fate of a packet by its number, the number of packets that wait, and its chance.
-fn fate(case: &LinkCase, number: u32, queued: u128, chance: u128) -> Fate
-    ensures { result ≡ fate_by case.now number queued chance }
+/// Appends a packet to those in flight.
+fn put(flight: &mut HeapCircularBuffer<Arrival>, arrival: Arrival)
+    requires capacity { flight.old.capacity ≡ 4096 }
+    requires room { length flight.old.items < 4096 }
+    ensures items { flight.new.items ≡ flight.old.items ++ arrival ∷ [] }
+    ensures capacity { flight.new.capacity ≡ 4096 }
 {
-    if is_listed(case.losses.as_slice(), number) || queued >= u128::from(case.queue) {
-        return Fate::Lost;
+    let _ = flight.push_back(arrival);
+}
+
+/// The place of the first listed loss from this number on, where those before a place are below the number.
+fn next_loss(losses: &[u32], passed: usize, number: u64) -> usize
+    requires { (i : ℕ) → i < passed → slice_index losses.now i < number }
+    ensures before { (i : ℕ) → i < result → slice_index losses.now i < number }
+    ensures from { result < length losses.now → number ≤ slice_index losses.now result }
+{
+    let mut place = passed;
+    while let Some(loss) = losses.get(place) {
+        if u64::from(*loss) >= number {
+            return place;
+        }
+        place += 1;
     }
-    Fate::Served {
-        chance,
-        marked: is_marked(case.mark, queued),
+    place
+}
+
+/// Whether a number is listed, where the losses before a place are below it, and the one there isn't.
+fn is_at(losses: &[u32], place: usize, number: u64) -> bool
+    requires rises { IsStrictlyIncreasing losses.now }
+    requires before { (i : ℕ) → i < place → slice_index losses.now i < number }
+    requires from { place < length losses.now → number ≤ slice_index losses.now place }
+    ensures { result ≡ is_listed number losses.now }
+{
+    if place >= losses.len() {
+        return false;
     }
+    u64::from(losses[place]) == number
 }
 
 fn is_marked(mark: Option<u32>, queued: u128) -> bool
@@ -242,24 +336,6 @@ fn is_marked(mark: Option<u32>, queued: u128) -> bool
         Some(mark) => queued >= u128::from(mark),
         None => false,
     }
-}
-
-fn is_listed(losses: &[u32], number: u32) -> bool
-    requires { IsStrictlyIncreasing losses.now }
-    ensures { result ≡ is_listed number losses.now }
-{
-    losses.binary_search(&number).is_ok()
-}
-
-/// Bytes a second: that many packets up to now, or 0 at time 0.
-fn rate(case: &LinkCase, packets: u64, now: u64) -> u64
-    requires { packets ≤ 2 ^ 28 }
-    ensures { result ≡ rate_of case.now packets now }
-{
-    if now == 0 {
-        return 0;
-    }
-    u64::from(case.mss) * packets * 1_000_000 / now
 }
 
 /// A number, or 0.
