@@ -5,6 +5,7 @@ mod Whole
 mod ServedLemmas
 mod FlightLemmas
 mod QueueLemmas
+mod CountLemmas
 mod Refinement
 mod Compact
 mod LossLemmas

@@ -1,15 +1,17 @@
 -- Steps over every packet in flight are those of the definition, by induction on the list of windows.
-use Rattle.std.proofs.Common.{◌≡◌, ℕ, zero, suc, ◌+◌, ◌-◌, ◌≤◌, Bool, true, false, cond, leb, ◌||◌, List, [], ◌∷◌, ◌++◌, length, max, refl, ap, sym, ◌∙◌, subst, arith, add_comm}
+use Rattle.std.proofs.Common.{◌≡◌, ℕ, zero, suc, ◌+◌, ◌-◌, ◌≤◌, Bool, true, false, cond, leb, ◌||◌, List, [], ◌∷◌, ◌++◌, length, max, refl, ap, sym, ◌∙◌, subst, arith, add_comm, length-append}
 use Rattle.link_model.specs.declared.link_case.LinkCase.{LinkCase}
 use Rattle.link_model.specs.Traces.{IsTrace}
 use Rattle.link_model.specs.Chances.{chance_time, first_chance}
 use Rattle.link_model.specs.Link.{Run, Packet, Fate, Lost, Served, Given, Numbered, packets_to, all_below, allowance, waiting, chances_past, is_listed, is_marked, fate_by, packet_after, with_sent, left_by, lost_by, in_flight, time_of, sample_of, acked_of, arrival_of, arrival_ack, timeout_ack, Next, arrives, all_lost, next_of, answer_by, answer_to, sent_by, called, run_from, run_of, ack_after}
 use Rattle.link_model.specs.LinkLaws.{run_from-push}
+use Rattle.link_model.specs.Counts.{served_chances, lost_of}
 use Rattle.link_model.specs.Standing.{packets_of}
 use Rattle.link_model.proofs.Whole.{Landing, Arrived, AllLost, Whole, whole_of, packet_by, with_packet, sending, sending_whole, landing, landing_by, staying, staying_by, ack_by, with_flight, with_ack, sent_whole, next_ack, next_whole}
 use Rattle.link_model.proofs.ChanceLemmas.{chance_time_rises, first_chance_max, first_chance_from, first_chance_at}
 use Rattle.link_model.proofs.ServedLemmas.{IsServedWithin, AllServedWithin, all_served_within-more, all_served_within-push, all_served_within-staying}
 use Rattle.link_model.proofs.FlightLemmas.{RisesFrom, AllBelow, AllTakeBelow, TakesBelow, RisesFrom-push, AllBelow-push, AllBelow-more, RisesFrom-left_by, AllBelow-left_by, all_take_below-more, in_flight-sent, packets_of-push, length-packets_of, left_by-all_below, MatchNext, match_next, IsNextBelow, next_below}
+use Rattle.link_model.proofs.CountLemmas.{RiseBelow, rise_below-none, rise_below-sent, CountNext, count_next}
 use Rattle.link_model.proofs.QueueLemmas.{IsQueued, IsQueued-later, IsQueued-sent}
 
 -- ---- arrivals in flight
@@ -69,6 +71,8 @@ pub record Settled (case : LinkCase) (packets : List Packet) (givens : List Give
   pub queued : IsQueued case.trace (time_of givens) packets
   pub served : AllServedWithin case.trace (chances_past packets) (packets_of (in_flight packets givens))
   pub arriving : ArriveFrom case (time_of givens) (packets_of (in_flight packets givens))
+  pub once : RiseBelow (chances_past packets) (served_chances packets)
+  pub counts : length packets ≡ acked_of givens + lost_of givens + length (in_flight packets givens)
 
 pub settled_at_first : (case : LinkCase) → Settled case [] []
 settled_at_first case = record {
@@ -78,6 +82,8 @@ settled_at_first case = record {
   queued = λ at after. omega arith;
   served = tt;
   arriving = tt;
+  once = rise_below-none 0;
+  counts = omega arith;
 }
 
 -- ---- one more packet
@@ -123,6 +129,8 @@ module _ (case : LinkCase) (trace : IsTrace case.trace) (packets : List Packet) 
             (served_by is_lost_now (is_marked case.mark queue) now own (packets_of flight) (first_chance_from case.trace trace now past) (first_chance_at case.trace trace now past) settled.served);
         arriving = subst (ArriveFrom case now) (sym flight_sent)
             (arriving_by is_lost_now (is_marked case.mark queue) now own (packets_of flight) (first_chance_from case.trace trace now past) (first_chance_at case.trace trace now past) settled.served settled.arriving);
+        once = rise_below-sent is_lost_now (is_marked case.mark queue) own now packets (first_chance_from case.trace trace now past) settled.once;
+        counts = omega (arith, settled.counts, ap length sent, length-append flight (last ∷ []));
       }
 
   -- the packet of the definition is the one that the link sends
@@ -217,6 +225,13 @@ module _ (case : LinkCase) (packets : List Packet) (givens : List Given) where
       let here = subst (λ (l : Landing). LandedFrom case trace (time_of givens) l rest) same.0 landed in
       (here.0, here.1)
 
+  counts_answered : (flight : List Numbered) (next : Next) → CountNext (length packets) flight next → length packets ≡ acked_of givens + lost_of givens + length flight
+      → length packets ≡ (answer_by case packets givens flight next).ack.packets_acked + acked_of givens
+      + ((answer_by case packets givens flight next).ack.lost_pkts_sample + lost_of givens)
+      + length (left_by (answer_by case packets givens flight next).taking flight)
+  counts_answered flight all_lost counted so_far = omega (arith, counted, so_far)
+  counts_answered flight (arrives number sent_at chance marked) counted so_far = omega (arith, counted, so_far)
+
 -- ---- one call
 
 module _ (case : LinkCase) (trace : IsTrace case.trace) (packets : List Packet) (givens : List Given) (settled : Settled case packets givens) where
@@ -238,6 +253,8 @@ module _ (case : LinkCase) (trace : IsTrace case.trace) (packets : List Packet) 
         queued = IsQueued-later case.trace (time_of givens) given.ack.now packets goes_on.0 settled.queued;
         served = subst (AllServedWithin case.trace (chances_past packets)) (sym stays) (all_served_within-staying case.trace (chances_past packets) (packets_of flight) settled.served);
         arriving = subst (ArriveFrom case given.ack.now) (sym stays) goes_on.1;
+        once = settled.once;
+        counts = counts_answered case packets givens flight (next_of flight) (count_next (length packets) flight (next_of flight) matches settled.below) settled.counts;
       }
 
   pub answer_same : (answer_to case packets givens).ack
@@ -292,7 +309,7 @@ module _ (case : LinkCase) (trace : IsTrace case.trace) where
   settled-run_from [] run settled = settled
   settled-run_from (window ∷ later) run settled = settled-run_from later (called case window run) (settled-called window run settled)
 
-  settled-run_of : (windows : List ℕ) → Settled case (run_of case windows).packets (run_of case windows).givens
+  pub settled-run_of : (windows : List ℕ) → Settled case (run_of case windows).packets (run_of case windows).givens
   settled-run_of windows = settled-run_from windows (record { packets = []; givens = [] }) (settled_at_first case)
 
   pub next_ack_same : (windows : List ℕ) (window : ℕ) (standing : Whole) → standing ≡ whole_of (run_of case windows) → next_ack case window standing ≡ ack_after case windows window

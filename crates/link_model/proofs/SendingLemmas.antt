@@ -107,6 +107,14 @@ module _ (case : LinkCase) where
       ap (λ b. with_fate case (cond b Lost (Served (chance_now case standing) (is_marked case.mark (waiting_now case standing)))) standing)
       (neither (is_listed standing.sent case.losses) (leb case.queue (waiting_now case standing)) other (not_full case.queue (waiting_now case standing) is))
 
+  -- one is lost, since it is listed
+  pub sending-lost : (left : ℕ) (standing : Standing) → 0 < left → is_listed standing.sent case.losses ≡ true → sending case (left - 1) (with_lost 1 standing) ≡ sending case left standing
+  sending-lost left standing some listed =
+      let one : left ≡ suc (left - 1) = omega arith in
+      let packet : with_packet case standing ≡ with_lost 1 standing =
+      ap (λ b. with_fate case (cond (b || leb case.queue (waiting_now case standing)) Lost (Served (chance_now case standing) (is_marked case.mark (waiting_now case standing)))) standing) listed in
+      sym (ap (sending case (left - 1)) packet) ∙ sym (ap (λ n. sending case n standing) one)
+
   -- one is served
   pub sending-served : (left : ℕ) (standing : Standing) → 0 < left → is_listed standing.sent case.losses ≡ false → waiting_now case standing < case.queue
       → sending case (left - 1) (with_served case (chance_now case standing) (is_marked case.mark (waiting_now case standing)) standing) ≡ sending case left standing

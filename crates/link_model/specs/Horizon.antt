@@ -1,5 +1,6 @@
 -- How far the times of a link can come: bounds by the packets sent and the calls made, so that its numbers fit.
 use Rattle.std.specs.Prelude.{◌≡◌, ℕ, ◌+◌, ◌*◌, ◌^◌, ◌<◌, ◌≤◌, List, [], ◌∷◌, length, slice_index}
+use Rattle.ccp_base.specs.Limits.{most_flight, most_acks}
 use Rattle.link_model.specs.declared.link_case.LinkCase.{LinkCase}
 use Rattle.link_model.specs.declared.arrival.Arrival.{Arrival}
 use Rattle.link_model.specs.declared.traffic.Traffic.{Traffic}
@@ -27,15 +28,15 @@ pub record IsTimely (case : LinkCase) (standing : Standing) : Type 0 where
 -- listed have numbers below the next packet's
 pub record IsKept (case : LinkCase) (traffic : Traffic) : Type 0 where
   pub valid : IsTrace case.trace
-  pub capacity : traffic.flight.capacity ≡ 4096
+  pub capacity : traffic.flight.capacity ≡ most_flight
   pub place : traffic.next.place < length case.trace
   pub count : traffic.in_flight ≡ count_of traffic.flight.items traffic.lost
-  pub few : traffic.in_flight ≤ 4096
+  pub few : traffic.in_flight ≤ most_flight
   pub passed : (i : ℕ) → i < traffic.passed → slice_index case.losses i < traffic.sent
   pub timely : IsTimely case (standing_in case.trace traffic)
 
 -- the counts are within the bounds of 65,536 calls
 pub record IsCounted (traffic : Traffic) : Type 0 where
-  pub calls : traffic.calls ≤ 65536
-  pub sent : traffic.sent ≤ 4096 * traffic.calls
+  pub calls : traffic.calls ≤ most_acks
+  pub sent : traffic.sent ≤ most_flight * traffic.calls
   pub acked : traffic.acked ≤ traffic.calls

@@ -1,4 +1,5 @@
 pub mod Chances
+pub mod Counts
 pub mod Horizon
 pub mod Link
 pub mod LinkLaws

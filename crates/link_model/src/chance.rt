@@ -52,6 +52,13 @@ impl Trace {
     {
         first_chance(self.as_slice(), at, near)
     }
+
+    /// The first chance is what its name says, from every number on.
+    pub fn first_chance_law(&self)
+        ensures { (at start : ℕ) → IsFirstChance self.now at start (first_chance self.now at start) }
+    {
+        let _ = self.as_slice();
+    }
 }
 
 /// The last time of a trace, in milliseconds.

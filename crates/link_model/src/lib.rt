@@ -11,6 +11,7 @@ mod trace;
 mod trace_text;
 mod traffic;
 
+pub use arrival::Arrival;
 pub use chance::Chance;
 pub use link::Link;
 pub use link_case::LinkCase;

@@ -1,4 +1,5 @@
 ghost use Rattle.std.specs.Prelude.{◌≡◌, ℕ, ◌+◌, ◌<◌, ◌≤◌, List, [], ◌∷◌, ◌++◌, IfOk};
+ghost use Rattle.ccp_base.specs.Limits.{most_acks};
 ghost use Rattle.link_model.specs.Traces.{IsTrace};
 ghost use Rattle.link_model.specs.Link.{ack_after};
 ghost use Rattle.link_model.specs.Standing.{Stands};
@@ -47,10 +48,10 @@ impl Link {
         self.traffic.calls
     }
 
-    /// Gives the link a window, in bytes, and answers the acknowledgement. At most 65,536 windows are given. The
-    /// work is constant on average, whatever time the link was idle.
+    /// Gives the link a window, in bytes, and answers the acknowledgement. At most 65,536 windows are given. A
+    /// call costs the packets that it serves, one on average, and not those that it loses; a listed loss is passed once.
     pub fn next(&mut self, window: u64) -> Ack
-        requires { self.old.standing.calls < 65536 }
+        requires { self.old.standing.calls < most_acks }
         ensures ack { (windows : List ℕ) → Stands self.old windows → result ≡ ack_after self.old.case windows window }
         ensures stands { (windows : List ℕ) → Stands self.old windows → Stands self.new (windows ++ window ∷ []) }
         ensures case { self.new.case ≡ self.old.case }
@@ -60,7 +61,7 @@ impl Link {
     }
 
     fn step(&mut self, window: u64) -> Ack
-        requires { self.old.standing.calls < 65536 }
+        requires { self.old.standing.calls < most_acks }
         ensures valid { IsTrace self.old.case.trace }
         ensures case { self.new.case ≡ self.old.case }
         ensures ack { result ≡ next_ack self.old.case window self.old.standing }

@@ -1,6 +1,6 @@
-ghost use Rattle.std.specs.Prelude.{◌≡◌, ℕ, ◌+◌, ◌-◌, ◌*◌, ◌^◌, ◌<◌, ◌≤◌, [], ◌∷◌, ◌++◌, length, slice_index, IfOk, if◌then◌else◌};
-ghost use Rattle.std.specs.List.Sorted.{IsStrictlyIncreasing};
-ghost use Rattle.link_model.specs.Link.{is_marked, is_listed, arrival_ack, run_of};
+ghost use Rattle.std.specs.Prelude.{◌≡◌, ℕ, ◌+◌, ◌-◌, ◌*◌, ◌^◌, ◌<◌, ◌≤◌, [], ◌∷◌, ◌++◌, length, IfOk};
+ghost use Rattle.ccp_base.specs.Limits.{most_flight, most_acks};
+ghost use Rattle.link_model.specs.Link.{is_marked, run_of};
 ghost use Rattle.link_model.specs.Standing.{standing_of};
 ghost use Rattle.link_model.specs.Steps.{standing_in, with_lost, with_served, sending, waiting_now, chance_now, IsQueue, ack_of, after_ack};
 ghost use Rattle.link_model.specs.Horizon.{IsKept, IsCounted};
@@ -14,7 +14,7 @@ use circular_buffer::HeapCircularBuffer;
 use std::alloc::{AllocError, Global};
 
 /// The most packets in flight.
-const PACKETS: usize = 4096;
+pub(crate) const PACKETS: usize = 4096;
 
 /// What is under way on a link.
 #[derive(Drop)]
@@ -71,9 +71,9 @@ impl Traffic {
     /// Sends so many packets now.
     pub(crate) fn send(&mut self, case: &LinkCase, more: u64)
         requires kept { IsKept case.now self.old }
-        requires room { self.old.in_flight + more ≤ 4096 }
+        requires room { self.old.in_flight + more ≤ most_flight }
         requires sent { self.old.sent + more ≤ 2 ^ 28 }
-        requires calls { self.old.calls ≤ 65536 }
+        requires calls { self.old.calls ≤ most_acks }
         ensures sending { standing_in case.now.trace self.new ≡ sending case.now more (standing_in case.now.trace self.old) }
         ensures kept { IsKept case.now self.new }
         ensures in_flight { self.new.in_flight ≡ self.old.in_flight + more }
@@ -96,7 +96,7 @@ impl Traffic {
     fn queue(&self, case: &LinkCase) -> Queue
         requires kept { IsKept case.now self.now }
         requires sent { self.now.sent ≤ 2 ^ 28 }
-        requires calls { self.now.calls ≤ 65536 }
+        requires calls { self.now.calls ≤ most_acks }
         ensures { IsQueue case.now (standing_in case.now.trace self.now) result }
     {
         let own = case.trace.time_of(self.next);
@@ -128,9 +128,9 @@ impl Traffic {
         requires kept { IsKept case.now self.old }
         requires queue { IsQueue case.now (standing_in case.now.trace self.old) queue.old }
         requires some { 0 < left }
-        requires room { self.old.in_flight + left ≤ 4096 }
+        requires room { self.old.in_flight + left ≤ most_flight }
         requires sent { self.old.sent + left ≤ 2 ^ 28 }
-        requires calls { self.old.calls ≤ 65536 }
+        requires calls { self.old.calls ≤ most_acks }
         ensures sending { sending case.now result (standing_in case.now.trace self.new) ≡ sending case.now left (standing_in case.now.trace self.old) }
         ensures kept { IsKept case.now self.new }
         ensures queue { IsQueue case.now (standing_in case.now.trace self.new) queue.new }
@@ -140,9 +140,8 @@ impl Traffic {
         ensures acked { self.new.acked ≡ self.old.acked }
         ensures calls { self.new.calls ≡ self.old.calls }
     {
-        let losses = case.losses.as_slice();
-        self.passed = next_loss(losses, self.passed, self.sent);
-        if is_at(losses, self.passed, self.sent) {
+        self.passed = case.next_loss(self.passed, self.sent);
+        if case.loses(self.passed, self.sent) {
             self.lose(case, 1);
             return left - 1;
         }
@@ -157,7 +156,7 @@ impl Traffic {
     /// Sends so many packets that are lost.
     fn lose(&mut self, case: &LinkCase, more: u64)
         requires kept { IsKept case.now self.old }
-        requires room { self.old.in_flight + more ≤ 4096 }
+        requires room { self.old.in_flight + more ≤ most_flight }
         requires sent { self.old.sent + more ≤ 2 ^ 28 }
         ensures standing { standing_in case.now.trace self.new ≡ with_lost more (standing_in case.now.trace self.old) }
         ensures kept { IsKept case.now self.new }
@@ -176,10 +175,10 @@ impl Traffic {
     fn serve(&mut self, case: &LinkCase, queue: &mut Queue)
         requires kept { IsKept case.now self.old }
         requires queue { IsQueue case.now (standing_in case.now.trace self.old) queue.old }
-        requires waiting { queue.old.waiting < 4096 }
-        requires room { self.old.in_flight + 1 ≤ 4096 }
+        requires waiting { queue.old.waiting < most_flight }
+        requires room { self.old.in_flight + 1 ≤ most_flight }
         requires sent { self.old.sent + 1 ≤ 2 ^ 28 }
-        requires calls { self.old.calls ≤ 65536 }
+        requires calls { self.old.calls ≤ most_acks }
         ensures standing { standing_in case.now.trace self.new ≡ with_served case.now (chance_now case.now (standing_in case.now.trace self.old)) (is_marked case.now.mark (waiting_now case.now (standing_in case.now.trace self.old))) (standing_in case.now.trace self.old) }
         ensures kept { IsKept case.now self.new }
         ensures queue { IsQueue case.now (standing_in case.now.trace self.new) queue.new }
@@ -193,7 +192,7 @@ impl Traffic {
             lost: self.lost,
             sent_at: self.time,
             at: own + case.delay_us,
-            marked: is_marked(case.mark, queue.waiting),
+            marked: case.marks(queue.waiting),
         };
         put(&mut self.flight, arrival);
         self.lost = 0;
@@ -211,7 +210,7 @@ impl Traffic {
         requires kept { IsKept case.now self.old }
         requires sent { self.old.sent ≤ 2 ^ 28 }
         requires acked { self.old.acked ≤ self.old.calls }
-        requires calls { self.old.calls < 65536 }
+        requires calls { self.old.calls < most_acks }
         ensures ack { result ≡ ack_of case.now (standing_in case.now.trace self.old) }
         ensures standing { standing_in case.now.trace self.new ≡ after_ack case.now (standing_in case.now.trace self.old) }
         ensures kept { IsKept case.now self.new }
@@ -227,35 +226,7 @@ impl Traffic {
         self.calls += 1;
         self.time = arrival.at;
         self.sample = arrival.at - arrival.sent_at;
-        self.arrived(case, arrival)
-    }
-
-    /// The acknowledgement of a packet that just arrived.
-    fn arrived(&self, case: &LinkCase, arrival: Arrival) -> Ack
-        requires order { arrival.sent_at ≤ arrival.at }
-        requires few { self.now.in_flight ≤ 4096 }
-        requires acked { self.now.acked ≤ 2 ^ 28 }
-        requires sent { self.now.sent ≤ 2 ^ 28 }
-        ensures { result ≡ arrival_ack case.now arrival.sent_at arrival.at arrival.marked arrival.lost self.now.in_flight self.now.acked self.now.sent }
-    {
-        let mss = u64::from(case.mss);
-        Ack {
-            bytes_acked: mss,
-            packets_acked: 1,
-            bytes_misordered: number_if(arrival.lost != 0, mss),
-            packets_misordered: number_if(arrival.lost != 0, 1),
-            ecn_bytes: number_if(arrival.marked, mss),
-            ecn_packets: number_if(arrival.marked, 1),
-            lost_pkts_sample: arrival.lost,
-            now: arrival.at,
-            bytes_in_flight: mss * self.in_flight,
-            packets_in_flight: self.in_flight,
-            bytes_pending: 0,
-            rate_incoming: case.rate(self.acked, arrival.at),
-            rate_outgoing: case.rate(self.sent, arrival.at),
-            rtt_sample_us: arrival.at - arrival.sent_at,
-            was_timeout: false,
-        }
+        case.arrival_ack(arrival, self.in_flight, self.acked, self.sent)
     }
 
     /// Times out: all packets in flight are lost.
@@ -264,7 +235,7 @@ impl Traffic {
         requires none { self.old.flight.items ≡ [] }
         requires sent { self.old.sent ≤ 2 ^ 28 }
         requires acked { self.old.acked ≤ self.old.calls }
-        requires calls { self.old.calls < 65536 }
+        requires calls { self.old.calls < most_acks }
         ensures ack { result ≡ ack_of case.now (standing_in case.now.trace self.old) }
         ensures standing { standing_in case.now.trace self.new ≡ after_ack case.now (standing_in case.now.trace self.old) }
         ensures kept { IsKept case.now self.new }
@@ -278,69 +249,16 @@ impl Traffic {
         self.in_flight = 0;
         self.calls += 1;
         self.time = now;
-        Ack {
-            lost_pkts_sample: lost,
-            now,
-            rate_incoming: case.rate(self.acked, now),
-            rate_outgoing: case.rate(self.sent, now),
-            rtt_sample_us: self.sample,
-            was_timeout: true,
-            ..Ack::default()
-        }
+        case.timeout_ack(now, self.sample, lost, self.acked, self.sent)
     }
 }
 
 /// Appends a packet to those in flight.
 fn put(flight: &mut HeapCircularBuffer<Arrival>, arrival: Arrival)
-    requires capacity { flight.old.capacity ≡ 4096 }
-    requires room { length flight.old.items < 4096 }
+    requires capacity { flight.old.capacity ≡ most_flight }
+    requires room { length flight.old.items < most_flight }
     ensures items { flight.new.items ≡ flight.old.items ++ arrival ∷ [] }
-    ensures capacity { flight.new.capacity ≡ 4096 }
+    ensures capacity { flight.new.capacity ≡ most_flight }
 {
     let _ = flight.push_back(arrival);
-}
-
-/// The place of the first listed loss from this number on, where those before a place are below the number.
-fn next_loss(losses: &[u32], passed: usize, number: u64) -> usize
-    requires { (i : ℕ) → i < passed → slice_index losses.now i < number }
-    ensures before { (i : ℕ) → i < result → slice_index losses.now i < number }
-    ensures from { result < length losses.now → number ≤ slice_index losses.now result }
-{
-    let mut place = passed;
-    while let Some(loss) = losses.get(place) {
-        if u64::from(*loss) >= number {
-            return place;
-        }
-        place += 1;
-    }
-    place
-}
-
-/// Whether a number is listed, where the losses before a place are below it, and the one there isn't.
-fn is_at(losses: &[u32], place: usize, number: u64) -> bool
-    requires rises { IsStrictlyIncreasing losses.now }
-    requires before { (i : ℕ) → i < place → slice_index losses.now i < number }
-    requires from { place < length losses.now → number ≤ slice_index losses.now place }
-    ensures { result ≡ is_listed number losses.now }
-{
-    if place >= losses.len() {
-        return false;
-    }
-    u64::from(losses[place]) == number
-}
-
-fn is_marked(mark: Option<u32>, queued: u128) -> bool
-    ensures { result ≡ is_marked mark queued }
-{
-    match mark {
-        Some(mark) => queued >= u128::from(mark),
-        None => false,
-    }
-}
-
-/// A number, or 0.
-fn number_if(truth: bool, number: u64) -> u64
-    ensures { result ≡ (if truth then number else 0) }
-{
-    if truth { number } else { 0 }
 }

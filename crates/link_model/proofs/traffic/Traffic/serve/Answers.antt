@@ -38,8 +38,8 @@ pub returns-then-own-self-clause-standing : goal.returns-then-own-self-clause-st
 returns-then-own-self-clause-standing c =
     let case = c.args.case.now in
     let old = c.args.self.now in
-    served_standing case old c.args.queue.now c.requires.queue c.time_of-own.result c.is_marked.result c.put.new.flight.items c.after-self.result
-    c.time_of-own.ensures c.is_marked.ensures c.put.ensures.items c.after-self.ensures.number
+    served_standing case old c.args.queue.now c.requires.queue c.time_of-own.result c.marks.result c.put.new.flight.items c.after-self.result
+    c.time_of-own.ensures c.marks.ensures c.put.ensures.items c.after-self.ensures.number
 
 pub returns-then-own-self-clause-kept : goal.returns-then-own-self-clause-kept
 returns-then-own-self-clause-kept c =
@@ -47,9 +47,9 @@ returns-then-own-self-clause-kept c =
     let old = c.args.self.now in
     let kept = c.requires.kept in
     let standing = standing_in case.trace old in
-    let last : Arrival = record { lost = old.lost; sent_at = old.time; at = c.time_of-own.result + case.delay_us; marked = c.is_marked.result } in
-    let same = served_standing case old c.args.queue.now c.requires.queue c.time_of-own.result c.is_marked.result c.put.new.flight.items c.after-self.result
-    c.time_of-own.ensures c.is_marked.ensures c.put.ensures.items c.after-self.ensures.number in
+    let last : Arrival = record { lost = old.lost; sent_at = old.time; at = c.time_of-own.result + case.delay_us; marked = c.marks.result } in
+    let same = served_standing case old c.args.queue.now c.requires.queue c.time_of-own.result c.marks.result c.put.new.flight.items c.after-self.result
+    c.time_of-own.ensures c.marks.ensures c.put.ensures.items c.after-self.ensures.number in
     record {
       valid = kept.valid;
       capacity = c.put.ensures.capacity;
@@ -74,8 +74,8 @@ pub returns-else-own-self-clause-standing : goal.returns-else-own-self-clause-st
 returns-else-own-self-clause-standing c =
     let case = c.args.case.now in
     let old = c.args.self.now in
-    served_standing case old c.args.queue.now c.requires.queue c.time_of-own.result c.is_marked.result c.put.new.flight.items c.after-self.result
-    c.time_of-own.ensures c.is_marked.ensures c.put.ensures.items c.after-self.ensures.number
+    served_standing case old c.args.queue.now c.requires.queue c.time_of-own.result c.marks.result c.put.new.flight.items c.after-self.result
+    c.time_of-own.ensures c.marks.ensures c.put.ensures.items c.after-self.ensures.number
 
 pub returns-else-own-self-clause-kept : goal.returns-else-own-self-clause-kept
 returns-else-own-self-clause-kept c =
@@ -83,9 +83,9 @@ returns-else-own-self-clause-kept c =
     let old = c.args.self.now in
     let kept = c.requires.kept in
     let standing = standing_in case.trace old in
-    let last : Arrival = record { lost = old.lost; sent_at = old.time; at = c.time_of-own.result + case.delay_us; marked = c.is_marked.result } in
-    let same = served_standing case old c.args.queue.now c.requires.queue c.time_of-own.result c.is_marked.result c.put.new.flight.items c.after-self.result
-    c.time_of-own.ensures c.is_marked.ensures c.put.ensures.items c.after-self.ensures.number in
+    let last : Arrival = record { lost = old.lost; sent_at = old.time; at = c.time_of-own.result + case.delay_us; marked = c.marks.result } in
+    let same = served_standing case old c.args.queue.now c.requires.queue c.time_of-own.result c.marks.result c.put.new.flight.items c.after-self.result
+    c.time_of-own.ensures c.marks.ensures c.put.ensures.items c.after-self.ensures.number in
     record {
       valid = kept.valid;
       capacity = c.put.ensures.capacity;

@@ -1,6 +1,6 @@
 use Rattle.std.proofs.Common.{◌<◌, eqb, length, ap, sym, ◌∙◌, arith}
 use Rattle.link_model.proofs.LossLemmas.{is_listed-here, is_listed-past}
-use Rattle.link_model.proofs.traffic.is_at.Goals as goal
+use Rattle.link_model.proofs.rules.is_at.Goals as goal
 
 pub returns-then-place-losses : goal.returns-then-place-losses
 returns-then-place-losses c = sym (is_listed-past c.args.number c.args.losses.now c.args.place c.if-place-losses.true c.requires.before)
