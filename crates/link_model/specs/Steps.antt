@@ -1,4 +1,4 @@
--- The steps of the link by what it keeps: the sending of one packet, of a call, and its acknowledgement.
+-- The steps of the link by what it keeps: the sending of one packet, that of a call, and the acknowledgement.
 use Rattle.std.specs.Prelude.{◌≡◌, ℕ, zero, suc, ◌+◌, ◌-◌, ◌*◌, ◌<◌, ◌≤◌, max, Bool, Option, Some, None, List, [], ◌∷◌, ◌++◌, length, drop, slice_get, slice_index}
 use Rattle.ccp_base.specs.declared.ack.Ack.{Ack}
 use Rattle.link_model.specs.declared.link_case.LinkCase.{LinkCase}
@@ -6,7 +6,7 @@ use Rattle.link_model.specs.declared.arrival.Arrival.{Arrival}
 use Rattle.link_model.specs.declared.traffic.Traffic.{Traffic}
 use Rattle.link_model.specs.declared.queue.Queue.{Queue}
 use Rattle.link_model.specs.Chances.{first_chance, number_of}
-use Rattle.link_model.specs.Link.{Fate, Lost, Served, allowance, fate_by, arrival_ack, timeout_ack}
+use Rattle.link_model.specs.Link.{Fate, Lost, Served, allowance, is_marked, fate_by, arrival_ack, timeout_ack}
 use Rattle.link_model.specs.Standing.{Standing, arrival_by}
 
 -- how many packets are in flight
@@ -66,6 +66,11 @@ waiting_now case standing = standing.chance - first_chance case.trace (standing.
 -- the first chance that isn't before now and that no packet has
 abbrev pub chance_now : LinkCase → Standing → ℕ
 chance_now case standing = max standing.chance (first_chance case.trace standing.time 0)
+
+-- one more packet, which is sent on now
+abbrev pub served_now : LinkCase → Standing → Standing
+served_now case standing =
+    with_served case (chance_now case standing) (is_marked case.mark (waiting_now case standing)) standing
 
 -- one more packet is sent now
 abbrev pub with_packet : LinkCase → Standing → Standing

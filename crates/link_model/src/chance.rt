@@ -16,7 +16,8 @@ impl Trace {
     pub fn time_of(&self, chance: Chance) -> u64
         requires place { chance.place < length self.now }
         requires fits { chance_time self.now (number_of self.now chance) < 2 ^ 64 }
-        ensures { result ≡ chance_time self.now (number_of self.now chance) }
+        ensures time { result ≡ chance_time self.now (number_of self.now chance) }
+        ensures valid { IsTrace self.now }
     {
         time_of(self.as_slice(), chance)
     }

@@ -15,6 +15,7 @@ pub use arrival::Arrival;
 pub use chance::Chance;
 pub use link::Link;
 pub use link_case::LinkCase;
+pub use queue::Queue;
 pub use trace::{LONGEST_MS, Trace, TraceFault};
 
 #[cfg(test)]

@@ -49,7 +49,8 @@ impl Link {
     }
 
     /// Gives the link a window, in bytes, and answers the acknowledgement. At most 65,536 windows are given. A
-    /// call costs the packets that it serves, one on average, and not those that it loses; a listed loss is passed once.
+    /// call takes a step for each packet that it serves and one for all further ones where the queue is full; a packet
+    /// that is listed as lost takes a step, too. A chance is found by at most one search in the trace.
     pub fn next(&mut self, window: u64) -> Ack
         requires { self.old.standing.calls < most_acks }
         ensures ack { (windows : List ℕ) → Stands self.old windows → result ≡ ack_after self.old.case windows window }

@@ -1,8 +1,8 @@
 ghost use Rattle.std.specs.Prelude.{◌≡◌, ℕ, ◌+◌, ◌-◌, ◌*◌, ◌^◌, ◌<◌, ◌≤◌, [], ◌∷◌, ◌++◌, length, IfOk};
 ghost use Rattle.ccp_base.specs.Limits.{most_flight, most_acks};
-ghost use Rattle.link_model.specs.Link.{is_marked, run_of};
+ghost use Rattle.link_model.specs.Link.{run_of};
 ghost use Rattle.link_model.specs.Standing.{standing_of};
-ghost use Rattle.link_model.specs.Steps.{standing_in, with_lost, with_served, sending, waiting_now, chance_now, IsQueue, ack_of, after_ack};
+ghost use Rattle.link_model.specs.Steps.{standing_in, with_lost, served_now, sending, IsQueue, ack_of, after_ack};
 ghost use Rattle.link_model.specs.Horizon.{IsKept, IsCounted};
 
 use crate::arrival::Arrival;
@@ -84,7 +84,7 @@ impl Traffic {
         if more == 0 {
             return;
         }
-        let mut queue = self.queue(case);
+        let mut queue = case.trace.queue(self.next, self.time, self.near);
         self.near = queue.near;
         let mut left = more;
         while left > 0 {
@@ -92,38 +92,7 @@ impl Traffic {
         }
     }
 
-    /// The queue now.
-    fn queue(&self, case: &LinkCase) -> Queue
-        requires kept { IsKept case.now self.now }
-        requires sent { self.now.sent ≤ 2 ^ 28 }
-        requires calls { self.now.calls ≤ most_acks }
-        ensures { IsQueue case.now (standing_in case.now.trace self.now) result }
-    {
-        let own = case.trace.time_of(self.next);
-        if own > self.time {
-            let later = case.trace.first_chance(self.time + 1, self.near);
-            return Queue {
-                next: self.next,
-                waiting: case.trace.between(later, self.next),
-                near: later.place,
-            };
-        }
-        if own < self.time {
-            let due = case.trace.first_chance(self.time, self.near);
-            return Queue {
-                next: due,
-                waiting: 0,
-                near: due.place,
-            };
-        }
-        Queue {
-            next: self.next,
-            waiting: 0,
-            near: self.near,
-        }
-    }
-
-    /// Sends one packet of so many, or all of them where the queue is full. Answers how many are left.
+    /// Sends one packet of so many, or all of them where the queue is full. Answers how many are left to be sent.
     fn send_some(&mut self, case: &LinkCase, queue: &mut Queue, left: u64) -> u64
         requires kept { IsKept case.now self.old }
         requires queue { IsQueue case.now (standing_in case.now.trace self.old) queue.old }
@@ -179,7 +148,7 @@ impl Traffic {
         requires room { self.old.in_flight + 1 ≤ most_flight }
         requires sent { self.old.sent + 1 ≤ 2 ^ 28 }
         requires calls { self.old.calls ≤ most_acks }
-        ensures standing { standing_in case.now.trace self.new ≡ with_served case.now (chance_now case.now (standing_in case.now.trace self.old)) (is_marked case.now.mark (waiting_now case.now (standing_in case.now.trace self.old))) (standing_in case.now.trace self.old) }
+        ensures standing { standing_in case.now.trace self.new ≡ served_now case.now (standing_in case.now.trace self.old) }
         ensures kept { IsKept case.now self.new }
         ensures queue { IsQueue case.now (standing_in case.now.trace self.new) queue.new }
         ensures in_flight { self.new.in_flight ≡ self.old.in_flight + 1 }
@@ -205,7 +174,7 @@ impl Traffic {
         }
     }
 
-    /// Acknowledges the first packet in flight that isn't lost, or times out.
+    /// Acknowledges the first packet in flight that isn't lost, or times out where there is none.
     pub(crate) fn acknowledge(&mut self, case: &LinkCase) -> Ack
         requires kept { IsKept case.now self.old }
         requires sent { self.old.sent ≤ 2 ^ 28 }

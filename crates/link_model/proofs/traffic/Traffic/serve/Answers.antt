@@ -20,7 +20,7 @@ pub overflow_add-arrival : goal.overflow_add-arrival
 overflow_add-arrival c =
     let case = c.args.case.now in
     let same = ap (chance_time case.trace) c.requires.queue.next in
-    omega (arith, c.time_of-own.ensures, same, case.delay_within, now_soon case c.requires.kept.valid (standing_in case.trace c.args.self.now) c.requires.kept.timely, c.requires.sent, c.requires.calls)
+    omega (arith, c.time_of-own.ensures.time, same, case.delay_within, now_soon case c.requires.kept.valid (standing_in case.trace c.args.self.now) c.requires.kept.timely, c.requires.sent, c.requires.calls)
 
 pub put-requires-clause-room : goal.put-requires-clause-room
 put-requires-clause-room c =
@@ -39,7 +39,7 @@ returns-then-own-self-clause-standing c =
     let case = c.args.case.now in
     let old = c.args.self.now in
     served_standing case old c.args.queue.now c.requires.queue c.time_of-own.result c.marks.result c.put.new.flight.items c.after-self.result
-    c.time_of-own.ensures c.marks.ensures c.put.ensures.items c.after-self.ensures.number
+    c.time_of-own.ensures.time c.marks.ensures c.put.ensures.items c.after-self.ensures.number
 
 pub returns-then-own-self-clause-kept : goal.returns-then-own-self-clause-kept
 returns-then-own-self-clause-kept c =
@@ -49,7 +49,7 @@ returns-then-own-self-clause-kept c =
     let standing = standing_in case.trace old in
     let last : Arrival = record { lost = old.lost; sent_at = old.time; at = c.time_of-own.result + case.delay_us; marked = c.marks.result } in
     let same = served_standing case old c.args.queue.now c.requires.queue c.time_of-own.result c.marks.result c.put.new.flight.items c.after-self.result
-    c.time_of-own.ensures c.marks.ensures c.put.ensures.items c.after-self.ensures.number in
+    c.time_of-own.ensures.time c.marks.ensures c.put.ensures.items c.after-self.ensures.number in
     record {
       valid = kept.valid;
       capacity = c.put.ensures.capacity;
@@ -67,7 +67,7 @@ returns-then-own-self-clause-queue c =
     record {
       place = c.after-self.ensures.place;
       next = served_next case old c.args.queue.now c.requires.queue c.after-self.result c.after-self.ensures.number;
-      waiting = served_more case old c.args.queue.now c.requires.queue c.requires.kept.valid c.after-self.result c.after-self.ensures.number (omega (arith, c.if-own-self.true, c.time_of-own.ensures));
+      waiting = served_more case old c.args.queue.now c.requires.queue c.requires.kept.valid c.after-self.result c.after-self.ensures.number (omega (arith, c.if-own-self.true, c.time_of-own.ensures.time));
     }
 
 pub returns-else-own-self-clause-standing : goal.returns-else-own-self-clause-standing
@@ -75,7 +75,7 @@ returns-else-own-self-clause-standing c =
     let case = c.args.case.now in
     let old = c.args.self.now in
     served_standing case old c.args.queue.now c.requires.queue c.time_of-own.result c.marks.result c.put.new.flight.items c.after-self.result
-    c.time_of-own.ensures c.marks.ensures c.put.ensures.items c.after-self.ensures.number
+    c.time_of-own.ensures.time c.marks.ensures c.put.ensures.items c.after-self.ensures.number
 
 pub returns-else-own-self-clause-kept : goal.returns-else-own-self-clause-kept
 returns-else-own-self-clause-kept c =
@@ -85,7 +85,7 @@ returns-else-own-self-clause-kept c =
     let standing = standing_in case.trace old in
     let last : Arrival = record { lost = old.lost; sent_at = old.time; at = c.time_of-own.result + case.delay_us; marked = c.marks.result } in
     let same = served_standing case old c.args.queue.now c.requires.queue c.time_of-own.result c.marks.result c.put.new.flight.items c.after-self.result
-    c.time_of-own.ensures c.marks.ensures c.put.ensures.items c.after-self.ensures.number in
+    c.time_of-own.ensures.time c.marks.ensures c.put.ensures.items c.after-self.ensures.number in
     record {
       valid = kept.valid;
       capacity = c.put.ensures.capacity;
@@ -103,5 +103,5 @@ returns-else-own-self-clause-queue c =
     record {
       place = c.after-self.ensures.place;
       next = served_next case old c.args.queue.now c.requires.queue c.after-self.result c.after-self.ensures.number;
-      waiting = served_no_more case old c.args.queue.now c.requires.queue c.requires.kept.valid c.after-self.result c.after-self.ensures.number (omega (arith, c.if-own-self.false, c.time_of-own.ensures));
+      waiting = served_no_more case old c.args.queue.now c.requires.queue c.requires.kept.valid c.after-self.result c.after-self.ensures.number (omega (arith, c.if-own-self.false, c.time_of-own.ensures.time));
     }
