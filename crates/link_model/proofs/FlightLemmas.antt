@@ -3,7 +3,7 @@ use Rattle.std.proofs.Common.{◌≡◌, ℕ, suc, ◌+◌, ◌<◌, ◌≤◌, 
 use Rattle.std.proofs.lemmas.Bool.Decides.{nat_tests}
 use Rattle.link_model.specs.Link.{Packet, Fate, Lost, Served, Taking, packets_to, all_below, Given, Numbered, takes, left_by, lost_by, is_lost, in_flight, Next, arrives, all_lost, next_by, next_of}
 use Rattle.link_model.specs.Standing.{packets_of}
-use Rattle.link_model.proofs.Whole.{Landing, Arrived, AllLost, landing, staying}
+use Rattle.link_model.proofs.Whole.{Arrived, AllLost, landing, staying}
 
 -- ---- numbers in flight
 

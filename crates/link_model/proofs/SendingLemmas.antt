@@ -1,5 +1,5 @@
 -- The sending of a call, packet by packet, against the steps of what a link keeps.
-use Rattle.std.proofs.Common.{◌≡◌, ℕ, zero, suc, ◌+◌, ◌-◌, ◌*◌, ◌<◌, ◌≤◌, Bool, true, false, cond, leb, ◌||◌, Option, Some, None, List, [], ◌∷◌, ◌++◌, length, drop, slice_get, max, refl, ap, sym, ◌∙◌, subst, arith, inl, inr}
+use Rattle.std.proofs.Common.{◌≡◌, ℕ, zero, suc, ◌+◌, ◌-◌, ◌<◌, ◌≤◌, Bool, true, false, cond, leb, ◌||◌, Some, None, List, [], ◌∷◌, ◌++◌, drop, slice_get, max, refl, ap, sym, ◌∙◌, subst, arith, inl, inr}
 use Rattle.std.proofs.lemmas.Bool.{cases_lt}
 use Rattle.std.proofs.lemmas.Bool.Decides.{nat_tests}
 use Rattle.link_model.specs.declared.link_case.LinkCase.{LinkCase}
@@ -10,11 +10,9 @@ use Rattle.link_model.specs.declared.traffic.Traffic.{Traffic}
 use Rattle.link_model.specs.Traces.{IsTrace}
 use Rattle.link_model.specs.Chances.{number_of, chance_time, first_chance}
 use Rattle.link_model.specs.Link.{Lost, Served, is_listed, is_marked, arrival_of}
-use Rattle.link_model.specs.Standing.{Standing, arrival_by}
-use Rattle.link_model.specs.Steps.{count_of, standing_in, with_lost, with_served, with_fate, with_packet, waiting_now, chance_now, sending, IsQueue}
-use Rattle.link_model.specs.Horizon.{horizon, ArriveWithin, IsTimely, IsKept}
-use Rattle.link_model.proofs.ChanceLemmas.{first_chance_le, le_first_chance, turn_below}
-use Rattle.link_model.proofs.HorizonLemmas.{ArriveWithin-more, length_le_count, count-push, next_soon, now_soon, is_timely-served}
+use Rattle.link_model.specs.Standing.{Standing}
+use Rattle.link_model.specs.Steps.{standing_in, with_lost, with_served, with_fate, with_packet, waiting_now, chance_now, sending, IsQueue}
+use Rattle.link_model.proofs.ChanceLemmas.{first_chance_le, le_first_chance}
 
 -- ---- the queue at one time, by when a chance comes
 

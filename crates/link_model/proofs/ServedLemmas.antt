@@ -1,5 +1,5 @@
 -- Packets in flight have chances that were given, and none before its sending time.
-use Rattle.std.proofs.Common.{◌≡◌, ℕ, ◌+◌, ◌<◌, ◌≤◌, List, [], ◌∷◌, ◌++◌, arith}
+use Rattle.std.proofs.Common.{ℕ, ◌<◌, ◌≤◌, List, [], ◌∷◌, ◌++◌, arith}
 use Rattle.link_model.specs.Chances.{chance_time}
 use Rattle.link_model.specs.Link.{Packet, Fate, Lost, Served}
 use Rattle.link_model.proofs.Whole.{staying, staying_by}
@@ -36,4 +36,3 @@ pub all_served_within-staying : (times : List ℕ) (chance : ℕ) (packets : Lis
 all_served_within-staying times chance [] within = tt
 all_served_within-staying times chance (packet ∷ rest) within =
     staying_within times chance packet.fate rest (staying rest) within.1 (all_served_within-staying times chance rest within.1)
-

@@ -69,7 +69,10 @@ impl Link {
         ensures standing { self.new.standing ≡ next_standing self.old.case window self.old.standing }
         ensures calls { self.new.standing.calls ≡ self.old.standing.calls + 1 }
     {
-        let more = self.case.allowance(window).saturating_sub(self.traffic.in_flight);
+        let more = self
+            .case
+            .allowance(window)
+            .saturating_sub(self.traffic.in_flight);
         self.traffic.send(&self.case, more);
         self.traffic.acknowledge(&self.case)
     }

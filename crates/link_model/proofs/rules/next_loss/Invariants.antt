@@ -1,4 +1,4 @@
-use Rattle.std.proofs.Common.{ℕ, ◌-◌, ◌<◌, ◌≤◌, length, slice_index}
+use Rattle.std.proofs.Common.{ℕ, ◌-◌, ◌<◌, length, slice_index}
 use Rattle.link_model.proofs.rules.next_loss.Given as goal
 
 abbrev pub invariant-loop-loss : goal.invariant-loop-loss

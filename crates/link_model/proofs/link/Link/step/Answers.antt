@@ -4,8 +4,7 @@ use Rattle.link_model.proofs.link.Link.step.Goals as goal
 pub invariant_of-self : goal.invariant_of-self
 invariant_of-self c =
     let calls = ap (λ l. l.standing.calls) c.self.view_is in
-    let sent = c.self.invariant.1.sent in
-    (
+    let sent = c.self.invariant.1.sent in (
       c.acknowledge.ensures.kept,
       record {
         calls = omega arith;

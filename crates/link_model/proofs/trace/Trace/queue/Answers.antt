@@ -1,4 +1,4 @@
-use Rattle.std.proofs.Common.{sym, ◌∙◌, ap, ◌-◌, ◌+◌, arith}
+use Rattle.std.proofs.Common.{sym, ◌∙◌, arith}
 use Rattle.link_model.specs.Chances.{number_of}
 use Rattle.link_model.proofs.SendingLemmas.{not_before, before_due, none_waits}
 use Rattle.link_model.proofs.trace.Trace.queue.Goals as goal

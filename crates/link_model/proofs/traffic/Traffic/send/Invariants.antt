@@ -1,4 +1,4 @@
-use Rattle.std.proofs.Common.{◌≡◌, ◌+◌, ◌≤◌}
+use Rattle.std.proofs.Common.{◌≡◌, ◌+◌}
 use Rattle.link_model.specs.Steps.{standing_in, sending, IsQueue}
 use Rattle.link_model.specs.Horizon.{IsKept}
 use Rattle.link_model.proofs.traffic.Traffic.send.Given as goal

@@ -1,10 +1,10 @@
-use Rattle.std.proofs.Common.{◌≡◌, ◌<◌, ◌+◌, ℕ, List, refl, ap, subst, sym, arith}
+use Rattle.std.proofs.Common.{◌+◌, refl, ap, subst, sym, arith}
 use Rattle.link_model.specs.declared.arrival.Arrival.{Arrival}
-use Rattle.link_model.specs.Chances.{number_of, chance_time}
+use Rattle.link_model.specs.Chances.{chance_time}
 use Rattle.link_model.specs.Link.{is_marked}
 use Rattle.link_model.specs.Standing.{Standing}
-use Rattle.link_model.specs.Steps.{count_of, standing_in, chance_now, waiting_now}
-use Rattle.link_model.specs.Horizon.{horizon, IsTimely}
+use Rattle.link_model.specs.Steps.{count_of, standing_in, waiting_now}
+use Rattle.link_model.specs.Horizon.{IsTimely}
 use Rattle.link_model.proofs.ChanceLemmas.{turn_below}
 use Rattle.link_model.proofs.HorizonLemmas.{length_le_count, count-push, now_soon, is_timely-served}
 use Rattle.link_model.proofs.SendingLemmas.{served_standing, served_next, served_more, served_no_more}
