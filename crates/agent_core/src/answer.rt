@@ -1,7 +1,8 @@
 ghost use Rattle.std.specs.Prelude.{◌≡◌, ◌≤◌, length};
+ghost use Rattle.ccp_base.specs.Limits.{most_answer_bytes};
 
 use crate::agent::Agent;
-use crate::frame::{FRAME_BYTES, Frame};
+use crate::frame::Frame;
 use crate::ticket::Ticket;
 use ccp_base::Reply;
 use std::marker::Model;
@@ -75,7 +76,7 @@ impl Answer {
     /// nothing.
     pub fn frame(&self) -> &[u8]
         ensures bytes { result.now ≡ frame_of self.now }
-        ensures within { length (frame_of self.now) ≤ FRAME_BYTES }
+        ensures within { length (frame_of self.now) ≤ most_answer_bytes }
     {
         self.frame.as_slice()
     }
