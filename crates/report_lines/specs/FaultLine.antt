@@ -2,7 +2,6 @@
 use Rattle.std.specs.Prelude.{ℕ, List, codes, decimal}
 use Rattle.ccp_base.specs.declared.arithmetic.FaultKind.{FaultKind}
 use Rattle.ccp_base.specs.declared.arithmetic.FaultKind.TheVariants.{Overflow, Underflow, ZeroDivisor}
-use Rattle.ccp_base.specs.declared.exchange.Notice.{Notice}
 use Rattle.ccp_base.specs.declared.place.Place.{Place}
 use Rattle.report_lines.specs.Text.{◌⧺◌}
 
@@ -12,12 +11,12 @@ kind_text Underflow = codes "Underflow"
 kind_text ZeroDivisor = codes "ZeroDivisor"
 
 -- the epoch, and the number of the faulting acknowledgement
-abbrev pub fault_head : Notice → List ℕ
-fault_head notice = codes "fault epoch=" ⧺ decimal notice.epoch ⧺ codes " ack=" ⧺ decimal notice.at
+abbrev pub fault_head : ℕ → ℕ → List ℕ
+fault_head epoch at = codes "fault epoch=" ⧺ decimal epoch ⧺ codes " ack=" ⧺ decimal at
 
 -- the place of the operation that faulted, to the end of the line
 abbrev pub place_tail : Place → List ℕ
 place_tail place = codes " at=" ⧺ decimal place.line ⧺ codes ":" ⧺ decimal place.column ⧺ codes "\n"
 
-abbrev pub fault_line : Notice → Place → List ℕ
-fault_line notice place = fault_head notice ⧺ codes " kind=" ⧺ kind_text notice.kind ⧺ place_tail place
+abbrev pub fault_line : ℕ → ℕ → FaultKind → Place → List ℕ
+fault_line epoch at kind place = fault_head epoch at ⧺ codes " kind=" ⧺ kind_text kind ⧺ place_tail place

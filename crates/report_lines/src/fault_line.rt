@@ -11,19 +11,19 @@ pub fn put_fault(
     notice: &Notice,
     place: Place,
 ) -> Result<(), NoMemory>
-    ensures { OnOk result (text.new ≡ text.old ++ fault_line notice.entry.now place) }
+    ensures { OnOk result (text.new ≡ text.old ++ fault_line notice.entry.now.epoch notice.entry.now.at notice.entry.now.kind place) }
 {
-    put_fault_head(alloc, text, notice)?;
+    put_fault_head(alloc, text, notice.epoch, notice.at)?;
     text.extend(b" kind=")?;
     text.extend(kind_text(notice.kind).as_bytes())?;
     put_place_tail(alloc, text, place)
 }
 
 /// Puts the epoch of a fault and the number of its acknowledgement at the end of a text.
-pub fn put_fault_head(alloc: Global, text: &mut Bytes, notice: &Notice) -> Result<(), NoMemory>
-    ensures { OnOk result (text.new ≡ text.old ++ fault_head notice.entry.now) }
+pub fn put_fault_head(alloc: Global, text: &mut Bytes, epoch: u32, at: u64) -> Result<(), NoMemory>
+    ensures { OnOk result (text.new ≡ text.old ++ fault_head epoch at) }
 {
-    let head = format!(in alloc; "fault epoch={} ack={}", notice.epoch, notice.at)?;
+    let head = format!(in alloc; "fault epoch={epoch} ack={at}")?;
     text.extend(head.as_bytes())?;
     Ok(())
 }
