@@ -105,7 +105,7 @@ module _ (text : List ℕ) where
       | inl scoped ↦
           compiled_or scoped.0 (refusal_of scoped.0) (record { forms = spelled.0; spelled = spelled.1; scoped = scoped.1 }) refl
       | inr refused ↦ inr (Scope refused.0, record { forms = spelled.0; spelled = spelled.1; refused = refused.1 })
-      ]
+    ]
     | inr refused ↦ inr (Parse refused.0, refused.1)
   ]
 

@@ -49,7 +49,10 @@ fn told(alloc: Global, fault: BuildFault) -> Result<Bytes, Fail> {
 #[test]
 fn refusals_have_texts(rt: HostRuntime) -> Result<(), Fail> {
     let rows = [
-        (BuildFault::Parse(ParseFault::SourceTooLong), "SourceTooLong"),
+        (
+            BuildFault::Parse(ParseFault::SourceTooLong),
+            "SourceTooLong",
+        ),
         (
             BuildFault::Parse(ParseFault::BadName(at(12))),
             "BadName at 1:12",

@@ -13,8 +13,8 @@ use crate::fault::ParseFault;
 use crate::frame::Frame;
 use crate::turn::turn;
 use portus_core::{Source, Tree};
-use portus_lexer::calls::tokens;
 use portus_lexer::Token;
+use portus_lexer::calls::tokens;
 use std::alloc::Global;
 
 /// The most bytes of a text.

@@ -220,9 +220,10 @@ all_ack_words : list_all is_ack_word primitive_names ≡ true
 all_ack_words = refl
 
 ack_word : (known : PrimitiveName) → is_ack_word known ≡ true → IsAckWord (word_of known)
-ack_word known h =
-    (from_not (is_field_use (word_of known)) (first_of (not (is_field_use (word_of known))) (is_primitive_use (word_of known)) h),
-    rest_of (not (is_field_use (word_of known))) (is_primitive_use (word_of known)) h)
+ack_word known h = (
+  from_not (is_field_use (word_of known)) (first_of (not (is_field_use (word_of known))) (is_primitive_use (word_of known)) h),
+  rest_of (not (is_field_use (word_of known))) (is_primitive_use (word_of known)) h,
+)
 
 pub primitive_word : (w : List ℕ) → IfSome (primitive_named w) (λ _. IsAckWord w)
 primitive_word w =
