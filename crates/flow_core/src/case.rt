@@ -1,4 +1,5 @@
 ghost use Rattle.std.specs.Prelude.{◌≡◌, ◌≤◌, ◌↔◌, IsTrue, IfOk, length};
+ghost use Rattle.ccp_base.specs.Limits.{most_acks, most_slots, most_lag};
 ghost use Rattle.agent_core.specs.Agents.{course_of};
 ghost use Rattle.flow_core.specs.Cases.{KeepsWithin, AreOne};
 
@@ -124,9 +125,9 @@ pub struct Case {
     pub ghost ss_within: { KeepsWithin ss.role.look ss.code.code },
     pub ghost ca_within: { KeepsWithin ca.role.look ca.code.code },
     pub ghost one: { AreOne ss ca },
-    pub ghost acks_within: { acks ≤ 65536 },
-    pub ghost slots_within: { (1 ≤ slots) × (slots ≤ 64) },
-    pub ghost lag_within: { lag ≤ 1000 },
+    pub ghost acks_within: { acks ≤ most_acks },
+    pub ghost slots_within: { (1 ≤ slots) × (slots ≤ most_slots) },
+    pub ghost lag_within: { lag ≤ most_lag },
 }
 
 impl Case {

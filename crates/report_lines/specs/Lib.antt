@@ -1,0 +1,6 @@
+pub mod Text
+pub mod FieldsText
+pub mod FlowLine
+pub mod ReportLine
+pub mod FaultLine
+pub mod EndLine

@@ -1,0 +1,84 @@
+ghost use Rattle.std.specs.Prelude.{◌≡◌, ◌++◌, OnOk};
+ghost use Rattle.report_lines.specs.EndLine.{end_head, end_line, end_tail, span_text, yes_or_no};
+
+use crate::fields_text::{put_fields, put_window};
+use ccp_base::{Bytes, NoMemory, Values};
+use portus_core::Decl;
+use std::alloc::Global;
+
+/// How a flow stands at its end.
+#[derive(Clone, Copy, PartialEq, Eq, Debug)]
+pub struct End {
+    /// How many acknowledgements there were.
+    pub acks: u64,
+    /// Where the unreported span begins, as a number of acknowledgements.
+    pub first: u64,
+    /// Whether a fault stopped the program.
+    pub stopped: bool,
+    /// The congestion window, in bytes.
+    pub cwnd: u64,
+    /// The pacing rate, in bytes a second.
+    pub rate: u64,
+    /// The fields as they stand, in order of declaration.
+    pub fields: Values,
+}
+
+/// Puts the last line of a flow, whose program has these fields, at the end of a text.
+pub fn put_end(
+    alloc: Global,
+    text: &mut Bytes,
+    fields: &[Decl],
+    reports: u64,
+    end: &End,
+) -> Result<(), NoMemory>
+    ensures { OnOk result (text.new ≡ text.old ++ end_line fields.now reports end.now) }
+{
+    put_end_head(alloc, text, reports, end)?;
+    put_end_tail(alloc, text, fields, end)
+}
+
+/// Puts the beginning of the last line at the end of a text: the numbers of acknowledgements and reports.
+pub fn put_end_head(
+    alloc: Global,
+    text: &mut Bytes,
+    reports: u64,
+    end: &End,
+) -> Result<(), NoMemory>
+    ensures { OnOk result (text.new ≡ text.old ++ end_head reports end.now) }
+{
+    let head = format!(in alloc; "end acks={} reports={reports}", end.acks)?;
+    text.extend(head.as_bytes())?;
+    Ok(())
+}
+
+/// Puts the rest of the last line at the end of a text: the unreported span, and how the flow stands.
+pub fn put_end_tail(
+    alloc: Global,
+    text: &mut Bytes,
+    fields: &[Decl],
+    end: &End,
+) -> Result<(), NoMemory>
+    ensures { OnOk result (text.new ≡ text.old ++ end_tail fields.now end.now) }
+{
+    put_span(alloc, text, end)?;
+    text.extend(b" stopped=")?;
+    text.extend(yes_or_no(end.stopped).as_bytes())?;
+    put_window(alloc, text, end.cwnd, end.rate)?;
+    put_fields(alloc, text, fields, &end.fields)?;
+    text.push(b'\n')?;
+    Ok(())
+}
+
+fn put_span(alloc: Global, text: &mut Bytes, end: &End) -> Result<(), NoMemory>
+    ensures { OnOk result (text.new ≡ text.old ++ span_text end.now) }
+{
+    let span = format!(in alloc; " tail={}..{}", end.first, end.acks)?;
+    text.extend(span.as_bytes())?;
+    Ok(())
+}
+
+fn yes_or_no(truth: bool) -> &'static str
+    ensures { result.now ≡ yes_or_no truth }
+{
+    if truth { "yes" } else { "no" }
+}

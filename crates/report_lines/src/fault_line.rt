@@ -1,0 +1,47 @@
+ghost use Rattle.std.specs.Prelude.{◌≡◌, ◌++◌, OnOk};
+ghost use Rattle.report_lines.specs.FaultLine.{fault_head, fault_line, kind_text, place_tail};
+
+use ccp_base::{Bytes, FaultKind, NoMemory, Notice, Place};
+use std::alloc::Global;
+
+/// Puts the line of a fault, whose operation has this place, at the end of a text.
+pub fn put_fault(
+    alloc: Global,
+    text: &mut Bytes,
+    notice: &Notice,
+    place: Place,
+) -> Result<(), NoMemory>
+    ensures { OnOk result (text.new ≡ text.old ++ fault_line notice.entry.now.epoch notice.entry.now.at notice.entry.now.kind place) }
+{
+    put_fault_head(alloc, text, notice.epoch, notice.at)?;
+    text.extend(b" kind=")?;
+    text.extend(kind_text(notice.kind).as_bytes())?;
+    put_place_tail(alloc, text, place)
+}
+
+/// Puts the epoch of a fault and the number of its acknowledgement at the end of a text.
+pub fn put_fault_head(alloc: Global, text: &mut Bytes, epoch: u32, at: u64) -> Result<(), NoMemory>
+    ensures { OnOk result (text.new ≡ text.old ++ fault_head epoch at) }
+{
+    let head = format!(in alloc; "fault epoch={epoch} ack={at}")?;
+    text.extend(head.as_bytes())?;
+    Ok(())
+}
+
+fn put_place_tail(alloc: Global, text: &mut Bytes, place: Place) -> Result<(), NoMemory>
+    ensures { OnOk result (text.new ≡ text.old ++ place_tail place) }
+{
+    let tail = format!(in alloc; " at={}:{}\n", place.line, place.column)?;
+    text.extend(tail.as_bytes())?;
+    Ok(())
+}
+
+fn kind_text(kind: FaultKind) -> &'static str
+    ensures { result.now ≡ kind_text kind }
+{
+    match kind {
+        FaultKind::Overflow => "Overflow",
+        FaultKind::Underflow => "Underflow",
+        FaultKind::ZeroDivisor => "ZeroDivisor",
+    }
+}

@@ -1,0 +1,17 @@
+//! The lines that the texts of flows share: reports, faults and ends, with a program's fields.
+#![tactic(auto)]
+
+mod end_line;
+mod fault_line;
+mod fields_text;
+mod flow_line;
+mod report_line;
+
+pub use end_line::{End, put_end, put_end_head, put_end_tail};
+pub use fault_line::{put_fault, put_fault_head};
+pub use fields_text::{put_fields, put_window};
+pub use flow_line::put_flow_head;
+pub use report_line::{put_report, put_report_head, put_report_tail, put_reports};
+
+#[cfg(test)]
+mod tests;
