@@ -1,3 +1,4 @@
+-- The marks of an event, as tables have them.
 use Rattle.std.specs.Prelude.{ℕ, Bool, false, List, slice_index_or}
 use Rattle.reg_code.specs.AcceptedCode.{Marks}
 use Rattle.code_verifier.specs.declared.tables.Tables.{Tables}

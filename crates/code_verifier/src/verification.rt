@@ -7,9 +7,7 @@ ghost use Rattle.code_verifier.specs.Marked.{marks_of};
 
 use crate::instruction::rule_failed;
 use crate::tables::{Tables, mark, no_tables};
-use reg_code::{
-    CONTROLS, Checked, Code, EVENTS, Event, FIELDS, INSTRS, Packed, Part, Rule, Sizes,
-};
+use reg_code::{CONTROLS, Checked, Code, EVENTS, Event, FIELDS, INSTRS, Packed, Part, Rule, Sizes};
 
 /// A code that isn't accepted.
 #[derive(Debug, Drop)]

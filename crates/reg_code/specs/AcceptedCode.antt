@@ -1,3 +1,4 @@
+-- Which codes are accepted: the first rule that a code fails, and where.
 use Rattle.std.specs.Prelude.{◌≡◌, ℕ, ◌+◌, ◌-◌, Bool, true, false, not, ◌&&◌, ◌||◌, ◌==◌, nat_lt, nat_le, if◌then◌else◌, Option, Some, None, List, [], ◌∷◌, length}
 use Rattle.std.specs.Option.{option_or}
 use Rattle.ccp_base.specs.Limits.{most_fields, most_controls, most_blocks, most_locals, most_temps, most_instrs, most_tenths, primitive_count}

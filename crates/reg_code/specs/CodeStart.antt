@@ -1,4 +1,5 @@
-use Rattle.std.specs.Prelude.{ℕ, Bool, false, not, nat_lt, Option, List, [], ◌∷◌, map, position, slice_set}
+-- The registers as a program starts, and as a change or an update writes them.
+use Rattle.std.specs.Prelude.{ℕ, List, [], ◌∷◌, map, slice_set}
 use Rattle.ccp_base.specs.declared.fields.FieldReg.{FieldReg}
 use Rattle.ccp_base.specs.declared.fields.FieldReg.TheVariants as field
 use Rattle.ccp_base.specs.FieldReg.{Pair}

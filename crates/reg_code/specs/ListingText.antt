@@ -1,4 +1,5 @@
-use Rattle.std.specs.Prelude.{ℕ, ◌+◌, Bool, true, false, List, [], ◌∷◌, ◌++◌, codes, decimal}
+-- The listing of a code, line by line.
+use Rattle.std.specs.Prelude.{ℕ, ◌+◌, Bool, true, false, List, [], ◌∷◌, codes, decimal}
 use Rattle.ccp_base.specs.Text.{◌⧺◌}
 use Rattle.reg_code.specs.declared.code.Code.{Code}
 use Rattle.reg_code.specs.declared.code.Event.{Event}
