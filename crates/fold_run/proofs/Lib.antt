@@ -1,4 +1,5 @@
 mod MachineMeans
 mod FoldSteps
 mod FirstLine
+mod FirstWord
 mod SeparatedLemmas

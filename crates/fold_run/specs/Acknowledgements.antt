@@ -3,17 +3,15 @@ use Rattle.std.specs.Prelude.{ℕ, ◌+◌, nat_lt, if◌then◌else◌, Result,
 use Rattle.ccp_base.specs.declared.ack.Ack.{Ack}
 use Rattle.ccp_base.specs.Limits.{most_acks}
 use Rattle.ccp_base.specs.Parts.{without_last}
-use Rattle.fold_run.specs.declared.ack_line.AckLine.{AckLine}
-use Rattle.fold_run.specs.declared.ack_line.AckLine.TheVariants.{Nothing, Given, Refused}
 use Rattle.fold_run.specs.declared.acks.LineFault.{LineFault}
 use Rattle.fold_run.specs.declared.acks.LineFault.TheVariants.{Line, TooMany}
-use Rattle.fold_run.specs.AckLine.{line_of}
+use Rattle.fold_run.specs.AckLine.{AckLine, nothing, given, refused, line_of}
 
 -- the acknowledgements with what the line of this number says, or why there are none
 abbrev pub with_line : ℕ → List Ack → AckLine → Result (List Ack) LineFault
-with_line number acks Nothing = Ok acks
-with_line number acks Refused = Err (Line number)
-with_line number acks (Given ack) = if nat_lt (length acks) most_acks then Ok (acks ++ ack ∷ []) else Err TooMany
+with_line number acks nothing = Ok acks
+with_line number acks refused = Err (Line number)
+with_line number acks (given ack) = if nat_lt (length acks) most_acks then Ok (acks ++ ack ∷ []) else Err TooMany
 
 -- the same with each of the lines from this number on
 abbrev pub with_lines : ℕ → Result (List Ack) LineFault → List (List ℕ) → Result (List Ack) LineFault

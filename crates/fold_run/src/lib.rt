@@ -10,6 +10,8 @@ mod first_line;
 mod fold;
 mod folded;
 mod folding;
+mod line_number;
+mod line_values;
 mod separated;
 
 pub use acks::{LineFault, acknowledgements};
