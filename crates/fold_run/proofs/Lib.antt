@@ -3,3 +3,5 @@ mod FoldSteps
 mod FirstLine
 mod FirstWord
 mod SeparatedLemmas
+mod AcksLaws
+mod CutLaws

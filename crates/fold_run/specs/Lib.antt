@@ -6,3 +6,4 @@ pub mod Ran
 pub mod Fold
 pub mod Told
 pub mod Folding
+pub mod ReadingLaws

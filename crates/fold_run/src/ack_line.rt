@@ -1,14 +1,14 @@
 ghost use Rattle.std.specs.Prelude.{◌≡◌, ◌<◌, ◌∷◌, if◌then◌else◌, IfSome, IfNone, Some, None, length};
-ghost use Rattle.std.specs.Option.{ForSome};
 ghost use Rattle.std.specs.List.{list_all};
 ghost use Rattle.ccp_base.specs.declared.parts.Separator.TheVariants.{Blank};
 ghost use Rattle.ccp_base.specs.Parts.{separates, parts_of};
-ghost use Rattle.fold_run.specs.FirstPart.{first_of, after_of, equals_from};
+ghost use Rattle.fold_run.specs.FirstPart.{first_of, after_of};
 ghost use Rattle.fold_run.specs.AckLine.{with_word, with_words, some_if, no_values, begins_blank, ends_blank, line_told, line_of};
 
 use crate::line_number::read_number;
 use crate::line_values::LineValues;
 use ccp_base::{Separator, value_named};
+use memchr::memchr;
 
 /// What a line below the separator says.
 #[derive(Clone, Copy, PartialEq, Eq, Debug)]
@@ -86,7 +86,7 @@ fn read_word<'a>(values: &mut LineValues, text: &'a [u8]) -> Option<&'a [u8]>
     if Separator::Blank.is(text[0]) {
         return Some(&text[1..]);
     }
-    let Some(at) = equals_at(text) else {
+    let Some(at) = memchr(b'=', text) else {
         return None;
     };
     let Some(number) = value_named(&text[..at]) else {
@@ -96,24 +96,4 @@ fn read_word<'a>(values: &mut LineValues, text: &'a [u8]) -> Option<&'a [u8]>
         return None;
     };
     if values.take(number, value) { Some(after) } else { None }
-}
-
-/// The place of the equals sign of the word at the front of a text, counted from 0.
-fn equals_at(text: &[u8]) -> Option<usize>
-    ensures place { result ≡ equals_from 0 text.now }
-    ensures within { ForSome result (λ at. at < length text.now) }
-{
-    let mut at = 0;
-    let mut left = text;
-    while let Some((byte, rest)) = left.split_first() {
-        if *byte == b'=' {
-            return Some(at);
-        }
-        if Separator::Blank.is(*byte) {
-            return None;
-        }
-        left = rest;
-        at += 1;
-    }
-    None
 }

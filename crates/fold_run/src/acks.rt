@@ -10,7 +10,6 @@ use crate::ack_line::{LineKind, read_line};
 use crate::first_line::first_line;
 use crate::line_values::LineValues;
 use ccp_base::{Acks, ack_of, without_return};
-use memchr::memchr_iter;
 use std::alloc::{AllocError, Global};
 
 /// The most acknowledgements of one input.
@@ -58,7 +57,14 @@ pub fn acknowledgements(alloc: Global, lines: &[u8], next: u64) -> Result<Acks, 
 fn room_for(lines: &[u8]) -> usize
     ensures { result ≤ most_acks }
 {
-    memchr_iter(b'\n', lines).count().min(MOST_ACKS - 1) + 1
+    let mut room = 0;
+    let mut rest = lines;
+    while !rest.is_empty() && room < MOST_ACKS {
+        let (_, after) = first_line(rest);
+        rest = after;
+        room += 1;
+    }
+    room
 }
 
 /// Puts what the line of this number says, without the CR at its end, at the end of the acknowledgements.
