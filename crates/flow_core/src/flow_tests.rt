@@ -7,7 +7,7 @@ use agent_core::calls::answer;
 use ccp_base::{Ack, Look, Name, Reply, Role, Sequence, Told};
 use fold_machine::{Acked, Steps};
 use link_model::{LinkCase, Trace};
-use reg_code::{Checked, Code, Event, Implicit, Instr, Op, Reg, Start};
+use reg_code::{Checked, Code, Event, Implicit, Instr, Op, Reg, Start, pack_all};
 use reno_agent::Reno;
 use std::alloc::{AllocError, Global};
 use std::marker::Brand;
@@ -23,7 +23,7 @@ const SEND: Reg = Reg::Implicit(Implicit::Send);
 fn counting(alloc: Global, volatile: bool) -> Result<Checked, AllocError>
     ensures { IfOk result (λ code. 0 < length code.code.reports) }
 {
-    let instrs = vec![in alloc;
+    let instrs = [
         Instr {
             op: Op::Bind,
             to: FLAG,
@@ -42,7 +42,7 @@ fn counting(alloc: Global, volatile: bool) -> Result<Checked, AllocError>
             left: Reg::Imm(1),
             right: Reg::Imm(0)
         },
-    ]?;
+    ];
     let event = Event {
         condition: 1,
         body: 2,
@@ -52,7 +52,7 @@ fn counting(alloc: Global, volatile: bool) -> Result<Checked, AllocError>
         reports: Sequence::from_vec(vec![in alloc; start]?),
         controls: Sequence::new(alloc),
         events: Sequence::from_vec(vec![in alloc; event]?),
-        instrs: Sequence::from_vec(instrs),
+        instrs: pack_all(alloc, &instrs)?,
     }))
 }
 
@@ -60,7 +60,7 @@ fn counting(alloc: Global, volatile: bool) -> Result<Checked, AllocError>
 fn late(alloc: Global) -> Result<Checked, AllocError>
     ensures { IfOk result (λ code. 0 < length code.code.reports) }
 {
-    let instrs = vec![in alloc;
+    let instrs = [
         Instr {
             op: Op::Gt,
             to: FLAG,
@@ -73,7 +73,7 @@ fn late(alloc: Global) -> Result<Checked, AllocError>
             left: Reg::Imm(1),
             right: Reg::Imm(0)
         },
-    ]?;
+    ];
     let event = Event {
         condition: 1,
         body: 1,
@@ -86,7 +86,7 @@ fn late(alloc: Global) -> Result<Checked, AllocError>
         reports: Sequence::from_vec(vec![in alloc; start]?),
         controls: Sequence::new(alloc),
         events: Sequence::from_vec(vec![in alloc; event]?),
-        instrs: Sequence::from_vec(instrs),
+        instrs: pack_all(alloc, &instrs)?,
     }))
 }
 
