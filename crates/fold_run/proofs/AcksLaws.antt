@@ -2,15 +2,13 @@
 use Rattle.std.proofs.Common.{◌≡◌, ℕ, ◌+◌, ◌≤◌, Bool, true, false, ◌&&◌, nat_lt, Ok, Err, List, [], ◌∷◌, ◌++◌, length, refl, ap, sym, subst, ◌∙◌, arith, cond, length-append, append-nil, append_assoc}
 use Rattle.std.proofs.lemmas.Bool.Decides.{nat_tests}
 use Rattle.std.specs.List.{list_all}
-use Rattle.std.specs.Prelude.{Result}
 use Rattle.ccp_base.specs.declared.ack.Ack.{Ack}
 use Rattle.ccp_base.specs.Limits.{most_acks}
 use Rattle.ccp_base.specs.Parts.{without_last}
-use Rattle.fold_run.specs.declared.acks.LineFault.{LineFault}
 use Rattle.fold_run.specs.declared.acks.LineFault.TheVariants.{TooMany}
 use Rattle.fold_run.specs.AckLine.{AckLine, nothing, given, refused, line_of}
-use Rattle.fold_run.specs.Acknowledgements.{with_line, with_lines, acks_of}
-use Rattle.fold_run.specs.ReadingLaws.{said_by, is_accepted, given_by, AreAcks, AcksLaw}
+use Rattle.fold_run.specs.Acknowledgements.{with_line, with_lines}
+use Rattle.fold_run.specs.ReadingLaws.{said_by, is_accepted, given_by, AcksLaw}
 
 -- the acknowledgements before lines and those of the lines
 record Said (before : List Ack) (lines : List (List ℕ)) (acks : List Ack) : Type 0 where
@@ -80,5 +78,6 @@ read number before (line ∷ rest) accepted few =
 
 pub acks-law : AcksLaw
 acks-law next lines acks = (
-    (λ is. let s = said next [] lines acks (omega arith) is in record { accepted = s.accepted; told = s.whole; few = s.few }),
-    (λ are. read next [] lines are.accepted (subst (λ (xs : List Ack). length xs ≤ most_acks) are.told are.few) ∙ sym (ap Ok are.told)))
+  (λ is. let s = said next [] lines acks (omega arith) is in record { accepted = s.accepted; told = s.whole; few = s.few }),
+  (λ are. read next [] lines are.accepted (subst (λ (xs : List Ack). length xs ≤ most_acks) are.told are.few) ∙ sym (ap Ok are.told)),
+)

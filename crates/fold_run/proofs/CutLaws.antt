@@ -6,7 +6,7 @@ use Rattle.std.specs.List.{list_all}
 use Rattle.ccp_base.specs.declared.parts.Separator.TheVariants.{LineFeed}
 use Rattle.ccp_base.specs.Parts.{separates, with_first, parts_of}
 use Rattle.fold_run.specs.FirstPart.{first_of, after_of}
-use Rattle.fold_run.specs.Separated.{Cut, is_separator, after_lines, cut_at, cut_of}
+use Rattle.fold_run.specs.Separated.{Cut, is_separator, after_lines, cut_at}
 use Rattle.fold_run.specs.ReadingLaws.{is_other, IsCut, CutLaw}
 use Rattle.fold_run.proofs.FirstLine.{parts-first}
 use Rattle.fold_run.proofs.FirstWord.{here, past}
@@ -70,6 +70,7 @@ front-of (suc n) (byte ∷ rest) within =
   where
     text : List ℕ
     text = byte ∷ rest
+
     go : parts_of LineFeed text ≡ first_of LineFeed text ∷ parts_of LineFeed (after_of LineFeed text) → Front n (after_of LineFeed text)
         → (text ≡ first_of LineFeed text ++ 10 ∷ after_of LineFeed text) ⊎ ((text ≡ first_of LineFeed text) × (after_of LineFeed text ≡ [])) → Front (suc n) text
     go parts later (inl whole) = record {
@@ -144,11 +145,13 @@ cut-at text n is =
     first-line : {line : List ℕ} {more : List (List ℕ)} (left : List ℕ) → parts_of LineFeed left ≡ line ∷ more → first_of LineFeed left ≡ line
     first-line [] is = cc
     first-line (byte ∷ rest) is = let e = sym (parts-first LineFeed (byte ∷ rest) (omega arith)) ∙ is in cc
+
     program_is : (front left : List ℕ) → text ≡ front ++ left → take (length text - length left) text ≡ front
     program_is front left e =
         let count = ap length e ∙ length-append front left in
         let n : length text - length left ≡ length front = omega (arith, count) in
         ap (λ k. take k text) n ∙ ap (take (length front)) e ∙ take-append_seam front left
+
     whole : (f : Front n text) → (cut_at text n).program ≡ f.front
         → (after_lines n text ≡ first_of LineFeed (after_lines n text) ++ 10 ∷ after_of LineFeed (after_lines n text)) ⊎ ((after_lines n text ≡ first_of LineFeed (after_lines n text)) × (after_of LineFeed (after_lines n text) ≡ []))
         → (text ≡ (cut_at text n).program ++ first_of LineFeed (after_lines n text) ++ 10 ∷ (cut_at text n).rest) ⊎ ((text ≡ (cut_at text n).program ++ first_of LineFeed (after_lines n text)) × ((cut_at text n).rest ≡ []))

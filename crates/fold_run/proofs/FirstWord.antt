@@ -1,7 +1,6 @@
 -- The first word of a text: how the words go on after it, and its name and numeral.
-use Rattle.std.proofs.Common.{◌≡◌, ◌≢◌, ℕ, zero, suc, ◌+◌, ◌-◌, ◌<◌, ◌≤◌, Bool, true, false, not, nat_lt, Option, Some, None, option_map, List, [], ◌∷◌, ◌++◌, length, take, drop, position, slice_index, refl, ap, sym, subst, ◌∙◌, ◌⊎◌, inl, inr, arith, cond, eqb, add-one}
+use Rattle.std.proofs.Common.{◌≡◌, ◌≢◌, ℕ, zero, suc, ◌+◌, ◌<◌, ◌≤◌, Bool, true, false, not, nat_lt, Option, Some, None, option_map, List, [], ◌∷◌, length, take, drop, position, slice_index, refl, ap, sym, subst, ◌∙◌, ◌⊎◌, inl, inr, arith, cond, eqb, add-one}
 use Rattle.std.proofs.lemmas.Bool.Decides.{nat_tests}
-use Rattle.std.proofs.lemmas.List.{take_rest}
 use Rattle.std.proofs.lemmas.Slice.Eq.{bytes_eq-Decides}
 use Rattle.std.specs.Str.{bytes_eq}
 use Rattle.std.specs.List.{position_or_len}
@@ -70,25 +69,35 @@ item-from at (byte ∷ rest) found is = go (item-from (at + 1) rest found) (is_e
   where
     front : separates Blank byte ≡ false → first_of Blank (byte ∷ rest) ≡ byte ∷ first_of Blank rest
     front other = ap (λ b. cond b [] (byte ∷ first_of Blank rest)) other
+
     behind : separates Blank byte ≡ false → after_of Blank (byte ∷ rest) ≡ after_of Blank rest
     behind other = ap (λ b. cond b rest (after_of Blank rest)) other
+
     later : separates Blank byte ≡ false → is_equals byte ≡ false → (n : ℕ) × (found ≡ (at + 1) + n) × IsItem rest n → (n : ℕ) × (found ≡ at + n) × IsItem (byte ∷ rest) n
-    later other different (n, place, item) = (suc n, omega (arith, place), record {
-      equals = ap (position is_equals) (front other) ∙ past is_equals byte (first_of Blank rest) different ∙ ap (option_map (λ k. 1 + k)) item.equals ∙ ap (λ k. Some k) (omega arith);
-      name = ap (take (suc n)) (front other) ∙ ap (λ xs. byte ∷ xs) item.name;
-      value = ap (drop (suc (suc n))) (front other) ∙ item.value;
-      after = behind other ∙ item.after;
-    })
+    later other different (n, place, item) = (
+      suc n,
+      omega (arith, place),
+      record {
+        equals = ap (position is_equals) (front other) ∙ past is_equals byte (first_of Blank rest) different ∙ ap (option_map (λ k. 1 + k)) item.equals ∙ ap (λ k. Some k) (omega arith);
+        name = ap (take (suc n)) (front other) ∙ ap (λ xs. byte ∷ xs) item.name;
+        value = ap (drop (suc (suc n))) (front other) ∙ item.value;
+        after = behind other ∙ item.after;
+      },
+    )
+
     go : (equals_from (at + 1) rest ≡ Some found → (n : ℕ) × (found ≡ (at + 1) + n) × IsItem rest n) → (e b : Bool) → is_equals byte ≡ e → separates Blank byte ≡ b → cond e (Some at) (cond b None (equals_from (at + 1) rest)) ≡ Some found → (n : ℕ) × (found ≡ at + n) × IsItem (byte ∷ rest) n
     go again true b equal blank is =
         let other = not_blank byte equal in
-        let place : found ≡ at = cc in
-        (0, omega (arith, place), record {
-          equals = ap (position is_equals) (front other) ∙ here is_equals byte (first_of Blank rest) equal;
-          name = refl;
-          value = ap (drop 1) (front other);
-          after = behind other;
-        })
+        let place : found ≡ at = cc in (
+          0,
+          omega (arith, place),
+          record {
+            equals = ap (position is_equals) (front other) ∙ here is_equals byte (first_of Blank rest) equal;
+            name = refl;
+            value = ap (drop 1) (front other);
+            after = behind other;
+          },
+        )
     go again false true equal blank is = cc
     go again false false equal blank is = later blank equal (again is)
 
@@ -195,18 +204,21 @@ first-equals i (byte ∷ rest) (suc at) within before is =
     other_than : (b : Bool) → b ≢ true → b ≡ false
     other_than true differs = absurd (differs refl)
     other_than false differs = refl
+
     go : is_equals byte ≡ false → (blank : Bool) → separates Blank byte ≡ blank
         → (equals_from (i + 1) rest ≡ Some ((i + 1) + at)) ⊎ ((equals_from (i + 1) rest ≡ None) × (has_blank (take at rest) ≡ true))
         → (equals_from i (byte ∷ rest) ≡ Some (i + suc at)) ⊎ ((equals_from i (byte ∷ rest) ≡ None) × (has_blank (take (suc at) (byte ∷ rest)) ≡ true))
     go other true blank later = inr (
-        ap (λ b. cond b (Some i) (cond (separates Blank byte) None (equals_from (i + 1) rest))) other ∙ ap (λ b. cond b None (equals_from (i + 1) rest)) blank,
-        ap (λ b. cond b true (has_blank (take at rest))) blank)
+      ap (λ b. cond b (Some i) (cond (separates Blank byte) None (equals_from (i + 1) rest))) other ∙ ap (λ b. cond b None (equals_from (i + 1) rest)) blank,
+      ap (λ b. cond b true (has_blank (take at rest))) blank,
+    )
     go other false blank (inl found) = inl (
         ap (λ b. cond b (Some i) (cond (separates Blank byte) None (equals_from (i + 1) rest))) other ∙ ap (λ b. cond b None (equals_from (i + 1) rest)) blank
         ∙ found ∙ ap (λ k. Some k) (omega arith))
     go other false blank (inr none) = inr (
-        ap (λ b. cond b (Some i) (cond (separates Blank byte) None (equals_from (i + 1) rest))) other ∙ ap (λ b. cond b None (equals_from (i + 1) rest)) blank ∙ none.0,
-        ap (λ b. cond b true (has_blank (take at rest))) blank ∙ none.1)
+      ap (λ b. cond b (Some i) (cond (separates Blank byte) None (equals_from (i + 1) rest))) other ∙ ap (λ b. cond b None (equals_from (i + 1) rest)) blank ∙ none.0,
+      ap (λ b. cond b true (has_blank (take at rest))) blank ∙ none.1,
+    )
 
 -- a text without an equals sign
 pub no-equals : (i : ℕ) (text : List ℕ) → ((k : ℕ) → 0 ≤ k → k < length text → is_equals (slice_index text k) ≢ true) → equals_from i text ≡ None
@@ -217,6 +229,7 @@ no-equals i (byte ∷ rest) none =
     other_than : (b : Bool) → b ≢ true → b ≡ false
     other_than true differs = absurd (differs refl)
     other_than false differs = refl
+
     go : is_equals byte ≡ false → (blank : Bool) → separates Blank byte ≡ blank → equals_from (i + 1) rest ≡ None → equals_from i (byte ∷ rest) ≡ None
     go other true blank later = ap (λ b. cond b (Some i) (cond (separates Blank byte) None (equals_from (i + 1) rest))) other ∙ ap (λ b. cond b None (equals_from (i + 1) rest)) blank
     go other false blank later = ap (λ b. cond b (Some i) (cond (separates Blank byte) None (equals_from (i + 1) rest))) other ∙ ap (λ b. cond b None (equals_from (i + 1) rest)) blank ∙ later

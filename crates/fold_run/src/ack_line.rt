@@ -95,5 +95,9 @@ fn read_word<'a>(values: &mut LineValues, text: &'a [u8]) -> Option<&'a [u8]>
     let Some((value, after)) = read_number(&text[at + 1..]) else {
         return None;
     };
-    if values.take(number, value) { Some(after) } else { None }
+    if values.take(number, value) {
+        Some(after)
+    } else {
+        None
+    }
 }

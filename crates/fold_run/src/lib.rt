@@ -14,6 +14,8 @@ mod laws;
 mod line_number;
 mod line_values;
 mod separated;
+#[cfg(test)]
+mod tests;
 
 pub use acks::{LineFault, acknowledgements};
 pub use end::End;

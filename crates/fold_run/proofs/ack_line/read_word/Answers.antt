@@ -1,4 +1,4 @@
-use Rattle.std.proofs.Common.{◌≡◌, ◌∙◌, ◌+◌, ◌-◌, Option, Some, None, Bool, true, false, ℕ, List, length, take, drop, ap, ap₂, sym}
+use Rattle.std.proofs.Common.{◌≡◌, ◌∙◌, ◌+◌, ◌-◌, Some, None, Bool, ℕ, List, length, take, drop, ap, ap₂, sym}
 use Rattle.std.proofs.lemmas.List.{take_rest}
 use Rattle.ccp_base.specs.declared.parts.Separator.TheVariants.{Blank}
 use Rattle.ccp_base.specs.Numerals.{numeral_of}
@@ -36,13 +36,13 @@ returns-in_default-value_named-clause-wrong c =
 pub returns-in_default-read_number-clause-wrong : goal.returns-in_default-read_number-clause-wrong
 returns-in_default-read_number-clause-wrong c =
     valueless c.args.values.now c.args.text.now c.in-Some.at (equals-known c.args.text.now c.in-Some.at c.in-Some.ensures.0.high c.in-Some.ensures.0.before c.in-Some.ensures.1
-      c.in-Some-value_named.number (sym c.value_named.ensures.number ∙ c.in-Some-value_named.is))
+    c.in-Some-value_named.number (sym c.value_named.ensures.number ∙ c.in-Some-value_named.is))
     c.in_default-read_number.ensures.wrong
 
 pub returns-then-take-clause-word : goal.returns-then-take-clause-word
 returns-then-take-clause-word c =
     given c.args.values.now c.args.text.now c.in-Some.at (equals-known c.args.text.now c.in-Some.at c.in-Some.ensures.0.high c.in-Some.ensures.0.before c.in-Some.ensures.1
-      c.in-Some-value_named.number (sym c.value_named.ensures.number ∙ c.in-Some-value_named.is))
+    c.in-Some-value_named.number (sym c.value_named.ensures.number ∙ c.in-Some-value_named.is))
     c.in-Some-value_named.number c.in-Some-read_number.value
     (sym c.value_named.ensures.number ∙ c.in-Some-value_named.is) c.in-Some-read_number.ensures.number
     c.take.result c.take.new.self c.take.ensures
@@ -51,12 +51,12 @@ returns-then-take-clause-word c =
 pub returns-then-take-clause-after : goal.returns-then-take-clause-after
 returns-then-take-clause-after c =
     c.in-Some-read_number.ensures.after ∙ behind c.args.values.now c.args.text.now c.in-Some.at (equals-known c.args.text.now c.in-Some.at c.in-Some.ensures.0.high c.in-Some.ensures.0.before c.in-Some.ensures.1
-      c.in-Some-value_named.number (sym c.value_named.ensures.number ∙ c.in-Some-value_named.is))
+    c.in-Some-value_named.number (sym c.value_named.ensures.number ∙ c.in-Some-value_named.is))
 
 pub returns-else-take-clause-wrong : goal.returns-else-take-clause-wrong
 returns-else-take-clause-wrong c =
     given c.args.values.now c.args.text.now c.in-Some.at (equals-known c.args.text.now c.in-Some.at c.in-Some.ensures.0.high c.in-Some.ensures.0.before c.in-Some.ensures.1
-      c.in-Some-value_named.number (sym c.value_named.ensures.number ∙ c.in-Some-value_named.is))
+    c.in-Some-value_named.number (sym c.value_named.ensures.number ∙ c.in-Some-value_named.is))
     c.in-Some-value_named.number c.in-Some-read_number.value
     (sym c.value_named.ensures.number ∙ c.in-Some-value_named.is) c.in-Some-read_number.ensures.number
     c.take.result c.take.new.self c.take.ensures

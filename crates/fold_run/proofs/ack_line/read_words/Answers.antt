@@ -1,4 +1,4 @@
-use Rattle.std.proofs.Common.{rules, ◌≡◌, ◌∙◌, ◌<◌, ap₂, sym, length}
+use Rattle.std.proofs.Common.{rules, ◌∙◌, ◌<◌, ap₂, sym, length}
 use Rattle.ccp_base.specs.declared.parts.Separator.TheVariants.{Blank}
 use Rattle.ccp_base.specs.Parts.{parts_of}
 use Rattle.fold_run.specs.AckLine.{with_words}
