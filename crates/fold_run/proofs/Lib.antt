@@ -1,0 +1,7 @@
+mod MachineMeans
+mod FoldSteps
+mod FirstLine
+mod FirstWord
+mod SeparatedLemmas
+mod AcksLaws
+mod CutLaws

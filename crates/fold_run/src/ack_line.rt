@@ -1,0 +1,103 @@
+ghost use Rattle.std.specs.Prelude.{◌≡◌, ◌<◌, ◌∷◌, if◌then◌else◌, IfSome, IfNone, Some, None, length};
+ghost use Rattle.std.specs.List.{list_all};
+ghost use Rattle.ccp_base.specs.declared.parts.Separator.TheVariants.{Blank};
+ghost use Rattle.ccp_base.specs.Parts.{separates, parts_of};
+ghost use Rattle.fold_run.specs.FirstPart.{first_of, after_of};
+ghost use Rattle.fold_run.specs.AckLine.{with_word, with_words, some_if, no_values, begins_blank, ends_blank, line_told, line_of};
+
+use crate::line_number::read_number;
+use crate::line_values::LineValues;
+use ccp_base::{Separator, value_named};
+use memchr::memchr;
+
+/// What a line below the separator says.
+#[derive(Clone, Copy, PartialEq, Eq, Debug)]
+pub enum LineKind {
+    /// The line is blank.
+    Nothing,
+    /// The line gives an acknowledgement.
+    Given,
+    /// The line is no acknowledgement.
+    Refused,
+}
+
+/// Reads a line that has no LF and no CR at its end. The values are those that it gives, where it gives an
+/// acknowledgement.
+pub fn read_line(values: &mut LineValues, line: &[u8]) -> LineKind
+    requires { values.old ≡ no_values }
+    ensures { line_told result values.new ≡ line_of line.now }
+{
+    if is_blank(line) {
+        return LineKind::Nothing;
+    }
+    if begins_blank(line) || ends_blank(line) || !read_words(values, line) {
+        return LineKind::Refused;
+    }
+    LineKind::Given
+}
+
+fn is_blank(line: &[u8]) -> bool
+    ensures { result ≡ list_all (separates Separator.Blank) line.now }
+{
+    line.iter().all(|byte| Separator::Blank.is(*byte))
+}
+
+fn begins_blank(line: &[u8]) -> bool
+    ensures { result ≡ begins_blank line.now }
+{
+    match line.first() {
+        None => false,
+        Some(byte) => Separator::Blank.is(*byte),
+    }
+}
+
+fn ends_blank(line: &[u8]) -> bool
+    ensures { result ≡ ends_blank line.now }
+{
+    match line.last() {
+        None => false,
+        Some(byte) => Separator::Blank.is(*byte),
+    }
+}
+
+#[tactic(auto, using(crate::proofs::FirstWord::words_step, crate::proofs::FirstWord::after_shorter))]
+/// Takes the values of a line's words, and tells whether each word gives one that isn't there yet.
+fn read_words(values: &mut LineValues, line: &[u8]) -> bool
+    ensures { some_if result values.new ≡ with_words (Some values.old) (parts_of Blank line.now) }
+{
+    let mut left = line;
+    while !left.is_empty() {
+        match read_word(values, left) {
+            None => return false,
+            Some(after) => left = after,
+        }
+    }
+    true
+}
+
+/// Takes the value of the word at the front of a text, and gives what follows the word; None exactly where the word
+/// gives no value that isn't there yet.
+fn read_word<'a>(values: &mut LineValues, text: &'a [u8]) -> Option<&'a [u8]>
+    requires { 0 < length text.now }
+    ensures word { IfSome result (λ after. with_word values.old (first_of Blank text.now) ≡ Some values.new) }
+    ensures after { IfSome result (λ after. after.now ≡ after_of Blank text.now) }
+    ensures wrong { IfNone result (with_word values.old (first_of Blank text.now) ≡ None) }
+{
+    if Separator::Blank.is(text[0]) {
+        return Some(&text[1..]);
+    }
+    let Some(at) = memchr(b'=', text) else {
+        return None;
+    };
+    let Some(number) = value_named(&text[..at]) else {
+        return None;
+    };
+    let Some((value, after)) = read_number(&text[at + 1..]) else {
+        return None;
+    };
+    if values.take(number, value) {
+        Some(after)
+    } else {
+        None
+    }
+}

@@ -1,0 +1,86 @@
+ghost use Rattle.std.specs.Prelude.{◌≡◌, ◌≢◌, ◌+◌, ◌^◌, ◌<◌, ◌≤◌, IfOk, IfErr, OnOk, Ok, Err, length};
+ghost use Rattle.ccp_base.specs.Limits.{most_acks};
+ghost use Rattle.ccp_base.specs.declared.parts.Separator.TheVariants.{LineFeed};
+ghost use Rattle.ccp_base.specs.Parts.{parts_of};
+ghost use Rattle.fold_run.specs.declared.acks.LineFault.TheVariants.{NoMemory};
+ghost use Rattle.fold_run.specs.AckLine.{line_of};
+ghost use Rattle.fold_run.specs.Acknowledgements.{with_line, acks_of};
+
+use crate::ack_line::{LineKind, read_line};
+use crate::first_line::first_line;
+use crate::line_values::LineValues;
+use ccp_base::{Acks, ack_of, without_return};
+use std::alloc::{AllocError, Global};
+
+/// The most acknowledgements of one input.
+const MOST_ACKS: usize = 65_536;
+
+/// Why lines have no acknowledgements.
+#[derive(Clone, Copy, PartialEq, Eq, Debug)]
+pub enum LineFault {
+    /// The line of this number in the whole input is no acknowledgement and isn't blank.
+    Line(u64),
+    /// There is an acknowledgement after the 65,536th.
+    TooMany,
+    NoMemory,
+}
+
+impl From<AllocError> for LineFault {
+    ghost from_gives = { λ _ e. e ≡ NoMemory };
+
+    fn from(_error: AllocError) -> LineFault {
+        LineFault::NoMemory
+    }
+}
+
+/// The acknowledgements of lines, of which the first has the number `next` in the whole input. Blank lines are
+/// passed over, and the first fault in the order of the lines counts.
+pub fn acknowledgements(alloc: Global, lines: &[u8], next: u64) -> Result<Acks, LineFault>
+    requires { next + length lines.now < 2 ^ 64 }
+    ensures ok { IfOk result (λ acks. acks_of next (parts_of LineFeed lines.now) ≡ Ok acks) }
+    ensures err { IfErr result (λ e. e ≢ NoMemory → acks_of next (parts_of LineFeed lines.now) ≡ Err e) }
+    ensures within { IfOk result (λ acks. length acks ≤ most_acks) }
+{
+    let mut acks = Acks::from_vec(Vec::with_capacity(alloc, room_for(lines))?);
+    let mut number = next;
+    let mut rest = lines;
+    while !rest.is_empty() {
+        let (line, after) = first_line(rest);
+        put_line(&mut acks, number, without_return(line))?;
+        rest = after;
+        number += 1;
+    }
+    Ok(acks)
+}
+
+/// The number of acknowledgements that room is made for: one a line, as if all lines were as long as the first.
+fn room_for(lines: &[u8]) -> usize
+    ensures { result ≤ most_acks }
+{
+    if lines.is_empty() {
+        return 0;
+    }
+    let (line, _) = first_line(lines);
+    (lines.len() / (line.len() + 1) + 1).min(MOST_ACKS)
+}
+
+/// Puts what the line of this number says, without the CR at its end, at the end of the acknowledgements.
+fn put_line(acks: &mut Acks, number: u64, line: &[u8]) -> Result<(), LineFault>
+    requires { length acks.old ≤ most_acks }
+    ensures ok { OnOk result (with_line number acks.old (line_of line.now) ≡ Ok acks.new) }
+    ensures err { IfErr result (λ e. e ≢ NoMemory → with_line number acks.old (line_of line.now) ≡ Err e) }
+    ensures within { length acks.new ≤ most_acks }
+{
+    let mut values = LineValues::none();
+    match read_line(&mut values, line) {
+        LineKind::Nothing => Ok(()),
+        LineKind::Refused => Err(LineFault::Line(number)),
+        LineKind::Given => {
+            if acks.len() >= MOST_ACKS {
+                return Err(LineFault::TooMany);
+            }
+            acks.push(ack_of(&values.numbers))?;
+            Ok(())
+        }
+    }
+}

@@ -1,0 +1,9 @@
+ghost use Rattle.fold_run.specs.ReadingLaws.{CutLaw, AcksLaw};
+
+/// A text that is cut is its program, a separator line and the rest, and no line of the program is a separator. The
+/// acknowledgements of lines are those that the lines give, exactly where no line is refused and there are at most
+/// 65,536.
+pub fn reading_laws()
+    ensures cut { CutLaw }
+    ensures acks { AcksLaw }
+{}

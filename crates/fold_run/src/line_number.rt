@@ -1,0 +1,76 @@
+ghost use Rattle.std.specs.Prelude.{◌≡◌, ◌<◌, IfSome, IfNone, Some, None, true, ◌^◌};
+ghost use Rattle.ccp_base.specs.declared.parts.Separator.TheVariants.{Blank};
+ghost use Rattle.ccp_base.specs.Numerals.{digit_after, value_after, numeral_of, is_digit};
+ghost use Rattle.fold_run.specs.FirstPart.{first_of, after_of};
+
+use ccp_base::Separator;
+
+/// A number with one more digit is below 2^64 where it is below this before.
+const PLAIN: u64 = 1_844_674_407_370_955_161;
+
+/// The number at the front of a text, up to a blank or the text's end, and what follows that blank; None exactly
+/// where there is no numeral or its value is past 2^64-1.
+pub fn read_number(text: &[u8]) -> Option<(u64, &[u8])>
+    ensures number { IfSome result (λ read. numeral_of (first_of Blank text.now) ≡ Some read.0) }
+    ensures after { IfSome result (λ read. read.1.now ≡ after_of Blank text.now) }
+    ensures wrong { IfNone result (numeral_of (first_of Blank text.now) ≡ None) }
+{
+    match text.first() {
+        Some(byte) if byte.is_ascii_digit() => read_digits(text),
+        _ => None,
+    }
+}
+
+/// The number of the digits at the front of a text.
+fn read_digits(text: &[u8]) -> Option<(u64, &[u8])>
+    ensures number { IfSome result (λ read. value_after (Some 0) (first_of Blank text.now) ≡ Some read.0) }
+    ensures after { IfSome result (λ read. read.1.now ≡ after_of Blank text.now) }
+    ensures wrong { IfNone result (value_after (Some 0) (first_of Blank text.now) ≡ None) }
+{
+    let mut number: u64 = 0;
+    let mut left = text;
+    while let Some((byte, rest)) = left.split_first() {
+        if Separator::Blank.is(*byte) {
+            return Some((number, rest));
+        }
+        if !byte.is_ascii_digit() {
+            return None;
+        }
+        if number >= PLAIN {
+            return read_last_digits(number, left);
+        }
+        number = number * 10 + u64::from(byte - b'0');
+        left = rest;
+    }
+    Some((number, left))
+}
+
+/// A number that is near 2^64 with the digits at the front of a text.
+#[cold]
+fn read_last_digits(before: u64, text: &[u8]) -> Option<(u64, &[u8])>
+    ensures number { IfSome result (λ read. value_after (Some before) (first_of Blank text.now) ≡ Some read.0) }
+    ensures after { IfSome result (λ read. read.1.now ≡ after_of Blank text.now) }
+    ensures wrong { IfNone result (value_after (Some before) (first_of Blank text.now) ≡ None) }
+{
+    let mut number = before;
+    let mut left = text;
+    while let Some((byte, rest)) = left.split_first() {
+        if Separator::Blank.is(*byte) {
+            return Some((number, rest));
+        }
+        if !byte.is_ascii_digit() {
+            return None;
+        }
+        number = with_digit(number, *byte)?;
+        left = rest;
+    }
+    Some((number, left))
+}
+
+/// A number with one more decimal digit; None exactly where it is past 2^64-1.
+fn with_digit(number: u64, digit: u8) -> Option<u64>
+    requires { is_digit digit ≡ true }
+    ensures { result ≡ digit_after number digit }
+{
+    number.checked_mul(10)?.checked_add(u64::from(digit - b'0'))
+}

@@ -1,0 +1,40 @@
+ghost use Rattle.std.specs.Prelude.{◌≡◌, ◌<◌, Some, None, length};
+ghost use Rattle.std.specs.Option.{ForSome};
+ghost use Rattle.ccp_base.specs.Limits.{primitive_count};
+ghost use Rattle.fold_run.specs.AckLine.{no_values, with_number, some_if};
+
+use ccp_base::is_flag;
+
+/// The values that a line gives, each at the number of its primitive.
+#[derive(Clone, Copy, Debug)]
+pub struct LineValues {
+    /// The values, 0 where the line gives none.
+    pub numbers: [u64; 15],
+    /// Which of them the line gives.
+    pub named: [bool; 15],
+}
+
+impl LineValues {
+    /// No value.
+    pub fn none() -> LineValues
+        ensures { result ≡ no_values }
+    {
+        LineValues {
+            numbers: [0; 15],
+            named: [false; 15],
+        }
+    }
+
+    /// Takes one more value, and tells whether it isn't there yet and is within its range.
+    pub fn take(&mut self, number: usize, value: u64) -> bool
+        requires { number < primitive_count }
+        ensures { some_if result self.new ≡ with_number self.old number value }
+    {
+        if self.named[number] || (value > 1 && is_flag(number as u32)) {
+            return false;
+        }
+        self.numbers[number] = value;
+        self.named[number] = true;
+        true
+    }
+}
