@@ -342,8 +342,8 @@ fn is_the_code(rt: &impl Abort, code: &Code) {
     assert!(rt; code.controls.is_empty());
     assert_eq!(rt; code.events.as_slice(), [event].as_slice());
     assert_eq!(rt; code.instrs.len(), 2);
-    assert_eq!(rt; code.instrs.as_slice()[0], binds(Implicit::Flag));
-    assert_eq!(rt; code.instrs.as_slice()[1], binds(Implicit::Send));
+    assert_eq!(rt; code.instrs.as_slice()[0].instr(), binds(Implicit::Flag));
+    assert_eq!(rt; code.instrs.as_slice()[1].instr(), binds(Implicit::Send));
 }
 
 /// A code is read whole, from the first of two frames.

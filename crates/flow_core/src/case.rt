@@ -6,7 +6,7 @@ ghost use Rattle.flow_core.specs.Cases.{KeepsWithin, AreOne};
 use agent_core::{Agent, same_role};
 use ccp_base::{Name, NoMemory, Role};
 use link_model::LinkCase;
-use reg_code::{Checked, Code, Event, Instr, Start};
+use reg_code::{Checked, Code, Event, Instr, Packed, Start};
 use std::alloc::Global;
 
 /// A program as an agent's role has it: its number, where it keeps what the agent reads and writes, and its code.
@@ -50,10 +50,28 @@ fn same_events(these: &[Event], others: &[Event]) -> bool
     these == others
 }
 
-fn same_instrs(these: &[Instr], others: &[Instr]) -> bool
+fn same_instrs(these: &[Packed], others: &[Packed]) -> bool
     ensures { IsTrue result ↔ (these.now ≡ others.now) }
 {
-    these == others
+    let mut left = these;
+    let mut right = others;
+    while let Some((first, rest)) = left.split_first() {
+        let Some((other, after)) = right.split_first() else {
+            return false;
+        };
+        if !same_instr(&first.instr(), &other.instr()) {
+            return false;
+        }
+        left = rest;
+        right = after;
+    }
+    right.is_empty()
+}
+
+fn same_instr(this: &Instr, other: &Instr) -> bool
+    ensures { IsTrue result ↔ (this.now ≡ other.now) }
+{
+    this == other
 }
 
 /// Whether two codes are equal.

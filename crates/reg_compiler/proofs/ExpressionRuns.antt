@@ -13,7 +13,8 @@ use Rattle.portus_core.specs.Value.{Cause, then_do as then_value, Locals, applie
 use Rattle.portus_core.specs.ValidPrograms.{Known, is_term}
 use Rattle.reg_code.specs.declared.code.Reg.{Reg}
 use Rattle.reg_code.specs.declared.code.Reg.TheVariants as reg
-use Rattle.reg_code.specs.CodeStep.{Variables, Regs, written, put, effect, then_do, with_operand}
+use Rattle.ccp_base.specs.Chaining.{then_do}
+use Rattle.reg_code.specs.CodeStep.{Variables, Regs, written, put, effect, with_operand}
 use Rattle.reg_code.specs.declared.code.Op.{Op}
 use Rattle.reg_code.specs.declared.code.Op.TheVariants as op
 use Rattle.reg_compiler.specs.declared.line.Line.{Line}

@@ -1,13 +1,12 @@
 use Rattle.std.proofs.Common.{◌≡◌, Bool, true, false, ◌&&◌, sym, subst, ap, refl, rules}
 use Rattle.std.proofs.lemmas.Bool.{true≢false}
-use lib.Pointwise.{pointwise_decides}
 use denote.Enum.Bare.{same_true, true_same}
 use Rattle.reg_code.specs.contracts.code.Op as op
 use Rattle.reg_code.specs.contracts.code.InstrPartialEq.TheImpl.{eq-value}
 use Rattle.reg_code.specs.contracts.code.RegPartialEq.TheImpl as reg
 use Rattle.reg_code.specs.declared.code.Instr.{Instr}
 use Rattle.reg_code.specs.declared.code.Reg.{Reg}
-use Rattle.flow_core.proofs.case.same_instrs.Goals as goal
+use Rattle.flow_core.proofs.case.same_instr.Goals as goal
 
 -- a test tells whether something holds
 abbrev Tells : Bool → Type 0 → Type 0
@@ -29,6 +28,4 @@ tells a b =
     )
 
 pub returns : goal.returns
-returns c =
-    subst (λ (r : Bool). Tells r (c.args.these.now ≡ c.args.others.now)) (sym c.eq.ensures)
-    (pointwise_decides {E = (eq-value).it} tells c.args.these.now c.args.others.now)
+returns c = subst (λ (r : Bool). Tells r (c.args.this.now ≡ c.args.other.now)) (sym c.eq.ensures) (tells c.args.this.now c.args.other.now)
