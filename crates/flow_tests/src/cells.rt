@@ -2,7 +2,8 @@
 ghost use Rattle.std.specs.Prelude.{◌≡◌, ◌<◌};
 
 use crate::cases::{alike, reno};
-use crate::turns::{Shown, book, epoch, refused, settled, shown, taken};
+use crate::turns::{Shown, book, epoch, refused, settled, shown_by, taken};
+use agent_core::Ticket;
 use agent_core::calls::answer;
 use ccp_base::Reply;
 use flow_core::{Cell, Ended, EpochLine, TakeFault};
@@ -56,7 +57,7 @@ fn settle_once(rt: &impl Abort, alloc: Global, cell: &mut Cell) -> Result<(), Fa
     let ticket = taken(alloc, cell).ok_or("a ticket")?;
     assert_eq!(rt; ticket.number, 0);
     assert_eq!(rt;
-        shown(&ticket.told),
+        shown_by(&ticket.told),
         Shown {
             first: 0,
             end: 4,
@@ -87,16 +88,33 @@ const CHANGE: [u8; 30] = [
     5, 1, 1, 0, 0, 0, 0, 0, 0, 0, 0, 0, 30, 0, 0, 0, 3, 0, 0, 0, 4, 4, 0x50, 0x0b, 0, 0, 0, 0, 0, 0,
 ];
 
+/// The answer's frame is that of the change.
+fn frame(rt: &impl Abort, ticket: Ticket) -> Result<(), Fail> {
+    let answered = answer(ticket);
+    assert_eq!(rt; answered.frame(), CHANGE.as_slice());
+    Ok(())
+}
+
+/// The answer to a ticket, which is applied, replies this.
+fn replies(rt: &impl Abort, cell: &mut Cell, ticket: Ticket, want: Reply) -> Result<(), Fail> {
+    assert_eq!(rt; settled(cell, ticket), Some(want));
+    Ok(())
+}
+
 /// The first of two reports is answered by a change, and the second, of the ended epoch, by nothing.
 fn change(rt: &impl Abort, alloc: Global, cell: &mut Cell) -> Result<(), Fail> {
     let first = taken(alloc, cell).ok_or("a ticket")?;
-    assert_eq!(rt; answer(first).frame(), CHANGE.as_slice());
-    let reply = Reply::Change {
-        program: 3,
-        cwnd: 2896,
-        cap: 2896,
-    };
-    assert_eq!(rt; settled(cell, first), Some(reply));
+    frame(rt, first)?;
+    replies(
+        rt,
+        cell,
+        first,
+        Reply::Change {
+            program: 3,
+            cwnd: 2896,
+            cap: 2896,
+        },
+    )?;
     tell(
         rt,
         alloc,
@@ -112,7 +130,7 @@ fn change(rt: &impl Abort, alloc: Global, cell: &mut Cell) -> Result<(), Fail> {
 /// The next ticket shows this, and is answered by nothing where its epoch has ended.
 fn tell(rt: &impl Abort, alloc: Global, cell: &mut Cell, want: Shown) -> Result<(), Fail> {
     let ticket = taken(alloc, cell).ok_or("a ticket")?;
-    assert_eq!(rt; shown(&ticket.told), want);
+    assert_eq!(rt; shown_by(&ticket.told), want);
     assert_eq!(rt; settled(cell, ticket), Some(Reply::Nothing));
     Ok(())
 }
@@ -138,7 +156,7 @@ fn change_while_waiting<L: Ledger>(
     hear(rt, cell, &mut steps, &[Ok(Acked::Reported)])?;
     let ticket = taken(alloc, cell).ok_or("a ticket")?;
     assert_eq!(rt;
-        shown(&ticket.told),
+        shown_by(&ticket.told),
         Shown {
             first: 2,
             end: 3,

@@ -13,7 +13,7 @@ pub(crate) struct Shown {
     pub(crate) value: u64,
 }
 
-pub(crate) fn shown(told: &Told) -> Shown {
+pub(crate) fn shown_by(told: &Told) -> Shown {
     match told {
         Told::Report(report) => Shown {
             first: report.first,
@@ -33,7 +33,7 @@ pub(crate) fn told_by(alloc: Global, core: &mut Core) -> Option<Shown> {
     let Ok(ticket) = core.take(alloc) else {
         return None;
     };
-    let shown = shown(&ticket.told);
+    let shown = shown_by(&ticket.told);
     if core.settle(answer(ticket)).is_err() {
         return None;
     }
