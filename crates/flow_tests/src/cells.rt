@@ -2,7 +2,7 @@
 ghost use Rattle.std.specs.Prelude.{◌≡◌, ◌<◌};
 
 use crate::cases::{alike, reno};
-use crate::turns::{Shown, book, epoch, refused, settled, shown_by, taken};
+use crate::turns::{Shown, book, changed, epoch, refused, settled, shown_by, taken};
 use agent_core::Ticket;
 use agent_core::calls::answer;
 use ccp_base::Reply;
@@ -89,52 +89,30 @@ const CHANGE: [u8; 30] = [
 ];
 
 /// The answer's frame is that of the change.
-fn frame(rt: &impl Abort, ticket: Ticket) -> Result<(), Fail> {
-    let answered = answer(ticket);
+fn frame(rt: &impl Abort, ticket: &Ticket) -> Result<(), Fail> {
+    let answered = answer(*ticket);
     assert_eq!(rt; answered.frame(), CHANGE.as_slice());
     Ok(())
 }
 
-/// The answer to a ticket, which is applied, replies this.
-fn replies(rt: &impl Abort, cell: &mut Cell, ticket: Ticket, want: Reply) -> Result<(), Fail> {
-    assert_eq!(rt; settled(cell, ticket), Some(want));
+/// The next ticket is answered by a change.
+fn change(rt: &impl Abort, alloc: Global, cell: &mut Cell) -> Result<(), Fail> {
+    let ticket = taken(alloc, cell).ok_or("a ticket")?;
+    frame(rt, &ticket)?;
+    assert_eq!(rt; changed(cell, ticket), Some((3, 2896)));
     Ok(())
 }
 
-/// The first of two reports is answered by a change, and the second, of the ended epoch, by nothing.
-fn change(rt: &impl Abort, alloc: Global, cell: &mut Cell) -> Result<(), Fail> {
-    let first = taken(alloc, cell).ok_or("a ticket")?;
-    frame(rt, first)?;
-    replies(
-        rt,
-        cell,
-        first,
-        Reply::Change {
-            program: 3,
-            cwnd: 2896,
-            cap: 2896,
-        },
-    )?;
-    tell(
-        rt,
-        alloc,
-        cell,
-        Shown {
-            first: 1,
-            end: 2,
-            value: 1,
-        },
-    )
-}
-
-/// The next ticket shows this, and is answered by nothing where its epoch has ended.
-fn tell(rt: &impl Abort, alloc: Global, cell: &mut Cell, want: Shown) -> Result<(), Fail> {
+/// The next ticket shows this span, whose epoch has ended, and is answered by nothing.
+fn tell(rt: &impl Abort, alloc: Global, cell: &mut Cell, span: (u64, u64)) -> Result<(), Fail> {
     let ticket = taken(alloc, cell).ok_or("a ticket")?;
-    assert_eq!(rt; shown_by(&ticket.told), want);
+    let shown = shown_by(&ticket.told);
+    assert_eq!(rt; (shown.first, shown.end), span);
     assert_eq!(rt; settled(cell, ticket), Some(Reply::Nothing));
     Ok(())
 }
 
+/// The first of two reports is answered by a change, and the second, of the ended epoch, by nothing.
 fn change_while_waiting<L: Ledger>(
     rt: &impl Abort,
     alloc: Global,
@@ -153,6 +131,7 @@ fn change_while_waiting<L: Ledger>(
         &[Ok(Acked::Reported), Ok(Acked::Reported)],
     )?;
     change(rt, alloc, cell)?;
+    tell(rt, alloc, cell, (1, 2))?;
     hear(rt, cell, &mut steps, &[Ok(Acked::Reported)])?;
     let ticket = taken(alloc, cell).ok_or("a ticket")?;
     assert_eq!(rt;

@@ -58,6 +58,14 @@ pub(crate) fn settled(cell: &mut Cell, ticket: Ticket) -> Option<Reply> {
     Some(reply)
 }
 
+/// Applies the answer to a ticket: the program and the window that it changes to.
+pub(crate) fn changed(cell: &mut Cell, ticket: Ticket) -> Option<(u32, u64)> {
+    match settled(cell, ticket) {
+        Some(Reply::Change { program, cwnd, .. }) => Some((program, cwnd)),
+        _ => None,
+    }
+}
+
 /// The number of the ticket that is out where the answer to a ticket is refused.
 pub(crate) fn refused(cell: &mut Cell, ticket: Ticket) -> Option<Option<u32>> {
     let Err(stale) = cell.settle(answer(ticket)) else {
