@@ -369,6 +369,22 @@ fn a_code_is_read(rt: HostRuntime) {
     assert_eq!(rt; used, 89);
 }
 
+/// The longest frame: an Install with as many registers, events and instructions as there may be, each byte after its
+/// head 0.
+#[test]
+fn the_largest_code_is_read(rt: HostRuntime) {
+    let mut frame = [0; 8596];
+    frame[..8].copy_from_slice(&[3, 2, 64, 64, 64, 0, 0, 1]);
+    frame[12..14].copy_from_slice(&[0x94, 0x21]);
+    let Ok((message, _, used)) = decode(rt.alloc(), &frame) else {
+        panic!(rt; "not read");
+    };
+    assert_eq!(rt; used, 8596);
+    let mut out = [7; 8596];
+    assert_eq!(rt; encode_into(&message, Version::Two, &mut out), Ok(8596));
+    assert_eq!(rt; out.as_slice(), frame.as_slice());
+}
+
 /// An implicit register becomes 1.
 fn binds(which: Implicit) -> Instr {
     Instr {

@@ -1,7 +1,7 @@
 //! The answer to the ticket that is out is applied.
 ghost use Rattle.std.specs.Prelude.{◌≡◌, ◌+◌, ◌<◌, ◌≤◌, ◌∷◌, [], ◌++◌, Some, None, length};
-ghost use Rattle.ccp_base.specs.Limits.{most_acks};
 ghost use Rattle.ccp_base.specs.FieldReg.{first_bad};
+ghost use Rattle.ccp_base.specs.Limits.{most_acks};
 ghost use Rattle.fold_machine.specs.MachineState.{Fits};
 ghost use Rattle.agent_core.specs.Answers.{after_of, reply_of};
 ghost use Rattle.flow_core.specs.Readings.{code_at};

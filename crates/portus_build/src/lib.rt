@@ -5,9 +5,13 @@ mod building;
 mod builtins;
 pub mod calls;
 mod fault;
+mod refusal;
+mod settled;
 #[cfg(test)]
 mod tests;
 
 pub use building::build;
 pub use builtins::builtin;
 pub use fault::BuildFault;
+pub use refusal::put_refusal;
+pub use settled::build_law;

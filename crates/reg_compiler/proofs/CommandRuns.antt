@@ -9,8 +9,11 @@ use Rattle.ccp_base.specs.Acknowledgement.{number_of, primitives}
 use Rattle.portus_core.specs.declared.program.Var.{Var}
 use Rattle.portus_core.specs.declared.program.Var.TheVariants as var
 use Rattle.portus_core.specs.Programs.{Term, number, Action, set, set_if, set_unless, ewma, zero_micros, report, fall}
-use Rattle.portus_core.specs.Value.{Cause, then_do as then_value, is_true, at_place, read_of}
-use Rattle.portus_core.specs.Command.{Going, written_where, blended, value_in, command_of, body_of}
+use Rattle.ccp_base.specs.Chaining.{then_do as then_value}
+use Rattle.ccp_base.specs.Truth.{is_true}
+use Rattle.portus_core.specs.Value.{Cause, at_place, read_of}
+use Rattle.ccp_base.specs.Blending.{blended}
+use Rattle.portus_core.specs.Command.{Going, written_where, value_in, command_of, body_of}
 use Rattle.portus_core.specs.Command as source
 use Rattle.portus_core.specs.ValidPrograms.{Known, is_known, is_term, is_truth, is_writable, is_target, is_next_local, is_condition, fits_target, term_is_truth, is_action, known_after, is_body}
 use Rattle.reg_code.specs.declared.code.Op.{Op}

@@ -9,7 +9,8 @@ use Rattle.portus_core.specs.declared.env.Env.{Env}
 use Rattle.portus_core.specs.declared.program.Op2.{Op2}
 use Rattle.portus_core.specs.declared.program.Op2.TheVariants as source
 use Rattle.portus_core.specs.Programs.{Term, number, truth, name, pair}
-use Rattle.portus_core.specs.Value.{Cause, then_do as then_value, Locals, applied, at_place, value_of}
+use Rattle.ccp_base.specs.Chaining.{then_do as then_value}
+use Rattle.portus_core.specs.Value.{Cause, Locals, applied, at_place, value_of}
 use Rattle.portus_core.specs.ValidPrograms.{Known, is_term}
 use Rattle.reg_code.specs.declared.code.Reg.{Reg}
 use Rattle.reg_code.specs.declared.code.Reg.TheVariants as reg
