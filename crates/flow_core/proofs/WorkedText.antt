@@ -4,7 +4,7 @@ use Rattle.ccp_base.specs.declared.exchange.Reply.TheVariants.{Nothing, Update, 
 use Rattle.ccp_base.specs.declared.exchange.Report.{Report}
 use Rattle.ccp_base.specs.declared.exchange.Told.TheVariants as told
 use Rattle.portus_core.specs.declared.program.Decl.{Decl}
-use Rattle.report_lines.specs.Text.{◌⧺◌}
+use Rattle.ccp_base.specs.Text.{◌⧺◌}
 use Rattle.reno_agent.specs.Reno.{RenoState}
 use Rattle.agent_core.specs.declared.agent.Agent.TheVariants.{Reno}
 use Rattle.flow_core.specs.declared.case.Case.{Case}

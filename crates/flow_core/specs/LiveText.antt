@@ -9,7 +9,7 @@ use Rattle.portus_core.specs.declared.program.Decl.{Decl}
 use Rattle.portus_core.specs.Programs.{Form}
 use Rattle.portus_core.specs.Epoch.{Track}
 use Rattle.report_lines.specs.declared.end_line.End.{End}
-use Rattle.report_lines.specs.Text.{◌⧺◌}
+use Rattle.ccp_base.specs.Text.{◌⧺◌}
 use Rattle.report_lines.specs.FlowLine.{flow_head}
 use Rattle.report_lines.specs.ReportLine.{report_head, report_tail}
 use Rattle.report_lines.specs.FaultLine.{fault_head, fault_line}

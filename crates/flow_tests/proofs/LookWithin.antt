@@ -19,7 +19,7 @@ within name decls starts same =
 
 pub keeps-within : (form : Form) (code : Code) (places : List Place) → Simulates form code places → KeepsWithin (look_of form) code
 keeps-within form code places simulates =
-    let alike = simulates.1.1.0 in
+    let alike = simulates.2 in
     let fields : length form.fields ≡ length code.reports =
     sym (ap (λ (starts : List Start). length starts) alike.0 ∙ length-map form.fields start_of) in
     let controls : length form.controls ≡ length code.controls =

@@ -30,13 +30,13 @@ abbrev here : Place
 here = record { line = 1; column = 1 }
 
 abbrev volatile_num : List ℕ → Decl
-volatile_num name = record { name = name; volatile = true; truth = false; start = 0 }
+volatile_num text = record { name = text; volatile = true; truth = false; start = 0 }
 
 abbrev volatile_truth : List ℕ → Decl
-volatile_truth name = record { name = name; volatile = true; truth = true; start = 0 }
+volatile_truth text = record { name = text; volatile = true; truth = true; start = 0 }
 
 abbrev plain : List ℕ → ℕ → Decl
-plain name start = record { name = name; volatile = false; truth = false; start = start }
+plain text start = record { name = text; volatile = false; truth = false; start = start }
 
 abbrev field : ℕ → Term
 field n = name (var.Field n)
@@ -90,7 +90,7 @@ slow_start = record {
 -- ---- the flow and its link
 
 abbrev role : ℕ → Role
-role number = record { number = number; look = look_of slow_start }
+role n = record { number = n; look = look_of slow_start }
 
 abbrev flow : Flow Place
 flow = record {
@@ -98,8 +98,8 @@ flow = record {
   agent = Reno (first_reno 1448 (role 0) (role 1));
   acks = 4;
   slots = 4;
-  reading = λ number. by_source slow_start;
-  declared = λ number. declared_env slow_start;
+  reading = λ n. by_source slow_start;
+  declared = λ n. declared_env slow_start;
   index = λ place. 0;
 }
 

@@ -2,7 +2,8 @@
 ghost use Rattle.std.specs.Prelude.{◌≡◌, ◌<◌};
 
 use crate::cases::{alike, reno};
-use crate::turns::{Shown, book, epoch, refused, settled, shown, taken};
+use crate::turns::{Shown, book, changed, epoch, refused, settled, shown_by, taken};
+use agent_core::Ticket;
 use agent_core::calls::answer;
 use ccp_base::Reply;
 use flow_core::{Cell, Ended, EpochLine, TakeFault};
@@ -56,7 +57,7 @@ fn settle_once(rt: &impl Abort, alloc: Global, cell: &mut Cell) -> Result<(), Fa
     let ticket = taken(alloc, cell).ok_or("a ticket")?;
     assert_eq!(rt; ticket.number, 0);
     assert_eq!(rt;
-        shown(&ticket.told),
+        shown_by(&ticket.told),
         Shown {
             first: 0,
             end: 4,
@@ -87,36 +88,31 @@ const CHANGE: [u8; 30] = [
     5, 1, 1, 0, 0, 0, 0, 0, 0, 0, 0, 0, 30, 0, 0, 0, 3, 0, 0, 0, 4, 4, 0x50, 0x0b, 0, 0, 0, 0, 0, 0,
 ];
 
-/// The first of two reports is answered by a change, and the second, of the ended epoch, by nothing.
-fn change(rt: &impl Abort, alloc: Global, cell: &mut Cell) -> Result<(), Fail> {
-    let first = taken(alloc, cell).ok_or("a ticket")?;
-    assert_eq!(rt; answer(first).frame(), CHANGE.as_slice());
-    let reply = Reply::Change {
-        program: 3,
-        cwnd: 2896,
-        cap: 2896,
-    };
-    assert_eq!(rt; settled(cell, first), Some(reply));
-    tell(
-        rt,
-        alloc,
-        cell,
-        Shown {
-            first: 1,
-            end: 2,
-            value: 1,
-        },
-    )
+/// The answer's frame is that of the change.
+fn frame(rt: &impl Abort, ticket: &Ticket) -> Result<(), Fail> {
+    let answered = answer(*ticket);
+    assert_eq!(rt; answered.frame(), CHANGE.as_slice());
+    Ok(())
 }
 
-/// The next ticket shows this, and is answered by nothing where its epoch has ended.
-fn tell(rt: &impl Abort, alloc: Global, cell: &mut Cell, want: Shown) -> Result<(), Fail> {
+/// The next ticket is answered by a change.
+fn change(rt: &impl Abort, alloc: Global, cell: &mut Cell) -> Result<(), Fail> {
     let ticket = taken(alloc, cell).ok_or("a ticket")?;
-    assert_eq!(rt; shown(&ticket.told), want);
+    frame(rt, &ticket)?;
+    assert_eq!(rt; changed(cell, ticket), Some((3, 2896)));
+    Ok(())
+}
+
+/// The next ticket shows this span, whose epoch has ended, and is answered by nothing.
+fn tell(rt: &impl Abort, alloc: Global, cell: &mut Cell, span: (u64, u64)) -> Result<(), Fail> {
+    let ticket = taken(alloc, cell).ok_or("a ticket")?;
+    let shown = shown_by(&ticket.told);
+    assert_eq!(rt; (shown.first, shown.end), span);
     assert_eq!(rt; settled(cell, ticket), Some(Reply::Nothing));
     Ok(())
 }
 
+/// The first of two reports is answered by a change, and the second, of the ended epoch, by nothing.
 fn change_while_waiting<L: Ledger>(
     rt: &impl Abort,
     alloc: Global,
@@ -135,10 +131,11 @@ fn change_while_waiting<L: Ledger>(
         &[Ok(Acked::Reported), Ok(Acked::Reported)],
     )?;
     change(rt, alloc, cell)?;
+    tell(rt, alloc, cell, (1, 2))?;
     hear(rt, cell, &mut steps, &[Ok(Acked::Reported)])?;
     let ticket = taken(alloc, cell).ok_or("a ticket")?;
     assert_eq!(rt;
-        shown(&ticket.told),
+        shown_by(&ticket.told),
         Shown {
             first: 2,
             end: 3,

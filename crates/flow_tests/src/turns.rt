@@ -13,7 +13,7 @@ pub(crate) struct Shown {
     pub(crate) value: u64,
 }
 
-pub(crate) fn shown(told: &Told) -> Shown {
+pub(crate) fn shown_by(told: &Told) -> Shown {
     match told {
         Told::Report(report) => Shown {
             first: report.first,
@@ -33,7 +33,7 @@ pub(crate) fn told_by(alloc: Global, core: &mut Core) -> Option<Shown> {
     let Ok(ticket) = core.take(alloc) else {
         return None;
     };
-    let shown = shown(&ticket.told);
+    let shown = shown_by(&ticket.told);
     if core.settle(answer(ticket)).is_err() {
         return None;
     }
@@ -56,6 +56,14 @@ pub(crate) fn settled(cell: &mut Cell, ticket: Ticket) -> Option<Reply> {
         return None;
     }
     Some(reply)
+}
+
+/// Applies the answer to a ticket: the program and the window that it changes to.
+pub(crate) fn changed(cell: &mut Cell, ticket: Ticket) -> Option<(u32, u64)> {
+    match settled(cell, ticket) {
+        Some(Reply::Change { program, cwnd, .. }) => Some((program, cwnd)),
+        _ => None,
+    }
 }
 
 /// The number of the ticket that is out where the answer to a ticket is refused.
