@@ -1,0 +1,7 @@
+mod AlikeWalks
+mod AlikeFaults
+mod CommandLine
+mod ModeGiven
+mod DefaultReads
+mod OptionsGiven
+mod Parsed

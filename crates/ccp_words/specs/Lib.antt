@@ -1,0 +1,3 @@
+pub mod Matches
+pub mod Modes
+pub mod Words

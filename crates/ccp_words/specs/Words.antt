@@ -1,0 +1,87 @@
+-- Which words the tool accepts, and what they ask for, by `clap`'s own definition.
+use Rattle.std.specs.Prelude.{◌≡◌, ◌≤◌, ℕ, Bool, true, Option, Some, option_and_then, option_map, map, List, [], ◌∷◌, codes}
+use Rattle.std.specs.Borrow.{Bor}
+use Rattle.clap.specs.Words.{App, Rule, Text, app_of, fault_of, matches_of, new_rule, one_of}
+use Rattle.clap.specs.Simple.{new_shape}
+use Rattle.clap.specs.Walk.{is_empty}
+use Rattle.clap.specs.declared.builder.action.ArgAction.TheVariants.{Set, SetTrue}
+use Rattle.clap.specs.declared.builder.command.Command.{Command}
+use Rattle.clap.specs.declared.builder.value_parser.ValueParser.TheVariants.{Names, Unsigned}
+use Rattle.ccp_words.specs.declared.words.Asked.{Asked}
+use Rattle.ccp_words.specs.Matches.{number_of, is_flag_text}
+use Rattle.ccp_words.specs.Modes.{mode_named, mode_names}
+
+-- names as an argument holds them, each at some place in memory
+abbrev pub HeldNames : Type 0
+HeldNames = Bor (List (Bor Text))
+
+-- the positional argument, which is needed and is one of these names
+abbrev pub mode_argument : HeldNames → Rule
+mode_argument names = record (new_rule (codes "mode")) {
+  action = Some Set;
+  parser = Some (Names names);
+  required = true;
+}
+
+-- an option whose value is a whole number from `least` to `most`, and 1 where it isn't given
+abbrev pub number_option : Text → ℕ → ℕ → Rule
+number_option name least most = record (new_rule name) {
+  long = Some name;
+  action = Some Set;
+  defaults = codes "1" ∷ [];
+  parser = Some (Unsigned least most);
+}
+
+abbrev pub wire_flag : Rule
+wire_flag = record (new_rule (codes "wire")) { long = Some (codes "wire"); action = Some SetTrue }
+
+-- the command line with modes of these names, and without flags for help and the version
+abbrev pub command_of : HeldNames → App
+command_of names = record {
+  top = record (new_shape (codes "ccp")) {
+    rules = mode_argument names ∷ number_option (codes "datapaths") 1 32 ∷ number_option (codes "agents") 1 32
+        ∷ number_option (codes "workers") 1 32 ∷ number_option (codes "number") 0 4294967295 ∷ wire_flag ∷ [];
+    disable_help_flag = true;
+    disable_version_flag = true;
+  };
+  subs = [];
+}
+
+-- something that is held at no place, since the place decides nothing
+abbrev pub held : {X : Type 0} → X → Bor X
+held x = record { ref_ptr = (0, 0); now = x }
+
+-- the tool's command line
+abbrev pub ccp : App
+ccp = command_of (held (map held mode_names))
+
+-- words are accepted where the command line names no fault in them; the first is the program's name
+unfoldable pub are_accepted : List Text → Bool
+are_accepted words = is_empty (fault_of ccp words)
+
+-- what accepted words say of the option or argument of this name
+abbrev pub said : Text → List Text → Option Text
+said name words = one_of name (matches_of ccp words)
+
+-- what accepted words ask for
+unfoldable pub asked_in : List Text → Option Asked
+asked_in words = option_map (λ mode. record {
+  mode = mode;
+  datapaths = number_of (said (codes "datapaths") words);
+  agents = number_of (said (codes "agents") words);
+  workers = number_of (said (codes "workers") words);
+  number = number_of (said (codes "number") words);
+  wire = is_flag_text (said (codes "wire") words);
+}) (option_and_then mode_named (said (codes "mode") words))
+
+-- each number of workers is 1 to 32
+pub record HasWorkers (asked : Asked) : Type 0 where
+  pub datapaths : (1 ≤ asked.datapaths) × (asked.datapaths ≤ 32)
+  pub agents : (1 ≤ asked.agents) × (asked.agents ≤ 32)
+  pub workers : (1 ≤ asked.workers) × (asked.workers ≤ 32)
+
+-- the command is the tool's command line, its names held at some place
+pub record IsCommandLine (command : Command) : Type 0 where
+  pub names : HeldNames
+  pub modes : map (λ name. name.now) names.now ≡ mode_names
+  pub app : app_of command ≡ command_of names

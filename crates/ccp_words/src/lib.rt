@@ -1,0 +1,8 @@
+//! The tool's command line: words in, what they ask for out.
+#![tactic(auto)]
+
+mod mode;
+mod words;
+
+pub use mode::{Alone, Mode};
+pub use words::{Asked, Unasked, read_words};

@@ -1,0 +1,69 @@
+ghost use Rattle.std.specs.Prelude.{◌≡◌, map, option_map};
+ghost use Rattle.ccp_words.specs.Modes.{mode_named, mode_names};
+
+use std::str::FromStr;
+
+/// A mode whose work is done by its caller alone, over one source.
+#[derive(Clone, Copy, PartialEq, Eq, Debug)]
+pub enum Alone {
+    /// A program's summary and the listing of its code.
+    Check,
+    /// A program over given acknowledgements.
+    Fold,
+    /// A datapath over a stream of frames.
+    Feed,
+    /// A judge of printed live runs.
+    Audit,
+}
+
+/// What the words ask for.
+#[derive(Clone, Copy, PartialEq, Eq, Debug)]
+pub enum Mode {
+    Alone(Alone),
+    /// A scenario on datapath and agent threads.
+    Live,
+    /// A scenario's cases on workers, as a table.
+    Campaign,
+    /// A generated campaign, as a summary.
+    Soak,
+    /// Programs that are compiled and installed while datapaths run.
+    Rollout,
+    /// Several flows over one bottleneck.
+    Shared,
+}
+
+/// A name that no mode has.
+#[derive(Clone, Copy, PartialEq, Eq, Debug)]
+pub struct NoMode;
+
+/// The names of the modes that the tool has.
+pub(crate) fn names<'a>() -> &'a [&'a str]
+    ensures { map (λ name. name.now) result.now ≡ mode_names }
+{
+    &["check", "fold"]
+}
+
+/// The mode of a name.
+fn named(name: &str) -> Option<Mode>
+    ensures { result ≡ mode_named name.now }
+{
+    match name {
+        "check" => Some(Mode::Alone(Alone::Check)),
+        "fold" => Some(Mode::Alone(Alone::Fold)),
+        _ => None,
+    }
+}
+
+impl FromStr for Mode {
+    ghost use Rattle.std.specs.Prelude.{◌≡◌};
+    ghost use Rattle.std.specs.Result.{result_ok};
+    ghost use Rattle.ccp_words.specs.Modes.{mode_named};
+
+    type Err = NoMode;
+
+    ghost from_str_gives = { λ name mode. result_ok mode ≡ mode_named name };
+
+    fn from_str(name: &str) -> Result<Mode, NoMode> {
+        named(name).ok_or(NoMode)
+    }
+}

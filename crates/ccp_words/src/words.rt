@@ -1,0 +1,140 @@
+ghost use Rattle.std.specs.Prelude.{◌≡◌, ◌≢◌, ℕ, true, false, Some, List, IfOk, OnOk, IfErr, IfSome, option_map, map, codes, string_bytes};
+ghost use Rattle.clap.specs.Words.{rule_of, found_of, one_text};
+ghost use Rattle.ccp_words.specs.Modes.{mode_named};
+ghost use Rattle.ccp_words.specs.Matches.{HasOptions, ReadsNumber, is_flag_text};
+ghost use Rattle.ccp_words.specs.Words.{HasWorkers, IsCommandLine, are_accepted, asked_in, mode_argument, number_option};
+
+use crate::mode::{Mode, names};
+use clap::builder::ValueParser;
+use clap::error::ErrorKind;
+use clap::{Arg, ArgAction, ArgMatches, Command};
+use std::alloc::{AllocError, Global};
+
+/// Why words ask for nothing.
+#[derive(Clone, Copy, PartialEq, Eq, Debug)]
+pub enum Unasked {
+    /// They aren't accepted.
+    Refused,
+    NoMemory,
+}
+
+impl From<AllocError> for Unasked {
+    ghost use Rattle.std.specs.Prelude.{◌≡◌};
+    ghost use Rattle.ccp_words.specs.declared.words.Unasked.TheVariants as unasked;
+
+    ghost from_gives = { λ _ e. e ≡ unasked.NoMemory };
+
+    fn from(_: AllocError) -> Unasked {
+        Unasked::NoMemory
+    }
+}
+
+/// What accepted words ask for: the mode, and the options of all modes, each with its default where it isn't given.
+#[derive(Clone, Copy, PartialEq, Eq, Debug)]
+pub struct Asked {
+    pub mode: Mode,
+    /// Datapath workers, 1 to 32.
+    pub datapaths: u32,
+    /// Agent workers, or installers, 1 to 32.
+    pub agents: u32,
+    /// Workers on cases or flows, 1 to 32.
+    pub workers: u32,
+    /// The number of a generated campaign.
+    pub number: u32,
+    /// Whether the programs' Install frames are shown.
+    pub wire: bool,
+}
+
+/// What the words ask for, the program's name first.
+pub fn read_words(alloc: Global, words: &[String]) -> Result<Asked, Unasked>
+    ensures accepted { OnOk result (are_accepted (map string_bytes words.now) ≡ true) }
+    ensures asked { IfOk result (λ asked. asked_in (map string_bytes words.now) ≡ Some asked) }
+    ensures workers { IfOk result HasWorkers }
+    ensures err { IfErr result (λ e. e ≢ Unasked.NoMemory → are_accepted (map string_bytes words.now) ≡ false) }
+{
+    match command(alloc)?.try_get_matches_from(words) {
+        Ok(matches) => read_matches(&matches).ok_or(Unasked::Refused),
+        Err(error) => match error.kind() {
+            ErrorKind::OutOfMemory => Err(Unasked::NoMemory),
+            _ => Err(Unasked::Refused),
+        },
+    }
+}
+
+/// What matches of the command line say, none where they have no mode.
+fn read_matches(matches: &ArgMatches) -> Option<Asked>
+    ensures mode { (text : List ℕ) → one_text (found_of matches.now) (codes "mode") ≡ Some text → option_map (λ asked. asked.mode) result ≡ mode_named text }
+    ensures options { IfSome result (HasOptions (found_of matches.now)) }
+{
+    let mode = read_mode(matches)?;
+    Some(Asked {
+        mode,
+        datapaths: read_number(matches, "datapaths"),
+        agents: read_number(matches, "agents"),
+        workers: read_number(matches, "workers"),
+        number: read_number(matches, "number"),
+        wire: read_flag(matches, "wire"),
+    })
+}
+
+fn read_mode(matches: &ArgMatches) -> Option<Mode>
+    ensures { (text : List ℕ) → one_text (found_of matches.now) (codes "mode") ≡ Some text → result ≡ mode_named text }
+{
+    matches.get_one::<Mode>("mode")
+}
+
+/// The number that an option was given, or its default.
+fn read_number(matches: &ArgMatches, name: &str) -> u32
+    ensures { ReadsNumber (one_text (found_of matches.now) name.now) result }
+{
+    matches.get_one::<u32>(name).unwrap_or(1)
+}
+
+/// Whether a flag was given.
+fn read_flag(matches: &ArgMatches, name: &str) -> bool
+    ensures { result ≡ is_flag_text (one_text (found_of matches.now) name.now) }
+{
+    matches.get_one::<bool>(name).unwrap_or(false)
+}
+
+/// The command line: the mode, and the options of all modes.
+fn command<'a>(alloc: Global) -> Result<Command<'a>, AllocError>
+    ensures { IfOk result IsCommandLine }
+{
+    let mode = mode_argument(alloc, names());
+    let wire = Arg::new(alloc, "wire")
+        .long("wire")
+        .action(ArgAction::SetTrue);
+    Command::new(alloc, "ccp")
+        .disable_help_flag(true)
+        .disable_version_flag(true)
+        .arg(mode)?
+        .arg(number_option(alloc, "datapaths", 1, 32))?
+        .arg(number_option(alloc, "agents", 1, 32))?
+        .arg(number_option(alloc, "workers", 1, 32))?
+        .arg(number_option(alloc, "number", 0, 4_294_967_295))?
+        .arg(wire)
+}
+
+/// The positional argument, which is needed and is one of these names.
+fn mode_argument<'a>(alloc: Global, names: &'a [&'a str]) -> Arg<'a>
+    ensures rule { rule_of result ≡ mode_argument names.entry }
+    ensures own { result.global ≡ false }
+{
+    Arg::new(alloc, "mode")
+        .action(ArgAction::Set)
+        .value_parser(ValueParser::Names(names))
+        .required(true)
+}
+
+/// An option whose value is a whole number from `least` to `most`, and 1 where it isn't given.
+fn number_option<'a>(alloc: Global, name: &'a str, least: u64, most: u64) -> Arg<'a>
+    ensures rule { rule_of result ≡ number_option name.entry.now least most }
+    ensures own { result.global ≡ false }
+{
+    Arg::new(alloc, name)
+        .long(name)
+        .action(ArgAction::Set)
+        .value_parser(ValueParser::unsigned(least, most))
+        .default_value("1")
+}
