@@ -1,3 +1,4 @@
+-- The line that tells why an input is refused.
 use Rattle.std.specs.Prelude.{ℕ, Option, Some, None, List, [], codes, decimal}
 use Rattle.ccp_base.specs.declared.place.Place.{Place}
 use Rattle.portus_parser.specs.declared.fault.ParseFault.{ParseFault}
@@ -12,7 +13,7 @@ use Rattle.portus_build.specs.declared.fault.BuildFault.{BuildFault}
 use Rattle.portus_build.specs.declared.fault.BuildFault.TheVariants as build
 use Rattle.ccp_run.specs.declared.refusal.Refusal.{Refusal}
 use Rattle.ccp_run.specs.declared.refusal.Refusal.TheVariants.{TooLong, NoSeparator, Program, Line, TooManyAcks}
-use Rattle.ccp_run.specs.Text.{◌⧺◌}
+use Rattle.report_lines.specs.Text.{◌⧺◌}
 
 abbrev pub parse_name : ParseFault → List ℕ
 parse_name parse.SourceTooLong = codes "SourceTooLong"
@@ -81,26 +82,15 @@ program_part fault = codes "program " ⧺ fault_part fault ⧺ codes "\n"
 abbrev pub line_part : ℕ → List ℕ
 line_part number = codes "acknowledgement line " ⧺ decimal number ⧺ codes "\n"
 
+abbrev pub too_long_part : ℕ → List ℕ
+too_long_part limit = codes "more than " ⧺ decimal limit ⧺ codes " bytes\n"
+
 abbrev pub refusal_part : Refusal → List ℕ
-refusal_part TooLong = codes "more than 1048576 bytes\n"
+refusal_part (TooLong limit) = too_long_part limit
 refusal_part NoSeparator = codes "no separator\n"
 refusal_part (Program fault) = program_part fault
 refusal_part (Line number) = line_part number
 refusal_part TooManyAcks = codes "too many acknowledgements\n"
 
--- the line that tells why an input is refused
 abbrev pub refusal_line : Refusal → List ℕ
 refusal_line refusal = codes "ccp: input refused: " ⧺ refusal_part refusal
-
--- the lines that tell that the words are refused, that a read or a write failed, and that memory was wanted
-abbrev pub words_line : List ℕ
-words_line = codes "ccp: words refused\n"
-
-abbrev pub read_line : List ℕ
-read_line = codes "ccp: read fault\n"
-
-abbrev pub write_line : List ℕ
-write_line = codes "ccp: write fault\n"
-
-abbrev pub memory_line : List ℕ
-memory_line = codes "ccp: no memory\n"

@@ -1,5 +1,5 @@
 ghost use Rattle.std.specs.Prelude.{◌≡◌, ◌++◌, Some, IfOk, OnOk};
-ghost use Rattle.ccp_run.specs.ErrorLine.{parse_name, parse_place, too_many_name, scope_name, scope_place, place_part, compile_part, fault_part, program_part, line_part, refusal_line};
+ghost use Rattle.ccp_run.specs.ErrorLine.{parse_name, parse_place, too_many_name, scope_name, scope_place, place_part, compile_part, fault_part, program_part, line_part, too_long_part, refusal_line};
 
 use ccp_base::{Bytes, NoMemory, Place};
 use portus_build::BuildFault;
@@ -11,8 +11,8 @@ use std::alloc::Global;
 /// Why an input is refused.
 #[derive(Clone, Copy, PartialEq, Eq, Debug)]
 pub enum Refusal {
-    /// It has more than 1,048,576 bytes.
-    TooLong,
+    /// It has more bytes than this, which are the most that its mode takes.
+    TooLong(u64),
     /// No line is `---`.
     NoSeparator,
     /// The text of the program is built into no code.
@@ -30,13 +30,21 @@ pub fn refusal_line(alloc: Global, refusal: Refusal) -> Result<Bytes, NoMemory>
     let mut line = Bytes::new(alloc);
     line.extend(b"ccp: input refused: ")?;
     match refusal {
-        Refusal::TooLong => line.extend(b"more than 1048576 bytes\n")?,
+        Refusal::TooLong(limit) => put_too_long(alloc, &mut line, limit)?,
         Refusal::NoSeparator => line.extend(b"no separator\n")?,
         Refusal::Program(fault) => put_program_fault(alloc, &mut line, fault)?,
         Refusal::Line(number) => put_line_fault(alloc, &mut line, number)?,
         Refusal::TooManyAcks => line.extend(b"too many acknowledgements\n")?,
     }
     Ok(line)
+}
+
+fn put_too_long(alloc: Global, line: &mut Bytes, limit: u64) -> Result<(), NoMemory>
+    ensures { OnOk result (line.new ≡ line.old ++ too_long_part limit) }
+{
+    let part = format!(in alloc; "more than {limit} bytes\n")?;
+    line.extend(part.as_bytes())?;
+    Ok(())
 }
 
 fn put_line_fault(alloc: Global, line: &mut Bytes, number: u64) -> Result<(), NoMemory>
