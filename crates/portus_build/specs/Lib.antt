@@ -3,3 +3,4 @@ pub mod StepFaults
 pub mod Outcomes
 pub mod Builtins
 pub mod Looks
+pub mod RefusalText

@@ -5,9 +5,11 @@ mod building;
 mod builtins;
 pub mod calls;
 mod fault;
+mod refusal;
 #[cfg(test)]
 mod tests;
 
 pub use building::build;
 pub use builtins::builtin;
 pub use fault::BuildFault;
+pub use refusal::put_refusal;
