@@ -39,8 +39,9 @@ fn put_compile_fault(alloc: Global, text: &mut Bytes, fault: CompileFault) -> Re
 fn put_too_deep(alloc: Global, text: &mut Bytes, place: Place) -> Result<(), NoMemory>
     ensures { OnOk result (text.new ≡ text.old ++ compile_text (CompileFault.TooDeep place)) }
 {
-    text.extend(b"TooDeep")?;
-    put_some_place(alloc, text, place)
+    let part = format!(in alloc; "TooDeep at {}:{}", place.line, place.column)?;
+    text.extend(part.as_bytes())?;
+    Ok(())
 }
 
 fn put_count(alloc: Global, text: &mut Bytes, count: u64) -> Result<(), NoMemory>

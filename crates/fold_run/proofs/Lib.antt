@@ -1,0 +1,4 @@
+mod MachineMeans
+mod FoldSteps
+mod FirstLine
+mod SeparatedLemmas

@@ -1,0 +1,60 @@
+-- What a program's fold over acknowledgements comes to: its reports, its fault and its end.
+use Rattle.std.specs.Prelude.{◌≡◌, ℕ, ◌<◌, true, Option, Some, option_map, List, length, map, slice_get, slice_index_or}
+use Rattle.ccp_base.specs.declared.ack.Ack.{Ack}
+use Rattle.ccp_base.specs.declared.exchange.Notice.{Notice}
+use Rattle.ccp_base.specs.declared.exchange.Report.{Report}
+use Rattle.ccp_base.specs.declared.place.Place.{Place}
+use Rattle.portus_core.specs.Programs.{Form}
+use Rattle.portus_core.specs.Value.{Cause}
+use Rattle.portus_core.specs.Epoch.{Event, acknowledged, by_source, Track, track_at, declared_env, after}
+use Rattle.portus_core.specs.Reports.{Epoch, reports, fault_of}
+use Rattle.fold_run.specs.declared.end.End.{End}
+
+-- the one epoch of a fold
+abbrev pub fold_epoch : Epoch
+fold_epoch = record { flow = 0; program = 0; number = 0 }
+
+-- each acknowledgement finds room for a report
+abbrev pub with_room : Ack → Event
+with_room ack = acknowledged ack true
+
+-- a fold begins with `Cwnd`, `Rate` and time zero 0, and without values
+abbrev pub fold_start : Form → Track
+fold_start form = track_at 0 (declared_env form 0 0 0)
+
+abbrev pub fold_reports : Form → List Ack → List Report
+fold_reports form acks = reports (by_source form) fold_epoch (map with_room acks) (fold_start form)
+
+-- the fault that stops the program, with the number of its acknowledgement
+abbrev pub fold_fault : Form → List Ack → Option (ℕ × Cause)
+fold_fault form acks = fault_of (by_source form) (map with_room acks) (fold_start form)
+
+abbrev pub end_of : Track → End
+end_of track = record {
+  acks = track.count;
+  first = track.first;
+  stopped = track.is_stopped;
+  cwnd = track.env.cwnd;
+  rate = track.env.rate;
+  fields = track.env.fields;
+}
+
+abbrev pub fold_end : Form → List Ack → End
+fold_end form acks = end_of (after (by_source form) (map with_room acks) (fold_start form))
+
+abbrev pub place_at : List Place → ℕ → Place
+place_at places index = slice_index_or places index (record { line = 0; column = 0 })
+
+-- the fault that a notice tells, where these are the places of the code's instructions
+abbrev pub told_fault : List Place → Notice → ℕ × Cause
+told_fault places notice = (notice.at, (notice.kind, place_at places notice.index))
+
+-- a notice tells of a fold's one epoch: its instruction has a place, its time is that of the acknowledgement with its
+-- number, and its window is that at the end, since a fault leaves it and stops the program
+pub record IsFoldNotice (acks : List Ack) (places : List Place) (window : ℕ) (notice : Notice) : Type 0 where
+  pub flow : notice.flow ≡ 0
+  pub program : notice.program ≡ 0
+  pub epoch : notice.epoch ≡ 0
+  pub placed : notice.index < length places
+  pub now : option_map (λ (ack : Ack). ack.now) (slice_get acks notice.at) ≡ Some notice.now
+  pub cwnd : notice.cwnd ≡ window

@@ -1,0 +1,18 @@
+use ccp_base::Values;
+
+/// How a fold ended.
+#[derive(Clone, Copy, PartialEq, Eq, Debug)]
+pub struct End {
+    /// How many acknowledgements there were.
+    pub acks: u64,
+    /// Where the unreported span begins, as a number of acknowledgements.
+    pub first: u64,
+    /// Whether a fault stopped the program.
+    pub stopped: bool,
+    /// The congestion window, in bytes.
+    pub cwnd: u64,
+    /// The pacing rate, in bytes a second.
+    pub rate: u64,
+    /// The report fields as they stand, in order of declaration.
+    pub fields: Values,
+}

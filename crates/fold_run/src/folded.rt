@@ -1,0 +1,14 @@
+use crate::end::End;
+use ccp_base::{Notice, Reports};
+
+/// What a program's fold over acknowledgements comes to.
+#[derive(Debug, Drop)]
+pub struct Folded {
+    /// The reports in the order in which they were made.
+    pub reports: Reports,
+    /// The fault that stopped the program, if there was one.
+    pub fault: Option<Notice>,
+    pub end: End,
+    /// How many instructions the code ran.
+    pub ran: u64,
+}

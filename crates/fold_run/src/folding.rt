@@ -1,0 +1,163 @@
+ghost use Rattle.std.specs.Prelude.{◌≡◌, ◌≤◌, ◌<◌, ◌+◌, ◌++◌, IfOk, OnOk, Some, None, is_some, [], List, true, false, option_map, slice_get, ◌^◌};
+ghost use Rattle.std.specs.Option.{option_or};
+ghost use Rattle.ccp_base.specs.declared.ack.Ack.{Ack};
+ghost use Rattle.ccp_base.specs.Limits.{most_acks};
+ghost use Rattle.portus_core.specs.ProgramForm.{form_of};
+ghost use Rattle.portus_core.specs.OneAcknowledgement.{one_of};
+ghost use Rattle.portus_core.specs.Epoch.{by_source, outcome_of, after_event};
+ghost use Rattle.portus_core.specs.Epoch.{stops as stops_epoch};
+ghost use Rattle.portus_core.specs.Reports.{reports_at, fault_at};
+ghost use Rattle.reg_code.specs.CodeStep.{mone};
+ghost use Rattle.fold_machine.specs.MachineState.{Fits};
+ghost use Rattle.fold_machine.specs.Heard.{is_fault, stops};
+ghost use Rattle.fold_run.specs.Fold.{fold_epoch, with_room, fold_start, told_fault};
+ghost use Rattle.fold_run.specs.Told.{mean_of, IsPlaced};
+ghost use Rattle.fold_run.specs.Folding.{env_of, track_of, running_of, IsFoldOf, HasNotice, reported_by};
+ghost use Rattle.fold_run.specs.Ran.{running_after, running_start};
+
+use crate::end::End;
+use ccp_base::{Ack, FaultKind, Fields, NoMemory, Notice, Report, Reports};
+use fold_machine::{Acked, Machine, Steps};
+use reg_compiler::Built;
+use std::alloc::Global;
+use std::sync::ledger::Ledger;
+
+/// How far a fold has come.
+#[derive(Drop)]
+pub struct Folding {
+    pub machine: Machine,
+    /// Where the unreported span begins.
+    pub first: u64,
+    /// How many acknowledgements there were.
+    pub count: u64,
+    /// How many instructions were run.
+    pub ran: u64,
+    pub reports: Reports,
+    /// The fault that stopped the program, if there was one.
+    pub fault: Option<Notice>,
+}
+
+/// What an acknowledgement that finds room for a report comes to, by the program's code.
+fn meant<L: Ledger>(machine: &mut Machine, built: &Built, ack: &Ack, steps: &mut Steps<L>) -> Acked
+    requires fits { Fits machine.old built.now.code.code }
+    requires going { machine.old.is_stopped ≡ false }
+    ensures mean { (one_of (form_of built.now.program) (env_of machine.old.kept) ack.entry.now true).0 ≡ mean_of built.now.places machine.new.report result }
+    ensures placed { IsPlaced built.now.places result }
+    ensures env { env_of machine.new.kept ≡ (one_of (form_of built.now.program) (env_of machine.old.kept) ack.entry.now true).1 }
+    ensures kept { machine.new.kept ≡ (mone built.now.code.code machine.old.kept ack.entry.now true).kept }
+    ensures ran { machine.new.ran ≡ (mone built.now.code.code machine.old.kept ack.entry.now true).ran }
+    ensures stopped { machine.new.is_stopped ≡ stops (mone built.now.code.code machine.old.kept ack.entry.now true).outcome }
+    ensures stops { machine.new.is_stopped ≡ is_fault result }
+    ensures fits { Fits machine.new built.now.code.code }
+{
+    machine.ack(&built.code, ack, true, steps)
+}
+
+impl Folding {
+    /// A fold that has met no acknowledgement yet.
+    pub fn begin(alloc: Global, built: &Built) -> Result<Folding, NoMemory>
+        ensures track { IfOk result (λ folding. track_of folding ≡ fold_start (form_of built.now.program)) }
+        ensures running { IfOk result (λ folding. running_of folding ≡ running_start built.now.code.code) }
+        ensures reports { IfOk result (λ folding. folding.reports ≡ []) }
+        ensures fault { IfOk result (λ folding. folding.fault ≡ None) }
+        ensures fold { IfOk result (IsFoldOf built.now.code.code) }
+        ensures count { IfOk result (λ folding. folding.count ≡ 0) }
+    {
+        let mut machine = Machine::new(alloc, 0, 0)?;
+        match machine.start(&built.code, &Fields::new(), 0) {
+            Ok(()) => Ok(Folding {
+                machine,
+                first: 0,
+                count: 0,
+                ran: 0,
+                reports: Reports::new(alloc),
+                fault: None,
+            }),
+            Err(_) => Err(NoMemory),
+        }
+    }
+
+    /// One more acknowledgement, which finds room for a report.
+    pub fn ack<L: Ledger>(
+        &mut self,
+        built: &Built,
+        ack: &Ack,
+        steps: &mut Steps<L>,
+    ) -> Result<(), NoMemory>
+        requires fold { IsFoldOf built.now.code.code self.old }
+        requires room { self.old.count < most_acks }
+        ensures track { OnOk result (track_of self.new ≡ after_event (by_source (form_of built.now.program)) (with_room ack.entry.now) (track_of self.old)) }
+        ensures running { OnOk result (running_of self.new ≡ running_after built.now.code.code (running_of self.old) ack.entry.now) }
+        ensures reports { OnOk result (self.new.reports ≡ self.old.reports ++ reports_at (by_source (form_of built.now.program)) fold_epoch (with_room ack.entry.now) (track_of self.old)) }
+        ensures fault { OnOk result (option_map (told_fault built.now.places) self.new.fault ≡ option_or (option_map (told_fault built.now.places) self.old.fault) (fault_at (by_source (form_of built.now.program)) (with_room ack.entry.now) (track_of self.old))) }
+        ensures notice { OnOk result ((acks : List Ack) → slice_get acks self.old.count ≡ Some ack.entry.now → HasNotice acks built.now.places self.old → HasNotice acks built.now.places self.new) }
+        ensures fold { OnOk result (IsFoldOf built.now.code.code self.new) }
+        ensures counted { OnOk result (self.new.count ≡ self.old.count + 1) }
+    {
+        let at = self.count;
+        self.count += 1;
+        if self.fault.is_some() {
+            return Ok(());
+        }
+        let acked = meant(&mut self.machine, built, ack, steps);
+        self.ran += u64::from(self.machine.ran());
+        match acked {
+            Acked::Quiet | Acked::Held | Acked::Stopped => Ok(()),
+            Acked::Reported => self.report(ack),
+            Acked::Faulted(kind, index) => {
+                self.fault = Some(self.notice(at, kind, index, ack.now));
+                Ok(())
+            }
+        }
+    }
+
+    /// A report of the span up to the acknowledgement that was just counted.
+    fn report(&mut self, ack: &Ack) -> Result<(), NoMemory>
+        requires { self.old.count < 2 ^ 64 }
+        ensures { OnOk result (self.new ≡ reported_by self.old ack.entry.now) }
+    {
+        self.reports.push(Report {
+            flow: 0,
+            program: 0,
+            epoch: 0,
+            first: self.first,
+            end: self.count,
+            now: ack.now,
+            cwnd: self.machine.cwnd(),
+            rate: self.machine.rate(),
+            fields: self.machine.reported(),
+        })?;
+        self.first = self.count;
+        Ok(())
+    }
+
+    /// That the acknowledgement with the number `at` and the time `now` faulted.
+    fn notice(&self, at: u64, kind: FaultKind, index: u16, now: u64) -> Notice
+        ensures { result ≡ (record { flow = 0; program = 0; epoch = 0; at = at; kind = kind; index = index; now = now; cwnd = self.now.machine.kept.cwnd }) }
+    {
+        Notice {
+            flow: 0,
+            program: 0,
+            epoch: 0,
+            at,
+            kind,
+            index,
+            now,
+            cwnd: self.machine.cwnd(),
+        }
+    }
+
+    /// How the fold ends.
+    pub fn end(&self) -> End
+        ensures { result ≡ (record { acks = self.now.count; first = self.now.first; stopped = is_some self.now.fault; cwnd = self.now.machine.kept.cwnd; rate = self.now.machine.kept.rate; fields = self.now.machine.kept.reports }) }
+    {
+        End {
+            acks: self.count,
+            first: self.first,
+            stopped: self.fault.is_some(),
+            cwnd: self.machine.cwnd(),
+            rate: self.machine.rate(),
+            fields: self.machine.fields(),
+        }
+    }
+}

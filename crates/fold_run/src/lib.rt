@@ -1,0 +1,18 @@
+//! The reading of an input of `fold`, a program and acknowledgement lines below a separator, and the run of the
+//! program's code over the acknowledgements.
+#![tactic(auto)]
+
+mod ack_line;
+mod acks;
+pub mod calls;
+mod end;
+mod first_line;
+mod fold;
+mod folded;
+mod folding;
+mod separated;
+
+pub use acks::{LineFault, acknowledgements};
+pub use end::End;
+pub use folded::Folded;
+pub use separated::{Separated, separate};
