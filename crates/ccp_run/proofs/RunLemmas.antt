@@ -1,5 +1,5 @@
 -- A run's promises, from what its mode came to and how it then ended.
-use Rattle.std.proofs.Common.{◌≡◌, ◌≢◌, ◌≤◌, ◌⊎◌, inl, inr, ◌∙◌, ℕ, zero, suc, ◌+◌, subst, Option, Some, None, Result, Ok, Err, List, [], ◌++◌, length, arith, ap, sym, refl, append-nil}
+use Rattle.std.proofs.Common.{◌≡◌, ◌≢◌, ◌≤◌, ◌⊎◌, inl, inr, ◌∙◌, ℕ, zero, suc, ◌+◌, Bool, true, false, subst, Option, Some, None, Result, Ok, Err, List, [], ◌++◌, length, arith, ap, sym, refl, append-nil}
 use Rattle.ccp_base.specs.Outside.{Known, Rose, Takes, TakesOver, TakesWithin, Appends, AppendsPrefix}
 use Rattle.ccp_words.specs.declared.mode.Mode.{Mode}
 use Rattle.ccp_run.specs.declared.outcome.ModeOutput.{ModeOutput}
@@ -12,10 +12,10 @@ use Rattle.ccp_run.specs.declared.stop.Stop.TheVariants as stop
 use Rattle.ccp_run.specs.Attempts.{IsAttempt, MakesOutput, RefusesBytes, RefusesLength, RefusesInput, FailsToRead}
 use Rattle.ccp_run.specs.Endings.{Ends, IsEnding, Writes, WritesAll, FailsToWrite, Refuses}
 use Rattle.ccp_run.specs.ErrorLine.{refusal_line}
-use Rattle.ccp_run.specs.Modes.{limit_of, is_read, answers_before}
+use Rattle.ccp_run.specs.Modes.{limit_in, limit_of, is_read, answers_before}
 use Rattle.ccp_run.specs.Run.{IsRun, IsDone, WritesFront, TellsRefusal, WritesAnswers}
 use Rattle.ccp_run.specs.Statuses.{number_of, read_line, write_line, memory_line}
-use Rattle.ccp_run.specs.Streams.{Stream, HasInput, ReadsToEnd, IsUnused}
+use Rattle.ccp_run.specs.Streams.{Stream, HasInput, Tells}
 
 appends_nothing : (old new : Known) → new ≡ old → Appends old new []
 appends_nothing None new same = same
@@ -38,6 +38,13 @@ within_of mode source bytes false read short = untouched_within (limit_of mode) 
 zero_or_five : (P : ℕ → Type 0) (n : ℕ) → (n ≢ 0 → n ≡ 5) → P 0 → P 5 → P n
 zero_or_five P zero five at0 at5 = at0
 zero_or_five P (suc n) five at0 at5 = subst P (sym (five (λ e. omega (arith, e)))) at5
+
+is_three : (n : ℕ) → (n ≡ 3) ⊎ (n ≢ 3)
+is_three zero = inr (λ e. omega (arith, e))
+is_three (suc zero) = inr (λ e. omega (arith, e))
+is_three (suc (suc zero)) = inr (λ e. omega (arith, e))
+is_three (suc (suc (suc zero))) = inl refl
+is_three (suc (suc (suc (suc n)))) = inr (λ e. omega (arith, e))
 
 module _ (mode : Mode) (source sink errors : Stream) (is_finished : Type 0) (outcome : Outcome) where
   answers : TakesWithin (limit_of mode) source.old source.new → sink.new ≡ sink.old → WritesAnswers mode source sink
@@ -123,3 +130,19 @@ module _ (mode : Mode) (source sink errors : Stream) (is_finished : Type 0) (out
       ended 3 e.status (λ a. omega (arith, a)) (λ a. omega (arith, a)) (λ a. omega (arith, a)) (λ a. omega (arith, a)) (omega arith)
       e.programs e.ran (λ _. record { refusal = refusal; refused = cause; told = e.told }) (λ a. absurd (omega (arith, a))) (λ a. absurd (omega (arith, a))) (λ a. absurd (omega (arith, a)))
       (λ other. absurd (other refl)) most nothing
+
+  refused_or_not : (refusal : Refusal) → RefusesInput mode source refusal → sink.new ≡ sink.old → Refuses errors outcome refusal → (outcome.status ≡ 3) ⊎ (outcome.status ≢ 3) → IsRun mode source sink errors is_finished outcome
+  refused_or_not refusal (inl length) same r which =
+      told_refusal refusal (inl length) length.most (answers_over length.over same) (r.told (r.too_long (limit_in mode) length.cause))
+  refused_or_not refusal (inr bytes) same r (inl three) =
+      let few = within_of mode source bytes.bytes (is_read mode) bytes.read bytes.short in
+      told_refusal refusal (inr bytes) (one_more (limit_of mode) source.old source.new few) (answers few same) (r.told three)
+  refused_or_not refusal (inr bytes) same r (inr other) =
+      wants_memory (within_of mode source bytes.bytes (is_read mode) bytes.read bytes.short) same (r.failed other)
+
+  -- a run of a mode
+  pub run_of : (made : Result ModeOutput Stop) → IsAttempt mode source made → IsEnding sink errors is_finished outcome made → IsRun mode source sink errors is_finished outcome
+  run_of (Ok output) attempt ending = written output attempt ending
+  run_of (Err (stop.Refused refusal)) attempt ending = refused_or_not refusal attempt ending.0 ending.1 (is_three outcome.status)
+  run_of (Err stop.ReadFailed) attempt ending = read_failed attempt ending.0 ending.1
+  run_of (Err stop.NoMemory) attempt ending = wants_memory attempt ending.0 ending.1

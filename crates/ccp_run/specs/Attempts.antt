@@ -7,7 +7,7 @@ use Rattle.ccp_run.specs.declared.refusal.Refusal.{Refusal}
 use Rattle.ccp_run.specs.declared.refusal.Refusal.TheVariants.{TooLong}
 use Rattle.ccp_run.specs.declared.stop.Stop.{Stop}
 use Rattle.ccp_run.specs.declared.stop.Stop.TheVariants as stop
-use Rattle.ccp_run.specs.Modes.{limit_of, is_read, IsMade, IsRefused}
+use Rattle.ccp_run.specs.Modes.{limit_in, limit_of, is_read, IsMade, IsRefused}
 use Rattle.ccp_run.specs.Streams.{Stream, HasInput}
 
 -- the mode's output for bytes, or the first refusal of these
@@ -35,7 +35,7 @@ pub record RefusesBytes (mode : Mode) (source : Stream) (refusal : Refusal) : Ty
 pub record RefusesLength (mode : Mode) (source : Stream) (refusal : Refusal) : Type 0 where
   pub over : TakesOver (limit_of mode) source.old source.new
   pub most : TakesWithin (limit_of mode + 1) source.old source.new
-  pub cause : refusal ≡ TooLong (limit_of mode)
+  pub cause : refusal ≡ TooLong (limit_in mode)
 
 -- an input past the limit is refused as too long and as nothing else
 abbrev pub RefusesInput : Mode → Stream → Refusal → Type 0

@@ -3,7 +3,9 @@ use Rattle.std.specs.Prelude.{◌≡◌, ◌≢◌, ℕ, Result, Ok, Err, List, 
 use Rattle.ccp_base.specs.Outside.{Rose, Appends, AppendsPrefix}
 use Rattle.ccp_run.specs.declared.outcome.ModeOutput.{ModeOutput}
 use Rattle.ccp_run.specs.declared.outcome.Outcome.{Outcome}
+use Rattle.ccp_run.specs.declared.refusal.Limit.{Limit}
 use Rattle.ccp_run.specs.declared.refusal.Refusal.{Refusal}
+use Rattle.ccp_run.specs.declared.refusal.Refusal.TheVariants.{TooLong}
 use Rattle.ccp_run.specs.declared.status.Status.{Status}
 use Rattle.ccp_run.specs.declared.status.Status.TheVariants as status
 use Rattle.ccp_run.specs.declared.stop.Stop.{Stop}
@@ -38,10 +40,11 @@ pub record Writes (sink errors : Stream) (is_finished : Type 0) (outcome : Outco
   pub whole : outcome.status ≡ number_of status.Done → WritesAll sink errors is_finished outcome output
   pub failed : outcome.status ≢ number_of status.Done → FailsToWrite sink errors outcome output
 
--- the refusal is told, or memory is wanted for its line
+-- the refusal is told, or memory is wanted for its line; that the input is too long is always told
 pub record Refuses (errors : Stream) (outcome : Outcome) (refusal : Refusal) : Type 0 where
   pub told : outcome.status ≡ number_of status.InputRefused → Ends errors outcome status.InputRefused (refusal_line refusal)
   pub failed : outcome.status ≢ number_of status.InputRefused → Ends errors outcome status.NoMemory memory_line
+  pub too_long : (limit : Limit) → refusal ≡ TooLong limit → outcome.status ≡ number_of status.InputRefused
 
 -- how a run ends that came to this; where there is no output the sink is as it was
 abbrev pub IsEnding : Stream → Stream → Type 0 → Outcome → Result ModeOutput Stop → Type 0

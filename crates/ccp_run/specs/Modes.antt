@@ -1,18 +1,31 @@
 -- What each mode takes, makes and refuses.
 use Rattle.std.specs.Prelude.{ℕ, Bool, true, false, List, []}
-use Rattle.ccp_base.specs.Limits.{most_input_bytes, most_audit_bytes}
 use Rattle.ccp_words.specs.declared.mode.Alone.TheVariants.{Check, Fold, Feed, Audit}
 use Rattle.ccp_words.specs.declared.mode.Mode.{Mode}
 use Rattle.ccp_words.specs.declared.mode.Mode.TheVariants.{Alone, Live, Campaign, Soak, Rollout, Shared}
 use Rattle.ccp_run.specs.declared.outcome.ModeOutput.{ModeOutput}
+use Rattle.ccp_run.specs.declared.refusal.Limit.{Limit}
+use Rattle.ccp_run.specs.declared.refusal.Limit.TheVariants as limit
 use Rattle.ccp_run.specs.declared.refusal.Refusal.{Refusal}
+use Rattle.ccp_run.specs.ErrorLine.{most_bytes}
 use Rattle.ccp_run.specs.Check.{IsCheckOutput, IsNoCheck}
 use Rattle.ccp_run.specs.Fold.{IsFoldOutput, IsNoFold}
 
+-- how long an input may be
+abbrev pub limit_in : Mode → Limit
+limit_in (Alone Check) = limit.Input
+limit_in (Alone Fold) = limit.Input
+limit_in (Alone Feed) = limit.Input
+limit_in (Alone Audit) = limit.Audit
+limit_in Live = limit.Input
+limit_in Campaign = limit.Input
+limit_in Soak = limit.Input
+limit_in Rollout = limit.Input
+limit_in Shared = limit.Input
+
 -- the most bytes of an input
 abbrev pub limit_of : Mode → ℕ
-limit_of (Alone Audit) = most_audit_bytes
-limit_of _ = most_input_bytes
+limit_of mode = most_bytes (limit_in mode)
 
 -- whether the source is read
 abbrev pub is_read : Mode → Bool

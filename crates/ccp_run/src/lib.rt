@@ -15,6 +15,6 @@ mod tool;
 
 pub use ccp_words::{Alone, Mode};
 pub use outcome::{ModeOutput, Outcome};
-pub use refusal::Refusal;
+pub use refusal::{Limit, Refusal};
 pub use status::Status;
 pub use tool::run;

@@ -1,22 +1,16 @@
 ghost use Rattle.std.specs.Prelude.{◌≡◌};
 ghost use Rattle.ccp_run.specs.Attempts.{IsAnswer, IsAttempt};
-ghost use Rattle.ccp_run.specs.Modes.{limit_of};
+ghost use Rattle.ccp_run.specs.Modes.{limit_in};
 ghost use Rattle.ccp_run.specs.Streams.{stream};
 
 use crate::check::check_output;
 use crate::fold::fold_output;
 use crate::outcome::ModeOutput;
-use crate::refusal::Refusal;
+use crate::refusal::{Limit, Refusal};
 use crate::stop::Stop;
 use ccp_base::{ReadFault, Source, read_all};
 use ccp_words::{Alone, Mode};
 use std::alloc::Global;
-
-/// The longest input, in bytes, of every mode but `audit`.
-const INPUT_BYTES: usize = 1_048_576;
-
-/// The longest input of `audit`, in bytes.
-const AUDIT_BYTES: usize = 67_108_864;
 
 /// Reads the source to its end, and makes the mode's output.
 pub fn read_output<S: Source>(
@@ -26,22 +20,22 @@ pub fn read_output<S: Source>(
 ) -> Result<ModeOutput, Stop>
     ensures { IsAttempt (Mode.Alone mode) (stream (S.remaining source.old) (S.remaining source.new) (S.faults source.old) (S.faults source.new)) result }
 {
-    let limit = input_bytes(mode);
-    match read_all(alloc, source, limit) {
+    let limit = limit(mode);
+    match read_all(alloc, source, limit.bytes()) {
         Ok(bytes) => output(alloc, mode, bytes.as_slice()),
         Err(ReadFault::Read) => Err(Stop::ReadFailed),
-        Err(ReadFault::TooLong) => Err(Stop::Refused(Refusal::TooLong(limit as u64))),
+        Err(ReadFault::TooLong) => Err(Stop::Refused(Refusal::TooLong(limit))),
         Err(ReadFault::NoMemory) => Err(Stop::NoMemory),
     }
 }
 
-/// The longest input of a mode, in bytes.
-fn input_bytes(mode: Alone) -> usize
-    ensures { result ≡ limit_of (Mode.Alone mode) }
+/// How long the input of a mode may be.
+fn limit(mode: Alone) -> Limit
+    ensures { result ≡ limit_in (Mode.Alone mode) }
 {
     match mode {
-        Alone::Check | Alone::Fold | Alone::Feed => INPUT_BYTES,
-        Alone::Audit => AUDIT_BYTES,
+        Alone::Check | Alone::Fold | Alone::Feed => Limit::Input,
+        Alone::Audit => Limit::Audit,
     }
 }
 

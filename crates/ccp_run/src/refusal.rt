@@ -1,15 +1,51 @@
 ghost use Rattle.std.specs.Prelude.{◌≡◌, ◌++◌, IfOk, OnOk};
-ghost use Rattle.ccp_run.specs.ErrorLine.{line_part, refusal_line, refusal_part, too_long_part};
+ghost use Rattle.ccp_run.specs.ErrorLine.{most_bytes, refusal_line};
 
 use ccp_base::{Bytes, NoMemory};
 use portus_build::{BuildFault, put_refusal};
 use std::alloc::Global;
 
+/// How long an input may be.
+#[derive(Clone, Copy, PartialEq, Eq, Debug)]
+pub enum Limit {
+    /// 1,048,576 bytes, in every mode but `audit`, and before the separator there.
+    Input,
+    /// 67,108,864 bytes, for the whole input of `audit`.
+    Audit,
+}
+
+/// The line that tells of an input past the limit of every mode but `audit`.
+const INPUT_LINE: &[u8] = b"ccp: input refused: more than 1048576 bytes\n";
+
+/// The line that tells of an input past the limit of `audit`.
+const AUDIT_LINE: &[u8] = b"ccp: input refused: more than 67108864 bytes\n";
+
+impl Limit {
+    pub fn bytes(self) -> usize
+        ensures { result ≡ most_bytes self }
+    {
+        match self {
+            Limit::Input => 1_048_576,
+            Limit::Audit => 67_108_864,
+        }
+    }
+
+    /// The line that tells of a longer input.
+    pub fn line(self) -> &'static [u8]
+        ensures { result.now ≡ refusal_line (Refusal.TooLong self) }
+    {
+        match self {
+            Limit::Input => INPUT_LINE,
+            Limit::Audit => AUDIT_LINE,
+        }
+    }
+}
+
 /// Why an input is refused.
 #[derive(Clone, Copy, PartialEq, Eq, Debug)]
 pub enum Refusal {
-    /// It has more bytes than this, which are the most that its mode takes.
-    TooLong(u64),
+    /// It has more bytes than this.
+    TooLong(Limit),
     /// No line is `---`.
     NoSeparator,
     /// The text of the program is built into no code.
@@ -25,37 +61,28 @@ pub fn refusal_line(alloc: Global, refusal: Refusal) -> Result<Bytes, NoMemory>
     ensures { IfOk result (λ line. line ≡ refusal_line refusal) }
 {
     let mut line = Bytes::new(alloc);
-    line.extend(b"ccp: input refused: ")?;
     match refusal {
-        Refusal::TooLong(limit) => put_too_long(alloc, &mut line, limit)?,
-        Refusal::NoSeparator => line.extend(b"no separator\n")?,
+        Refusal::TooLong(limit) => line.extend(limit.line())?,
+        Refusal::NoSeparator => line.extend(b"ccp: input refused: no separator\n")?,
         Refusal::Program(fault) => put_program_fault(alloc, &mut line, fault)?,
         Refusal::Line(number) => put_line_fault(alloc, &mut line, number)?,
-        Refusal::TooManyAcks => line.extend(b"too many acknowledgements\n")?,
+        Refusal::TooManyAcks => line.extend(b"ccp: input refused: too many acknowledgements\n")?,
     }
     Ok(line)
 }
 
-fn put_too_long(alloc: Global, line: &mut Bytes, limit: u64) -> Result<(), NoMemory>
-    ensures { OnOk result (line.new ≡ line.old ++ too_long_part limit) }
-{
-    let part = format!(in alloc; "more than {limit} bytes\n")?;
-    line.extend(part.as_bytes())?;
-    Ok(())
-}
-
 fn put_line_fault(alloc: Global, line: &mut Bytes, number: u64) -> Result<(), NoMemory>
-    ensures { OnOk result (line.new ≡ line.old ++ line_part number) }
+    ensures { OnOk result (line.new ≡ line.old ++ refusal_line (Refusal.Line number)) }
 {
-    let part = format!(in alloc; "acknowledgement line {number}\n")?;
+    let part = format!(in alloc; "ccp: input refused: acknowledgement line {number}\n")?;
     line.extend(part.as_bytes())?;
     Ok(())
 }
 
 fn put_program_fault(alloc: Global, line: &mut Bytes, fault: BuildFault) -> Result<(), NoMemory>
-    ensures { OnOk result (line.new ≡ line.old ++ refusal_part (Refusal.Program fault)) }
+    ensures { OnOk result (line.new ≡ line.old ++ refusal_line (Refusal.Program fault)) }
 {
-    line.extend(b"program ")?;
+    line.extend(b"ccp: input refused: program ")?;
     put_refusal(alloc, line, fault)?;
     line.push(b'\n')?;
     Ok(())
