@@ -13,7 +13,8 @@ most_bytes Input = most_input_bytes
 most_bytes Audit = most_audit_bytes
 
 abbrev pub refusal_part : Refusal → List ℕ
-refusal_part (TooLong limit) = codes "more than " ⧺ decimal (most_bytes limit) ⧺ codes " bytes\n"
+refusal_part (TooLong Input) = codes "more than 1048576 bytes\n"
+refusal_part (TooLong Audit) = codes "more than 67108864 bytes\n"
 refusal_part NoSeparator = codes "no separator\n"
 refusal_part (Program fault) = codes "program " ⧺ refusal_text fault ⧺ codes "\n"
 refusal_part (Line number) = codes "acknowledgement line " ⧺ decimal number ⧺ codes "\n"

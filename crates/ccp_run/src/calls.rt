@@ -1,12 +1,15 @@
-//! The modes whose work is done by their caller alone.
+//! The modes whose work is done by their caller alone, and the end without words.
 
 ghost use Rattle.std.specs.Prelude.{◌≡◌};
+ghost use Rattle.ccp_run.specs.Endings.{Ends};
 ghost use Rattle.ccp_run.specs.Run.{IsRun};
+ghost use Rattle.ccp_run.specs.Statuses.{memory_line};
 ghost use Rattle.ccp_run.specs.Streams.{stream};
 
-use crate::ending::end;
+use crate::ending::{end, end_without};
 use crate::outcome::Outcome;
 use crate::reading::read_output;
+use crate::status::{MEMORY_LINE, Status};
 use ccp_base::{Sink, Source};
 use ccp_words::{Alone, Mode};
 use std::alloc::Global;
@@ -24,4 +27,11 @@ pub fn alone<S: Source, K: Sink, E: Sink>(
 {
     let made = read_output(alloc, mode, source);
     end(alloc, made, sink, errors)
+}
+
+/// Ends where memory was wanted for the words: nothing is read or written.
+pub fn without_words<E: Sink>(alloc: Global, errors: &mut E) -> Outcome
+    ensures { Ends (stream (E.written errors.old) (E.written errors.new) (E.faults errors.old) (E.faults errors.new)) result Status.NoMemory memory_line }
+{
+    end_without(alloc, errors, Status::NoMemory, MEMORY_LINE)
 }
