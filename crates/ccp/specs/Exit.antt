@@ -11,9 +11,9 @@ pub record IsExit (words : List (List ℕ)) (source sink errors : Stream) (is_fi
   pub outcome : Outcome
   pub is : status ≡ outcome.status
   -- 2 comes exactly where the words aren't accepted; then nothing is read or written
-  pub words_refused : status ≢ 6 → ((status ≡ 2) ↔ (are_accepted words ≡ false))
+  pub words_refused : outcome.status ≢ 6 → ((outcome.status ≡ 2) ↔ (are_accepted words ≡ false))
   pub unasked : are_accepted words ≡ false → IsUnasked source sink errors outcome
   -- else it is a run of the mode that they ask for
-  pub asks : status ≢ 2 → status ≢ 6 → IsSome (asked_in words)
+  pub asks : outcome.status ≢ 2 → outcome.status ≢ 6 → IsSome (asked_in words)
   pub asked : (asked : Asked) → are_accepted words ≡ true → asked_in words ≡ Some asked
       → IsRun asked.mode source sink errors is_finished outcome

@@ -25,9 +25,23 @@ pub fn exit<R: Threads + Wait + Sync, S: Source, K: Sink, E: Sink>(
     ensures no_words { OnErr words (exit_status result ≡ 6) }
     ensures told { OnErr words (Tells (stream (E.written errors.old) (E.written errors.new) (E.faults errors.old) (E.faults errors.new)) memory_line) }
 {
-    let outcome = match words {
-        Ok(words) => run(rt, alloc, words, source, sink, errors, &OpenGate),
-        Err(NoMemory) => without_words(alloc, errors),
-    };
+    match words {
+        Ok(words) => run_on(rt, alloc, words, source, sink, errors),
+        Err(NoMemory) => ExitCode::from(without_words(alloc, errors).status),
+    }
+}
+
+/// Runs the tool on these words.
+fn run_on<R: Threads + Wait + Sync, S: Source, K: Sink, E: Sink>(
+    rt: &R,
+    alloc: Global,
+    words: Vec<String>,
+    source: &mut S,
+    sink: &mut K,
+    errors: &mut E,
+) -> ExitCode
+    ensures { IsExit (map string_bytes words.items) (stream (S.remaining source.old) (S.remaining source.new) (S.faults source.old) (S.faults source.new)) (stream (K.written sink.old) (K.written sink.new) (K.faults sink.old) (K.faults sink.new)) (stream (E.written errors.old) (E.written errors.new) (E.faults errors.old) (E.faults errors.new)) (K.is_finished sink.new) (exit_status result) }
+{
+    let outcome = run(rt, alloc, words, source, sink, errors, &OpenGate);
     ExitCode::from(outcome.status)
 }

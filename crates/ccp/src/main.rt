@@ -7,10 +7,9 @@ mod tests;
 mod words;
 
 use ccp_base::{StdErr, StdIn, StdOut};
+use exit::exit;
 use std::env;
 use std::process::ExitCode;
-
-use exit::exit;
 use words::words;
 
 fn main(rt: HostRuntime) -> ExitCode {

@@ -34,7 +34,14 @@ fn want_of_memory_for_the_words_ends_with_6(rt: HostRuntime) {
     let mut source = MemSource::new(b")", 16, &[]);
     let mut sink = MemSink::new(alloc, 16, &[]);
     let mut errors = MemSink::new(alloc, 16, &[]);
-    let code = exit(&rt, alloc, Err(NoMemory), &mut source, &mut sink, &mut errors);
+    let code = exit(
+        &rt,
+        alloc,
+        Err(NoMemory),
+        &mut source,
+        &mut sink,
+        &mut errors,
+    );
     assert_eq!(rt; code, ExitCode::from(6));
     assert_eq!(rt; errors.as_slice(), b"ccp: no memory\n".as_slice());
 }
