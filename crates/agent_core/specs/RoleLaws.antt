@@ -88,18 +88,20 @@ module _ (ss ca : Role) where
       let w_max = converged s.w_max s.window in
       let window = decreased s.window in
       let ssthresh = bytes_of s.mss window in
-      cubic-choice (nat_lt reading.now s.calm) (s, Nothing)
-      (record s {
-        course = course_after Avoidance s.course;
-        w_prior = s.window;
-        w_max = w_max;
-        window = window;
-        w_est = window;
-        start = reading.now;
-        k = k_of w_max window;
-        ssthresh = ssthresh;
-        calm = reading.now +ˢ reading.rtt;
-      }, change_to Avoidance s.course ssthresh ssthresh)
+      cubic-choice (nat_lt reading.now s.calm) (s, Nothing) (
+        record s {
+          course = course_after Avoidance s.course;
+          w_prior = s.window;
+          w_max = w_max;
+          window = window;
+          w_est = window;
+          start = reading.now;
+          k = k_of w_max window;
+          ssthresh = ssthresh;
+          calm = reading.now +ˢ reading.rtt;
+        },
+        change_to Avoidance s.course ssthresh ssthresh,
+      )
       roles (changed Avoidance s.course roles)
 
   cubic-mode : (mode : Mode) (reading : Reading) (s : c.CubicState) → AreRoles ss ca s.course → CubicKeeps (c.in_mode mode reading s)

@@ -3,8 +3,8 @@ ghost use Rattle.agent_core.specs.Agents.{replied, values_of};
 ghost use Rattle.agent_core.specs.Answers.{frame_by};
 
 use crate::agent::Agent;
+use crate::answer::Answer;
 use crate::frame::Frame;
-use crate::reply::Answer;
 use crate::ticket::Ticket;
 use ccp_base::Reply;
 

@@ -1,12 +1,10 @@
 ghost use Rattle.std.specs.Prelude.{◌≡◌, ◌≤◌, [], length};
+ghost use Rattle.ccp_base.specs.Limits.{most_answer_bytes};
 ghost use Rattle.reply_frames.specs.Spelling.{AreTargets, update_bytes, change_bytes};
 
 use ccp_base::Fields;
 use reply_frames::{Version, encode_change, encode_update};
 use std::marker::Model;
-
-/// The longest frame of an answer, in bytes.
-pub const FRAME_BYTES: usize = 64;
 
 /// The bytes of a frame, held in place.
 #[derive(Clone, Copy, PartialEq, Eq, Debug)]
@@ -70,7 +68,7 @@ impl Frame {
     /// The bytes in order.
     pub fn as_slice(&self) -> &[u8]
         ensures bytes { result.now ≡ self.now }
-        ensures within { length self.now ≤ FRAME_BYTES }
+        ensures within { length self.now ≤ most_answer_bytes }
     {
         &self.bytes[..self.count]
     }

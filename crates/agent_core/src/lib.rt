@@ -2,15 +2,15 @@
 #![tactic(auto)]
 
 mod agent;
+mod answer;
 pub mod calls;
 mod frame;
-mod reply;
 mod same;
 #[cfg(test)]
 mod tests;
 mod ticket;
 
 pub use agent::Agent;
-pub use reply::Answer;
+pub use answer::Answer;
 pub use same::same_role;
 pub use ticket::Ticket;

@@ -1,6 +1,7 @@
-use Rattle.std.specs.Prelude.{ℕ}
+-- What a change or an update of a program writes, and where a value's register isn't there.
+use Rattle.std.specs.Prelude.{ℕ, Bool, false, not, nat_lt, Option, List, position}
 use Rattle.ccp_base.specs.declared.fields.FieldReg.{FieldReg}
-use Rattle.ccp_base.specs.declared.fields.FieldReg.TheVariants.{Cwnd}
+use Rattle.ccp_base.specs.declared.fields.FieldReg.TheVariants.{Cwnd, Rate, Control}
 
 -- a value to be written, with what it is written to
 abbrev pub Pair : Type 0
@@ -12,3 +13,13 @@ pair_of reg value = (reg, value)
 -- what a place past the list holds
 abbrev pub blank : Pair
 blank = (Cwnd, 0)
+
+-- a register names a control variable past this many
+abbrev pub is_bad : ℕ → FieldReg → Bool
+is_bad controls (Control i) = not (nat_lt i controls)
+is_bad controls Cwnd = false
+is_bad controls Rate = false
+
+-- the place of the first such pair
+abbrev pub first_bad : ℕ → List Pair → Option ℕ
+first_bad controls values = position (λ pair. is_bad controls pair.0) values

@@ -1,4 +1,6 @@
 pub mod Acknowledgement
+pub mod Blending
+pub mod Chaining
 pub mod CheckedNumbers
 pub mod Course
 pub mod FieldReg
@@ -8,5 +10,9 @@ pub mod Named
 pub mod Numerals
 pub mod Outside
 pub mod Parts
+pub mod PrimitiveNames
 pub mod Reading
 pub mod Saturating
+pub mod SystemAnswers
+pub mod Text
+pub mod Truth

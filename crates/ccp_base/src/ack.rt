@@ -1,5 +1,7 @@
-ghost use Rattle.std.specs.Prelude.{◌≡◌, ◌<◌};
-ghost use Rattle.ccp_base.specs.Acknowledgement.{prim, number_of};
+ghost use Rattle.std.specs.Prelude.{◌≡◌, ◌<◌, length, slice_index};
+ghost use Rattle.ccp_base.specs.Acknowledgement.{number_of, primitives, prim, is_flag, ack_of};
+ghost use Rattle.ccp_base.specs.Limits.{primitive_count};
+ghost use Rattle.ccp_base.specs.Truth.{is_true};
 
 use crate::sequence::Sequence;
 
@@ -28,7 +30,7 @@ pub struct Ack {
 
 /// A primitive by its number, from 0 to 14 in the order of the fields of `Ack`, a Bool as 0 or 1.
 pub fn prim(ack: &Ack, number: u32) -> u64
-    requires { number < PRIMITIVES }
+    requires { number < primitive_count }
     ensures { result ≡ prim number ack.entry.now }
 {
     match number {
@@ -50,11 +52,76 @@ pub fn prim(ack: &Ack, number: u32) -> u64
     }
 }
 
+/// Whether a primitive, by its number, is a Bool: the last one is.
+pub fn is_flag(number: u32) -> bool
+    ensures { result ≡ is_flag number }
+{
+    number == PRIMITIVES - 1
+}
+
+/// The fifteen primitives of an acknowledgement in their order, a Bool as 0 or 1. `ack_of` gives the acknowledgement
+/// back.
+pub fn primitives(ack: &Ack) -> [u64; 15]
+    ensures numbers { result ≡ primitives ack.entry.now }
+    ensures back { ack_of result ≡ ack.entry.now }
+{
+    [
+        ack.bytes_acked,
+        ack.packets_acked,
+        ack.bytes_misordered,
+        ack.packets_misordered,
+        ack.ecn_bytes,
+        ack.ecn_packets,
+        ack.lost_pkts_sample,
+        ack.now,
+        ack.bytes_in_flight,
+        ack.packets_in_flight,
+        ack.bytes_pending,
+        ack.rate_incoming,
+        ack.rate_outgoing,
+        ack.rtt_sample_us,
+        bool_number(ack.was_timeout),
+    ]
+}
+
+/// The acknowledgement with these fifteen primitives, in their order; the last one is true where it isn't 0.
+/// `primitives` gives the numbers back where the last one is 0 or 1.
+pub fn ack_of(numbers: &[u64]) -> Ack
+    requires { length numbers.now ≡ primitive_count }
+    ensures ack { result ≡ ack_of numbers.now }
+    ensures back { slice_index numbers.now 14 < 2 → primitives (ack_of numbers.now) ≡ numbers.now }
+{
+    Ack {
+        bytes_acked: numbers[0],
+        packets_acked: numbers[1],
+        bytes_misordered: numbers[2],
+        packets_misordered: numbers[3],
+        ecn_bytes: numbers[4],
+        ecn_packets: numbers[5],
+        lost_pkts_sample: numbers[6],
+        now: numbers[7],
+        bytes_in_flight: numbers[8],
+        packets_in_flight: numbers[9],
+        bytes_pending: numbers[10],
+        rate_incoming: numbers[11],
+        rate_outgoing: numbers[12],
+        rtt_sample_us: numbers[13],
+        was_timeout: is_true(numbers[14]),
+    }
+}
+
 /// A Bool as a number: 1 where it is true, else 0.
 pub fn bool_number(truth: bool) -> u64
     ensures { result ≡ number_of truth }
 {
     if truth { 1 } else { 0 }
+}
+
+/// A number as a Bool: true where it isn't 0.
+pub fn is_true(number: u64) -> bool
+    ensures { result ≡ is_true number }
+{
+    number != 0
 }
 
 /// Acknowledgements in the order in which they came.

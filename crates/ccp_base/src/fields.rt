@@ -1,5 +1,6 @@
-ghost use Rattle.std.specs.Prelude.{◌≡◌, ◌↔◌, IsTrue, ◌<◌, ◌≤◌, ◌++◌, ◌∷◌, [], length, slice_get};
-ghost use Rattle.ccp_base.specs.FieldReg.{Pair, pair_of};
+ghost use Rattle.std.specs.Prelude.{◌≡◌, ◌↔◌, IsTrue, ◌<◌, ◌≤◌, ◌++◌, ◌∷◌, [], IfSome, length, slice_get};
+ghost use Rattle.ccp_base.specs.FieldReg.{Pair, pair_of, is_bad, first_bad};
+ghost use Rattle.ccp_base.specs.Limits.{most_pairs};
 
 use std::marker::Model;
 
@@ -15,6 +16,18 @@ pub enum FieldReg {
     Rate,
     /// A control variable by its number in order of declaration.
     Control(u8),
+}
+
+impl FieldReg {
+    /// Whether this is a control variable past this many.
+    pub fn is_bad(self, controls: usize) -> bool
+        ensures { result ≡ is_bad controls self }
+    {
+        match self {
+            FieldReg::Control(i) => usize::from(i) >= controls,
+            FieldReg::Cwnd | FieldReg::Rate => false,
+        }
+    }
 }
 
 /// A list of at most 66 values to be written, each with what it is written to, held in place.
@@ -54,7 +67,7 @@ impl Fields {
     /// How many pairs the list has.
     pub fn len(&self) -> u32
         ensures len { result ≡ length self.now }
-        ensures within { length self.now ≤ PAIRS }
+        ensures within { length self.now ≤ most_pairs }
     {
         self.count
     }
@@ -68,7 +81,7 @@ impl Fields {
 
     /// Puts a pair at the list's end.
     pub fn push(&mut self, reg: FieldReg, value: u64)
-        requires { length self.old < PAIRS }
+        requires { length self.old < most_pairs }
         ensures { self.new ≡ self.old ++ pair_of reg value ∷ [] }
     {
         self.pairs[self.count as usize] = (reg, value);
@@ -89,7 +102,7 @@ impl Fields {
     /// The pairs in order.
     pub fn as_slice(&self) -> &[(FieldReg, u64)]
         ensures items { result.now ≡ self.now }
-        ensures within { length self.now ≤ PAIRS }
+        ensures within { length self.now ≤ most_pairs }
     {
         &self.pairs[..self.count as usize]
     }
@@ -100,4 +113,19 @@ impl Fields {
     {
         *self = Fields::new();
     }
+    /// The place, counted from 0, of the first pair that names a control variable past this many; None exactly where
+    /// there is none.
+    pub fn first_bad(&self, controls: usize) -> Option<u32>
+        ensures { result ≡ first_bad controls self.now }
+    {
+        let place = place_of_bad(controls, self.as_slice())?;
+        Some(place as u32)
+    }
+}
+
+fn place_of_bad(controls: usize, pairs: &[(FieldReg, u64)]) -> Option<usize>
+    ensures place { result ≡ first_bad controls pairs.now }
+    ensures within { IfSome result (λ i. i < length pairs.now) }
+{
+    pairs.iter().position(|pair| pair.0.is_bad(controls))
 }

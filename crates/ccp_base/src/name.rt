@@ -1,5 +1,6 @@
 ghost use Rattle.std.specs.Prelude.{◌≡◌, ◌≤◌, ◌++◌, drop, length};
 ghost use Rattle.ccp_base.specs.InPlace.{padded};
+ghost use Rattle.ccp_base.specs.Limits.{most_name_bytes};
 ghost use Rattle.ccp_base.specs.Named.{name_of};
 
 use crate::sequence::Sequence;
@@ -49,7 +50,7 @@ impl Name {
     pub fn as_slice(&self) -> &[u8]
         ensures text { result.now ≡ self.now }
         ensures some { 1 ≤ length self.now }
-        ensures within { length self.now ≤ NAME_BYTES }
+        ensures within { length self.now ≤ most_name_bytes }
     {
         &self.bytes[..self.count]
     }
@@ -65,7 +66,7 @@ fn write_front(out: &mut [u8], text: &[u8])
 
 /// The text with 0 past its end.
 fn padded(text: &[u8]) -> [u8; 64]
-    requires { length text.now ≤ NAME_BYTES }
+    requires { length text.now ≤ most_name_bytes }
     ensures { result ≡ padded 64 0 text.now }
 {
     let mut bytes = [0; 64];

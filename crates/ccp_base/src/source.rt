@@ -1,4 +1,4 @@
-ghost use Rattle.std.specs.Prelude.{◌≡◌, ◌≢◌, ℕ, ◌<◌, ◌≤◌, Option, List, IfOk, OnErr, IsErrOf, take, length};
+ghost use Rattle.std.specs.Prelude.{◌≡◌, ◌≢◌, ℕ, ◌+◌, ◌<◌, ◌≤◌, Option, List, IfOk, OnErr, IsErrOf, take, length};
 ghost use Rattle.ccp_base.specs.Outside.{Rose, Takes, IsAtEnd, TakesOver, TakesWithin};
 
 use crate::outside::{Failed, ReadFault};
@@ -28,7 +28,8 @@ pub trait Source {
 const PIECE: usize = 4096;
 
 /// All the bytes that are left, of which there are at most `limit`. `Read` comes only where the count of
-/// faults rises, and `TooLong` exactly where more than `limit` bytes were taken.
+/// faults rises, and `TooLong` exactly where more than `limit` bytes were taken. Whatever the answer, at most one
+/// byte more than `limit` was taken.
 pub fn read_all<S: Source>(alloc: Global, source: &mut S, limit: usize) -> Result<Bytes, ReadFault>
     ensures counted { S.faults source.old ≤ S.faults source.new }
     ensures short { IfOk result (λ bytes. length bytes ≤ limit) }
@@ -39,6 +40,7 @@ pub fn read_all<S: Source>(alloc: Global, source: &mut S, limit: usize) -> Resul
         → TakesOver limit (S.remaining source.old) (S.remaining source.new) }
     ensures within { result ≢ Err ReadFault.TooLong
         → TakesWithin limit (S.remaining source.old) (S.remaining source.new) }
+    ensures most { TakesWithin (limit + 1) (S.remaining source.old) (S.remaining source.new) }
 {
     let mut bytes = Bytes::new(alloc);
     let mut buffer = [0u8; PIECE];

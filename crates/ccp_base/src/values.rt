@@ -1,4 +1,5 @@
 ghost use Rattle.std.specs.Prelude.{◌≡◌, ◌↔◌, IsTrue, ◌<◌, ◌≤◌, ◌++◌, ◌∷◌, [], length, slice_get};
+ghost use Rattle.ccp_base.specs.Limits.{most_fields};
 
 use std::marker::Model;
 
@@ -40,7 +41,7 @@ impl Values {
 
     /// The list of these numbers, of which there are at most 64.
     pub fn from_slice(numbers: &[u64]) -> Self
-        requires { length numbers.now ≤ VALUES }
+        requires { length numbers.now ≤ most_fields }
         ensures { result ≡ numbers.now }
     {
         let mut values = Values::new();
@@ -53,7 +54,7 @@ impl Values {
     /// How many numbers the list has.
     pub fn len(&self) -> u32
         ensures len { result ≡ length self.now }
-        ensures within { length self.now ≤ VALUES }
+        ensures within { length self.now ≤ most_fields }
     {
         self.count
     }
@@ -67,7 +68,7 @@ impl Values {
 
     /// Puts a number at the list's end.
     pub fn push(&mut self, value: u64)
-        requires { length self.old < VALUES }
+        requires { length self.old < most_fields }
         ensures { self.new ≡ self.old ++ value ∷ [] }
     {
         self.numbers[self.count as usize] = value;
@@ -77,7 +78,7 @@ impl Values {
     /// The numbers in order.
     pub fn as_slice(&self) -> &[u64]
         ensures items { result.now ≡ self.now }
-        ensures within { length self.now ≤ VALUES }
+        ensures within { length self.now ≤ most_fields }
     {
         &self.numbers[..self.count as usize]
     }

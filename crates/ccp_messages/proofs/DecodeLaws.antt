@@ -1,5 +1,5 @@
 -- What decoding answers, and the laws of messages and frames.
-use Rattle.std.proofs.Common.{◌≡◌, ◌≢◌, ℕ, zero, suc, ◌-◌, List, [], ◌∷◌, ◌++◌, length, Result, Ok, Err, refl, sym, ap, subst, ◌∙◌, arith, length-append}
+use Rattle.std.proofs.Common.{◌≡◌, ◌≢◌, ℕ, ◌-◌, List, [], ◌∷◌, ◌++◌, length, Result, Ok, Err, refl, sym, ap, subst, ◌∙◌, arith, length-append}
 use Rattle.std.specs.Prelude.{IfOk}
 use Rattle.std.proofs.lemmas.List.{append-nil}
 use Rattle.reply_frames.specs.declared.fault.BadKind.{BadKind}
@@ -7,29 +7,25 @@ use Rattle.reply_frames.specs.declared.fault.Stop.{Stop}
 use Rattle.reply_frames.specs.declared.fault.Stop.TheVariants as stops
 use Rattle.reply_frames.specs.declared.outline.Version.{Version}
 use Rattle.reply_frames.specs.declared.outline.Version.TheVariants.{One, Two}
-use Rattle.reply_frames.specs.Exact.{AreBytes}
 use Rattle.reply_frames.specs.Parts.{Read}
 use Rattle.reply_frames.specs.Frames.{Frame, frame_at}
 use Rattle.reply_frames.specs.Decoding.{needed_of}
-use Rattle.reply_frames.specs.Whole.{IsCut, IsBadFrom}
+use Rattle.reply_frames.specs.Whole.{IsCut, IsBadFrom, IsBadIn}
 use Rattle.reply_frames.specs.FrameBytes.{spelled, outline_of}
 use Rattle.reply_frames.proofs.Codec.{AllBytes}
 use Rattle.reply_frames.proofs.CodecFrames.{frame-writes, frame-reads}
 use Rattle.reply_frames.proofs.FrameSizes.{frame-bytes}
 use Rattle.reply_frames.proofs.ExactFrames.{exact-frame}
+use Rattle.reply_frames.specs.Laws.{PrefixFree}
+use Rattle.reply_frames.proofs.NeededLaw.{all-bytes}
 use Rattle.reply_frames.proofs.FrameLaws.{frame_alone, cut_is, is_cut, bad_is}
 use Rattle.ccp_messages.specs.declared.fault.DecodeFault.{DecodeFault}
 use Rattle.ccp_messages.specs.declared.fault.DecodeFault.TheVariants.{More, Bad, NoMemory}
 use Rattle.ccp_messages.specs.declared.message.Message.{Message}
 use Rattle.ccp_messages.specs.Messages.{Meets, flow_of, body_of, frame_bytes, message_of, IsTyped}
-use Rattle.ccp_messages.specs.Decoding.{Found, Begins, found_from, decoded_from, decoded_of, IsAnswer, IsBad, IsBadIn}
-use Rattle.ccp_messages.specs.Laws.{IsReadAs, OneFrame, NoOther, PrefixFree, BothVersions}
+use Rattle.ccp_messages.specs.Decoding.{Found, Begins, found_from, decoded_from, decoded_of, IsAnswer, IsBad}
+use Rattle.ccp_messages.specs.Laws.{IsReadAs, OneFrame, NoOther, BothVersions}
 use Rattle.ccp_messages.proofs.MessageLaws.{message-back, message-fits, meets-both, meets-one, IsSaid, body-said}
-
-pub all-bytes : (bytes : List ℕ) → AreBytes bytes → AllBytes bytes
-all-bytes [] are i = omega arith
-all-bytes (byte ∷ bytes) are zero = are.0
-all-bytes (byte ∷ bytes) are (suc i) = all-bytes bytes are.1 i
 
 -- ---- what is read begins the bytes, and what begins them is read
 
@@ -138,12 +134,12 @@ told_bad bytes result told field place e =
     let some : (result ≢ Err NoMemory) = λ none. let clash : ◌≡◌ {A = Result Found DecodeFault} (Err (Bad field place)) (Err NoMemory) = sym e ∙ none in cc in
     decoded-bad bytes field place (sym (told some) ∙ e)
 
-pub told_refused : (bytes : List ℕ) (result : Result Found DecodeFault) → AllBytes bytes → IsTold bytes result → ((m : Message) (v : Version) (n : ℕ) → ¬ Begins bytes m v n) → ¬ IsCut bytes → IsBad result
-told_refused bytes (Ok f) fits told none whole = none f.0 f.1 f.2 (decoded-begins bytes f fits (told-ok bytes f told))
-told_refused bytes (Err (More n)) fits told none whole =
+pub told_refused : (bytes : List ℕ) (result : Result Found DecodeFault) → AllBytes bytes → IsTold bytes result → ((m : Message) (v : Version) (n : ℕ) → ¬ Begins bytes m v n) → ¬ IsCut bytes → (result ≢ Err NoMemory) → IsBad result
+told_refused bytes (Ok f) fits told none whole some = none f.0 f.1 f.2 (decoded-begins bytes f fits (told-ok bytes f told))
+told_refused bytes (Err (More n)) fits told none whole some =
     whole (decoded-more bytes n (told-err bytes (More n) (λ (e : More n ≡ NoMemory). cc) told)).0
-told_refused bytes (Err (Bad field place)) fits told none whole = tt
-told_refused bytes (Err NoMemory) fits told none whole = tt
+told_refused bytes (Err (Bad field place)) fits told none whole some = tt
+told_refused bytes (Err NoMemory) fits told none whole some = some refl
 
 -- ---- the laws
 

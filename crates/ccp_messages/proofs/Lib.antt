@@ -3,4 +3,3 @@ pub mod MessageLaws
 pub mod DecodeLaws
 pub mod Encoding
 pub mod Reading
-pub mod NeededLaw

@@ -1,11 +1,12 @@
 -- A message and the body of its frame determine one another.
-use Rattle.std.proofs.Common.{◌≡◌, ℕ, zero, suc, ◌≤◌, ◌<◌, ◌^◌, eqb, List, [], ◌∷◌, length, take, refl, sym, ap, subst, ◌∙◌, arith}
+use Rattle.std.proofs.Common.{◌≡◌, ℕ, zero, suc, ◌≤◌, ◌<◌, ◌^◌, Bool, true, false, List, [], ◌∷◌, ◌++◌, length, take, refl, sym, ap, subst, ◌∙◌, arith}
 use Rattle.std.specs.Prelude.{map}
 use Rattle.std.specs.List.{AllByRecursion}
 use Rattle.std.proofs.lemmas.List.{length-map}
 use Rattle.ccp_base.specs.declared.arithmetic.FaultKind.{FaultKind}
 use Rattle.ccp_base.specs.declared.arithmetic.FaultKind.TheVariants.{Overflow, Underflow, ZeroDivisor}
-use Rattle.ccp_base.specs.Acknowledgement.{number_of, primitives}
+use Rattle.ccp_base.specs.Acknowledgement.{number_of, primitives, ack_of}
+use Rattle.ccp_base.specs.Truth.{is_true}
 use Rattle.ccp_base.specs.FieldReg.{Pair}
 use Rattle.reply_frames.specs.declared.outline.Version.{Version}
 use Rattle.reply_frames.specs.declared.outline.Version.TheVariants.{One, Two}
@@ -13,15 +14,14 @@ use Rattle.reply_frames.specs.declared.outline.FrameKind.TheVariants as kinds
 use Rattle.reply_frames.specs.Kinds.{most_n1}
 use Rattle.reply_frames.specs.Frames.{Body}
 use Rattle.reply_frames.specs.Frames as body
-use Rattle.reply_frames.specs.Replies.{IsSendable}
-use Rattle.reply_frames.specs.Spelling.{AreTargets, IsValue}
+use Rattle.reply_frames.specs.ValueBytes.{AreTargets, IsValue, IsSendable}
 use Rattle.reply_frames.specs.FrameBytes.{IsNumber, IsCount, IsSpellable}
 use Rattle.ccp_messages.specs.declared.message.Message.{Message}
 use Rattle.ccp_messages.specs.declared.message.Message.TheVariants.{Create, Measure, Install, Update, Change, Fault, Refused}
 use Rattle.ccp_messages.specs.declared.message.Message.TheVariants as message
 use Rattle.ccp_messages.specs.CodeParts.{start_part, start_of, event_part, event_of, instruction_part, instr_of}
-use Rattle.ccp_messages.specs.Messages.{IsShortCount, AreFew, IsNarrow, Meets, fault_number, fault_kind_of, flow_of, body_of, ack_of, message_of, IsTyped}
-use Rattle.ccp_messages.proofs.CodeLaws.{truth-back, truth-again, truth-low, starts-back, events-back, instrs-back, starts-again, events-again, instructions-again, starts-fit, events-fit, instructions-fit}
+use Rattle.ccp_messages.specs.Messages.{IsShortCount, AreFew, IsNarrow, Meets, fault_number, fault_kind_of, flow_of, body_of, message_of, IsTyped}
+use Rattle.ccp_messages.proofs.CodeLaws.{truth-low, starts-back, events-back, instrs-back, starts-again, events-again, instructions-again, starts-fit, events-fit, instructions-fit}
 
 -- ---- from a message and back
 
@@ -29,6 +29,10 @@ fault-back : (kind : FaultKind) → fault_kind_of (fault_number kind) ≡ kind
 fault-back Overflow = refl
 fault-back Underflow = refl
 fault-back ZeroDivisor = refl
+
+true-back : (b : Bool) → is_true (number_of b) ≡ b
+true-back true = refl
+true-back false = refl
 
 pub message-back : (m : Message) → message_of (flow_of m) (body_of m) ≡ m
 message-back (Create flow mss cwnd) = refl
@@ -41,7 +45,7 @@ message-back (Install flow program code) =
 message-back (Update flow values) = refl
 message-back (Change flow program values) = refl
 message-back (Fault n) = ap (λ kind. Fault (record { flow = n.flow; program = n.program; epoch = n.epoch; at = n.at; kind = kind; index = n.index; now = n.now; cwnd = n.cwnd })) (fault-back n.kind)
-message-back (message.Ack flow ack) = ap (λ b. message.Ack flow (record ack { was_timeout = b })) (truth-back ack.was_timeout)
+message-back (message.Ack flow ack) = ap (λ b. message.Ack flow (record ack { was_timeout = b })) (true-back ack.was_timeout)
 message-back (Refused flow reason index) = refl
 
 -- ---- what meets the conditions has a place in a frame
@@ -123,9 +127,19 @@ fault-again (suc zero) le = refl
 fault-again (suc (suc zero)) le = refl
 fault-again (suc (suc (suc n))) le = absurd (omega arith)
 
-fourteen : (n : List ℕ) (was_timeout : ℕ) → length n ≡ 14 → take 14 (primitives (ack_of n was_timeout)) ≡ n
+true-again : (n : ℕ) → n ≤ 1 → number_of (is_true n) ≡ n
+true-again zero le = refl
+true-again (suc zero) le = refl
+true-again (suc (suc n)) le = absurd (omega arith)
+
+fourteen : (n : List ℕ) (was_timeout : ℕ) → length n ≡ 14 → take 14 (primitives (ack_of (n ++ was_timeout ∷ []))) ≡ n
 fourteen (a ∷ b ∷ c ∷ d ∷ e ∷ f ∷ g ∷ h ∷ i ∷ j ∷ k ∷ l ∷ m ∷ n ∷ []) was_timeout is = refl
 fourteen n was_timeout is = absurd (omega (arith, is))
+
+ack-again : (flow : ℕ) (n : List ℕ) (was_timeout : ℕ) → length n ≡ 14 → was_timeout ≤ 1 → body_of (message.Ack flow (ack_of (n ++ was_timeout ∷ []))) ≡ body.Ack n was_timeout
+ack-again flow (a ∷ b ∷ c ∷ d ∷ e ∷ f ∷ g ∷ h ∷ i ∷ j ∷ k ∷ l ∷ m ∷ n ∷ []) was_timeout is le =
+    ap (λ last. body.Ack (a ∷ b ∷ c ∷ d ∷ e ∷ f ∷ g ∷ h ∷ i ∷ j ∷ k ∷ l ∷ m ∷ n ∷ []) last) (true-again was_timeout le)
+ack-again flow n was_timeout is le = absurd (omega (arith, is))
 
 targets-of : (values : List Pair) → AllByRecursion IsSendable values → AreTargets values
 targets-of [] sendable = tt
@@ -199,10 +213,10 @@ body-said version flow (body.Fault program epoch place kind index now cwnd) ok =
       typed = (ok.0, (ok.2.0, ok.2.1, a.1, ok.2.4, ok.2.5, ok.2.6));
     }
 body-said version flow (body.Ack numbers was_timeout) ok =
-    let is : take 14 (primitives (ack_of numbers was_timeout)) ≡ numbers = fourteen numbers was_timeout ok.2.0 in
+    let is : take 14 (primitives (ack_of (numbers ++ was_timeout ∷ []))) ≡ numbers = fourteen numbers was_timeout ok.2.0 in
     record {
       flow_is = refl;
-      body_is = ap (λ n. body.Ack n (number_of (eqb was_timeout 1))) is ∙ ap (λ n. body.Ack numbers n) (truth-again was_timeout ok.2.2);
+      body_is = ack-again flow numbers was_timeout ok.2.0 ok.2.2;
       meets = tt;
       typed = (ok.0, subst (λ xs. AllByRecursion IsNumber xs) (sym is) ok.2.1);
     }

@@ -1,15 +1,15 @@
 -- What bytes are to one who reads a message from their front.
 use Rattle.std.specs.Prelude.{◌≡◌, ◌≢◌, ℕ, ◌-◌, List, ◌++◌, length, Result, Ok, Err}
 use Rattle.std.specs.Int.{w32}
-use Rattle.reply_frames.specs.declared.fault.BadKind.{BadKind}
 use Rattle.reply_frames.specs.declared.fault.Stop.{Stop}
 use Rattle.reply_frames.specs.declared.fault.Stop.TheVariants as stops
 use Rattle.reply_frames.specs.declared.outline.Version.{Version}
 use Rattle.reply_frames.specs.declared.outline.Counts.{Counts}
+use Rattle.reply_frames.specs.declared.outline.FrameKind.TheVariants as kinds
+use Rattle.reply_frames.specs.declared.outline.Outline.{Outline}
 use Rattle.reply_frames.specs.Parts.{Read, ◌>>=◌, number_at, repeated_at}
-use Rattle.reply_frames.specs.Frames.{start_at, event_at, instruction_at, Frame, frame_at}
+use Rattle.reply_frames.specs.Frames.{outline_at, start_at, event_at, instruction_at, Frame, frame_at}
 use Rattle.reply_frames.specs.Decoding.{needed_of}
-use Rattle.reply_frames.specs.Whole.{IsBadFrom}
 use Rattle.ccp_messages.specs.declared.fault.DecodeFault.{DecodeFault}
 use Rattle.ccp_messages.specs.declared.fault.DecodeFault.TheVariants.{More, Bad, NoMemory}
 use Rattle.ccp_messages.specs.declared.fault.Halt.{Halt}
@@ -96,8 +96,11 @@ abbrev pub IsBad : Result Found DecodeFault → Type 0
 IsBad (Ok found) = ⊥
 IsBad (Err (More needed)) = ⊥
 IsBad (Err (Bad field place)) = Unit {0}
-IsBad (Err NoMemory) = Unit {0}
+IsBad (Err NoMemory) = ⊥
 
--- the byte at this place is the first that no frame goes on with, and it lies in this field
-abbrev pub IsBadIn : List ℕ → BadKind → ℕ → Type 0
-IsBadIn bytes field place = IsBadFrom bytes place × (frame_at bytes ≡ Err (stops.Bad field (length bytes - place)))
+-- the bytes begin with the head of an Install, whose code takes memory
+pub record BeginsInstall (bytes : List ℕ) : Type 0 where
+  pub outline : Outline
+  pub rest : List ℕ
+  pub read : outline_at bytes ≡ Ok (outline, rest)
+  pub install : outline.kind ≡ kinds.Install

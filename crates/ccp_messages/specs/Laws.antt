@@ -1,11 +1,9 @@
 -- The laws of messages and frames, over what is read.
-use Rattle.std.specs.Prelude.{◌≡◌, ℕ, ◌≤◌, ◌↔◌, List, [], ◌++◌, length, Ok}
-use Rattle.reply_frames.specs.Decoding.{needed_of}
+use Rattle.std.specs.Prelude.{◌≡◌, ℕ, ◌↔◌, List, [], Ok}
 use Rattle.reply_frames.specs.declared.outline.Version.{Version}
 use Rattle.reply_frames.specs.declared.outline.Version.TheVariants.{One, Two}
-use Rattle.reply_frames.specs.Exact.{AreBytes}
+use Rattle.reply_frames.specs.Whole.{AreBytes}
 use Rattle.reply_frames.specs.Frames.{Frame, frame_at}
-use Rattle.reply_frames.specs.Whole.{IsFrame}
 use Rattle.ccp_messages.specs.declared.message.Message.{Message}
 use Rattle.ccp_messages.specs.Messages.{Meets, IsNarrow, IsTyped, frame_bytes, message_of}
 
@@ -35,14 +33,6 @@ OneFrame = (version : Version) (message : Message) → IsTyped message → Meets
 abbrev pub NoOther : Type 0
 NoOther = (version : Version) (message : Message) → HasFrame version message → Meets version message
 
--- no frame is a proper prefix of another
-abbrev pub PrefixFree : Type 0
-PrefixFree = (bytes more : List ℕ) → IsFrame bytes → IsFrame (bytes ++ more) → more ≡ []
-
 -- a message has a frame of version 1 exactly where it has one of version 2 and is narrow
 abbrev pub BothVersions : Type 0
 BothVersions = (message : Message) → IsTyped message → (HasFrame One message ↔ (HasFrame Two message × IsNarrow message))
-
--- bytes that a frame goes on from, and that are as long as a head, say how long the frame is
-abbrev pub Needed : Type 0
-Needed = (bytes more : List ℕ) → AreBytes (bytes ++ more) → IsFrame (bytes ++ more) → 16 ≤ length bytes → needed_of bytes ≡ length (bytes ++ more)

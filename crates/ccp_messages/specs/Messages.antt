@@ -1,13 +1,14 @@
 -- Messages, and the one frame of each version that a message has.
-use Rattle.std.specs.Prelude.{◌≡◌, ℕ, ◌<◌, ◌≤◌, ◌^◌, ◌==◌, List, length, take, map, slice_index, if◌then◌else◌}
+use Rattle.std.specs.Prelude.{◌≡◌, ℕ, ◌<◌, ◌≤◌, ◌^◌, ◌-◌, ◌==◌, List, [], ◌∷◌, ◌++◌, length, take, map, if◌then◌else◌}
 use Rattle.std.specs.List.{AllByRecursion}
 use Rattle.ccp_base.specs.declared.ack.Ack.{Ack}
 use Rattle.ccp_base.specs.declared.arithmetic.FaultKind.{FaultKind}
 use Rattle.ccp_base.specs.declared.arithmetic.FaultKind.TheVariants.{Overflow, Underflow, ZeroDivisor}
 use Rattle.ccp_base.specs.declared.exchange.Report.{Report}
 use Rattle.ccp_base.specs.declared.exchange.Notice.{Notice}
-use Rattle.ccp_base.specs.Acknowledgement.{number_of, primitives}
+use Rattle.ccp_base.specs.Acknowledgement.{number_of, primitives, ack_of}
 use Rattle.ccp_base.specs.FieldReg.{Pair}
+use Rattle.ccp_base.specs.Limits.{most_fields, most_short_fields, most_controls, most_blocks, most_instrs, most_pairs, primitive_count}
 use Rattle.reg_code.specs.declared.code.Code.{Code}
 use Rattle.reg_code.specs.declared.code.Event.{Event}
 use Rattle.reg_code.specs.declared.code.Instr.{Instr}
@@ -18,7 +19,7 @@ use Rattle.reply_frames.specs.declared.outline.Version.{Version}
 use Rattle.reply_frames.specs.declared.outline.Version.TheVariants.{One, Two}
 use Rattle.reply_frames.specs.Frames.{Body}
 use Rattle.reply_frames.specs.Frames as body
-use Rattle.reply_frames.specs.Spelling.{AreTargets, IsValue}
+use Rattle.reply_frames.specs.ValueBytes.{AreTargets, IsValue}
 use Rattle.reply_frames.specs.FrameBytes.{spelled, IsNumber}
 use Rattle.ccp_messages.specs.declared.message.Message.{Message}
 use Rattle.ccp_messages.specs.declared.message.Message.TheVariants.{Create, Measure, Install, Update, Change, Fault, Refused}
@@ -34,15 +35,15 @@ IsShortCount Two n = Unit {0}
 
 -- so many fields or reports are few enough for version 1
 abbrev pub AreFew : Version → ℕ → Type 0
-AreFew One n = n ≤ 32
+AreFew One n = n ≤ most_short_fields
 AreFew Two n = Unit {0}
 
 abbrev pub Meets : Version → Message → Type 0
 Meets version (Create flow mss cwnd) = Unit {0}
 Meets version (Measure report) = IsShortCount version report.first × IsShortCount version report.end × AreFew version (length report.fields)
 Meets version (Install flow program code) =
-    (length code.reports ≤ 64) × (length code.controls ≤ 64) × (length code.events ≤ 64) × (length code.instrs ≤ 256)
-    × AreFew version (length code.reports)
+    (length code.reports ≤ most_fields) × (length code.controls ≤ most_controls) × (length code.events ≤ most_blocks)
+    × (length code.instrs ≤ most_instrs) × AreFew version (length code.reports)
 Meets version (Update flow values) = AreTargets values
 Meets version (Change flow program values) = AreTargets values
 Meets version (Fault notice) = IsShortCount version notice.at
@@ -52,8 +53,8 @@ Meets version (Refused flow reason index) = (1 ≤ reason) × (reason ≤ 9)
 -- its counts of acknowledgements are below 2^32, and it has at most 32 fields or reports
 abbrev pub IsNarrow : Message → Type 0
 IsNarrow (Create flow mss cwnd) = Unit {0}
-IsNarrow (Measure report) = (report.first < 2 ^ 32) × (report.end < 2 ^ 32) × (length report.fields ≤ 32)
-IsNarrow (Install flow program code) = length code.reports ≤ 32
+IsNarrow (Measure report) = (report.first < 2 ^ 32) × (report.end < 2 ^ 32) × (length report.fields ≤ most_short_fields)
+IsNarrow (Install flow program code) = length code.reports ≤ most_short_fields
 IsNarrow (Update flow values) = Unit {0}
 IsNarrow (Change flow program values) = Unit {0}
 IsNarrow (Fault notice) = notice.at < 2 ^ 32
@@ -90,7 +91,7 @@ body_of (Install flow program code) =
 body_of (Update flow values) = body.Update values
 body_of (Change flow program values) = body.Change program values
 body_of (Fault n) = body.Fault n.program n.epoch n.at (fault_number n.kind) n.index n.now n.cwnd
-body_of (message.Ack flow ack) = body.Ack (take 14 (primitives ack)) (number_of ack.was_timeout)
+body_of (message.Ack flow ack) = body.Ack (take (primitive_count - 1) (primitives ack)) (number_of ack.was_timeout)
 body_of (Refused flow reason index) = body.Refused reason index
 
 -- the message's frame in a version, where it meets the conditions
@@ -103,25 +104,6 @@ IsFrameOf message version bytes = Meets version message × (bytes ≡ frame_byte
 
 -- ---- the message of a frame
 
-abbrev pub ack_of : List ℕ → ℕ → Ack
-ack_of n was_timeout = record {
-  bytes_acked = slice_index n 0;
-  packets_acked = slice_index n 1;
-  bytes_misordered = slice_index n 2;
-  packets_misordered = slice_index n 3;
-  ecn_bytes = slice_index n 4;
-  ecn_packets = slice_index n 5;
-  lost_pkts_sample = slice_index n 6;
-  now = slice_index n 7;
-  bytes_in_flight = slice_index n 8;
-  packets_in_flight = slice_index n 9;
-  bytes_pending = slice_index n 10;
-  rate_incoming = slice_index n 11;
-  rate_outgoing = slice_index n 12;
-  rtt_sample_us = slice_index n 13;
-  was_timeout = was_timeout == 1;
-}
-
 abbrev pub message_of : ℕ → Body → Message
 message_of flow (body.Create cwnd mss) = Create flow mss cwnd
 message_of flow (body.Measure program epoch first last now cwnd rate fields) =
@@ -132,7 +114,7 @@ message_of flow (body.Update values) = Update flow values
 message_of flow (body.Change program values) = Change flow program values
 message_of flow (body.Fault program epoch place kind index now cwnd) =
     Fault (record { flow = flow; program = program; epoch = epoch; at = place; kind = fault_kind_of kind; index = index; now = now; cwnd = cwnd })
-message_of flow (body.Ack numbers was_timeout) = message.Ack flow (ack_of numbers was_timeout)
+message_of flow (body.Ack numbers was_timeout) = message.Ack flow (ack_of (numbers ++ was_timeout ∷ []))
 message_of flow (body.Refused reason index) = Refused flow reason index
 
 -- ---- what types of the language give
@@ -161,13 +143,13 @@ IsTypedCode code =
     × AllByRecursion IsTypedEvent code.events × AllByRecursion IsTypedInstr code.instrs
 
 abbrev pub IsTypedAck : Ack → Type 0
-IsTypedAck ack = AllByRecursion IsNumber (take 14 (primitives ack))
+IsTypedAck ack = AllByRecursion IsNumber (take (primitive_count - 1) (primitives ack))
 
 abbrev pub AreTypedNumbers : List ℕ → Type 0
-AreTypedNumbers numbers = (length numbers ≤ 64) × AllByRecursion IsNumber numbers
+AreTypedNumbers numbers = (length numbers ≤ most_fields) × AllByRecursion IsNumber numbers
 
 abbrev pub AreTypedPairs : List Pair → Type 0
-AreTypedPairs values = (length values ≤ 66) × AllByRecursion IsValue values
+AreTypedPairs values = (length values ≤ most_pairs) × AllByRecursion IsValue values
 
 abbrev pub IsTypedReport : Report → Type 0
 IsTypedReport r =

@@ -1,11 +1,11 @@
-ghost use Rattle.std.specs.Prelude.{◌≡◌, ℕ, length, IfOk, Ok, Err};
+ghost use Rattle.std.specs.Prelude.{◌≡◌, ◌≢◌, ℕ, length, IfOk, Ok, Err};
 ghost use Rattle.reply_frames.specs.declared.fault.BadKind.{BadKind};
 ghost use Rattle.reply_frames.specs.declared.outline.Version.{Version};
 ghost use Rattle.reply_frames.specs.Frames.{frame_at};
 ghost use Rattle.reply_frames.specs.Decoding.{needed_of};
-ghost use Rattle.reply_frames.specs.Whole.{IsCut};
+ghost use Rattle.reply_frames.specs.Whole.{IsCut, IsBadIn};
 ghost use Rattle.ccp_messages.specs.declared.message.Message.{Message};
-ghost use Rattle.ccp_messages.specs.Decoding.{Begins, Answers, found_from, fault_of, decoded_of, IsAnswer, IsBad, IsBadIn};
+ghost use Rattle.ccp_messages.specs.Decoding.{Begins, Answers, found_from, fault_of, decoded_of, IsAnswer, IsBad, BeginsInstall};
 
 use crate::fault::{DecodeFault, Halt};
 use crate::message::Message;
@@ -27,7 +27,8 @@ fn stopped(bytes: &[u8], stop: Stop) -> DecodeFault
 /// The message whose frame begins the bytes, its version and its length.
 #[tactic(auto, unfolding(reply_frames::specs::Frames::frame_at))]
 fn found(alloc: Global, bytes: &[u8]) -> Result<(Message, Version, usize), Halt>
-    ensures { Answers (λ x. x) result (found_from (length bytes.now) (frame_at bytes.now)) }
+    ensures read { Answers (λ x. x) result (found_from (length bytes.now) (frame_at bytes.now)) }
+    ensures memory { result ≡ Err Halt.NoMemory → BeginsInstall bytes.now }
 {
     let (head, rest) = outline(bytes)?;
     let (message, rest) = body(alloc, rest, head)?;
@@ -37,7 +38,8 @@ fn found(alloc: Global, bytes: &[u8]) -> Result<(Message, Version, usize), Halt>
 
 /// The same, with its faults.
 fn answered(alloc: Global, bytes: &[u8]) -> Result<(Message, Version, usize), DecodeFault>
-    ensures { IsAnswer result (decoded_of bytes.now) }
+    ensures told { IsAnswer result (decoded_of bytes.now) }
+    ensures memory { result ≡ Err DecodeFault.NoMemory → BeginsInstall bytes.now }
 {
     match found(alloc, bytes) {
         Ok(found) => Ok(found),
@@ -47,8 +49,8 @@ fn answered(alloc: Global, bytes: &[u8]) -> Result<(Message, Version, usize), De
 }
 
 /// Reads the message whose frame begins the bytes, whatever follows it: the message, its version, and the frame's
-/// length. The code of an Install is any that a frame can have; `code_verifier` says which is accepted. The faults
-/// are those of `DecodeFault`.
+/// length. The code of an Install is any that a frame can have; `code_verifier` says which is accepted. No other kind
+/// takes memory. The faults are those of `DecodeFault`.
 pub fn decode(alloc: Global, bytes: &[u8]) -> Result<(Message, Version, usize), DecodeFault>
     ensures told { IsAnswer result (decoded_of bytes.now) }
 
@@ -65,7 +67,10 @@ pub fn decode(alloc: Global, bytes: &[u8]) -> Result<(Message, Version, usize), 
     ensures bad { (field : BadKind) (place : ℕ) → result ≡ Err (DecodeFault.Bad field place)
         → IsBadIn bytes.now field place }
     ensures refused { ((message : Message) (version : Version) (used : ℕ) → ¬ Begins bytes.now message version used)
-        → ¬ IsCut bytes.now → IsBad result }
+        → ¬ IsCut bytes.now → (result ≢ Err DecodeFault.NoMemory) → IsBad result }
+
+    // Only the code of an Install takes memory.
+    ensures memory { result ≡ Err DecodeFault.NoMemory → BeginsInstall bytes.now }
 {
     answered(alloc, bytes)
 }

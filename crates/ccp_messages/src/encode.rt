@@ -1,4 +1,5 @@
-ghost use Rattle.std.specs.Prelude.{◌≡◌, ◌↔◌, ◌^◌, ◌<◌, ◌≤◌, length, IfOk, IfErr, OnErr, OnOk, IsErr};
+ghost use Rattle.std.specs.Prelude.{◌≡◌, ◌↔◌, ◌^◌, ◌<◌, ◌≤◌, length, take, IfOk, IfErr, OnErr, OnOk, IsErr};
+ghost use Rattle.ccp_base.specs.Limits.{most_fields, most_controls, most_blocks, most_instrs};
 ghost use Rattle.reply_frames.specs.Kinds.{size_of};
 ghost use Rattle.reply_frames.specs.FrameBytes.{kind_of_body, counts_of, outline_of, body_bytes};
 ghost use Rattle.reply_frames.specs.Writing.{over, Wrote};
@@ -37,10 +38,10 @@ fn outlined(kind: FrameKind, version: Version, count: u8, flow: u32) -> Outline
 
 /// The counts of a code.
 fn code_counts(code: &Code) -> Counts
-    requires reports { length code.now.reports ≤ 64 }
-    requires controls { length code.now.controls ≤ 64 }
-    requires events { length code.now.events ≤ 64 }
-    requires instrs { length code.now.instrs ≤ 256 }
+    requires reports { length code.now.reports ≤ most_fields }
+    requires controls { length code.now.controls ≤ most_controls }
+    requires events { length code.now.events ≤ most_blocks }
+    requires instrs { length code.now.instrs ≤ most_instrs }
     ensures { result ≡ record { n1 = length code.now.reports; n2 = length code.now.controls; n3 = length code.now.events; n4 = length code.now.instrs } }
 {
     Counts {
@@ -111,7 +112,7 @@ fn put_body(out: &mut [u8], message: &Message, version: Version) -> usize
 pub fn encode_into(message: &Message, version: Version, out: &mut [u8]) -> Result<usize, Short>
     requires { Meets version message.now }
     ensures ok { IfOk result (λ size. (size ≡ length (frame_bytes version message.now)) × (out.new ≡ over (frame_bytes version message.now) out.old)) }
-    ensures frame { IsFrameOf message.now version (frame_bytes version message.now) }
+    ensures frame { IfOk result (λ size. IsFrameOf message.now version (take size out.new)) }
     ensures typed { OnOk result (IsTyped message.now) }
     ensures one_frame { OnOk result (HasOneFrame version message.now) }
     ensures short { IfErr result (λ short. short ≡ record { 0 = length (frame_bytes version message.now) }) }

@@ -1,15 +1,17 @@
 //! The bodies of frames, put at a place of bytes. Each call gives the place after what it put.
 
-ghost use Rattle.std.specs.Prelude.{◌≡◌, ◌+◌, ◌*◌, ◌^◌, ◌<◌, ◌≤◌, ◌∷◌, ◌++◌, length, take};
-ghost use Rattle.std.specs.Int.{w16, w32, w64, to_le_bytes};
+ghost use Rattle.std.specs.Prelude.{◌≡◌, ◌+◌, ◌-◌, ◌*◌, ◌^◌, ◌<◌, ◌≤◌, ◌∷◌, ◌++◌, length, take};
+ghost use Rattle.std.specs.Int.{w32, w64, to_le_bytes};
 ghost use Rattle.ccp_base.specs.Acknowledgement.{number_of, primitives};
-ghost use Rattle.reply_frames.specs.Spelling.{values_bytes};
-ghost use Rattle.reply_frames.specs.FrameBytes.{count_width, count_bytes, numbers_bytes};
+ghost use Rattle.reply_frames.specs.ValueBytes.{values_bytes};
+ghost use Rattle.reply_frames.specs.FrameBytes.{count_width, numbers_bytes, body_bytes};
 ghost use Rattle.reply_frames.specs.Writing.{Wrote};
-ghost use Rattle.ccp_messages.specs.Messages.{IsShortCount, fault_number, AreTypedPairs, IsTypedReport, IsTypedNotice, IsTypedAck};
+ghost use Rattle.ccp_base.specs.Limits.{primitive_count};
+ghost use Rattle.ccp_messages.specs.declared.message.Message.TheVariants as message;
+ghost use Rattle.ccp_messages.specs.Messages.{IsShortCount, body_of, fault_number, AreTypedPairs, IsTypedReport, IsTypedNotice, IsTypedAck};
 
-use crate::writing::{flag, put_count, put_numbers, put8, put16, put32, put64};
-use ccp_base::{Ack, FaultKind, Fields, Notice, Report};
+use crate::writing::{put_count, put_numbers, put8, put16, put32, put64};
+use ccp_base::{Ack, FaultKind, Fields, Notice, Report, bool_number, primitives};
 use reply_frames::Version;
 
 /// Puts the body of a Create.
@@ -28,7 +30,7 @@ pub fn put_measure(out: &mut [u8], at: usize, version: Version, report: Report) 
     requires first { IsShortCount version report.first }
     requires end { IsShortCount version report.end }
     ensures typed { IsTypedReport report }
-    ensures wrote { Wrote at (to_le_bytes w32 report.program ++ to_le_bytes w32 report.epoch ++ count_bytes version report.first ++ count_bytes version report.end ++ to_le_bytes w64 report.now ++ to_le_bytes w64 report.cwnd ++ to_le_bytes w64 report.rate ++ numbers_bytes report.fields) out.old out.new result }
+    ensures wrote { Wrote at (body_bytes version (body_of (message.Measure report))) out.old out.new result }
 {
     let end = put32(out, at, report.program);
     let end = put32(out, end, report.epoch);
@@ -76,7 +78,7 @@ pub fn put_fault(out: &mut [u8], at: usize, version: Version, notice: Notice) ->
     requires room { at + (27 + count_width version) ≤ length out.old }
     requires at { IsShortCount version notice.at }
     ensures typed { IsTypedNotice notice }
-    ensures wrote { Wrote at (to_le_bytes w32 notice.program ++ to_le_bytes w32 notice.epoch ++ count_bytes version notice.at ++ fault_number notice.kind ∷ to_le_bytes w16 notice.index ++ to_le_bytes w64 notice.now ++ to_le_bytes w64 notice.cwnd) out.old out.new result }
+    ensures wrote { Wrote at (body_bytes version (body_of (message.Fault notice))) out.old out.new result }
 {
     let end = put32(out, at, notice.program);
     let end = put32(out, end, notice.epoch);
@@ -91,26 +93,11 @@ pub fn put_fault(out: &mut [u8], at: usize, version: Version, notice: Notice) ->
 pub fn put_ack(out: &mut [u8], at: usize, ack: Ack) -> usize
     requires { at + 120 ≤ length out.old }
     ensures typed { IsTypedAck ack }
-    ensures wrote { Wrote at (numbers_bytes (take 14 (primitives ack)) ++ to_le_bytes w64 (number_of ack.was_timeout)) out.old out.new result }
+    ensures wrote { Wrote at (numbers_bytes (take (primitive_count - 1) (primitives ack)) ++ to_le_bytes w64 (number_of ack.was_timeout)) out.old out.new result }
 {
-    let numbers = [
-        ack.bytes_acked,
-        ack.packets_acked,
-        ack.bytes_misordered,
-        ack.packets_misordered,
-        ack.ecn_bytes,
-        ack.ecn_packets,
-        ack.lost_pkts_sample,
-        ack.now,
-        ack.bytes_in_flight,
-        ack.packets_in_flight,
-        ack.bytes_pending,
-        ack.rate_incoming,
-        ack.rate_outgoing,
-        ack.rtt_sample_us,
-    ];
-    let end = put_numbers(out, at, &numbers);
-    put64(out, end, u64::from(flag(ack.was_timeout)))
+    let numbers = primitives(&ack);
+    let end = put_numbers(out, at, &numbers[..14]);
+    put64(out, end, bool_number(ack.was_timeout))
 }
 
 /// Puts the body of a Refused.

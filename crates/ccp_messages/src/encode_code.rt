@@ -10,7 +10,7 @@ ghost use Rattle.ccp_messages.specs.Messages.{IsTypedStart, IsTypedEvent, IsType
 
 use crate::code_parts::{op_number, register_numbers};
 use crate::writing::{flag, put8, put16, put32, put64};
-use reg_code::{Code, Event, Instr, Reg, Start};
+use reg_code::{Code, Event, Instr, Packed, Reg, Start};
 
 /// Puts how a register starts.
 fn put_start(out: &mut [u8], at: usize, start: Start) -> usize
@@ -84,7 +84,7 @@ fn put_instr(out: &mut [u8], at: usize, instr: Instr) -> usize
 }
 
 /// Puts instructions, one after the other.
-fn put_instrs(out: &mut [u8], at: usize, instrs: &[Instr]) -> usize
+fn put_instrs(out: &mut [u8], at: usize, instrs: &[Packed]) -> usize
     requires { at + 28 * length instrs.now ≤ length out.old }
     ensures wrote { Wrote at (instrs_bytes instrs.now) out.old out.new result }
     ensures end { result ≡ at + 28 * length instrs.now }
@@ -92,7 +92,7 @@ fn put_instrs(out: &mut [u8], at: usize, instrs: &[Instr]) -> usize
 {
     let mut end = at;
     for instr in instrs {
-        end = put_instr(out, end, *instr);
+        end = put_instr(out, end, instr.instr());
     }
     end
 }

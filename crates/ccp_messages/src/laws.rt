@@ -1,4 +1,5 @@
-ghost use Rattle.ccp_messages.specs.Laws.{OneFrame, NoOther, PrefixFree, BothVersions, Needed};
+ghost use Rattle.ccp_messages.specs.Laws.{OneFrame, NoOther, BothVersions};
+ghost use Rattle.reply_frames.specs.Laws.{PrefixFree, Needed};
 
 /// The laws of messages and frames. For each version a message that meets the conditions of `encode_into` has exactly
 /// one frame of it, which is read as that message, and every other message has none. No frame is a proper prefix of

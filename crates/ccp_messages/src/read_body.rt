@@ -1,17 +1,18 @@
 //! Messages, read from the bodies of their frames.
 
-ghost use Rattle.std.specs.Prelude.{◌≡◌, ◌≤◌, length, OnOk};
+ghost use Rattle.std.specs.Prelude.{◌≡◌, ◌≤◌, length, OnOk, Err};
 ghost use Rattle.std.specs.Int.{w64};
+ghost use Rattle.ccp_base.specs.Limits.{most_fields, most_pairs};
 ghost use Rattle.reply_frames.specs.Kinds.{most_n1};
 ghost use Rattle.reply_frames.specs.Parts.{Gives, number_at, repeated_at};
 ghost use Rattle.reply_frames.specs.Frames.{create_at, measure_at, update_at, change_at, fault_at, ack_at, refused_at, body_at};
-ghost use Rattle.ccp_messages.specs.Messages.{fault_kind_of, ack_of, message_of};
+ghost use Rattle.ccp_messages.specs.Messages.{fault_kind_of, message_of};
 ghost use Rattle.ccp_messages.specs.Decoding.{Answers, made};
 
 use crate::fault::Halt;
 use crate::message::Message;
 use crate::read_code::install;
-use ccp_base::{Ack, FaultKind, Fields, Notice, Report, Values};
+use ccp_base::{FaultKind, Fields, Notice, Report, Values, ack_of};
 use reply_frames::bodies::count;
 use reply_frames::parts::{byte, limited, number16, number32, number64};
 use reply_frames::{BadKind, FrameKind, Outline, Stop, Version};
@@ -29,7 +30,7 @@ fn create(bytes: &[u8], flow: u32) -> Result<(Message, &[u8]), Stop>
 
 /// Reads so many numbers of eight bytes into `numbers`, in place of what it has, and gives the bytes after them.
 fn numbers<'a>(bytes: &'a [u8], count: u8, numbers: &mut Values) -> Result<&'a [u8], Stop>
-    requires { count ≤ 64 }
+    requires { count ≤ most_fields }
     ensures read { Gives (λ rest. (numbers.new, rest.now)) result (repeated_at (number_at w64) count bytes.now) }
     ensures counted { OnOk result (length numbers.new ≡ count) }
 {
@@ -46,7 +47,7 @@ fn numbers<'a>(bytes: &'a [u8], count: u8, numbers: &mut Values) -> Result<&'a [
 /// A Measure from its body, and the bytes after it.
 #[tactic(auto, unfolding(reply_frames::specs::Frames::measure_at))]
 fn measure(bytes: &[u8], version: Version, flow: u32, fields: u8) -> Result<(Message, &[u8]), Stop>
-    requires { fields ≤ 64 }
+    requires { fields ≤ most_fields }
     ensures { Gives (λ x. (x.0, x.1.now)) result (made (message_of flow) (measure_at version fields bytes.now)) }
 {
     let (program, rest) = number32(bytes)?;
@@ -74,7 +75,7 @@ fn measure(bytes: &[u8], version: Version, flow: u32, fields: u8) -> Result<(Mes
 
 /// An Update from its body, and the bytes after it.
 fn update(bytes: &[u8], flow: u32, count: u8) -> Result<(Message, &[u8]), Stop>
-    requires { count ≤ 66 }
+    requires { count ≤ most_pairs }
     ensures { Gives (λ x. (x.0, x.1.now)) result (made (message_of flow) (update_at count bytes.now)) }
 {
     let mut values = Fields::new();
@@ -84,7 +85,7 @@ fn update(bytes: &[u8], flow: u32, count: u8) -> Result<(Message, &[u8]), Stop>
 
 /// A Change from its body, and the bytes after it.
 fn change(bytes: &[u8], flow: u32, count: u8) -> Result<(Message, &[u8]), Stop>
-    requires { count ≤ 66 }
+    requires { count ≤ most_pairs }
     ensures { Gives (λ x. (x.0, x.1.now)) result (made (message_of flow) (change_at count bytes.now)) }
 {
     let mut values = Fields::new();
@@ -136,30 +137,6 @@ fn fault(bytes: &[u8], version: Version, flow: u32) -> Result<(Message, &[u8]), 
     Ok((Message::Fault(notice), rest))
 }
 
-/// The acknowledgement with these fourteen primitives, in their order, and the last one.
-fn acknowledgement(numbers: &[u64], was_timeout: bool) -> Ack
-    requires { length numbers.now ≡ 14 }
-    ensures { result ≡ record (ack_of numbers.now 0) { was_timeout = was_timeout } }
-{
-    Ack {
-        bytes_acked: numbers[0],
-        packets_acked: numbers[1],
-        bytes_misordered: numbers[2],
-        packets_misordered: numbers[3],
-        ecn_bytes: numbers[4],
-        ecn_packets: numbers[5],
-        lost_pkts_sample: numbers[6],
-        now: numbers[7],
-        bytes_in_flight: numbers[8],
-        packets_in_flight: numbers[9],
-        bytes_pending: numbers[10],
-        rate_incoming: numbers[11],
-        rate_outgoing: numbers[12],
-        rtt_sample_us: numbers[13],
-        was_timeout,
-    }
-}
-
 /// An Ack from its body, and the bytes after it.
 #[tactic(auto, unfolding(reply_frames::specs::Frames::ack_at))]
 fn ack(bytes: &[u8], flow: u32) -> Result<(Message, &[u8]), Stop>
@@ -168,7 +145,8 @@ fn ack(bytes: &[u8], flow: u32) -> Result<(Message, &[u8]), Stop>
     let mut primitives = Values::new();
     let rest = numbers(bytes, 14, &mut primitives)?;
     let (was_timeout, rest) = limited(rest, BadKind::Flag, 8, 1)?;
-    let ack = acknowledgement(primitives.as_slice(), was_timeout == 1);
+    primitives.push(was_timeout);
+    let ack = ack_of(primitives.as_slice());
     Ok((Message::Ack { flow, ack }, rest))
 }
 
@@ -192,7 +170,8 @@ fn refused(bytes: &[u8], flow: u32) -> Result<(Message, &[u8]), Stop>
 /// The message of a frame with this head, from its body, and the bytes after it.
 pub fn body(alloc: Global, bytes: &[u8], head: Outline) -> Result<(Message, &[u8]), Halt>
     requires { head.counts.n1 ≤ most_n1 head.kind head.version }
-    ensures { Answers (λ x. (x.0, x.1.now)) result (made (message_of head.flow) (body_at head.kind head.version head.counts bytes.now)) }
+    ensures read { Answers (λ x. (x.0, x.1.now)) result (made (message_of head.flow) (body_at head.kind head.version head.counts bytes.now)) }
+    ensures memory { result ≡ Err Halt.NoMemory → head.kind ≡ FrameKind.Install }
 {
     let first = head.counts.n1;
     match head.kind {

@@ -8,7 +8,7 @@ ghost use Rattle.ccp_messages.specs.Decoding.{Answers, made, code_start_at, code
 use crate::code_parts::{numbered_op, numbered_reg};
 use crate::fault::Halt;
 use crate::message::Message;
-use reg_code::{Code, Event, Instr, Reg, Sequence, Start};
+use reg_code::{Code, Event, Instr, Packed, Reg, Sequence, Start};
 use reply_frames::bodies::register;
 use reply_frames::parts::{byte, number16, number32, number64};
 use reply_frames::{BadKind, Counts, Stop};
@@ -93,14 +93,14 @@ fn events(alloc: Global, bytes: &[u8], count: u16) -> Result<(Sequence<Event>, &
 }
 
 /// So many instructions, and the bytes after them.
-fn instrs(alloc: Global, bytes: &[u8], count: u16) -> Result<(Sequence<Instr>, &[u8]), Halt>
+fn instrs(alloc: Global, bytes: &[u8], count: u16) -> Result<(Sequence<Packed>, &[u8]), Halt>
     ensures { Answers (λ x. (x.0, x.1.now)) result (repeated_at code_instr_at count bytes.now) }
 {
     let mut items = Sequence::from_vec(Vec::with_capacity(alloc, count as usize)?);
     let mut rest = bytes;
     for _ in 0..count {
         let (item, after) = instr(rest)?;
-        items.push(item)?;
+        items.push(Packed::new(item))?;
         rest = after;
     }
     Ok((items, rest))

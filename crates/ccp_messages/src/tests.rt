@@ -342,8 +342,8 @@ fn is_the_code(rt: &impl Abort, code: &Code) {
     assert!(rt; code.controls.is_empty());
     assert_eq!(rt; code.events.as_slice(), [event].as_slice());
     assert_eq!(rt; code.instrs.len(), 2);
-    assert_eq!(rt; code.instrs.as_slice()[0], binds(Implicit::Flag));
-    assert_eq!(rt; code.instrs.as_slice()[1], binds(Implicit::Send));
+    assert_eq!(rt; code.instrs.as_slice()[0].instr(), binds(Implicit::Flag));
+    assert_eq!(rt; code.instrs.as_slice()[1].instr(), binds(Implicit::Send));
 }
 
 /// A code is read whole, from the first of two frames.
@@ -367,6 +367,22 @@ fn a_code_is_read(rt: HostRuntime) {
     is_the_code(&rt, code);
     assert_eq!(rt; version, Version::One);
     assert_eq!(rt; used, 89);
+}
+
+/// The longest frame: an Install with as many registers, events and instructions as there may be, each byte after its
+/// head 0.
+#[test]
+fn the_largest_code_is_read(rt: HostRuntime) {
+    let mut frame = [0; 8596];
+    frame[..8].copy_from_slice(&[3, 2, 64, 64, 64, 0, 0, 1]);
+    frame[12..14].copy_from_slice(&[0x94, 0x21]);
+    let Ok((message, _, used)) = decode(rt.alloc(), &frame) else {
+        panic!(rt; "not read");
+    };
+    assert_eq!(rt; used, 8596);
+    let mut out = [7; 8596];
+    assert_eq!(rt; encode_into(&message, Version::Two, &mut out), Ok(8596));
+    assert_eq!(rt; out.as_slice(), frame.as_slice());
 }
 
 /// An implicit register becomes 1.

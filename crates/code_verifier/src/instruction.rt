@@ -1,5 +1,5 @@
 ghost use Rattle.std.specs.Prelude.{◌≡◌, ◌&&◌, not, IsTrue, IfNone};
-ghost use Rattle.reg_code.specs.AcceptedCode.{rule_where, is_there, is_readable, unwritten, unwritten_target, is_bind, is_ewma, is_zero, is_weight, is_fixed, is_micros, is_flag, is_temp, is_in_condition, is_misplaced, rule_failed};
+ghost use Rattle.reg_code.specs.AcceptedCode.{rule_where, is_there, are_there, is_readable, unwritten, unwritten_target, is_bind, is_ewma, is_zero, is_weight, is_fixed, is_micros, is_flag, is_temp, is_in_condition, is_misplaced, rule_failed};
 ghost use Rattle.code_verifier.specs.Marked.{marks_of};
 
 use crate::tables::{Tables, has_mark, writes};
@@ -34,7 +34,7 @@ fn rule_where(fails: bool, rule: Rule) -> Option<Rule>
 
 /// Whether one of its registers isn't there.
 fn is_outside(sizes: Sizes, instr: &Instr) -> bool
-    ensures { result ≡ not (is_there sizes instr.now.left && is_there sizes instr.now.right && is_there sizes instr.now.to) }
+    ensures { result ≡ not (are_there sizes instr.now) }
 {
     !(is_there(sizes, instr.left) && is_there(sizes, instr.right) && is_there(sizes, instr.to))
 }

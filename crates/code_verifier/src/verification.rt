@@ -1,12 +1,15 @@
 ghost use Rattle.std.specs.Prelude.{◌≡◌, ◌+◌, ◌<◌, ◌≤◌, ◌^◌, ◌↔◌, Some, None, IsOk, IfOk, IfErr, IfNone, length, take, drop};
 ghost use Rattle.std.specs.Option.{option_or};
+ghost use Rattle.ccp_base.specs.Limits.{most_blocks, most_instrs};
 ghost use Rattle.reg_code.specs.CodeStep.{condition_of, body_of, rest_of};
 ghost use Rattle.reg_code.specs.AcceptedCode.{IsAccepted, refusal_where, no_marks, marks_after, part_refusal, instrs_refusal, events_refusal, counts_refusal, sizes_of, rejected};
 ghost use Rattle.code_verifier.specs.Marked.{marks_of};
 
 use crate::instruction::rule_failed;
 use crate::tables::{Tables, mark, no_tables};
-use reg_code::{CONTROLS, Checked, Code, EVENTS, Event, FIELDS, INSTRS, Instr, Part, Rule, Sizes};
+use reg_code::{
+    CONTROLS, Checked, Code, EVENTS, Event, FIELDS, INSTRS, Packed, Part, Rule, Sizes,
+};
 
 /// A code that isn't accepted.
 #[derive(Debug, Drop)]
@@ -48,8 +51,8 @@ fn refusal(code: &Code) -> Option<(Rule, u32)>
 
 fn counts_refusal(code: &Code) -> Option<(Rule, u32)>
     ensures refusal { result ≡ counts_refusal code.now }
-    ensures events { IfNone result (length code.now.events ≤ EVENTS) }
-    ensures instrs { IfNone result (length code.now.instrs ≤ INSTRS) }
+    ensures events { IfNone result (length code.now.events ≤ most_blocks) }
+    ensures instrs { IfNone result (length code.now.instrs ≤ most_instrs) }
 {
     refusal_where(code.reports.len() > FIELDS as usize, Rule::Counts, 0)
         .or(refusal_where(code.controls.len() > CONTROLS, Rule::Counts, 1))
@@ -74,7 +77,7 @@ fn sizes_of(code: &Code) -> Sizes
 
 /// The first event without a condition or with more instructions than are left, or else that some are left.
 fn events_refusal(events: &[Event], instrs: usize) -> Option<(Rule, u32)>
-    requires { length events.now ≤ EVENTS }
+    requires { length events.now ≤ most_blocks }
     ensures { result ≡ events_refusal events.now 0 instrs }
 {
     let mut left = instrs;
@@ -89,9 +92,9 @@ fn events_refusal(events: &[Event], instrs: usize) -> Option<(Rule, u32)>
 }
 
 /// The first refusal among the instructions, which are those of the events.
-fn instrs_refusal(sizes: Sizes, events: &[Event], instrs: &[Instr]) -> Option<(Rule, u32)>
-    requires events { length events.now ≤ EVENTS }
-    requires instrs { length instrs.now ≤ INSTRS }
+fn instrs_refusal(sizes: Sizes, events: &[Event], instrs: &[Packed]) -> Option<(Rule, u32)>
+    requires events { length events.now ≤ most_blocks }
+    requires instrs { length instrs.now ≤ most_instrs }
     ensures { result ≡ instrs_refusal sizes events.now 0 instrs.now }
 {
     let mut left = instrs;
@@ -110,7 +113,7 @@ fn instrs_refusal(sizes: Sizes, events: &[Event], instrs: &[Instr]) -> Option<(R
 }
 
 /// The first instructions, at most this many, and the others.
-fn split_front(instrs: &[Instr], count: u16) -> (&[Instr], &[Instr])
+fn split_front(instrs: &[Packed], count: u16) -> (&[Packed], &[Packed])
     ensures front { result.0.now ≡ take count instrs.now }
     ensures rest { result.1.now ≡ drop count instrs.now }
 {
@@ -122,8 +125,8 @@ fn event_refusal(
     sizes: Sizes,
     index: u32,
     body_index: u32,
-    condition: &[Instr],
-    body: &[Instr],
+    condition: &[Packed],
+    body: &[Packed],
 ) -> Option<(Rule, u32)>
     requires condition { index + length condition.now < 2 ^ 32 }
     requires body { body_index + length body.now < 2 ^ 32 }
@@ -142,7 +145,7 @@ fn part_refusal(
     part: Part,
     first: u32,
     tables: &mut Tables,
-    instrs: &[Instr],
+    instrs: &[Packed],
 ) -> Option<(Rule, u32)>
     requires { first + length instrs.now < 2 ^ 32 }
     ensures refusal { result ≡ part_refusal sizes part first (marks_of tables.old) instrs.now }
@@ -151,10 +154,11 @@ fn part_refusal(
     let mut index = first;
     let mut left = instrs;
     while let Some((instr, rest)) = left.split_first() {
-        if let Some(rule) = rule_failed(sizes, part, rest.is_empty(), tables, instr) {
+        let instr = instr.instr();
+        if let Some(rule) = rule_failed(sizes, part, rest.is_empty(), tables, &instr) {
             return Some((rule, index));
         }
-        mark(tables, sizes, instr);
+        mark(tables, sizes, &instr);
         index += 1;
         left = rest;
     }
@@ -164,7 +168,7 @@ fn part_refusal(
 #[cfg(test)]
 mod tests {
     use super::*;
-    use reg_code::{Implicit, Op, Reg, Sequence, Start};
+    use reg_code::{Implicit, Instr, Op, Reg, Sequence, Start, pack_all};
     use std::alloc::{AllocError, Global};
     use std::test::Fail;
 
@@ -212,7 +216,7 @@ mod tests {
             reports: starts(alloc, sizes.0)?,
             controls: starts(alloc, sizes.1)?,
             events: Sequence::from_vec(Vec::from_slice(alloc, events)?),
-            instrs: Sequence::from_vec(Vec::from_slice(alloc, instrs)?),
+            instrs: pack_all(alloc, instrs)?,
         };
         Ok(match verify(code) {
             Ok(_) => None,
@@ -418,7 +422,7 @@ mod tests {
         assert_eq!(rt; checked.copy(alloc)?.code().controls.len(), 2);
         let longer = Code {
             events: Sequence::new(alloc),
-            instrs: Sequence::from_vec(Vec::from_slice(alloc, &[bind(FLAG, ONE)])?),
+            instrs: pack_all(alloc, &[bind(FLAG, ONE)])?,
             reports: starts(alloc, 3)?,
             controls: starts(alloc, 0)?,
         };

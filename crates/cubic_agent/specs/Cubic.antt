@@ -1,6 +1,26 @@
--- CUBIC, by RFC 9438, section 4. It differs from the RFC in three points: it is worked out once per report, not
--- once per acknowledgement; numbers are whole and quotients are cut; and a mark is answered as a loss without
--- lost packets. Windows are in thousandths of a segment where nothing else is said; beta is 0.7, alpha 9/17.
+-- CUBIC, by RFC 9438, once per report, in whole numbers. Windows are in thousandths of a segment where nothing else
+-- is said, caps and thresholds in bytes, the curve's times in milliseconds, all others in microseconds.
+--
+-- What is taken from the RFC, with C 0.4, beta 0.7 and alpha 9/17:
+-- - W_cubic and K (section 4.2), and the target from the window to half as much again;
+-- - W_est, whose alpha is 1 once it has reached cwnd_prior (4.3); the window is W_est where the curve is below it;
+-- - growth by the target's distance times what was acknowledged over the window (4.4, 4.5);
+-- - a decrease to beta of the window, and the threshold with it, at least 2 segments (4.6); fast convergence (4.7);
+-- - one segment and slow start after a timeout, and K = 0 with W_max and W_est the window where avoidance begins
+--   after it (4.8); the initial window of 2, 3 or 4 segments.
+--
+-- What is this project's own:
+-- - one step per report with the bytes of the whole report, and not per acknowledgement; quotients are cut;
+-- - sums and products stop at 2^64-1, windows and W_est at 4,096 segments, the distance from K at 1,000 seconds;
+-- - the threshold is beta of the window, and not of the flight;
+-- - a mark is answered as a loss without lost packets, so it too leaves at least 2 segments;
+-- - loss events are told apart by time: what is lost or marked within one round-trip time of the last event belongs
+--   to it; a timeout ends that time;
+-- - each timeout works the threshold out anew, and none is taken back as spurious;
+-- - the datapath's program moves the window in slow start, up to the cap that a change names, without HyStart;
+-- - slow start that ends without a loss begins the curve as after a timeout, and cwnd_prior stays as it was;
+-- - a fault of that program is answered by starting it anew with the agent's window, and what is told of another
+--   epoch is passed over.
 use Rattle.std.specs.Prelude.{ℕ, ◌-◌, ◌/◌, ◌^◌, ◌≤◌, ◌==◌, ◌||◌, nat_lt, nat_le, min, max, if◌then◌else◌}
 use Rattle.ccp_base.specs.Saturating.{◌+ˢ◌, ◌*ˢ◌, muldiv, held}
 use Rattle.ccp_base.specs.Reading.{reading_of}
@@ -98,7 +118,7 @@ after_loss r s =
     )
 
 -- slow start ends where the window has reached the threshold; the curve then starts at its middle
--- (RFC 9438, section 4.10)
+-- (RFC 9438, section 4.8)
 abbrev pub in_slow_start : Reading → CubicState → Turn
 in_slow_start r s =
     if nat_le s.ssthresh r.cwnd then (

@@ -214,7 +214,7 @@ impl Cubic {
     }
 
     /// Slow start ends where the window has reached the threshold; the curve then starts at its middle
-    /// (RFC 9438, section 4.10).
+    /// (RFC 9438, section 4.8).
     fn in_slow_start(&mut self, reading: Reading) -> Reply
         ensures { (self.new, result) ≡ in_slow_start reading self.old }
     {

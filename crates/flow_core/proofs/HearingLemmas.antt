@@ -7,7 +7,7 @@ use Rattle.ccp_base.specs.declared.arithmetic.FaultKind.{FaultKind}
 use Rattle.ccp_base.specs.declared.exchange.Report.{Report}
 use Rattle.portus_core.specs.declared.env.Env.{Env}
 use Rattle.portus_core.specs.Epoch.{Outcome, Track, acknowledged, heard, stops, after_outcome}
-use Rattle.portus_core.specs.EventLaws.{after-append}
+use Rattle.portus_core.proofs.EventLaws.{after-append}
 use Rattle.portus_core.specs.Reports.{Epoch, reports_met}
 use Rattle.reg_code.specs.declared.code.Code.{Code}
 use Rattle.fold_machine.specs.declared.acked.Acked.{Acked}

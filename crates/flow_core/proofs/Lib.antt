@@ -14,3 +14,4 @@ pub mod SettlingLemmas
 pub mod OpeningLemmas
 pub mod CoreLemmas
 pub mod CellLemmas
+pub mod WorkedText

@@ -13,7 +13,7 @@ use Rattle.portus_core.specs.declared.env.Env.{Env}
 use Rattle.portus_core.specs.Programs.{Form}
 use Rattle.portus_core.specs.Value.{Cause}
 use Rattle.portus_core.specs.OneAcknowledgement.{IsEnvOf}
-use Rattle.portus_core.specs.EnvShapes.{IsEnvOf-declared_env, IsEnvOf-with_values}
+use Rattle.portus_core.proofs.EnvShapes.{IsEnvOf-declared_env, IsEnvOf-with_values}
 use Rattle.portus_core.specs.Epoch.{Outcome, Track, track_at, heard, with_values}
 use Rattle.portus_core.specs.Reports.{Epoch}
 use Rattle.reg_compiler.specs.Simulation.{Simulates}

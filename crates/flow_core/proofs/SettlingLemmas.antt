@@ -8,7 +8,7 @@ use Rattle.ccp_base.specs.declared.exchange.Reply.{Reply}
 use Rattle.ccp_base.specs.declared.exchange.Reply.TheVariants.{Nothing, Update, Change}
 use Rattle.portus_core.specs.Epoch as epoch
 use Rattle.portus_core.specs.Epoch.{Event, updated, Track}
-use Rattle.portus_core.specs.EventLaws.{after-append}
+use Rattle.portus_core.proofs.EventLaws.{after-append}
 use Rattle.reg_code.specs.CodeStart.{with_values, declared_kept}
 use Rattle.fold_machine.specs.MachineState.{MachineState, Fits}
 use Rattle.slot_pool.specs.Pool.{PoolState, free_of}

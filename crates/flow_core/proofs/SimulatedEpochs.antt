@@ -12,7 +12,7 @@ use Rattle.portus_core.specs.declared.program.Decl.{Decl}
 use Rattle.portus_core.specs.Programs.{Form}
 use Rattle.portus_core.specs.Value.{Cause}
 use Rattle.portus_core.specs.OneAcknowledgement.{IsEnvOf}
-use Rattle.portus_core.specs.EnvShapes.{IsEnvOf-one_of, IsEnvOf-with_values}
+use Rattle.portus_core.proofs.EnvShapes.{IsEnvOf-one_of, IsEnvOf-with_values}
 use Rattle.portus_core.specs.Epoch as epoch
 use Rattle.portus_core.specs.Epoch.{Event, acknowledged, updated, Outcome, quiet, reported, held, failed, stopped, Track, Reading, by_source, declared_env, heard, stops, next_first, after_outcome, after_event, after}
 use Rattle.reg_code.specs.declared.code.Code.{Code}

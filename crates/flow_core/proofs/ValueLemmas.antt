@@ -12,7 +12,8 @@ use Rattle.ccp_base.specs.declared.exchange.Reply.{Reply}
 use Rattle.ccp_base.specs.declared.exchange.Reply.TheVariants.{Nothing, Update, Change}
 use Rattle.portus_core.specs.Epoch as epoch
 use Rattle.reg_code.specs.CodeStep.{Kept}
-use Rattle.reg_code.specs.CodeStart.{with_value, with_values, is_bad, first_bad}
+use Rattle.ccp_base.specs.FieldReg.{is_bad, first_bad}
+use Rattle.reg_code.specs.CodeStart.{with_value, with_values}
 use Rattle.agent_core.specs.declared.agent.Agent.{Agent}
 use Rattle.agent_core.specs.Agents.{course_of, cap_of, segment_of, mss_of, window_pair, control_pair, values_of}
 use Rattle.agent_core.specs.RoleLaws.{AreRoles}

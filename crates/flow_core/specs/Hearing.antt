@@ -1,5 +1,6 @@
 -- How what comes of an acknowledgement is put down.
 use Rattle.std.specs.Prelude.{◌≡◌, ℕ, ◌+◌, ◌-◌, ◌<◌, ◌≤◌, Option, option_map, List, ◌++◌, length, map}
+use Rattle.ccp_base.specs.Limits.{most_acks}
 use Rattle.ccp_base.specs.declared.ack.Ack.{Ack}
 use Rattle.ccp_base.specs.declared.arithmetic.FaultKind.{FaultKind}
 use Rattle.ccp_base.specs.declared.exchange.Report.{Report}
@@ -27,9 +28,9 @@ failures_of s ack met = failures_met s.program (epoch_of s) (length s.acks.items
 -- the epochs and the counts are in range, and there is room for a fault
 pub record CanHear (s : State) : Type 0 where
   pub epochs : 1 ≤ length s.epochs.items
-  pub epochs_most : length s.epochs.items ≤ 65537
-  pub acks : length s.acks.items < 65536
-  pub held : s.held < 65536
+  pub epochs_most : length s.epochs.items ≤ most_acks + 1
+  pub acks : length s.acks.items < most_acks
+  pub held : s.held < most_acks
   pub faults : length s.faults.items < s.faults.room
   pub words : s.machine.further.words ≡ 160
   pub owned : AreOwned s.machine.further s.outbox.slots

@@ -14,3 +14,4 @@ pub mod States
 pub mod Hearing
 pub mod Settling
 pub mod Cells
+pub mod LiveText

@@ -1,5 +1,6 @@
 -- What a contract sees of an outbox, and how waiting reports lie in slots.
 use Rattle.std.specs.Prelude.{◌≡◌, ◌≢◌, ℕ, ◌-◌, ◌^◌, ◌<◌, ◌≤◌, List, [], ◌∷◌, ◌++◌, length, take, slice_index, Option, Some, None, option_map}
+use Rattle.ccp_base.specs.Limits.{most_fields}
 use Rattle.ccp_base.specs.declared.exchange.Notice.{Notice}
 use Rattle.ccp_base.specs.declared.exchange.Report.{Report}
 use Rattle.ccp_base.specs.declared.exchange.Told.{Told}
@@ -17,6 +18,10 @@ abbrev pub empty_outbox : ℕ → OutboxState
 empty_outbox size = record { slots = []; untold = None; size = size }
 
 -- ---- reports in slots
+
+-- the words of a slot that any report fits in
+abbrev pub slot_words : ℕ
+slot_words = 80
 
 -- the numbers of a report, and how many fields it has
 abbrev pub report_head : Report → List ℕ
@@ -41,7 +46,7 @@ pub record IsInRange (report : Report) : Type 0 where
   pub flow : report.flow < 2 ^ 32
   pub program : report.program < 2 ^ 32
   pub epoch : report.epoch < 2 ^ 32
-  pub fields : length report.fields ≤ 64
+  pub fields : length report.fields ≤ most_fields
 
 -- the slot is out, and its words begin with the report's
 pub record Holds (pool : PoolState) (slot : ℕ) (report : Report) : Type 0 where
@@ -64,6 +69,11 @@ AreOther slot (other ∷ rest) = (other ≢ slot) × AreOther slot rest
 abbrev pub AreOwned : PoolState → List ℕ → Type 0
 AreOwned pool [] = Unit {0}
 AreOwned pool (slot ∷ rest) = IsOut pool slot × (AreOther slot rest × AreOwned pool rest)
+
+-- where a report waits, its slot has the words that any report fits in
+abbrev pub AreWide : PoolState → List ℕ → Type 0
+AreWide pool [] = Unit {0}
+AreWide pool (slot ∷ rest) = slot_words ≤ pool.words
 
 -- each waiting report has a slot of its own that is out and whose words begin with the report's
 pub record Lies (pool : PoolState) (slots : List ℕ) (reports : List Report) : Type 0 where

@@ -3,7 +3,7 @@ use Rattle.std.specs.Prelude.{◌≡◌, ℕ, None, List, [], ◌∷◌, ◌++�
 use Rattle.ccp_base.specs.declared.exchange.Reply.{Reply}
 use Rattle.ccp_base.specs.declared.exchange.Reply.TheVariants.{Nothing, Update, Change}
 use Rattle.ccp_base.specs.FieldReg.{Pair}
-use Rattle.reg_code.specs.CodeStart.{first_bad}
+use Rattle.ccp_base.specs.FieldReg.{first_bad}
 use Rattle.fold_machine.specs.MachineState.{Fits}
 use Rattle.fold_machine.specs.Heard.{started_by, updated_by}
 use Rattle.flow_core.specs.declared.case.Case.{Case}

@@ -1,11 +1,12 @@
 ghost use Rattle.std.specs.Prelude.{◌≡◌, ◌≤◌, ◌↔◌, IsTrue, IfOk, length};
+ghost use Rattle.ccp_base.specs.Limits.{most_acks, most_slots, most_lag};
 ghost use Rattle.agent_core.specs.Agents.{course_of};
 ghost use Rattle.flow_core.specs.Cases.{KeepsWithin, AreOne};
 
 use agent_core::{Agent, same_role};
 use ccp_base::{Name, NoMemory, Role};
 use link_model::LinkCase;
-use reg_code::{Checked, Code, Event, Instr, Start};
+use reg_code::{Checked, Code, Event, Instr, Packed, Start};
 use std::alloc::Global;
 
 /// A program as an agent's role has it: its number, where it keeps what the agent reads and writes, and its code.
@@ -49,10 +50,28 @@ fn same_events(these: &[Event], others: &[Event]) -> bool
     these == others
 }
 
-fn same_instrs(these: &[Instr], others: &[Instr]) -> bool
+fn same_instrs(these: &[Packed], others: &[Packed]) -> bool
     ensures { IsTrue result ↔ (these.now ≡ others.now) }
 {
-    these == others
+    let mut left = these;
+    let mut right = others;
+    while let Some((first, rest)) = left.split_first() {
+        let Some((other, after)) = right.split_first() else {
+            return false;
+        };
+        if !same_instr(&first.instr(), &other.instr()) {
+            return false;
+        }
+        left = rest;
+        right = after;
+    }
+    right.is_empty()
+}
+
+fn same_instr(this: &Instr, other: &Instr) -> bool
+    ensures { IsTrue result ↔ (this.now ≡ other.now) }
+{
+    this == other
 }
 
 /// Whether two codes are equal.
@@ -106,9 +125,9 @@ pub struct Case {
     pub ghost ss_within: { KeepsWithin ss.role.look ss.code.code },
     pub ghost ca_within: { KeepsWithin ca.role.look ca.code.code },
     pub ghost one: { AreOne ss ca },
-    pub ghost acks_within: { acks ≤ 65536 },
-    pub ghost slots_within: { (1 ≤ slots) × (slots ≤ 64) },
-    pub ghost lag_within: { lag ≤ 1000 },
+    pub ghost acks_within: { acks ≤ most_acks },
+    pub ghost slots_within: { (1 ≤ slots) × (slots ≤ most_slots) },
+    pub ghost lag_within: { lag ≤ most_lag },
 }
 
 impl Case {

@@ -71,7 +71,7 @@ impl Cell {
     /// Takes the oldest report, or else the untold fault notice, as a ticket. NotYet exactly where no ticket is out and
     /// nothing can be taken, Out exactly where that ticket is out; nothing has changed then, nor for want of memory.
     /// What the answer's settling needs is reserved here.
-    pub fn take(&mut self) -> Result<Ticket, TakeFault>
+    pub fn take(&mut self, alloc: Global) -> Result<Ticket, TakeFault>
         ensures not_yet { (result ≡ Err TakeFault.NotYet) ↔ (is_still (world_at self.old) ≡ true) }
         ensures out { (n : ℕ) → (result ≡ Err (TakeFault.Out n)) ↔ (out_number_at self.old ≡ Some n) }
         ensures ok { OnOk result (self.new ≡ record self.old { word = self.old.word ++ Letter.T ∷ [] }) }
@@ -79,7 +79,7 @@ impl Cell {
         ensures ticket { IfOk result (λ ticket. out_at self.new ≡ Some ticket) }
         ensures unchanged { OnErr result (self.new ≡ self.old) }
     {
-        self.core.take()
+        self.core.take(alloc)
     }
 
     /// Applies the answer to the ticket that is out. Stale exactly where the answer's ticket isn't that one; then nothing
@@ -118,9 +118,11 @@ impl Cell {
         self.core.waiting()
     }
 
-    /// The flow's case. For all programs that its codes simulate, the flow's state is the one over these sources.
+    /// The flow's case, for which each letter of the word is legal at its point. For all programs that its codes
+    /// simulate, the flow's state is the one over these sources.
     pub fn case(&self) -> &Case
         ensures case { result.now ≡ self.now.case }
+        ensures legal { legal (flow_at self.now) self.now.case.link self.now.word ≡ true }
         ensures lifted { IsLifted self.now }
     {
         self.core.case()

@@ -97,7 +97,7 @@ impl Core {
     /// Takes the oldest report, or else the untold fault notice, as a ticket. NotYet exactly where no ticket is out and
     /// nothing can be taken, Out exactly where that ticket is out; nothing has changed then, nor for want of memory.
     /// What the answer's settling needs is reserved here.
-    pub fn take(&mut self) -> Result<Ticket, TakeFault>
+    pub fn take(&mut self, _alloc: Global) -> Result<Ticket, TakeFault>
         ensures not_yet { (result ≡ Err TakeFault.NotYet) ↔ (is_still (world_in self.old) ≡ true) }
         ensures out { (n : ℕ) → (result ≡ Err (TakeFault.Out n)) ↔ (out_number self.old ≡ Some n) }
         ensures ok { OnOk result (self.new ≡ record self.old { word = self.old.word ++ Letter.T ∷ [] }) }
@@ -177,9 +177,10 @@ impl Core {
         self.state.out.is_none() && !self.state.can_take()
     }
 
-    /// The flow's case.
+    /// The flow's case, for which each letter of the word is legal at its point.
     pub fn case(&self) -> &Case
-        ensures { result.now ≡ self.now.case }
+        ensures case { result.now ≡ self.now.case }
+        ensures legal { legal_over (flow_in self.now) self.now.acks self.now.word ≡ true }
     {
         &self.state.case
     }

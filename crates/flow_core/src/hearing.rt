@@ -1,5 +1,6 @@
 //! An acknowledgement: it is run, and what comes of it is put down.
 ghost use Rattle.std.specs.Prelude.{◌≡◌, ◌+◌, ◌-◌, ◌<◌, ◌≤◌, length, ◌∷◌, [], ◌++◌};
+ghost use Rattle.ccp_base.specs.Limits.{most_acks};
 ghost use Rattle.portus_core.specs.Epoch.{heard, stops, reported, failed};
 ghost use Rattle.fold_machine.specs.MachineState.{Fits};
 ghost use Rattle.slot_pool.specs.Pool.{free_of};
@@ -74,7 +75,7 @@ impl State {
     /// The present epoch's number.
     fn epoch(&self) -> u32
         requires some { 1 ≤ length self.now.epochs.items }
-        requires most { length self.now.epochs.items ≤ 65537 }
+        requires most { length self.now.epochs.items ≤ most_acks + 1 }
         ensures { result ≡ epoch_of self.now }
     {
         (self.epochs.len() - 1) as u32

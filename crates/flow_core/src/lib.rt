@@ -5,8 +5,6 @@ mod book;
 mod case;
 mod cell;
 mod cores;
-#[cfg(test)]
-mod flow_tests;
 mod hearing;
 mod letter;
 mod opening;

@@ -8,12 +8,19 @@ ghost use Rattle.flow_core.specs.States.{IsCore};
 
 use crate::book::EpochLine;
 use crate::case::Case;
+use crate::letter::Letter;
 use crate::outbox::Outbox;
 use crate::roomy::Roomy;
 use crate::state::State;
-use ccp_base::NoMemory;
+use ccp_base::{Ack, NoMemory, Notice};
 use fold_machine::Machine;
 use std::alloc::Global;
+use std::mem::size_of;
+
+/// How many bytes are reserved for each acknowledgement: itself, a fault, and its three letters.
+const BYTES_PER_ACK: usize = size_of::<Ack>() + size_of::<Notice>() + 3 * size_of::<Letter>();
+
+const _: () = prove!(BYTES_PER_ACK <= 200);
 
 /// The machine of a case, which runs the program of the agent's opening change.
 fn opening_machine(alloc: Global, case: &Case, program: u32) -> Result<Machine, NoMemory>

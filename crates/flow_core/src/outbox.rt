@@ -1,9 +1,10 @@
 ghost use Rattle.std.specs.Prelude.{◌≡◌, ◌+◌, ◌<◌, ◌≤◌, ◌↔◌, nat_lt, List, [], ◌∷◌, ◌++◌, length, drop, None, Some, IsNone, IsTrue, IfOk};
+ghost use Rattle.ccp_base.specs.Limits.{most_slots};
 ghost use Rattle.ccp_base.specs.declared.exchange.Report.{Report};
 ghost use Rattle.slot_pool.specs.Pool.{words_at, free_of, ChangesSlot};
-ghost use Rattle.flow_core.specs.Outbox.{empty_outbox, AreOwned, Lies, newest, GivesFirst, next_told, untold_after};
+ghost use Rattle.flow_core.specs.Outbox.{empty_outbox, slot_words, AreOwned, AreWide, Lies, newest, GivesFirst, next_told, untold_after};
 
-use crate::report_words::{REPORT_WORDS, store, unload};
+use crate::report_words::{store, unload};
 use ccp_base::{NoMemory, Notice, Report, Told};
 use circular_buffer::HeapCircularBuffer;
 use slot_pool::{Slot, Slots};
@@ -20,19 +21,20 @@ pub struct Outbox {
 
 impl Model for Outbox {
     ghost use Rattle.std.specs.Prelude.{◌≤◌};
+    ghost use Rattle.ccp_base.specs.Limits.{most_slots};
     ghost use Rattle.flow_core.specs.Outbox.{OutboxState};
 
     ghost Value = { OutboxState };
 
     ghost view = { λ o. record { slots = o.waiting.items; untold = o.untold; size = o.waiting.capacity } };
 
-    ghost invariant = { λ o. o.waiting.capacity ≤ 64 };
+    ghost invariant = { λ o. o.waiting.capacity ≤ most_slots };
 }
 
 impl Outbox {
     /// An empty outbox with room for so many reports, 1 to 64.
     pub fn new(alloc: Global, slots: u32) -> Result<Outbox, NoMemory>
-        requires { (1 ≤ slots) × (slots ≤ 64) }
+        requires { (1 ≤ slots) × (slots ≤ most_slots) }
         ensures { IfOk result (λ outbox. outbox ≡ empty_outbox slots) }
     {
         let waiting = HeapCircularBuffer::with_capacity(alloc, slots as usize)?;
@@ -68,7 +70,7 @@ impl Outbox {
     pub fn push<P: Slots>(&mut self, slots: &mut P, report: &Report)
         requires room { length self.old.slots < self.old.size }
         requires free { 0 < free_of (P.pool slots.old) }
-        requires words { REPORT_WORDS ≤ (P.pool slots.old).words }
+        requires words { slot_words ≤ (P.pool slots.old).words }
         requires owned { AreOwned (P.pool slots.old) self.old.slots }
         ensures slots { self.new.slots ≡ self.old.slots ++ newest self.new.slots ∷ [] }
         ensures was_free { words_at (P.pool slots.old) (newest self.new.slots) ≡ None }
@@ -89,7 +91,7 @@ impl Outbox {
     /// Takes out the oldest report and gives its slot back, or else the notice, which is told then; None exactly
     /// where neither is there.
     pub fn pop<P: Slots>(&mut self, slots: &mut P) -> Option<Told>
-        requires words { REPORT_WORDS ≤ (P.pool slots.old).words }
+        requires wide { AreWide (P.pool slots.old) self.old.slots }
         requires owned { AreOwned (P.pool slots.old) self.old.slots }
         ensures told { (reports : List Report) → Lies (P.pool slots.old) self.old.slots reports → result ≡ next_told reports self.old.untold }
         ensures none { IsNone result ↔ ((self.old.slots ≡ []) × (self.old.untold ≡ None)) }

@@ -1,6 +1,7 @@
 //! The answer to the ticket that is out is applied.
 ghost use Rattle.std.specs.Prelude.{◌≡◌, ◌+◌, ◌<◌, ◌≤◌, ◌∷◌, [], ◌++◌, Some, None, length};
-ghost use Rattle.reg_code.specs.CodeStart.{first_bad};
+ghost use Rattle.ccp_base.specs.FieldReg.{first_bad};
+ghost use Rattle.ccp_base.specs.Limits.{most_acks};
 ghost use Rattle.fold_machine.specs.MachineState.{Fits};
 ghost use Rattle.agent_core.specs.Answers.{after_of, reply_of};
 ghost use Rattle.flow_core.specs.Readings.{code_at};
@@ -69,7 +70,7 @@ impl State {
     /// Puts down that the ticket that is out was answered.
     fn close(&mut self, taken: u32, answer: &Answer)
         requires room { length self.old.tickets.items < self.old.tickets.room }
-        requires acks { length self.old.acks.items ≤ 65536 }
+        requires acks { length self.old.acks.items ≤ most_acks }
         ensures tickets { self.new.tickets.items ≡ self.old.tickets.items ++ record { told = answer.now.told; taken = taken; answered = length self.old.acks.items; reply = reply_of answer.now } ∷ [] }
         ensures frame { self.new ≡ record self.old { agent = after_of answer.now; out = None; tickets = self.new.tickets } }
     {
@@ -89,7 +90,7 @@ impl State {
         requires fits { Fits self.old.machine (code_at self.old.case self.old.program) }
         requires good { AreGood self.old.case self.old.program reply.now values.now }
         requires room { length self.old.epochs.items < self.old.epochs.room }
-        requires acks { length self.old.acks.items ≤ 65536 }
+        requires acks { length self.old.acks.items ≤ most_acks }
         ensures { Obeys self.old self.new reply.now values.now }
     {
         match *reply {
@@ -115,7 +116,7 @@ impl State {
     fn change(&mut self, program: u32, values: &Fields)
         requires good { first_bad (length (code_at self.old.case program).controls) values.now ≡ None }
         requires room { length self.old.epochs.items < self.old.epochs.room }
-        requires acks { length self.old.acks.items ≤ 65536 }
+        requires acks { length self.old.acks.items ≤ most_acks }
         ensures { Changes self.old self.new program values.now }
     {
         let time = self.time();

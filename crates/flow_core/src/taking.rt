@@ -1,5 +1,6 @@
 //! A report or a fault notice is taken as a ticket.
 ghost use Rattle.std.specs.Prelude.{◌≡◌, ◌+◌, ◌<◌, ◌≤◌, ◌↔◌, ◌∷◌, ◌++◌, true, IfOk, OnOk, OnErr, IsNone, None, Some, [], length, drop};
+ghost use Rattle.ccp_base.specs.Limits.{most_acks};
 ghost use Rattle.slot_pool.specs.Pool.{free_of};
 ghost use Rattle.flow_core.specs.World.{after_take};
 ghost use Rattle.flow_core.specs.Words.{can_take};
@@ -94,7 +95,7 @@ impl State {
 
     /// The ticket that tells this.
     pub(crate) fn ticket(&self, told: &Told) -> Ticket
-        requires { length self.now.tickets.items ≤ 65536 }
+        requires { length self.now.tickets.items ≤ most_acks }
         ensures { result ≡ record { flow = self.now.case.flow; number = length self.now.tickets.items; before = self.now.agent; told = told.now } }
     {
         Ticket {

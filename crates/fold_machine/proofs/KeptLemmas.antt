@@ -80,8 +80,8 @@ reset_words-from (start ∷ rest) at words fits =
 -- the registers that are kept, as a code declares them
 pub kept-declared : (code : Code) (words : List ℕ) (now : ℕ) → HasRoom (sizes_of code) words → kept_in (sizes_of code) (declared_words code.controls (3 + length code.reports) (declared_words code.reports 3 (slice_set words 2 now))) ≡ declared_kept code (slice_index words 0) (slice_index words 1) now
 kept-declared code words now room =
-    let small_reports : length code.reports ≤ 64 = room.reports in
-    let small_controls : length code.controls ≤ 64 = room.controls in
+    let small_reports : length code.reports ≤ 64 = room.few.reports in
+    let small_controls : length code.controls ≤ 64 = room.few.controls in
     let full : length words ≡ 160 = room.full in
     let first : List ℕ = slice_set words 2 now in
     let second : List ℕ = declared_words code.reports 3 first in
@@ -101,8 +101,8 @@ kept-declared code words now room =
 -- the registers that are kept, as a report leaves them
 pub kept-reset : (code : Code) (words : List ℕ) → HasRoom (sizes_of code) words → kept_in (sizes_of code) (reset_words code.controls (3 + length code.reports) (reset_words code.reports 3 words)) ≡ reset_of code (kept_in (sizes_of code) words)
 kept-reset code words room =
-    let small_reports : length code.reports ≤ 64 = room.reports in
-    let small_controls : length code.controls ≤ 64 = room.controls in
+    let small_reports : length code.reports ≤ 64 = room.few.reports in
+    let small_controls : length code.controls ≤ 64 = room.few.controls in
     let full : length words ≡ 160 = room.full in
     let second : List ℕ = reset_words code.reports 3 words in
     let third : List ℕ = reset_words code.controls (3 + length code.reports) second in
@@ -120,7 +120,6 @@ kept-reset code words room =
 -- nothing but the registers changed
 pub others-from : (old new : StoreState) (words : List ℕ) → new ≡ record old { registers = words } → length words ≡ length old.registers → KeepsOthers old new
 others-from old new words is same = record {
-  rollback = ap (λ (s : StoreState). s.rollback) is;
   report = ap (λ (s : StoreState). s.report) is;
   further = ap (λ (s : StoreState). s.further) is;
   length = ap (λ (s : StoreState). length s.registers) is ∙ same;

@@ -1,5 +1,7 @@
 pub mod StoreLemmas
 pub mod LayoutLemmas
+pub mod FrameLemmas
+pub mod LoadLemmas
 pub mod KeptLemmas
 pub mod RunnableLemmas
 pub mod RefinementLemmas

@@ -1,5 +1,7 @@
 -- The machine's fields: what contracts see of them, and what holds of them.
-use Rattle.std.specs.Prelude.{ℕ, ◌≤◌, Bool}
+use Rattle.std.specs.Prelude.{◌≡◌, ℕ, ◌≤◌, Bool, List, length}
+use Rattle.ccp_base.specs.Limits.{most_fields}
+use Rattle.reg_code.specs.Places.{all_places}
 use Rattle.reg_code.specs.declared.rule.Sizes.{Sizes}
 use Rattle.fold_machine.specs.Store.{StoreState}
 use Rattle.fold_machine.specs.Layout.{words_from, kept_in}
@@ -16,6 +18,7 @@ machine_of store sizes reported started stopped ran = record {
   further = store.further;
 }
 
-pub record IsHeld (store : StoreState) (sizes : Sizes) (count : ℕ) : Type 0 where
+pub record IsHeld (store : StoreState) (words : List ℕ) (sizes : Sizes) (count : ℕ) : Type 0 where
   pub ready : IsReady sizes store
-  pub reported : count ≤ 64
+  pub frame : length words ≡ all_places
+  pub reported : count ≤ most_fields

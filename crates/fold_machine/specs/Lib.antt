@@ -1,5 +1,6 @@
 pub mod Store
 pub mod Layout
+pub mod Frame
 pub mod Running
 pub mod KeptWords
 pub mod Ready

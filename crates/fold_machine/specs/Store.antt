@@ -4,10 +4,9 @@ use Rattle.std.specs.Coded.{Coded, code_by, coded×, coded_ℕ, coded_list}
 use Rattle.slot_pool.specs.Pool.{PoolState, pool_code, words_at, IsOut, unused}
 use Rattle.slot_pool.specs.Without.{without}
 
--- the words of the three slots that are the machine's own, and the pool of the further slots
+-- the words of the two slots that are the machine's own, and the pool of the further slots
 pub record StoreState : Type 0 where
   pub registers : List ℕ
-  pub rollback : List ℕ
   pub report : List ℕ
   pub further : PoolState
 
@@ -15,38 +14,30 @@ pub record StoreState : Type 0 where
 abbrev pub store_code : Coded StoreState
 store_code =
     code_by
-    (List ℕ × (List ℕ × (List ℕ × PoolState)))
-    (coded× (coded_list coded_ℕ) (coded× (coded_list coded_ℕ) (coded× (coded_list coded_ℕ) pool_code)))
-    (λ s. (s.registers, (s.rollback, (s.report, s.further))))
-    (λ t. record { registers = t.0; rollback = t.1.0; report = t.1.1.0; further = t.1.1.1 })
+    (List ℕ × (List ℕ × PoolState))
+    (coded× (coded_list coded_ℕ) (coded× (coded_list coded_ℕ) pool_code))
+    (λ s. (s.registers, (s.report, s.further)))
+    (λ t. record { registers = t.0; report = t.1.0; further = t.1.1 })
     (λ _. refl)
 
 -- the words of a slot that is out
 abbrev pub words_in : PoolState → ℕ → List ℕ
 words_in pool slot = unwrap_or (words_at pool slot) []
 
--- the pool without three of its slots
-abbrev pub further_of : PoolState → ℕ → ℕ → ℕ → PoolState
-further_of pool a b c = without (without (without pool a) b) c
+-- the pool without two of its slots
+abbrev pub further_of : PoolState → ℕ → ℕ → PoolState
+further_of pool a b = without (without pool a) b
 
-abbrev pub store_of : PoolState → ℕ → ℕ → ℕ → StoreState
-store_of pool a b c = record {
-  registers = words_in pool a;
-  rollback = words_in pool b;
-  report = words_in pool c;
-  further = further_of pool a b c;
-}
+abbrev pub store_of : PoolState → ℕ → ℕ → StoreState
+store_of pool a b = record { registers = words_in pool a; report = words_in pool b; further = further_of pool a b }
 
--- three slots of 160 words are out, each another one
-pub record IsOwned (pool : PoolState) (a b c : ℕ) : Type 0 where
+-- two slots of 160 words are out, each another one
+pub record IsOwned (pool : PoolState) (a b : ℕ) : Type 0 where
   pub first : IsOut pool a
   pub second : IsOut pool b
-  pub third : IsOut pool c
-  pub second_apart : b ≢ a
-  pub third_apart : c ≢ a
-  pub both_apart : c ≢ b
+  pub apart : b ≢ a
   pub words : pool.words ≡ 160
 
 -- the memory as it is made: each word is 0, and no further slot is out
 abbrev pub fresh_store : ℕ → StoreState
-fresh_store slots = record { registers = replicate 160 0; rollback = replicate 160 0; report = replicate 160 0; further = unused slots 160 }
+fresh_store slots = record { registers = replicate 160 0; report = replicate 160 0; further = unused slots 160 }

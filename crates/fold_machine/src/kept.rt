@@ -1,68 +1,32 @@
-ghost use Rattle.std.specs.Prelude.{◌≡◌, ℕ, ◌+◌, ◌<◌, ◌≤◌, length, slice_index};
+ghost use Rattle.std.specs.Prelude.{◌≡◌, ◌+◌, ◌≤◌, length, slice_index};
+ghost use Rattle.ccp_base.specs.Limits.{most_fields};
 ghost use Rattle.reg_code.specs.AcceptedCode.{sizes_of};
 ghost use Rattle.reg_code.specs.CodeStep.{reset_of};
 ghost use Rattle.reg_code.specs.CodeStart.{with_value, with_values, declared_kept};
-ghost use Rattle.fold_machine.specs.Layout.{HasRoom, KeepsOthers, kept_in};
+ghost use Rattle.reg_code.specs.Places.{all_places, reports_at};
+ghost use Rattle.fold_machine.specs.Layout.{slot_words, HasRoom, KeepsOthers, words_from, kept_in};
 ghost use Rattle.fold_machine.specs.KeptWords.{declared_words, reset_words};
 
 use crate::places::{CWND, RATE, REPORTS, ZERO};
 use crate::store::Store;
 use ccp_base::{FieldReg, Fields};
-use reg_code::{Code, Sizes, Start};
+use reg_code::{Code, Sizes, Start, places};
 
-/// How many words hold the registers that are kept.
-pub(crate) fn kept_words(sizes: Sizes) -> u32
-    requires reports { sizes.reports ≤ 64 }
-    requires controls { sizes.controls ≤ 64 }
-    ensures { result ≡ 3 + sizes.reports + sizes.controls }
-{
-    REPORTS + sizes.reports as u32 + sizes.controls as u32
-}
-
-/// Copies the first words of the registers.
-pub(crate) fn save(store: &mut Store, count: u32)
-    requires count { count ≤ 160 }
-    requires full { length store.old.rollback ≡ 160 }
-    ensures copied { (k : ℕ) → k < count → slice_index store.new.rollback k ≡ slice_index store.old.registers k }
-    ensures length { length store.new.rollback ≡ 160 }
-    ensures others { store.new ≡ record store.old { rollback = store.new.rollback } }
-{
-    for at in 0..count {
-        let word = store.registers()[at as usize];
-        store.set_rollback(at, word);
-    }
-}
-
-/// Copies the first words of the copy back.
-pub(crate) fn restore(store: &mut Store, count: u32)
-    requires count { count ≤ 160 }
-    requires full { length store.old.registers ≡ 160 }
-    ensures copied { (k : ℕ) → k < count → slice_index store.new.registers k ≡ slice_index store.old.rollback k }
-    ensures others { KeepsOthers store.old store.new }
-{
-    for at in 0..count {
-        let word = store.rollback()[at as usize];
-        store.set_register(at, word);
-    }
-}
-
-/// Copies the report fields, of which there are so many.
-pub(crate) fn keep_report(store: &mut Store, count: u32)
-    requires count { count ≤ 64 }
-    requires full { length store.old.report ≡ 160 }
-    ensures copied { (k : ℕ) → k < count → slice_index store.new.report k ≡ slice_index store.old.registers (3 + k) }
-    ensures length { length store.new.report ≡ 160 }
+/// Copies the report fields, of which there are so many, from the working words.
+pub(crate) fn keep_report(store: &mut Store, words: &[u64], count: usize)
+    requires count { count ≤ most_fields }
+    requires words { length words.now ≡ all_places }
+    requires full { length store.old.report ≡ slot_words }
+    ensures copied { words_from store.new.report 0 count ≡ words_from words.now reports_at count }
+    ensures length { length store.new.report ≡ slot_words }
     ensures others { store.new ≡ record store.old { report = store.new.report } }
 {
-    for at in 0..count {
-        let word = store.registers()[(REPORTS + at) as usize];
-        store.set_report(at, word);
-    }
+    store.set_report(&words[places::REPORTS..places::REPORTS + count]);
 }
 
 /// Writes the start values, from a place on.
 fn declare_from(store: &mut Store, starts: &[Start], first: u32)
-    requires { first + length starts.now ≤ 160 }
+    requires { first + length starts.now ≤ slot_words }
     ensures { store.new ≡ record store.old { registers = declared_words starts.now first store.old.registers } }
 {
     let mut at = first;
@@ -76,7 +40,7 @@ fn declare_from(store: &mut Store, starts: &[Start], first: u32)
 
 /// Writes the start value of each volatile register, from a place on.
 fn reset_from(store: &mut Store, starts: &[Start], first: u32)
-    requires { first + length starts.now ≤ 160 }
+    requires { first + length starts.now ≤ slot_words }
     ensures { store.new ≡ record store.old { registers = reset_words starts.now first store.old.registers } }
 {
     let mut at = first;

@@ -1,14 +1,13 @@
-//! A machine that runs accepted register code, one acknowledgement after another. Its registers, the copy that a
-//! fault goes back to, and the last report lie in slots of one pool, which can have further slots for its holder.
+//! A machine that runs accepted register code, one acknowledgement after another. Its registers, to which a fault goes
+//! back, and the last report lie in slots of one pool, which can have further slots for its holder.
 #![tactic(auto)]
 
 mod acked;
+mod frame;
 mod kept;
 mod laws;
 mod machine;
 mod places;
-mod refusal;
-mod registers;
 mod run;
 mod step;
 mod steps;

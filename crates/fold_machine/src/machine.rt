@@ -1,28 +1,30 @@
 ghost use Rattle.std.specs.Prelude.{◌≡◌, ◌+◌, ◌≤◌, ◌↔◌, Some, None, IsTrue, IsOk, true, IfOk, IfErr, OnOk, OnErr, length};
 ghost use Rattle.reg_code.specs.AcceptedCode.{sizes_of};
-ghost use Rattle.reg_code.specs.CodeStart.{first_bad};
+ghost use Rattle.ccp_base.specs.FieldReg.{first_bad};
 ghost use Rattle.fold_machine.specs.MachineState.{fresh_machine, Fits};
 ghost use Rattle.fold_machine.specs.Heard.{started_by, updated_by, heard, is_fault, count_after};
 
 use crate::acked::{Acked, BadRegister};
 use crate::kept::{declare, write_values};
 use crate::places::{CWND, RATE, REPORTS};
-use crate::refusal::first_bad;
 use crate::steps::Steps;
 use crate::store::Store;
 use crate::work::work;
 use ccp_base::{Ack, Fields, NoMemory, Values};
-use reg_code::{Checked, Code, Sizes};
+use reg_code::{Checked, Code, Sizes, places};
 use slot_pool::{Full, Slot, Slots};
 use std::alloc::Global;
 use std::marker::Model;
 use std::sync::ledger::Ledger;
 
-/// The state of a running program: its registers, the copy that a fault goes back to, and the last report, in one
-/// pool of slots of 160 words. The pool can have further slots, which are the holder's.
+/// The state of a running program: its registers and the last report, in one pool of slots of 160 words. The pool can
+/// have further slots, which are the holder's. An acknowledgement is worked on in words beside it, so that a fault
+/// leaves the registers as they were.
 #[derive(Drop)]
 pub struct Machine {
     store: Store,
+    /// The words of an acknowledgement while it is worked on.
+    words: Vec<u64>,
     /// How many report fields and control variables the started program has.
     sizes: Sizes,
     /// How many fields the last report has.
@@ -43,7 +45,7 @@ impl Model for Machine {
 
     ghost view = { λ m. machine_of m.store m.sizes m.reported m.started m.stopped m.ran };
 
-    ghost invariant = { λ m. IsHeld m.store m.sizes m.reported };
+    ghost invariant = { λ m. IsHeld m.store m.words.items m.sizes m.reported };
 }
 
 impl Machine {
@@ -64,6 +66,7 @@ impl Machine {
         store.set_register(RATE, rate);
         Ok(Machine {
             store,
+            words: vec![in alloc; 0u64; places::ALL]?,
             sizes: Sizes {
                 reports: 0,
                 controls: 0,
@@ -86,7 +89,7 @@ impl Machine {
         ensures unchanged { OnErr result (self.new ≡ self.old) }
     {
         let code = code.code();
-        if let Some(i) = first_bad(code.controls.len(), values) {
+        if let Some(i) = values.first_bad(code.controls.len()) {
             return Err(BadRegister(i));
         }
         self.sizes = Sizes {
@@ -133,6 +136,7 @@ impl Machine {
         let code = code.code();
         let acked = work(
             &mut self.store,
+            &mut self.words,
             self.sizes,
             code,
             ack,
@@ -156,7 +160,7 @@ impl Machine {
         ensures fits { Fits self.new code.now.code }
         ensures unchanged { OnErr result (self.new ≡ self.old) }
     {
-        if let Some(i) = first_bad(code.code().controls.len(), values) {
+        if let Some(i) = values.first_bad(code.code().controls.len()) {
             return Err(BadRegister(i));
         }
         write_values(&mut self.store, self.sizes, values);

@@ -1,5 +1,6 @@
 ghost use Rattle.std.specs.Prelude.{◌≡◌, ℕ, ◌+◌, ◌<◌, ◌≤◌, ◌≢◌, ◌↔◌, [], length, None, Some, IsErr, IfOk, OnOk, OnErr, replicate, slice_set};
-ghost use Rattle.slot_pool.specs.Pool.{PoolState, words_at, IsOut, free_of, unused, ChangesSlot, with_word};
+ghost use Rattle.slot_pool.specs.Pool.{PoolState, words_at, IsOut, free_of, unused, ChangesSlot, with_word, with_run};
+ghost use Rattle.fold_machine.specs.Layout.{slot_words};
 ghost use Rattle.fold_machine.specs.Store.{StoreState, fresh_store};
 
 use crate::places::{OWN_SLOTS, WORDS};
@@ -7,13 +8,12 @@ use slot_pool::{Full, Pool, Slot};
 use std::alloc::{AllocError, Global};
 use std::marker::Model;
 
-/// The machine's memory: one pool, of which three slots hold its registers, the copy that a fault goes back to,
-/// and the last report.
+/// The machine's memory: one pool, of which two slots hold its registers, as the last acknowledgement without a fault
+/// left them, and the last report.
 #[derive(Drop)]
 pub(crate) struct Store {
     pool: Pool,
     registers: Slot,
-    rollback: Slot,
     report: Slot,
 }
 
@@ -26,9 +26,9 @@ impl Model for Store {
 
     ghost use Rattle.fold_machine.specs.Store.{store_of, IsOwned};
 
-    ghost view = { λ s. store_of s.pool s.registers s.rollback s.report };
+    ghost view = { λ s. store_of s.pool s.registers s.report };
 
-    ghost invariant = { λ s. IsOwned s.pool s.registers s.rollback s.report };
+    ghost invariant = { λ s. IsOwned s.pool s.registers s.report };
 }
 
 impl Store {
@@ -39,12 +39,10 @@ impl Store {
     {
         let mut pool = Pool::new(alloc, slots + OWN_SLOTS, WORDS)?;
         let registers = own(&mut pool);
-        let rollback = own(&mut pool);
         let report = own(&mut pool);
         Ok(Store {
             pool,
             registers,
-            rollback,
             report,
         })
     }
@@ -52,49 +50,41 @@ impl Store {
     /// The words of the registers.
     pub(crate) fn registers(&self) -> &[u64]
         ensures words { result.now ≡ self.now.registers }
-        ensures len { length result.now ≡ WORDS }
+        ensures len { length result.now ≡ slot_words }
     {
         self.pool.words(&self.registers)
-    }
-
-    /// The words of the copy.
-    pub(crate) fn rollback(&self) -> &[u64]
-        ensures words { result.now ≡ self.now.rollback }
-        ensures len { length result.now ≡ WORDS }
-    {
-        self.pool.words(&self.rollback)
     }
 
     /// The words of the last report.
     pub(crate) fn report(&self) -> &[u64]
         ensures words { result.now ≡ self.now.report }
-        ensures len { length result.now ≡ WORDS }
+        ensures len { length result.now ≡ slot_words }
     {
         self.pool.words(&self.report)
     }
 
     /// Writes a word of the registers.
     pub(crate) fn set_register(&mut self, at: u32, word: u64)
-        requires { at < WORDS }
+        requires { at < slot_words }
         ensures { self.new ≡ record self.old { registers = slice_set self.old.registers at word } }
     {
         self.pool.write(&self.registers, at, word);
     }
 
-    /// Writes a word of the copy.
-    pub(crate) fn set_rollback(&mut self, at: u32, word: u64)
-        requires { at < WORDS }
-        ensures { self.new ≡ record self.old { rollback = slice_set self.old.rollback at word } }
+    /// Writes words of the registers, from a place on.
+    pub(crate) fn set_registers(&mut self, at: u32, run: &[u64])
+        requires { at + length run.now ≤ slot_words }
+        ensures { self.new ≡ record self.old { registers = with_run self.old.registers at run.now } }
     {
-        self.pool.write(&self.rollback, at, word);
+        self.pool.write_run(&self.registers, at, run);
     }
 
-    /// Writes a word of the last report.
-    pub(crate) fn set_report(&mut self, at: u32, word: u64)
-        requires { at < WORDS }
-        ensures { self.new ≡ record self.old { report = slice_set self.old.report at word } }
+    /// Writes the first words of the last report.
+    pub(crate) fn set_report(&mut self, run: &[u64])
+        requires { length run.now ≤ slot_words }
+        ensures { self.new ≡ record self.old { report = with_run self.old.report 0 run.now } }
     {
-        self.pool.write(&self.report, at, word);
+        self.pool.write_run(&self.report, 0, run);
     }
 
     /// Takes a further slot that isn't out. Its words are all 0.

@@ -2,7 +2,7 @@ ghost use Rattle.std.specs.Prelude.{◌≡◌, ◌<◌};
 
 use super::*;
 use ccp_base::{Ack, FieldReg, Fields};
-use reg_code::{Checked, Code, Event, Implicit, Instr, Op, Reg, Sequence};
+use reg_code::{Checked, Code, Event, Implicit, Instr, Op, Reg, Sequence, pack_all};
 use slot_pool::Slots;
 use std::alloc::{AllocError, Global};
 use std::marker::Brand;
@@ -27,11 +27,11 @@ const fn bind(to: Reg, left: Reg) -> Instr
 
 /// One event: its condition is true by a temporary, and its body sets the window to 1.
 fn window_of_one(alloc: Global) -> Result<Checked, AllocError> {
-    let instrs = vec![in alloc;
+    let instrs = [
         bind(Reg::Temp(3), Reg::Imm(1)),
         bind(FLAG, Reg::Temp(3)),
         bind(CWND, Reg::Imm(1)),
-    ]?;
+    ];
     let event = Event {
         condition: 2,
         body: 1,
@@ -40,7 +40,7 @@ fn window_of_one(alloc: Global) -> Result<Checked, AllocError> {
         reports: Sequence::new(alloc),
         controls: Sequence::new(alloc),
         events: Sequence::from_vec(vec![in alloc; event]?),
-        instrs: Sequence::from_vec(instrs),
+        instrs: pack_all(alloc, &instrs)?,
     }))
 }
 

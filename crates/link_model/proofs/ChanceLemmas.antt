@@ -4,7 +4,7 @@ use Rattle.std.proofs.lemmas.Nat.{le-div, div-mul-add, mod-mul-add, mul-le}
 use Rattle.std.proofs.lemmas.Bool.{cases_lt, leb-true, le-leb}
 use Rattle.std.proofs.lemmas.Bool.Decides.{nat_tests}
 use Rattle.link_model.specs.Traces.{period, IsTrace}
-use Rattle.link_model.specs.Chances.{chance_time, first_passing, first_chance}
+use Rattle.link_model.specs.Chances.{IsFirstChance, chance_time, first_passing, first_chance}
 
 -- ---- the first number that passes
 
@@ -242,3 +242,52 @@ module _ (times : List ℕ) (trace : IsTrace times) where
       let k_time : get_or times (k % n) 0 ≡ get_or times place 0 = ap (λ i. get_or times i 0) k_place in
       first_chance_is at 0 k (omega arith) (omega (arith, from place_inside))
       (λ j above under. earlier_chance at turn place j turn_before within (λ i below. omega (arith, before i below)) under)
+
+  -- ---- a chance as a turn and a place in it
+
+  pub time_at : (turn place : ℕ) → place < length times → chance_time times (turn * length times + place) ≡ 1000 * (period times * turn + get_or times place 0)
+  time_at turn place inside =
+      let n = length times in
+      let k_turn : (turn * n + place) / n ≡ turn = div-mul-add turn n place inside in
+      let k_place : (turn * n + place) % n ≡ place = mod-mul-add turn n place inside in
+      ap (λ t. 1000 * (period times * t + get_or times ((turn * n + place) % n) 0)) k_turn
+      ∙ ap (λ i. 1000 * (period times * turn + get_or times i 0)) k_place
+
+  pub turn_below : (turn place : ℕ) → place < length times → turn ≤ chance_time times (turn * length times + place)
+  turn_below turn place inside =
+      let turns : 1 * turn ≤ period times * turn = mul-le 1 turn (period times) turn trace.period (omega arith) in
+      omega (arith, time_at turn place inside)
+
+  -- the place of the first chance at or after a time is one of the trace
+  pub place_inside : (at p less turn place : ℕ) → p ≡ period times → less ≡ (at + 999) / 1000 - 1 → turn ≡ less / p
+      → place ≤ length times → ((i : ℕ) → i < place → get_or times i 0 < (at + 999) / 1000 - p * turn) → place < length times
+  place_inside at p less turn place p_is less_is turn_is within before =
+      let n = length times in
+      let millis = (at + 999) / 1000 in
+      let same_turns : p * turn ≡ period times * turn = ap (λ q. q * turn) p_is in
+      let turns : turn ≡ (millis - 1) / period times = turn_is ∙ ap (λ m. m / p) less_is ∙ ap (λ q. (millis - 1) / q) p_is in
+      let next_turn : millis - 1 < turn * period times + period times =
+      omega (arith, lt-div-mul-add {a = millis - 1} trace.period, ap (λ m. m * period times) turns) in
+      elim (cases_lt place n) as (λ _. place < n)
+      [ inl inside ↦ inside | inr outside ↦ absurd (omega (arith, before (n - 1) (omega (arith, trace.some)))) ]
+
+-- a chance that isn't later isn't in a later turn
+pub turns_rise : (n from_turn from_place to_turn to_place : ℕ) → from_place < n → to_place < n → from_turn * n + from_place ≤ to_turn * n + to_place → from_turn ≤ to_turn
+turns_rise n from_turn from_place to_turn to_place from_inside to_inside order =
+    elim (cases_lt to_turn from_turn) as (λ _. from_turn ≤ to_turn)
+    [ inl before ↦ absurd (let more : n * (to_turn + 1) ≤ n * from_turn = mul-le-mul_left n (omega arith) in omega arith) | inr not_before ↦ not_before ]
+
+pub turns_between : (n from_turn to_turn : ℕ) → from_turn ≤ to_turn → (to_turn - from_turn) * n + from_turn * n ≡ to_turn * n
+turns_between n from_turn to_turn order =
+    let more = to_turn - from_turn in
+    let whole : to_turn ≡ more + from_turn = omega arith in
+    let product : to_turn * n ≡ (more + from_turn) * n = ap (λ t. t * n) whole in
+    omega (arith, product)
+
+-- the definition's number is the first chance
+pub is_first_chance : (times : List ℕ) → IsTrace times → (at start : ℕ) → IsFirstChance times at start (first_chance times at start)
+is_first_chance times trace at start = record {
+  from = first_chance_from times trace at start;
+  late = first_chance_at times trace at start;
+  before = first_chance_before times trace at start;
+}

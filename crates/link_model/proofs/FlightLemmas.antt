@@ -1,12 +1,9 @@
 -- The packets in flight of the definition against those that a link keeps.
 use Rattle.std.proofs.Common.{◌≡◌, ℕ, suc, ◌+◌, ◌<◌, ◌≤◌, Bool, true, false, cond, eqb, ltb, ◌||◌, ◌&&◌, List, [], ◌∷◌, ◌++◌, length, refl, ap, ◌∙◌, arith}
 use Rattle.std.proofs.lemmas.Bool.Decides.{nat_tests}
-use Rattle.link_model.specs.declared.packet.Packet.{Packet}
-use Rattle.link_model.specs.declared.packet.Fate.{Fate}
-use Rattle.link_model.specs.declared.packet.Fate.TheVariants.{Lost, Served}
-use Rattle.link_model.specs.declared.landing.Landing.TheVariants.{Arrived, AllLost}
-use Rattle.link_model.specs.Link.{Taking, packets_to, all_below, Given, Numbered, takes, left_by, lost_by, is_lost, in_flight, Next, arrives, all_lost, next_by, next_of}
-use Rattle.link_model.specs.Standing.{packets_of, landing, staying}
+use Rattle.link_model.specs.Link.{Packet, Fate, Lost, Served, Taking, packets_to, all_below, Given, Numbered, takes, left_by, lost_by, is_lost, in_flight, Next, arrives, all_lost, next_by, next_of}
+use Rattle.link_model.specs.Standing.{packets_of}
+use Rattle.link_model.proofs.Whole.{Arrived, AllLost, landing, staying}
 
 -- ---- numbers in flight
 

@@ -1,9 +1,14 @@
 mod TraceTextLemmas
 mod TraceLemmas
 mod ChanceLemmas
-mod HorizonLemmas
-mod TrafficLemmas
+mod Whole
+mod ServedLemmas
 mod FlightLemmas
 mod QueueLemmas
+mod CountLemmas
 mod Refinement
+mod Compact
+mod LossLemmas
+mod HorizonLemmas
+mod SendingLemmas
 mod WorkedRows

@@ -2,11 +2,9 @@
 use Rattle.std.proofs.Common.{◌≡◌, ℕ, ◌+◌, ◌-◌, ◌<◌, ◌≤◌, Bool, true, false, cond, ltb, leb, ltb-true, ◌||◌, List, ◌∷◌, length, max, refl, ap, sym, ◌∙◌, arith, inl, inr, ◌⊎◌}
 use Rattle.std.proofs.lemmas.Bool.{cases_lt}
 use Rattle.link_model.specs.declared.link_case.LinkCase.{LinkCase}
-use Rattle.link_model.specs.declared.packet.Packet.{Packet}
-use Rattle.link_model.specs.declared.packet.Fate.TheVariants.{Lost, Served}
 use Rattle.link_model.specs.Traces.{IsTrace}
 use Rattle.link_model.specs.Chances.{chance_time, first_chance}
-use Rattle.link_model.specs.Link.{waiting, chances_past, is_listed, is_marked, packet_after}
+use Rattle.link_model.specs.Link.{Packet, Lost, Served, waiting, chances_past, is_listed, is_marked, packet_after}
 use Rattle.link_model.proofs.ChanceLemmas.{not_below, first_chance_le, le_first_chance, first_chance_max}
 
 -- at each time from now on, the packets that wait are counted by their chances

@@ -1,20 +1,17 @@
--- A link's own steps are those of the definition, by induction on the list of windows.
-use Rattle.std.proofs.Common.{◌≡◌, ℕ, zero, suc, ◌+◌, ◌-◌, ◌≤◌, Bool, true, false, cond, leb, ◌||◌, List, [], ◌∷◌, ◌++◌, length, max, refl, ap, sym, ◌∙◌, subst, arith, add_comm}
+-- Steps over every packet in flight are those of the definition, by induction on the list of windows.
+use Rattle.std.proofs.Common.{◌≡◌, ℕ, zero, suc, ◌+◌, ◌-◌, ◌≤◌, Bool, true, false, cond, leb, ◌||◌, List, [], ◌∷◌, ◌++◌, length, max, refl, ap, sym, ◌∙◌, subst, arith, add_comm, length-append}
 use Rattle.link_model.specs.declared.link_case.LinkCase.{LinkCase}
-use Rattle.link_model.specs.declared.packet.Packet.{Packet}
-use Rattle.link_model.specs.declared.packet.Fate.{Fate}
-use Rattle.link_model.specs.declared.packet.Fate.TheVariants.{Lost, Served}
-use Rattle.link_model.specs.declared.landing.Landing.{Landing}
-use Rattle.link_model.specs.declared.landing.Landing.TheVariants.{Arrived, AllLost}
 use Rattle.link_model.specs.Traces.{IsTrace}
 use Rattle.link_model.specs.Chances.{chance_time, first_chance}
-use Rattle.link_model.specs.Link.{Run, Given, Numbered, packets_to, all_below, allowance, waiting, chances_past, is_listed, is_marked, fate_by, packet_after, with_sent, left_by, lost_by, in_flight, time_of, sample_of, acked_of, arrival_of, arrival_ack, timeout_ack, Next, arrives, all_lost, next_of, answer_by, answer_to, sent_by, called, run_from, run_of, ack_after}
+use Rattle.link_model.specs.Link.{Run, Packet, Fate, Lost, Served, Given, Numbered, packets_to, all_below, allowance, waiting, chances_past, is_listed, is_marked, fate_by, packet_after, with_sent, left_by, lost_by, in_flight, time_of, sample_of, acked_of, arrival_of, arrival_ack, timeout_ack, Next, arrives, all_lost, next_of, answer_by, answer_to, sent_by, called, run_from, run_of, ack_after}
 use Rattle.link_model.specs.LinkLaws.{run_from-push}
-use Rattle.link_model.specs.Standing.{Standing, packets_of, standing_of, packet_by, with_packet, sending, sending_now, landing, landing_by, staying, staying_by, ack_by, with_flight, with_ack, sent_standing, next_ack, next_standing}
-use Rattle.link_model.specs.Horizon.{IsServedWithin, AllServedWithin}
+use Rattle.link_model.specs.Counts.{served_chances, lost_of}
+use Rattle.link_model.specs.Standing.{packets_of}
+use Rattle.link_model.proofs.Whole.{Landing, Arrived, AllLost, Whole, whole_of, packet_by, with_packet, sending, sending_whole, landing, landing_by, staying, staying_by, ack_by, with_flight, with_ack, sent_whole, next_ack, next_whole}
 use Rattle.link_model.proofs.ChanceLemmas.{chance_time_rises, first_chance_max, first_chance_from, first_chance_at}
-use Rattle.link_model.proofs.HorizonLemmas.{all_served_within-more, all_served_within-push, all_served_within-staying}
+use Rattle.link_model.proofs.ServedLemmas.{IsServedWithin, AllServedWithin, all_served_within-more, all_served_within-push, all_served_within-staying}
 use Rattle.link_model.proofs.FlightLemmas.{RisesFrom, AllBelow, AllTakeBelow, TakesBelow, RisesFrom-push, AllBelow-push, AllBelow-more, RisesFrom-left_by, AllBelow-left_by, all_take_below-more, in_flight-sent, packets_of-push, length-packets_of, left_by-all_below, MatchNext, match_next, IsNextBelow, next_below}
+use Rattle.link_model.proofs.CountLemmas.{RiseBelow, rise_below-none, rise_below-sent, CountNext, count_next}
 use Rattle.link_model.proofs.QueueLemmas.{IsQueued, IsQueued-later, IsQueued-sent}
 
 -- ---- arrivals in flight
@@ -74,6 +71,8 @@ pub record Settled (case : LinkCase) (packets : List Packet) (givens : List Give
   pub queued : IsQueued case.trace (time_of givens) packets
   pub served : AllServedWithin case.trace (chances_past packets) (packets_of (in_flight packets givens))
   pub arriving : ArriveFrom case (time_of givens) (packets_of (in_flight packets givens))
+  pub once : RiseBelow (chances_past packets) (served_chances packets)
+  pub counts : length packets ≡ acked_of givens + lost_of givens + length (in_flight packets givens)
 
 pub settled_at_first : (case : LinkCase) → Settled case [] []
 settled_at_first case = record {
@@ -83,6 +82,8 @@ settled_at_first case = record {
   queued = λ at after. omega arith;
   served = tt;
   arriving = tt;
+  once = rise_below-none 0;
+  counts = omega arith;
 }
 
 -- ---- one more packet
@@ -128,23 +129,25 @@ module _ (case : LinkCase) (trace : IsTrace case.trace) (packets : List Packet) 
             (served_by is_lost_now (is_marked case.mark queue) now own (packets_of flight) (first_chance_from case.trace trace now past) (first_chance_at case.trace trace now past) settled.served);
         arriving = subst (ArriveFrom case now) (sym flight_sent)
             (arriving_by is_lost_now (is_marked case.mark queue) now own (packets_of flight) (first_chance_from case.trace trace now past) (first_chance_at case.trace trace now past) settled.served settled.arriving);
+        once = rise_below-sent is_lost_now (is_marked case.mark queue) own now packets (first_chance_from case.trace trace now past) settled.once;
+        counts = omega (arith, settled.counts, ap length sent, length-append flight (last ∷ []));
       }
 
   -- the packet of the definition is the one that the link sends
   same_packet : packet_after case (time_of givens) packets
-      ≡ packet_by case (standing_of (record { packets = packets; givens = givens })) (first_chance case.trace (time_of givens) 0) (first_chance case.trace (time_of givens + 1) 0)
+      ≡ packet_by case (whole_of (record { packets = packets; givens = givens })) (first_chance case.trace (time_of givens) 0) (first_chance case.trace (time_of givens + 1) 0)
   same_packet =
       let now = time_of givens in
       let with_fate : Fate → Packet = λ f. record { sent_at = now; fate = f } in
       ap (λ q. with_fate (fate_by case (length packets) q (first_chance case.trace now (chances_past packets)))) (settled.queued now (omega arith))
       ∙ ap (λ k. with_fate (fate_by case (length packets) (chances_past packets - first_chance case.trace (now + 1) 0) k)) (first_chance_max case.trace trace now (chances_past packets))
 
-  pub same_standing : standing_of (record { packets = packet_after case (time_of givens) packets ∷ packets; givens = givens })
-      ≡ with_packet (standing_of (record { packets = packets; givens = givens }))
-      (packet_by case (standing_of (record { packets = packets; givens = givens })) (first_chance case.trace (time_of givens) 0) (first_chance case.trace (time_of givens + 1) 0))
+  pub same_standing : whole_of (record { packets = packet_after case (time_of givens) packets ∷ packets; givens = givens })
+      ≡ with_packet (whole_of (record { packets = packets; givens = givens }))
+      (packet_by case (whole_of (record { packets = packets; givens = givens })) (first_chance case.trace (time_of givens) 0) (first_chance case.trace (time_of givens + 1) 0))
   same_standing =
       let packet = packet_after case (time_of givens) packets in
-      let with_parts : List Packet → ℕ → Standing = λ flight sent. record {
+      let with_parts : List Packet → ℕ → Whole = λ flight sent. record {
         time = time_of givens;
         sample = sample_of givens;
         flight = flight;
@@ -156,7 +159,7 @@ module _ (case : LinkCase) (trace : IsTrace case.trace) (packets : List Packet) 
       let more : suc (length packets) ≡ length packets + 1 = omega arith in
       ap (λ flight. with_parts flight (suc (length packets))) flight_sent
       ∙ ap (with_parts (packets_of (in_flight packets givens) ++ packet ∷ [])) more
-      ∙ ap (with_packet (standing_of (record { packets = packets; givens = givens }))) same_packet
+      ∙ ap (with_packet (whole_of (record { packets = packets; givens = givens }))) same_packet
 
 -- ---- the sending of a call
 
@@ -167,24 +170,24 @@ module _ (case : LinkCase) (trace : IsTrace case.trace) where
       settled-with_sent more (packet_after case (time_of givens) packets ∷ packets) givens (settled-sent case trace packets givens settled)
 
   sending_same : (more : ℕ) (packets : List Packet) (givens : List Given) → Settled case packets givens
-      → standing_of (record { packets = with_sent case (time_of givens) more packets; givens = givens })
-      ≡ sending case (first_chance case.trace (time_of givens) 0) (first_chance case.trace (time_of givens + 1) 0) more (standing_of (record { packets = packets; givens = givens }))
+      → whole_of (record { packets = with_sent case (time_of givens) more packets; givens = givens })
+      ≡ sending case (first_chance case.trace (time_of givens) 0) (first_chance case.trace (time_of givens + 1) 0) more (whole_of (record { packets = packets; givens = givens }))
   sending_same zero packets givens settled = refl
   sending_same (suc more) packets givens settled =
       sending_same more (packet_after case (time_of givens) packets ∷ packets) givens (settled-sent case trace packets givens settled)
       ∙ ap (sending case (first_chance case.trace (time_of givens) 0) (first_chance case.trace (time_of givens + 1) 0) more) (same_standing case trace packets givens settled)
 
   pub sent_same : (window : ℕ) (run : Run) → Settled case run.packets run.givens
-      → standing_of (record { packets = sent_by case window run; givens = run.givens }) ≡ sent_standing case window (standing_of run)
+      → whole_of (record { packets = sent_by case window run; givens = run.givens }) ≡ sent_whole case window (whole_of run)
   sent_same window run settled =
       sending_same (allowance case window - length (in_flight run.packets run.givens)) run.packets run.givens settled
-      ∙ ap (λ n. sending_now case (allowance case window - n) (standing_of run)) (sym (length-packets_of (in_flight run.packets run.givens)))
+      ∙ ap (λ n. sending_whole case (allowance case window - n) (whole_of run)) (sym (length-packets_of (in_flight run.packets run.givens)))
 
 -- ---- the acknowledgement of a call
 
 module _ (case : LinkCase) (packets : List Packet) (givens : List Given) where
-  abbrev landed_standing : List Numbered → Standing
-  landed_standing flight = with_flight (standing_of (record { packets = packets; givens = givens })) (staying (packets_of flight))
+  abbrev landed_standing : List Numbered → Whole
+  landed_standing flight = with_flight (whole_of (record { packets = packets; givens = givens })) (staying (packets_of flight))
 
   ack_same : (flight : List Numbered) (next : Next) → MatchNext flight 0 0 next → AllBelow (length packets) flight
       → (answer_by case packets givens flight next).ack ≡ ack_by case (landed_standing flight) (landing (packets_of flight) 0)
@@ -198,8 +201,8 @@ module _ (case : LinkCase) (packets : List Packet) (givens : List Given) where
   ack_same flight (arrives number sent_at chance marked) same below =
       let stay : length (left_by (packets_to number) flight) ≡ length (staying (packets_of flight)) = sym (length-packets_of (left_by (packets_to number) flight)) ∙ ap length same.1 in
       let count : lost_by (packets_to number) flight ≡ 0 + lost_by (packets_to number) flight = omega arith in
-      ap (λ n. arrival_ack case sent_at chance marked (lost_by (packets_to number) flight) n (acked_of givens + 1) (length packets)) stay
-      ∙ ap (λ lost. arrival_ack case sent_at chance marked lost (length (staying (packets_of flight))) (acked_of givens + 1) (length packets)) count
+      ap (λ n. arrival_ack case sent_at (arrival_of case chance) marked (lost_by (packets_to number) flight) n (acked_of givens + 1) (length packets)) stay
+      ∙ ap (λ lost. arrival_ack case sent_at (arrival_of case chance) marked lost (length (staying (packets_of flight))) (acked_of givens + 1) (length packets)) count
       ∙ sym (ap (ack_by case (landed_standing flight)) same.0)
 
   stay_same : (flight : List Numbered) (next : Next) → MatchNext flight 0 0 next → AllBelow (length packets) flight
@@ -222,6 +225,13 @@ module _ (case : LinkCase) (packets : List Packet) (givens : List Given) where
       let here = subst (λ (l : Landing). LandedFrom case trace (time_of givens) l rest) same.0 landed in
       (here.0, here.1)
 
+  counts_answered : (flight : List Numbered) (next : Next) → CountNext (length packets) flight next → length packets ≡ acked_of givens + lost_of givens + length flight
+      → length packets ≡ (answer_by case packets givens flight next).ack.packets_acked + acked_of givens
+      + ((answer_by case packets givens flight next).ack.lost_pkts_sample + lost_of givens)
+      + length (left_by (answer_by case packets givens flight next).taking flight)
+  counts_answered flight all_lost counted so_far = omega (arith, counted, so_far)
+  counts_answered flight (arrives number sent_at chance marked) counted so_far = omega (arith, counted, so_far)
+
 -- ---- one call
 
 module _ (case : LinkCase) (trace : IsTrace case.trace) (packets : List Packet) (givens : List Given) (settled : Settled case packets givens) where
@@ -243,19 +253,21 @@ module _ (case : LinkCase) (trace : IsTrace case.trace) (packets : List Packet) 
         queued = IsQueued-later case.trace (time_of givens) given.ack.now packets goes_on.0 settled.queued;
         served = subst (AllServedWithin case.trace (chances_past packets)) (sym stays) (all_served_within-staying case.trace (chances_past packets) (packets_of flight) settled.served);
         arriving = subst (ArriveFrom case given.ack.now) (sym stays) goes_on.1;
+        once = settled.once;
+        counts = counts_answered case packets givens flight (next_of flight) (count_next (length packets) flight (next_of flight) matches settled.below) settled.counts;
       }
 
   pub answer_same : (answer_to case packets givens).ack
-      ≡ ack_by case (with_flight (standing_of (record { packets = packets; givens = givens })) (staying (standing_of (record { packets = packets; givens = givens })).flight))
-      (landing (standing_of (record { packets = packets; givens = givens })).flight 0)
+      ≡ ack_by case (with_flight (whole_of (record { packets = packets; givens = givens })) (staying (whole_of (record { packets = packets; givens = givens })).flight))
+      (landing (whole_of (record { packets = packets; givens = givens })).flight 0)
   answer_same = ack_same case packets givens (in_flight packets givens) (next_of (in_flight packets givens)) matches settled.below
 
-  pub answered_standing : standing_of (record { packets = packets; givens = answer_to case packets givens ∷ givens })
-      ≡ with_ack (with_flight (standing_of (record { packets = packets; givens = givens })) (staying (standing_of (record { packets = packets; givens = givens })).flight))
+  pub answered_standing : whole_of (record { packets = packets; givens = answer_to case packets givens ∷ givens })
+      ≡ with_ack (with_flight (whole_of (record { packets = packets; givens = givens })) (staying (whole_of (record { packets = packets; givens = givens })).flight))
       (answer_to case packets givens).ack
   answered_standing =
       let ack = (answer_to case packets givens).ack in
-      let with_parts : List Packet → ℕ → ℕ → Standing = λ flight acked calls. record {
+      let with_parts : List Packet → ℕ → ℕ → Whole = λ flight acked calls. record {
         time = ack.now;
         sample = ack.rtt_sample_us;
         flight = flight;
@@ -277,19 +289,19 @@ module _ (case : LinkCase) (trace : IsTrace case.trace) where
       (settled-with_sent case trace (allowance case window - length (in_flight run.packets run.givens)) run.packets run.givens settled)
 
   pub ack_called : (window : ℕ) (run : Run) → Settled case run.packets run.givens
-      → (answer_to case (sent_by case window run) run.givens).ack ≡ next_ack case window (standing_of run)
+      → (answer_to case (sent_by case window run) run.givens).ack ≡ next_ack case window (whole_of run)
   ack_called window run settled =
       answer_same case trace (sent_by case window run) run.givens
       (settled-with_sent case trace (allowance case window - length (in_flight run.packets run.givens)) run.packets run.givens settled)
       ∙ ap (λ s. ack_by case (with_flight s (staying s.flight)) (landing s.flight 0)) (sent_same case trace window run settled)
 
   pub standing_called : (window : ℕ) (run : Run) → Settled case run.packets run.givens
-      → standing_of (called case window run) ≡ next_standing case window (standing_of run)
+      → whole_of (called case window run) ≡ next_whole case window (whole_of run)
   standing_called window run settled =
       answered_standing case trace (sent_by case window run) run.givens
       (settled-with_sent case trace (allowance case window - length (in_flight run.packets run.givens)) run.packets run.givens settled)
       ∙ ap (λ s. with_ack (with_flight s (staying s.flight)) (answer_to case (sent_by case window run) run.givens).ack) (sent_same case trace window run settled)
-      ∙ ap (with_ack (with_flight (sent_standing case window (standing_of run)) (staying (sent_standing case window (standing_of run)).flight))) (ack_called window run settled)
+      ∙ ap (with_ack (with_flight (sent_whole case window (whole_of run)) (staying (sent_whole case window (whole_of run)).flight))) (ack_called window run settled)
 
   -- ---- lists of windows
 
@@ -297,16 +309,16 @@ module _ (case : LinkCase) (trace : IsTrace case.trace) where
   settled-run_from [] run settled = settled
   settled-run_from (window ∷ later) run settled = settled-run_from later (called case window run) (settled-called window run settled)
 
-  settled-run_of : (windows : List ℕ) → Settled case (run_of case windows).packets (run_of case windows).givens
+  pub settled-run_of : (windows : List ℕ) → Settled case (run_of case windows).packets (run_of case windows).givens
   settled-run_of windows = settled-run_from windows (record { packets = []; givens = [] }) (settled_at_first case)
 
-  pub next_ack_same : (windows : List ℕ) (window : ℕ) (standing : Standing) → standing ≡ standing_of (run_of case windows) → next_ack case window standing ≡ ack_after case windows window
+  pub next_ack_same : (windows : List ℕ) (window : ℕ) (standing : Whole) → standing ≡ whole_of (run_of case windows) → next_ack case window standing ≡ ack_after case windows window
   next_ack_same windows window standing same =
       ap (next_ack case window) same ∙ sym (ack_called window (run_of case windows) (settled-run_of windows))
 
-  pub next_standing_same : (windows : List ℕ) (window : ℕ) (standing : Standing) → standing ≡ standing_of (run_of case windows)
-      → next_standing case window standing ≡ standing_of (run_of case (windows ++ window ∷ []))
-  next_standing_same windows window standing same =
-      ap (next_standing case window) same
+  pub next_whole_same : (windows : List ℕ) (window : ℕ) (standing : Whole) → standing ≡ whole_of (run_of case windows)
+      → next_whole case window standing ≡ whole_of (run_of case (windows ++ window ∷ []))
+  next_whole_same windows window standing same =
+      ap (next_whole case window) same
       ∙ sym (standing_called window (run_of case windows) (settled-run_of windows))
-      ∙ ap standing_of (sym (run_from-push case windows window (record { packets = []; givens = [] })))
+      ∙ ap whole_of (sym (run_from-push case windows window (record { packets = []; givens = [] })))

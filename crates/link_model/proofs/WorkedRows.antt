@@ -1,9 +1,11 @@
 -- What the definition of the link gives for a few short lists of windows.
-use Rattle.std.proofs.Common.{◌≡◌, List, ℕ, ◌≤◌, [], ◌∷◌, Some, None, true, refl, arith, lit≤}
+use Rattle.std.proofs.Common.{◌≡◌, List, ℕ, ◌≤◌, [], ◌∷◌, Some, None, true, false, refl, arith, lit≤}
 use Rattle.std.specs.Option.{ForSome}
 use Rattle.std.specs.List.Sorted.{IsStrictlyIncreasing}
 use Rattle.link_model.specs.Chances.{chance_time}
-use Rattle.link_model.specs.Link.{ack_after}
+use Rattle.link_model.specs.Link.{ack_after, run_of}
+use Rattle.link_model.specs.Standing.{Standing, standing_of}
+use Rattle.link_model.specs.Steps.{sent_standing, next_ack, next_standing}
 use Rattle.link_model.specs.declared.link_case.LinkCase.{LinkCase}
 use Rattle.ccp_base.specs.declared.ack.Ack.{Ack}
 
@@ -109,3 +111,23 @@ second_marking = ack_after marking (2896 ∷ []) 2896
 
 marked : (first_marking.now ≡ 21000) × (first_marking.ecn_packets ≡ 0) × (second_marking.now ≡ 21000) × (second_marking.ecn_bytes ≡ 1448) × (second_marking.ecn_packets ≡ 1)
 marked = (refl, refl, refl, refl, refl)
+
+-- ---- what a link keeps
+
+-- a packet that isn't lost has the lost ones before it as a number
+abbrev slow_sent : Standing
+slow_sent = sent_standing slow 4344 (standing_of slow (run_of slow []))
+
+lost_before : slow_sent.arrivals ≡ record { lost = 1; sent_at = 0; at = 21000; marked = false } ∷ record { lost = 0; sent_at = 0; at = 21000; marked = false } ∷ []
+lost_before = refl
+
+-- where the queue is full, the others are one number
+abbrev narrow_sent : Standing
+narrow_sent = sent_standing narrow 4344 (standing_of narrow (run_of narrow []))
+
+lost_after : (narrow_sent.arrivals ≡ record { lost = 0; sent_at = 0; at = 30000; marked = false } ∷ []) × (narrow_sent.lost ≡ 2) × (narrow_sent.sent ≡ 3) × (narrow_sent.chance ≡ 1)
+lost_after = (refl, refl, refl, refl)
+
+-- the steps go on as the definition does
+goes_on : (next_standing narrow 4344 (standing_of narrow (run_of narrow [])) ≡ standing_of narrow (run_of narrow (4344 ∷ []))) × (next_ack narrow 1448 (standing_of narrow (run_of narrow (4344 ∷ []))) ≡ then_all_lost)
+goes_on = (refl, refl)

@@ -1,7 +1,9 @@
 pub mod Chances
+pub mod Counts
 pub mod Horizon
 pub mod Link
 pub mod LinkLaws
 pub mod Standing
+pub mod Steps
 pub mod TraceText
 pub mod Traces

@@ -2,10 +2,18 @@
 use Rattle.std.specs.Prelude.{ℕ, zero, suc, ◌+◌, ◌-◌, ◌*◌, ◌/◌, max, min, Bool, true, false, ◌||◌, ◌&&◌, ◌==◌, nat_lt, nat_le, Option, Some, None, if◌then◌else◌, List, [], ◌∷◌, ◌++◌, length}
 use Rattle.ccp_base.specs.declared.ack.Ack.{Ack}
 use Rattle.link_model.specs.declared.link_case.LinkCase.{LinkCase}
-use Rattle.link_model.specs.declared.packet.Packet.{Packet}
-use Rattle.link_model.specs.declared.packet.Fate.{Fate}
-use Rattle.link_model.specs.declared.packet.Fate.TheVariants.{Lost, Served}
+use Rattle.ccp_base.specs.Limits.{most_flight}
 use Rattle.link_model.specs.Chances.{chance_time, first_chance}
+
+-- what becomes of a packet: it is lost, or the link sends it on at the chance of this number, and may mark it
+pub data Fate : Type 0 where
+  Lost : Fate
+  Served : ℕ → Bool → Fate
+
+-- a packet that was sent at this time, in microseconds
+pub record Packet : Type 0 where
+  pub sent_at : ℕ
+  pub fate : Fate
 
 -- what an acknowledgement takes away: a packet and the lost ones below it, or at a timeout all so many packets
 pub data Taking : Type 0 where
@@ -31,7 +39,7 @@ pub record Numbered : Type 0 where
 
 -- how many packets a window allows to be in flight
 abbrev pub allowance : LinkCase → ℕ → ℕ
-allowance case window = min 4096 (max 1 (window / case.mss))
+allowance case window = min most_flight (max 1 (window / case.mss))
 
 -- a packet has a chance later than this time
 abbrev pub waits : List ℕ → ℕ → Fate → Bool
@@ -140,10 +148,10 @@ where_lost lost number = if lost == 0 then 0 else number
 abbrev pub arrival_of : LinkCase → ℕ → ℕ
 arrival_of case chance = chance_time case.trace chance + case.delay_us
 
--- the acknowledgement of a packet with this sending time, chance and mark, where so many lost packets leave, so
+-- the acknowledgement of a packet with this sending time, arrival and mark, where so many lost packets leave, so
 -- many stay in flight, and so many were acknowledged and sent so far
 abbrev pub arrival_ack : LinkCase → ℕ → ℕ → Bool → ℕ → ℕ → ℕ → ℕ → Ack
-arrival_ack case sent_at chance marked lost stay acked sent = record {
+arrival_ack case sent_at arrival marked lost stay acked sent = record {
   bytes_acked = case.mss;
   packets_acked = 1;
   bytes_misordered = where_lost lost case.mss;
@@ -151,13 +159,13 @@ arrival_ack case sent_at chance marked lost stay acked sent = record {
   ecn_bytes = if marked then case.mss else 0;
   ecn_packets = if marked then 1 else 0;
   lost_pkts_sample = lost;
-  now = arrival_of case chance;
+  now = arrival;
   bytes_in_flight = case.mss * stay;
   packets_in_flight = stay;
   bytes_pending = 0;
-  rate_incoming = rate_of case acked (arrival_of case chance);
-  rate_outgoing = rate_of case sent (arrival_of case chance);
-  rtt_sample_us = arrival_of case chance - sent_at;
+  rate_incoming = rate_of case acked arrival;
+  rate_outgoing = rate_of case sent arrival;
+  rtt_sample_us = arrival - sent_at;
   was_timeout = false;
 }
 
@@ -198,7 +206,7 @@ next_of (sent ∷ rest) = next_by sent.number sent.packet.sent_at sent.packet.fa
 abbrev pub answer_by : LinkCase → List Packet → List Given → List Numbered → Next → Given
 answer_by case packets givens flight (arrives number sent_at chance marked) = record {
   taking = packets_to number;
-  ack = arrival_ack case sent_at chance marked (lost_by (packets_to number) flight)
+  ack = arrival_ack case sent_at (arrival_of case chance) marked (lost_by (packets_to number) flight)
       (length (left_by (packets_to number) flight)) (acked_of givens + 1) (length packets);
 }
 answer_by case packets givens flight all_lost = record {

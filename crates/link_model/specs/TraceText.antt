@@ -1,4 +1,6 @@
+-- The trace of a text: one time a line, and the first refusal.
 use Rattle.std.specs.Prelude.{ℕ, ◌+◌, Bool, true, false, ◌==◌, nat_lt, nat_le, Option, Some, None, Result, Ok, Err, if◌then◌else◌, List, [], ◌∷◌}
+use Rattle.ccp_base.specs.Limits.{most_trace_ms}
 use Rattle.ccp_base.specs.Numerals.{numeral_of}
 use Rattle.ccp_base.specs.Parts.{separates, parts_of, without_last}
 use Rattle.link_model.specs.Traces.{period}
@@ -23,10 +25,10 @@ abbrev pub without_last_blanks : List ℕ → List ℕ
 without_last_blanks [] = []
 without_last_blanks (byte ∷ rest) = in_front byte (without_last_blanks rest)
 
--- a time in milliseconds: a whole number from 0 to 3600000
+-- a time in milliseconds: a whole number up to an hour
 abbrev pub time_of : Option ℕ → TraceLine
 time_of None = Bad
-time_of (Some time) = if nat_le time 3600000 then Time time else Bad
+time_of (Some time) = if nat_le time most_trace_ms then Time time else Bad
 
 abbrev pub word_line : List ℕ → TraceLine
 word_line [] = Nothing

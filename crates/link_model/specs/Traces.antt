@@ -1,4 +1,6 @@
+-- What a trace is: the times of its chances, in milliseconds, and its period.
 use Rattle.std.specs.Prelude.{ℕ, ◌-◌, ◌<◌, ◌≤◌, List, length, slice_index}
+use Rattle.ccp_base.specs.Limits.{most_trace_ms}
 use Rattle.std.specs.List.Sorted.{IsNonDecreasing}
 
 -- the last time of a trace, after which it begins anew
@@ -10,4 +12,4 @@ pub record IsTrace (times : List ℕ) : Type 0 where
   pub some : 0 < length times
   pub rising : IsNonDecreasing times
   pub period : 0 < period times
-  pub within : (i : ℕ) → slice_index times i ≤ 3600000
+  pub within : (i : ℕ) → slice_index times i ≤ most_trace_ms

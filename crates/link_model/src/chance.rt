@@ -1,6 +1,66 @@
-ghost use Rattle.std.specs.Prelude.{IsTrue, ◌≡◌, ◌+◌, ◌*◌, ◌%◌, ◌^◌, ◌<◌, ◌≤◌, ℕ, length, slice_index};
+ghost use Rattle.std.specs.Prelude.{IsTrue, ◌≡◌, ◌+◌, ◌-◌, ◌*◌, ◌%◌, ◌^◌, ◌<◌, ◌≤◌, ℕ, length, slice_index};
 ghost use Rattle.link_model.specs.Traces.{IsTrace, period};
-ghost use Rattle.link_model.specs.Chances.{chance_time, first_chance};
+ghost use Rattle.link_model.specs.Chances.{number_of, IsFirstChance, chance_time, first_chance};
+
+use crate::trace::Trace;
+
+/// A chance of a trace: a turn of the trace, and a place in it. Both count from 0.
+#[derive(Clone, Copy, PartialEq, Eq, Debug)]
+pub struct Chance {
+    pub turn: u64,
+    pub place: usize,
+}
+
+impl Trace {
+    /// When a chance comes, in microseconds.
+    pub fn time_of(&self, chance: Chance) -> u64
+        requires place { chance.place < length self.now }
+        requires fits { chance_time self.now (number_of self.now chance) < 2 ^ 64 }
+        ensures time { result ≡ chance_time self.now (number_of self.now chance) }
+        ensures valid { IsTrace self.now }
+    {
+        time_of(self.as_slice(), chance)
+    }
+
+    /// The chance after this one.
+    pub fn after(&self, chance: Chance) -> Chance
+        requires place { chance.place < length self.now }
+        requires fits { chance.turn + 1 < 2 ^ 64 }
+        ensures number { number_of self.now result ≡ number_of self.now chance + 1 }
+        ensures place { result.place < length self.now }
+    {
+        after(self.as_slice(), chance)
+    }
+
+    /// How many chances there are from one on, up to another one that isn't before it.
+    pub fn between(&self, from: Chance, to: Chance) -> u128
+        requires from { from.place < length self.now }
+        requires to { to.place < length self.now }
+        requires order { number_of self.now from ≤ number_of self.now to }
+        ensures { result ≡ number_of self.now to - number_of self.now from }
+    {
+        between(self.as_slice(), from, to)
+    }
+
+    /// The first chance that comes at or after a time in microseconds. It goes straight to the turn of the trace in
+    /// which that chance comes, and there looks at the place `near` first, whatever that is.
+    pub fn first_chance(&self, at: u64, near: usize) -> Chance
+        requires { at + 1000 < 2 ^ 64 }
+        ensures number { number_of self.now result ≡ first_chance self.now at 0 }
+        ensures first { IsFirstChance self.now at 0 (number_of self.now result) }
+        ensures place { result.place < length self.now }
+        ensures turn { result.turn ≤ at }
+    {
+        first_chance(self.as_slice(), at, near)
+    }
+
+    /// The first chance is what its name says, from every number on.
+    pub fn first_chance_law(&self)
+        ensures { (at start : ℕ) → IsFirstChance self.now at start (first_chance self.now at start) }
+    {
+        let _ = self.as_slice();
+    }
+}
 
 /// The last time of a trace, in milliseconds.
 fn period(times: &[u32]) -> u64
@@ -11,38 +71,59 @@ fn period(times: &[u32]) -> u64
 }
 
 /// When a chance of a trace comes, in microseconds.
-pub(crate) fn chance_time(times: &[u32], chance: u128) -> u64
+fn time_of(times: &[u32], chance: Chance) -> u64
     requires valid { IsTrace times.now }
-    requires fits { chance_time times.now chance < 2 ^ 64 }
-    ensures { result ≡ chance_time times.now chance }
+    requires place { chance.place < length times.now }
+    requires fits { chance_time times.now (number_of times.now chance) < 2 ^ 64 }
+    ensures { result ≡ chance_time times.now (number_of times.now chance) }
 {
-    let count = times.len() as u128;
-    let turn = (chance / count) as u64;
-    let place = (chance % count) as usize;
-    1000 * (period(times) * turn + u64::from(times[place]))
+    1000 * (period(times) * chance.turn + u64::from(times[chance.place]))
 }
 
-/// The place in a trace of the time of a chance.
-pub(crate) fn place_of(times: &[u32], chance: u128) -> usize
-    requires { IsTrace times.now }
-    ensures { result ≡ chance % length times.now }
+/// The chance after this one.
+fn after(times: &[u32], chance: Chance) -> Chance
+    requires place { chance.place < length times.now }
+    requires fits { chance.turn + 1 < 2 ^ 64 }
+    ensures number { number_of times.now result ≡ number_of times.now chance + 1 }
+    ensures place { result.place < length times.now }
 {
-    (chance % times.len() as u128) as usize
+    if chance.place + 1 < times.len() {
+        return Chance {
+            turn: chance.turn,
+            place: chance.place + 1,
+        };
+    }
+    Chance {
+        turn: chance.turn + 1,
+        place: 0,
+    }
+}
+
+/// How many chances there are from one on, up to another one that isn't before it.
+fn between(times: &[u32], from: Chance, to: Chance) -> u128
+    requires from { from.place < length times.now }
+    requires to { to.place < length times.now }
+    requires order { number_of times.now from ≤ number_of times.now to }
+    ensures { result ≡ number_of times.now to - number_of times.now from }
+{
+    u128::from(to.turn - from.turn) * times.len() as u128 + to.place as u128 - from.place as u128
 }
 
 /// The first chance of a trace that comes at or after a time in microseconds. It goes straight to the turn of the
 /// trace in which that chance comes, and there looks at the place `near` first, whatever that is.
-pub(crate) fn first_chance(times: &[u32], at: u64, near: usize) -> u128
+fn first_chance(times: &[u32], at: u64, near: usize) -> Chance
     requires valid { IsTrace times.now }
     requires fits { at + 1000 < 2 ^ 64 }
-    ensures { result ≡ first_chance times.now at 0 }
+    ensures number { number_of times.now result ≡ first_chance times.now at 0 }
+    ensures place { result.place < length times.now }
+    ensures turn { result.turn ≤ at }
 {
     let period = period(times);
     let millis = (at + 999) / 1000;
     let turn = millis.saturating_sub(1) / period;
     let left = millis - period * turn;
     let place = place_from(times, left, near);
-    u128::from(turn) * times.len() as u128 + place as u128
+    Chance { turn, place }
 }
 
 /// The place of the first time that is at least so many milliseconds, or the number of times. It is found without

@@ -1,7 +1,9 @@
 ghost use Rattle.std.specs.Prelude.{◌≡◌, ℕ, ◌+◌, ◌<◌, ◌≤◌, List, [], ◌∷◌, ◌++◌, IfOk};
+ghost use Rattle.ccp_base.specs.Limits.{most_acks};
 ghost use Rattle.link_model.specs.Traces.{IsTrace};
-ghost use Rattle.link_model.specs.Link.{allowance, ack_after};
-ghost use Rattle.link_model.specs.Standing.{Stands, next_ack, next_standing};
+ghost use Rattle.link_model.specs.Link.{ack_after};
+ghost use Rattle.link_model.specs.Standing.{Stands};
+ghost use Rattle.link_model.specs.Steps.{next_ack, next_standing};
 
 use crate::link_case::LinkCase;
 use crate::traffic::Traffic;
@@ -18,13 +20,14 @@ pub struct Link {
 
 impl Model for Link {
     ghost use Rattle.link_model.specs.Standing.{LinkState};
-    ghost use Rattle.link_model.specs.Horizon.{IsFit};
+    ghost use Rattle.link_model.specs.Steps.{standing_in};
+    ghost use Rattle.link_model.specs.Horizon.{IsKept, IsCounted};
 
     ghost Value = { LinkState };
 
-    ghost view = { λ l. record { case = l.case; standing = l.traffic } };
+    ghost view = { λ l. record { case = l.case; standing = standing_in l.case.trace l.traffic } };
 
-    ghost invariant = { λ l. IsFit l.case l.traffic };
+    ghost invariant = { λ l. IsKept l.case l.traffic × IsCounted l.traffic };
 }
 
 impl Link {
@@ -34,7 +37,7 @@ impl Link {
         ensures stands { IfOk result (λ link. Stands link []) }
         ensures calls { IfOk result (λ link. link.standing.calls ≡ 0) }
     {
-        let traffic = Traffic::new(alloc)?;
+        let traffic = Traffic::new(alloc, &case)?;
         Ok(Link { case, traffic })
     }
 
@@ -42,13 +45,14 @@ impl Link {
     pub fn calls(&self) -> u32
         ensures { result ≡ self.now.standing.calls }
     {
-        self.traffic.calls()
+        self.traffic.calls
     }
 
-    /// Gives the link a window, in bytes, and answers the acknowledgement. At most 65,536 windows are given. The
-    /// work is constant on average, whatever time the link was idle.
+    /// Gives the link a window, in bytes, and answers the acknowledgement. At most 65,536 windows are given. A
+    /// call takes a step for each packet that it serves and one for all further ones where the queue is full; a packet
+    /// that is listed as lost takes a step, too. A chance is found by at most one search in the trace.
     pub fn next(&mut self, window: u64) -> Ack
-        requires { self.old.standing.calls < 65536 }
+        requires { self.old.standing.calls < most_acks }
         ensures ack { (windows : List ℕ) → Stands self.old windows → result ≡ ack_after self.old.case windows window }
         ensures stands { (windows : List ℕ) → Stands self.old windows → Stands self.new (windows ++ window ∷ []) }
         ensures case { self.new.case ≡ self.old.case }
@@ -58,24 +62,18 @@ impl Link {
     }
 
     fn step(&mut self, window: u64) -> Ack
-        requires { self.old.standing.calls < 65536 }
+        requires { self.old.standing.calls < most_acks }
         ensures valid { IsTrace self.old.case.trace }
         ensures case { self.new.case ≡ self.old.case }
         ensures ack { result ≡ next_ack self.old.case window self.old.standing }
         ensures standing { self.new.standing ≡ next_standing self.old.case window self.old.standing }
         ensures calls { self.new.standing.calls ≡ self.old.standing.calls + 1 }
     {
-        let in_flight = self.traffic.in_flight();
-        let more = allowance(&self.case, window).saturating_sub(in_flight);
+        let more = self
+            .case
+            .allowance(window)
+            .saturating_sub(self.traffic.in_flight);
         self.traffic.send(&self.case, more);
         self.traffic.acknowledge(&self.case)
     }
-}
-
-/// How many packets a window allows to be in flight: one at least, and 4,096 at most.
-fn allowance(case: &LinkCase, window: u64) -> usize
-    ensures value { result ≡ allowance case.now window }
-    ensures within { result ≤ 4096 }
-{
-    (window / u64::from(case.mss)).max(1).min(4096) as usize
 }

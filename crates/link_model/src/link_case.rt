@@ -1,5 +1,6 @@
 ghost use Rattle.std.specs.Prelude.{◌≡◌, ◌≤◌, ◌↔◌, IfOk, IsTrue};
 ghost use Rattle.std.specs.Option.{ForSome};
+ghost use Rattle.ccp_base.specs.Limits.{most_segment_bytes, most_queue, most_mark, most_delay_us, most_timeout_us};
 ghost use Rattle.std.specs.List.Sorted.{IsStrictlyIncreasing};
 
 use crate::trace::Trace;
@@ -23,12 +24,12 @@ pub struct LinkCase {
     pub losses: Sequence<u32>,
     /// From how many waiting packets on a packet is marked, 1 to 4,096, or no marks.
     pub mark: Option<u32>,
-    ghost mss_within: { (1 ≤ mss) × (mss ≤ 65535) },
-    ghost queue_within: { (1 ≤ queue) × (queue ≤ 4096) },
-    ghost delay_within: { delay_us ≤ 10000000 },
-    ghost timeout_within: { (1 ≤ timeout_us) × (timeout_us ≤ 60000000) },
+    ghost mss_within: { (1 ≤ mss) × (mss ≤ most_segment_bytes) },
+    ghost queue_within: { (1 ≤ queue) × (queue ≤ most_queue) },
+    ghost delay_within: { delay_us ≤ most_delay_us },
+    ghost timeout_within: { (1 ≤ timeout_us) × (timeout_us ≤ most_timeout_us) },
     ghost losses_rise: { IsStrictlyIncreasing losses },
-    ghost mark_within: { ForSome mark (λ m. (1 ≤ m) × (m ≤ 4096)) },
+    ghost mark_within: { ForSome mark (λ m. (1 ≤ m) × (m ≤ most_mark)) },
 }
 
 impl LinkCase {

@@ -1,270 +1,233 @@
-ghost use Rattle.std.specs.Prelude.{◌≡◌, ℕ, ◌+◌, ◌-◌, ◌*◌, ◌^◌, ◌<◌, ◌≤◌, [], length, IfOk, if◌then◌else◌};
-ghost use Rattle.std.specs.List.Sorted.{IsStrictlyIncreasing};
-ghost use Rattle.link_model.specs.Chances.{chance_time};
-ghost use Rattle.link_model.specs.Traces.{IsTrace};
-ghost use Rattle.link_model.specs.Link.{fate_by, is_marked, is_listed, rate_of, arrival_ack, timeout_ack};
-ghost use Rattle.link_model.specs.Standing.{packet_by, with_packet, sending_now, landing, staying, ack_by, with_flight, with_ack};
-ghost use Rattle.link_model.specs.Horizon.{IsTimely, IsCounted, LandsWithin, horizon, IsChanceBelow};
+ghost use Rattle.std.specs.Prelude.{◌≡◌, ℕ, ◌+◌, ◌-◌, ◌*◌, ◌^◌, ◌<◌, ◌≤◌, [], ◌∷◌, ◌++◌, length, IfOk};
+ghost use Rattle.ccp_base.specs.Limits.{most_flight, most_acks};
+ghost use Rattle.link_model.specs.Link.{run_of};
+ghost use Rattle.link_model.specs.Standing.{standing_of};
+ghost use Rattle.link_model.specs.Steps.{standing_in, with_lost, served_now, sending, IsQueue, ack_of, after_ack};
+ghost use Rattle.link_model.specs.Horizon.{IsKept, IsCounted};
 
-use crate::chance::{chance_time, first_chance, place_of};
-use crate::landing::{Landing, land};
+use crate::arrival::Arrival;
+use crate::chance::Chance;
 use crate::link_case::LinkCase;
-use crate::packet::{Fate, Packet};
+use crate::queue::Queue;
 use ccp_base::Ack;
 use circular_buffer::HeapCircularBuffer;
 use std::alloc::{AllocError, Global};
-use std::marker::Model;
 
 /// The most packets in flight.
-const PACKETS: usize = 4096;
+pub(crate) const PACKETS: usize = 4096;
 
 /// What is under way on a link.
 #[derive(Drop)]
 pub(crate) struct Traffic {
     /// The link's time, in microseconds.
-    time: u64,
+    pub(crate) time: u64,
     /// The last round-trip sample, in microseconds.
-    sample: u64,
-    /// The packets in flight, in the order of their numbers.
-    flight: HeapCircularBuffer<Packet>,
-    /// The number after the last chance that a packet got.
-    chance: u128,
+    pub(crate) sample: u64,
+    /// The packets in flight that aren't lost, in the order of their numbers.
+    pub(crate) flight: HeapCircularBuffer<Arrival>,
+    /// How many lost packets lie after them.
+    pub(crate) lost: u64,
+    /// How many packets are in flight, lost ones counted.
+    pub(crate) in_flight: u64,
+    /// The chance after the last one that a packet got.
+    pub(crate) next: Chance,
     /// How many packets were sent.
-    sent: u32,
+    pub(crate) sent: u64,
     /// How many packets were acknowledged.
-    acked: u64,
+    pub(crate) acked: u64,
     /// How many calls were made.
-    calls: u32,
-}
-
-impl Model for Traffic {
-    ghost use Rattle.std.specs.Prelude.{◌≡◌};
-    ghost use Rattle.link_model.specs.Standing.{Standing};
-
-    ghost Value = { Standing };
-
-    ghost view = { λ t. record { time = t.time; sample = t.sample; flight = t.flight.items; chance = t.chance; sent = t.sent; acked = t.acked; calls = t.calls } };
-
-    ghost invariant = { λ t. t.flight.capacity ≡ 4096 };
+    pub(crate) calls: u32,
+    /// How many of the losses listed have numbers below the next packet's; it may lag behind.
+    pub(crate) passed: usize,
+    /// The place in the trace of the last chance that was searched.
+    pub(crate) near: usize,
 }
 
 impl Traffic {
     /// Nothing was sent yet. The room for the packets in flight is reserved.
-    pub(crate) fn new(alloc: Global) -> Result<Traffic, AllocError>
-        ensures { IfOk result (λ t. t ≡ record { time = 0; sample = 0; flight = []; chance = 0; sent = 0; acked = 0; calls = 0 }) }
+    pub(crate) fn new(alloc: Global, case: &LinkCase) -> Result<Traffic, AllocError>
+        ensures kept { IfOk result (λ t. IsKept case.now t) }
+        ensures counted { IfOk result (λ t. IsCounted t) }
+        ensures standing { IfOk result (λ t. standing_in case.now.trace t ≡ standing_of case.now (run_of case.now [])) }
+        ensures calls { IfOk result (λ t. t.calls ≡ 0) }
     {
+        let times = case.trace.as_slice();
         let flight = HeapCircularBuffer::with_capacity(alloc, PACKETS)?;
         Ok(Traffic {
             time: 0,
             sample: 0,
             flight,
-            chance: 0,
+            lost: 0,
+            in_flight: 0,
+            next: Chance { turn: 0, place: 0 },
             sent: 0,
             acked: 0,
             calls: 0,
+            passed: 0,
+            near: times.len() - 1,
         })
     }
 
-    /// How many packets are in flight.
-    pub(crate) fn in_flight(&self) -> usize
-        ensures len { result ≡ length self.now.flight }
-        ensures within { result ≤ 4096 }
-    {
-        self.flight.len()
-    }
-
-    /// How many calls were made.
-    pub(crate) fn calls(&self) -> u32
-        ensures { result ≡ self.now.calls }
-    {
-        self.calls
-    }
-
-    /// Puts a packet into flight.
-    fn push(&mut self, packet: Packet)
-        requires room { length self.old.flight < 4096 }
-        requires sent { self.old.sent + 1 < 2 ^ 32 }
-        requires chance { IsChanceBelow packet.fate (2 ^ 127) }
-        ensures { self.new ≡ with_packet self.old packet }
-    {
-        if let Fate::Served { chance, .. } = packet.fate {
-            self.chance = self.chance.max(chance + 1);
-        }
-        self.flight.push_back(packet);
-        self.sent += 1;
-    }
-
-    /// The packet that is sent next, where `due` is the first chance that isn't before now and `later` the first
-    /// one after now. The packets with a chance later than now have the chances from `later` on, up to the last
-    /// one that was given.
-    fn packet(&self, case: &LinkCase, due: u128, later: u128) -> Packet
-        ensures { result ≡ packet_by case.now self.now due later }
-    {
-        let queued = self.chance.saturating_sub(later);
-        Packet {
-            sent_at: self.time,
-            fate: fate(case, self.sent, queued, self.chance.max(due)),
-        }
-    }
-
     /// Sends so many packets now.
-    pub(crate) fn send(&mut self, case: &LinkCase, more: usize)
-        requires timely { IsTimely case.now self.old }
-        requires room { length self.old.flight + more ≤ 4096 }
+    pub(crate) fn send(&mut self, case: &LinkCase, more: u64)
+        requires kept { IsKept case.now self.old }
+        requires room { self.old.in_flight + more ≤ most_flight }
         requires sent { self.old.sent + more ≤ 2 ^ 28 }
-        requires calls { self.old.calls ≤ 65536 }
-        ensures valid { IsTrace case.now.trace }
-        ensures sending { self.new ≡ sending_now case.now more self.old }
-        ensures timely { IsTimely case.now self.new }
-        ensures flight { length self.new.flight ≡ length self.old.flight + more }
+        requires calls { self.old.calls ≤ most_acks }
+        ensures sending { standing_in case.now.trace self.new ≡ sending case.now more (standing_in case.now.trace self.old) }
+        ensures kept { IsKept case.now self.new }
+        ensures in_flight { self.new.in_flight ≡ self.old.in_flight + more }
         ensures sent { self.new.sent ≡ self.old.sent + more }
         ensures acked { self.new.acked ≡ self.old.acked }
         ensures calls { self.new.calls ≡ self.old.calls }
     {
-        let times = case.trace.as_slice();
-        let due = first_chance(times, self.time, 0);
-        let later = first_chance(times, self.time + 1, place_of(times, due));
-        for _done in 0..more {
-            let packet = self.packet(case, due, later);
-            self.push(packet);
+        if more == 0 {
+            return;
+        }
+        let mut queue = case.trace.queue(self.next, self.time, self.near);
+        self.near = queue.near;
+        let mut left = more;
+        while left > 0 {
+            left = self.send_some(case, &mut queue, left);
         }
     }
 
-    /// Acknowledges the first packet in flight that isn't lost, or times out.
+    /// Sends one packet of so many, or all of them where the queue is full. Answers how many are left to be sent.
+    fn send_some(&mut self, case: &LinkCase, queue: &mut Queue, left: u64) -> u64
+        requires kept { IsKept case.now self.old }
+        requires queue { IsQueue case.now (standing_in case.now.trace self.old) queue.old }
+        requires some { 0 < left }
+        requires room { self.old.in_flight + left ≤ most_flight }
+        requires sent { self.old.sent + left ≤ 2 ^ 28 }
+        requires calls { self.old.calls ≤ most_acks }
+        ensures sending { sending case.now result (standing_in case.now.trace self.new) ≡ sending case.now left (standing_in case.now.trace self.old) }
+        ensures kept { IsKept case.now self.new }
+        ensures queue { IsQueue case.now (standing_in case.now.trace self.new) queue.new }
+        ensures fewer { result < left }
+        ensures in_flight { self.new.in_flight + result ≡ self.old.in_flight + left }
+        ensures sent { self.new.sent + result ≡ self.old.sent + left }
+        ensures acked { self.new.acked ≡ self.old.acked }
+        ensures calls { self.new.calls ≡ self.old.calls }
+    {
+        self.passed = case.next_loss(self.passed, self.sent);
+        if case.loses(self.passed, self.sent) {
+            self.lose(case, 1);
+            return left - 1;
+        }
+        if queue.waiting >= u128::from(case.queue) {
+            self.lose(case, left);
+            return 0;
+        }
+        self.serve(case, queue);
+        left - 1
+    }
+
+    /// Sends so many packets that are lost.
+    fn lose(&mut self, case: &LinkCase, more: u64)
+        requires kept { IsKept case.now self.old }
+        requires room { self.old.in_flight + more ≤ most_flight }
+        requires sent { self.old.sent + more ≤ 2 ^ 28 }
+        ensures standing { standing_in case.now.trace self.new ≡ with_lost more (standing_in case.now.trace self.old) }
+        ensures kept { IsKept case.now self.new }
+        ensures in_flight { self.new.in_flight ≡ self.old.in_flight + more }
+        ensures sent { self.new.sent ≡ self.old.sent + more }
+        ensures acked { self.new.acked ≡ self.old.acked }
+        ensures calls { self.new.calls ≡ self.old.calls }
+    {
+        let _ = case;
+        self.lost += more;
+        self.in_flight += more;
+        self.sent += more;
+    }
+
+    /// Sends a packet that gets the queue's next chance.
+    fn serve(&mut self, case: &LinkCase, queue: &mut Queue)
+        requires kept { IsKept case.now self.old }
+        requires queue { IsQueue case.now (standing_in case.now.trace self.old) queue.old }
+        requires waiting { queue.old.waiting < most_flight }
+        requires room { self.old.in_flight + 1 ≤ most_flight }
+        requires sent { self.old.sent + 1 ≤ 2 ^ 28 }
+        requires calls { self.old.calls ≤ most_acks }
+        ensures standing { standing_in case.now.trace self.new ≡ served_now case.now (standing_in case.now.trace self.old) }
+        ensures kept { IsKept case.now self.new }
+        ensures queue { IsQueue case.now (standing_in case.now.trace self.new) queue.new }
+        ensures in_flight { self.new.in_flight ≡ self.old.in_flight + 1 }
+        ensures sent { self.new.sent ≡ self.old.sent + 1 }
+        ensures acked { self.new.acked ≡ self.old.acked }
+        ensures calls { self.new.calls ≡ self.old.calls }
+    {
+        let own = case.trace.time_of(queue.next);
+        let arrival = Arrival {
+            lost: self.lost,
+            sent_at: self.time,
+            at: own + case.delay_us,
+            marked: case.marks(queue.waiting),
+        };
+        put(&mut self.flight, arrival);
+        self.lost = 0;
+        self.in_flight += 1;
+        self.sent += 1;
+        self.next = case.trace.after(queue.next);
+        queue.next = self.next;
+        if own > self.time {
+            queue.waiting += 1;
+        }
+    }
+
+    /// Acknowledges the first packet in flight that isn't lost, or times out where there is none.
     pub(crate) fn acknowledge(&mut self, case: &LinkCase) -> Ack
-        requires timely { IsTimely case.now self.old }
-        requires flight { length self.old.flight ≤ 4096 }
+        requires kept { IsKept case.now self.old }
         requires sent { self.old.sent ≤ 2 ^ 28 }
         requires acked { self.old.acked ≤ self.old.calls }
-        requires calls { self.old.calls < 65536 }
-        ensures ack { result ≡ ack_by case.now (with_flight self.old (staying self.old.flight)) (landing self.old.flight 0) }
-        ensures standing { self.new ≡ with_ack (with_flight self.old (staying self.old.flight)) result }
-        ensures timely { IsTimely case.now self.new }
-        ensures flight { length self.new.flight ≤ 4096 }
+        requires calls { self.old.calls < most_acks }
+        ensures ack { result ≡ ack_of case.now (standing_in case.now.trace self.old) }
+        ensures standing { standing_in case.now.trace self.new ≡ after_ack case.now (standing_in case.now.trace self.old) }
+        ensures kept { IsKept case.now self.new }
         ensures sent { self.new.sent ≡ self.old.sent }
         ensures acked { self.new.acked ≤ self.new.calls }
         ensures calls { self.new.calls ≡ self.old.calls + 1 }
     {
-        let landing = land(&mut self.flight);
-        let ack = self.ack(case, landing);
-        self.time = ack.now;
-        self.sample = ack.rtt_sample_us;
-        self.acked += ack.packets_acked;
+        let Some(arrival) = self.flight.pop_front() else {
+            return self.time_out(case);
+        };
+        self.in_flight -= arrival.lost + 1;
+        self.acked += 1;
         self.calls += 1;
-        ack
+        self.time = arrival.at;
+        self.sample = arrival.at - arrival.sent_at;
+        case.arrival_ack(arrival, self.in_flight, self.acked, self.sent)
     }
 
-    fn ack(&self, case: &LinkCase, landing: Landing) -> Ack
-        requires within { LandsWithin case.now.trace (horizon self.now.sent self.now.calls) landing }
-        requires time { self.now.time ≤ horizon self.now.sent self.now.calls }
-        requires counted { IsCounted self.now }
-        ensures ack { result ≡ ack_by case.now self.now landing }
-        ensures time { result.now ≤ horizon self.now.sent (self.now.calls + 1) }
-        ensures acked { result.packets_acked ≤ 1 }
+    /// Times out: all packets in flight are lost.
+    fn time_out(&mut self, case: &LinkCase) -> Ack
+        requires kept { IsKept case.now self.old }
+        requires none { self.old.flight.items ≡ [] }
+        requires sent { self.old.sent ≤ 2 ^ 28 }
+        requires acked { self.old.acked ≤ self.old.calls }
+        requires calls { self.old.calls < most_acks }
+        ensures ack { result ≡ ack_of case.now (standing_in case.now.trace self.old) }
+        ensures standing { standing_in case.now.trace self.new ≡ after_ack case.now (standing_in case.now.trace self.old) }
+        ensures kept { IsKept case.now self.new }
+        ensures sent { self.new.sent ≡ self.old.sent }
+        ensures acked { self.new.acked ≡ self.old.acked }
+        ensures calls { self.new.calls ≡ self.old.calls + 1 }
     {
-        match landing {
-            Landing::Arrived {
-                sent_at,
-                chance,
-                marked,
-                lost,
-            } => self.arrival(case, sent_at, chance, marked, lost),
-            Landing::AllLost { lost } => self.timeout(case, lost),
-        }
-    }
-
-    fn arrival(&self, case: &LinkCase, sent_at: u64, chance: u128, marked: bool, lost: u64) -> Ack
-        requires sent_at { sent_at ≤ chance_time case.now.trace chance }
-        requires chance { chance_time case.now.trace chance ≤ horizon self.now.sent self.now.calls }
-        requires counted { IsCounted self.now }
-        ensures { result ≡ arrival_ack case.now sent_at chance marked lost (length self.now.flight) (self.now.acked + 1) self.now.sent }
-    {
-        let now = chance_time(case.trace.as_slice(), chance) + case.delay_us;
-        let mss = u64::from(case.mss);
-        let stay = self.flight.len() as u64;
-        Ack {
-            bytes_acked: mss,
-            packets_acked: 1,
-            bytes_misordered: number_if(lost != 0, mss),
-            packets_misordered: number_if(lost != 0, 1),
-            ecn_bytes: number_if(marked, mss),
-            ecn_packets: number_if(marked, 1),
-            lost_pkts_sample: lost,
-            now,
-            bytes_in_flight: mss * stay,
-            packets_in_flight: stay,
-            bytes_pending: 0,
-            rate_incoming: rate(case, self.acked + 1, now),
-            rate_outgoing: rate(case, u64::from(self.sent), now),
-            rtt_sample_us: now - sent_at,
-            was_timeout: false,
-        }
-    }
-
-    fn timeout(&self, case: &LinkCase, lost: u64) -> Ack
-        requires time { self.now.time ≤ horizon self.now.sent self.now.calls }
-        requires counted { IsCounted self.now }
-        ensures { result ≡ timeout_ack case.now (self.now.time + case.now.timeout_us) self.now.sample lost (length self.now.flight) self.now.acked self.now.sent }
-    {
+        let lost = self.lost;
         let now = self.time + case.timeout_us;
-        let stay = self.flight.len() as u64;
-        Ack {
-            lost_pkts_sample: lost,
-            now,
-            bytes_in_flight: u64::from(case.mss) * stay,
-            packets_in_flight: stay,
-            rate_incoming: rate(case, self.acked, now),
-            rate_outgoing: rate(case, u64::from(self.sent), now),
-            rtt_sample_us: self.sample,
-            was_timeout: true,
-            ..Ack::default()
-        }
+        self.lost = 0;
+        self.in_flight = 0;
+        self.calls += 1;
+        self.time = now;
+        case.timeout_ack(now, self.sample, lost, self.acked, self.sent)
     }
 }
 
-/// The fate of a packet by its number, the number of packets that wait, and its chance.
-fn fate(case: &LinkCase, number: u32, queued: u128, chance: u128) -> Fate
-    ensures { result ≡ fate_by case.now number queued chance }
+/// Appends a packet to those in flight.
+fn put(flight: &mut HeapCircularBuffer<Arrival>, arrival: Arrival)
+    requires capacity { flight.old.capacity ≡ most_flight }
+    requires room { length flight.old.items < most_flight }
+    ensures items { flight.new.items ≡ flight.old.items ++ arrival ∷ [] }
+    ensures capacity { flight.new.capacity ≡ most_flight }
 {
-    if is_listed(case.losses.as_slice(), number) || queued >= u128::from(case.queue) {
-        return Fate::Lost;
-    }
-    Fate::Served {
-        chance,
-        marked: is_marked(case.mark, queued),
-    }
-}
-
-fn is_marked(mark: Option<u32>, queued: u128) -> bool
-    ensures { result ≡ is_marked mark queued }
-{
-    match mark {
-        Some(mark) => queued >= u128::from(mark),
-        None => false,
-    }
-}
-
-fn is_listed(losses: &[u32], number: u32) -> bool
-    requires { IsStrictlyIncreasing losses.now }
-    ensures { result ≡ is_listed number losses.now }
-{
-    losses.binary_search(&number).is_ok()
-}
-
-/// Bytes a second: that many packets up to now, or 0 at time 0.
-fn rate(case: &LinkCase, packets: u64, now: u64) -> u64
-    requires { packets ≤ 2 ^ 28 }
-    ensures { result ≡ rate_of case.now packets now }
-{
-    if now == 0 {
-        return 0;
-    }
-    u64::from(case.mss) * packets * 1_000_000 / now
-}
-
-/// A number, or 0.
-fn number_if(truth: bool, number: u64) -> u64
-    ensures { result ≡ (if truth then number else 0) }
-{
-    if truth { number } else { 0 }
+    let _ = flight.push_back(arrival);
 }

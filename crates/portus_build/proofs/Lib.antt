@@ -1,2 +1,3 @@
 mod LookLemmas
 mod Refusing
+pub mod SettledTexts

@@ -1,8 +1,14 @@
-use Rattle.std.specs.Prelude.{◌≡◌, ℕ, ◌<◌, Option}
+-- The number of a declaration, and when two looks are equal.
+use Rattle.std.specs.Prelude.{◌≡◌, ℕ, ◌<◌, ◌≤◌, Option, List, length, position}
+use Rattle.std.proofs.Common.{ap}
+use Rattle.std.proofs.lemmas.List.{take_all}
 use Rattle.std.specs.Option.{ForSome}
 use Rattle.std.specs.Coded.{le_prop}
 use Rattle.std.proofs.Math.Path.{PathP, to_path_p}
+use Rattle.ccp_base.specs.Limits.{most_fields}
 use Rattle.ccp_base.specs.declared.look.Look.{Look}
+use Rattle.portus_core.specs.declared.program.Decl.{Decl}
+use Rattle.portus_build.specs.Looks.{has_name, number_of}
 
 abbrev IsBelow : Option ℕ → Type 0
 IsBelow number = ForSome number (λ n. n < 64)
@@ -33,3 +39,7 @@ same_look a b acked loss timeout rtt inflight cap mss ecn = λ i. record {
   mss_below = same_below a.mss b.mss mss a.mss_below b.mss_below i;
   ecn_below = same_below a.ecn b.ecn ecn a.ecn_below b.ecn_below i;
 }
+
+-- a program's declarations are all among these
+pub number_of-all : (name : List ℕ) (decls : List Decl) → length decls ≤ most_fields → number_of name decls ≡ position (has_name name) decls
+number_of-all name decls short = ap (position (has_name name)) (take_all most_fields decls short)

@@ -4,3 +4,4 @@ pub mod Outcomes
 pub mod Builtins
 pub mod Looks
 pub mod RefusalText
+pub mod Settled

@@ -3,9 +3,10 @@ use Rattle.std.specs.Prelude.{◌≡◌, ℕ, ◌<◌, ◌≤◌, Bool, nat_lt, 
 use Rattle.std.specs.Option.{ForSome}
 use Rattle.std.specs.Str.{bytes_eq}
 use Rattle.std.specs.List.{position_or_len}
-use Rattle.std.proofs.Common.{arith, ap}
-use Rattle.std.proofs.lemmas.List.{length-take, take_all}
+use Rattle.std.proofs.Common.{arith}
+use Rattle.std.proofs.lemmas.List.{length-take}
 use Rattle.std.proofs.lemmas.Bool.Decides.{nat_tests}
+use Rattle.ccp_base.specs.Limits.{most_fields}
 use Rattle.ccp_base.specs.declared.look.Look.{Look}
 use Rattle.portus_core.specs.declared.program.Decl.{Decl}
 use Rattle.portus_core.specs.Programs.{Form}
@@ -13,27 +14,20 @@ use Rattle.portus_core.specs.Programs.{Form}
 abbrev pub has_name : List ℕ → Decl → Bool
 has_name name decl = bytes_eq decl.name name
 
--- the number of the declaration with this name, counted from 0; a program declares at most 64
+-- the number of the declaration with this name, counted from 0; a program declares no more fields, and no
+-- more control variables, than these
 abbrev pub number_of : List ℕ → List Decl → Option ℕ
-number_of name decls = position (has_name name) (take 64 decls)
-
--- a program's declarations are all among the first 64
-pub number_of-all : (name : List ℕ) (decls : List Decl) → length decls ≤ 64 → number_of name decls ≡ position (has_name name) decls
-number_of-all name decls short = ap (position (has_name name)) (take_all 64 decls short)
+number_of name decls = position (has_name name) (take most_fields decls)
 
 below_where : (n m limit x : ℕ) → m ≤ limit → cond (nat_lt n m) (Some n) None ≡ Some x → x < limit
 below_where n m limit x short found = grind (arith, nat_tests)
 
-below_limit : (name : List ℕ) (decls : List Decl) (limit : ℕ) → length (take 64 decls) ≤ limit → ForSome (number_of name decls) (λ n. n < limit)
+below_limit : (name : List ℕ) (decls : List Decl) (limit : ℕ) → length (take most_fields decls) ≤ limit → ForSome (number_of name decls) (λ n. n < limit)
 below_limit name decls limit short = λ x found.
-    below_where (position_or_len (has_name name) (take 64 decls)) (length (take 64 decls)) limit x short found
+    below_where (position_or_len (has_name name) (take most_fields decls)) (length (take most_fields decls)) limit x short found
 
-pub number_of-below : (name : List ℕ) (decls : List Decl) → ForSome (number_of name decls) (λ n. n < 64)
-number_of-below name decls = below_limit name decls 64 (omega (arith, length-take 64 decls))
-
--- the number is that of one of the declarations
-pub number_of-within : (name : List ℕ) (decls : List Decl) → ForSome (number_of name decls) (λ n. n < length decls)
-number_of-within name decls = below_limit name decls (length decls) (omega (arith, length-take 64 decls))
+pub number_of-below : (name : List ℕ) (decls : List Decl) → ForSome (number_of name decls) (λ n. n < most_fields)
+number_of-below name decls = below_limit name decls most_fields (omega (arith, length-take most_fields decls))
 
 -- the numbers of the fields and control variables with the names that agents know
 abbrev pub look_of : Form → Look

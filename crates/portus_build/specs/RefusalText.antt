@@ -1,5 +1,6 @@
 -- The text that tells why a text is built into no code: a name, and the place where there is one.
-use Rattle.std.specs.Prelude.{ℕ, Option, Some, None, List, [], ◌++◌, codes, decimal}
+use Rattle.std.specs.Prelude.{ℕ, Option, Some, None, List, [], codes, decimal}
+use Rattle.ccp_base.specs.Text.{◌⧺◌}
 use Rattle.ccp_base.specs.declared.place.Place.{Place}
 use Rattle.portus_parser.specs.declared.fault.ParseFault.{ParseFault}
 use Rattle.portus_parser.specs.declared.fault.ParseFault.TheVariants as parse
@@ -66,17 +67,17 @@ scope_place scope.NoMemory = None
 -- a place: its line, a colon and its column
 abbrev pub place_text : Option Place → List ℕ
 place_text None = []
-place_text (Some place) = codes " at " ++ (decimal place.line ++ (codes ":" ++ decimal place.column))
+place_text (Some place) = codes " at " ⧺ decimal place.line ⧺ codes ":" ⧺ decimal place.column
 
 -- a refusal of compiling: the place of what needs too much, or the count of the program
 abbrev pub compile_text : CompileFault → List ℕ
-compile_text (compile.TooDeep place) = codes "TooDeep" ++ place_text (Some place)
-compile_text (compile.CodeTooLong count) = codes "CodeTooLong " ++ decimal count
+compile_text (compile.TooDeep place) = codes "TooDeep at " ⧺ decimal place.line ⧺ codes ":" ⧺ decimal place.column
+compile_text (compile.CodeTooLong count) = codes "CodeTooLong " ⧺ decimal count
 compile_text compile.NoMemory = codes "NoMemory"
 
 -- why a text is built into no code
 abbrev pub refusal_text : BuildFault → List ℕ
-refusal_text (build.Parse fault) = parse_name fault ++ place_text (parse_place fault)
-refusal_text (build.Scope fault) = scope_name fault ++ place_text (scope_place fault)
+refusal_text (build.Parse fault) = parse_name fault ⧺ place_text (parse_place fault)
+refusal_text (build.Scope fault) = scope_name fault ⧺ place_text (scope_place fault)
 refusal_text (build.Compile fault) = compile_text fault
 refusal_text build.NoMemory = codes "NoMemory"

@@ -6,6 +6,7 @@ ghost use Rattle.portus_build.specs.declared.fault.BuildFault.{BuildFault};
 ghost use Rattle.portus_build.specs.declared.fault.BuildFault.TheVariants.{NoMemory};
 ghost use Rattle.portus_build.specs.Outcomes.{RefusesAs};
 ghost use Rattle.portus_build.specs.Texts.{IsNoProgram, IsBuiltFrom};
+ghost use Rattle.portus_build.specs.Settled.{IsSettled};
 
 use crate::fault::BuildFault;
 use portus_parser::parse;
@@ -14,6 +15,7 @@ use scope_types::scope;
 use std::alloc::Global;
 
 /// Reads a text, finds what its names stand for, and compiles it. The refusals are those of `BuildFault`.
+#[tactic(auto, using(crate::proofs::SettledTexts::settled_text))]
 pub fn build(alloc: Global, text: &[u8]) -> Result<Built, BuildFault>
     // The answer's program is the one that the text stands for, and a text of a program that is compiled is built.
     ensures found { IfOk result (λ built. IsBuiltFrom text.now (form_of built.program)) }
@@ -23,6 +25,9 @@ pub fn build(alloc: Global, text: &[u8]) -> Result<Built, BuildFault>
     // Each refusal is the text's first one, and a text that has a first refusal is answered by it.
     ensures refused { IfErr result (λ e. e ≢ NoMemory → IsNoProgram text.now e) }
     ensures first { (refusal : BuildFault) → IsNoProgram text.now refusal → RefusesAs result refusal }
+
+    // A text stands for one program that is compiled or has one first refusal, and not both.
+    ensures settled { IsSettled text.now }
 
     // The code is no longer than the count and the lean count of the program.
     ensures within { IfOk result (λ built. length built.code.code.instrs ≤ form_count (form_of built.program)) }

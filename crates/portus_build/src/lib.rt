@@ -6,6 +6,7 @@ mod builtins;
 pub mod calls;
 mod fault;
 mod refusal;
+mod settled;
 #[cfg(test)]
 mod tests;
 
@@ -13,3 +14,4 @@ pub use building::build;
 pub use builtins::builtin;
 pub use fault::BuildFault;
 pub use refusal::put_refusal;
+pub use settled::build_law;

@@ -2,12 +2,12 @@ ghost use Rattle.std.specs.Prelude.{◌<◌};
 ghost use Rattle.std.specs.Option.{ForSome};
 
 use crate::calls::look;
-use crate::{BuildFault, build, builtin};
-use ccp_base::{Look, Place};
-use portus_core::Program;
+use crate::{BuildFault, build, builtin, put_refusal};
+use ccp_base::{Ack, Bytes, FaultKind, Fields, Look, Place, Values};
+use portus_core::{Mean, Program, print_tree};
 use portus_parser::{ParseFault, parse};
 use reg_compiler::CompileFault;
-use scope_types::{ScopeFault, scope};
+use scope_types::{ScopeFault, What, scope};
 use std::alloc::Global;
 use std::test::Fail;
 
@@ -39,25 +39,36 @@ fn refusals_come_in_order(rt: HostRuntime) {
     }
 }
 
+/// The text of a refusal.
+fn told(alloc: Global, fault: BuildFault) -> Result<Bytes, Fail> {
+    let mut text = Bytes::new(alloc);
+    put_refusal(alloc, &mut text, fault).ok().ok_or("not told")?;
+    Ok(text)
+}
+
 #[test]
 fn refusals_have_texts(rt: HostRuntime) -> Result<(), Fail> {
     let rows = [
+        (BuildFault::Parse(ParseFault::SourceTooLong), "SourceTooLong"),
         (
-            BuildFault::Parse(ParseFault::SourceTooLong),
-            "the text can't be read: SourceTooLong",
+            BuildFault::Parse(ParseFault::BadName(at(12))),
+            "BadName at 1:12",
         ),
         (
-            BuildFault::Scope(ScopeFault::NoMemory),
-            "the forms are no program: NoMemory",
+            BuildFault::Scope(ScopeFault::TooMany(at(7), What::Locals)),
+            "TooMany locals at 1:7",
+        ),
+        (
+            BuildFault::Compile(CompileFault::TooDeep(at(34))),
+            "TooDeep at 1:34",
         ),
         (
             BuildFault::Compile(CompileFault::CodeTooLong(257)),
-            "the program isn't compiled: CodeTooLong(257)",
+            "CodeTooLong 257",
         ),
-        (BuildFault::NoMemory, "out of memory"),
     ];
     for (fault, want) in rows {
-        assert_eq!(rt; format!(in rt.alloc(); "{fault}")?.as_str(), want);
+        assert_eq!(rt; told(rt.alloc(), fault)?.as_slice(), want.as_bytes());
     }
     Ok(())
 }
@@ -193,4 +204,57 @@ fn the_built_in_programs_are_built(rt: HostRuntime) {
             }
         }
     }
+}
+
+/// Bytes are counted, and reported from 3,000 on.
+const COUNTING: &[u8] = b"(def (Report (volatile acked 0)))
+(when true (:= Report.acked (+ Report.acked Ack.bytes_acked)) (fallthrough))
+(when (> Report.acked 2999) (report))
+";
+
+#[test]
+fn a_measurement_is_held_and_reported(rt: HostRuntime) -> Result<(), Fail> {
+    let alloc = rt.alloc();
+    let program = program(alloc, COUNTING)?;
+    let mut ack = Ack::default();
+    ack.bytes_acked = 1500;
+    let start = program.start(alloc, &Fields::new(), 10, 20, 30)?;
+
+    let (mean, once) = program.mean(alloc, &start, &ack, true)?;
+    assert_eq!(rt; mean, Mean::Quiet);
+    assert_eq!(rt; once.fields.as_slice(), [1500].as_slice());
+
+    let (mean, kept) = program.mean(alloc, &once, &ack, false)?;
+    assert_eq!(rt; mean, Mean::Held);
+    assert_eq!(rt; kept.fields.as_slice(), [3000].as_slice());
+
+    let (mean, twice) = program.mean(alloc, &once, &ack, true)?;
+    assert_eq!(rt; mean, Mean::Reported(Values::from_slice(&[3000])));
+    assert_eq!(rt; twice.fields.as_slice(), [0].as_slice());
+
+    let (mean, thrice) = program.mean(alloc, &twice, &ack, true)?;
+    assert_eq!(rt; mean, Mean::Quiet);
+    assert_eq!(rt; thrice.fields.as_slice(), [1500].as_slice());
+    assert_eq!(rt; (thrice.cwnd, thrice.rate, thrice.zero), (10, 20, 30));
+    Ok(())
+}
+
+#[test]
+fn a_fault_has_its_place_and_leaves_all(rt: HostRuntime) -> Result<(), Fail> {
+    let alloc = rt.alloc();
+    let text = b"(def) (when true (:= Rate 1) (:= Cwnd (- 0 1)))";
+    let program = program(alloc, text)?;
+    let start = program.start(alloc, &Fields::new(), 10, 20, 30)?;
+    let (mean, after) = program.mean(alloc, &start, &Ack::default(), true)?;
+    assert_eq!(rt; mean, Mean::Fault(FaultKind::Underflow, at(40)));
+    assert_eq!(rt; (after.cwnd, after.rate), (10, 20));
+    Ok(())
+}
+
+#[test]
+fn a_text_is_printed_without_its_spaces_and_comments(rt: HostRuntime) -> Result<(), Fail> {
+    let source = parse(rt.alloc(), b" ( def )  # x").ok().ok_or("not read")?;
+    let text = print_tree(rt.alloc(), &source)?;
+    assert_eq!(rt; text.as_slice(), b"(def)\n".as_slice());
+    Ok(())
 }

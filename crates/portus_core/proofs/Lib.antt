@@ -1,3 +1,5 @@
+pub mod EnvShapes
+pub mod EventLaws
 pub mod ResetLemmas
 pub mod ValidIsRunnable
 pub mod WorkedCases

@@ -1,8 +1,11 @@
+-- What the blocks of a program make of an acknowledgement.
 use Rattle.std.specs.Prelude.{Bool, true, false, Result, Ok, List, [], ◌∷◌}
 use Rattle.ccp_base.specs.declared.ack.Ack.{Ack}
+use Rattle.ccp_base.specs.Chaining.{then_do}
+use Rattle.ccp_base.specs.Truth.{is_true}
 use Rattle.portus_core.specs.declared.env.Env.{Env}
 use Rattle.portus_core.specs.Programs.{Action, Part}
-use Rattle.portus_core.specs.Value.{Cause, then_do, is_true, no_locals}
+use Rattle.portus_core.specs.Value.{Cause, no_locals}
 use Rattle.portus_core.specs.Command.{Going, value_in, body_of}
 
 -- before the first block

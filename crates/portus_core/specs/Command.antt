@@ -1,12 +1,14 @@
+-- What a command does.
 use Rattle.std.specs.Prelude.{ℕ, ◌-◌, Bool, true, false, not, ◌==◌, if◌then◌else◌, Some, Result, Ok, List, [], ◌∷◌, slice_set}
-use Rattle.ccp_base.specs.declared.arithmetic.FaultKind.{FaultKind}
 use Rattle.ccp_base.specs.declared.ack.Ack.{Ack}
-use Rattle.ccp_base.specs.CheckedNumbers.{sum_of, product_of, quotient_of}
+use Rattle.ccp_base.specs.Blending.{blended}
+use Rattle.ccp_base.specs.Chaining.{then_do}
+use Rattle.ccp_base.specs.Truth.{is_true}
 use Rattle.portus_core.specs.declared.env.Env.{Env}
 use Rattle.portus_core.specs.declared.program.Var.{Var}
 use Rattle.portus_core.specs.declared.program.Var.TheVariants as var
 use Rattle.portus_core.specs.Programs.{Term, Action, set, set_if, set_unless, ewma, zero_micros, report, fall}
-use Rattle.portus_core.specs.Value.{Cause, Locals, then_do, is_true, at_place, read_of, value_of}
+use Rattle.portus_core.specs.Value.{Cause, Locals, at_place, read_of, value_of}
 
 -- what goes along from command to command: whether a report was asked for, and whether the body falls through
 pub record Going : Type 0 where
@@ -32,12 +34,6 @@ written (var.Prim n) value going = going
 abbrev pub written_where : Bool → Var → ℕ → Going → Going
 written_where true v value going = written v value going
 written_where false v value going = going
-
--- a number moved towards a value, with its own weight in tenths; at 0 it becomes the value
-abbrev pub blended : ℕ → ℕ → ℕ → Result ℕ FaultKind
-blended weight old value =
-    if old == 0 then Ok value
-    else then_do (product_of weight old) (λ a. then_do (product_of (10 - weight) value) (λ b. then_do (sum_of a b) (λ sum. quotient_of sum 10)))
 
 abbrev pub value_in : Term → Ack → Going → Result ℕ Cause
 value_in term ack going = value_of term going.env going.locals ack

@@ -1,8 +1,9 @@
-use Rattle.std.specs.Prelude.{ℕ, ◌+◌, Bool, true, false, not, nat_lt, Option, Some, None, Result, Ok, Err, List, [], ◌∷◌, length, map, position, slice_set}
+-- An epoch: its start, its events and what they come to.
+use Rattle.std.specs.Prelude.{ℕ, ◌+◌, Bool, true, false, Option, Some, None, Result, Ok, Err, List, [], ◌∷◌, length, map, slice_set}
 use Rattle.ccp_base.specs.declared.ack.Ack.{Ack}
 use Rattle.ccp_base.specs.declared.fields.FieldReg.{FieldReg}
 use Rattle.ccp_base.specs.declared.fields.FieldReg.TheVariants as reg
-use Rattle.ccp_base.specs.FieldReg.{Pair}
+use Rattle.ccp_base.specs.FieldReg.{Pair, first_bad}
 use Rattle.portus_core.specs.declared.env.Env.{Env}
 use Rattle.portus_core.specs.declared.env.Mean.{Mean}
 use Rattle.portus_core.specs.declared.env.Mean.TheVariants.{Quiet, Reported, Held, Fault}
@@ -23,16 +24,6 @@ with_value (reg.Control i) value env = record env { controls = slice_set env.con
 abbrev pub with_values : List Pair → Env → Env
 with_values [] env = env
 with_values (pair ∷ rest) env = with_values rest (with_value pair.0 pair.1 env)
-
--- a register names a control variable that isn't there
-abbrev pub is_bad : ℕ → FieldReg → Bool
-is_bad controls (reg.Control i) = not (nat_lt i controls)
-is_bad controls reg.Cwnd = false
-is_bad controls reg.Rate = false
-
--- the place of the first such pair
-abbrev pub first_bad : ℕ → List Pair → Option ℕ
-first_bad controls values = position (λ pair. is_bad controls pair.0) values
 
 -- every name with its declared value; `now` is the time of the flow's last acknowledgement, 0 where there is none
 abbrev pub declared_env : Form → ℕ → ℕ → ℕ → Env

@@ -1,5 +1,6 @@
 pub mod Trees
 pub mod Programs
+pub mod Words
 pub mod ValidPrograms
 pub mod Value
 pub mod Command
@@ -8,8 +9,6 @@ pub mod OneAcknowledgement
 pub mod Epoch
 pub mod Reports
 pub mod ProgramForm
-pub mod EnvShapes
 pub mod Progress
 pub mod Runnable
 pub mod PrintedTree
-pub mod EventLaws

@@ -1,3 +1,4 @@
+-- What a program makes of one acknowledgement.
 use Rattle.std.specs.Prelude.{◌≡◌, ℕ, Bool, true, false, if◌then◌else◌, Result, Ok, Err, List, ◌∷◌, length}
 use Rattle.ccp_base.specs.declared.ack.Ack.{Ack}
 use Rattle.portus_core.specs.declared.env.Env.{Env}
@@ -9,7 +10,8 @@ use Rattle.portus_core.specs.Value.{Cause}
 use Rattle.portus_core.specs.Command.{Going}
 use Rattle.portus_core.specs.Blocks.{begun, blocks_of}
 
--- an env of a program has a number for each field and each control variable that it declares
+-- an env of a program has a number for each field and each control variable that it declares; that each of its
+-- numbers is a value below 2^64 is what the types of `Env` say
 pub record IsEnvOf (form : Form) (env : Env) : Type 0 where
   pub fields : length env.fields ≡ length form.fields
   pub controls : length env.controls ≡ length form.controls

@@ -1,3 +1,4 @@
+-- The text of a tree.
 use Rattle.std.specs.Prelude.{ℕ, List, [], ◌++◌, codes}
 use Rattle.std.specs.Fmt.{decimal}
 use Rattle.portus_core.specs.Trees.{Node, number, word, list, Nodes, none, more}

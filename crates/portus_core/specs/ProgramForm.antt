@@ -1,3 +1,4 @@
+-- What a program stands for.
 use Rattle.portus_core.specs.declared.program.Program.{Program}
 use Rattle.portus_core.specs.Programs.{Form, form_over}
 

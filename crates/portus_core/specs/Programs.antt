@@ -1,3 +1,4 @@
+-- Programs as data.
 use Rattle.std.specs.Prelude.{◌≡◌, ℕ, Bool, List, map}
 use Rattle.std.proofs.Common.{ap, ◌∙◌, sym}
 use Rattle.std.specs.declared.boxed.Box.{Box}

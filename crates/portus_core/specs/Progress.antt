@@ -1,3 +1,4 @@
+-- What a run in the code stands for.
 use Rattle.std.specs.Prelude.{◌≡◌, ℕ, Option, Result, Ok, Err, List, slice_get}
 use Rattle.std.specs.Option.{option_flatten}
 use Rattle.portus_core.specs.declared.progress.Progress.{Progress}

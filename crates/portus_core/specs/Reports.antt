@@ -1,3 +1,4 @@
+-- The reports of an epoch.
 use Rattle.std.specs.Prelude.{ℕ, ◌+◌, Option, Some, None, List, [], ◌∷◌, ◌++◌}
 use Rattle.std.specs.Option.{option_or}
 use Rattle.ccp_base.specs.declared.ack.Ack.{Ack}

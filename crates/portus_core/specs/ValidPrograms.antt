@@ -1,9 +1,13 @@
-use Rattle.std.specs.Prelude.{ℕ, ◌^◌, Bool, true, false, not, ◌&&◌, ◌||◌, ◌==◌, nat_lt, nat_le, Option, Some, None, List, [], ◌∷◌, ◌++◌, length, slice_get}
+-- Which programs are well scoped, typed and within the limits.
+use Rattle.std.specs.Prelude.{ℕ, ◌^◌, Bool, true, false, not, ◌&&◌, ◌||◌, ◌==◌, nat_lt, nat_le, Option, Some, None, List, [], ◌∷◌, ◌++◌, length, slice_get, bytes_eq}
+use Rattle.ccp_base.specs.Acknowledgement.{is_flag}
+use Rattle.ccp_base.specs.Limits.{most_fields, most_controls, most_blocks, most_locals, most_tenths, primitive_count}
 use Rattle.portus_core.specs.declared.program.Op2.{Op2}
 use Rattle.portus_core.specs.declared.program.Op2.TheVariants as op
 use Rattle.portus_core.specs.declared.program.Var.{Var}
 use Rattle.portus_core.specs.declared.program.Var.TheVariants as var
 use Rattle.portus_core.specs.declared.program.Decl.{Decl}
+use Rattle.portus_core.specs.Words.{is_field_name, is_control_name}
 use Rattle.portus_core.specs.Programs.{Term, number, truth, name, pair, Action, set, set_if, set_unless, ewma, zero_micros, report, fall, Part, Form}
 
 -- the names that an expression may use: the declared ones, and of each local of the body so far whether it is a Bool
@@ -25,7 +29,7 @@ abbrev pub is_known : Known → Var → Bool
 is_known known (var.Field i) = nat_lt i (length known.fields)
 is_known known (var.Control i) = nat_lt i (length known.controls)
 is_known known (var.Local i) = nat_lt i (length known.locals)
-is_known known (var.Prim n) = nat_lt n 15
+is_known known (var.Prim n) = nat_lt n primitive_count
 is_known known var.Cwnd = true
 is_known known var.Rate = true
 is_known known var.Micros = true
@@ -35,7 +39,7 @@ abbrev pub is_truth : Known → Var → Bool
 is_truth known (var.Field i) = declares_truth (slice_get known.fields i)
 is_truth known (var.Control i) = declares_truth (slice_get known.controls i)
 is_truth known (var.Local i) = is_told (slice_get known.locals i)
-is_truth known (var.Prim n) = n == 14
+is_truth known (var.Prim n) = is_flag n
 is_truth known var.Cwnd = false
 is_truth known var.Rate = false
 is_truth known var.Micros = false
@@ -92,14 +96,14 @@ is_target known v = is_known known v && is_writable v
 
 -- the first assignment of the body's next local
 abbrev pub is_next_local : Known → Var → Bool
-is_next_local known (var.Local i) = (i == length known.locals) && nat_lt i 8
+is_next_local known (var.Local i) = (i == length known.locals) && nat_lt i most_locals
 is_next_local known _ = false
 
 abbrev pub is_action : Known → Action → Bool
 is_action known (set v term) = (is_target known v && fits_target known v term) || (is_next_local known v && is_term known term)
 is_action known (set_if place v condition term) = is_target known v && is_condition known condition && fits_target known v term
 is_action known (set_unless place v condition term) = is_target known v && is_condition known condition && fits_target known v term
-is_action known (ewma place v weight term) = is_target known v && not (is_truth known v) && nat_le weight 10 && is_term known term
+is_action known (ewma place v weight term) = is_target known v && not (is_truth known v) && nat_le weight most_tenths && is_term known term
 is_action known zero_micros = true
 is_action known report = true
 is_action known fall = true
@@ -134,8 +138,27 @@ are_parts known (part ∷ rest) = is_part known part && are_parts known rest
 abbrev pub known_of : Form → Known
 known_of form = record { fields = form.fields; controls = form.controls; locals = [] }
 
--- whether a program is well scoped, typed and within the limits
+-- a declared value, which for a Bool is 0 or 1
+abbrev pub is_start : Decl → Bool
+is_start decl = not decl.truth || nat_le decl.start 1
+
+-- whether one of the declarations has this name
+abbrev pub is_named_in : List ℕ → List Decl → Bool
+is_named_in w [] = false
+is_named_in w (decl ∷ rest) = bytes_eq w decl.name || is_named_in w rest
+
+-- whether the declarations have values and names of their kind, and no name twice
+abbrev pub are_declared : (List ℕ → Bool) → List Decl → Bool
+are_declared is_allowed [] = true
+are_declared is_allowed (decl ∷ rest) =
+    is_allowed decl.name && is_start decl && not (is_named_in decl.name rest) && are_declared is_allowed rest
+
+-- whether the declarations of a program are well scoped
+abbrev pub is_declared : Form → Bool
+is_declared form = are_declared is_field_name form.fields && are_declared is_control_name form.controls
+
+-- whether the blocks of a program are well scoped and typed, and all is within the limits
 abbrev pub is_valid : Form → Bool
 is_valid form =
-    nat_le (length form.fields) 64 && nat_le (length form.controls) 64 && nat_le (length form.blocks) 64
-    && are_parts (known_of form) form.blocks
+    nat_le (length form.fields) most_fields && nat_le (length form.controls) most_controls
+    && nat_le (length form.blocks) most_blocks && are_parts (known_of form) form.blocks

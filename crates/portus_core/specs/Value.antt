@@ -1,8 +1,11 @@
+-- The value of an expression.
 use Rattle.std.specs.Prelude.{ℕ, ◌-◌, Bool, not, ◌&&◌, ◌||◌, ◌==◌, nat_lt, max, min, Option, None, unwrap_or, Result, Ok, Err, slice_index}
 use Rattle.ccp_base.specs.declared.arithmetic.FaultKind.{FaultKind}
 use Rattle.ccp_base.specs.declared.place.Place.{Place}
 use Rattle.ccp_base.specs.declared.ack.Ack.{Ack}
 use Rattle.ccp_base.specs.Acknowledgement.{number_of, prim}
+use Rattle.ccp_base.specs.Chaining.{then_do}
+use Rattle.ccp_base.specs.Truth.{is_true}
 use Rattle.ccp_base.specs.CheckedNumbers.{sum_of, difference_of, product_of, quotient_of}
 use Rattle.portus_core.specs.declared.env.Env.{Env}
 use Rattle.portus_core.specs.declared.program.Op2.{Op2}
@@ -15,21 +18,12 @@ use Rattle.portus_core.specs.Programs.{Term, number, truth, name, pair}
 abbrev pub Cause : Type 0
 Cause = FaultKind × Place
 
--- what comes next, unless there was a fault
-abbrev pub then_do : {A B F : Type 0} → Result A F → (A → Result B F) → Result B F
-then_do (Ok a) next = next a
-then_do (Err fault) next = Err fault
-
 -- the value of each local that has one
 abbrev pub Locals : Type 0
 Locals = ℕ → Option ℕ
 
 abbrev pub no_locals : Locals
 no_locals i = None
-
--- a number is true where it isn't 0
-abbrev pub is_true : ℕ → Bool
-is_true n = not (n == 0)
 
 -- the operation on two values
 abbrev pub applied : Op2 → ℕ → ℕ → Result ℕ FaultKind

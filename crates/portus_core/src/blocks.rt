@@ -8,8 +8,8 @@ ghost use Rattle.portus_core.specs.Progress.{going_of, IsRun};
 use crate::command::command;
 use crate::program::{Block, Cmd};
 use crate::progress::Progress;
-use crate::value::{Fault, is_true};
-use ccp_base::Ack;
+use crate::value::Fault;
+use ccp_base::{Ack, is_true};
 
 /// Runs the blocks in order, up to the first one whose body runs and doesn't fall through.
 pub fn blocks(blocks: &[Block], ack: &Ack, progress: &mut Progress) -> Result<(), Fault>

@@ -1,13 +1,13 @@
-ghost use Rattle.std.specs.Prelude.{◌≡◌, ◌≤◌, IsTrue, Ok};
+ghost use Rattle.std.specs.Prelude.{IsTrue};
 ghost use Rattle.portus_core.specs.Programs.{action_of};
 ghost use Rattle.portus_core.specs.Runnable.{is_runnable};
-ghost use Rattle.portus_core.specs.Command.{blended, command_of};
+ghost use Rattle.portus_core.specs.Command.{command_of};
 ghost use Rattle.portus_core.specs.Progress.{going_of, IsRun};
 
 use crate::program::Cmd;
 use crate::progress::Progress;
-use crate::value::{Fault, is_true};
-use ccp_base::{Ack, FaultKind, add, div, mul};
+use crate::value::Fault;
+use ccp_base::{Ack, blended, is_true};
 
 /// Runs a command. A condition and a value are both worked out, whatever the condition is.
 pub fn command(cmd: &Cmd, ack: &Ack, progress: &mut Progress) -> Result<(), Fault>
@@ -52,16 +52,4 @@ pub fn command(cmd: &Cmd, ack: &Ack, progress: &mut Progress) -> Result<(), Faul
             Ok(())
         }
     }
-}
-
-/// A number moved towards a value, with its own weight in tenths; at 0 it becomes the value.
-fn blended(weight: u64, old: u64, value: u64) -> Result<u64, FaultKind>
-    requires { weight ≤ 10 }
-    ensures { result ≡ blended weight old value }
-{
-    if old == 0 {
-        return Ok(value);
-    }
-    let sum = add(mul(weight, old)?, mul(10 - weight, value)?)?;
-    div(sum, 10)
 }

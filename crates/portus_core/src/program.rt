@@ -1,6 +1,6 @@
 ghost use Rattle.std.specs.Prelude.{IsTrue};
 ghost use Rattle.portus_core.specs.Programs.{form_over};
-ghost use Rattle.portus_core.specs.ValidPrograms.{is_valid};
+ghost use Rattle.portus_core.specs.ValidPrograms.{is_declared, is_valid};
 
 use ccp_base::{Name, Place};
 
@@ -86,12 +86,14 @@ pub struct Block {
     pub locals: u32,
 }
 
-/// A program: what it declares, in order, and its blocks. Each is well scoped and typed, and within the limits
-/// of 64 fields, 64 control variables, 64 blocks and 8 locals a body.
+/// A program: what it declares, in order, and its blocks. Its names are words that may be declared, none twice in a
+/// class, a Bool is declared as 0 or 1, its blocks are well scoped and typed, and all is within the limits of 64
+/// fields, 64 control variables, 64 blocks and 8 locals a body.
 #[derive(Debug, Drop)]
 pub struct Program {
     pub fields: Vec<Decl>,
     pub controls: Vec<Decl>,
     pub blocks: Vec<Block>,
+    ghost declared: { IsTrue (is_declared (form_over fields.items controls.items blocks.items)) },
     ghost valid: { IsTrue (is_valid (form_over fields.items controls.items blocks.items)) },
 }

@@ -2,7 +2,7 @@ ghost use Rattle.std.specs.Prelude.{◌≡◌, ◌↔◌, ℕ, ◌<◌, IfOk, If
 ghost use Rattle.portus_core.specs.declared.program.Decl.{Decl};
 ghost use Rattle.portus_core.specs.ProgramForm.{form_of};
 ghost use Rattle.portus_core.specs.OneAcknowledgement.{IsEnvOf};
-ghost use Rattle.portus_core.specs.Epoch.{with_value, with_values, is_bad, first_bad, declared_env, start_of};
+ghost use Rattle.portus_core.specs.Epoch.{with_value, with_values, declared_env, start_of};
 
 use crate::env::{Env, StartFault};
 use crate::program::{Decl, Program};
@@ -28,7 +28,7 @@ impl Program {
         ensures refused { let meant = start_of (form_of self.now) values.now cwnd rate now in
             (i : ℕ) → (result ≡ Err (StartFault.BadRegister i)) ↔ (meant ≡ Err (StartFault.BadRegister i)) }
     {
-        if let Some(i) = first_bad(self.controls.len(), values) {
+        if let Some(i) = values.first_bad(self.controls.len()) {
             return Err(StartFault::BadRegister(i));
         }
         let mut env = self.declared_env(alloc, cwnd, rate, now)?;
@@ -47,30 +47,6 @@ impl Program {
             rate,
             zero: now,
         })
-    }
-}
-
-/// The place of the first pair that names a control variable past this many.
-fn first_bad(controls: usize, values: &Fields) -> Option<u32>
-    ensures { result ≡ first_bad controls values.now }
-{
-    let place = place_of_bad(controls, values.as_slice())?;
-    Some(place as u32)
-}
-
-fn place_of_bad(controls: usize, pairs: &[(FieldReg, u64)]) -> Option<usize>
-    ensures place { result ≡ first_bad controls pairs.now }
-    ensures within { IfSome result (λ i. i < length pairs.now) }
-{
-    pairs.iter().position(|pair| is_bad(controls, pair.0))
-}
-
-fn is_bad(controls: usize, reg: FieldReg) -> bool
-    ensures { result ≡ is_bad controls reg }
-{
-    match reg {
-        FieldReg::Control(i) => usize::from(i) >= controls,
-        FieldReg::Cwnd | FieldReg::Rate => false,
     }
 }
 

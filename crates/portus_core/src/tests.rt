@@ -1,44 +1,43 @@
 use crate::{Block, Cmd, Decl, Expr, Mean, Program, Source, Tree, print_tree};
 use ccp_base::{Ack, FieldReg, Fields, Name, Place, Values};
-use std::alloc::{AllocError, Global};
+use std::alloc::Global;
 use std::test::Fail;
 
 const HERE: Place = Place { line: 1, column: 1 };
 
-fn volatile_five(name: Name) -> Decl {
-    Decl {
-        name,
+/// One field and one control variable, and a report at each acknowledgement.
+fn reporting(alloc: Global) -> Result<Program, Fail> {
+    let five = Decl {
+        name: Name::new(b"x").ok_or("a name")?,
         volatile: true,
         start: 5,
         truth: false,
-    }
-}
-
-/// One field and one control variable, and a report at each acknowledgement.
-fn reporting(alloc: Global, name: Name) -> Result<Program, AllocError> {
-    let body = Vec::from_array(alloc, [Cmd::Report])?;
+    };
     let block = Block {
         condition: Expr::Truth(true),
-        body,
+        body: Vec::from_array(alloc, [Cmd::Report])?,
         locals: 0,
     };
     Ok(Program {
-        fields: Vec::from_array(alloc, [volatile_five(name)])?,
-        controls: Vec::from_array(alloc, [volatile_five(name)])?,
+        fields: Vec::from_array(alloc, [five])?,
+        controls: Vec::from_array(alloc, [five])?,
         blocks: Vec::from_array(alloc, [block])?,
     })
 }
 
 #[test]
 fn starts_and_reports(rt: HostRuntime) -> Result<(), Fail> {
-    let name = Name::new(b"x").ok_or("a name")?;
-    let program = reporting(rt.alloc(), name)?;
+    let program = reporting(rt.alloc())?;
     let mut values = Fields::new();
     values.push(FieldReg::Control(0), 6);
     let env = program.start(rt.alloc(), &values, 10, 20, 30)?;
     assert_eq!(rt; env.fields.as_slice(), [5].as_slice());
     assert_eq!(rt; env.controls.as_slice(), [6].as_slice());
     assert_eq!(rt; (env.cwnd, env.rate, env.zero), (10, 20, 30));
+
+    let (mean, after) = program.mean(rt.alloc(), &env, &Ack::default(), false)?;
+    assert_eq!(rt; mean, Mean::Held);
+    assert_eq!(rt; after.controls.as_slice(), [6].as_slice());
 
     let (mean, after) = program.mean(rt.alloc(), &env, &Ack::default(), true)?;
     let mut told = Values::new();

@@ -1,12 +1,12 @@
 ghost use Rattle.std.specs.Prelude.{◌≡◌, slice_index, unwrap_or};
 ghost use Rattle.ccp_base.specs.Acknowledgement.{prim};
 ghost use Rattle.portus_core.specs.Programs.{term_of};
-ghost use Rattle.portus_core.specs.Value.{is_true, applied, read_of, value_of};
+ghost use Rattle.portus_core.specs.Value.{applied, read_of, value_of};
 ghost use Rattle.portus_core.specs.Progress.{locals_of};
 
 use crate::env::Env;
 use crate::program::{Expr, Op2, Var};
-use ccp_base::{Ack, FaultKind, PRIMITIVES, Place, add, bool_number, div, mul, prim, sub};
+use ccp_base::{Ack, FaultKind, PRIMITIVES, Place, add, bool_number, div, is_true, mul, prim, sub};
 
 /// An operation that has no result, with the place of its head atom.
 pub type Fault = (FaultKind, Place);
@@ -90,11 +90,4 @@ pub fn applied(op: Op2, a: u64, b: u64) -> Result<u64, FaultKind>
         Op2::And => Ok(bool_number(is_true(a) && is_true(b))),
         Op2::Or => Ok(bool_number(is_true(a) || is_true(b))),
     }
-}
-
-/// A number is true where it isn't 0.
-pub fn is_true(number: u64) -> bool
-    ensures { result ≡ is_true number }
-{
-    number != 0
 }

@@ -1,3 +1,4 @@
+-- Which bytes a text may have outside comments, and which belong to atoms.
 use Rattle.std.specs.Prelude.{ℕ, Bool, not, ◌&&◌, ◌||◌, ◌==◌, nat_lt, nat_le}
 
 -- a byte that may stand outside comments: tab, LF, CR, or one of 0x20 to 0x7E

@@ -1,3 +1,4 @@
+-- What the tokens of a text are.
 use Rattle.std.specs.Prelude.{◌≡◌, ℕ, ◌+◌, ◌<◌, ◌≤◌, Bool, true, false, not, ◌&&◌, ◌||◌, ◌==◌, IsTrue, if◌then◌else◌, List, [], ◌∷◌, ◌++◌, length, map, slice_range}
 use Rattle.std.specs.List.{list_all, All}
 use Rattle.ccp_base.specs.declared.place.Place.{Place}

@@ -1,3 +1,4 @@
+-- The place after bytes of a text.
 use Rattle.std.specs.Prelude.{ℕ, ◌+◌, ◌==◌, if◌then◌else◌, List, [], ◌∷◌}
 use Rattle.ccp_base.specs.declared.place.Place.{Place}
 

@@ -1,3 +1,4 @@
+-- The first byte of a text that may not stand where it does.
 use Rattle.std.specs.Prelude.{◌≡◌, ℕ, Bool, true, false, not, ◌==◌, Option, Some, None, if◌then◌else◌, List, [], ◌∷◌}
 use Rattle.ccp_base.specs.declared.place.Place.{Place}
 use Rattle.portus_lexer.specs.declared.token.LexFault.{LexFault}

@@ -1,4 +1,5 @@
 ghost use Rattle.std.specs.Prelude.{◌≡◌, ◌≤◌, List, length, IfOk, IfErr, OnOk};
+ghost use Rattle.ccp_base.specs.Limits.{most_text_bytes};
 ghost use Rattle.portus_lexer.specs.declared.token.Token.{Token};
 ghost use Rattle.portus_lexer.specs.declared.within.Within.TheVariants.{Gap};
 ghost use Rattle.portus_lexer.specs.Places.{first_place};
@@ -12,7 +13,7 @@ use std::alloc::Global;
 
 /// The tokens that one pass over the text finds.
 fn scanned(alloc: Global, text: &[u8]) -> Result<Tokens, LexFault>
-    requires { length text.now ≤ 65536 }
+    requires { length text.now ≤ most_text_bytes }
     ensures found { IfOk result (λ tokens. scan Gap first_place 0 text.now ≡ Ok tokens) }
     ensures refused { IfErr result (EndsScan (scan Gap first_place 0 text.now)) }
 {
@@ -28,7 +29,7 @@ fn scanned(alloc: Global, text: &[u8]) -> Result<Tokens, LexFault>
 /// The tokens of a text in order, each with its span. The text has at most 65,536 bytes.
 #[tactic(auto, using(crate::proofs::Laws::exact))]
 pub fn tokens(alloc: Global, text: &[u8]) -> Result<Tokens, LexFault>
-    requires { length text.now ≤ 65536 }
+    requires { length text.now ≤ most_text_bytes }
     ensures found { IfOk result (AreTokens text.now) }
 
     // A text has one list of tokens.

@@ -6,4 +6,4 @@ mod scan;
 mod token;
 mod within;
 
-pub use token::{LexFault, TEXT_BYTES, Token, Tokens};
+pub use token::{LexFault, Token, Tokens};

@@ -1,4 +1,5 @@
 ghost use Rattle.std.specs.Prelude.{◌≡◌, ◌+◌, ◌<◌, ◌≤◌, ◌++◌, ◌||◌, ◌==◌, [], IfOk, IfErr, OnOk, false, if◌then◌else◌};
+ghost use Rattle.ccp_base.specs.Limits.{most_text_bytes};
 ghost use Rattle.portus_lexer.specs.declared.within.Within.TheVariants.{Gap};
 ghost use Rattle.portus_lexer.specs.Bytes.{is_allowed, is_atom_byte};
 ghost use Rattle.portus_lexer.specs.Places.{first_place, step};
@@ -34,8 +35,8 @@ fn is_atom_byte(byte: u8) -> bool
 
 /// The place after a byte.
 fn step(place: Place, byte: u8) -> Place
-    requires lines { place.line ≤ 65536 }
-    requires columns { place.column ≤ 65536 }
+    requires lines { place.line ≤ most_text_bytes }
+    requires columns { place.column ≤ most_text_bytes }
     ensures { result ≡ step place byte }
 {
     if byte == b'\n' {
@@ -132,7 +133,7 @@ impl Scan {
 
     /// Puts the byte, if it is a parenthesis, at the tokens' end.
     fn parenthesis(&self, tokens: &mut Tokens, byte: u8) -> Result<(), LexFault>
-        requires { self.now.at < 65536 }
+        requires { self.now.at < most_text_bytes }
         ensures ok { OnOk result (tokens.new ≡ tokens.old ++ parenthesis self.now.place self.now.at byte) }
         ensures refused { IfErr result (FaultsAt self.now.place false) }
     {
@@ -148,7 +149,7 @@ impl Scan {
 
     /// Puts what ends with the byte at the tokens' end.
     fn put(&self, tokens: &mut Tokens, byte: u8) -> Result<(), LexFault>
-        requires { self.now.at < 65536 }
+        requires { self.now.at < most_text_bytes }
         ensures ok { OnOk result (tokens.new ≡ tokens.old ++ put_by self.now.within self.now.place self.now.at byte) }
         ensures refused { IfErr result (FaultsAt self.now.place false) }
     {
@@ -166,7 +167,7 @@ impl Scan {
 
     /// Reads a byte: puts what ends with it at the tokens' end.
     pub fn read(self, tokens: &mut Tokens, byte: u8) -> Result<Self, LexFault>
-        requires { self.at < 65536 }
+        requires { self.at < most_text_bytes }
         ensures number { IfOk result (λ next. next.at ≡ self.at + 1) }
         ensures place { IfOk result (λ next. next.place ≡ step self.place byte) }
         ensures within { IfOk result (λ next. next.within ≡ within_next self.within self.place self.at byte) }

@@ -4,9 +4,6 @@ ghost use Rattle.portus_lexer.specs.declared.token.LexFault.TheVariants.{NoMemor
 use ccp_base::{Place, Sequence};
 use std::alloc::AllocError;
 
-/// The longest text, in bytes.
-pub const TEXT_BYTES: usize = 65536;
-
 /// A parenthesis or an atom of a text: its place, and its bytes from `start` to `end`, which is left out.
 /// `start` and `end` count the text's bytes from 0.
 #[derive(Clone, Copy, Debug, PartialEq, Eq)]

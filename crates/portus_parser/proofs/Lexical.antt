@@ -6,7 +6,8 @@ use Rattle.portus_core.specs.Trees.{Node, word}
 use Rattle.portus_lexer.specs.Lexemes.{Lexeme}
 use Rattle.portus_parser.specs.declared.fault.ParseFault.{ParseFault}
 use Rattle.portus_parser.specs.declared.fault.ParseFault.TheVariants.{SourceTooLong, NotText, Unexpected, BadNumeral, BadName, Nesting, Unclosed, NoMemory}
-use Rattle.portus_parser.specs.Atoms.{atom_of, number_at, numeral_of, begins_with_digit, is_word}
+use Rattle.ccp_base.specs.Numerals.{numeral_of}
+use Rattle.portus_parser.specs.Atoms.{atom_of, number_at, begins_with_digit, is_word}
 use Rattle.portus_parser.specs.Refusals.{is_opening, is_closing, open_after, fault_in, fault_of, first_fault, last_unclosed, unclosed_at, refusal_of}
 
 -- a refusal of a text's lexemes

@@ -2,7 +2,7 @@ use Rattle.std.specs.Prelude.{◌≡◌, ℕ, ◌^◌, ◌<◌, Bool, true, fals
 use Rattle.std.specs.List.{list_all}
 use Rattle.std.specs.Fmt.{decimal}
 use Rattle.std.specs.Int.{IsInRange}
-use Rattle.std.proofs.Common.{arith, refl, ap, subst}
+use Rattle.std.proofs.Common.{arith, refl, ap, ◌∙◌, subst}
 use Rattle.std.proofs.lemmas.Bool.{and_parts, and_from, lt-ltb, ltb-true, leb-true, le-leb}
 use Rattle.std.proofs.lemmas.Bool.Decides.{nat_tests}
 use Rattle.std.proofs.lemmas.Str.Parse.{IsNumeralModel, IsDigitsTest, FoldsDigits, numerals_by_fold}
@@ -12,8 +12,10 @@ use Rattle.portus_core.specs.Trees.{number, word}
 use Rattle.portus_lexer.specs.Bytes.{is_atom_byte}
 use Rattle.portus_lexer.specs.Lexemes.{is_atom, ends_atom}
 use Rattle.portus_parser.specs.declared.fault.ParseFault.TheVariants.{BadName}
-use Rattle.portus_parser.specs.Atoms.{is_digit, decimal_from, numeral_of, begins_with_digit, number_at, is_word, atom_of}
+use Rattle.ccp_base.specs.Numerals.{is_digit, numeral_of}
+use Rattle.portus_parser.specs.Atoms.{begins_with_digit, number_at, is_word, atom_of}
 use Rattle.portus_parser.specs.Spelling.{SpellsAtom}
+use Rattle.portus_parser.proofs.Numerals.{decimal_from, numeral_from, numeral_of-digits, numeral_fits}
 
 abbrev AreDigits : List ℕ → Type 0
 AreDigits ds = list_all is_digit ds ≡ true
@@ -39,7 +41,8 @@ numeral_of-decimal : (value : ℕ) → value < 2 ^ 64 → numeral_of (decimal va
 numeral_of-decimal value fits =
     let digits = digits_decimal digits_model value fits in
     let same = digits_value-decimal digits_model value fits in
-    rw (digits, same, lt-ltb value (2 ^ 64) fits) refl
+    let at_once : numeral_from 0 (decimal value) ≡ Some value = rw (digits, same, lt-ltb value (2 ^ 64) fits) refl in
+    numeral_of-digits (decimal value) (decimal_nonempty value fits) ∙ at_once
 
 digit_is_atom_byte : (b : ℕ) → is_digit b ≡ true → is_atom_byte b ≡ true
 digit_is_atom_byte b h = grind (arith, nat_tests)
@@ -58,23 +61,16 @@ digits_begin_with_digit : (ds : List ℕ) → AreDigits ds → 0 < length ds →
 digits_begin_with_digit [] h some = absurd (omega arith)
 digits_begin_with_digit (d ∷ ds) h some = (and_parts (is_digit d) (list_all is_digit ds) h).0
 
-record HasValue (test : Bool) (own value : ℕ) : Type 0 where
-  holds : test ≡ true
-  same : own ≡ value
-
-has_value : (digit test here : Bool) (at place : Place) (text : List ℕ) (own value : ℕ) → (if digit then number_at at (if test then Some own else None) else (if here then Ok (word at text) else Err (BadName at))) ≡ Ok (number place value) → HasValue test own value
-has_value true true here at place text own value h = record { holds = refl; same = cc }
-has_value true false here at place text own value h = absurd (cc)
-has_value false test true at place text own value h = absurd (cc)
-has_value false test false at place text own value h = absurd (cc)
+has_value : (digit here : Bool) (at place : Place) (text : List ℕ) (own : Option ℕ) (value : ℕ) → (if digit then number_at at own else (if here then Ok (word at text) else Err (BadName at))) ≡ Ok (number place value) → own ≡ Some value
+has_value true here at place text (Some n) value h = let same : n ≡ value = cc in ap Some same
+has_value true here at place text None value h = absurd (cc)
+has_value false true at place text own value h = absurd (cc)
+has_value false false at place text own value h = absurd (cc)
 
 -- an atom's number is below 2^64
 value_fits : (at place : Place) (text : List ℕ) (value : ℕ) → atom_of at text ≡ Ok (number place value) → value < 2 ^ 64
 value_fits at place text value h =
-    let own = decimal_from 0 text in
-    let has = has_value (begins_with_digit text) (list_all is_digit text && nat_lt own (2 ^ 64)) (is_word text) at place text own value h in
-    let below = ltb-true own (2 ^ 64) (and_parts (list_all is_digit text) (nat_lt own (2 ^ 64)) has.holds).1 in
-    omega (arith, below, has.same)
+    numeral_fits text value (has_value (begins_with_digit text) (is_word text) at place text (numeral_of text) value h)
 
 record IsWordItself (digit here : Bool) (text name : List ℕ) : Type 0 where
   no_digit : digit ≡ false

@@ -11,7 +11,8 @@ use Rattle.portus_lexer.specs.Bytes.{is_atom_byte}
 use Rattle.portus_lexer.specs.Lexemes.{is_lexeme, is_parenthesis, is_atom, ends_atom}
 use Rattle.portus_parser.specs.declared.fault.ParseFault.{ParseFault}
 use Rattle.portus_parser.specs.declared.fault.ParseFault.TheVariants.{BadName}
-use Rattle.portus_parser.specs.Atoms.{atom_of, number_at, numeral_of, begins_with_digit, is_word}
+use Rattle.ccp_base.specs.Numerals.{numeral_of}
+use Rattle.portus_parser.specs.Atoms.{atom_of, number_at, begins_with_digit, is_word}
 use Rattle.portus_parser.specs.Refusals.{is_opening, is_closing}
 use Rattle.portus_parser.specs.Readings.{Opened, with_part, turn_of}
 

@@ -1,13 +1,13 @@
-use Rattle.std.specs.Prelude.{ℕ, ◌+◌, ◌-◌, ◌*◌, ◌^◌, Bool, false, ◌&&◌, ◌||◌, ◌==◌, nat_lt, nat_le, Option, Some, None, Result, Ok, Err, if◌then◌else◌, List, [], ◌∷◌, length, codes}
+-- What an atom of a text stands for.
+use Rattle.std.specs.Prelude.{ℕ, Bool, false, ◌&&◌, ◌||◌, ◌==◌, nat_le, Option, Some, None, Result, Ok, Err, if◌then◌else◌, List, [], ◌∷◌, length, codes}
 use Rattle.std.specs.List.{list_all}
 use Rattle.std.specs.Str.{bytes_eq}
+use Rattle.ccp_base.specs.Limits.{most_name_bytes}
+use Rattle.ccp_base.specs.Numerals.{is_digit, numeral_of}
 use Rattle.ccp_base.specs.declared.place.Place.{Place}
 use Rattle.portus_core.specs.Trees.{Node, number, word}
 use Rattle.portus_parser.specs.declared.fault.ParseFault.{ParseFault}
 use Rattle.portus_parser.specs.declared.fault.ParseFault.TheVariants.{BadNumeral, BadName}
-
-abbrev pub is_digit : ℕ → Bool
-is_digit b = nat_le 48 b && nat_le b 57
 
 -- a letter or `_`
 abbrev pub is_initial : ℕ → Bool
@@ -34,24 +34,7 @@ is_mark text =
 
 -- whether the text is a word
 abbrev pub is_word : List ℕ → Bool
-is_word text = (is_named text || is_mark text) && nat_le (length text) 64
-
--- the number that has these decimal digits after those of another number
-abbrev pub decimal_from : ℕ → List ℕ → ℕ
-decimal_from value [] = value
-decimal_from value (b ∷ rest) = decimal_from (value * 10 + (b - 48)) rest
-
--- the number with one more digit at its end, where the byte is a digit and the number is below 2^64
-abbrev pub shifted : ℕ → ℕ → Option ℕ
-shifted value b = if is_digit b && nat_lt (value * 10 + (b - 48)) (2 ^ 64) then Some (value * 10 + (b - 48)) else None
-
--- the number that has these digits after those of another, where the text is digits alone and the number is below 2^64
-abbrev pub numeral_from : ℕ → List ℕ → Option ℕ
-numeral_from value text =
-    if list_all is_digit text && nat_lt (decimal_from value text) (2 ^ 64) then Some (decimal_from value text) else None
-
-abbrev pub numeral_of : List ℕ → Option ℕ
-numeral_of text = numeral_from 0 text
+is_word text = (is_named text || is_mark text) && nat_le (length text) most_name_bytes
 
 abbrev pub begins_with_digit : List ℕ → Bool
 begins_with_digit [] = false

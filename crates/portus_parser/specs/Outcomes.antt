@@ -1,3 +1,4 @@
+-- What the outcome of reading has to do with what a text spells, and that each text is settled.
 use Rattle.std.specs.Prelude.{◌≡◌, ◌≢◌, ℕ, ◌⊎◌, Result, Ok, Err, IfOk, IfErr, List}
 use Rattle.portus_core.specs.declared.tree.Source.{Source}
 use Rattle.portus_core.specs.Trees.{Nodes, nodes_of}

@@ -1,4 +1,6 @@
+-- That a text which is printed is read as what it was printed from.
 use Rattle.std.specs.Prelude.{◌≡◌, ℕ, ◌≤◌, List, length}
+use Rattle.ccp_base.specs.Limits.{most_text_bytes}
 use Rattle.portus_core.specs.Trees.{Node, number, word, list, Nodes, none, more}
 use Rattle.portus_core.specs.PrintedTree.{printed_forms}
 use Rattle.portus_lexer.specs.Places.{first_place}
@@ -22,5 +24,5 @@ SameButPlaces left right = without_places left ≡ without_places right
 -- what a text spells is printed as a text that spells the same but for places, where that text may be read at all
 abbrev pub PrintsBack : Type 0
 PrintsBack =
-    (text : List ℕ) (forms : Nodes) → Spells text forms → length (printed_forms forms) ≤ 65536
+    (text : List ℕ) (forms : Nodes) → Spells text forms → length (printed_forms forms) ≤ most_text_bytes
     → (again : Nodes) × (Spells (printed_forms forms) again × SameButPlaces forms again)

@@ -1,6 +1,7 @@
 -- The words of the private contracts: what the stack of open lists and the parts so far become, lexeme by lexeme.
 -- What a text spells and is refused by stands in Spelling and Refusals, apart from these.
 use Rattle.std.specs.Prelude.{◌≡◌, ℕ, nat_le, Result, Ok, Err, if◌then◌else◌, List, [], ◌∷◌, ◌++◌, length, map}
+use Rattle.ccp_base.specs.Limits.{most_lists}
 use Rattle.ccp_base.specs.declared.place.Place.{Place}
 use Rattle.portus_core.specs.declared.tree.Tree.{Tree}
 use Rattle.portus_core.specs.Trees.{Node, list, collected, node_of}
@@ -24,7 +25,7 @@ pub record Reading : Type 0 where
 
 abbrev pub opened_at : Place → Reading → Result Reading ParseFault
 opened_at place reading =
-    if nat_le 64 (length reading.opens)
+    if nat_le most_lists (length reading.opens)
     then Err (Nesting place)
     else Ok (record { opens = record { place = place; before = reading.parts } ∷ reading.opens; parts = [] })
 

@@ -1,6 +1,8 @@
+-- The first refusal of a text.
 use Rattle.std.specs.Prelude.{◌≡◌, ℕ, ◌+◌, ◌-◌, ◌<◌, ◌≤◌, Bool, ◌==◌, nat_le, Option, Some, None, Result, Ok, Err, if◌then◌else◌, List, [], ◌∷◌, length, codes}
 use Rattle.std.specs.Option.{option_or}
 use Rattle.std.specs.Str.{bytes_eq}
+use Rattle.ccp_base.specs.Limits.{most_lists, most_text_bytes}
 use Rattle.ccp_base.specs.declared.place.Place.{Place}
 use Rattle.portus_core.specs.Trees.{Node}
 use Rattle.portus_lexer.specs.Strays.{stray_of}
@@ -27,7 +29,7 @@ fault_in (Err fault) = Some fault
 abbrev pub fault_of : ℕ → Lexeme → Option ParseFault
 fault_of open_lists lexeme =
     if is_opening lexeme.text
-    then (if nat_le 64 open_lists then Some (Nesting lexeme.place) else None)
+    then (if nat_le most_lists open_lists then Some (Nesting lexeme.place) else None)
     else (if open_lists == 0
     then Some (Unexpected lexeme.place)
     else (if is_closing lexeme.text then None else fault_in (atom_of lexeme.place lexeme.text)))
@@ -60,15 +62,15 @@ refusal_of lexemes = option_or (first_fault 0 lexemes) (unclosed_at (last_unclos
 
 -- a text of a length that may be read has lexemes, and this is their refusal
 pub record RefusesLexemes (text : List ℕ) (fault : ParseFault) : Type 0 where
-  pub short : length text ≤ 65536
+  pub short : length text ≤ most_text_bytes
   pub lexemes : List Lexeme
   pub divided : AreLexemesOf text lexemes
   pub first : refusal_of lexemes ≡ Some fault
 
 -- the text is refused so, by the first cause in this order
 abbrev pub IsRefused : List ℕ → ParseFault → Type 0
-IsRefused text SourceTooLong = 65536 < length text
-IsRefused text (NotText place) = (length text ≤ 65536) × (stray_of text ≡ Some place)
+IsRefused text SourceTooLong = most_text_bytes < length text
+IsRefused text (NotText place) = (length text ≤ most_text_bytes) × (stray_of text ≡ Some place)
 IsRefused text (Unexpected place) = RefusesLexemes text (Unexpected place)
 IsRefused text (BadNumeral place) = RefusesLexemes text (BadNumeral place)
 IsRefused text (BadName place) = RefusesLexemes text (BadName place)

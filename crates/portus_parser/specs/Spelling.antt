@@ -1,4 +1,6 @@
+-- What a text spells.
 use Rattle.std.specs.Prelude.{◌≡◌, ℕ, ◌+◌, ◌<◌, ◌≤◌, false, ◌&&◌, IsTrue, Ok, List, [], ◌∷◌, ◌++◌, length}
+use Rattle.ccp_base.specs.Limits.{most_lists, most_text_bytes}
 use Rattle.ccp_base.specs.declared.place.Place.{Place}
 use Rattle.portus_core.specs.Trees.{Node, number, word, list, Nodes, none, more}
 use Rattle.portus_lexer.specs.Places.{first_place, step, place_after}
@@ -19,9 +21,9 @@ pub record SpellsAtom (depth : ℕ) (at : Place) (part others : List ℕ) (node 
   pub atom : IsTrue (is_atom part && ends_atom others)
   pub spelled : atom_of at part ≡ Ok node
 
--- the bytes of a list, inside fewer than 64 others
+-- the bytes of a list, inside fewer others than may be open at once
 pub record IsListAround (depth : ℕ) (at : Place) (part inner : List ℕ) (opened : Place) : Type 0 where
-  pub nesting : depth < 64
+  pub nesting : depth < most_lists
   pub brackets : part ≡ 40 ∷ (inner ++ 41 ∷ [])
   pub place : opened ≡ at
 
@@ -43,5 +45,5 @@ abbrev mutual
 
 -- a text spells these forms; the LF at its end says that a comment ends before a LF or at the text's end
 pub record Spells (text : List ℕ) (forms : Nodes) : Type 0 where
-  pub short : length text ≤ 65536
+  pub short : length text ≤ most_text_bytes
   pub spelled : SpellsParts 0 first_place (ended text) forms

@@ -2,10 +2,11 @@ ghost use Rattle.std.specs.Prelude.{◌≡◌, ◌&&◌, IsTrue, IfOk, IfErr, Ok
 ghost use Rattle.std.specs.Str.{bytes_eq};
 ghost use Rattle.std.specs.List.{list_all};
 ghost use Rattle.portus_core.specs.Trees.{node_of};
-ghost use Rattle.portus_parser.specs.Atoms.{is_digit, is_initial, is_name_byte, is_named, is_mark, is_word, numeral_of, begins_with_digit, begins_as_name, atom_of, shifted};
+ghost use Rattle.ccp_base.specs.Numerals.{is_digit};
+ghost use Rattle.portus_parser.specs.Atoms.{is_initial, is_name_byte, is_named, is_mark, is_word, begins_with_digit, begins_as_name, atom_of};
 
 use crate::fault::ParseFault;
-use ccp_base::{Name, Place};
+use ccp_base::{Name, Place, numeral};
 use portus_core::Tree;
 
 /// Whether the byte is a decimal digit.
@@ -86,27 +87,6 @@ fn is_mark(text: &[u8]) -> bool
         || same(text, b":=")
         || same(text, b"!if")
         || same(text, b"+infinity")
-}
-
-/// The number with one more digit at its end; None where the byte is no digit, or the number is 2^64 or more.
-fn shifted(value: u64, byte: u8) -> Option<u64>
-    ensures { result ≡ shifted value byte }
-{
-    if !is_digit(byte) {
-        return None;
-    }
-    value.checked_mul(10)?.checked_add(u64::from(byte - b'0'))
-}
-
-/// The value of decimal digits; None where there is another byte, or the value is 2^64 or more.
-fn numeral(text: &[u8]) -> Option<u64>
-    ensures { result ≡ numeral_of text.now }
-{
-    let mut value: u64 = 0;
-    for byte in text {
-        value = shifted(value, *byte)?;
-    }
-    Some(value)
 }
 
 /// The word that is this text; None where it is none.

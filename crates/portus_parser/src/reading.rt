@@ -14,8 +14,11 @@ use crate::frame::Frame;
 use crate::turn::turn;
 use portus_core::{Source, Tree};
 use portus_lexer::calls::tokens;
-use portus_lexer::{TEXT_BYTES, Token};
+use portus_lexer::Token;
 use std::alloc::Global;
+
+/// The most bytes of a text.
+const TEXT_BYTES: usize = 65536;
 
 /// The bytes of a token.
 fn lexeme<'a>(text: &'a [u8], token: &Token) -> &'a [u8]

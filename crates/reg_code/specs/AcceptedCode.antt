@@ -1,8 +1,6 @@
 use Rattle.std.specs.Prelude.{◌≡◌, ℕ, ◌+◌, ◌-◌, Bool, true, false, not, ◌&&◌, ◌||◌, ◌==◌, nat_lt, nat_le, if◌then◌else◌, Option, Some, None, List, [], ◌∷◌, length}
 use Rattle.std.specs.Option.{option_or}
-use Rattle.ccp_base.specs.declared.TheConstants.{FIELDS}
-use Rattle.ccp_base.specs.declared.ack.TheConstants.{PRIMITIVES}
-use Rattle.reg_code.specs.declared.code.TheConstants.{CONTROLS, EVENTS, INSTRS, LOCALS, TEMPS, TENTHS}
+use Rattle.ccp_base.specs.Limits.{most_fields, most_controls, most_blocks, most_locals, most_temps, most_instrs, most_tenths, primitive_count}
 use Rattle.reg_code.specs.declared.code.Code.{Code}
 use Rattle.reg_code.specs.declared.code.Event.{Event}
 use Rattle.reg_code.specs.declared.code.Implicit.TheVariants.{Flag, Fall, Send, Micros}
@@ -71,12 +69,16 @@ marks_after (instr ∷ rest) marks = marks_after rest (marked marks instr)
 -- there is a register with this number
 abbrev pub is_there : Sizes → Reg → Bool
 is_there sizes (reg.Imm value) = true
-is_there sizes (reg.Prim n) = nat_lt n PRIMITIVES
+is_there sizes (reg.Prim n) = nat_lt n primitive_count
 is_there sizes (reg.Report i) = nat_lt i sizes.reports
 is_there sizes (reg.Control i) = nat_lt i sizes.controls
 is_there sizes (reg.Implicit which) = true
-is_there sizes (reg.Local i) = nat_lt i LOCALS
-is_there sizes (reg.Temp i) = nat_lt i TEMPS
+is_there sizes (reg.Local i) = nat_lt i most_locals
+is_there sizes (reg.Temp i) = nat_lt i most_temps
+
+-- each register that the instruction names is there, what it reads and what it writes
+abbrev pub are_there : Sizes → Instr → Bool
+are_there sizes instr = is_there sizes instr.left && is_there sizes instr.right && is_there sizes instr.to
 
 -- it may be an operand
 abbrev pub is_readable : Reg → Bool
@@ -108,7 +110,7 @@ is_zero (reg.Imm value) = value == 0
 is_zero _ = false
 
 abbrev pub is_weight : Reg → Bool
-is_weight (reg.Imm value) = nat_le value TENTHS
+is_weight (reg.Imm value) = nat_le value most_tenths
 is_weight _ = false
 
 -- it can't be written at all
@@ -152,7 +154,7 @@ is_misplaced part is_last instr =
 -- the first rule that an instruction fails, where it stands
 abbrev pub rule_failed : Sizes → Part → Bool → Marks → Instr → Option Rule
 rule_failed sizes part is_last marks instr =
-    rule_where (not (is_there sizes instr.left && is_there sizes instr.right && is_there sizes instr.to)) rule.Range
+    rule_where (not (are_there sizes instr)) rule.Range
     or_else rule_where (not (is_readable instr.left && is_readable instr.right)) rule.Readable
     or_else unwritten marks instr.left
     or_else unwritten marks instr.right
@@ -194,10 +196,10 @@ events_refusal (event ∷ rest) number left =
 
 abbrev pub counts_refusal : Code → Option Refusal
 counts_refusal code =
-    refusal_where (nat_lt FIELDS (length code.reports)) rule.Counts 0
-    or_else refusal_where (nat_lt CONTROLS (length code.controls)) rule.Counts 1
-    or_else refusal_where (nat_lt EVENTS (length code.events)) rule.Counts 2
-    or_else refusal_where (nat_lt INSTRS (length code.instrs)) rule.Counts 3
+    refusal_where (nat_lt most_fields (length code.reports)) rule.Counts 0
+    or_else refusal_where (nat_lt most_controls (length code.controls)) rule.Counts 1
+    or_else refusal_where (nat_lt most_blocks (length code.events)) rule.Counts 2
+    or_else refusal_where (nat_lt most_instrs (length code.instrs)) rule.Counts 3
 
 abbrev pub sizes_of : Code → Sizes
 sizes_of code = record { reports = length code.reports; controls = length code.controls }

@@ -17,16 +17,6 @@ abbrev pub with_values : List Pair → Kept → Kept
 with_values [] kept = kept
 with_values (pair ∷ rest) kept = with_values rest (with_value pair.0 pair.1 kept)
 
--- it names a control register that isn't there
-abbrev pub is_bad : ℕ → FieldReg → Bool
-is_bad controls (field.Control i) = not (nat_lt i controls)
-is_bad controls field.Cwnd = false
-is_bad controls field.Rate = false
-
--- the place of the first such pair
-abbrev pub first_bad : ℕ → List Pair → Option ℕ
-first_bad controls values = position (λ pair. is_bad controls pair.0) values
-
 -- every register with its start value; `now` is the time of the flow's last acknowledgement, 0 where there is none
 abbrev pub declared_kept : Code → ℕ → ℕ → ℕ → Kept
 declared_kept code cwnd rate now = record {

@@ -5,3 +5,5 @@ pub mod ListingText
 pub mod Sound
 pub mod SoundLaws
 pub mod RanLaws
+pub mod Places
+pub mod PackedCode

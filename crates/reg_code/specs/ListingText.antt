@@ -1,4 +1,5 @@
 use Rattle.std.specs.Prelude.{ℕ, ◌+◌, Bool, true, false, List, [], ◌∷◌, ◌++◌, codes, decimal}
+use Rattle.ccp_base.specs.Text.{◌⧺◌}
 use Rattle.reg_code.specs.declared.code.Code.{Code}
 use Rattle.reg_code.specs.declared.code.Event.{Event}
 use Rattle.reg_code.specs.declared.code.Implicit.{Implicit}
@@ -9,11 +10,6 @@ use Rattle.reg_code.specs.declared.code.Op.TheVariants as op
 use Rattle.reg_code.specs.declared.code.Reg.{Reg}
 use Rattle.reg_code.specs.declared.code.Reg.TheVariants as reg
 use Rattle.reg_code.specs.declared.code.Start.{Start}
-
-infixr 10 ◌⧺◌
--- one text after another
-abbrev pub ◌⧺◌ : List ℕ → List ℕ → List ℕ
-a ⧺ b = a ++ b
 
 abbrev pub op_text : Op → List ℕ
 op_text op.Add = codes "add"

@@ -4,13 +4,16 @@
 
 mod checked;
 mod code;
+mod limits;
+mod packed;
+pub mod places;
 mod rule;
 mod text;
 
 pub use ccp_base::{FIELDS, PRIMITIVES, Sequence};
 pub use checked::Checked;
-pub use code::{
-    CONTROLS, Code, EVENTS, Event, INSTRS, Implicit, Instr, LOCALS, Op, Reg, Start, TEMPS, TENTHS,
-};
+pub use code::{Code, Event, Implicit, Instr, Op, Reg, Start};
+pub use limits::{CONTROLS, EVENTS, INSTRS, LOCALS, TEMPS, TENTHS, limits_hold};
+pub use packed::{Packed, pack_all};
 pub use rule::{Part, Rule, Sizes};
 pub use text::listing;

@@ -2,6 +2,7 @@ ghost use Rattle.std.specs.Prelude.{◌≡◌, ◌++◌, OnOk, IfOk, ◌^◌, �
 ghost use Rattle.reg_code.specs.ListingText.{op_text, implicit_text, numbered, reg_text, keeping_text, start_line, start_lines, span_text, event_head, event_line, event_lines, operand_text, instr_head, instr_line, instr_lines, listing_text};
 
 use crate::code::{Code, Event, Implicit, Instr, Op, Reg, Start};
+use crate::packed::Packed;
 use ccp_base::{Bytes, NoMemory};
 use std::alloc::Global;
 
@@ -117,11 +118,11 @@ fn put_small_decimal(alloc: Global, text: &mut Bytes, n: u64) -> Result<(), NoMe
     Ok(())
 }
 
-fn put_instrs(alloc: Global, text: &mut Bytes, instrs: &[Instr]) -> Result<(), NoMemory>
+fn put_instrs(alloc: Global, text: &mut Bytes, instrs: &[Packed]) -> Result<(), NoMemory>
     ensures { OnOk result (text.new ≡ text.old ++ instr_lines 0 instrs.now) }
 {
     for (index, instr) in instrs.iter().enumerate() {
-        put_instr(alloc, text, index, instr)?;
+        put_instr(alloc, text, index, &instr.instr())?;
     }
     Ok(())
 }
@@ -220,6 +221,7 @@ fn op_text(op: Op) -> &'static str
 mod tests {
     use super::*;
     use crate::code::Start;
+    use crate::packed::pack_all;
     use ccp_base::Sequence;
     use std::test::Fail;
 
@@ -246,7 +248,7 @@ mod tests {
             reports: Sequence::from_vec(Vec::from_slice(alloc, starts)?),
             controls: Sequence::from_vec(Vec::from_slice(alloc, starts)?),
             events: Sequence::from_vec(Vec::from_slice(alloc, events)?),
-            instrs: Sequence::from_vec(Vec::from_slice(alloc, instrs)?),
+            instrs: pack_all(alloc, instrs)?,
         })
     }
 

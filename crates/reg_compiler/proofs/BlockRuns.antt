@@ -7,7 +7,8 @@ use Rattle.ccp_base.specs.declared.ack.Ack.{Ack}
 use Rattle.ccp_base.specs.declared.place.Place.{Place}
 use Rattle.ccp_base.specs.Acknowledgement.{number_of}
 use Rattle.portus_core.specs.Programs.{Action, Part, Form}
-use Rattle.portus_core.specs.Value.{Cause, is_true}
+use Rattle.ccp_base.specs.Truth.{is_true}
+use Rattle.portus_core.specs.Value.{Cause}
 use Rattle.portus_core.specs.Command.{Going, value_in, body_of}
 use Rattle.portus_core.specs.Blocks.{at_block, after_body, after_condition, blocks_of}
 use Rattle.portus_core.specs.ValidPrograms.{Known, is_term, term_is_truth, is_condition, is_body, is_part, are_parts, known_of}

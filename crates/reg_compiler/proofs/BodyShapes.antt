@@ -8,8 +8,11 @@ use Rattle.portus_core.specs.declared.env.Env.{Env}
 use Rattle.portus_core.specs.declared.program.Var.{Var}
 use Rattle.portus_core.specs.declared.program.Var.TheVariants as var
 use Rattle.portus_core.specs.Programs.{Action, set, set_if, set_unless, ewma, zero_micros, report, fall}
-use Rattle.portus_core.specs.Value.{then_do, is_true, at_place, read_of}
-use Rattle.portus_core.specs.Command.{Going, with_local, written, written_where, blended, value_in, command_of, body_of}
+use Rattle.ccp_base.specs.Chaining.{then_do}
+use Rattle.ccp_base.specs.Truth.{is_true}
+use Rattle.portus_core.specs.Value.{at_place, read_of}
+use Rattle.ccp_base.specs.Blending.{blended}
+use Rattle.portus_core.specs.Command.{Going, with_local, written, written_where, value_in, command_of, body_of}
 use Rattle.portus_core.specs.ValidPrograms.{Known, is_next_local, term_is_truth, known_after}
 use Rattle.portus_core.specs.ValidPrograms as names
 

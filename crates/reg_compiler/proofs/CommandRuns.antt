@@ -9,13 +9,18 @@ use Rattle.ccp_base.specs.Acknowledgement.{number_of, primitives}
 use Rattle.portus_core.specs.declared.program.Var.{Var}
 use Rattle.portus_core.specs.declared.program.Var.TheVariants as var
 use Rattle.portus_core.specs.Programs.{Term, number, Action, set, set_if, set_unless, ewma, zero_micros, report, fall}
-use Rattle.portus_core.specs.Value.{Cause, then_do as then_value, is_true, at_place, read_of}
-use Rattle.portus_core.specs.Command.{Going, written_where, blended, value_in, command_of, body_of}
+use Rattle.ccp_base.specs.Chaining.{then_do as then_value}
+use Rattle.ccp_base.specs.Truth.{is_true}
+use Rattle.portus_core.specs.Value.{Cause, at_place, read_of}
+use Rattle.ccp_base.specs.Blending.{blended}
+use Rattle.portus_core.specs.Command.{Going, written_where, value_in, command_of, body_of}
 use Rattle.portus_core.specs.Command as source
 use Rattle.portus_core.specs.ValidPrograms.{Known, is_known, is_term, is_truth, is_writable, is_target, is_next_local, is_condition, fits_target, term_is_truth, is_action, known_after, is_body}
 use Rattle.reg_code.specs.declared.code.Op.{Op}
 use Rattle.reg_code.specs.declared.code.Op.TheVariants as op
-use Rattle.reg_code.specs.CodeStep.{Variables, Regs, then_do, read, written, put, with_operand}
+use Rattle.ccp_base.specs.Chaining.{then_do}
+use Rattle.reg_code.specs.CodeStep.{Variables, Regs, read, written, put, with_operand}
+use Rattle.ccp_base.specs.Blending.{blended as mixed_as}
 use Rattle.reg_code.specs.CodeStep as code
 use Rattle.reg_compiler.specs.declared.line.Line.{Line}
 use Rattle.reg_compiler.specs.Simulation.{kept_of}
@@ -91,8 +96,8 @@ ewma-went : (result : Result ℕ Cause) (weight old : ℕ) (v : Var) (place : Pl
     → operated op.Ewma (reg_of v) place (Ok weight) result ack (regs_of going flag before) temps
     ≡ went (then_value result (λ value. then_value (at_place place (blended weight old value)) (λ mixed. Ok (source.written v mixed going)))) flag temps
 ewma-went (Ok value) weight old v place ack going flag before temps is reads =
-    ap (λ read. placed place (with_operand read (λ old. put (reg_of v) (code.blended weight old value) ack (regs_of going flag temps)))) reads
-    ∙ placed-put place (reg_of v) (code.blended weight old value) ack (regs_of going flag temps)
+    ap (λ read. placed place (with_operand read (λ old. put (reg_of v) (mixed_as weight old value) ack (regs_of going flag temps)))) reads
+    ∙ placed-put place (reg_of v) (mixed_as weight old value) ack (regs_of going flag temps)
     ∙ told-went (at_place place (blended weight old value)) v ack going flag before temps is
 ewma-went (Err cause) weight old v place ack going flag before temps is reads = refl
 

@@ -9,11 +9,13 @@ use Rattle.portus_core.specs.declared.env.Env.{Env}
 use Rattle.portus_core.specs.declared.program.Op2.{Op2}
 use Rattle.portus_core.specs.declared.program.Op2.TheVariants as source
 use Rattle.portus_core.specs.Programs.{Term, number, truth, name, pair}
-use Rattle.portus_core.specs.Value.{Cause, then_do as then_value, Locals, applied, at_place, value_of}
+use Rattle.ccp_base.specs.Chaining.{then_do as then_value}
+use Rattle.portus_core.specs.Value.{Cause, Locals, applied, at_place, value_of}
 use Rattle.portus_core.specs.ValidPrograms.{Known, is_term}
 use Rattle.reg_code.specs.declared.code.Reg.{Reg}
 use Rattle.reg_code.specs.declared.code.Reg.TheVariants as reg
-use Rattle.reg_code.specs.CodeStep.{Variables, Regs, written, put, effect, then_do, with_operand}
+use Rattle.ccp_base.specs.Chaining.{then_do}
+use Rattle.reg_code.specs.CodeStep.{Variables, Regs, written, put, effect, with_operand}
 use Rattle.reg_code.specs.declared.code.Op.{Op}
 use Rattle.reg_code.specs.declared.code.Op.TheVariants as op
 use Rattle.reg_compiler.specs.declared.line.Line.{Line}

@@ -8,7 +8,8 @@ use Rattle.ccp_base.specs.declared.place.Place.{Place}
 use Rattle.portus_core.specs.declared.env.Env.{Env}
 use Rattle.portus_core.specs.declared.program.Op2.{Op2}
 use Rattle.portus_core.specs.Programs.{Term, number, truth, name, pair}
-use Rattle.portus_core.specs.Value.{Cause, Locals, then_do, applied, at_place, value_of}
+use Rattle.ccp_base.specs.Chaining.{then_do}
+use Rattle.portus_core.specs.Value.{Cause, Locals, applied, at_place, value_of}
 use Rattle.reg_compiler.specs.Known.{known_result, known_pair, known_value, is_nameless, KnownExactly}
 
 known_result-value : (result : Result ℕ FaultKind) (place : Place) (value : ℕ) → known_result result ≡ Some value → at_place place result ≡ Ok value

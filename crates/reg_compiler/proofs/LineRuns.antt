@@ -3,7 +3,8 @@ use Rattle.std.proofs.Common.{◌≡◌, refl, ℕ, ◌<◌, Result, Ok, Err, Li
 use Rattle.ccp_base.specs.declared.ack.Ack.{Ack}
 use Rattle.ccp_base.specs.declared.place.Place.{Place}
 use Rattle.portus_core.specs.Value.{Cause}
-use Rattle.reg_code.specs.CodeStep.{Variables, Regs, Stop, fault, unset, then_do, step}
+use Rattle.ccp_base.specs.Chaining.{then_do}
+use Rattle.reg_code.specs.CodeStep.{Variables, Regs, Stop, fault, unset, step}
 use Rattle.reg_compiler.specs.declared.line.Line.{Line}
 
 -- why lines come to no registers: a fault with its place, or a register without a value

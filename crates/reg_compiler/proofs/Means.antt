@@ -8,7 +8,8 @@ use Rattle.portus_core.specs.declared.env.Env.{Env}
 use Rattle.portus_core.specs.declared.env.Mean.TheVariants.{Fault}
 use Rattle.portus_core.specs.declared.program.Decl.{Decl}
 use Rattle.portus_core.specs.Programs.{Form}
-use Rattle.portus_core.specs.Value.{Cause, is_true}
+use Rattle.ccp_base.specs.Truth.{is_true}
+use Rattle.portus_core.specs.Value.{Cause}
 use Rattle.portus_core.specs.Command.{Going}
 use Rattle.portus_core.specs.Blocks.{begun, blocks_of}
 use Rattle.portus_core.specs.OneAcknowledgement.{reset, reset_of, answered, settled}

@@ -11,7 +11,8 @@ use Rattle.portus_core.specs.ValidPrograms.{Known, is_known}
 use Rattle.reg_code.specs.declared.code.Op.{Op}
 use Rattle.reg_code.specs.declared.code.Reg.{Reg}
 use Rattle.reg_code.specs.declared.code.Reg.TheVariants as reg
-use Rattle.reg_code.specs.CodeStep.{Variables, with_value_at, Regs, then_do, read, written, with_operand, effect}
+use Rattle.ccp_base.specs.Chaining.{then_do}
+use Rattle.reg_code.specs.CodeStep.{Variables, with_value_at, Regs, read, written, with_operand, effect}
 use Rattle.reg_compiler.specs.declared.line.Line.{Line}
 use Rattle.reg_compiler.specs.CompiledCode.{reg_of, line_of, next_free, unless_direct}
 use Rattle.reg_compiler.proofs.LineRuns.{Halt, placed, run_lines, halting, with_temps, SameBelow, Comes, then_do-Ok, run_lines-append}

@@ -4,9 +4,11 @@ use Rattle.std.specs.List.{slice_get}
 use Rattle.std.specs.Prelude.{IfOk}
 use Rattle.ccp_base.specs.declared.ack.Ack.{Ack}
 use Rattle.ccp_base.specs.declared.place.Place.{Place}
-use Rattle.portus_core.specs.Value.{Cause, then_do as then_value}
+use Rattle.ccp_base.specs.Chaining.{then_do as then_value}
+use Rattle.portus_core.specs.Value.{Cause}
 use Rattle.portus_core.specs.Command.{Going}
-use Rattle.reg_code.specs.CodeStep.{Regs, Stop, fault, unset, then_do, step, Work, done, failed, stuck, then_run, after_step, run}
+use Rattle.ccp_base.specs.Chaining.{then_do}
+use Rattle.reg_code.specs.CodeStep.{Regs, Stop, fault, unset, step, Work, done, failed, stuck, then_run, after_step, run}
 use Rattle.reg_compiler.specs.declared.line.Line.{Line}
 use Rattle.reg_compiler.specs.CompiledCode.{instr_of, place_of}
 use Rattle.reg_compiler.specs.Simulation.{kept_of}

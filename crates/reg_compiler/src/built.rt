@@ -12,7 +12,8 @@ use reg_code::Checked;
 pub struct Built {
     pub program: Program,
     pub code: Checked,
-    /// The place of each instruction: that of its operation's head atom.
+    /// The place of each instruction: that of its operation's head atom, and 1:1 for a `Bind`,
+    /// which can't fault.
     pub places: Sequence<Place>,
     pub ghost simulates: { Simulates (form_of program) code.code places },
 }

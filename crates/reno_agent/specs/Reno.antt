@@ -1,6 +1,26 @@
--- Reno, by RFC 5681, sections 3.1 and 3.2, in whole numbers. It differs from the RFC in three points: it is
--- worked out once per report, not once per acknowledgement; quotients are cut; and a mark is answered as a
--- loss without lost packets. Windows, caps and thresholds are in bytes, times in microseconds.
+-- Reno, by RFC 5681, once per report, in whole numbers. Windows, caps and thresholds are in bytes, times in
+-- microseconds.
+--
+-- What is taken from the RFC:
+-- - the initial window of 2, 3 or 4 segments, and a threshold that is first as high as can be (section 3.1);
+-- - slow start below the threshold, congestion avoidance from it on (3.1);
+-- - growth by segment times acknowledged bytes over the window, by at least one byte (equation 3);
+-- - the threshold at a loss: half of the flight, at least 2 segments (equation 4);
+-- - a window of one segment and slow start after a timeout (3.1), the window at the threshold after a loss that
+--   duplicate acknowledgements tell of (3.2).
+--
+-- What is this project's own:
+-- - one step per report with the bytes of the whole report, and not per acknowledgement; quotients are cut;
+-- - sums and products stop at 2^64-1, windows and thresholds at 4,096 segments;
+-- - the flight is what is in flight at the report and what was lost since the one before;
+-- - a mark is answered as a loss without lost packets;
+-- - loss events are told apart by time: what is lost or marked within one round-trip time of the last event belongs
+--   to it; a timeout ends that time;
+-- - the window isn't inflated while packets are retransmitted, nor deflated afterwards (steps 3 to 6 of 3.2);
+-- - each timeout works the threshold out anew, also where the timer had retransmitted the same segment before;
+-- - the datapath's program moves the window in slow start, up to the cap that a change names;
+-- - a fault of that program is answered by starting it anew with the agent's window, and what is told of another
+--   epoch is passed over.
 use Rattle.std.specs.Prelude.{ℕ, ◌-◌, ◌*◌, ◌/◌, ◌^◌, ◌≤◌, ◌==◌, ◌||◌, nat_lt, nat_le, min, max, if◌then◌else◌}
 use Rattle.ccp_base.specs.Saturating.{◌+ˢ◌, ◌*ˢ◌, muldiv, held}
 use Rattle.ccp_base.specs.Reading.{reading_of}

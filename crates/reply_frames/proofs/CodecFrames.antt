@@ -15,8 +15,7 @@ use Rattle.reply_frames.specs.declared.outline.Outline.{Outline}
 use Rattle.reply_frames.specs.Parts.{Read, ◌>>=◌, byte_at, number_at, limited_at, exactly_at, repeated_at}
 use Rattle.reply_frames.specs.Kinds.{number_of, kind_of, version_number, version_of, most_n1, most_n2, most_n3, most_n4, size_of}
 use Rattle.reply_frames.specs.Frames.{counts_at, outline_at, target_at, Start, start_at, Event, event_at, Register, register_number_at, register_at, Instruction, instruction_at, value_at, values_at, Body, Create, Measure, Install, Update, Change, Fault, Ack, Refused, create_at, count_at, measure_at, install_at, update_at, change_at, fault_at, ack_at, refused_at, body_at, Frame, frame_at}
-use Rattle.reply_frames.specs.Spelling.{IsTarget, target_bytes, value_bytes, values_bytes}
-use Rattle.reply_frames.specs.Replies.{IsSendable}
+use Rattle.reply_frames.specs.ValueBytes.{IsTarget, target_bytes, value_bytes, values_bytes, IsSendable}
 use Rattle.reply_frames.specs.FrameBytes.{counts_bytes, outline_bytes, start_bytes, event_bytes, register_bytes, instruction_bytes, count_bytes, numbers_bytes, body_bytes, kind_of_body, counts, counts_of, outline_of, spelled, IsStart, IsEvent, most_number, IsRegister, IsInstruction, IsNumber, IsCount, AreCounts, HasRanges, IsSpellable}
 use Rattle.ccp_base.specs.declared.fields.FieldReg.{FieldReg}
 use Rattle.ccp_base.specs.declared.fields.FieldReg.TheVariants.{Cwnd, Rate, Control}

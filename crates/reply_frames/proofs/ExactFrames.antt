@@ -12,7 +12,7 @@ use Rattle.reply_frames.specs.declared.outline.Counts.{Counts}
 use Rattle.reply_frames.specs.Parts.{◌>>=◌, byte_at, number_at, limited_at, exactly_at, repeated_at}
 use Rattle.reply_frames.specs.Kinds.{kind_of, version_of, most_n1, most_n2, most_n3, most_n4, size_of}
 use Rattle.reply_frames.specs.Frames.{counts_at, outline_at, start_at, event_at, register_number_at, register_at, instruction_at, target_at, value_at, values_at, Create, Measure, Install, Update, Change, Fault, Ack, Refused, create_at, count_at, measure_at, install_at, update_at, change_at, fault_at, ack_at, refused_at, body_at, frame_at}
-use Rattle.reply_frames.specs.Exact.{IsExact}
+use Rattle.reply_frames.proofs.Exact.{IsExact}
 use Rattle.reply_frames.proofs.ExactParts.{exact-then, exact-ok, exact-if, exact-byte, exact-number, exact-limited, exact-exactly, exact-repeated}
 
 pub exact-counts : (kind : FrameKind) (version : Version) → IsExact (counts_at kind version)

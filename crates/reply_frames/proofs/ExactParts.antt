@@ -8,7 +8,8 @@ use Rattle.reply_frames.specs.declared.fault.BadKind.{BadKind}
 use Rattle.reply_frames.specs.declared.fault.Stop.{Stop}
 use Rattle.reply_frames.specs.declared.fault.Stop.TheVariants.{Cut, Bad}
 use Rattle.reply_frames.specs.Parts.{Read, ◌>>=◌, byte_at, number_at, limited_at, exactly_at, repeated_at}
-use Rattle.reply_frames.specs.Exact.{AreBytes, Takes, Completes, Refuses, IsExact}
+use Rattle.reply_frames.specs.Whole.{AreBytes}
+use Rattle.reply_frames.proofs.Exact.{Takes, Completes, Refuses, IsExact}
 
 pub AreBytes-append : (first next : List ℕ) → AreBytes first → AreBytes next → AreBytes (first ++ next)
 AreBytes-append [] next a b = b

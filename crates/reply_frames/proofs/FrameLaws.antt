@@ -1,5 +1,5 @@
 -- What reading says of the frames that there are.
-use Rattle.std.proofs.Common.{◌≡◌, ℕ, ◌+◌, ◌-◌, List, [], ◌∷◌, ◌++◌, length, take, Result, Ok, Err, refl, sym, ap, ◌∙◌, append_assoc, arith, length-append}
+use Rattle.std.proofs.Common.{◌≡◌, ℕ, ◌+◌, ◌-◌, List, [], ◌∷◌, ◌++◌, length, take, Result, Ok, Err, refl, sym, ap, subst, ◌∙◌, append_assoc, arith, length-append}
 use Rattle.std.specs.Prelude.{IfOk, IfErr}
 use Rattle.std.proofs.lemmas.List.{append-nil, take_at}
 use Rattle.ccp_base.specs.FieldReg.{Pair}
@@ -14,8 +14,8 @@ use Rattle.reply_frames.specs.declared.decode.Head.{Head}
 use Rattle.reply_frames.specs.Parts.{Read}
 use Rattle.reply_frames.specs.Kinds.{number_of}
 use Rattle.reply_frames.specs.Frames.{Frame, frame_at, Body, Update, Change}
-use Rattle.reply_frames.specs.Decoding.{needed_of, answer_of, decoded_from, decoded_of}
-use Rattle.reply_frames.specs.Whole.{IsFrame, IsCut, IsBadFrom}
+use Rattle.reply_frames.specs.Decoding.{needed_of, answer_of, decoded_from, decoded_of, IsBad}
+use Rattle.reply_frames.specs.Whole.{IsFrame, IsCut, IsBadFrom, IsBadIn, BeginsWith}
 use Rattle.reply_frames.proofs.ExactFrames.{exact-frame}
 
 nothing : (xs ys : List ℕ) → xs ++ ys ≡ [] → ys ≡ []
@@ -77,7 +77,7 @@ bad_is bytes field left e =
 
 -- ---- what decoding answers
 
-answer-err : (kind : FrameKind) (outline : Outline) (body : Body) (used : ℕ) (fault : FrameFault) → answer_of kind outline body used ≡ Err fault → fault ≡ Other (number_of kind)
+pub answer-err : (kind : FrameKind) (outline : Outline) (body : Body) (used : ℕ) (fault : FrameFault) → answer_of kind outline body used ≡ Err fault → fault ≡ Other (number_of kind)
 answer-err kinds.Update outline (Update values) used fault e = absurd cc
 answer-err kinds.Change outline (Change program values) used fault e = absurd cc
 answer-err kind outline body used fault e = cc
@@ -106,20 +106,56 @@ bad-from bytes (Err (stops.Bad field' left)) field place e =
     let places : length bytes - left ≡ place = cc in
     (left, ap (λ f. Err (stops.Bad f left)) fields, sym places)
 
-pub bad_from_is : (bytes : List ℕ) (field : BadKind) (place : ℕ) → decoded_of bytes ≡ Err (Bad field place) → IsBadFrom bytes place
-bad_from_is bytes field place e =
+pub bad_in_is : (bytes : List ℕ) (field : BadKind) (place : ℕ) → decoded_of bytes ≡ Err (Bad field place) → IsBadIn bytes field place
+bad_in_is bytes field place e =
     let b = bad-from bytes (frame_at bytes) field place e in
-    rw b.2 (bad_is bytes field b.0 b.1)
+    let r = exact-frame.bad bytes field b.0 b.1 in
+    let left : b.0 ≡ length bytes - place = omega (arith, b.2, r.left_is, ap length r.parts, length-append r.front (r.byte ∷ r.after)) in
+    (subst (IsBadFrom bytes) (sym b.2) (bad_is bytes field b.0 b.1), b.1 ∙ ap (λ left. Err (stops.Bad field left)) left)
+
+-- the frame that is read begins the bytes, and a frame that begins them is read
+pub read_begins : (bytes : List ℕ) (frame : Frame) (rest : List ℕ) → frame_at bytes ≡ Ok (frame, rest) → BeginsWith bytes frame
+read_begins bytes frame rest e =
+    let t = exact-frame.taken bytes frame rest e in
+    record { front = t.front; rest = rest; parts = t.parts; whole = ap frame_at (sym (append-nil t.front)) ∙ t.again [] }
+
+pub begins_read : (bytes : List ℕ) (frame : Frame) (b : BeginsWith bytes frame) → frame_at bytes ≡ Ok (frame, b.rest)
+begins_read bytes frame b =
+    let t = exact-frame.taken b.front frame [] b.whole in
+    ap frame_at b.parts ∙ ap (λ xs. frame_at (xs ++ b.rest)) (t.parts ∙ append-nil t.front) ∙ t.again b.rest
+
+-- bytes that no frame begins and that none goes on from have a bad byte
+refused-read : (bytes : List ℕ) (read : Read Frame) → frame_at bytes ≡ read → ((frame : Frame) → ¬ BeginsWith bytes frame) → ¬ IsCut bytes → (field : BadKind) × (left : ℕ) × (frame_at bytes ≡ Err (stops.Bad field left))
+refused-read bytes (Ok (frame, rest)) e none whole = absurd (none frame (read_begins bytes frame rest e))
+refused-read bytes (Err stops.Cut) e none whole = absurd (whole (cut_is bytes e))
+refused-read bytes (Err (stops.Bad field left)) e none whole = (field, left, e)
 
 -- ---- the same of what a call answers
 
-pub told_more : (bytes : List ℕ) (result : Result Head FrameFault) → IfErr result (λ fault. decoded_of bytes ≡ Err fault) → (n : ℕ) → result ≡ Err (More n) → IsCut bytes
+pub told_more : (bytes : List ℕ) (result : Result Head FrameFault) → IfErr result (λ fault. decoded_of bytes ≡ Err fault) → (n : ℕ) → result ≡ Err (More n) → IsCut bytes × (n ≡ needed_of bytes)
 told_more bytes (Ok head) told n e = absurd cc
-told_more bytes (Err fault) told n e = let same : fault ≡ More n = cc in more_is bytes n (told ∙ ap Err same)
+told_more bytes (Err fault) told n e =
+    let same : fault ≡ More n = cc in
+    let cut : IsCut bytes = more_is bytes n (told ∙ ap Err same) in
+    let both : ◌≡◌ {A = Result (Head × List Pair) FrameFault} (Err (More n)) (Err (More (needed_of bytes))) = sym (told ∙ ap Err same) ∙ is_more bytes cut in
+    let is : n ≡ needed_of bytes = cc in
+    (cut, is)
 
-pub told_bad : (bytes : List ℕ) (result : Result Head FrameFault) → IfErr result (λ fault. decoded_of bytes ≡ Err fault) → (field : BadKind) (place : ℕ) → result ≡ Err (Bad field place) → IsBadFrom bytes place
+pub told_bad : (bytes : List ℕ) (result : Result Head FrameFault) → IfErr result (λ fault. decoded_of bytes ≡ Err fault) → (field : BadKind) (place : ℕ) → result ≡ Err (Bad field place) → IsBadIn bytes field place
 told_bad bytes (Ok head) told field place e = absurd cc
-told_bad bytes (Err fault) told field place e = let same : fault ≡ Bad field place = cc in bad_from_is bytes field place (told ∙ ap Err same)
+told_bad bytes (Err fault) told field place e = let same : fault ≡ Bad field place = cc in bad_in_is bytes field place (told ∙ ap Err same)
+
+pub told_refused : (bytes : List ℕ) (result : Result Head FrameFault) (values : List Pair) → IfOk result (λ head. decoded_of bytes ≡ Ok (head, values)) → IfErr result (λ fault. decoded_of bytes ≡ Err fault)
+    → ((frame : Frame) → ¬ BeginsWith bytes frame) → ¬ IsCut bytes → IsBad result
+told_refused bytes (Ok head) values found told none whole =
+    let r = refused-read bytes (frame_at bytes) refl none whole in
+    let clash : ◌≡◌ {A = Result (Head × List Pair) FrameFault} (Ok (head, values)) (Err (Bad r.0 (length bytes - r.1))) = sym found ∙ ap (decoded_from bytes) r.2 in
+    absurd cc
+told_refused bytes (Err fault) values found told none whole =
+    let r = refused-read bytes (frame_at bytes) refl none whole in
+    let same : ◌≡◌ {A = Result (Head × List Pair) FrameFault} (Err fault) (Err (Bad r.0 (length bytes - r.1))) = sym told ∙ ap (decoded_from bytes) r.2 in
+    let faults : fault ≡ Bad r.0 (length bytes - r.1) = cc in
+    subst (λ (f : FrameFault). IsBad (Err f)) (sym faults) tt
 
 pub told_cut : (bytes : List ℕ) (result : Result Head FrameFault) (values : List Pair) → IfOk result (λ head. decoded_of bytes ≡ Ok (head, values)) → IfErr result (λ fault. decoded_of bytes ≡ Err fault) → IsCut bytes → result ≡ Err (More (needed_of bytes))
 told_cut bytes (Ok head) values found told cut =

@@ -14,9 +14,8 @@ use Rattle.reply_frames.specs.declared.outline.Version.TheVariants.{One, Two}
 use Rattle.reply_frames.specs.declared.outline.Outline.{Outline}
 use Rattle.reply_frames.specs.Kinds.{number_of, version_number, most_n1, most_n2, size_of}
 use Rattle.reply_frames.specs.Frames.{Start, Event, Register, Instruction, Body, Create, Measure, Install, Update, Change, Fault, Ack, Refused}
-use Rattle.reply_frames.specs.Spelling.{IsTarget, target_bytes, value_bytes, values_bytes}
-use Rattle.reply_frames.specs.Replies.{IsSendable}
-use Rattle.reply_frames.specs.Exact.{AreBytes}
+use Rattle.reply_frames.specs.ValueBytes.{IsTarget, target_bytes, value_bytes, values_bytes, IsSendable}
+use Rattle.reply_frames.specs.Whole.{AreBytes}
 use Rattle.reply_frames.specs.FrameBytes.{counts_bytes, outline_bytes, start_bytes, event_bytes, register_bytes, instruction_bytes, count_width, count_bytes, numbers_bytes, body_bytes, kind_of_body, counts_of, outline_of, spelled, IsStart, IsEvent, IsRegister, IsInstruction, IsNumber, AreCounts, HasRanges, IsSpellable}
 use Rattle.reply_frames.proofs.ExactParts.{AreBytes-append}
 use Rattle.reply_frames.proofs.Codec.{low_digits, le_bytes-digits}

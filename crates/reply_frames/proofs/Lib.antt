@@ -1,6 +1,7 @@
 pub mod Loops
 pub mod Placing
 pub mod Taken
+pub mod Exact
 pub mod ExactParts
 pub mod ExactFrames
 pub mod FrameLaws
@@ -8,3 +9,4 @@ pub mod Codec
 pub mod CodecFrames
 pub mod FrameSizes
 pub mod ReplyLaws
+pub mod NeededLaw

@@ -7,7 +7,7 @@ use Rattle.std.proofs.lemmas.List.Concat.{flat_map-cons, flat_map-append}
 use Rattle.ccp_base.specs.declared.fields.FieldReg.{FieldReg}
 use Rattle.ccp_base.specs.declared.fields.FieldReg.TheVariants.{Cwnd, Rate, Control}
 use Rattle.ccp_base.specs.FieldReg.{Pair}
-use Rattle.reply_frames.specs.Spelling.{target_bytes, value_bytes, values_bytes}
+use Rattle.reply_frames.specs.ValueBytes.{target_bytes, value_bytes, values_bytes}
 use Rattle.reply_frames.specs.Writing.{placed, over, Wrote}
 
 -- plain form: bytes after a front that is written

@@ -1,5 +1,5 @@
 -- What bytes are to one who reads an Update or a Change from their front.
-use Rattle.std.specs.Prelude.{ℕ, ◌-◌, nat_lt, List, length, take, drop, Option, Some, None, Result, Ok, Err, if◌then◌else◌}
+use Rattle.std.specs.Prelude.{◌≡◌, ◌≢◌, ℕ, ◌-◌, nat_lt, List, length, take, drop, Option, Some, None, Result, Ok, Err, if◌then◌else◌}
 use Rattle.std.specs.Int.{w32, from_le_bytes}
 use Rattle.ccp_base.specs.FieldReg.{Pair}
 use Rattle.reply_frames.specs.declared.fault.Stop.{Stop}
@@ -12,6 +12,7 @@ use Rattle.reply_frames.specs.declared.outline.Outline.{Outline}
 use Rattle.reply_frames.specs.declared.decode.Head.{Head}
 use Rattle.reply_frames.specs.Parts.{Read}
 use Rattle.reply_frames.specs.Kinds.{number_of}
+use Rattle.reply_frames.specs.Whole.{BeginsWith}
 use Rattle.reply_frames.specs.Frames.{Frame, Body, Update, Change, frame_at}
 
 -- how many bytes the front of a frame goes on to: a head's 16, or the length that the head says
@@ -39,3 +40,18 @@ decoded_from bytes (Err stop) = Err (fault_of bytes stop)
 -- the head and the values of the Update or the Change that begins the bytes, or what they are instead
 abbrev pub decoded_of : List ℕ → Result (Head × List Pair) FrameFault
 decoded_of bytes = decoded_from bytes (frame_at bytes)
+
+-- the bytes begin with a whole frame of another kind, which has this number
+pub record IsOther (bytes : List ℕ) (number : ℕ) : Type 0 where
+  pub frame : Frame
+  pub begins : BeginsWith bytes frame
+  pub no_update : frame.outline.kind ≢ kinds.Update
+  pub no_change : frame.outline.kind ≢ kinds.Change
+  pub number_is : number ≡ number_of frame.outline.kind
+
+-- it refuses a byte
+abbrev pub IsBad : Result Head FrameFault → Type 0
+IsBad (Ok head) = ⊥
+IsBad (Err (More needed)) = ⊥
+IsBad (Err (Bad field place)) = Unit {0}
+IsBad (Err (Other number)) = ⊥

@@ -2,6 +2,7 @@
 use Rattle.std.specs.Prelude.{ℕ, ◌≤◌, ◌<◌, ◌^◌, ◌≡◌, ◌==◌, ◌-◌, List, ◌∷◌, ◌++◌, length, if◌then◌else◌}
 use Rattle.std.specs.List.{flat_map, AllByRecursion}
 use Rattle.std.specs.Int.{w16, w32, w64, to_le_bytes}
+use Rattle.ccp_base.specs.Limits.{primitive_count}
 use Rattle.reply_frames.specs.declared.outline.FrameKind.{FrameKind}
 use Rattle.reply_frames.specs.declared.outline.FrameKind.TheVariants as kinds
 use Rattle.reply_frames.specs.declared.outline.Version.{Version}
@@ -9,8 +10,7 @@ use Rattle.reply_frames.specs.declared.outline.Version.TheVariants.{One, Two}
 use Rattle.reply_frames.specs.declared.outline.Counts.{Counts}
 use Rattle.reply_frames.specs.declared.outline.Outline.{Outline}
 use Rattle.reply_frames.specs.Kinds.{number_of, version_number, most_n1, most_n2, most_n3, most_n4, size_of}
-use Rattle.reply_frames.specs.Spelling.{values_bytes}
-use Rattle.reply_frames.specs.Replies.{IsSendable}
+use Rattle.reply_frames.specs.ValueBytes.{values_bytes, IsSendable}
 use Rattle.reply_frames.specs.Frames.{Start, Event, Register, Instruction, Body, Create, Measure, Install, Update, Change, Fault, Ack, Refused}
 
 -- the counts of a head
@@ -144,7 +144,7 @@ HasRanges version (Fault program epoch place kind index now cwnd) =
     (program < 2 ^ 32) × (epoch < 2 ^ 32) × IsCount version place × (kind ≤ 2) × (index < 2 ^ 16)
     × (now < 2 ^ 64) × (cwnd < 2 ^ 64)
 HasRanges version (Ack primitives was_timeout) =
-    (length primitives ≡ 14) × AllByRecursion IsNumber primitives × (was_timeout ≤ 1)
+    (length primitives ≡ primitive_count - 1) × AllByRecursion IsNumber primitives × (was_timeout ≤ 1)
 HasRanges version (Refused reason index) = (1 ≤ reason) × (reason ≤ 9) × (index < 2 ^ 32)
 
 -- a body that a frame of this version and flow can have

@@ -1,9 +1,10 @@
 -- Frames of every kind and of both versions: the head of 16 bytes, and the body that it speaks of.
-use Rattle.std.specs.Prelude.{ℕ, ◌==◌, List, Ok, if◌then◌else◌}
+use Rattle.std.specs.Prelude.{ℕ, ◌-◌, ◌==◌, List, Ok, if◌then◌else◌}
 use Rattle.std.specs.Int.{w16, w32, w64}
 use Rattle.ccp_base.specs.declared.fields.FieldReg.{FieldReg}
 use Rattle.ccp_base.specs.declared.fields.FieldReg.TheVariants.{Cwnd, Rate, Control}
 use Rattle.ccp_base.specs.FieldReg.{Pair}
+use Rattle.ccp_base.specs.Limits.{most_controls, primitive_count}
 use Rattle.reply_frames.specs.declared.fault.BadKind.TheVariants as bad
 use Rattle.reply_frames.specs.declared.outline.FrameKind.{FrameKind}
 use Rattle.reply_frames.specs.declared.outline.FrameKind.TheVariants as kinds
@@ -94,7 +95,7 @@ target_at bytes = do
   class ← byte_at bad.Class 3 4 bytes
   if class.0 == 3
       then (do
-        number ← byte_at bad.Index 0 63 class.1
+        number ← byte_at bad.Index 0 (most_controls - 1) class.1
         Ok (Control number.0, number.1))
       else (do
         number ← byte_at bad.Index 4 5 class.1
@@ -178,7 +179,7 @@ fault_at version bytes = do
 -- fourteen numbers, and whether there was a timeout
 unfoldable pub ack_at : List ℕ → Read Body
 ack_at bytes = do
-  primitives ← repeated_at (number_at w64) 14 bytes
+  primitives ← repeated_at (number_at w64) (primitive_count - 1) bytes
   was_timeout ← limited_at bad.Flag 8 1 primitives.1
   Ok (Ack primitives.0 was_timeout.0, was_timeout.1)
 

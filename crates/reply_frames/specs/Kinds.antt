@@ -1,5 +1,6 @@
 -- The kinds of frames: their numbers, the bounds of their counts, and their lengths.
 use Rattle.std.specs.Prelude.{ℕ, ◌+◌, ◌*◌, ◌==◌, if◌then◌else◌}
+use Rattle.ccp_base.specs.Limits.{most_fields, most_short_fields, most_controls, most_blocks, most_instrs, most_pairs, primitive_count}
 use Rattle.reply_frames.specs.declared.outline.FrameKind.{FrameKind}
 use Rattle.reply_frames.specs.declared.outline.FrameKind.TheVariants.{Create, Measure, Install, Update, Change, Fault, Ack, Refused}
 use Rattle.reply_frames.specs.declared.outline.Version.{Version}
@@ -39,12 +40,12 @@ version_of n = if n == 1 then One else Two
 -- the most that each count may be: fields, reports or values; controls; events; instructions
 abbrev pub most_n1 : FrameKind → Version → ℕ
 most_n1 Create version = 0
-most_n1 Measure One = 32
-most_n1 Measure Two = 64
-most_n1 Install One = 32
-most_n1 Install Two = 64
-most_n1 Update version = 66
-most_n1 Change version = 66
+most_n1 Measure One = most_short_fields
+most_n1 Measure Two = most_fields
+most_n1 Install One = most_short_fields
+most_n1 Install Two = most_fields
+most_n1 Update version = most_pairs
+most_n1 Change version = most_pairs
 most_n1 Fault version = 0
 most_n1 Ack version = 0
 most_n1 Refused version = 0
@@ -52,7 +53,7 @@ most_n1 Refused version = 0
 abbrev pub most_n2 : FrameKind → ℕ
 most_n2 Create = 0
 most_n2 Measure = 0
-most_n2 Install = 64
+most_n2 Install = most_controls
 most_n2 Update = 0
 most_n2 Change = 0
 most_n2 Fault = 0
@@ -62,7 +63,7 @@ most_n2 Refused = 0
 abbrev pub most_n3 : FrameKind → ℕ
 most_n3 Create = 0
 most_n3 Measure = 0
-most_n3 Install = 64
+most_n3 Install = most_blocks
 most_n3 Update = 0
 most_n3 Change = 0
 most_n3 Fault = 0
@@ -72,7 +73,7 @@ most_n3 Refused = 0
 abbrev pub most_n4 : FrameKind → ℕ
 most_n4 Create = 0
 most_n4 Measure = 0
-most_n4 Install = 256
+most_n4 Install = most_instrs
 most_n4 Update = 0
 most_n4 Change = 0
 most_n4 Fault = 0
@@ -89,5 +90,5 @@ size_of Update version c = 16 + 10 * c.n1
 size_of Change version c = 20 + 10 * c.n1
 size_of Fault One c = 47
 size_of Fault Two c = 51
-size_of Ack version c = 136
+size_of Ack version c = 16 + 8 * primitive_count
 size_of Refused version c = 21

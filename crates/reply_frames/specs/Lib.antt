@@ -1,10 +1,11 @@
 pub mod Parts
 pub mod Kinds
 pub mod Frames
-pub mod Spelling
-pub mod Decoding
-pub mod Writing
-pub mod Exact
-pub mod Whole
-pub mod Replies
+pub mod ValueBytes
 pub mod FrameBytes
+pub mod Spelling
+pub mod Writing
+pub mod Whole
+pub mod Decoding
+pub mod Laws
+pub mod Replies

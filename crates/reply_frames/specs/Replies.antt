@@ -2,18 +2,21 @@
 use Rattle.std.specs.Prelude.{◌≡◌, ℕ, ◌<◌, ◌≤◌, ◌^◌, List, ◌++◌, length, Option, Some, None, IfSome}
 use Rattle.std.specs.List.{AllByRecursion}
 use Rattle.ccp_base.specs.FieldReg.{Pair}
+use Rattle.ccp_base.specs.Limits.{most_pairs}
 use Rattle.reply_frames.specs.declared.outline.Version.{Version}
+use Rattle.reply_frames.specs.declared.outline.Version.TheVariants.{One}
 use Rattle.reply_frames.specs.declared.decode.Head.{Head}
-use Rattle.reply_frames.specs.Spelling.{IsTarget, update_bytes, change_bytes}
+use Rattle.reply_frames.specs.Spelling.{update_bytes, change_bytes}
+use Rattle.reply_frames.specs.ValueBytes.{IsSendable}
 
 -- the frame with these values: an Update where there is no program, else a Change
 abbrev pub reply_bytes : Version → ℕ → Option ℕ → List Pair → List ℕ
 reply_bytes version flow None values = update_bytes version flow values
 reply_bytes version flow (Some program) values = change_bytes version flow program values
 
--- a value that has a place in a frame
-abbrev pub IsSendable : Pair → Type 0
-IsSendable value = IsTarget value.0 × (value.1 < 2 ^ 64)
+-- the head of the frame of version 1 with these values
+abbrev pub reply_head : ℕ → Option ℕ → List Pair → Head
+reply_head flow program values = record { flow = flow; program = program; version = One; used = length (reply_bytes One flow program values) }
 
 -- these bytes begin with the frame of this head and these values
 pub record IsReply (bytes : List ℕ) (head : Head) (values : List Pair) : Type 0 where
@@ -22,5 +25,5 @@ pub record IsReply (bytes : List ℕ) (head : Head) (values : List Pair) : Type 
   pub used : head.used ≡ length (reply_bytes head.version head.flow head.program values)
   pub flow : head.flow < 2 ^ 32
   pub program : IfSome head.program (λ program. program < 2 ^ 32)
-  pub few : length values ≤ 66
+  pub few : length values ≤ most_pairs
   pub values_fit : AllByRecursion IsSendable values

@@ -1,9 +1,14 @@
 -- Whole frames, and bytes that are cut or bad.
-use Rattle.std.specs.Prelude.{◌≡◌, ◌≢◌, ℕ, ◌+◌, ◌<◌, List, [], ◌++◌, length, take, Ok}
-use Rattle.reply_frames.specs.Exact.{AreBytes}
+use Rattle.std.specs.Prelude.{◌≡◌, ◌≢◌, ℕ, ◌+◌, ◌-◌, ◌<◌, List, [], ◌++◌, length, take, Ok, Err}
+use Rattle.std.specs.List.{AllByRecursion}
+use Rattle.reply_frames.specs.declared.fault.BadKind.{BadKind}
+use Rattle.reply_frames.specs.declared.fault.Stop.TheVariants.{Bad}
 use Rattle.reply_frames.specs.Frames.{Frame, frame_at}
 
--- these bytes are one whole frame
+abbrev pub AreBytes : List ℕ → Type 0
+AreBytes bytes = AllByRecursion (λ byte. byte < 256) bytes
+
+-- these are one whole frame
 pub record IsFrame (bytes : List ℕ) : Type 0 where
   pub frame : Frame
   pub whole : frame_at bytes ≡ Ok (frame, [])
@@ -20,3 +25,14 @@ pub record IsBadFrom (bytes : List ℕ) (place : ℕ) : Type 0 where
   pub within : place < length bytes
   pub cut : IsCut (take place bytes)
   pub none : (more : List ℕ) → ¬ IsFrame (take (place + 1) bytes ++ more)
+
+-- the same, and the byte at this place lies in this field
+abbrev pub IsBadIn : List ℕ → BadKind → ℕ → Type 0
+IsBadIn bytes field place = IsBadFrom bytes place × (frame_at bytes ≡ Err (Bad field (length bytes - place)))
+
+-- the bytes begin with this whole frame
+pub record BeginsWith (bytes : List ℕ) (frame : Frame) : Type 0 where
+  pub front : List ℕ
+  pub rest : List ℕ
+  pub parts : bytes ≡ front ++ rest
+  pub whole : frame_at front ≡ Ok (frame, [])

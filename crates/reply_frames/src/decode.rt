@@ -3,8 +3,9 @@ ghost use Rattle.reply_frames.specs.declared.fault.BadKind.{BadKind};
 ghost use Rattle.ccp_base.specs.FieldReg.{Pair};
 ghost use Rattle.reply_frames.specs.Replies.{IsReply};
 ghost use Rattle.reply_frames.specs.declared.decode.Head.{Head};
-ghost use Rattle.reply_frames.specs.Whole.{IsCut, IsBadFrom};
-ghost use Rattle.reply_frames.specs.Decoding.{needed_of, fault_of, head_of, decoded_of};
+ghost use Rattle.reply_frames.specs.Frames.{Frame};
+ghost use Rattle.reply_frames.specs.Whole.{IsCut, IsBadIn, BeginsWith};
+ghost use Rattle.reply_frames.specs.Decoding.{needed_of, fault_of, head_of, decoded_of, IsOther, IsBad};
 
 use crate::bodies::body;
 use crate::fault::{FrameFault, Stop};
@@ -99,12 +100,18 @@ pub fn decode_fields(bytes: &[u8], values: &mut Fields) -> Result<Head, FrameFau
         → (result ≡ Ok head) × (values.new ≡ pairs) }
 
     // More comes exactly where the bytes are a proper prefix of a frame.
-    ensures more { (n : ℕ) → result ≡ Err (FrameFault.More n) → IsCut bytes.now }
+    ensures more { (n : ℕ) → result ≡ Err (FrameFault.More n) → IsCut bytes.now × (n ≡ needed_of bytes.now) }
     ensures cut { IsCut bytes.now → result ≡ Err (FrameFault.More (needed_of bytes.now)) }
 
-    // Bad says how long the longest prefix is that a frame begins with.
+    // Other comes exactly where they begin with a whole frame of another kind.
+    ensures other { (n : ℕ) → result ≡ Err (FrameFault.Other n) → IsOther bytes.now n }
+    ensures passed { (n : ℕ) → IsOther bytes.now n → result ≡ Err (FrameFault.Other n) }
+
+    // Bad says how long the longest prefix is that a frame begins with, and in which field the byte after it lies. It
+    // comes where the bytes are no prefix of a frame and begin with none.
     ensures bad { (field : BadKind) (place : ℕ) → result ≡ Err (FrameFault.Bad field place)
-        → IsBadFrom bytes.now place }
+        → IsBadIn bytes.now field place }
+    ensures refused { ((frame : Frame) → ¬ BeginsWith bytes.now frame) → ¬ IsCut bytes.now → IsBad result }
     ensures unchanged { OnErr result (values.new ≡ values.old) }
 {
     let (head, fields) = found(bytes)?;

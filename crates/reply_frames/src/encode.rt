@@ -1,9 +1,11 @@
 //! Update and Change, written in place, and the parts that they are made of.
 
-ghost use Rattle.std.specs.Prelude.{◌≡◌, ◌+◌, ◌*◌, ◌<◌, ◌≤◌, ◌↔◌, length, IfOk, IfErr, OnErr, IsErr};
+ghost use Rattle.std.specs.Prelude.{◌≡◌, ◌+◌, ◌*◌, ◌<◌, ◌≤◌, ◌↔◌, length, Some, None, IfOk, IfErr, OnOk, OnErr, IsErr};
 ghost use Rattle.ccp_base.specs.FieldReg.{pair_of};
 ghost use Rattle.reply_frames.specs.declared.outline.Version.TheVariants.{One};
-ghost use Rattle.reply_frames.specs.Spelling.{target_bytes, value_bytes, values_bytes, update_bytes, change_bytes, AreTargets, IsValue};
+ghost use Rattle.reply_frames.specs.Replies.{reply_head, IsReply};
+ghost use Rattle.reply_frames.specs.Spelling.{update_bytes, change_bytes};
+ghost use Rattle.reply_frames.specs.ValueBytes.{target_bytes, value_bytes, values_bytes, AreTargets, IsValue};
 ghost use Rattle.std.specs.List.{AllByRecursion};
 ghost use Rattle.reply_frames.specs.FrameBytes.{outline_bytes};
 ghost use Rattle.reply_frames.specs.Writing.{placed, over};
@@ -100,10 +102,11 @@ pub fn put_values(out: &mut [u8], at: usize, values: &Fields)
 }
 
 /// Writes the frame that writes these values on a flow, in version 1, at the front of `out`, and gives its length.
-/// Short exactly where `out` is shorter than that; then nothing is written.
+/// `decode_fields` reads it back. Short exactly where `out` is shorter than that; then nothing is written.
 pub fn encode_update(flow: u32, values: &Fields, out: &mut [u8]) -> Result<usize, Short>
     requires { AreTargets values.now }
     ensures ok { IfOk result (λ size. (size ≡ 16 + 10 * length values.now) × (out.new ≡ over (update_bytes One flow values.now) out.old)) }
+    ensures read_back { OnOk result (IsReply out.new (reply_head flow None values.now) values.now) }
     ensures short { IfErr result (λ short. short ≡ record { 0 = 16 + 10 * length values.now }) }
     ensures only_short { IsErr result ↔ (length out.old < 16 + 10 * length values.now) }
     ensures unchanged { OnErr result (out.new ≡ out.old) }
@@ -119,7 +122,7 @@ pub fn encode_update(flow: u32, values: &Fields, out: &mut [u8]) -> Result<usize
 }
 
 /// Writes the frame that starts a program on a flow with these values, in version 1, at the front of `out`, and gives
-/// its length. Short exactly where `out` is shorter than that; then nothing is written.
+/// its length. `decode_fields` reads it back. Short exactly where `out` is shorter than that; then nothing is written.
 pub fn encode_change(
     flow: u32,
     program: u32,
@@ -128,6 +131,7 @@ pub fn encode_change(
 ) -> Result<usize, Short>
     requires { AreTargets values.now }
     ensures ok { IfOk result (λ size. (size ≡ 20 + 10 * length values.now) × (out.new ≡ over (change_bytes One flow program values.now) out.old)) }
+    ensures read_back { OnOk result (IsReply out.new (reply_head flow (Some program) values.now) values.now) }
     ensures short { IfErr result (λ short. short ≡ record { 0 = 20 + 10 * length values.now }) }
     ensures only_short { IsErr result ↔ (length out.old < 20 + 10 * length values.now) }
     ensures unchanged { OnErr result (out.new ≡ out.old) }

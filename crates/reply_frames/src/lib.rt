@@ -8,6 +8,7 @@ mod decode;
 pub mod encode;
 mod fault;
 pub mod head;
+mod laws;
 pub mod outline;
 pub mod parts;
 #[cfg(test)]
@@ -17,4 +18,5 @@ pub mod values;
 pub use decode::{Head, decode_fields, needed};
 pub use encode::{encode_change, encode_update};
 pub use fault::{BadKind, FrameFault, Short, Stop};
+pub use laws::frame_laws;
 pub use outline::{Counts, FrameKind, Outline, Version};

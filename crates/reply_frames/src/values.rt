@@ -1,6 +1,7 @@
 //! The values of an Update or a Change, read from the front of bytes.
 
-ghost use Rattle.std.specs.Prelude.{◌≤◌};
+ghost use Rattle.std.specs.Prelude.{◌≡◌, ◌≤◌, OnErr};
+ghost use Rattle.ccp_base.specs.Limits.{most_pairs};
 ghost use Rattle.reply_frames.specs.Parts.{Gives};
 ghost use Rattle.reply_frames.specs.Frames.{Update, Change, target_at, value_at, values_at, update_at, change_at};
 
@@ -38,36 +39,43 @@ fn value(bytes: &[u8]) -> Result<((FieldReg, u64), &[u8]), Stop>
     Ok(((reg, value), rest))
 }
 
-/// Reads so many values, at most 66, into `fields` in place of what it has, and gives the bytes after them.
-pub fn values<'a>(bytes: &'a [u8], count: u8, fields: &mut Fields) -> Result<&'a [u8], Stop>
-    requires { count ≤ 66 }
-    ensures { Gives (λ rest. (fields.new, rest.now)) result (values_at count bytes.now) }
+/// Reads so many values, at most 66, into `fields` in place of what it has, and gives the bytes after them. Where the
+/// answer isn't Ok, `fields` is as before.
+fn values<'a>(bytes: &'a [u8], count: u8, fields: &mut Fields) -> Result<&'a [u8], Stop>
+    requires { count ≤ most_pairs }
+    ensures read { Gives (λ rest. (fields.new, rest.now)) result (values_at count bytes.now) }
+    ensures unchanged { OnErr result (fields.new ≡ fields.old) }
 {
-    fields.clear();
+    let mut read = Fields::new();
     let mut rest = bytes;
     for _ in 0..count {
         let ((reg, number), after) = value(rest)?;
-        fields.push(reg, number);
+        read.push(reg, number);
         rest = after;
     }
+    *fields = read;
     Ok(rest)
 }
 
-/// Reads the values of an Update's body, and gives the bytes after it.
+/// Reads the values of an Update's body into `fields`, and gives the bytes after it. Where the answer isn't Ok, `fields`
+/// is as before.
 #[tactic(auto, unfolding(crate::specs::Frames::update_at))]
 pub fn update<'a>(bytes: &'a [u8], count: u8, fields: &mut Fields) -> Result<&'a [u8], Stop>
-    requires { count ≤ 66 }
-    ensures { Gives (λ rest. (Update fields.new, rest.now)) result (update_at count bytes.now) }
+    requires { count ≤ most_pairs }
+    ensures read { Gives (λ rest. (Update fields.new, rest.now)) result (update_at count bytes.now) }
+    ensures unchanged { OnErr result (fields.new ≡ fields.old) }
 {
     let rest = values(bytes, count, fields)?;
     Ok(rest)
 }
 
-/// Reads the program and the values of a Change's body, and gives the program and the bytes after it.
+/// Reads the program and the values of a Change's body, the values into `fields`, and gives the program and the bytes
+/// after it. Where the answer isn't Ok, `fields` is as before.
 #[tactic(auto, unfolding(crate::specs::Frames::change_at))]
 pub fn change<'a>(bytes: &'a [u8], count: u8, fields: &mut Fields) -> Result<(u32, &'a [u8]), Stop>
-    requires { count ≤ 66 }
-    ensures { Gives (λ x. (Change x.0 fields.new, x.1.now)) result (change_at count bytes.now) }
+    requires { count ≤ most_pairs }
+    ensures read { Gives (λ x. (Change x.0 fields.new, x.1.now)) result (change_at count bytes.now) }
+    ensures unchanged { OnErr result (fields.new ≡ fields.old) }
 {
     let (program, rest) = number32(bytes)?;
     let rest = values(rest, count, fields)?;

@@ -10,7 +10,7 @@ use Rattle.portus_core.specs.ValidPrograms.{is_writable, term_is_truth}
 use Rattle.scope_types.specs.declared.fault.ScopeFault.{ScopeFault}
 use Rattle.scope_types.specs.declared.target.Target.{Target}
 use Rattle.scope_types.specs.declared.target.Target.TheVariants.{Known as Meant, Fresh}
-use Rattle.scope_types.specs.Words.{operator_of, variable_of, is_name_shaped, is_heading, is_constant, is_reserved, is_field_use, is_primitive_use}
+use Rattle.portus_core.specs.Words.{operator_of, variable_of, is_name_shaped, is_heading, is_constant, is_reserved, is_field_use, is_primitive_use}
 use Rattle.scope_types.specs.Scope.{Scope, known_in, with_local}
 use Rattle.scope_types.specs.Names.{decl_from, local_from, named, meaning_of}
 use Rattle.scope_types.specs.Walk.{place_of, and_then}

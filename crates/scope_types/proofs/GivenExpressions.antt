@@ -11,7 +11,9 @@ use Rattle.portus_core.specs.ValidPrograms.{term_is_truth, declares_truth, is_to
 use Rattle.scope_types.specs.declared.names.Local.{Local}
 use Rattle.scope_types.specs.declared.fault.ScopeFault.{ScopeFault}
 use Rattle.scope_types.specs.declared.fault.ScopeFault.TheVariants.{Unknown, Misplaced}
-use Rattle.scope_types.specs.Words.{operator_of, constant_of, constant_truth, variable_of, primitive_of, is_field_use, is_primitive_use}
+use Rattle.portus_core.specs.Words.{operator_of, variable_of, is_field_use, is_primitive_use}
+use Rattle.ccp_base.specs.PrimitiveNames.{primitive_named}
+use Rattle.scope_types.specs.ValueWords.{constant_of, constant_truth}
 use Rattle.scope_types.specs.Scope.{Scope, known_in}
 use Rattle.scope_types.specs.Names.{decl_from, local_from, named, meaning_of}
 use Rattle.scope_types.specs.ExpressionWalk.{or_refused, name_walk, variable_walk, word_walk, pair_walk, expression_walk}
@@ -23,8 +25,8 @@ pub record IsMeaning (scope : Scope) (w : List ℕ) (v : Var) (told : Bool) : Ty
   pub gives : meaning_of scope w ≡ Some v
   pub kind : told ≡ told_of scope v
 
-pub outside_fields : (scope : Scope) (w : List ℕ) → is_field_use w ≡ false → meaning_of scope w ≡ named var.Prim (primitive_of w) (named var.Control (decl_from 0 scope.controls w) (named var.Local (local_from 0 scope.locals w) None))
-outside_fields scope w h = ap (λ b. if b then named var.Field (decl_from 0 scope.fields (drop 7 w)) None else named var.Prim (primitive_of w) (named var.Control (decl_from 0 scope.controls w) (named var.Local (local_from 0 scope.locals w) None))) h
+pub outside_fields : (scope : Scope) (w : List ℕ) → is_field_use w ≡ false → meaning_of scope w ≡ named var.Prim (primitive_named w) (named var.Control (decl_from 0 scope.controls w) (named var.Local (local_from 0 scope.locals w) None))
+outside_fields scope w h = ap (λ b. if b then named var.Field (decl_from 0 scope.fields (drop 7 w)) None else named var.Prim (primitive_named w) (named var.Control (decl_from 0 scope.controls w) (named var.Local (local_from 0 scope.locals w) None))) h
 
 field_given : (scope : Scope) (i : ℕ) (w : List ℕ) (told : Bool) → IsProper scope → IsField scope.fields i w told → IsMeaning scope w (var.Field i) told
 field_given scope i w told p f = record {

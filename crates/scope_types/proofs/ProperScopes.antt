@@ -2,7 +2,8 @@ use Rattle.std.proofs.Common.{◌≡◌, ◌⊎◌, inl, inr, ℕ, zero, suc, �
 use Rattle.portus_core.specs.declared.program.Decl.{Decl}
 use Rattle.portus_core.specs.declared.program.Var.TheVariants as var
 use Rattle.scope_types.specs.declared.names.Local.{Local}
-use Rattle.scope_types.specs.Words.{primitive_of, is_reserved, is_field_use, is_primitive_use, is_control_name}
+use Rattle.portus_core.specs.Words.{is_reserved, is_field_use, is_primitive_use, is_control_name}
+use Rattle.ccp_base.specs.PrimitiveNames.{primitive_named}
 use Rattle.scope_types.specs.DeclarationWalk.{with_field, with_control}
 use Rattle.scope_types.specs.Scope.{Scope, with_local}
 use Rattle.scope_types.specs.Names.{decl_from, local_from}
@@ -44,9 +45,9 @@ fresh_control scope w f =
     nowhere (decl_from 0 scope.controls w) _ (decl_found 0 scope.controls w)
     (λ n found. f.unknown (var.Control n) _ (declared_of scope.controls w n found))
 
-pub fresh_primitive : (scope : Scope) (w : List ℕ) → IsFresh scope w → primitive_of w ≡ None
+pub fresh_primitive : (scope : Scope) (w : List ℕ) → IsFresh scope w → primitive_named w ≡ None
 fresh_primitive scope w f =
-    nowhere (primitive_of w) _ (prim_means w (primitive_of w) refl) (λ n p. f.unknown (var.Prim n) _ p)
+    nowhere (primitive_named w) _ (prim_means w (primitive_named w) refl) (λ n p. f.unknown (var.Prim n) _ p)
 
 -- one more local keeps a scope in order
 pub proper_with_local : (scope : Scope) (w : List ℕ) (told : Bool) → IsProper scope → IsFresh scope w → IsProper (with_local scope w told)
@@ -63,7 +64,7 @@ proper_with_local scope w told p f = record {
           found = local_none_append 0 scope.locals _ l.name (sym same) (ap (local_from 0 scope.locals) same ∙ fresh_local scope w f) ∙ ap Some (let n : 0 + length scope.locals ≡ i = let k = e.0 in omega arith in n);
           no_control = ap (decl_from 0 scope.controls) same ∙ fresh_control scope w f;
           no_field = ap is_field_use same ∙ f.no_field;
-          no_primitive = ap primitive_of same ∙ fresh_primitive scope w f;
+          no_primitive = ap primitive_named same ∙ fresh_primitive scope w f;
         })
   ];
 }
@@ -114,8 +115,8 @@ control_from true b c h = absurd (cc)
 pub control_word : (w : List ℕ) → IsTrue (is_control_name w) → IsControlWord w
 control_word w h = let f = control_from (is_reserved w) (is_field_use w) (is_primitive_use w) h in record { unreserved = f.0; no_field = f.1; no_primitive_use = f.2 }
 
-control_no_primitive : (w : List ℕ) → IsControlWord w → primitive_of w ≡ None
-control_no_primitive w c = nowhere (primitive_of w) _ (primitive_word w) (λ n a. let e : false ≡ true = sym c.no_primitive_use ∙ a.1 in cc)
+control_no_primitive : (w : List ℕ) → IsControlWord w → primitive_named w ≡ None
+control_no_primitive w c = nowhere (primitive_named w) _ (primitive_word w) (λ n a. let e : false ≡ true = sym c.no_primitive_use ∙ a.1 in cc)
 
 -- one more control variable keeps a scope without locals in order
 pub proper_with_control : (scope : Scope) (x : Decl) → IsProper scope → scope.locals ≡ [] → decl_from 0 scope.controls x.name ≡ None → IsTrue (is_control_name x.name) → IsProper (with_control scope x)
@@ -129,7 +130,7 @@ proper_with_control scope x p empty new allowed = record {
     ];
     no_primitive = elim (slice_get-append scope.controls x i d h) [
       | inl e ↦ (p.controls i d e).no_primitive
-      | inr e ↦ ap (λ (y : Decl). primitive_of y.name) e.1 ∙ control_no_primitive x.name (control_word x.name allowed)
+      | inr e ↦ ap (λ (y : Decl). primitive_named y.name) e.1 ∙ control_no_primitive x.name (control_word x.name allowed)
     ];
   };
   locals = λ i l h. absurd (let e : None ≡ Some l = sym (ap (λ (ls : List Local). slice_get ls i) empty) ∙ h in cc);

@@ -8,7 +8,7 @@ use Rattle.portus_core.specs.Trees.{Node, Nodes, none, more, number, word, list}
 use Rattle.portus_core.specs.ValidPrograms.{is_writable, term_is_truth}
 use Rattle.scope_types.specs.declared.target.Target.{Target}
 use Rattle.scope_types.specs.declared.target.Target.TheVariants.{Known as Meant, Fresh}
-use Rattle.scope_types.specs.Words.{variable_of, is_reserved, is_field_use, is_primitive_use}
+use Rattle.portus_core.specs.Words.{variable_of, is_reserved, is_field_use, is_primitive_use}
 use Rattle.scope_types.specs.Scope.{Scope, known_in}
 use Rattle.scope_types.specs.Names.{meaning_of}
 use Rattle.scope_types.specs.ExpressionWalk.{expression_walk}

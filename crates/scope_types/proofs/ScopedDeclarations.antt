@@ -4,7 +4,7 @@ use Rattle.portus_core.specs.declared.program.Decl.{Decl}
 use Rattle.portus_core.specs.Trees.{Node, Nodes, none, more, number, word, list}
 use Rattle.scope_types.specs.declared.declaration.Start.{Start}
 use Rattle.scope_types.specs.declared.declaration.Declaration.{Declaration}
-use Rattle.scope_types.specs.Words.{is_field_name, is_control_name}
+use Rattle.portus_core.specs.Words.{is_field_name, is_control_name}
 use Rattle.scope_types.specs.Scope.{Scope}
 use Rattle.scope_types.specs.Names.{decl_from}
 use Rattle.scope_types.specs.DeclarationWalk as walk

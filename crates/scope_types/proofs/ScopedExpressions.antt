@@ -1,4 +1,6 @@
-use Rattle.std.proofs.Common.{◌≡◌, ℕ, zero, suc, ◌+◌, ◌<◌, ◌^◌, ◌==◌, Bool, true, false, refl, List, [], ◌∷◌, ◌++◌, map, drop, Option, Some, None, IfSome, Result, Ok, Err, IfOk, nat_lt, slice_get, if◌then◌else◌, bytes_eq, codes, arith, ap, ◌∙◌, sym, subst}
+use Rattle.std.proofs.Common.{◌≡◌, ℕ, zero, suc, ◌+◌, ◌<◌, ◌^◌, ◌==◌, Bool, true, false, not, ◌&&◌, refl, length, get_or, List, [], ◌∷◌, ◌++◌, map, drop, Option, Some, None, IfSome, Result, Ok, Err, IfOk, nat_lt, slice_get, if◌then◌else◌, bytes_eq, codes, arith, ap, ◌∙◌, sym, subst}
+use Rattle.std.specs.List.{list_all}
+use Rattle.std.proofs.lemmas.List.Quantifiers.{position-Some}
 use Rattle.std.proofs.lemmas.Bool.Decides.{nat_tests, Decides-eqb}
 use Rattle.std.proofs.lemmas.Slice.Eq.{bytes_eq-Decides, starts_is}
 use Rattle.ccp_base.specs.declared.place.Place.{Place}
@@ -12,7 +14,10 @@ use Rattle.portus_core.specs.ValidPrograms.{is_truth, term_is_truth, declares_tr
 use Rattle.scope_types.specs.declared.names.Local.{Local}
 use Rattle.scope_types.specs.declared.fault.ScopeFault.{ScopeFault}
 use Rattle.scope_types.specs.declared.fault.ScopeFault.TheVariants.{Unknown}
-use Rattle.scope_types.specs.Words.{operator_of, constant_of, constant_truth, variable_of, primitive_of, acknowledged_of, is_reserved, is_field_use, is_primitive_use}
+use Rattle.portus_core.specs.Words.{operator_of, variable_of, is_reserved, is_field_use, is_primitive_use}
+use Rattle.ccp_base.specs.Acknowledgement.{is_flag}
+use Rattle.ccp_base.specs.PrimitiveNames.{PrimitiveName, primitive_names, word_of, primitive_named}
+use Rattle.scope_types.specs.ValueWords.{constant_of, constant_truth}
 use Rattle.scope_types.specs.Scope.{Scope, known_in}
 use Rattle.scope_types.specs.Names.{decl_from, local_from, named, meaning_of}
 use Rattle.scope_types.specs.ExpressionWalk.{or_refused, name_walk, variable_walk, word_walk, pair_walk, expression_walk}
@@ -34,6 +39,18 @@ some_mono None P Q p f = tt
 pub some_case : {A : Type 0} (b : Bool) (r s : Option A) (P : A → Type 0) → (b ≡ true → IfSome r P) → (b ≡ false → IfSome s P) → IfSome (if b then r else s) P
 some_case true r s P f g = f refl
 some_case false r s P f g = g refl
+
+first_of : (a b : Bool) → (a && b) ≡ true → a ≡ true
+first_of true b h = refl
+first_of false b h = h
+
+rest_of : (a b : Bool) → (a && b) ≡ true → b ≡ true
+rest_of true b h = h
+rest_of false b h = absurd (cc)
+
+from_not : (b : Bool) → not b ≡ true → b ≡ false
+from_not false h = refl
+from_not true h = absurd (cc)
 
 -- a declaration of the name, counted from `i`
 pub record IsFound (i : ℕ) (decls : List Decl) (w : List ℕ) (n : ℕ) : Type 0 where
@@ -92,7 +109,7 @@ named_means : (P : Var → Type 0) (kind : ℕ → Var) (n : Option ℕ) (rest :
 named_means P kind (Some i) rest p q = p
 named_means P kind None rest p q = q
 
-pub prim_means : (w : List ℕ) (n : Option ℕ) → primitive_of w ≡ n → IfSome n (λ i. IsPrimitive i w (i == 14))
+pub prim_means : (w : List ℕ) (n : Option ℕ) → primitive_named w ≡ n → IfSome n (λ i. IsPrimitive i w (is_flag i))
 prim_means w (Some n) e = record { spelt = e; kind = refl }
 prim_means w None e = tt
 
@@ -107,7 +124,7 @@ meaning_means scope w =
     let P : Var → Type 0 = λ v. Means scope w v (told_of scope v) in
     some_case (is_field_use w) _ _ P
     (λ h. named_means P var.Field (decl_from 0 scope.fields (drop 7 w)) None (field_means scope.fields w ((starts_is Decides-eqb w (codes "Report.") (is_field_use w) refl).0 h)) tt)
-    (λ _. named_means P var.Prim (primitive_of w) _ (prim_means w (primitive_of w) refl)
+    (λ _. named_means P var.Prim (primitive_named w) _ (prim_means w (primitive_named w) refl)
     (named_means P var.Control (decl_from 0 scope.controls w) _
     (some_mono (decl_from 0 scope.controls w) _ _ (decl_found 0 scope.controls w) (λ i f. declared_of scope.controls w i f))
     (named_means P var.Local (local_from 0 scope.locals w) None
@@ -169,39 +186,54 @@ expression_scoped scope (list at parts) = tt
 pub record IsControl (scope : Scope) (i : ℕ) (w : List ℕ) : Type 0 where
   pub found : decl_from 0 scope.controls w ≡ Some i
   pub no_field : is_field_use w ≡ false
-  pub no_primitive : primitive_of w ≡ None
+  pub no_primitive : primitive_named w ≡ None
 
 pub record IsOwnLocal (scope : Scope) (i : ℕ) (w : List ℕ) : Type 0 where
   pub found : local_from 0 scope.locals w ≡ Some i
   pub no_control : decl_from 0 scope.controls w ≡ None
   pub no_field : is_field_use w ≡ false
-  pub no_primitive : primitive_of w ≡ None
+  pub no_primitive : primitive_named w ≡ None
 
 pub record IsProper (scope : Scope) : Type 0 where
   pub fields : (i : ℕ) (d : Decl) → slice_get scope.fields i ≡ Some d → decl_from 0 scope.fields d.name ≡ Some i
   pub controls : (i : ℕ) (d : Decl) → slice_get scope.controls i ≡ Some d → IsControl scope i d.name
   pub locals : (i : ℕ) (l : Local) → slice_get scope.locals i ≡ Some l → IsOwnLocal scope i l.name
 
-prim_case : (P : List ℕ → Type 0) (w lit : List ℕ) (n : ℕ) (rest : Option ℕ) → P lit → IfSome rest (λ _. P w) → IfSome (if bytes_eq w lit then Some n else rest) (λ _. P w)
-prim_case P w lit n rest p q = some_case (bytes_eq w lit) (Some n) rest (λ _. P w) (λ h. subst P (sym (spelt w lit h)) p) (λ _. q)
-
--- a property of each spelling of a primitive holds of each word that is one
-acknowledged_all : (P : List ℕ → Type 0) (w : List ℕ) → P (codes "Ack.bytes_acked") → P (codes "Ack.packets_acked") → P (codes "Ack.bytes_misordered") → P (codes "Ack.packets_misordered") → P (codes "Ack.ecn_bytes") → P (codes "Ack.ecn_packets") → P (codes "Ack.lost_pkts_sample") → P (codes "Ack.now") → IfSome (acknowledged_of w) (λ _. P w)
-acknowledged_all P w a b c d e f g h =
-    prim_case P w (codes "Ack.bytes_acked") 0 _ a (prim_case P w (codes "Ack.packets_acked") 1 _ b
-    (prim_case P w (codes "Ack.bytes_misordered") 2 _ c (prim_case P w (codes "Ack.packets_misordered") 3 _ d
-    (prim_case P w (codes "Ack.ecn_bytes") 4 _ e (prim_case P w (codes "Ack.ecn_packets") 5 _ f
-    (prim_case P w (codes "Ack.lost_pkts_sample") 6 _ g (prim_case P w (codes "Ack.now") 7 _ h tt)))))))
-
 abbrev pub IsAckWord : List ℕ → Type 0
 IsAckWord w = (is_field_use w ≡ false) × (is_primitive_use w ≡ true)
 
--- a primitive begins with `Ack.` or `Flow.`
-pub primitive_word : (w : List ℕ) → IfSome (primitive_of w) (λ _. IsAckWord w)
+pub if_found : (o : Option ℕ) (P : ℕ → Type 0) → ((i : ℕ) → o ≡ Some i → P i) → IfSome o P
+if_found (Some i) P f = f i refl
+if_found None P f = tt
+
+-- what each of a list passes, the one at a place passes
+passes : {X : Type 0} (test : X → Bool) (xs : List X) (i : ℕ) (d : X) → list_all test xs ≡ true → i < length xs → test (get_or xs i d) ≡ true
+passes test [] i d h k = absurd (omega arith)
+passes test (x ∷ xs) zero d h k = first_of (test x) (list_all test xs) h
+passes test (x ∷ xs) (suc i) d h k = passes test xs i d (rest_of (test x) (list_all test xs) h) (omega arith)
+
+-- a primitive's word begins with `Ack.` or `Flow.`
+abbrev is_ack_word : PrimitiveName → Bool
+is_ack_word known = not (is_field_use (word_of known)) && is_primitive_use (word_of known)
+
+all_ack_words : list_all is_ack_word primitive_names ≡ true
+all_ack_words = refl
+
+ack_word : (known : PrimitiveName) → is_ack_word known ≡ true → IsAckWord (word_of known)
+ack_word known h =
+    (from_not (is_field_use (word_of known)) (first_of (not (is_field_use (word_of known))) (is_primitive_use (word_of known)) h),
+    rest_of (not (is_field_use (word_of known))) (is_primitive_use (word_of known)) h)
+
+pub primitive_word : (w : List ℕ) → IfSome (primitive_named w) (λ _. IsAckWord w)
 primitive_word w =
-    let P : List ℕ → Type 0 = IsAckWord in
-    prim_case P w (codes "Flow.bytes_in_flight") 8 _ (refl, refl) (prim_case P w (codes "Flow.packets_in_flight") 9 _ (refl, refl)
-    (prim_case P w (codes "Flow.bytes_pending") 10 _ (refl, refl) (prim_case P w (codes "Flow.rate_incoming") 11 _ (refl, refl)
-    (prim_case P w (codes "Flow.rate_outgoing") 12 _ (refl, refl) (prim_case P w (codes "Flow.rtt_sample_us") 13 _ (refl, refl)
-    (prim_case P w (codes "Flow.was_timeout") 14 _ (refl, refl)
-    (acknowledged_all P w (refl, refl) (refl, refl) (refl, refl) (refl, refl) (refl, refl) (refl, refl) (refl, refl) (refl, refl))))))))
+    if_found (primitive_named w) (λ _. IsAckWord w) (λ i e.
+    let none : PrimitiveName = ([], []) in
+    let there = position-Some (λ known. bytes_eq w (word_of known)) primitive_names i none e in
+    let known = get_or primitive_names i none in
+    subst IsAckWord (sym (spelt w (word_of known) there.1)) (ack_word known (passes is_ack_word primitive_names i none all_ack_words there.0)))
+
+-- the number of a primitive is one of them
+pub primitive_count_of : (w : List ℕ) → IfSome (primitive_named w) (λ n. n < 15)
+primitive_count_of w =
+    if_found (primitive_named w) (λ n. n < 15) (λ i e.
+    (position-Some (λ known. bytes_eq w (word_of known)) primitive_names i ([], []) e).0)

@@ -12,11 +12,14 @@ use Rattle.portus_core.specs.ValidPrograms.{Known, is_known, is_term}
 use Rattle.scope_types.specs.declared.names.Local.{Local}
 use Rattle.scope_types.specs.declared.fault.ScopeFault.{ScopeFault}
 use Rattle.scope_types.specs.declared.fault.ScopeFault.TheVariants.{Unknown}
-use Rattle.scope_types.specs.Words.{operator_of, constant_of, variable_of, primitive_of, acknowledged_of, is_reserved, is_field_use}
+use Rattle.portus_core.specs.Words.{operator_of, variable_of, is_reserved, is_field_use}
+use Rattle.ccp_base.specs.PrimitiveNames.{primitive_named}
+use Rattle.scope_types.specs.ValueWords.{constant_of}
 use Rattle.scope_types.specs.Names.{decl_from, local_from, named, meaning_of}
 use Rattle.scope_types.specs.Scope.{Scope, known_in}
 use Rattle.scope_types.specs.ExpressionWalk.{or_refused, name_walk, variable_walk, word_walk, pair_walk, expression_walk}
 use Rattle.scope_types.proofs.Results.{if_ok, both_true}
+use Rattle.scope_types.proofs.ScopedExpressions.{primitive_count_of}
 
 -- what holds of a choice's value holds in each branch
 pub if_some : {A : Type 0} (b : Bool) (r s : Option A) (P : A → Type 0) → IfSome r P → IfSome s P → IfSome (if b then r else s) P
@@ -41,18 +44,15 @@ local_below i (d ∷ ds) w =
     (let here : i < i + length (d ∷ ds) = omega arith in here)
     (some_mono (local_from (i + 1) ds w) _ _ (local_below (i + 1) ds w) (λ n h. let there : n < i + length (d ∷ ds) = omega arith in there))
 
-acknowledged_below : (w : List ℕ) → IfSome (acknowledged_of w) (λ n. IsTrue (nat_lt n 15))
-acknowledged_below w = grind (arith, nat_tests)
-
-primitive_below : (w : List ℕ) → IfSome (primitive_of w) (λ n. IsTrue (nat_lt n 15))
-primitive_below w = let below = acknowledged_below w in grind (arith, nat_tests)
-
 named_known : (P : Var → Type 0) (kind : ℕ → Var) (n : Option ℕ) (rest : Option Var) → IfSome n (λ i. P (kind i)) → IfSome rest P → IfSome (named kind n rest) P
 named_known P kind (Some i) rest p q = p
 named_known P kind None rest p q = q
 
 below_test : (a b : ℕ) → a < b → IsTrue (nat_lt a b)
 below_test a b h = grind (arith, nat_tests)
+
+primitive_below : (w : List ℕ) → IfSome (primitive_named w) (λ n. IsTrue (nat_lt n 15))
+primitive_below w = some_mono (primitive_named w) _ _ (primitive_count_of w) (λ n h. below_test n 15 h)
 
 local_known : (names : Scope) (w : List ℕ) → IfSome (local_from 0 names.locals w) (λ n. IsTrue (is_known (known_in names) (var.Local n)))
 local_known names w =
@@ -68,7 +68,7 @@ meaning_known names w =
     let P : Var → Type 0 = λ v. IsTrue (is_known (known_in names) v) in
     if_some (is_field_use w) _ _ P
     (named_known P var.Field (decl_from 0 names.fields (drop 7 w)) None (decl_known names.fields (drop 7 w)) tt)
-    (named_known P var.Prim (primitive_of w) _ (primitive_below w)
+    (named_known P var.Prim (primitive_named w) _ (primitive_below w)
     (named_known P var.Control (decl_from 0 names.controls w) _ (decl_known names.controls w)
     (named_known P var.Local (local_from 0 names.locals w) None (local_known names w) tt)))
 

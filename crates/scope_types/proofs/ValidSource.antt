@@ -1,27 +1,31 @@
-use Rattle.std.proofs.Common.{◌≡◌, ℕ, ◌+◌, ◌≤◌, Bool, true, false, not, ◌&&◌, refl, List, [], ◌∷◌, ◌++◌, length, is_some, Result, Ok, Err, IfOk, IsTrue, nat_le, bytes_eq, codes, arith, ap, ◌∙◌, sym, subst, length-append, lit≤}
+use Rattle.std.proofs.Common.{◌≡◌, ℕ, ◌+◌, ◌≤◌, Bool, true, false, not, ◌&&◌, refl, List, [], ◌∷◌, ◌++◌, length, is_some, Option, Some, None, IfSome, ◌||◌, Result, Ok, Err, IfOk, IsTrue, nat_le, bytes_eq, codes, arith, ap, ◌∙◌, sym, subst, length-append, lit≤, if◌then◌else◌}
 use Rattle.std.proofs.lemmas.Bool.Decides.{nat_tests}
 use Rattle.ccp_base.specs.declared.place.Place.{Place}
 use Rattle.portus_core.specs.declared.program.Decl.{Decl}
 use Rattle.portus_core.specs.Programs.{Term, Action, Part}
 use Rattle.portus_core.specs.Trees.{Node, Nodes, none, more, number, word, list}
-use Rattle.portus_core.specs.ValidPrograms.{Known, is_condition, is_body, is_part, are_parts, is_valid}
+use Rattle.portus_core.specs.ValidPrograms.{Known, is_condition, is_body, is_part, are_parts, is_start, is_named_in, are_declared, is_declared, is_valid}
+use Rattle.scope_types.specs.declared.declaration.Start.{Start}
 use Rattle.scope_types.specs.declared.declaration.Declaration.{Declaration}
 use Rattle.scope_types.specs.declared.fault.ScopeFault.{ScopeFault}
 use Rattle.scope_types.specs.Names.{decl_from}
-use Rattle.scope_types.specs.Words.{is_field_name, is_control_name}
+use Rattle.portus_core.specs.Words.{is_field_name, is_control_name}
 use Rattle.scope_types.specs.Scope.{Scope, known_in}
 use Rattle.scope_types.specs.ExpressionWalk.{expression_walk}
 use Rattle.scope_types.specs.DeclarationWalk as walk
 use Rattle.scope_types.specs.CommandWalk.{body_walk}
 use Rattle.scope_types.specs.ProgramWalk.{nothing_declared, without_locals, part_of, condition_walk, inner_walk, block_walk, form_walk, blocks_walk, def_walk, form_of, source_walk}
 use Rattle.scope_types.proofs.Results.{if_ok, then_ok, both_true, ok_map}
+use Rattle.scope_types.proofs.ScopedExpressions.{some_case}
 use Rattle.scope_types.proofs.ValidExpressions.{expression_valid}
 use Rattle.scope_types.proofs.ValidCommands.{IsRest, kind_fits, body_valid}
 
--- no more declarations than there may be
+-- right declarations, and no more than there may be
 pub record IsWithin (names : Scope) : Type 0 where
   pub fields : length names.fields ≤ 64
   pub controls : length names.controls ≤ 64
+  pub right_fields : IsTrue (are_declared is_field_name names.fields)
+  pub right_controls : IsTrue (are_declared is_control_name names.controls)
 
 and_left : (a b : Bool) → (a && b) ≡ true → a ≡ true
 and_left true b h = refl
@@ -31,37 +35,111 @@ and_right : (a b : Bool) → (a && b) ≡ true → b ≡ true
 and_right true b h = h
 and_right false b h = absurd (cc)
 
+not_not : (b : Bool) → not b ≡ false → b ≡ true
+not_not true h = refl
+not_not false h = absurd (cc)
+
+not_true : (b : Bool) → b ≡ false → not b ≡ true
+not_true false h = refl
+not_true true h = absurd (cc)
+
+from_not : (b : Bool) → not b ≡ true → b ≡ false
+from_not false h = refl
+from_not true h = absurd (cc)
+
+neither : (a b : Bool) → a ≡ false → b ≡ false → (a || b) ≡ false
+neither false b h k = k
+neither true b h k = h
+
+or_left : (a b : Bool) → (a || b) ≡ false → a ≡ false
+or_left false b h = refl
+or_left true b h = h
+
+or_right : (a b : Bool) → (a || b) ≡ false → b ≡ false
+or_right false b h = h
+or_right true b h = absurd (cc)
+
+-- a name that no declaration has is new for the first of them and for the rest
+new_by : (b : Bool) (i : ℕ) (o : Option ℕ) → is_some (if b then Some i else o) ≡ false → (b ≡ false) × (is_some o ≡ false)
+new_by true i o h = absurd (cc)
+new_by false i o h = (refl, h)
+
+named_later : (name : List ℕ) (rest : List Decl) (decl : Decl) → is_named_in name rest ≡ false → bytes_eq name decl.name ≡ false → is_named_in name (rest ++ decl ∷ []) ≡ false
+named_later name [] decl h k = neither _ _ k refl
+named_later name (first ∷ rest) decl h k =
+    neither (bytes_eq name first.name) (is_named_in name (rest ++ decl ∷ [])) (or_left (bytes_eq name first.name) (is_named_in name rest) h)
+    (named_later name rest decl (or_right (bytes_eq name first.name) (is_named_in name rest) h) k)
+
+-- one more declaration of a new name
+one_more : (is_allowed : List ℕ → Bool) (decls : List Decl) (decl : Decl) (i : ℕ) → IsTrue (are_declared is_allowed decls) → is_allowed decl.name ≡ true → is_start decl ≡ true → is_some (decl_from i decls decl.name) ≡ false → IsTrue (are_declared is_allowed (decls ++ decl ∷ []))
+one_more is_allowed [] decl i h allowed start new = both_true _ _ (both_true _ _ (both_true _ _ allowed start) refl) refl
+one_more is_allowed (first ∷ rest) decl i h allowed start new =
+    let n = new_by (bytes_eq first.name decl.name) i (decl_from (i + 1) rest decl.name) new in
+    let own = is_allowed first.name && is_start first in
+    let alone = own && not (is_named_in first.name rest) in
+    let here = and_left alone (are_declared is_allowed rest) h in
+    both_true _ _
+    (both_true _ _ (and_left own (not (is_named_in first.name rest)) here)
+    (not_true _ (named_later first.name rest decl (from_not _ (and_right own (not (is_named_in first.name rest)) here)) n.0)))
+    (one_more is_allowed rest decl (i + 1) (and_right alone (are_declared is_allowed rest) h) allowed start n.1)
+
+-- a declared value is right
+abbrev is_right : Start → Bool
+is_right start = not start.truth || nat_le start.value 1
+
+word_start : (w : List ℕ) → IfSome (walk.start_word w) (λ s. is_right s ≡ true)
+word_start w =
+    some_case (bytes_eq w (codes "true")) _ _ _ (λ _. refl) (λ _.
+    some_case (bytes_eq w (codes "false")) _ _ _ (λ _. refl) (λ _.
+    some_case (bytes_eq w (codes "+infinity")) _ _ _ (λ _. refl) (λ _. tt)))
+
+right_start : (node : Node) → IfSome (walk.start_of node) (λ s. is_right s ≡ true)
+right_start (number at n) = refl
+right_start (list at parts) = tt
+right_start (word at w) = word_start w
+
+declares_start : (at : Place) (volatile : Bool) (word_at : Place) (w : List ℕ) (s : Option Start) → IfSome s (λ s. is_right s ≡ true) → IfOk (walk.declares at volatile word_at w s) (λ d. is_start d.decl ≡ true)
+declares_start at volatile word_at w (Some s) h = h
+declares_start at volatile word_at w None h = tt
+
+declaration_start : (node : Node) → IfOk (walk.declaration_walk node) (λ d. is_start d.decl ≡ true)
+declaration_start (list at (more (word word_at w) (more value none))) = declares_start at false word_at w (walk.start_of value) (right_start value)
+declaration_start (list at (more (word head v) (more (word word_at w) (more value none)))) =
+    if_ok (bytes_eq v (codes "volatile")) _ _ _ (λ _. declares_start at true word_at w (walk.start_of value) (right_start value)) (λ _. tt)
+declaration_start node = tt
+
 room : (n : ℕ) → nat_le 64 n ≡ false → n + 1 ≤ 64
 room n h = grind (arith, nat_tests)
 
-field_within : (names : Scope) (d : Declaration) → IsWithin names → IfOk (walk.field_walk names d) IsWithin
-field_within names d h =
-    if_ok (not (is_field_name d.decl.name)) _ _ _ (λ _. tt) (λ _.
-    if_ok (is_some (decl_from 0 names.fields d.decl.name)) _ _ _ (λ _. tt) (λ _.
+field_within : (names : Scope) (d : Declaration) → is_start d.decl ≡ true → IsWithin names → IfOk (walk.field_walk names d) IsWithin
+field_within names d start h =
+    if_ok (not (is_field_name d.decl.name)) _ _ _ (λ _. tt) (λ allowed.
+    if_ok (is_some (decl_from 0 names.fields d.decl.name)) _ _ _ (λ _. tt) (λ new.
     if_ok (nat_le 64 (length names.fields)) _ _ _ (λ _. tt) (λ k.
     let within : IsWithin (walk.with_field names d.decl) = record {
       fields = subst (λ n. n ≤ 64) (sym (length-append names.fields (d.decl ∷ []))) (room _ k);
       controls = h.controls;
+      right_fields = one_more is_field_name names.fields d.decl 0 h.right_fields (not_not _ allowed) start new;
+      right_controls = h.right_controls;
     } in within)))
 
-control_within : (names : Scope) (d : Declaration) → IsWithin names → IfOk (walk.control_walk names d) IsWithin
-control_within names d h =
-    if_ok (not (is_control_name d.decl.name)) _ _ _ (λ _. tt) (λ _.
-    if_ok (is_some (decl_from 0 names.controls d.decl.name)) _ _ _ (λ _. tt) (λ _.
+control_within : (names : Scope) (d : Declaration) → is_start d.decl ≡ true → IsWithin names → IfOk (walk.control_walk names d) IsWithin
+control_within names d start h =
+    if_ok (not (is_control_name d.decl.name)) _ _ _ (λ _. tt) (λ allowed.
+    if_ok (is_some (decl_from 0 names.controls d.decl.name)) _ _ _ (λ _. tt) (λ new.
     if_ok (nat_le 64 (length names.controls)) _ _ _ (λ _. tt) (λ k.
     let within : IsWithin (walk.with_control names d.decl) = record {
       fields = h.fields;
       controls = subst (λ n. n ≤ 64) (sym (length-append names.controls (d.decl ∷ []))) (room _ k);
+      right_fields = h.right_fields;
+      right_controls = one_more is_control_name names.controls d.decl 0 h.right_controls (not_not _ allowed) start new;
     } in within)))
-
-any_declaration : (node : Node) → IfOk (walk.declaration_walk node) (λ _. Unit {0})
-any_declaration node = elim (walk.declaration_walk node) as (λ r. IfOk r (λ _. Unit {0})) [ Ok d ↦ tt | Err e ↦ tt ]
 
 fields_within : (names : Scope) (nodes : Nodes) → IsWithin names → IfOk (walk.fields_walk names nodes) IsWithin
 fields_within names none h = h
 fields_within names (more node rest) h =
-    then_ok (walk.declaration_walk node) _ _ _ (any_declaration node) (λ d _.
-    then_ok (walk.field_walk names d) _ _ _ (field_within names d h) (λ after k. fields_within after rest k))
+    then_ok (walk.declaration_walk node) _ _ _ (declaration_start node) (λ d start.
+    then_ok (walk.field_walk names d) _ _ _ (field_within names d start h) (λ after k. fields_within after rest k))
 
 abbrev DeclaresWithin : walk.Declaring → Type 0
 DeclaresWithin declared = IsWithin declared.names
@@ -73,8 +151,8 @@ group_within declared head fields h =
 
 control_part_within : (declared : walk.Declaring) (node : Node) → DeclaresWithin declared → IfOk (walk.control_part_walk declared node) DeclaresWithin
 control_part_within declared node h =
-    then_ok (walk.declaration_walk node) _ _ _ (any_declaration node) (λ d _.
-    then_ok (walk.control_walk declared.names d) _ _ _ (control_within declared.names d h) (λ after k. k))
+    then_ok (walk.declaration_walk node) _ _ _ (declaration_start node) (λ d start.
+    then_ok (walk.control_walk declared.names d) _ _ _ (control_within declared.names d start h) (λ after k. k))
 
 part_within : (declared : walk.Declaring) (node : Node) → DeclaresWithin declared → IfOk (walk.part_walk declared node) DeclaresWithin
 part_within declared (list at (more (word head w) fields)) h =
@@ -94,7 +172,7 @@ parts_within declared (more node rest) h =
 pub def_within : (node : Node) → IfOk (def_walk node) IsWithin
 def_within (list at (more (word head w) parts)) =
     if_ok (bytes_eq w (codes "def")) _ _ _
-    (λ _. then_ok (walk.parts_walk nothing_declared parts) _ _ _ (parts_within nothing_declared parts (record { fields = lit≤ tt; controls = lit≤ tt })) (λ declared h. h))
+    (λ _. then_ok (walk.parts_walk nothing_declared parts) _ _ _ (parts_within nothing_declared parts (record { fields = lit≤ tt; controls = lit≤ tt; right_fields = refl; right_controls = refl })) (λ declared h. h))
     (λ _. tt)
 def_within node = tt
 
@@ -188,6 +266,12 @@ form_of_valid names blocks w b =
     (within_test _ b.few))
     (ap (λ known. are_parts known blocks.0) (sym (same_names names blocks.1 b.fields b.controls)) ∙ b.valid)
 
+form_of_declared : (names : Scope) (blocks : List Part × Scope) → IsWithin names → AreBlocks names blocks → IsTrue (is_declared (form_of blocks))
+form_of_declared names blocks w b =
+    both_true _ _
+    (subst (λ (ds : List Decl). IsTrue (are_declared is_field_name ds)) (sym b.fields) w.right_fields)
+    (subst (λ (ds : List Decl). IsTrue (are_declared is_control_name ds)) (sym b.controls) w.right_controls)
+
 -- what the walk of a text's forms gives is valid
 pub source_valid : (nodes : Nodes) → IfOk (source_walk nodes) (λ form. IsTrue (is_valid form))
 source_valid none = tt
@@ -200,4 +284,9 @@ source_valid (more first rest) =
 pub parts_valid : (first : Node) (rest : Nodes) (names : Scope) (blocks : List Part × Scope) → def_walk first ≡ Ok names → blocks_walk names [] rest ≡ Ok blocks → IsTrue (is_valid (form_of blocks))
 parts_valid first rest names blocks e f =
     form_of_valid names blocks (subst (λ (r : Result Scope ScopeFault). IfOk r IsWithin) e (def_within first))
+    (subst (λ (r : Result (List Part × Scope) ScopeFault). IfOk r (AreBlocks names)) f (blocks_valid names [] rest refl (lit≤ tt)))
+
+pub parts_declared : (first : Node) (rest : Nodes) (names : Scope) (blocks : List Part × Scope) → def_walk first ≡ Ok names → blocks_walk names [] rest ≡ Ok blocks → IsTrue (is_declared (form_of blocks))
+parts_declared first rest names blocks e f =
+    form_of_declared names blocks (subst (λ (r : Result Scope ScopeFault). IfOk r IsWithin) e (def_within first))
     (subst (λ (r : Result (List Part × Scope) ScopeFault). IfOk r (AreBlocks names)) f (blocks_valid names [] rest refl (lit≤ tt)))

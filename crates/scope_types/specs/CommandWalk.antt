@@ -1,4 +1,6 @@
+-- The walk over the commands of a body, in the order of its checks.
 use Rattle.std.specs.Prelude.{ℕ, ◌==◌, Bool, true, false, not, ◌&&◌, ◌||◌, nat_le, List, [], ◌∷◌, ◌++◌, length, Option, Some, None, Result, Ok, Err, codes, if◌then◌else◌, bytes_eq}
+use Rattle.ccp_base.specs.Limits.{most_locals, most_tenths}
 use Rattle.ccp_base.specs.declared.place.Place.{Place}
 use Rattle.portus_core.specs.declared.program.Var.{Var}
 use Rattle.portus_core.specs.declared.program.Var.TheVariants as var
@@ -10,7 +12,7 @@ use Rattle.scope_types.specs.declared.fault.ScopeFault.TheVariants as fault
 use Rattle.scope_types.specs.declared.fault.What.TheVariants as what
 use Rattle.scope_types.specs.declared.target.Target.{Target}
 use Rattle.scope_types.specs.declared.target.Target.TheVariants.{Known, Fresh}
-use Rattle.scope_types.specs.Words.{variable_of, is_reserved, is_field_use, is_primitive_use}
+use Rattle.portus_core.specs.Words.{variable_of, is_reserved, is_field_use, is_primitive_use}
 use Rattle.scope_types.specs.Names.{meaning_of}
 use Rattle.scope_types.specs.Scope.{Scope, known_in, with_local}
 use Rattle.scope_types.specs.Walk.{place_of, and_then}
@@ -74,7 +76,7 @@ choice_walk names target when_true value_at head parts = Err (fault.Misplaced va
 
 -- a weight in tenths
 abbrev pub weight_walk : Node → Result ℕ ScopeFault
-weight_walk (number at n) = if nat_le n 10 then Ok n else Err (fault.Kind at)
+weight_walk (number at n) = if nat_le n most_tenths then Ok n else Err (fault.Kind at)
 weight_walk (word at w) = Err (fault.Kind at)
 weight_walk (list at parts) = Err (fault.Kind at)
 
@@ -96,7 +98,7 @@ abbrev pub set_walk : Scope → Target → Place → Term → Result Step ScopeF
 set_walk names (Known at v) value_at term =
     and_then (kind_walk names (wants_bool names v) value_at term) (λ e. Ok (set v e, names))
 set_walk names (Fresh at w) value_at term =
-    if nat_le 8 (length names.locals) then Err (fault.TooMany at what.Locals)
+    if nat_le most_locals (length names.locals) then Err (fault.TooMany at what.Locals)
     else Ok (set (var.Local (length names.locals)) term, with_local names w (is_bool names term))
 
 abbrev pub plain_walk : Scope → Target → Node → Result Step ScopeFault

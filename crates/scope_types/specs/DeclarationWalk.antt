@@ -1,4 +1,6 @@
+-- The walk over the parts of `def`, in the order of its checks.
 use Rattle.std.specs.Prelude.{ℕ, ◌-◌, ◌^◌, Bool, true, false, not, nat_le, List, [], ◌∷◌, ◌++◌, length, Option, Some, None, is_some, Result, Ok, Err, codes, if◌then◌else◌, bytes_eq}
+use Rattle.ccp_base.specs.Limits.{most_fields, most_controls}
 use Rattle.ccp_base.specs.declared.place.Place.{Place}
 use Rattle.portus_core.specs.declared.program.Decl.{Decl}
 use Rattle.portus_core.specs.Trees.{Node, Nodes, number, word, list, none, more}
@@ -8,7 +10,7 @@ use Rattle.scope_types.specs.declared.fault.What.TheVariants as what
 use Rattle.scope_types.specs.declared.declaration.Start.{Start}
 use Rattle.scope_types.specs.declared.declaration.Declaration.{Declaration}
 use Rattle.scope_types.specs.declared.declaration.Declared.{Declared}
-use Rattle.scope_types.specs.Words.{is_field_name, is_control_name}
+use Rattle.portus_core.specs.Words.{is_field_name, is_control_name}
 use Rattle.scope_types.specs.Names.{decl_from}
 use Rattle.scope_types.specs.Scope.{Scope, scope_of}
 use Rattle.scope_types.specs.Walk.{place_of, and_then}
@@ -57,7 +59,7 @@ abbrev pub field_walk : Scope → Declaration → Result Scope ScopeFault
 field_walk names d =
     if not (is_field_name d.decl.name) then Err (Misplaced d.at)
     else if is_some (decl_from 0 names.fields d.decl.name) then Err (Twice d.at)
-    else if nat_le 64 (length names.fields) then Err (TooMany d.at what.Fields)
+    else if nat_le most_fields (length names.fields) then Err (TooMany d.at what.Fields)
     else Ok (with_field names d.decl)
 
 -- one more control variable
@@ -65,7 +67,7 @@ abbrev pub control_walk : Scope → Declaration → Result Scope ScopeFault
 control_walk names d =
     if not (is_control_name d.decl.name) then Err (Misplaced d.at)
     else if is_some (decl_from 0 names.controls d.decl.name) then Err (Twice d.at)
-    else if nat_le 64 (length names.controls) then Err (TooMany d.at what.Controls)
+    else if nat_le most_controls (length names.controls) then Err (TooMany d.at what.Controls)
     else Ok (with_control names d.decl)
 
 -- the parts of a group

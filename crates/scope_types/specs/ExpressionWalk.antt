@@ -1,3 +1,4 @@
+-- The walk over an expression, in the order of its checks.
 use Rattle.std.specs.Prelude.{ℕ, ◌^◌, List, Option, Some, None, Result, Ok, Err, if◌then◌else◌, nat_lt}
 use Rattle.ccp_base.specs.declared.place.Place.{Place}
 use Rattle.portus_core.specs.declared.program.Op2.{Op2}
@@ -7,7 +8,8 @@ use Rattle.portus_core.specs.Trees.{Node, Nodes, none, more}
 use Rattle.portus_core.specs.Trees as node
 use Rattle.scope_types.specs.declared.fault.ScopeFault.{ScopeFault}
 use Rattle.scope_types.specs.declared.fault.ScopeFault.TheVariants.{Unknown, Misplaced}
-use Rattle.scope_types.specs.Words.{operator_of, constant_of, variable_of, is_reserved}
+use Rattle.portus_core.specs.Words.{operator_of, variable_of, is_reserved}
+use Rattle.scope_types.specs.ValueWords.{constant_of}
 use Rattle.scope_types.specs.Names.{meaning_of}
 use Rattle.scope_types.specs.Scope.{Scope}
 
@@ -35,7 +37,8 @@ pair_walk at head (Some op) (Err e) right = Err e
 pair_walk at head (Some op) (Ok left) (Err e) = Err e
 pair_walk at head (Some op) (Ok left) (Ok right) = Ok (pair op head left right)
 
--- an expression: the left part is walked before the right one
+-- an expression: the left part is walked before the right one; each numeral of a text is below 2^64, so no text
+-- meets the first refusal
 abbrev pub expression_walk : Scope → Node → Result Term ScopeFault
 expression_walk names (node.number at n) = if nat_lt n (2 ^ 64) then Ok (number n) else Err (Misplaced at)
 expression_walk names (node.word at w) = word_walk names at w (constant_of w)

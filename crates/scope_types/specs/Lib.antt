@@ -1,4 +1,4 @@
-pub mod Words
+pub mod ValueWords
 pub mod Scope
 pub mod Names
 pub mod Walk
@@ -8,3 +8,4 @@ pub mod CommandWalk
 pub mod ProgramWalk
 pub mod Steps
 pub mod WellScoped
+pub mod Outcomes

@@ -1,10 +1,12 @@
+-- What a name stands for among those in scope.
 use Rattle.std.specs.Prelude.{ℕ, ◌+◌, List, [], ◌∷◌, drop, Option, Some, None, if◌then◌else◌, bytes_eq}
 use Rattle.portus_core.specs.declared.program.Decl.{Decl}
 use Rattle.portus_core.specs.declared.program.Var.{Var}
 use Rattle.portus_core.specs.declared.program.Var.TheVariants as var
 use Rattle.scope_types.specs.declared.names.Local.{Local}
 use Rattle.scope_types.specs.Scope.{Scope}
-use Rattle.scope_types.specs.Words.{primitive_of, is_field_use}
+use Rattle.portus_core.specs.Words.{is_field_use}
+use Rattle.ccp_base.specs.PrimitiveNames.{primitive_named}
 
 -- the number of the declaration that has this name, counted from `i`
 abbrev pub decl_from : ℕ → List Decl → List ℕ → Option ℕ
@@ -24,4 +26,4 @@ named kind None else_ = else_
 abbrev pub meaning_of : Scope → List ℕ → Option Var
 meaning_of names w =
     if is_field_use w then named var.Field (decl_from 0 names.fields (drop 7 w)) None
-    else named var.Prim (primitive_of w) (named var.Control (decl_from 0 names.controls w) (named var.Local (local_from 0 names.locals w) None))
+    else named var.Prim (primitive_named w) (named var.Control (decl_from 0 names.controls w) (named var.Local (local_from 0 names.locals w) None))

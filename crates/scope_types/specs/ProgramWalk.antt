@@ -1,4 +1,6 @@
+-- The walk over the forms of a text, which gives their program or their first refusal.
 use Rattle.std.specs.Prelude.{ℕ, true, false, not, nat_le, List, [], ◌∷◌, ◌++◌, length, Result, Ok, Err, codes, if◌then◌else◌, bytes_eq}
+use Rattle.ccp_base.specs.Limits.{most_blocks}
 use Rattle.ccp_base.specs.declared.place.Place.{Place}
 use Rattle.portus_core.specs.Programs.{Term, Action, Part, Form}
 use Rattle.portus_core.specs.Trees.{Node, Nodes, word, list, none, more}
@@ -44,7 +46,7 @@ block_walk names at (more condition commands) = inner_walk (without_locals names
 abbrev pub form_walk : Scope → ℕ → Node → Result (Part × Scope) ScopeFault
 form_walk names count (list at (more (word head w) parts)) =
     if not (bytes_eq w (codes "when")) then Err (Misplaced at)
-    else if nat_le 64 count then Err (TooMany at Blocks)
+    else if nat_le most_blocks count then Err (TooMany at Blocks)
     else block_walk names at parts
 form_walk names count node = Err (Misplaced (place_of node))
 

@@ -1,3 +1,4 @@
+-- What commands and blocks of the code stand for.
 use Rattle.std.specs.Prelude.{map, List}
 use Rattle.portus_core.specs.Programs.{Action, action_of, Part, part_of}
 use Rattle.portus_core.specs.declared.program.Cmd.{Cmd}

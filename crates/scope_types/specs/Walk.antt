@@ -1,3 +1,4 @@
+-- The parts of walks.
 use Rattle.std.specs.Prelude.{◌≡◌, Result, Ok, Err}
 use Rattle.ccp_base.specs.declared.place.Place.{Place}
 use Rattle.portus_core.specs.Trees.{Node, Nodes, number, word, list, none, more, node_of, nodes_of}

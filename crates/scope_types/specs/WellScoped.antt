@@ -1,4 +1,7 @@
+-- Which forms are well scoped, and the program that they stand for.
 use Rattle.std.specs.Prelude.{◌≡◌, ◌⊎◌, ℕ, ◌<◌, ◌≤◌, ◌-◌, ◌^◌, ◌==◌, Bool, true, false, IsTrue, IsFalse, List, [], ◌∷◌, ◌++◌, length, Option, Some, None, codes, slice_get}
+use Rattle.ccp_base.specs.Acknowledgement.{is_flag}
+use Rattle.ccp_base.specs.Limits.{most_fields, most_controls, most_blocks, most_locals, most_tenths}
 use Rattle.portus_core.specs.declared.program.Decl.{Decl}
 use Rattle.portus_core.specs.declared.program.Op2.{Op2}
 use Rattle.portus_core.specs.declared.program.Var.{Var}
@@ -10,7 +13,9 @@ use Rattle.portus_core.specs.ValidPrograms.{gives_truth, is_writable}
 use Rattle.ccp_base.specs.declared.place.Place.{Place}
 use Rattle.scope_types.specs.declared.names.Local.{Local}
 use Rattle.scope_types.specs.Scope.{Scope, with_local}
-use Rattle.scope_types.specs.Words.{operator_of, constant_of, constant_truth, variable_of, primitive_of, is_reserved, is_field_use, is_primitive_use, is_field_name, is_control_name}
+use Rattle.portus_core.specs.Words.{operator_of, variable_of, is_reserved, is_field_use, is_primitive_use, is_field_name, is_control_name}
+use Rattle.ccp_base.specs.PrimitiveNames.{primitive_named}
+use Rattle.scope_types.specs.ValueWords.{constant_of, constant_truth}
 
 -- the declaration of this number has this name
 pub record IsDeclared (decls : List Decl) (i : ℕ) (w : List ℕ) (told : Bool) : Type 0 where
@@ -33,8 +38,8 @@ pub record IsLocal (locals : List Local) (i : ℕ) (w : List ℕ) (told : Bool) 
   pub kind : told ≡ local.truth
 
 pub record IsPrimitive (n : ℕ) (w : List ℕ) (told : Bool) : Type 0 where
-  pub spelt : primitive_of w ≡ Some n
-  pub kind : told ≡ (n == 14)
+  pub spelt : primitive_named w ≡ Some n
+  pub kind : told ≡ is_flag n
 
 -- a word that a declaration, an assignment or the acknowledgement gives a meaning, and whether it is a Bool
 abbrev pub Means : Scope → List ℕ → Var → Bool → Type 0
@@ -105,7 +110,7 @@ pub record IsChoice (scope : Scope) (wanted : Bool) (make : Term → Term → Ac
   pub command : action ≡ make condition_term term
 
 abbrev pub IsWeight : Node → ℕ → Type 0
-IsWeight (number at m) n = (m ≡ n) × (n ≤ 10)
+IsWeight (number at m) n = (m ≡ n) × (n ≤ most_tenths)
 IsWeight (word at w) n = ⊥
 IsWeight (list at parts) n = ⊥
 
@@ -162,7 +167,7 @@ pub record IsFirstAssignment (scope : Scope) (w : List ℕ) (value : Node) (acti
   pub term : Term
   pub told : Bool
   pub is_value : IsTerm scope value term told
-  pub few : length scope.locals < 8
+  pub few : length scope.locals < most_locals
   pub command : action ≡ set (var.Local (length scope.locals)) term
   pub names : after ≡ with_local scope w told
 
@@ -271,10 +276,10 @@ pub record IsProgram (parts forms : Nodes) (form : Form) : Type 0 where
   pub declared : AreParts parts false form.fields form.controls
   pub fields_distinct : AreDistinct form.fields
   pub controls_distinct : AreDistinct form.controls
-  pub few_fields : length form.fields ≤ 64
-  pub few_controls : length form.controls ≤ 64
+  pub few_fields : length form.fields ≤ most_fields
+  pub few_controls : length form.controls ≤ most_controls
   pub blocks : AreBlocks (first_names form.fields form.controls) forms form.blocks
-  pub few_blocks : length form.blocks ≤ 64
+  pub few_blocks : length form.blocks ≤ most_blocks
 
 -- a text's forms are well scoped and stand for the program
 abbrev pub IsScoped : Nodes → Form → Type 0

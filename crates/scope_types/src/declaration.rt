@@ -1,6 +1,6 @@
 ghost use Rattle.std.specs.Prelude.{◌≡◌, ◌≢◌, ◌++◌, ◌∷◌, [], IfOk, IfErr, Ok, Err, length};
 ghost use Rattle.portus_core.specs.Trees.{node_of, nodes_of};
-ghost use Rattle.scope_types.specs.Words.{has_dot, is_field_name, is_control_name};
+ghost use Rattle.portus_core.specs.Words.{has_dot, is_field_name, is_control_name};
 ghost use Rattle.scope_types.specs.DeclarationWalk.{declaring_of, start_word, start_of, declaration_walk, field_walk, control_walk, fields_walk, group_walk, control_part_walk, part_walk, parts_walk};
 ghost use Rattle.scope_types.specs.Scope.{scope_of};
 

@@ -2,7 +2,8 @@ ghost use Rattle.std.specs.Prelude.{◌≡◌, ◌≢◌, IfOk, IfErr, Ok, Err};
 ghost use Rattle.portus_core.specs.Trees.{node_of};
 ghost use Rattle.portus_core.specs.Programs.{term_of, pair};
 ghost use Rattle.scope_types.specs.ExpressionWalk.{expression_walk, variable_walk, word_walk};
-ghost use Rattle.scope_types.specs.Words.{constant_of, variable_of};
+ghost use Rattle.portus_core.specs.Words.{variable_of};
+ghost use Rattle.scope_types.specs.ValueWords.{constant_of};
 ghost use Rattle.scope_types.specs.Scope.{scope_of};
 
 use crate::fault::ScopeFault;

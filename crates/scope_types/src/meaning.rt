@@ -8,7 +8,8 @@ ghost use Rattle.scope_types.specs.Scope.{scope_of};
 
 use crate::declarations::Declarations;
 use crate::names::{Local, Names};
-use crate::words::{is_field_use, primitive_of, same};
+use crate::words::{is_field_use, same};
+use ccp_base::{is_flag, primitive_named};
 use portus_core::{Expr, Op2, Var};
 
 /// The number of the local that has this name.
@@ -35,8 +36,8 @@ pub(crate) fn meaning_of(names: &Names, w: &[u8]) -> Option<Var>
     if is_field_use(w) {
         return names.fields.position(&w[7..]).map(Var::Field);
     }
-    if let Some(number) = primitive_of(w) {
-        return Some(Var::Prim(number));
+    if let Some(number) = primitive_named(w) {
+        return Some(Var::Prim(number as u32));
     }
     if let Some(number) = names.controls.position(w) {
         return Some(Var::Control(number));
@@ -72,7 +73,7 @@ pub(crate) fn is_bool_variable(names: &Names, var: Var) -> bool
         Var::Field(number) => is_bool_decl(&names.fields, number),
         Var::Control(number) => is_bool_decl(&names.controls, number),
         Var::Local(number) => is_bool_local(names.locals.as_slice(), number),
-        Var::Prim(number) => number == 14,
+        Var::Prim(number) => is_flag(number),
         Var::Cwnd | Var::Rate | Var::Micros => false,
     }
 }

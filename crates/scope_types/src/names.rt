@@ -1,4 +1,5 @@
 ghost use Rattle.std.specs.Prelude.{◌≡◌, ◌≤◌, length};
+ghost use Rattle.ccp_base.specs.Limits.{most_fields, most_controls, most_locals};
 
 use crate::declarations::Declarations;
 use ccp_base::{Name, Sequence};
@@ -17,7 +18,7 @@ pub(crate) struct Names {
     pub fields: Declarations,
     pub controls: Declarations,
     pub locals: Sequence<Local>,
-    ghost few_fields: { length fields ≤ 64 },
-    ghost few_controls: { length controls ≤ 64 },
-    ghost few_locals: { length locals ≤ 8 },
+    ghost few_fields: { length fields ≤ most_fields },
+    ghost few_controls: { length controls ≤ most_controls },
+    ghost few_locals: { length locals ≤ most_locals },
 }

@@ -2,11 +2,12 @@ ghost use Rattle.std.specs.Prelude.{◌≡◌, ◌≢◌, IsTrue, IfOk, IfErr, M
 ghost use Rattle.portus_core.specs.Trees.{node_of, nodes_of};
 ghost use Rattle.portus_core.specs.Programs.{Form, form_over};
 ghost use Rattle.portus_core.specs.ProgramForm.{form_of};
-ghost use Rattle.portus_core.specs.ValidPrograms.{is_valid};
+ghost use Rattle.portus_core.specs.ValidPrograms.{is_declared, is_valid};
 ghost use Rattle.scope_types.specs.DeclarationWalk.{declaring_of};
 ghost use Rattle.scope_types.specs.ProgramWalk.{nothing_declared, def_walk, source_walk};
 ghost use Rattle.scope_types.specs.Scope.{scope_of};
 ghost use Rattle.scope_types.specs.WellScoped.{IsScoped};
+ghost use Rattle.scope_types.specs.Outcomes.{IsRefused, IsSettled};
 
 use crate::block::{Blocks, later_forms};
 use crate::declaration::{Declared, parts};
@@ -50,7 +51,8 @@ fn def(alloc: Global, tree: &Tree) -> Result<Names, ScopeFault>
 
 /// A program of valid parts.
 fn program(alloc: Global, names: Names, blocks: Vec<Block>) -> Result<Program, AllocError>
-    requires { IsTrue (is_valid (form_over names.fields names.controls blocks.items)) }
+    requires declared { IsTrue (is_declared (form_over names.fields names.controls blocks.items)) }
+    requires valid { IsTrue (is_valid (form_over names.fields names.controls blocks.items)) }
     ensures fields { IfOk result (λ p. p.fields.items ≡ names.fields) }
     ensures controls { IfOk result (λ p. p.controls.items ≡ names.controls) }
     ensures blocks { IfOk result (λ p. p.blocks.items ≡ blocks.items) }
@@ -83,7 +85,10 @@ pub fn scope(alloc: Global, source: Source) -> Result<Program, ScopeFault>
 
     // The same as equations with the walk over the forms, which is the order of the refusals.
     ensures gives { IfOk result (λ p. source_walk (nodes_of source.forms.items) ≡ Ok (form_of p)) }
-    ensures refused { IfErr result (λ e. e ≢ ScopeFault.NoMemory → source_walk (nodes_of source.forms.items) ≡ Err e) }
+    ensures refused { IfErr result (λ e. e ≢ ScopeFault.NoMemory → IsRefused (nodes_of source.forms.items) e) }
+
+    // Forms stand for one program or have one first refusal, and not both.
+    ensures settled { IsSettled (nodes_of source.forms.items) }
 {
     scope_forms(alloc, source.forms.as_slice())
 }

@@ -1,6 +1,6 @@
 ghost use Rattle.std.specs.Prelude.{◌≡◌, bytes_eq};
 ghost use Rattle.std.specs.List.{list_all};
-ghost use Rattle.scope_types.specs.Words.{operator_of, is_constant, variable_of, acknowledged_of, primitive_of, is_first, is_later, is_name_shaped, is_heading, is_reserved, is_field_use, is_primitive_use};
+ghost use Rattle.portus_core.specs.Words.{operator_of, is_constant, variable_of, is_first, is_later, is_name_shaped, is_heading, is_reserved, is_field_use, is_primitive_use};
 
 use portus_core::{Op2, Var};
 
@@ -54,54 +54,6 @@ pub(crate) fn variable_of(w: &[u8]) -> Option<Var>
         Some(Var::Micros)
     } else {
         None
-    }
-}
-
-/// The number of the acknowledgement's own primitive that a word names.
-fn acknowledged_of(w: &[u8]) -> Option<u32>
-    ensures { result ≡ acknowledged_of w.now }
-{
-    if same(w, b"Ack.bytes_acked") {
-        Some(0)
-    } else if same(w, b"Ack.packets_acked") {
-        Some(1)
-    } else if same(w, b"Ack.bytes_misordered") {
-        Some(2)
-    } else if same(w, b"Ack.packets_misordered") {
-        Some(3)
-    } else if same(w, b"Ack.ecn_bytes") {
-        Some(4)
-    } else if same(w, b"Ack.ecn_packets") {
-        Some(5)
-    } else if same(w, b"Ack.lost_pkts_sample") {
-        Some(6)
-    } else if same(w, b"Ack.now") {
-        Some(7)
-    } else {
-        None
-    }
-}
-
-/// The number of the primitive that a word names.
-pub(crate) fn primitive_of(w: &[u8]) -> Option<u32>
-    ensures { result ≡ primitive_of w.now }
-{
-    if same(w, b"Flow.bytes_in_flight") {
-        Some(8)
-    } else if same(w, b"Flow.packets_in_flight") {
-        Some(9)
-    } else if same(w, b"Flow.bytes_pending") {
-        Some(10)
-    } else if same(w, b"Flow.rate_incoming") {
-        Some(11)
-    } else if same(w, b"Flow.rate_outgoing") {
-        Some(12)
-    } else if same(w, b"Flow.rtt_sample_us") {
-        Some(13)
-    } else if same(w, b"Flow.was_timeout") {
-        Some(14)
-    } else {
-        acknowledged_of(w)
     }
 }
 

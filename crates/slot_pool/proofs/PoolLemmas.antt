@@ -5,7 +5,7 @@ use Rattle.std.proofs.lemmas.List.{get_or-set_same}
 use Rattle.std.specs.Ordering.{nat_cmp}
 use Rattle.std.specs.FinMap as map
 use Rattle.slot_pool.specs.declared.region.Region.{Region}
-use Rattle.slot_pool.specs.Pool.{PoolState, words_at, IsOut, free_of, unused, with_word, ChangesSlot}
+use Rattle.slot_pool.specs.Pool.{PoolState, words_at, IsOut, free_of, unused, ChangesSlot}
 use Rattle.slot_pool.specs.Region.{words_of, ChangesWords}
 use Rattle.slot_pool.specs.FreeList.{pool_of, IsLinked}
 use Rattle.slot_pool.proofs.RegionLemmas.{slots_in_order, length-words_in}
@@ -115,24 +115,24 @@ give_step old new first free number slot before linked is out same change =
     (subst (λ b. GivesSlot new number (free + 1) b number) is
     (subst (λ n. GivesSlot new number n (state old first free) number) more (give_back old new first free number linked here change)))
 
--- what writing a word of a slot needs: the slot has the new words, and stays out
-pub record WritesSlot (new : Region) (first free : ℕ) (before : PoolState) (slot at word : ℕ) : Type 0 where
+-- what writing into a slot needs, where its words become what `f` makes of them: it has these words, and stays out
+pub record WritesSlot (new : Region) (first free : ℕ) (before : PoolState) (slot : ℕ) (f : List ℕ → List ℕ) : Type 0 where
   pub linked : Linked new first free
-  pub changes : ChangesSlot before (state new first free) slot (with_word before slot at word)
+  pub changes : ChangesSlot before (state new first free) slot (option_map f (words_at before slot))
   pub out : IsOut (state new first free) slot
   pub counted : free_of (state new first free) ≡ free_of before
 
-write_out : (old new : Region) (first free slot at word : ℕ) → Linked old first free → IsOut (state old first free) slot → ChangesWords old new slot (slice_set (words_of old slot) at word) → WritesSlot new first free (state old first free) slot at word
-write_out old new first free slot at word linked out change =
+write_out : (old new : Region) (first free slot : ℕ) (f : List ℕ → List ℕ) → Linked old first free → IsOut (state old first free) slot → ChangesWords old new slot (f (words_of old slot)) → WritesSlot new first free (state old first free) slot f
+write_out old new first free slot f linked out change =
     let now : Linked new first free =
     sized (words_of new) old.slots old.words new.slots new.words first free change.slots change.words
     (written_stays_linked (words_of old) (words_of new) old.slots old.words first free slot linked out change.others) in
-    let changes : ChangesSlot (state old first free) (state new first free) slot (Some (slice_set (words_of old slot) at word)) =
+    let changes : ChangesSlot (state old first free) (state new first free) slot (Some (f (words_of old slot))) =
     subst (λ xs. ChangesSlot (state old first free) (state new first free) slot (Some xs)) change.changed
     (sized_change (state old first free) (words_of new) old.slots old.words new.slots new.words first free slot (Some (words_of new slot)) change.slots change.words
     (written_changes (words_of old) (words_of new) old.slots old.words first free slot linked out change.others)) in
-    let with_is : with_word (state old first free) slot at word ≡ Some (slice_set (words_of old slot) at word) =
-    ap (option_map (λ xs. slice_set xs at word)) (words_at_out (words_of old) old.slots old.words first free slot out) in
+    let with_is : option_map f (words_at (state old first free) slot) ≡ Some (f (words_of old slot)) =
+    ap (option_map f) (words_at_out (words_of old) old.slots old.words first free slot out) in
     let after = free_of-state new first free now in
     let before = free_of-state old first free linked in
     record {
@@ -142,11 +142,11 @@ write_out old new first free slot at word linked out change =
       counted = omega arith;
     }
 
-pub write_step : (old new : Region) (first free number slot at word : ℕ) (before : PoolState) → Linked old first free → state old first free ≡ before → IsOut before slot → number ≡ slot → ChangesWords old new number (slice_set (words_of old number) at word) → WritesSlot new first free before slot at word
-write_step old new first free number slot at word before linked is out same change =
+pub write_step : (old new : Region) (first free number slot : ℕ) (f : List ℕ → List ℕ) (before : PoolState) → Linked old first free → state old first free ≡ before → IsOut before slot → number ≡ slot → ChangesWords old new number (f (words_of old number)) → WritesSlot new first free before slot f
+write_step old new first free number slot f before linked is out same change =
     let here : IsOut (state old first free) number = subst (λ b. IsOut b number) (sym is) (subst (IsOut before) (sym same) out) in
-    subst (λ n. WritesSlot new first free before n at word) same
-    (subst (λ b. WritesSlot new first free b number at word) is (write_out old new first free number at word linked here change))
+    subst (λ n. WritesSlot new first free before n f) same
+    (subst (λ b. WritesSlot new first free b number f) is (write_out old new first free number f linked here change))
 
 -- a slot that is out is below the number of slots, and has its words
 pub out_below : (region : Region) (first free number slot : ℕ) (pool : PoolState) → state region first free ≡ pool → IsOut pool slot → number ≡ slot → number < region.slots

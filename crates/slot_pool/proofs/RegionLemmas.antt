@@ -1,11 +1,12 @@
 -- The words of a slot, when words of a region are written.
-use Rattle.std.proofs.Common.{◌≡◌, ◌≢◌, ℕ, ◌+◌, ◌*◌, ◌<◌, ◌≤◌, List, length, get_or, set, take, drop, sym, ap, ◌∙◌, inl, inr, arith}
+use Rattle.std.proofs.Common.{◌≡◌, ◌≢◌, ℕ, ◌+◌, ◌*◌, ◌<◌, ◌≤◌, List, length, get_or, set, take, drop, refl, sym, ap, ◌∙◌, inl, inr, arith, rules}
 use Rattle.std.proofs.Math.Nat.{mul-le-mul_right}
 use Rattle.std.proofs.Math.Seq.{take-set-lt}
 use Rattle.std.proofs.lemmas.Bool.{cases_order}
-use Rattle.std.proofs.lemmas.List.{drop-set-add, drop-set-lt, take-set-le, drop-take, get_or-take, get_or-drop, drop_at, take_at, length-take-le, length-append, length-take, length-drop}
+use Rattle.std.proofs.lemmas.List.{drop-set-add, drop-set-lt, take-set-le, drop-take, get_or-take, get_or-drop, drop_at, take_at, length-take-le, length-append, length-take, length-drop, same_lists, places}
 use Rattle.std.proofs.lemmas.Slice.{take-put_mid_below, drop-put_mid}
 use borrow.Rule.Slice.PartMut.{put_mid}
+use Rattle.slot_pool.specs.Pool.{with_run}
 use Rattle.slot_pool.specs.Region.{words_in}
 
 -- a slot ends before each later one begins
@@ -61,6 +62,25 @@ words_in-put_other region words slot written other room len apart =
       | inr (inr above) ↦
           let order = slots_in_order words slot other above in
           ap (take words) (drop-put_mid (slot * words) words region written (other * words) order (omega arith) len)
+    ]
+
+-- after some words of a slot are written
+pub words_in-run : (region : List ℕ) (words slot at : ℕ) (run : List ℕ) → slot * words + words ≤ length region → at + length run ≤ words → words_in (put_mid (slot * words + at) (length run) region run) words slot ≡ with_run (words_in region words slot) at run
+words_in-run region words slot at run room fits =
+    same_lists _ _ (search (rules, places)) (λ k d h. grind (arith, places))
+
+pub words_in-run_other : (region : List ℕ) (words slot at : ℕ) (run : List ℕ) (other : ℕ) → slot * words + words ≤ length region → at + length run ≤ words → other ≢ slot → words_in (put_mid (slot * words + at) (length run) region run) words other ≡ words_in region words other
+words_in-run_other region words slot at run other room fits apart =
+    elim (cases_order other slot) [
+      | inl e ↦ absurd (apart e)
+      | inr (inl below) ↦
+          let order = slots_in_order words other slot below in
+          sym (drop-take (other * words) words _)
+          ∙ ap (drop (other * words)) (take-put_mid_below (slot * words + at) (length run) region run (other * words + words) (omega arith) (omega arith))
+          ∙ drop-take (other * words) words region
+      | inr (inr above) ↦
+          let order = slots_in_order words slot other above in
+          ap (take words) (drop-put_mid (slot * words + at) (length run) region run (other * words) (omega arith) (omega arith) refl)
     ]
 
 -- such a write keeps the length

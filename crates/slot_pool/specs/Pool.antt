@@ -1,5 +1,5 @@
 -- What a contract sees of a pool.
-use Rattle.std.specs.Prelude.{◌≡◌, ◌≢◌, ℕ, ◌-◌, List, Option, IsSome, option_map, refl, slice_set}
+use Rattle.std.specs.Prelude.{◌≡◌, ◌≢◌, ℕ, ◌+◌, ◌-◌, List, ◌++◌, length, take, drop, Option, IsSome, option_map, refl, slice_set}
 use Rattle.std.specs.Ordering.{nat_cmp}
 use Rattle.std.specs.FinMap as map
 use Rattle.std.specs.Coded.{Coded, code_by, coded×, coded_ℕ, coded_list}
@@ -42,6 +42,14 @@ pub record ChangesSlot (old new : PoolState) (slot : ℕ) (held : Option (List �
   pub others : (other : ℕ) → other ≢ slot → words_at new other ≡ words_at old other
   pub slots : new.slots ≡ old.slots
   pub words : new.words ≡ old.words
+
+-- words with a run of others in the place of theirs, from a place on
+abbrev pub with_run : List ℕ → ℕ → List ℕ → List ℕ
+with_run words at run = take at words ++ (run ++ drop (at + length run) words)
+
+-- the words of a slot, with a run written
+abbrev pub with_words : PoolState → ℕ → ℕ → List ℕ → Option (List ℕ)
+with_words p slot at run = option_map (λ words. with_run words at run) (words_at p slot)
 
 -- the words of a slot, with one written
 abbrev pub with_word : PoolState → ℕ → ℕ → ℕ → Option (List ℕ)

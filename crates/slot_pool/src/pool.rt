@@ -1,6 +1,6 @@
 ghost use Rattle.std.specs.Prelude.{◌≡◌, ℕ, ◌+◌, ◌-◌, ◌*◌, ◌^◌, ◌<◌, ◌≤◌, ◌↔◌, [], length, None, Some, IsErr, IfOk, OnOk, OnErr, replicate};
 ghost use Rattle.std.specs.FinMap as map;
-ghost use Rattle.slot_pool.specs.Pool.{words_at, IsOut, free_of, unused, ChangesSlot, with_word};
+ghost use Rattle.slot_pool.specs.Pool.{words_at, IsOut, free_of, unused, ChangesSlot, with_word, with_words};
 
 use crate::region::Region;
 use crate::slot::{Full, Slot};
@@ -102,6 +102,17 @@ impl Pool {
         ensures counted { free_of self.new ≡ free_of self.old }
     {
         self.region.write(slot.number(), at as usize, word);
+    }
+
+    /// Writes words of a slot, from a place on. The slot must be out in this pool.
+    pub fn write_run(&mut self, slot: &Slot, at: u32, run: &[u64])
+        requires out { IsOut self.old slot.now }
+        requires within { at + length run.now ≤ self.old.words }
+        ensures written { ChangesSlot self.old self.new slot.now (with_words self.old slot.now at run.now) }
+        ensures out { IsOut self.new slot.now }
+        ensures counted { free_of self.new ≡ free_of self.old }
+    {
+        self.region.write_run(slot.number(), at as usize, run);
     }
 
     /// The number of slots that aren't out.

@@ -17,6 +17,7 @@ pub(crate) struct Region {
 }
 
 impl Region {
+    ghost use Rattle.slot_pool.specs.Pool.{with_run};
     ghost use Rattle.slot_pool.specs.Region.{words_of, ChangesWords};
 
     /// A region of so many slots of so many words.
@@ -59,6 +60,16 @@ impl Region {
         ensures { ChangesWords self.old self.new slot (slice_set (words_of self.old slot) at word) }
     {
         self.items[slot * self.words + at] = word;
+    }
+
+    /// Writes words of a slot, from a place on.
+    pub(crate) fn write_run(&mut self, slot: usize, at: usize, run: &[u64])
+        requires slot_in { slot < self.old.slots }
+        requires run_in { at + length run.now ≤ self.old.words }
+        ensures { ChangesWords self.old self.new slot (with_run (words_of self.old slot) at run.now) }
+    {
+        let start = slot * self.words + at;
+        self.items[start..start + run.len()].copy_from_slice(run);
     }
 
     /// Writes 0 into each word of a slot.

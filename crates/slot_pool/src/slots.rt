@@ -11,7 +11,8 @@ pub trait Slots {
     /// All else that the object holds, which no call here changes.
     ghost rest: { Self → List ℕ };
 
-    /// Takes a slot that isn't out. Its words are all 0.
+    /// Takes a slot that isn't out. Its words are all 0. Its number is no index below the number of slots: a holder
+    /// that keeps slots of its own numbers the others after them.
     fn take_slot(&mut self) -> Result<Slot, Full>
         ensures full { IsErr result ↔ (free_of (pool self.old) ≡ 0) }
         ensures was_free { IfOk result (λ slot. words_at (pool self.old) slot ≡ None) }

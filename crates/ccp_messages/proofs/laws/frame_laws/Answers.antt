@@ -1,5 +1,5 @@
 use Rattle.ccp_messages.proofs.DecodeLaws.{one_frame, no_other, prefix_free, both_versions}
-use Rattle.ccp_messages.proofs.NeededLaw.{needed}
+use Rattle.reply_frames.proofs.NeededLaw.{needed}
 use Rattle.ccp_messages.proofs.laws.frame_laws.Goals as goal
 
 pub returns-clause-one_frame : goal.returns-clause-one_frame

@@ -7,8 +7,8 @@ use Rattle.ccp_messages.specs.Decoding.{Answers, made, code_at}
 use Rattle.ccp_messages.proofs.Reading.{made-install}
 use Rattle.ccp_messages.proofs.read_body.body.Goals as goal
 
-pub returns-in-Install : goal.returns-in-Install
-returns-in-Install c =
+pub returns-in-Install-clause-read : goal.returns-in-Install-clause-read
+returns-in-Install-clause-read c =
     let head = c.args.head in
     let is : code_at head.flow head.counts c.args.bytes.now ≡ made (message_of head.flow) (body_at head.kind head.version head.counts c.args.bytes.now) =
     sym (made-install head.flow head.counts c.args.bytes.now) ∙ ap (λ kind. made (message_of head.flow) (body_at kind head.version head.counts c.args.bytes.now)) (sym c.in-Install.is) in

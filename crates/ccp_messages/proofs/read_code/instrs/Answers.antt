@@ -1,4 +1,4 @@
-use Rattle.std.proofs.Common.{◌≡◌, ◌++◌, ◌∷◌, []}
+use Rattle.std.proofs.Common.{◌≡◌, ◌++◌, ◌∷◌, [], ap, ◌∙◌}
 use Rattle.std.proofs.lemmas.Result.{err_from_is_err_and}
 use Rattle.reply_frames.specs.Parts.{repeated_at}
 use Rattle.reply_frames.proofs.Loops.{goes_on, stops, is_done}
@@ -14,7 +14,7 @@ returns-in_err-item c =
 
 pub loop-preserved : goal.loop-preserved
 loop-preserved c =
-    let pushed : c.push.new.self ≡ c.loop.items ++ c.in_ok-item.item ∷ [] = c.in_ok-push.ensures.ok in
+    let pushed : c.push.new.self ≡ c.loop.items ++ c.in_ok-item.item ∷ [] = c.in_ok-push.ensures.ok ∙ ap (λ item. c.loop.items ++ item ∷ []) c.new.ensures in
     rw pushed (goes_on code_instr_at c.loop.items c.args.count c.loop.counter c.loop.rest.now c.in_ok-item.item c.in_ok-item.after.now (repeated_at code_instr_at c.args.count c.args.bytes.now) c.loop-test.true c.in_ok-item.ensures c.loop.invariant)
 
 pub returns : goal.returns

@@ -2,7 +2,7 @@ use Rattle.std.proofs.Common.{◌≡◌, None, List, length, ap, sym, ◌∙◌,
 use Rattle.std.proofs.lemmas.Bool.{true≢false}
 use Rattle.ccp_base.specs.FieldReg.{Pair}
 use Rattle.reg_code.specs.declared.code.Code.{Code}
-use Rattle.reg_code.specs.CodeStart.{first_bad}
+use Rattle.ccp_base.specs.FieldReg.{first_bad}
 use Rattle.agent_core.specs.Agents.{begun, course_of, values_of}
 use Rattle.flow_core.specs.Readings.{code_at}
 use Rattle.flow_core.proofs.ValueLemmas.{good-values}

@@ -1,5 +1,5 @@
 use Rattle.std.proofs.Common.{◌∙◌, sym}
-use Rattle.portus_build.specs.Looks.{number_of-all}
+use Rattle.portus_build.proofs.LookLemmas.{number_of-all}
 use Rattle.portus_build.proofs.calls.number_of.Goals as goal
 
 pub returns-clause-number : goal.returns-clause-number

@@ -1,6 +1,6 @@
 use Rattle.std.proofs.Common.{◌≡◌, ◌+◌, ◌≤◌, length, ap, ◌∙◌, refl, arith}
 use Rattle.std.specs.Int.{w64, to_le_bytes}
-use Rattle.reply_frames.specs.Spelling.{target_bytes}
+use Rattle.reply_frames.specs.ValueBytes.{target_bytes}
 use Rattle.reply_frames.specs.Writing.{placed}
 use Rattle.reply_frames.proofs.Placing.{placed-value}
 use Rattle.reply_frames.proofs.encode.put_value.Goals as goal

@@ -1,6 +1,6 @@
 use Rattle.std.proofs.Common.{◌≡◌, ◌≤◌, ◌<◌, length, get_or, ap, subst, ◌∙◌, arith}
 use Rattle.ccp_base.specs.FieldReg.{blank}
-use Rattle.reply_frames.specs.Spelling.{value_bytes, IsValue}
+use Rattle.reply_frames.specs.ValueBytes.{value_bytes, IsValue}
 use Rattle.reply_frames.specs.Writing.{placed}
 use Rattle.reply_frames.proofs.Placing.{placed-values}
 use Rattle.reply_frames.proofs.Taken.{all-more, all-taken}

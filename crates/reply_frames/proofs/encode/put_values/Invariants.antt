@@ -1,6 +1,6 @@
 use Rattle.std.proofs.Common.{◌≡◌, ◌+◌, ◌*◌, take}
 use Rattle.std.specs.List.{AllByRecursion}
-use Rattle.reply_frames.specs.Spelling.{values_bytes, IsValue}
+use Rattle.reply_frames.specs.ValueBytes.{values_bytes, IsValue}
 use Rattle.reply_frames.specs.Writing.{placed}
 use Rattle.reply_frames.proofs.encode.put_values.Given as goal
 

@@ -6,4 +6,4 @@ use Rattle.reply_frames.proofs.Loops.{with_front}
 use Rattle.reply_frames.proofs.values.values.Given as goal
 
 abbrev pub invariant-loop : goal.invariant-loop
-invariant-loop l = record { read : with_front l.fields (repeated_at value_at (l.count - l.counter) l.rest) ≡ repeated_at value_at l.count l.bytes; counted : length l.fields ≡ l.counter }
+invariant-loop l = record { read : with_front l.read (repeated_at value_at (l.count - l.counter) l.rest) ≡ repeated_at value_at l.count l.bytes; counted : length l.read ≡ l.counter }

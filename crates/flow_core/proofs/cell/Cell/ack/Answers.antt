@@ -30,7 +30,7 @@ invariant_of-self g c =
     let link = c.self.inside.link in
     let window : c.cwnd-window.result ≡ (track_of (flow_in core) (world_in core)).env.cwnd = c.cwnd-window.ensures in
     let is_ack = given core link c.self.invariant c.cwnd-window.result c.next-ack.result window c.next-ack.ensures.ack in
-    let most : c.case.result.now.acks ≡ core.case.acks = ap (λ (case : Case). case.acks) c.case.ensures in
+    let most : c.case.result.now.acks ≡ core.case.acks = ap (λ (case : Case). case.acks) c.case.ensures.case in
     let left : length core.acks < core.case.acks = omega (arith, c.if-acks-case.false, c.acks.ensures, most) in
     cell-A core link c.self.invariant c.next-ack.result c.ack.new.self c.next-ack.new.self left c.in-Ok.ensures.ok c.in-Ok.ensures.world is_ack
     c.next-ack.ensures.case
@@ -40,7 +40,7 @@ invariant_of-self g c =
 pub returns-then-acks-case-clause-ended : goal.returns-then-acks-case-clause-ended
 returns-then-acks-case-clause-ended g c =
     let core = c.self.inside.core in
-    let most : c.case.result.now.acks ≡ core.case.acks = ap (λ (case : Case). case.acks) c.case.ensures in
+    let most : c.case.result.now.acks ≡ core.case.acks = ap (λ (case : Case). case.acks) c.case.ensures.case in
     let acks : length core.acks ≡ length (world_at c.args.self.now).acks =
     ap length (acks-same core c.self.inside.link c.self.invariant) ∙ ap (λ (cell : CellState). length (world_at cell).acks) c.self.view_is in
     let case : core.case.acks ≡ c.args.self.now.case.acks = ap (λ (cell : CellState). cell.case.acks) c.self.view_is in
@@ -49,7 +49,7 @@ returns-then-acks-case-clause-ended g c =
 pub returns-clause-ended : goal.returns-clause-ended
 returns-clause-ended g c =
     let core = c.self.inside.core in
-    let most : c.case.result.now.acks ≡ core.case.acks = ap (λ (case : Case). case.acks) c.case.ensures in
+    let most : c.case.result.now.acks ≡ core.case.acks = ap (λ (case : Case). case.acks) c.case.ensures.case in
     let acks : length core.acks ≡ length (world_at c.args.self.now).acks =
     ap length (acks-same core c.self.inside.link c.self.invariant) ∙ ap (λ (cell : CellState). length (world_at cell).acks) c.self.view_is in
     let case : core.case.acks ≡ c.args.self.now.case.acks = ap (λ (cell : CellState). cell.case.acks) c.self.view_is in

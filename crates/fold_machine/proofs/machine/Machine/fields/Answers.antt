@@ -8,7 +8,7 @@ returns c =
     let reports = c.self.inside.sizes.reports in
     let words = c.self.inside.store.registers in
     let room = c.self.invariant.ready.room in
-    let few : reports ≤ 64 = room.reports in
+    let few : reports ≤ 64 = room.few.reports in
     let full : length words ≡ 160 = room.full in
     let count : 3 + reports - 3 ≡ reports = omega arith in
     c.from_slice.ensures

@@ -7,11 +7,9 @@ pub returns : goal.returns
 returns c =
     let p = c.in_ok-pool.pool in
     let q = c.own-registers.new.pool in
-    let r = c.own-rollback.new.pool in
-    let s = c.own-report.new.pool in
+    let r = c.own-report.new.pool in
     let begun : p.words ≡ 160 = ap (λ (t : PoolState). t.words) c.in_ok-pool.ensures.unused in
     let first = subst (λ n. ChangesSlot p q c.own-registers.result (Some (replicate {A = ℕ} n 0))) begun c.own-registers.ensures.zeros in
     let later : q.words ≡ 160 = c.own-registers.ensures.zeros.words ∙ begun in
-    let second = subst (λ n. ChangesSlot q r c.own-rollback.result (Some (replicate {A = ℕ} n 0))) later c.own-rollback.ensures.zeros in
-    let third = subst (λ n. ChangesSlot r s c.own-report.result (Some (replicate {A = ℕ} n 0))) (c.own-rollback.ensures.zeros.words ∙ later) c.own-report.ensures.zeros in
-    fresh-taken c.args.slots p q r s c.own-registers.result c.own-rollback.result c.own-report.result (replicate 160 0) c.in_ok-pool.ensures.unused refl c.own-registers.ensures.was_free first c.own-rollback.ensures.was_free second c.own-report.ensures.was_free third
+    let second = subst (λ n. ChangesSlot q r c.own-report.result (Some (replicate {A = ℕ} n 0))) later c.own-report.ensures.zeros in
+    fresh-taken c.args.slots p q r c.own-registers.result c.own-report.result (replicate 160 0) c.in_ok-pool.ensures.unused refl c.own-registers.ensures.was_free first c.own-report.ensures.was_free second

@@ -4,47 +4,47 @@ use Rattle.fold_machine.specs.Store.{StoreState, further_of, IsOwned}
 use Rattle.fold_machine.proofs.StoreLemmas.{IsApart, further_apart, further_out, IsOut-further, with_word-further, free_of-further, further-changes, IsOwned-kept, own-kept}
 use Rattle.fold_machine.proofs.store.Store.set_further.Goals as goal
 
-apart : (c : goal.After-write) → IsApart c.self.inside.registers c.self.inside.rollback c.self.inside.report c.args.slot.now
+apart : (c : goal.After-write) → IsApart c.self.inside.registers c.self.inside.report c.args.slot.now
 apart c =
     let inside = c.self.inside in
-    further_apart inside.pool inside.registers inside.rollback inside.report c.args.slot.now
+    further_apart inside.pool inside.registers inside.report c.args.slot.now
     (subst (λ (s : StoreState). IsOut s.further c.args.slot.now) (sym c.self.view_is) c.requires.out)
 
-owned : (c : goal.After-write) → IsOwned c.write.new.self c.self.inside.registers c.self.inside.rollback c.self.inside.report
+owned : (c : goal.After-write) → IsOwned c.write.new.self c.self.inside.registers c.self.inside.report
 owned c =
     let inside = c.self.inside in
-    IsOwned-kept inside.pool c.write.new.self inside.registers inside.rollback inside.report c.args.slot.now (with_word inside.pool c.args.slot.now c.args.at c.args.word) c.self.invariant (apart c) c.write.ensures.written
+    IsOwned-kept inside.pool c.write.new.self inside.registers inside.report c.args.slot.now (with_word inside.pool c.args.slot.now c.args.at c.args.word) c.self.invariant (apart c) c.write.ensures.written
 
 pub write-requires-clause-out : goal.write-requires-clause-out
 write-requires-clause-out c =
     let inside = c.self.inside in
-    further_out inside.pool inside.registers inside.rollback inside.report c.args.slot.now
+    further_out inside.pool inside.registers inside.report c.args.slot.now
     (subst (λ (s : StoreState). IsOut s.further c.args.slot.now) (sym c.self.view_is) c.requires.out)
 
 pub returns-clause-written : goal.returns-clause-written
 returns-clause-written c =
     let inside = c.self.inside in
     let slot = c.args.slot.now in
-    let now = further_of c.write.new.self inside.registers inside.rollback inside.report in
-    let held = with_word-further inside.pool inside.registers inside.rollback inside.report slot c.args.at c.args.word (apart c) in
-    let changes = further-changes inside.pool c.write.new.self inside.registers inside.rollback inside.report slot (with_word inside.pool slot c.args.at c.args.word) (apart c) c.write.ensures.written in
+    let now = further_of c.write.new.self inside.registers inside.report in
+    let held = with_word-further inside.pool inside.registers inside.report slot c.args.at c.args.word (apart c) in
+    let changes = further-changes inside.pool c.write.new.self inside.registers inside.report slot (with_word inside.pool slot c.args.at c.args.word) (apart c) c.write.ensures.written in
     subst (λ (s : StoreState). ChangesSlot s.further now slot (with_word s.further slot c.args.at c.args.word)) c.self.view_is
-    (subst (ChangesSlot (further_of inside.pool inside.registers inside.rollback inside.report) now slot) (sym held) changes)
+    (subst (ChangesSlot (further_of inside.pool inside.registers inside.report) now slot) (sym held) changes)
 
 pub returns-clause-out : goal.returns-clause-out
 returns-clause-out c =
     let inside = c.self.inside in
-    IsOut-further c.write.new.self inside.registers inside.rollback inside.report c.args.slot.now (apart c) c.write.ensures.out
+    IsOut-further c.write.new.self inside.registers inside.report c.args.slot.now (apart c) c.write.ensures.out
 
 pub returns-clause-counted : goal.returns-clause-counted
 returns-clause-counted c =
     let inside = c.self.inside in
-    free_of-further c.write.new.self inside.registers inside.rollback inside.report (owned c)
+    free_of-further c.write.new.self inside.registers inside.report (owned c)
     ∙ c.write.ensures.counted
-    ∙ sym (free_of-further inside.pool inside.registers inside.rollback inside.report c.self.invariant)
+    ∙ sym (free_of-further inside.pool inside.registers inside.report c.self.invariant)
     ∙ ap (λ (s : StoreState). free_of s.further) c.self.view_is
 
 pub returns-clause-own : goal.returns-clause-own
 returns-clause-own c =
     let inside = c.self.inside in
-    own-kept inside.pool c.write.new.self inside.registers inside.rollback inside.report c.args.slot.now (with_word inside.pool c.args.slot.now c.args.at c.args.word) c.args.self.now c.self.view_is (apart c) c.write.ensures.written
+    own-kept inside.pool c.write.new.self inside.registers inside.report c.args.slot.now (with_word inside.pool c.args.slot.now c.args.at c.args.word) c.args.self.now c.self.view_is (apart c) c.write.ensures.written

@@ -1,7 +1,7 @@
 use Rattle.std.proofs.Common.{◌++◌, ◌∷◌, [], ◌∙◌, ap, sym}
 use Rattle.link_model.specs.Link.{run_of}
 use Rattle.link_model.specs.Standing.{standing_of}
-use Rattle.link_model.proofs.Refinement.{next_ack_same, next_standing_same}
+use Rattle.link_model.proofs.Compact.{next_ack_same, next_standing_same}
 use Rattle.link_model.proofs.link.Link.next.Goals as goal
 
 pub returns-clause-ack : goal.returns-clause-ack
@@ -13,4 +13,4 @@ returns-clause-stands c =
     λ windows stands.
     c.step.ensures.standing
     ∙ next_standing_same c.args.self.now.case c.step.ensures.valid windows c.args.window c.args.self.now.standing stands
-    ∙ ap (λ case. standing_of (run_of case (windows ++ c.args.window ∷ []))) (sym c.step.ensures.case)
+    ∙ ap (λ case. standing_of case (run_of case (windows ++ c.args.window ∷ []))) (sym c.step.ensures.case)

@@ -4,10 +4,11 @@ use Rattle.link_model.proofs.link.Link.step.Goals as goal
 pub invariant_of-self : goal.invariant_of-self
 invariant_of-self c =
     let calls = ap (λ l. l.standing.calls) c.self.view_is in
-    record {
-      timely = c.acknowledge.ensures.timely;
-      calls = omega arith;
-      sent = omega (arith, c.self.invariant.sent);
-      acked = c.acknowledge.ensures.acked;
-      flight = c.acknowledge.ensures.flight;
-    }
+    let sent = c.self.invariant.1.sent in (
+      c.acknowledge.ensures.kept,
+      record {
+        calls = omega arith;
+        sent = omega (arith, sent, c.send.ensures.sent, c.acknowledge.ensures.sent, c.acknowledge.ensures.calls);
+        acked = c.acknowledge.ensures.acked;
+      },
+    )

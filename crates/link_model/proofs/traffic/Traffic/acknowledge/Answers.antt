@@ -1,36 +1,36 @@
-use Rattle.std.proofs.Common.{◌≤◌, length, ap, sym, subst, refl, arith}
-use Rattle.link_model.specs.declared.landing.Landing.{Landing}
-use Rattle.link_model.specs.Standing.{Standing}
-use Rattle.link_model.specs.Horizon.{horizon, IsTimely, LandsWithin}
-use Rattle.link_model.proofs.HorizonLemmas.{lands_within, staying_fewer, is_timely-landed}
+use Rattle.std.proofs.Common.{◌≤◌, ◌+◌, List, drop, ap, subst, sym, ◌∙◌, arith}
+use Rattle.link_model.specs.declared.arrival.Arrival.{Arrival}
+use Rattle.link_model.specs.Steps.{count_of}
+use Rattle.link_model.specs.Horizon.{horizon, ArriveWithin}
+use Rattle.link_model.proofs.HorizonLemmas.{ArriveWithin-more}
+use Rattle.link_model.proofs.SendingLemmas.{first_of}
 use Rattle.link_model.proofs.traffic.Traffic.acknowledge.Goals as goal
 
-pub ack-ack-requires-clause-within : goal.ack-ack-requires-clause-within
-ack-ack-requires-clause-within c =
+pub returns-clause-kept : goal.returns-clause-kept
+returns-clause-kept c =
     let case = c.args.case.now in
-    let timely = subst (IsTimely case) (sym c.self.view_is) c.requires.timely in
-    let few = subst (λ (s : Standing). length s.flight ≤ 4096) (sym c.self.view_is) c.requires.flight in
-    subst (λ (l : Landing). LandsWithin case.trace (horizon c.self.inside.sent c.self.inside.calls) l) (sym c.land-landing.ensures.landed)
-    (lands_within case.trace c.self.inside.chance _ c.self.inside.flight.items 0 timely.chances timely.flight (omega (arith, few)))
-
-pub ack-ack-requires-clause-counted : goal.ack-ack-requires-clause-counted
-ack-ack-requires-clause-counted c =
-    let few = subst (λ (s : Standing). length s.flight ≤ 4096) (sym c.self.view_is) c.requires.flight in
-    let sent = ap (λ s. s.sent) c.self.view_is in
-    let acked = ap (λ s. s.acked) c.self.view_is in
-    let calls = ap (λ s. s.calls) c.self.view_is in
+    let old = c.args.self.now in
+    let kept = c.requires.kept in
+    let first = c.in-Some.arrival in
+    let rest = drop 1 old.flight.items in
+    let buffer = c.pop_front.ensures.items in
+    let items = ap (λ b. b.items) buffer in
+    let limit = horizon old.sent old.calls + case.delay_us in
+    let all = first_of old.flight.items first (sym c.pop_front.ensures.value ∙ c.in-Some.is) in
+    let count = ap (λ xs. count_of xs old.lost) all in
+    let within = subst (λ (xs : List Arrival). ArriveWithin limit xs) all kept.timely.arrivals in
+    let later : limit ≤ horizon old.sent (old.calls + 1) = omega (arith, case.delay_within) in
     record {
-      flight = omega (arith, ap length c.land-landing.ensures.left, staying_fewer c.self.inside.flight.items, few);
-      sent = omega arith;
-      acked = omega arith;
-      calls = omega arith;
+      valid = kept.valid;
+      capacity = ap (λ b. b.capacity) buffer ∙ kept.capacity;
+      place = kept.place;
+      count = omega (arith, kept.count, count, ap (λ xs. count_of xs old.lost) items);
+      few = omega (arith, kept.few);
+      passed = kept.passed;
+      timely = record {
+        time = omega (arith, within.1, later);
+        chances = λ k under. omega (arith, kept.timely.chances k under);
+        arrivals = subst (λ (xs : List Arrival). ArriveWithin (horizon old.sent (old.calls + 1) + case.delay_us) xs) (sym items)
+            (ArriveWithin-more limit (horizon old.sent (old.calls + 1) + case.delay_us) rest (omega (arith, later)) within.2);
+      };
     }
-
-pub returns-clause-timely : goal.returns-clause-timely
-returns-clause-timely c =
-    is_timely-landed c.args.case.now _ _ (subst (IsTimely c.args.case.now) (sym c.self.view_is) c.requires.timely) c.ack-ack.ensures.time c.land-landing.ensures.left refl refl refl
-
-pub returns-clause-flight : goal.returns-clause-flight
-returns-clause-flight c =
-    let few = subst (λ (s : Standing). length s.flight ≤ 4096) (sym c.self.view_is) c.requires.flight in
-    omega (arith, ap length c.land-landing.ensures.left, staying_fewer c.self.inside.flight.items, few)

@@ -1,8 +1,17 @@
-use Rattle.std.proofs.Common.{◌+◌}
-use Rattle.link_model.specs.Chances.{first_chance}
-use Rattle.link_model.proofs.TrafficLemmas.{IsSendingOf}
+use Rattle.std.proofs.Common.{◌≡◌, ◌+◌}
+use Rattle.link_model.specs.Steps.{standing_in, sending, IsQueue}
+use Rattle.link_model.specs.Horizon.{IsKept}
 use Rattle.link_model.proofs.traffic.Traffic.send.Given as goal
 
-abbrev pub invariant-loop-done : goal.invariant-loop-done
-invariant-loop-done l =
-    IsSendingOf l.case (first_chance l.case.trace l.fn.self.time 0) (first_chance l.case.trace (l.fn.self.time + 1) 0) l.more l._done l.fn.self l.self
+abbrev pub invariant-loop-left : goal.invariant-loop-left
+invariant-loop-left l =
+    (sending l.case l.left (standing_in l.case.trace l.self) ≡ sending l.case l.more (standing_in l.case.trace l.fn.self))
+    × IsKept l.case l.self
+    × IsQueue l.case (standing_in l.case.trace l.self) l.queue
+    × (l.self.in_flight + l.left ≡ l.fn.self.in_flight + l.more)
+    × (l.self.sent + l.left ≡ l.fn.self.sent + l.more)
+    × (l.self.acked ≡ l.fn.self.acked)
+    × (l.self.calls ≡ l.fn.self.calls)
+
+abbrev pub decreases-loop-left : goal.decreases-loop-left
+decreases-loop-left l = l.left

@@ -2,7 +2,7 @@ use Rattle.std.proofs.Common.{map}
 use Rattle.portus_core.specs.Programs.{part_of}
 use Rattle.portus_core.specs.ProgramForm.{form_of}
 use Rattle.portus_core.specs.Progress.{going_of}
-use Rattle.portus_core.specs.EnvShapes.{IsEnvOf-after_blocks}
+use Rattle.portus_core.proofs.EnvShapes.{IsEnvOf-after_blocks}
 use Rattle.portus_core.proofs.ValidIsRunnable.{are_runnable-from_valid}
 use Rattle.portus_core.proofs.program.Program.mean.Goals as goal
 

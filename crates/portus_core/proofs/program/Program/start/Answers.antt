@@ -1,6 +1,6 @@
 use Rattle.portus_core.specs.ProgramForm.{form_of}
 use Rattle.portus_core.specs.Epoch.{declared_env}
-use Rattle.portus_core.specs.EnvShapes.{IsEnvOf-declared_env, IsEnvOf-with_values}
+use Rattle.portus_core.proofs.EnvShapes.{IsEnvOf-declared_env, IsEnvOf-with_values}
 use Rattle.portus_core.proofs.program.Program.start.Goals as goal
 
 pub returns-clause-shape : goal.returns-clause-shape

@@ -1,10 +1,11 @@
+use Rattle.std.proofs.Common.{slice_set}
 use Rattle.slot_pool.proofs.PoolLemmas.{WritesSlot, write_step, out_below}
 use Rattle.slot_pool.proofs.pool.Pool.write.Goals as goal
 
 -- the list of free slots stays
-step : (c : goal.After-write) → WritesSlot c.write.new.self c.self.inside.first_free c.self.inside.free c.args.self.now c.args.slot.now c.args.at c.args.word
+step : (c : goal.After-write) → WritesSlot c.write.new.self c.self.inside.first_free c.self.inside.free c.args.self.now c.args.slot.now (λ words. slice_set words c.args.at c.args.word)
 step c =
-    write_step c.self.inside.region c.write.new.self c.self.inside.first_free c.self.inside.free c.number.result c.args.slot.now c.args.at c.args.word c.args.self.now
+    write_step c.self.inside.region c.write.new.self c.self.inside.first_free c.self.inside.free c.number.result c.args.slot.now (λ words. slice_set words c.args.at c.args.word) c.args.self.now
     c.self.invariant c.self.view_is c.requires.out c.number.ensures c.write.ensures
 
 pub write-requires-clause-slot_in : goal.write-requires-clause-slot_in

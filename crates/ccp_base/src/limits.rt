@@ -1,0 +1,17 @@
+ghost use Rattle.std.specs.Prelude.{◌≡◌};
+ghost use Rattle.ccp_base.specs.Limits.{most_fields, most_name_bytes, most_pairs, primitive_count};
+
+use crate::FIELDS;
+use crate::ack::PRIMITIVES;
+use crate::fields::PAIRS;
+use crate::name::NAME_BYTES;
+use crate::values::VALUES;
+
+/// The constants of this crate are the numbers of the rules.
+pub fn limits_hold()
+    ensures fields { FIELDS ≡ most_fields }
+    ensures primitives { PRIMITIVES ≡ primitive_count }
+    ensures pairs { PAIRS ≡ most_pairs }
+    ensures name_bytes { NAME_BYTES ≡ most_name_bytes }
+    ensures values { VALUES ≡ most_fields }
+{}

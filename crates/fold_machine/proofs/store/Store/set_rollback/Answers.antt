@@ -1,7 +1,0 @@
-use Rattle.fold_machine.proofs.StoreLemmas.{rollback-written}
-use Rattle.fold_machine.proofs.store.Store.set_rollback.Goals as goal
-
-pub returns : goal.returns
-returns c =
-    let inside = c.self.inside in
-    rollback-written inside.pool c.write.new.self inside.registers inside.rollback inside.report c.args.at c.args.word c.args.self.now c.self.invariant c.self.view_is c.write.ensures.written

@@ -1,0 +1,181 @@
+-- The sending of a call, packet by packet, against the steps of what a link keeps.
+use Rattle.std.proofs.Common.{◌≡◌, ℕ, zero, suc, ◌+◌, ◌-◌, ◌<◌, ◌≤◌, Bool, true, false, cond, leb, ◌||◌, Some, None, List, [], ◌∷◌, ◌++◌, drop, slice_get, max, refl, ap, sym, ◌∙◌, subst, arith, inl, inr}
+use Rattle.std.proofs.lemmas.Bool.{cases_lt}
+use Rattle.std.proofs.lemmas.Bool.Decides.{nat_tests}
+use Rattle.link_model.specs.declared.link_case.LinkCase.{LinkCase}
+use Rattle.link_model.specs.declared.arrival.Arrival.{Arrival}
+use Rattle.link_model.specs.declared.chance.Chance.{Chance}
+use Rattle.link_model.specs.declared.queue.Queue.{Queue}
+use Rattle.link_model.specs.declared.traffic.Traffic.{Traffic}
+use Rattle.link_model.specs.Traces.{IsTrace}
+use Rattle.link_model.specs.Chances.{number_of, chance_time, first_chance}
+use Rattle.link_model.specs.Link.{Lost, Served, is_listed, is_marked, arrival_of}
+use Rattle.link_model.specs.Standing.{Standing}
+use Rattle.link_model.specs.Steps.{standing_in, with_lost, with_served, with_fate, with_packet, waiting_now, chance_now, sending, IsQueue}
+use Rattle.link_model.proofs.ChanceLemmas.{first_chance_le, le_first_chance}
+
+-- ---- the queue at one time, by when a chance comes
+
+module _ (times : List ℕ) (trace : IsTrace times) (now chance : ℕ) where
+  later_from : first_chance times now 0 ≤ first_chance times (now + 1) 0
+  later_from =
+      first_chance_le times trace now (first_chance times (now + 1) 0)
+      (let late : now + 1 ≤ chance_time times (first_chance times (now + 1) 0) = le_first_chance times trace (now + 1) (first_chance times (now + 1) 0) (omega arith) in omega arith)
+
+  -- a chance that isn't before now is no earlier than the first such one
+  pub not_before : now ≤ chance_time times chance → max chance (first_chance times now 0) ≡ chance
+  not_before late = omega (arith, first_chance_le times trace now chance late)
+
+  is_before : chance_time times chance < now → chance < first_chance times now 0
+  is_before early =
+      elim (cases_lt chance (first_chance times now 0)) as (λ _. chance < first_chance times now 0)
+      [ inl below ↦ below | inr not_below ↦ absurd (omega (arith, le_first_chance times trace now chance not_below)) ]
+
+  pub before_due : chance_time times chance < now → max chance (first_chance times now 0) ≡ first_chance times now 0
+  before_due early = omega (arith, is_before early)
+
+  -- a chance up to now is before the first one after now
+  pub up_to_now : chance_time times chance ≤ now → chance < first_chance times (now + 1) 0
+  up_to_now early =
+      elim (cases_lt chance (first_chance times (now + 1) 0)) as (λ _. chance < first_chance times (now + 1) 0)
+      [ inl below ↦ below | inr not_below ↦ absurd (omega (arith, le_first_chance times trace (now + 1) chance not_below)) ]
+
+  pub none_waits : chance_time times chance ≤ now → chance - first_chance times (now + 1) 0 ≡ 0
+  none_waits early = omega (arith, up_to_now early)
+
+  -- one more waits, where its chance is later than now
+  pub one_more : now < chance_time times (max chance (first_chance times now 0))
+      → chance - first_chance times (now + 1) 0 + 1 ≡ max (max chance (first_chance times now 0) + 1) (first_chance times now 0) - first_chance times (now + 1) 0
+  one_more late =
+      omega (arith, later_from, first_chance_le times trace (now + 1) (max chance (first_chance times now 0)) (omega arith))
+
+-- and no more, where it isn't
+pub no_more : (times : List ℕ) → IsTrace times → (now chance : ℕ) → chance_time times (max chance (first_chance times now 0)) ≤ now
+    → chance - first_chance times (now + 1) 0 ≡ max (max chance (first_chance times now 0) + 1) (first_chance times now 0) - first_chance times (now + 1) 0
+no_more times trace now chance early = omega (arith, up_to_now times trace now (max chance (first_chance times now 0)) early)
+
+-- ---- packets that are lost
+
+full : (a b : ℕ) → a ≤ b → leb a b ≡ true
+full a b order = grind (arith, nat_tests)
+
+not_full : (a b : ℕ) → b < a → leb a b ≡ false
+not_full a b order = grind (arith, nat_tests)
+
+or_last : (a b : Bool) → b ≡ true → a || b ≡ true
+or_last true b is = refl
+or_last false b is = is
+
+neither : (a b : Bool) → a ≡ false → b ≡ false → a || b ≡ false
+neither true b not_a not_b = not_a
+neither false b not_a not_b = not_b
+
+abbrev with_counts : Standing → ℕ → ℕ → Standing
+with_counts standing lost sent = record {
+  time = standing.time;
+  sample = standing.sample;
+  arrivals = standing.arrivals;
+  lost = lost;
+  chance = standing.chance;
+  sent = sent;
+  acked = standing.acked;
+  calls = standing.calls;
+}
+
+same_counts : (standing : Standing) (lost sent lost' sent' : ℕ) → lost ≡ lost' → sent ≡ sent' → with_counts standing lost sent ≡ with_counts standing lost' sent'
+same_counts standing lost sent lost' sent' lost_is sent_is = ap (λ n. with_counts standing n sent) lost_is ∙ ap (with_counts standing lost') sent_is
+
+module _ (case : LinkCase) where
+  packet-full : (standing : Standing) → case.queue ≤ waiting_now case standing → with_packet case standing ≡ with_lost 1 standing
+  packet-full standing is =
+      ap (λ b. with_fate case (cond b Lost (Served (chance_now case standing) (is_marked case.mark (waiting_now case standing)))) standing)
+      (or_last (is_listed standing.sent case.losses) (leb case.queue (waiting_now case standing)) (full case.queue (waiting_now case standing) is))
+
+  -- where the queue is full, all are lost
+  pub sending-full : (more : ℕ) (standing : Standing) → case.queue ≤ waiting_now case standing → sending case more standing ≡ with_lost more standing
+  sending-full zero standing is = same_counts standing standing.lost standing.sent (standing.lost + 0) (standing.sent + 0) (omega arith) (omega arith)
+  sending-full (suc more) standing is =
+      ap (sending case more) (packet-full standing is)
+      ∙ sending-full more (with_lost 1 standing) is
+      ∙ same_counts standing (standing.lost + 1 + more) (standing.sent + 1 + more) (standing.lost + suc more) (standing.sent + suc more) (omega arith) (omega arith)
+
+  packet-served : (standing : Standing) → is_listed standing.sent case.losses ≡ false → waiting_now case standing < case.queue
+      → with_packet case standing ≡ with_served case (chance_now case standing) (is_marked case.mark (waiting_now case standing)) standing
+  packet-served standing other is =
+      ap (λ b. with_fate case (cond b Lost (Served (chance_now case standing) (is_marked case.mark (waiting_now case standing)))) standing)
+      (neither (is_listed standing.sent case.losses) (leb case.queue (waiting_now case standing)) other (not_full case.queue (waiting_now case standing) is))
+
+  -- one is lost, since it is listed
+  pub sending-lost : (left : ℕ) (standing : Standing) → 0 < left → is_listed standing.sent case.losses ≡ true → sending case (left - 1) (with_lost 1 standing) ≡ sending case left standing
+  sending-lost left standing some listed =
+      let one : left ≡ suc (left - 1) = omega arith in
+      let packet : with_packet case standing ≡ with_lost 1 standing =
+      ap (λ b. with_fate case (cond (b || leb case.queue (waiting_now case standing)) Lost (Served (chance_now case standing) (is_marked case.mark (waiting_now case standing)))) standing) listed in
+      sym (ap (sending case (left - 1)) packet) ∙ sym (ap (λ n. sending case n standing) one)
+
+  -- one is served
+  pub sending-served : (left : ℕ) (standing : Standing) → 0 < left → is_listed standing.sent case.losses ≡ false → waiting_now case standing < case.queue
+      → sending case (left - 1) (with_served case (chance_now case standing) (is_marked case.mark (waiting_now case standing)) standing) ≡ sending case left standing
+  sending-served left standing some other is =
+      let one : left ≡ suc (left - 1) = omega arith in
+      sym (ap (sending case (left - 1)) (packet-served standing other is)) ∙ sym (ap (λ n. sending case n standing) one)
+
+-- ---- a packet that is served
+
+abbrev pub served_as : Standing → List Arrival → ℕ → Standing
+served_as standing arrivals chance = record {
+  time = standing.time;
+  sample = standing.sample;
+  arrivals = arrivals;
+  lost = 0;
+  chance = chance;
+  sent = standing.sent + 1;
+  acked = standing.acked;
+  calls = standing.calls;
+}
+
+module _ (case : LinkCase) (old : Traffic) (queue : Queue) (is : IsQueue case (standing_in case.trace old) queue) where
+  pub served_standing : (own : ℕ) (marked : Bool) (arrivals : List Arrival) (next : Chance) → own ≡ chance_time case.trace (number_of case.trace queue.next)
+      → marked ≡ is_marked case.mark queue.waiting → arrivals ≡ old.flight.items ++ record { lost = old.lost; sent_at = old.time; at = own + case.delay_us; marked = marked } ∷ []
+      → number_of case.trace next ≡ number_of case.trace queue.next + 1
+      → served_as (standing_in case.trace old) arrivals (number_of case.trace next)
+      ≡ with_served case (chance_now case (standing_in case.trace old)) (is_marked case.mark (waiting_now case (standing_in case.trace old))) (standing_in case.trace old)
+  served_standing own marked arrivals next own_is marked_is arrivals_are next_is =
+      let standing = standing_in case.trace old in
+      let chance = chance_now case standing in
+      let last : ℕ → Bool → List Arrival = λ at m. old.flight.items ++ record { lost = old.lost; sent_at = old.time; at = at; marked = m } ∷ [] in
+      let at_is : own + case.delay_us ≡ arrival_of case chance = ap (λ t. t + case.delay_us) own_is ∙ ap (arrival_of case) is.next in
+      let m_is : marked ≡ is_marked case.mark (waiting_now case standing) = marked_is ∙ ap (is_marked case.mark) is.waiting in
+      let number : number_of case.trace next ≡ chance + 1 = next_is ∙ ap (λ k. k + 1) is.next in
+      ap (λ xs. served_as standing xs (number_of case.trace next)) (arrivals_are ∙ ap (λ t. last t marked) at_is ∙ ap (last (arrival_of case chance)) m_is)
+      ∙ ap (served_as standing (last (arrival_of case chance) (is_marked case.mark (waiting_now case standing)))) number
+
+  pub served_next : (next : Chance) → number_of case.trace next ≡ number_of case.trace queue.next + 1
+      → number_of case.trace next ≡ max (number_of case.trace next) (first_chance case.trace old.time 0)
+  served_next next next_is = omega (arith, is.next)
+
+  pub served_more : IsTrace case.trace → (next : Chance) → number_of case.trace next ≡ number_of case.trace queue.next + 1 → old.time < chance_time case.trace (number_of case.trace queue.next)
+      → queue.waiting + 1 ≡ number_of case.trace next - first_chance case.trace (old.time + 1) 0
+  served_more trace next next_is late =
+      let chance = number_of case.trace old.next in
+      let late_now = subst (λ k. old.time < chance_time case.trace k) is.next late in
+      let more = one_more case.trace trace old.time chance late_now in
+      let waits = is.waiting in
+      let own = is.next in
+      omega (arith, more, waits, own, next_is)
+
+  pub served_no_more : IsTrace case.trace → (next : Chance) → number_of case.trace next ≡ number_of case.trace queue.next + 1 → chance_time case.trace (number_of case.trace queue.next) ≤ old.time
+      → queue.waiting ≡ number_of case.trace next - first_chance case.trace (old.time + 1) 0
+  served_no_more trace next next_is early =
+      let chance = number_of case.trace old.next in
+      let early_now = subst (λ k. chance_time case.trace k ≤ old.time) is.next early in
+      let more = no_more case.trace trace old.time chance early_now in
+      let waits = is.waiting in
+      let own = is.next in
+      omega (arith, more, waits, own, next_is)
+
+-- ---- an acknowledgement
+
+pub first_of : (arrivals : List Arrival) (first : Arrival) → slice_get arrivals 0 ≡ Some first → arrivals ≡ first ∷ drop 1 arrivals
+first_of [] first is = absurd (let none : None ≡ Some first = is in cc)
+first_of (arrival ∷ rest) first is = (let some : Some arrival ≡ Some first = is in let same : arrival ≡ first = cc in ap (λ x. x ∷ rest) same)

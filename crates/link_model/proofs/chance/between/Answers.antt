@@ -1,0 +1,17 @@
+use Rattle.std.proofs.Common.{◌*◌, length, ap, arith}
+use Rattle.link_model.proofs.ChanceLemmas.{turns_rise, turns_between}
+use Rattle.link_model.proofs.chance.between.Goals as goal
+
+pub overflow_sub-result : goal.overflow_sub-result
+overflow_sub-result c =
+    let n = length c.args.times.now in
+    let order = turns_rise n c.args.from.turn c.args.from.place c.args.to.turn c.args.to.place c.requires.from c.requires.to c.requires.order in
+    let turns = ap (λ t. t * n) c.from.ensures in
+    omega (arith, turns, turns_between n c.args.from.turn c.args.to.turn order, c.requires.order)
+
+pub returns : goal.returns
+returns c =
+    let n = length c.args.times.now in
+    let order = turns_rise n c.args.from.turn c.args.from.place c.args.to.turn c.args.to.place c.requires.from c.requires.to c.requires.order in
+    let turns = ap (λ t. t * n) c.from.ensures in
+    omega (arith, turns, turns_between n c.args.from.turn c.args.to.turn order, c.requires.order)

@@ -1,0 +1,52 @@
+ghost use Rattle.std.specs.Prelude.{◌≡◌, ◌+◌, ◌-◌, ◌^◌, ◌<◌, max, length};
+ghost use Rattle.link_model.specs.Chances.{number_of, chance_time, first_chance};
+
+use crate::chance::Chance;
+use crate::trace::Trace;
+
+/// The queue at one time.
+#[derive(Clone, Copy, PartialEq, Eq, Debug)]
+pub struct Queue {
+    /// The first chance that isn't before that time and that no packet has.
+    pub next: Chance,
+    /// How many packets have a chance later than that time.
+    pub waiting: u128,
+    /// The place in the trace where a chance is looked for first at a later time.
+    pub near: usize,
+}
+
+impl Trace {
+    /// The queue at a time, where `next` is the chance after the last one that a packet got. A chance is looked for at
+    /// the place `near` first, whatever that is.
+    pub fn queue(&self, next: Chance, now: u64, near: usize) -> Queue
+        requires place { next.place < length self.now }
+        requires fits { chance_time self.now (number_of self.now next) < 2 ^ 64 }
+        requires time { now + 1001 < 2 ^ 64 }
+        ensures place { result.next.place < length self.now }
+        ensures next { number_of self.now result.next ≡ max (number_of self.now next) (first_chance self.now now 0) }
+        ensures waiting { result.waiting ≡ number_of self.now next - first_chance self.now (now + 1) 0 }
+    {
+        let own = self.time_of(next);
+        if own > now {
+            let later = self.first_chance(now + 1, near);
+            return Queue {
+                next,
+                waiting: self.between(later, next),
+                near: later.place,
+            };
+        }
+        if own < now {
+            let due = self.first_chance(now, near);
+            return Queue {
+                next: due,
+                waiting: 0,
+                near: due.place,
+            };
+        }
+        Queue {
+            next,
+            waiting: 0,
+            near,
+        }
+    }
+}

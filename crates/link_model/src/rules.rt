@@ -1,0 +1,151 @@
+ghost use Rattle.std.specs.Prelude.{◌≡◌, ℕ, ◌^◌, ◌<◌, ◌≤◌, List, length, slice_index, if◌then◌else◌};
+ghost use Rattle.std.specs.List.Sorted.{IsStrictlyIncreasing};
+ghost use Rattle.ccp_base.specs.Limits.{most_flight};
+ghost use Rattle.link_model.specs.Link.{allowance, rate_of, is_marked, is_listed, arrival_ack, timeout_ack, run_of};
+ghost use Rattle.link_model.specs.Counts.{AreOnce, AddUp};
+
+use crate::arrival::Arrival;
+use crate::link_case::LinkCase;
+use crate::traffic::PACKETS;
+use ccp_base::Ack;
+
+impl LinkCase {
+    /// How many packets a window allows to be in flight: one at least, and 4,096 at most.
+    pub fn allowance(&self, window: u64) -> u64
+        ensures value { result ≡ allowance self.now window }
+        ensures within { result ≤ most_flight }
+    {
+        (window / u64::from(self.mss)).max(1).min(PACKETS as u64)
+    }
+
+    /// Bytes a second: that many packets up to now, or 0 at time 0.
+    pub fn rate(&self, packets: u64, now: u64) -> u64
+        requires { packets ≤ 2 ^ 28 }
+        ensures { result ≡ rate_of self.now packets now }
+    {
+        if now == 0 {
+            return 0;
+        }
+        u64::from(self.mss) * packets * 1_000_000 / now
+    }
+
+    /// Whether a packet is marked, where so many packets wait.
+    pub fn marks(&self, queued: u128) -> bool
+        ensures { result ≡ is_marked self.now.mark queued }
+    {
+        match self.mark {
+            Some(mark) => queued >= u128::from(mark),
+            None => false,
+        }
+    }
+
+    /// The place of the first listed loss from this number on, where those before a place are below the number.
+    pub fn next_loss(&self, passed: usize, number: u64) -> usize
+        requires { (i : ℕ) → i < passed → slice_index self.now.losses i < number }
+        ensures before { (i : ℕ) → i < result → slice_index self.now.losses i < number }
+        ensures from { result < length self.now.losses → number ≤ slice_index self.now.losses result }
+    {
+        next_loss(self.losses.as_slice(), passed, number)
+    }
+
+    /// Whether a number is listed, where the losses before a place are below it, and the one there isn't.
+    pub fn loses(&self, place: usize, number: u64) -> bool
+        requires before { (i : ℕ) → i < place → slice_index self.now.losses i < number }
+        requires from { place < length self.now.losses → number ≤ slice_index self.now.losses place }
+        ensures { result ≡ is_listed number self.now.losses }
+    {
+        is_at(self.losses.as_slice(), place, number)
+    }
+
+    /// The acknowledgement of a packet, where so many packets stay in flight, and so many were acknowledged and sent,
+    /// this one counted.
+    pub fn arrival_ack(&self, arrival: Arrival, stay: u64, acked: u64, sent: u64) -> Ack
+        requires order { arrival.sent_at ≤ arrival.at }
+        requires stay { stay ≤ most_flight }
+        requires acked { acked ≤ 2 ^ 28 }
+        requires sent { sent ≤ 2 ^ 28 }
+        ensures { result ≡ arrival_ack self.now arrival.sent_at arrival.at arrival.marked arrival.lost stay acked sent }
+    {
+        let mss = u64::from(self.mss);
+        Ack {
+            bytes_acked: mss,
+            packets_acked: 1,
+            bytes_misordered: number_if(arrival.lost != 0, mss),
+            packets_misordered: number_if(arrival.lost != 0, 1),
+            ecn_bytes: number_if(arrival.marked, mss),
+            ecn_packets: number_if(arrival.marked, 1),
+            lost_pkts_sample: arrival.lost,
+            now: arrival.at,
+            bytes_in_flight: mss * stay,
+            packets_in_flight: stay,
+            bytes_pending: 0,
+            rate_incoming: self.rate(acked, arrival.at),
+            rate_outgoing: self.rate(sent, arrival.at),
+            rtt_sample_us: arrival.at - arrival.sent_at,
+            was_timeout: false,
+        }
+    }
+
+    /// The acknowledgement at a timeout at this time, with the last round-trip sample, where all of so many packets are
+    /// lost, and so many were acknowledged and sent.
+    pub fn timeout_ack(&self, now: u64, sample: u64, lost: u64, acked: u64, sent: u64) -> Ack
+        requires acked { acked ≤ 2 ^ 28 }
+        requires sent { sent ≤ 2 ^ 28 }
+        ensures { result ≡ timeout_ack self.now now sample lost 0 acked sent }
+    {
+        Ack {
+            lost_pkts_sample: lost,
+            now,
+            rate_incoming: self.rate(acked, now),
+            rate_outgoing: self.rate(sent, now),
+            rtt_sample_us: sample,
+            was_timeout: true,
+            ..Ack::default()
+        }
+    }
+
+    /// What holds after every list of windows: no chance serves two packets, and each packet that was sent was
+    /// acknowledged, left as lost, or is in flight.
+    pub fn packets_law(&self)
+        ensures once { (windows : List ℕ) → AreOnce (run_of self.now windows) }
+        ensures sum { (windows : List ℕ) → AddUp (run_of self.now windows) }
+    {
+        let _ = self.trace.as_slice();
+    }
+}
+
+/// The place of the first listed loss from this number on, where those before a place are below the number.
+fn next_loss(losses: &[u32], passed: usize, number: u64) -> usize
+    requires { (i : ℕ) → i < passed → slice_index losses.now i < number }
+    ensures before { (i : ℕ) → i < result → slice_index losses.now i < number }
+    ensures from { result < length losses.now → number ≤ slice_index losses.now result }
+{
+    let mut place = passed;
+    while let Some(loss) = losses.get(place) {
+        if u64::from(*loss) >= number {
+            return place;
+        }
+        place += 1;
+    }
+    place
+}
+
+/// Whether a number is listed, where the losses before a place are below it, and the one there isn't.
+fn is_at(losses: &[u32], place: usize, number: u64) -> bool
+    requires rises { IsStrictlyIncreasing losses.now }
+    requires before { (i : ℕ) → i < place → slice_index losses.now i < number }
+    requires from { place < length losses.now → number ≤ slice_index losses.now place }
+    ensures { result ≡ is_listed number losses.now }
+{
+    if place >= losses.len() {
+        return false;
+    }
+    u64::from(losses[place]) == number
+}
+
+/// A number, or 0.
+fn number_if(truth: bool, number: u64) -> u64
+    ensures { result ≡ (if truth then number else 0) }
+{
+    if truth { number } else { 0 }
+}

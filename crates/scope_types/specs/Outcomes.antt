@@ -1,0 +1,20 @@
+-- What forms stand for, or are refused by.
+use Rattle.std.specs.Prelude.{◌≡◌, ◌⊎◌, Err}
+use Rattle.portus_core.specs.Trees.{Nodes}
+use Rattle.portus_core.specs.Programs.{Form}
+use Rattle.scope_types.specs.declared.fault.ScopeFault.{ScopeFault}
+use Rattle.scope_types.specs.declared.fault.ScopeFault.TheVariants.{NoMemory}
+use Rattle.scope_types.specs.ProgramWalk.{source_walk}
+use Rattle.scope_types.specs.WellScoped.{IsScoped}
+
+-- the first refusal of forms, in the order of their text
+abbrev pub IsRefused : Nodes → ScopeFault → Type 0
+IsRefused nodes refusal = source_walk nodes ≡ Err refusal
+
+-- forms stand for one program or have one first refusal, which is that of a rule, and not both
+pub record IsSettled (nodes : Nodes) : Type 0 where
+  pub one : (left right : Form) → IsScoped nodes left → IsScoped nodes right → left ≡ right
+  pub one_refusal : (left right : ScopeFault) → IsRefused nodes left → IsRefused nodes right → left ≡ right
+  pub by_rule : IsRefused nodes NoMemory → ⊥
+  pub apart : (form : Form) (refusal : ScopeFault) → IsScoped nodes form → IsRefused nodes refusal → ⊥
+  pub some : ((form : Form) × IsScoped nodes form) ⊎ ((refusal : ScopeFault) × IsRefused nodes refusal)
