@@ -13,7 +13,7 @@ use Rattle.portus_core.specs.declared.env.Mean.{Mean}
 use Rattle.portus_core.specs.declared.env.Mean.TheVariants as mean
 use Rattle.portus_core.specs.Blocks.{begun, blocks_of}
 use Rattle.portus_core.specs.Command.{Going}
-use Rattle.portus_core.specs.EnvShapes.{IsEnvOf-blocks, IsEnvOf-declared_env, IsEnvOf-one_of}
+use Rattle.portus_core.proofs.EnvShapes.{IsEnvOf-blocks, IsEnvOf-declared_env, IsEnvOf-one_of}
 use Rattle.portus_core.specs.Epoch.{by_source, outcome_of, Track, after_event, after, heard}
 use Rattle.portus_core.specs.OneAcknowledgement.{IsEnvOf, answered, settled, one_of}
 use Rattle.portus_core.specs.Programs.{Form}

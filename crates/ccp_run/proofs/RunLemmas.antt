@@ -28,6 +28,9 @@ takes_nothing old (Some left) same = sym same
 pub untouched_within : (limit : ℕ) (old new : Known) → new ≡ old → TakesWithin limit old new
 untouched_within limit old new same = record { taken = []; takes = takes_nothing old new same; within = omega arith }
 
+one_more : (limit : ℕ) (old new : Known) → TakesWithin limit old new → TakesWithin (limit + 1) old new
+one_more limit old new few = record { taken = few.taken; takes = few.takes; within = let w = few.within in omega (arith, w) }
+
 within_of : (mode : Mode) (source : Stream) (bytes : List ℕ) (read : Bool) → HasInput read source bytes → length bytes ≤ limit_of mode → TakesWithin (limit_of mode) source.old source.new
 within_of mode source bytes true read short = record { taken = bytes; takes = read.taken; within = short }
 within_of mode source bytes false read short = untouched_within (limit_of mode) source.old source.new read.same
@@ -64,6 +67,7 @@ module _ (mode : Mode) (source sink errors : Stream) (is_finished : Type 0) (out
         told_write = λ is. (w.failed (not_done 5 is (λ e. omega (arith, e)))).ends.told;
         told_memory = λ is. absurd (other 6 is (λ e. omega (arith, e)) (λ e. omega (arith, e)));
         within = λ _. few;
+        most = one_more (limit_of mode) source.old source.new few;
         nothing = λ is0 is5. absurd (is5 (w.failed is0).ends.status);
         programs = λ is0. (w.failed is0).ends.programs;
         ran = λ is0. (w.failed is0).ends.ran;
@@ -85,9 +89,10 @@ module _ (mode : Mode) (source sink errors : Stream) (is_finished : Type 0) (out
       → (n ≡ 4 → Rose source.before source.now) → (n ≡ 4 → Tells errors read_line)
       → (n ≡ 6 → Tells errors memory_line)
       → (n ≢ 3 → TakesWithin (limit_of mode) source.old source.new)
+      → TakesWithin (limit_of mode + 1) source.old source.new
       → WritesAnswers mode source sink
       → IsRun mode source sink errors is_finished outcome
-  ended n is no0 no5 no1 no2 below programs ran refused rose told_read told_memory within nothing = record {
+  ended n is no0 no5 no1 no2 below programs ran refused rose told_read told_memory within most nothing = record {
     done = λ at. absurd (no0 (sym is ∙ at));
     refused = λ at. refused (sym is ∙ at);
     read_fault = λ at. rose (sym is ∙ at);
@@ -97,6 +102,7 @@ module _ (mode : Mode) (source sink errors : Stream) (is_finished : Type 0) (out
     told_write = λ at. absurd (no5 (sym is ∙ at));
     told_memory = λ at. told_memory (sym is ∙ at);
     within = λ other. within (λ at. other (is ∙ at));
+    most = most;
     nothing = λ _ _. nothing;
     programs = λ _. programs;
     ran = λ _. ran;
@@ -109,27 +115,27 @@ module _ (mode : Mode) (source sink errors : Stream) (is_finished : Type 0) (out
   wants_memory few same e =
       ended 6 e.status (λ a. omega (arith, a)) (λ a. omega (arith, a)) (λ a. omega (arith, a)) (λ a. omega (arith, a)) (omega arith)
       e.programs e.ran (λ a. absurd (omega (arith, a))) (λ a. absurd (omega (arith, a))) (λ a. absurd (omega (arith, a))) (λ _. e.told)
-      (λ _. few) (answers few same)
+      (λ _. few) (one_more (limit_of mode) source.old source.new few) (answers few same)
 
   read_failed : FailsToRead mode source → sink.new ≡ sink.old → Ends errors outcome status.ReadFailed read_line → IsRun mode source sink errors is_finished outcome
   read_failed failed same e =
       ended 4 e.status (λ a. omega (arith, a)) (λ a. omega (arith, a)) (λ a. omega (arith, a)) (λ a. omega (arith, a)) (omega arith)
       e.programs e.ran (λ a. absurd (omega (arith, a))) (λ _. failed.rose) (λ _. e.told) (λ a. absurd (omega (arith, a)))
-      (λ _. failed.within) (answers failed.within same)
+      (λ _. failed.within) (one_more (limit_of mode) source.old source.new failed.within) (answers failed.within same)
 
-  told_refusal : (refusal : Refusal) → RefusesInput mode source refusal → WritesAnswers mode source sink → Ends errors outcome status.InputRefused (refusal_line refusal)
+  told_refusal : (refusal : Refusal) → RefusesInput mode source refusal → TakesWithin (limit_of mode + 1) source.old source.new → WritesAnswers mode source sink → Ends errors outcome status.InputRefused (refusal_line refusal)
       → IsRun mode source sink errors is_finished outcome
-  told_refusal refusal cause nothing e =
+  told_refusal refusal cause most nothing e =
       ended 3 e.status (λ a. omega (arith, a)) (λ a. omega (arith, a)) (λ a. omega (arith, a)) (λ a. omega (arith, a)) (omega arith)
       e.programs e.ran (λ _. record { refusal = refusal; refused = cause; told = e.told }) (λ a. absurd (omega (arith, a))) (λ a. absurd (omega (arith, a))) (λ a. absurd (omega (arith, a)))
-      (λ other. absurd (other refl)) nothing
+      (λ other. absurd (other refl)) most nothing
 
   refused_or_not : (refusal : Refusal) → RefusesInput mode source refusal → sink.new ≡ sink.old → Refuses errors outcome refusal → (outcome.status ≡ 3) ⊎ (outcome.status ≢ 3) → IsRun mode source sink errors is_finished outcome
   refused_or_not refusal (inl length) same r which =
-      told_refusal refusal (inl length) (answers_over length.over same) (r.told (r.too_long (limit_in mode) length.cause))
+      told_refusal refusal (inl length) length.most (answers_over length.over same) (r.told (r.too_long (limit_in mode) length.cause))
   refused_or_not refusal (inr bytes) same r (inl three) =
       let few = within_of mode source bytes.bytes (is_read mode) bytes.read bytes.short in
-      told_refusal refusal (inr bytes) (answers few same) (r.told three)
+      told_refusal refusal (inr bytes) (one_more (limit_of mode) source.old source.new few) (answers few same) (r.told three)
   refused_or_not refusal (inr bytes) same r (inr other) =
       wants_memory (within_of mode source bytes.bytes (is_read mode) bytes.read bytes.short) same (r.failed other)
 

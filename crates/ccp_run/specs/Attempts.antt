@@ -1,5 +1,5 @@
 -- What a mode came to before anything was written: its output, or why there is none.
-use Rattle.std.specs.Prelude.{◌≡◌, ◌≤◌, ◌⊎◌, ℕ, Result, Ok, Err, List, length}
+use Rattle.std.specs.Prelude.{◌≡◌, ◌≤◌, ◌⊎◌, ℕ, ◌+◌, Result, Ok, Err, List, length}
 use Rattle.ccp_base.specs.Outside.{Rose, TakesOver, TakesWithin}
 use Rattle.ccp_words.specs.declared.mode.Mode.{Mode}
 use Rattle.ccp_run.specs.declared.outcome.ModeOutput.{ModeOutput}
@@ -34,6 +34,7 @@ pub record RefusesBytes (mode : Mode) (source : Stream) (refusal : Refusal) : Ty
 -- more bytes were taken than the limit, and that is the refusal
 pub record RefusesLength (mode : Mode) (source : Stream) (refusal : Refusal) : Type 0 where
   pub over : TakesOver (limit_of mode) source.old source.new
+  pub most : TakesWithin (limit_of mode + 1) source.old source.new
   pub cause : refusal ≡ TooLong (limit_in mode)
 
 -- an input past the limit is refused as too long and as nothing else

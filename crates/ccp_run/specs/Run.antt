@@ -52,8 +52,9 @@ pub record IsRun (mode : Mode) (source sink errors : Stream) (is_finished : Type
   pub told_write : outcome.status ≡ number_of status.WriteFailed → Tells errors write_line
   -- 6: want of memory is told
   pub told_memory : outcome.status ≡ number_of status.NoMemory → Tells errors memory_line
-  -- but at 3 at most as many bytes as the limit are taken
+  -- but at 3 at most as many bytes as the limit are taken, and at 3 at most one more
   pub within : outcome.status ≢ number_of status.InputRefused → TakesWithin (limit_of mode) source.old source.new
+  pub most : TakesWithin (limit_of mode + 1) source.old source.new
   -- but at 0 and 5 nothing is written, save answers before a refusal
   pub nothing : outcome.status ≢ number_of status.Done → outcome.status ≢ number_of status.WriteFailed
       → WritesAnswers mode source sink
