@@ -1,2 +1,4 @@
 mod FoldLemmas
 mod RunLemmas
+pub mod SettledInputs
+pub mod CompleteRuns

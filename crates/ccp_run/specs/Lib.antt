@@ -7,3 +7,5 @@ pub mod Modes
 pub mod Attempts
 pub mod Endings
 pub mod Run
+pub mod Settled
+pub mod Complete

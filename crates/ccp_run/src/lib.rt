@@ -5,6 +5,7 @@ pub mod calls;
 mod check;
 mod ending;
 mod fold;
+mod laws;
 mod outcome;
 mod program;
 mod reading;
@@ -14,6 +15,7 @@ mod stop;
 mod tool;
 
 pub use ccp_words::{Alone, Mode};
+pub use laws::{input_law, run_law};
 pub use outcome::{ModeOutput, Outcome};
 pub use refusal::{Limit, Refusal};
 pub use status::Status;
