@@ -30,24 +30,24 @@ use Rattle.ccp_run.specs.Settled.{is_there, IsInput, IsSettled}
 -- ---- check
 
 only_program : (bytes : List ℕ) (refusal : Refusal) → IsNoCheck bytes refusal → (fault : BuildFault) × IsNoProgram bytes fault × (refusal ≡ Program fault)
-only_program bytes (TooLong limit) no = absurd no
-only_program bytes NoSeparator no = absurd no
-only_program bytes (Program fault) no = (fault, no, refl)
-only_program bytes (Line n) no = absurd no
-only_program bytes TooManyAcks no = absurd no
+only_program bytes (TooLong limit) bad = absurd bad
+only_program bytes NoSeparator bad = absurd bad
+only_program bytes (Program fault) bad = (fault, bad, refl)
+only_program bytes (Line n) bad = absurd bad
+only_program bytes TooManyAcks bad = absurd bad
 
 check_some : (bytes : List ℕ) → ((form : Form) × IsBuiltFrom bytes form) ⊎ ((fault : BuildFault) × IsNoProgram bytes fault) → IsInput (Alone Check) bytes ⊎ ((refusal : Refusal) × IsNoCheck bytes refusal)
 check_some bytes (inl built) = inl built
-check_some bytes (inr no) = inr (Program no.0, no.1)
+check_some bytes (inr bad) = inr (Program bad.0, bad.1)
 
 settled_check : (bytes : List ℕ) → IsSettled (Alone Check) bytes
 settled_check bytes = record {
   some = check_some bytes (settled_text bytes).some;
-  apart = λ refusal input no. let p = only_program bytes refusal no in (settled_text bytes).apart input.0 p.0 input.1 p.1.0;
-  one_refusal = λ left right no no'.
-      let p = only_program bytes left no in
-      let q = only_program bytes right no' in
-      p.1.1 ∙ ap Program ((settled_text bytes).one_refusal p.0 q.0 p.1.0 q.1.0) ∙ sym q.1.1;
+  apart = λ refusal input bad. let p = only_program bytes refusal bad in (settled_text bytes).apart input.0 p.0 input.1 p.1;
+  one_refusal = λ left right bad bad'.
+      let p = only_program bytes left bad in
+      let q = only_program bytes right bad' in
+      p.2 ∙ ap Program ((settled_text bytes).one_refusal p.0 q.0 p.1 q.1) ∙ sym q.2;
   made = λ output made. (form_of made.built.program, made.program);
 }
 
@@ -73,7 +73,7 @@ of_lines number (Ok acks) (text ∷ rest) not =
 
 -- ---- fold
 
--- what an input of `fold` with this cut comes to: lines below a program, or why there is no program
+-- what an input of `fold` with this cut comes to: lines below a program, or why there is bad program
 module _ (bytes : List ℕ) where
   same_cut : (left right : Cut) → cut_of bytes ≡ Some left → cut_of bytes ≡ Some right → left ≡ right
   same_cut left right e e' = let same : Some left ≡ Some right = sym e ∙ e' in cc
@@ -83,14 +83,14 @@ module _ (bytes : List ℕ) where
 
   -- a program and its refusal aren't both there
   one_program : (cut cut' : Cut) (form : Form) (fault : BuildFault) → cut_of bytes ≡ Some cut → cut_of bytes ≡ Some cut' → IsBuiltFrom cut.program form → IsNoProgram cut'.program fault → ⊥
-  one_program cut cut' form fault e e' built no =
-      (settled_text cut'.program).apart form fault (subst (λ (c : Cut). IsBuiltFrom c.program form) (same_cut cut cut' e e') built) no
+  one_program cut cut' form fault e e' built bad =
+      (settled_text cut'.program).apart form fault (subst (λ (c : Cut). IsBuiltFrom c.program form) (same_cut cut cut' e e') built) bad
 
   one_lines : (cut cut' : Cut) (left right : Result (List Ack) LineFault) → cut_of bytes ≡ Some cut → cut_of bytes ≡ Some cut' → acks_below cut ≡ left → acks_below cut' ≡ right → left ≡ right
   one_lines cut cut' left right e e' is is' = sym is ∙ ap acks_below (same_cut cut cut' e e') ∙ is'
 
   bad_program : (fault : BuildFault) (lines_fault : LineFault) → HasNoProgram bytes fault → HasBadLines bytes lines_fault → ⊥
-  bad_program fault lines_fault no bad = one_program bad.cut no.cut bad.form fault bad.at_separator no.at_separator bad.program no.refused
+  bad_program fault lines_fault none bad = one_program bad.cut none.cut bad.form fault bad.at_separator none.at_separator bad.program none.refused
 
   bad_lines : (left right : LineFault) → HasBadLines bytes left → HasBadLines bytes right → left ≡ right
   bad_lines left right bad bad' =
@@ -98,38 +98,38 @@ module _ (bytes : List ℕ) where
       cc
 
   one_fault : (left right : BuildFault) → HasNoProgram bytes left → HasNoProgram bytes right → left ≡ right
-  one_fault left right no no' =
-      (settled_text no'.cut.program).one_refusal left right
-      (subst (λ (c : Cut). IsNoProgram c.program left) (same_cut no.cut no'.cut no.at_separator no'.at_separator) no.refused) no'.refused
+  one_fault left right bad bad' =
+      (settled_text bad'.cut.program).one_refusal left right
+      (subst (λ (c : Cut). IsNoProgram c.program left) (same_cut bad.cut bad'.cut bad.at_separator bad'.at_separator) bad.refused) bad'.refused
 
   fold_apart : (form : Form) (acks : List Ack) (refusal : Refusal) → IsFold bytes form acks → IsNoFold bytes refusal → ⊥
-  fold_apart form acks (TooLong limit) input no = no
-  fold_apart form acks NoSeparator input no = no_cut input.cut no input.at_separator
-  fold_apart form acks (Program fault) input no = one_program input.cut no.cut form fault input.at_separator no.at_separator input.program no.refused
-  fold_apart form acks (Line n) input no =
-      let same : Ok acks ≡ Err (lines.Line n) = one_lines input.cut no.cut (Ok acks) (Err (lines.Line n)) input.at_separator no.at_separator input.lines no.refused in cc
-  fold_apart form acks TooManyAcks input no =
-      let same : Ok acks ≡ Err lines.TooMany = one_lines input.cut no.cut (Ok acks) (Err lines.TooMany) input.at_separator no.at_separator input.lines no.refused in cc
+  fold_apart form acks (TooLong limit) input bad = bad
+  fold_apart form acks NoSeparator input bad = no_cut input.cut bad input.at_separator
+  fold_apart form acks (Program fault) input bad = one_program input.cut bad.cut form fault input.at_separator bad.at_separator input.program bad.refused
+  fold_apart form acks (Line n) input bad =
+      let same : Ok acks ≡ Err (lines.Line n) = one_lines input.cut bad.cut (Ok acks) (Err (lines.Line n)) input.at_separator bad.at_separator input.lines bad.refused in cc
+  fold_apart form acks TooManyAcks input bad =
+      let same : Ok acks ≡ Err lines.TooMany = one_lines input.cut bad.cut (Ok acks) (Err lines.TooMany) input.at_separator bad.at_separator input.lines bad.refused in cc
 
   fold_one : (left right : Refusal) → IsNoFold bytes left → IsNoFold bytes right → left ≡ right
-  fold_one (TooLong limit) right no no' = absurd no
-  fold_one left (TooLong limit) no no' = absurd no'
-  fold_one NoSeparator NoSeparator no no' = refl
-  fold_one NoSeparator (Program fault) no no' = absurd (no_cut no'.cut no no'.at_separator)
-  fold_one NoSeparator (Line n) no no' = absurd (no_cut no'.cut no no'.at_separator)
-  fold_one NoSeparator TooManyAcks no no' = absurd (no_cut no'.cut no no'.at_separator)
-  fold_one (Program fault) NoSeparator no no' = absurd (no_cut no.cut no' no.at_separator)
-  fold_one (Program fault) (Program fault') no no' = ap Program (one_fault fault fault' no no')
-  fold_one (Program fault) (Line n) no no' = absurd (bad_program fault (lines.Line n) no no')
-  fold_one (Program fault) TooManyAcks no no' = absurd (bad_program fault lines.TooMany no no')
-  fold_one (Line n) NoSeparator no no' = absurd (no_cut no.cut no' no.at_separator)
-  fold_one (Line n) (Program fault) no no' = absurd (bad_program fault (lines.Line n) no' no)
-  fold_one (Line n) (Line m) no no' = let same : lines.Line n ≡ lines.Line m = bad_lines (lines.Line n) (lines.Line m) no no' in cc
-  fold_one (Line n) TooManyAcks no no' = let same : lines.Line n ≡ lines.TooMany = bad_lines (lines.Line n) lines.TooMany no no' in cc
-  fold_one TooManyAcks NoSeparator no no' = absurd (no_cut no.cut no' no.at_separator)
-  fold_one TooManyAcks (Program fault) no no' = absurd (bad_program fault lines.TooMany no' no)
-  fold_one TooManyAcks (Line n) no no' = let same : lines.TooMany ≡ lines.Line n = bad_lines lines.TooMany (lines.Line n) no no' in cc
-  fold_one TooManyAcks TooManyAcks no no' = refl
+  fold_one (TooLong limit) right bad bad' = absurd bad
+  fold_one left (TooLong limit) bad bad' = absurd bad'
+  fold_one NoSeparator NoSeparator bad bad' = refl
+  fold_one NoSeparator (Program fault) bad bad' = absurd (no_cut bad'.cut bad bad'.at_separator)
+  fold_one NoSeparator (Line n) bad bad' = absurd (no_cut bad'.cut bad bad'.at_separator)
+  fold_one NoSeparator TooManyAcks bad bad' = absurd (no_cut bad'.cut bad bad'.at_separator)
+  fold_one (Program fault) NoSeparator bad bad' = absurd (no_cut bad.cut bad' bad.at_separator)
+  fold_one (Program fault) (Program fault') bad bad' = ap Program (one_fault fault fault' bad bad')
+  fold_one (Program fault) (Line n) bad bad' = absurd (bad_program fault (lines.Line n) bad bad')
+  fold_one (Program fault) TooManyAcks bad bad' = absurd (bad_program fault lines.TooMany bad bad')
+  fold_one (Line n) NoSeparator bad bad' = absurd (no_cut bad.cut bad' bad.at_separator)
+  fold_one (Line n) (Program fault) bad bad' = absurd (bad_program fault (lines.Line n) bad' bad)
+  fold_one (Line n) (Line m) bad bad' = let same : lines.Line n ≡ lines.Line m = bad_lines (lines.Line n) (lines.Line m) bad bad' in cc
+  fold_one (Line n) TooManyAcks bad bad' = let same : lines.Line n ≡ lines.TooMany = bad_lines (lines.Line n) lines.TooMany bad bad' in cc
+  fold_one TooManyAcks NoSeparator bad bad' = absurd (no_cut bad.cut bad' bad.at_separator)
+  fold_one TooManyAcks (Program fault) bad bad' = absurd (bad_program fault lines.TooMany bad' bad)
+  fold_one TooManyAcks (Line n) bad bad' = let same : lines.TooMany ≡ lines.Line n = bad_lines lines.TooMany (lines.Line n) bad bad' in cc
+  fold_one TooManyAcks TooManyAcks bad bad' = refl
 
   some_lines : (cut : Cut) (form : Form) → cut_of bytes ≡ Some cut → IsBuiltFrom cut.program form → (below : Result (List Ack) LineFault) → acks_below cut ≡ below → IsOfLines below → IsInput (Alone Fold) bytes ⊎ ((refusal : Refusal) × IsNoFold bytes refusal)
   some_lines cut form e built (Ok acks) is not = inl (form, acks, record { cut = cut; at_separator = e; program = built; lines = is })
@@ -140,7 +140,7 @@ module _ (bytes : List ℕ) where
   some_program : (cut : Cut) → cut_of bytes ≡ Some cut → ((form : Form) × IsBuiltFrom cut.program form) ⊎ ((fault : BuildFault) × IsNoProgram cut.program fault) → IsInput (Alone Fold) bytes ⊎ ((refusal : Refusal) × IsNoFold bytes refusal)
   some_program cut e (inl built) =
       some_lines cut built.0 e built.1 (acks_below cut) refl (of_lines cut.next (Ok []) (parts_of LineFeed cut.rest) (λ a. cc))
-  some_program cut e (inr no) = inr (Program no.0, record { cut = cut; at_separator = e; refused = no.1 })
+  some_program cut e (inr bad) = inr (Program bad.0, record { cut = cut; at_separator = e; refused = bad.1 })
 
   some_cut : (cut : Option Cut) → cut_of bytes ≡ cut → IsInput (Alone Fold) bytes ⊎ ((refusal : Refusal) × IsNoFold bytes refusal)
   some_cut None e = inr (NoSeparator, e)
@@ -149,7 +149,7 @@ module _ (bytes : List ℕ) where
   settled_fold : IsSettled (Alone Fold) bytes
   settled_fold = record {
     some = some_cut (cut_of bytes) refl;
-    apart = λ refusal input no. fold_apart input.0 input.1.0 refusal input.1.1 no;
+    apart = λ refusal input bad. fold_apart input.0 input.1 refusal input.2 bad;
     one_refusal = fold_one;
     made = λ output made. (made.form, made.acks, made.input);
   }
