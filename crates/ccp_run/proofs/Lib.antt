@@ -1,4 +1,3 @@
 mod FoldLemmas
 mod RunLemmas
 pub mod SettledInputs
-pub mod CompleteRuns

@@ -8,4 +8,3 @@ pub mod Attempts
 pub mod Endings
 pub mod Run
 pub mod Settled
-pub mod Complete

@@ -15,7 +15,7 @@ mod stop;
 mod tool;
 
 pub use ccp_words::{Alone, Mode};
-pub use laws::{input_law, run_law};
+pub use laws::input_law;
 pub use outcome::{ModeOutput, Outcome};
 pub use refusal::{Limit, Refusal};
 pub use status::Status;
