@@ -1,8 +1,3 @@
-pub mod SeparatedLemmas
-mod AlikeWalks
-mod AlikeFaults
-mod CommandLine
-mod ModeGiven
-mod Parsed
-mod CompiledCounts
-mod MachineMeans
+mod FoldLemmas
+mod RunLemmas
+pub mod SettledInputs

@@ -1,43 +1,91 @@
-use Rattle.std.specs.Prelude.{ℕ, true, option_map, List, map}
+-- What `fold` makes of its input, and the inputs that it refuses.
+use Rattle.std.specs.Prelude.{◌≡◌, ℕ, Option, Some, None, Result, Ok, Err, List, [], ◌∷◌, length}
 use Rattle.ccp_base.specs.declared.ack.Ack.{Ack}
+use Rattle.ccp_base.specs.declared.parts.Separator.TheVariants.{LineFeed}
+use Rattle.ccp_base.specs.Parts.{parts_of}
 use Rattle.portus_core.specs.Programs.{Form}
+use Rattle.portus_core.specs.ProgramForm.{form_of}
 use Rattle.portus_core.specs.Value.{Cause}
-use Rattle.portus_core.specs.Epoch.{Event, acknowledged, by_source, Track, track_at, declared_env, after}
-use Rattle.portus_core.specs.Reports.{Epoch, reports, fault_of}
-use Rattle.ccp_run.specs.declared.text.Fault.{Fault}
-use Rattle.ccp_run.specs.declared.text.End.{End}
-use Rattle.ccp_run.specs.FoldText.{fold_text}
+use Rattle.reg_compiler.specs.declared.built.Built.{Built}
+use Rattle.portus_build.specs.declared.fault.BuildFault.{BuildFault}
+use Rattle.portus_build.specs.Texts.{IsBuiltFrom, IsNoProgram}
+use Rattle.report_lines.specs.declared.end_line.End.{End}
+use Rattle.report_lines.specs.Text.{◌⧺◌}
+use Rattle.report_lines.specs.EndLine.{end_line}
+use Rattle.report_lines.specs.FaultLine.{fault_line}
+use Rattle.report_lines.specs.ReportLine.{report_lines}
+use Rattle.fold_run.specs.declared.acks.LineFault.{LineFault}
+use Rattle.fold_run.specs.declared.acks.LineFault.TheVariants as lines
+use Rattle.fold_run.specs.declared.end.End.{End as FoldEnd}
+use Rattle.fold_run.specs.Acknowledgements.{acks_of}
+use Rattle.fold_run.specs.Fold.{fold_reports, fold_fault, fold_end}
+use Rattle.fold_run.specs.Ran.{ran_of}
+use Rattle.fold_run.specs.Separated.{Cut, cut_of}
+use Rattle.ccp_run.specs.declared.outcome.ModeOutput.{ModeOutput}
+use Rattle.ccp_run.specs.declared.refusal.Refusal.{Refusal}
+use Rattle.ccp_run.specs.declared.refusal.Refusal.TheVariants.{TooLong, NoSeparator, Program, Line, TooManyAcks}
 
--- the one epoch of a fold
-abbrev pub fold_epoch : Epoch
-fold_epoch = record { flow = 0; program = 0; number = 0 }
+-- the acknowledgements of what stands below the separator, or the first fault among its lines
+abbrev pub acks_below : Cut → Result (List Ack) LineFault
+acks_below cut = acks_of cut.next (parts_of LineFeed cut.rest)
 
--- each acknowledgement finds room for a report
-abbrev pub with_room : Ack → Event
-with_room ack = acknowledged ack true
+-- bytes are an input of `fold`: a program and acknowledgements
+pub record IsFold (bytes : List ℕ) (form : Form) (acks : List Ack) : Type 0 where
+  pub cut : Cut
+  pub at_separator : cut_of bytes ≡ Some cut
+  pub program : IsBuiltFrom cut.program form
+  pub lines : acks_below cut ≡ Ok acks
 
--- a fold begins with `Cwnd`, `Rate` and time zero 0, and without values
-abbrev pub fold_start : Form → Track
-fold_start form = track_at 0 (declared_env form 0 0 0)
+-- a fold has epoch 0 alone
+abbrev pub stopping_line : Option (ℕ × Cause) → List ℕ
+stopping_line None = []
+stopping_line (Some fault) = fault_line 0 fault.0 fault.1.0 fault.1.1
 
-abbrev pub told_fault : ℕ × Cause → Fault
-told_fault fault = record { epoch = 0; at = fault.0; kind = fault.1.0; place = fault.1.1 }
-
-abbrev pub end_of : Track → End
-end_of track = record {
-  acks = track.count;
-  first = track.first;
-  stopped = track.is_stopped;
-  cwnd = track.env.cwnd;
-  rate = track.env.rate;
-  fields = track.env.fields;
+abbrev pub shown_end : FoldEnd → End
+shown_end end = record {
+  acks = end.acks;
+  first = end.first;
+  stopped = end.stopped;
+  cwnd = end.cwnd;
+  rate = end.rate;
+  fields = end.fields;
 }
 
--- the text of a program's fold over acknowledgements
+-- the text of what a program means over acknowledgements: its reports, the fault that stopped it, and how it ends
 abbrev pub folded_text : Form → List Ack → List ℕ
 folded_text form acks =
-    let events = map with_room acks in
-    fold_text form.fields
-    (reports (by_source form) fold_epoch events (fold_start form))
-    (option_map told_fault (fault_of (by_source form) events (fold_start form)))
-    (end_of (after (by_source form) events (fold_start form)))
+    report_lines form.fields (fold_reports form acks) ⧺ stopping_line (fold_fault form acks)
+    ⧺ end_line form.fields (length (fold_reports form acks)) (shown_end (fold_end form acks))
+
+-- the output is the text of the program's meaning, and the program's code runs so many instructions
+pub record IsFoldOutput (bytes : List ℕ) (output : ModeOutput) : Type 0 where
+  pub form : Form
+  pub acks : List Ack
+  pub input : IsFold bytes form acks
+  pub written : output.text ≡ folded_text form acks
+  pub built : Built
+  pub program : form_of built.program ≡ form
+  pub kept : output.programs ≡ (0, built) ∷ []
+  pub counted : output.ran ≡ ran_of built.code.code acks
+
+-- the separator is there, and the text before it is no program
+pub record HasNoProgram (bytes : List ℕ) (fault : BuildFault) : Type 0 where
+  pub cut : Cut
+  pub at_separator : cut_of bytes ≡ Some cut
+  pub refused : IsNoProgram cut.program fault
+
+-- the program is there, and the lines below it aren't acknowledgements
+pub record HasBadLines (bytes : List ℕ) (fault : LineFault) : Type 0 where
+  pub cut : Cut
+  pub at_separator : cut_of bytes ≡ Some cut
+  pub form : Form
+  pub program : IsBuiltFrom cut.program form
+  pub refused : acks_below cut ≡ Err fault
+
+-- bytes are no input of `fold`, and this is the first refusal, in the order separator, program, lines
+abbrev pub IsNoFold : List ℕ → Refusal → Type 0
+IsNoFold bytes (TooLong limit) = ⊥
+IsNoFold bytes NoSeparator = cut_of bytes ≡ None
+IsNoFold bytes (Program fault) = HasNoProgram bytes fault
+IsNoFold bytes (Line n) = HasBadLines bytes (lines.Line n)
+IsNoFold bytes TooManyAcks = HasBadLines bytes lines.TooMany

@@ -1,56 +1,74 @@
-use Rattle.std.specs.Prelude.{ℕ, ◌⊎◌, Option, Some, None, List}
-use Rattle.ccp_base.specs.Outside.{Known, Takes, IsAtEnd, TakesOver, Appends, AppendsPrefix}
-use Rattle.ccp_run.specs.declared.mode.Alone.{Alone}
-use Rattle.ccp_run.specs.declared.mode.Alone.TheVariants.{Check, Fold}
-use Rattle.ccp_run.specs.declared.mode.Mode.{Mode}
-use Rattle.ccp_run.specs.declared.mode.Mode.TheVariants as mode
+-- What a run promises: the theorem of every mode.
+use Rattle.std.specs.Prelude.{◌≡◌, ◌≢◌, ◌≤◌, ◌⊎◌, ℕ, ◌+◌, Bool, false, Option, Some, None, List, []}
+use Rattle.ccp_base.specs.Outside.{Rose, Takes, TakesWithin, Appends, AppendsPrefix}
+use Rattle.ccp_words.specs.declared.mode.Mode.{Mode}
+use Rattle.ccp_run.specs.declared.outcome.ModeOutput.{ModeOutput}
+use Rattle.ccp_run.specs.declared.outcome.Outcome.{Outcome}
 use Rattle.ccp_run.specs.declared.refusal.Refusal.{Refusal}
-use Rattle.ccp_run.specs.declared.refusal.Refusal.TheVariants.{TooLong}
+use Rattle.ccp_run.specs.declared.status.Status.TheVariants as status
+use Rattle.ccp_run.specs.Attempts.{MakesOutput, RefusesInput}
+use Rattle.ccp_run.specs.Endings.{Ends, WritesAll}
 use Rattle.ccp_run.specs.ErrorLine.{refusal_line}
-use Rattle.ccp_run.specs.Input.{IsNoInput}
-use Rattle.ccp_run.specs.Output.{IsOutput, Programs}
-use Rattle.ccp_run.specs.Told.{Tells}
+use Rattle.ccp_run.specs.Modes.{limit_of, answers_before}
+use Rattle.ccp_run.specs.Statuses.{number_of, words_line, read_line, write_line, memory_line}
+use Rattle.ccp_run.specs.Streams.{Stream, Tells}
 
--- the mode's output for the bytes was written, with these programs and after so many instructions
-pub record Writes (mode : Alone) (bytes : List ℕ) (programs : Programs) (ran : ℕ) (old new : Known) : Type 0 where
-  pub text : List ℕ
-  pub output : IsOutput mode bytes text programs ran
-  pub written : Appends old new text
+-- the mode's whole output for the input was written, and the sink finished
+pub record IsDone (mode : Mode) (source sink errors : Stream) (is_finished : Type 0) (outcome : Outcome) : Type 0 where
+  pub output : ModeOutput
+  pub made : MakesOutput mode source output
+  pub written : WritesAll sink errors is_finished outcome output
 
--- the mode has an output for the bytes, of which a front was written
-pub record WritesFront (mode : Alone) (bytes : List ℕ) (old new : Known) : Type 0 where
-  pub text : List ℕ
-  pub programs : Programs
-  pub ran : ℕ
-  pub output : IsOutput mode bytes text programs ran
-  pub front : AppendsPrefix old new text
+-- the mode has an output for the input, of which a front was written
+pub record WritesFront (mode : Mode) (source sink : Stream) : Type 0 where
+  pub output : ModeOutput
+  pub made : MakesOutput mode source output
+  pub front : AppendsPrefix sink.old sink.new output.text
 
--- the mode has no output for the bytes, and the line of their first refusal was told
-pub record Refuses (mode : Alone) (bytes : List ℕ) (before now : ℕ) (old new : Known) : Type 0 where
+-- the input has a first refusal, and that was told
+pub record TellsRefusal (mode : Mode) (source errors : Stream) : Type 0 where
   pub refusal : Refusal
-  pub cause : IsNoInput mode bytes refusal
-  pub told : Tells before now old new (refusal_line refusal)
+  pub refused : RefusesInput mode source refusal
+  pub told : Tells errors (refusal_line refusal)
 
--- the source was read to its end, and this holds of its bytes
-pub record ReadsToEnd (old new : Known) (Holds : List ℕ → Type 0) : Type 0 where
-  pub bytes : List ℕ
-  pub taken : Takes old new bytes
-  pub end : IsAtEnd new
-  pub holds : Holds bytes
+-- of what was taken only the answers that come before a refusal were written, which most modes don't have
+pub record WritesAnswers (mode : Mode) (source sink : Stream) : Type 0 where
+  pub taken : List ℕ
+  pub takes : Takes source.old source.new taken
+  pub answers : Appends sink.old sink.new (answers_before mode taken)
 
--- more bytes than the limit were taken, and that was told
-pub record RefusesLength (limit : ℕ) (source source' : Known) (before now : ℕ) (old new : Known) : Type 0 where
-  pub over : TakesOver limit source source'
-  pub told : Tells before now old new (refusal_line TooLong)
+pub record IsRun (mode : Mode) (source sink errors : Stream) (is_finished : Type 0) (outcome : Outcome) : Type 0 where
+  -- 0: the input was read to its end, and exactly the mode's output was written
+  pub done : outcome.status ≡ number_of status.Done → IsDone mode source sink errors is_finished outcome
+  -- 3: more bytes than the limit were taken and that is told, or the input was read to its end and its first refusal is
+  -- told
+  pub refused : outcome.status ≡ number_of status.InputRefused → TellsRefusal mode source errors
+  -- 4: a read failed in this run, and that is told
+  pub read_fault : outcome.status ≡ number_of status.ReadFailed → Rose source.before source.now
+  pub told_read : outcome.status ≡ number_of status.ReadFailed → Tells errors read_line
+  -- 5: a write failed in this run, a front of the mode's output was written, and that is told
+  pub write_fault : outcome.status ≡ number_of status.WriteFailed → Rose sink.before sink.now
+  pub front : outcome.status ≡ number_of status.WriteFailed → WritesFront mode source sink
+  pub told_write : outcome.status ≡ number_of status.WriteFailed → Tells errors write_line
+  -- 6: want of memory is told
+  pub told_memory : outcome.status ≡ number_of status.NoMemory → Tells errors memory_line
+  -- but at 3 at most as many bytes as the limit are taken, and at 3 at most one more
+  pub within : outcome.status ≢ number_of status.InputRefused → TakesWithin (limit_of mode) source.old source.new
+  pub most : TakesWithin (limit_of mode + 1) source.old source.new
+  -- but at 0 and 5 nothing is written, save answers before a refusal
+  pub nothing : outcome.status ≢ number_of status.Done → outcome.status ≢ number_of status.WriteFailed
+      → WritesAnswers mode source sink
+  -- but at 0 nothing is kept
+  pub programs : outcome.status ≢ number_of status.Done → outcome.programs ≡ []
+  pub ran : outcome.status ≢ number_of status.Done → outcome.ran ≡ 0
+  -- there is no other status
+  pub statuses : outcome.status ≤ number_of status.NoMemory
+  pub no_1 : outcome.status ≢ 1
+  pub words : outcome.status ≢ number_of status.WordsRefused
 
--- the input is refused: it is too long, or its bytes have no output
-abbrev pub RefusesInput : Alone → ℕ → Known → Known → ℕ → ℕ → Known → Known → Type 0
-RefusesInput mode limit source source' before now old new =
-    RefusesLength limit source source' before now old new
-    ⊎ ReadsToEnd source source' (λ bytes. Refuses mode bytes before now old new)
-
--- this holds of the mode that words ask for
-abbrev pub InMode : Option Mode → (Alone → Type 0) → Type 0
-InMode (Some mode.Check) Holds = Holds Check
-InMode (Some mode.Fold) Holds = Holds Fold
-InMode None Holds = ⊥
+-- the words aren't accepted: nothing is read or written, and that is told, or want of memory
+pub record IsUnasked (source sink errors : Stream) (outcome : Outcome) : Type 0 where
+  pub untouched : source.new ≡ source.old
+  pub nothing : sink.new ≡ sink.old
+  pub told : outcome.status ≢ number_of status.NoMemory → Ends errors outcome status.WordsRefused words_line
+  pub told_memory : outcome.status ≡ number_of status.NoMemory → Ends errors outcome status.NoMemory memory_line

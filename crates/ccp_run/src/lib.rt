@@ -1,26 +1,22 @@
 //! The whole tool as one call: words and bytes in, text and a status out.
 #![tactic(auto)]
 
-mod ack_line;
-mod acks;
-mod answer;
-mod asked;
 pub mod calls;
 mod check;
-#[cfg(test)]
-mod checked_programs;
+mod ending;
 mod fold;
-mod mode;
+mod laws;
 mod outcome;
+mod program;
+mod reading;
 mod refusal;
-#[cfg(test)]
-mod refused_programs;
-mod separated;
-#[cfg(test)]
-mod tests;
-mod text;
-mod top;
+mod status;
+mod stop;
+mod tool;
 
-pub use mode::{Alone, Mode};
-pub use outcome::Outcome;
-pub use top::run;
+pub use ccp_words::{Alone, Mode};
+pub use laws::input_law;
+pub use outcome::{ModeOutput, Outcome};
+pub use refusal::{Limit, Refusal};
+pub use status::Status;
+pub use tool::run;

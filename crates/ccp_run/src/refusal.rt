@@ -1,18 +1,51 @@
-ghost use Rattle.std.specs.Prelude.{◌≡◌, ◌++◌, Some, IfOk, OnOk};
-ghost use Rattle.ccp_run.specs.ErrorLine.{parse_name, parse_place, too_many_name, scope_name, scope_place, place_part, compile_part, fault_part, program_part, line_part, refusal_line};
+ghost use Rattle.std.specs.Prelude.{◌≡◌, ◌++◌, IfOk, OnOk};
+ghost use Rattle.ccp_run.specs.ErrorLine.{most_bytes, refusal_line};
 
-use ccp_base::{Bytes, NoMemory, Place};
-use portus_build::BuildFault;
-use portus_parser::ParseFault;
-use reg_compiler::CompileFault;
-use scope_types::{ScopeFault, What};
+use ccp_base::{Bytes, NoMemory};
+use portus_build::{BuildFault, put_refusal};
 use std::alloc::Global;
+
+/// How long an input may be.
+#[derive(Clone, Copy, PartialEq, Eq, Debug)]
+pub enum Limit {
+    /// 1,048,576 bytes, in every mode but `audit`, and before the separator there.
+    Input,
+    /// 67,108,864 bytes, for the whole input of `audit`.
+    Audit,
+}
+
+/// The line that tells of an input past the limit of every mode but `audit`.
+const INPUT_LINE: &[u8] = b"ccp: input refused: more than 1048576 bytes\n";
+
+/// The line that tells of an input past the limit of `audit`.
+const AUDIT_LINE: &[u8] = b"ccp: input refused: more than 67108864 bytes\n";
+
+impl Limit {
+    pub fn bytes(self) -> usize
+        ensures { result ≡ most_bytes self }
+    {
+        match self {
+            Limit::Input => 1_048_576,
+            Limit::Audit => 67_108_864,
+        }
+    }
+
+    /// The line that tells of a longer input.
+    pub fn line(self) -> &'static [u8]
+        ensures { result.now ≡ refusal_line (Refusal.TooLong self) }
+    {
+        match self {
+            Limit::Input => INPUT_LINE,
+            Limit::Audit => AUDIT_LINE,
+        }
+    }
+}
 
 /// Why an input is refused.
 #[derive(Clone, Copy, PartialEq, Eq, Debug)]
 pub enum Refusal {
-    /// It has more than 1,048,576 bytes.
-    TooLong,
+    /// It has more bytes than this.
+    TooLong(Limit),
     /// No line is `---`.
     NoSeparator,
     /// The text of the program is built into no code.
@@ -28,160 +61,29 @@ pub fn refusal_line(alloc: Global, refusal: Refusal) -> Result<Bytes, NoMemory>
     ensures { IfOk result (λ line. line ≡ refusal_line refusal) }
 {
     let mut line = Bytes::new(alloc);
-    line.extend(b"ccp: input refused: ")?;
     match refusal {
-        Refusal::TooLong => line.extend(b"more than 1048576 bytes\n")?,
-        Refusal::NoSeparator => line.extend(b"no separator\n")?,
+        Refusal::TooLong(limit) => line.extend(limit.line())?,
+        Refusal::NoSeparator => line.extend(b"ccp: input refused: no separator\n")?,
         Refusal::Program(fault) => put_program_fault(alloc, &mut line, fault)?,
         Refusal::Line(number) => put_line_fault(alloc, &mut line, number)?,
-        Refusal::TooManyAcks => line.extend(b"too many acknowledgements\n")?,
+        Refusal::TooManyAcks => line.extend(b"ccp: input refused: too many acknowledgements\n")?,
     }
     Ok(line)
 }
 
 fn put_line_fault(alloc: Global, line: &mut Bytes, number: u64) -> Result<(), NoMemory>
-    ensures { OnOk result (line.new ≡ line.old ++ line_part number) }
+    ensures { OnOk result (line.new ≡ line.old ++ refusal_line (Refusal.Line number)) }
 {
-    let part = format!(in alloc; "acknowledgement line {number}\n")?;
+    let part = format!(in alloc; "ccp: input refused: acknowledgement line {number}\n")?;
     line.extend(part.as_bytes())?;
     Ok(())
 }
 
 fn put_program_fault(alloc: Global, line: &mut Bytes, fault: BuildFault) -> Result<(), NoMemory>
-    ensures { OnOk result (line.new ≡ line.old ++ program_part fault) }
+    ensures { OnOk result (line.new ≡ line.old ++ refusal_line (Refusal.Program fault)) }
 {
-    line.extend(b"program ")?;
-    put_fault(alloc, line, fault)?;
+    line.extend(b"ccp: input refused: program ")?;
+    put_refusal(alloc, line, fault)?;
     line.push(b'\n')?;
     Ok(())
-}
-
-fn put_fault(alloc: Global, line: &mut Bytes, fault: BuildFault) -> Result<(), NoMemory>
-    ensures { OnOk result (line.new ≡ line.old ++ fault_part fault) }
-{
-    match fault {
-        BuildFault::Parse(fault) => {
-            line.extend(parse_name(fault).as_bytes())?;
-            put_place(alloc, line, parse_place(fault))
-        }
-        BuildFault::Scope(fault) => {
-            line.extend(scope_name(fault).as_bytes())?;
-            put_place(alloc, line, scope_place(fault))
-        }
-        BuildFault::Compile(fault) => put_compile_fault(alloc, line, fault),
-        BuildFault::NoMemory => Ok(line.extend(b"NoMemory")?),
-    }
-}
-
-fn put_compile_fault(alloc: Global, line: &mut Bytes, fault: CompileFault) -> Result<(), NoMemory>
-    ensures { OnOk result (line.new ≡ line.old ++ compile_part fault) }
-{
-    match fault {
-        CompileFault::TooDeep(place) => put_too_deep(alloc, line, place),
-        CompileFault::CodeTooLong(count) => put_count(alloc, line, count),
-        CompileFault::NoMemory => Ok(line.extend(b"NoMemory")?),
-    }
-}
-
-fn put_too_deep(alloc: Global, line: &mut Bytes, place: Place) -> Result<(), NoMemory>
-    ensures { OnOk result (line.new ≡ line.old ++ compile_part (CompileFault.TooDeep place)) }
-{
-    let part = format!(in alloc; "TooDeep at {}:{}", place.line, place.column)?;
-    line.extend(part.as_bytes())?;
-    Ok(())
-}
-
-fn put_count(alloc: Global, line: &mut Bytes, count: u64) -> Result<(), NoMemory>
-    ensures { OnOk result (line.new ≡ line.old ++ compile_part (CompileFault.CodeTooLong count)) }
-{
-    let part = format!(in alloc; "CodeTooLong {count}")?;
-    line.extend(part.as_bytes())?;
-    Ok(())
-}
-
-fn put_place(alloc: Global, line: &mut Bytes, place: Option<Place>) -> Result<(), NoMemory>
-    ensures { OnOk result (line.new ≡ line.old ++ place_part place) }
-{
-    match place {
-        None => Ok(()),
-        Some(place) => put_some_place(alloc, line, place),
-    }
-}
-
-fn put_some_place(alloc: Global, line: &mut Bytes, place: Place) -> Result<(), NoMemory>
-    ensures { OnOk result (line.new ≡ line.old ++ place_part (Some place)) }
-{
-    let part = format!(in alloc; " at {}:{}", place.line, place.column)?;
-    line.extend(part.as_bytes())?;
-    Ok(())
-}
-
-fn parse_name(fault: ParseFault) -> &'static str
-    ensures { result.now ≡ parse_name fault }
-{
-    match fault {
-        ParseFault::SourceTooLong => "SourceTooLong",
-        ParseFault::NotText(_) => "NotText",
-        ParseFault::Unexpected(_) => "Unexpected",
-        ParseFault::BadNumeral(_) => "BadNumeral",
-        ParseFault::BadName(_) => "BadName",
-        ParseFault::Nesting(_) => "Nesting",
-        ParseFault::Unclosed(_) => "Unclosed",
-        ParseFault::NoMemory => "NoMemory",
-    }
-}
-
-fn parse_place(fault: ParseFault) -> Option<Place>
-    ensures { result ≡ parse_place fault }
-{
-    match fault {
-        ParseFault::SourceTooLong | ParseFault::NoMemory => None,
-        ParseFault::NotText(place) => Some(place),
-        ParseFault::Unexpected(place) => Some(place),
-        ParseFault::BadNumeral(place) => Some(place),
-        ParseFault::BadName(place) => Some(place),
-        ParseFault::Nesting(place) => Some(place),
-        ParseFault::Unclosed(place) => Some(place),
-    }
-}
-
-fn scope_name(fault: ScopeFault) -> &'static str
-    ensures { result.now ≡ scope_name fault }
-{
-    match fault {
-        ScopeFault::Unknown(_) => "Unknown",
-        ScopeFault::Twice(_) => "Twice",
-        ScopeFault::NotWritable(_) => "NotWritable",
-        ScopeFault::Kind(_) => "Kind",
-        ScopeFault::Misplaced(_) => "Misplaced",
-        ScopeFault::Micros(_) => "Micros",
-        ScopeFault::TooMany(_, what) => too_many_name(what),
-        ScopeFault::NoMemory => "NoMemory",
-    }
-}
-
-fn too_many_name(what: What) -> &'static str
-    ensures { result.now ≡ too_many_name what }
-{
-    match what {
-        What::Fields => "TooMany fields",
-        What::Controls => "TooMany controls",
-        What::Locals => "TooMany locals",
-        What::Blocks => "TooMany blocks",
-    }
-}
-
-fn scope_place(fault: ScopeFault) -> Option<Place>
-    ensures { result ≡ scope_place fault }
-{
-    match fault {
-        ScopeFault::Unknown(place) => Some(place),
-        ScopeFault::Twice(place) => Some(place),
-        ScopeFault::NotWritable(place) => Some(place),
-        ScopeFault::Kind(place) => Some(place),
-        ScopeFault::Misplaced(place) => Some(place),
-        ScopeFault::Micros(place) => Some(place),
-        ScopeFault::TooMany(place, _) => Some(place),
-        ScopeFault::NoMemory => None,
-    }
 }

@@ -1,0 +1,34 @@
+-- The text of a fold: its reports, its fault and its end, and when a program can have made them.
+use Rattle.std.specs.Prelude.{◌≡◌, ℕ, ◌<◌, Option, Some, None, List, [], length, slice_get}
+use Rattle.ccp_base.specs.declared.exchange.Notice.{Notice}
+use Rattle.ccp_base.specs.declared.exchange.Report.{Report}
+use Rattle.ccp_base.specs.declared.place.Place.{Place}
+use Rattle.portus_core.specs.declared.program.Decl.{Decl}
+use Rattle.report_lines.specs.declared.end_line.End.{End}
+use Rattle.report_lines.specs.Text.{◌⧺◌}
+use Rattle.report_lines.specs.EndLine.{end_line}
+use Rattle.report_lines.specs.FaultLine.{fault_line}
+use Rattle.report_lines.specs.ReportLine.{report_lines}
+
+-- the line of a fault, where its instruction has a place
+abbrev pub placed_line : Notice → Option Place → List ℕ
+placed_line notice None = []
+placed_line notice (Some place) = fault_line notice.epoch notice.at notice.kind place
+
+-- the line of a fault or none, each instruction having one of these places
+abbrev pub notice_line : List Place → Option Notice → List ℕ
+notice_line places None = []
+notice_line places (Some notice) = placed_line notice (slice_get places notice.index)
+
+-- reports and the fault in order of acknowledgements, which is that order since a fault stops the program, and the end
+abbrev pub fold_text : List Decl → List Place → List Report → Option Notice → End → List ℕ
+fold_text fields places reports fault end =
+    report_lines fields reports ⧺ notice_line places fault ⧺ end_line fields (length reports) end
+
+-- a report shows as many fields as are declared
+abbrev pub ShowsAll : List Decl → Report → Type 0
+ShowsAll fields report = length report.fields ≡ length fields
+
+-- a fault's instruction has a place
+abbrev pub IsPlaced : List Place → Notice → Type 0
+IsPlaced places notice = notice.index < length places

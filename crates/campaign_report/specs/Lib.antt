@@ -1,0 +1,2 @@
+pub mod FoldText
+pub mod CheckText

@@ -1,0 +1,11 @@
+//! Rows of the whole tool: inputs, and what `run` and `alone` make of them.
+#![tactic(auto)]
+
+#[cfg(test)]
+mod checked_programs;
+#[cfg(test)]
+mod limits;
+#[cfg(test)]
+mod refused_programs;
+#[cfg(test)]
+mod runs;

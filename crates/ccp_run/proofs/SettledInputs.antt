@@ -1,0 +1,167 @@
+-- Each input is settled, since each text of a program is.
+use Rattle.std.proofs.Common.{◌≡◌, ◌≢◌, ◌∙◌, ◌⊎◌, inl, inr, ℕ, ◌+◌, Bool, true, false, nat_lt, cond, refl, List, [], ◌∷◌, ◌++◌, length, Option, Some, None, Result, Ok, Err, ap, sym, subst}
+use Rattle.ccp_base.specs.declared.ack.Ack.{Ack}
+use Rattle.ccp_base.specs.declared.parts.Separator.TheVariants.{LineFeed}
+use Rattle.ccp_base.specs.Limits.{most_acks}
+use Rattle.ccp_base.specs.Parts.{parts_of, without_last}
+use Rattle.portus_core.specs.Programs.{Form}
+use Rattle.portus_core.specs.ProgramForm.{form_of}
+use Rattle.portus_build.specs.declared.fault.BuildFault.{BuildFault}
+use Rattle.portus_build.specs.Settled as text
+use Rattle.portus_build.specs.Texts.{IsBuiltFrom, IsNoProgram}
+use Rattle.portus_build.proofs.SettledTexts.{settled_text}
+use Rattle.ccp_words.specs.declared.mode.Alone.TheVariants.{Check, Fold, Feed, Audit}
+use Rattle.ccp_words.specs.declared.mode.Mode.{Mode}
+use Rattle.ccp_words.specs.declared.mode.Mode.TheVariants.{Alone, Live, Campaign, Soak, Rollout, Shared}
+use Rattle.fold_run.specs.declared.ack_line.AckLine.{AckLine}
+use Rattle.fold_run.specs.declared.ack_line.AckLine.TheVariants as said
+use Rattle.fold_run.specs.declared.acks.LineFault.{LineFault}
+use Rattle.fold_run.specs.declared.acks.LineFault.TheVariants as lines
+use Rattle.fold_run.specs.AckLine.{line_of}
+use Rattle.fold_run.specs.Acknowledgements.{with_line, with_lines, acks_of}
+use Rattle.fold_run.specs.Separated.{Cut, cut_of}
+use Rattle.ccp_run.specs.declared.outcome.ModeOutput.{ModeOutput}
+use Rattle.ccp_run.specs.declared.refusal.Refusal.{Refusal}
+use Rattle.ccp_run.specs.declared.refusal.Refusal.TheVariants.{TooLong, NoSeparator, Program, Line, TooManyAcks}
+use Rattle.ccp_run.specs.Check.{IsCheckOutput, IsNoCheck}
+use Rattle.ccp_run.specs.Fold.{acks_below, IsFold, IsFoldOutput, HasNoProgram, HasBadLines, IsNoFold}
+use Rattle.ccp_run.specs.Settled.{is_there, IsInput, IsSettled}
+
+-- ---- check
+
+only_program : (bytes : List ℕ) (refusal : Refusal) → IsNoCheck bytes refusal → (fault : BuildFault) × IsNoProgram bytes fault × (refusal ≡ Program fault)
+only_program bytes (TooLong limit) bad = absurd bad
+only_program bytes NoSeparator bad = absurd bad
+only_program bytes (Program fault) bad = (fault, bad, refl)
+only_program bytes (Line n) bad = absurd bad
+only_program bytes TooManyAcks bad = absurd bad
+
+check_some : (bytes : List ℕ) → ((form : Form) × IsBuiltFrom bytes form) ⊎ ((fault : BuildFault) × IsNoProgram bytes fault) → IsInput (Alone Check) bytes ⊎ ((refusal : Refusal) × IsNoCheck bytes refusal)
+check_some bytes (inl built) = inl built
+check_some bytes (inr bad) = inr (Program bad.0, bad.1)
+
+settled_check : (bytes : List ℕ) → IsSettled (Alone Check) bytes
+settled_check bytes = record {
+  some = check_some bytes (settled_text bytes).some;
+  apart = λ refusal input bad. let p = only_program bytes refusal bad in (settled_text bytes).apart input.0 p.0 input.1 p.1;
+  one_refusal = λ left right bad bad'.
+      let p = only_program bytes left bad in
+      let q = only_program bytes right bad' in
+      p.2 ∙ ap Program ((settled_text bytes).one_refusal p.0 q.0 p.1 q.1) ∙ sym q.2;
+  made = λ output made. (form_of made.built.program, made.program);
+}
+
+-- ---- the lines of a fold are refused for what they say alone
+
+abbrev IsOfLines : Result (List Ack) LineFault → Type 0
+IsOfLines result = result ≢ Err lines.NoMemory
+
+of_line : (number : ℕ) (acks : List Ack) (line : AckLine) → IsOfLines (with_line number acks line)
+of_line number acks said.Nothing = λ e. cc
+of_line number acks said.Refused = λ e. cc
+of_line number acks (said.Given ack) = go (nat_lt (length acks) most_acks)
+  where
+    go : (few : Bool) → IsOfLines (cond few (Ok (acks ++ ack ∷ [])) (Err lines.TooMany))
+    go true = λ e. cc
+    go false = λ e. cc
+
+of_lines : (number : ℕ) (so_far : Result (List Ack) LineFault) (texts : List (List ℕ)) → IsOfLines so_far → IsOfLines (with_lines number so_far texts)
+of_lines number (Err fault) texts not = not
+of_lines number (Ok acks) [] not = not
+of_lines number (Ok acks) (text ∷ rest) not =
+    of_lines (number + 1) (with_line number acks (line_of (without_last 13 text))) rest (of_line number acks (line_of (without_last 13 text)))
+
+-- ---- fold
+
+-- what an input of `fold` with this cut comes to: lines below a program, or why there is bad program
+module _ (bytes : List ℕ) where
+  same_cut : (left right : Cut) → cut_of bytes ≡ Some left → cut_of bytes ≡ Some right → left ≡ right
+  same_cut left right e e' = let same : Some left ≡ Some right = sym e ∙ e' in cc
+
+  no_cut : (cut : Cut) → cut_of bytes ≡ None → cut_of bytes ≡ Some cut → ⊥
+  no_cut cut e e' = let same : None ≡ Some cut = sym e ∙ e' in cc
+
+  -- a program and its refusal aren't both there
+  one_program : (cut cut' : Cut) (form : Form) (fault : BuildFault) → cut_of bytes ≡ Some cut → cut_of bytes ≡ Some cut' → IsBuiltFrom cut.program form → IsNoProgram cut'.program fault → ⊥
+  one_program cut cut' form fault e e' built bad =
+      (settled_text cut'.program).apart form fault (subst (λ (c : Cut). IsBuiltFrom c.program form) (same_cut cut cut' e e') built) bad
+
+  one_lines : (cut cut' : Cut) (left right : Result (List Ack) LineFault) → cut_of bytes ≡ Some cut → cut_of bytes ≡ Some cut' → acks_below cut ≡ left → acks_below cut' ≡ right → left ≡ right
+  one_lines cut cut' left right e e' is is' = sym is ∙ ap acks_below (same_cut cut cut' e e') ∙ is'
+
+  bad_program : (fault : BuildFault) (lines_fault : LineFault) → HasNoProgram bytes fault → HasBadLines bytes lines_fault → ⊥
+  bad_program fault lines_fault none bad = one_program bad.cut none.cut bad.form fault bad.at_separator none.at_separator bad.program none.refused
+
+  bad_lines : (left right : LineFault) → HasBadLines bytes left → HasBadLines bytes right → left ≡ right
+  bad_lines left right bad bad' =
+      let same : Err left ≡ Err right = one_lines bad.cut bad'.cut (Err left) (Err right) bad.at_separator bad'.at_separator bad.refused bad'.refused in
+      cc
+
+  one_fault : (left right : BuildFault) → HasNoProgram bytes left → HasNoProgram bytes right → left ≡ right
+  one_fault left right bad bad' =
+      (settled_text bad'.cut.program).one_refusal left right
+      (subst (λ (c : Cut). IsNoProgram c.program left) (same_cut bad.cut bad'.cut bad.at_separator bad'.at_separator) bad.refused) bad'.refused
+
+  fold_apart : (form : Form) (acks : List Ack) (refusal : Refusal) → IsFold bytes form acks → IsNoFold bytes refusal → ⊥
+  fold_apart form acks (TooLong limit) input bad = bad
+  fold_apart form acks NoSeparator input bad = no_cut input.cut bad input.at_separator
+  fold_apart form acks (Program fault) input bad = one_program input.cut bad.cut form fault input.at_separator bad.at_separator input.program bad.refused
+  fold_apart form acks (Line n) input bad =
+      let same : Ok acks ≡ Err (lines.Line n) = one_lines input.cut bad.cut (Ok acks) (Err (lines.Line n)) input.at_separator bad.at_separator input.lines bad.refused in cc
+  fold_apart form acks TooManyAcks input bad =
+      let same : Ok acks ≡ Err lines.TooMany = one_lines input.cut bad.cut (Ok acks) (Err lines.TooMany) input.at_separator bad.at_separator input.lines bad.refused in cc
+
+  fold_one : (left right : Refusal) → IsNoFold bytes left → IsNoFold bytes right → left ≡ right
+  fold_one (TooLong limit) right bad bad' = absurd bad
+  fold_one left (TooLong limit) bad bad' = absurd bad'
+  fold_one NoSeparator NoSeparator bad bad' = refl
+  fold_one NoSeparator (Program fault) bad bad' = absurd (no_cut bad'.cut bad bad'.at_separator)
+  fold_one NoSeparator (Line n) bad bad' = absurd (no_cut bad'.cut bad bad'.at_separator)
+  fold_one NoSeparator TooManyAcks bad bad' = absurd (no_cut bad'.cut bad bad'.at_separator)
+  fold_one (Program fault) NoSeparator bad bad' = absurd (no_cut bad.cut bad' bad.at_separator)
+  fold_one (Program fault) (Program fault') bad bad' = ap Program (one_fault fault fault' bad bad')
+  fold_one (Program fault) (Line n) bad bad' = absurd (bad_program fault (lines.Line n) bad bad')
+  fold_one (Program fault) TooManyAcks bad bad' = absurd (bad_program fault lines.TooMany bad bad')
+  fold_one (Line n) NoSeparator bad bad' = absurd (no_cut bad.cut bad' bad.at_separator)
+  fold_one (Line n) (Program fault) bad bad' = absurd (bad_program fault (lines.Line n) bad' bad)
+  fold_one (Line n) (Line m) bad bad' = let same : lines.Line n ≡ lines.Line m = bad_lines (lines.Line n) (lines.Line m) bad bad' in cc
+  fold_one (Line n) TooManyAcks bad bad' = let same : lines.Line n ≡ lines.TooMany = bad_lines (lines.Line n) lines.TooMany bad bad' in cc
+  fold_one TooManyAcks NoSeparator bad bad' = absurd (no_cut bad.cut bad' bad.at_separator)
+  fold_one TooManyAcks (Program fault) bad bad' = absurd (bad_program fault lines.TooMany bad' bad)
+  fold_one TooManyAcks (Line n) bad bad' = let same : lines.TooMany ≡ lines.Line n = bad_lines lines.TooMany (lines.Line n) bad bad' in cc
+  fold_one TooManyAcks TooManyAcks bad bad' = refl
+
+  some_lines : (cut : Cut) (form : Form) → cut_of bytes ≡ Some cut → IsBuiltFrom cut.program form → (below : Result (List Ack) LineFault) → acks_below cut ≡ below → IsOfLines below → IsInput (Alone Fold) bytes ⊎ ((refusal : Refusal) × IsNoFold bytes refusal)
+  some_lines cut form e built (Ok acks) is not = inl (form, acks, record { cut = cut; at_separator = e; program = built; lines = is })
+  some_lines cut form e built (Err (lines.Line n)) is not = inr (Line n, record { cut = cut; at_separator = e; form = form; program = built; refused = is })
+  some_lines cut form e built (Err lines.TooMany) is not = inr (TooManyAcks, record { cut = cut; at_separator = e; form = form; program = built; refused = is })
+  some_lines cut form e built (Err lines.NoMemory) is not = absurd (not refl)
+
+  some_program : (cut : Cut) → cut_of bytes ≡ Some cut → ((form : Form) × IsBuiltFrom cut.program form) ⊎ ((fault : BuildFault) × IsNoProgram cut.program fault) → IsInput (Alone Fold) bytes ⊎ ((refusal : Refusal) × IsNoFold bytes refusal)
+  some_program cut e (inl built) =
+      some_lines cut built.0 e built.1 (acks_below cut) refl (of_lines cut.next (Ok []) (parts_of LineFeed cut.rest) (λ a. cc))
+  some_program cut e (inr bad) = inr (Program bad.0, record { cut = cut; at_separator = e; refused = bad.1 })
+
+  some_cut : (cut : Option Cut) → cut_of bytes ≡ cut → IsInput (Alone Fold) bytes ⊎ ((refusal : Refusal) × IsNoFold bytes refusal)
+  some_cut None e = inr (NoSeparator, e)
+  some_cut (Some cut) e = some_program cut e (settled_text cut.program).some
+
+  settled_fold : IsSettled (Alone Fold) bytes
+  settled_fold = record {
+    some = some_cut (cut_of bytes) refl;
+    apart = λ refusal input bad. fold_apart input.0 input.1 refusal input.2 bad;
+    one_refusal = fold_one;
+    made = λ output made. (made.form, made.acks, made.input);
+  }
+
+-- every input is settled
+pub settled_input : (mode : Mode) (bytes : List ℕ) → is_there mode ≡ true → IsSettled mode bytes
+settled_input (Alone Check) bytes there = settled_check bytes
+settled_input (Alone Fold) bytes there = settled_fold bytes
+settled_input (Alone Feed) bytes there = let bad : ⊥ = cc in absurd bad
+settled_input (Alone Audit) bytes there = let bad : ⊥ = cc in absurd bad
+settled_input Live bytes there = let bad : ⊥ = cc in absurd bad
+settled_input Campaign bytes there = let bad : ⊥ = cc in absurd bad
+settled_input Soak bytes there = let bad : ⊥ = cc in absurd bad
+settled_input Rollout bytes there = let bad : ⊥ = cc in absurd bad
+settled_input Shared bytes there = let bad : ⊥ = cc in absurd bad

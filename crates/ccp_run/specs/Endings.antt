@@ -1,0 +1,54 @@
+-- How a run ends once its output is made, or once it is known that there is none.
+use Rattle.std.specs.Prelude.{◌≡◌, ◌≢◌, ℕ, Result, Ok, Err, List, []}
+use Rattle.ccp_base.specs.Outside.{Rose, Appends, AppendsPrefix}
+use Rattle.ccp_run.specs.declared.outcome.ModeOutput.{ModeOutput}
+use Rattle.ccp_run.specs.declared.outcome.Outcome.{Outcome}
+use Rattle.ccp_run.specs.declared.refusal.Limit.{Limit}
+use Rattle.ccp_run.specs.declared.refusal.Refusal.{Refusal}
+use Rattle.ccp_run.specs.declared.refusal.Refusal.TheVariants.{TooLong}
+use Rattle.ccp_run.specs.declared.status.Status.{Status}
+use Rattle.ccp_run.specs.declared.status.Status.TheVariants as status
+use Rattle.ccp_run.specs.declared.stop.Stop.{Stop}
+use Rattle.ccp_run.specs.declared.stop.Stop.TheVariants as stop
+use Rattle.ccp_run.specs.ErrorLine.{refusal_line}
+use Rattle.ccp_run.specs.Statuses.{number_of, read_line, write_line, memory_line}
+use Rattle.ccp_run.specs.Streams.{Stream, Tells}
+
+-- the run ends with this status, tells this line, and keeps nothing
+pub record Ends (errors : Stream) (outcome : Outcome) (end : Status) (line : List ℕ) : Type 0 where
+  pub status : outcome.status ≡ number_of end
+  pub programs : outcome.programs ≡ []
+  pub ran : outcome.ran ≡ 0
+  pub told : Tells errors line
+
+-- the whole output was written and the sink finished, nothing was told, and the rest of the output is kept
+pub record WritesAll (sink errors : Stream) (is_finished : Type 0) (outcome : Outcome) (output : ModeOutput) : Type 0 where
+  pub written : Appends sink.old sink.new output.text
+  pub finished : is_finished
+  pub programs : outcome.programs ≡ output.programs
+  pub ran : outcome.ran ≡ output.ran
+  pub quiet : errors.new ≡ errors.old
+
+-- a write failed, and a front of the output was written
+pub record FailsToWrite (sink errors : Stream) (outcome : Outcome) (output : ModeOutput) : Type 0 where
+  pub ends : Ends errors outcome status.WriteFailed write_line
+  pub rose : Rose sink.before sink.now
+  pub front : AppendsPrefix sink.old sink.new output.text
+
+-- the output is written, or a write fails
+pub record Writes (sink errors : Stream) (is_finished : Type 0) (outcome : Outcome) (output : ModeOutput) : Type 0 where
+  pub whole : outcome.status ≡ number_of status.Done → WritesAll sink errors is_finished outcome output
+  pub failed : outcome.status ≢ number_of status.Done → FailsToWrite sink errors outcome output
+
+-- the refusal is told, or memory is wanted for its line; that the input is too long is always told
+pub record Refuses (errors : Stream) (outcome : Outcome) (refusal : Refusal) : Type 0 where
+  pub told : outcome.status ≡ number_of status.InputRefused → Ends errors outcome status.InputRefused (refusal_line refusal)
+  pub failed : outcome.status ≢ number_of status.InputRefused → Ends errors outcome status.NoMemory memory_line
+  pub too_long : (limit : Limit) → refusal ≡ TooLong limit → outcome.status ≡ number_of status.InputRefused
+
+-- how a run ends that came to this; where there is no output the sink is as it was
+abbrev pub IsEnding : Stream → Stream → Type 0 → Outcome → Result ModeOutput Stop → Type 0
+IsEnding sink errors is_finished outcome (Ok output) = Writes sink errors is_finished outcome output
+IsEnding sink errors is_finished outcome (Err (stop.Refused refusal)) = (sink.new ≡ sink.old) × Refuses errors outcome refusal
+IsEnding sink errors is_finished outcome (Err stop.ReadFailed) = (sink.new ≡ sink.old) × Ends errors outcome status.ReadFailed read_line
+IsEnding sink errors is_finished outcome (Err stop.NoMemory) = (sink.new ≡ sink.old) × Ends errors outcome status.NoMemory memory_line

@@ -1,0 +1,34 @@
+-- What was read from a source, and what was written to a sink.
+use Rattle.std.specs.Prelude.{◌≡◌, ℕ, Bool, true, false, List, []}
+use Rattle.ccp_base.specs.Outside.{Known, Rose, Takes, IsAtEnd, Appends, AppendsPrefix}
+
+-- a source or a sink over a run: the bytes that it has left, or was given, before and after, and how many of its calls
+-- had failed before and after
+pub record Stream : Type 0 where
+  pub old : Known
+  pub new : Known
+  pub before : ℕ
+  pub now : ℕ
+
+abbrev pub stream : Known → Known → ℕ → ℕ → Stream
+stream old new before now = record { old = old; new = new; before = before; now = now }
+
+-- the source was read to its end, and had these bytes
+pub record ReadsToEnd (source : Stream) (bytes : List ℕ) : Type 0 where
+  pub taken : Takes source.old source.new bytes
+  pub end : IsAtEnd source.new
+
+-- nothing is read of a source that isn't used
+pub record IsUnused (source : Stream) (bytes : List ℕ) : Type 0 where
+  pub none : bytes ≡ []
+  pub same : source.new ≡ source.old
+
+-- these are the bytes of the input, where it says whether there is one
+abbrev pub HasInput : Bool → Stream → List ℕ → Type 0
+HasInput true source bytes = ReadsToEnd source bytes
+HasInput false source bytes = IsUnused source bytes
+
+-- the line was put at the end of what was written, or a front of it where the count of faults rose
+pub record Tells (errors : Stream) (line : List ℕ) : Type 0 where
+  pub front : AppendsPrefix errors.old errors.new line
+  pub whole : (Rose errors.before errors.now → ⊥) → Appends errors.old errors.new line

@@ -1,0 +1,72 @@
+ghost use Rattle.std.specs.Prelude.{◌≡◌, ◌≤◌};
+ghost use Rattle.ccp_run.specs.Endings.{Ends, IsEnding, Refuses, Writes};
+ghost use Rattle.ccp_run.specs.Streams.{stream};
+
+use crate::outcome::{ModeOutput, Outcome};
+use crate::refusal::{Refusal, refusal_line};
+use crate::status::{MEMORY_LINE, READ_LINE, Status, WRITE_LINE};
+use crate::stop::Stop;
+use ccp_base::{NoMemory, Sink, write_all};
+use reg_compiler::Builts;
+use std::alloc::Global;
+
+/// Writes the output, or tells why there is none.
+pub fn end<K: Sink, E: Sink>(
+    alloc: Global,
+    made: Result<ModeOutput, Stop>,
+    sink: &mut K,
+    errors: &mut E,
+) -> Outcome
+    ensures { IsEnding (stream (K.written sink.old) (K.written sink.new) (K.faults sink.old) (K.faults sink.new)) (stream (E.written errors.old) (E.written errors.new) (E.faults errors.old) (E.faults errors.new)) (K.is_finished sink.new) result made }
+{
+    match made {
+        Ok(output) => write_output(alloc, output, sink, errors),
+        Err(Stop::Refused(refusal)) => refuse(alloc, refusal, errors),
+        Err(Stop::ReadFailed) => end_without(alloc, errors, Status::ReadFailed, READ_LINE),
+        Err(Stop::NoMemory) => end_without(alloc, errors, Status::NoMemory, MEMORY_LINE),
+    }
+}
+
+/// Writes the output.
+fn write_output<K: Sink, E: Sink>(
+    alloc: Global,
+    output: ModeOutput,
+    sink: &mut K,
+    errors: &mut E,
+) -> Outcome
+    ensures { Writes (stream (K.written sink.old) (K.written sink.new) (K.faults sink.old) (K.faults sink.new)) (stream (E.written errors.old) (E.written errors.new) (E.faults errors.old) (E.faults errors.new)) (K.is_finished sink.new) result output }
+{
+    match write_all(sink, output.text.as_slice()) {
+        Ok(()) => Outcome {
+            status: Status::Done.number(),
+            programs: output.programs,
+            ran: output.ran,
+        },
+        Err(_) => end_without(alloc, errors, Status::WriteFailed, WRITE_LINE),
+    }
+}
+
+/// Tells why the input is refused.
+fn refuse<E: Sink>(alloc: Global, refusal: Refusal, errors: &mut E) -> Outcome
+    ensures { Refuses (stream (E.written errors.old) (E.written errors.new) (E.faults errors.old) (E.faults errors.new)) result refusal }
+{
+    if let Refusal::TooLong(limit) = refusal {
+        return end_without(alloc, errors, Status::InputRefused, limit.line());
+    }
+    match refusal_line(alloc, refusal) {
+        Ok(line) => end_without(alloc, errors, Status::InputRefused, line.as_slice()),
+        Err(NoMemory) => end_without(alloc, errors, Status::NoMemory, MEMORY_LINE),
+    }
+}
+
+/// Ends without an output: tells the line.
+pub fn end_without<E: Sink>(alloc: Global, errors: &mut E, status: Status, line: &[u8]) -> Outcome
+    ensures { Ends (stream (E.written errors.old) (E.written errors.new) (E.faults errors.old) (E.faults errors.new)) result status line.now }
+{
+    let _ = write_all(errors, line);
+    Outcome {
+        status: status.number(),
+        programs: Builts::new(alloc),
+        ran: 0,
+    }
+}

