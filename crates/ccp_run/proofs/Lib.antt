@@ -1,3 +1,4 @@
 mod FoldLemmas
 mod RunLemmas
 pub mod SettledInputs
+mod CompleteRuns

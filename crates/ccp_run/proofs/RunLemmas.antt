@@ -1,20 +1,19 @@
 -- A run's promises, from what its mode came to and how it then ended.
-use Rattle.std.proofs.Common.{◌≡◌, ◌≢◌, ◌≤◌, ◌⊎◌, inl, inr, ◌∙◌, ℕ, zero, suc, ◌+◌, Bool, true, false, subst, Option, Some, None, Result, Ok, Err, List, [], ◌++◌, length, arith, ap, sym, refl, append-nil}
-use Rattle.ccp_base.specs.Outside.{Known, Rose, Takes, TakesOver, TakesWithin, Appends, AppendsPrefix}
+use Rattle.std.proofs.Common.{◌≡◌, ◌≢◌, ◌≤◌, ◌⊎◌, inl, inr, ◌∙◌, ℕ, zero, suc, ◌+◌, Bool, true, false, subst, Some, None, Result, Ok, Err, List, [], length, arith, ap, sym, refl, append-nil}
+use Rattle.ccp_base.specs.Outside.{Known, Rose, Takes, TakesOver, TakesWithin, Appends}
 use Rattle.ccp_words.specs.declared.mode.Mode.{Mode}
 use Rattle.ccp_run.specs.declared.outcome.ModeOutput.{ModeOutput}
 use Rattle.ccp_run.specs.declared.outcome.Outcome.{Outcome}
 use Rattle.ccp_run.specs.declared.refusal.Refusal.{Refusal}
-use Rattle.ccp_run.specs.declared.status.Status.{Status}
 use Rattle.ccp_run.specs.declared.status.Status.TheVariants as status
 use Rattle.ccp_run.specs.declared.stop.Stop.{Stop}
 use Rattle.ccp_run.specs.declared.stop.Stop.TheVariants as stop
-use Rattle.ccp_run.specs.Attempts.{IsAttempt, MakesOutput, RefusesBytes, RefusesLength, RefusesInput, FailsToRead}
-use Rattle.ccp_run.specs.Endings.{Ends, IsEnding, Writes, WritesAll, FailsToWrite, Refuses}
+use Rattle.ccp_run.specs.Attempts.{IsAttempt, MakesOutput, RefusesInput, FailsToRead}
+use Rattle.ccp_run.specs.Endings.{Ends, IsEnding, Writes, Refuses}
 use Rattle.ccp_run.specs.ErrorLine.{refusal_line}
-use Rattle.ccp_run.specs.Modes.{limit_in, limit_of, is_read, answers_before}
-use Rattle.ccp_run.specs.Run.{IsRun, IsDone, WritesFront, TellsRefusal, WritesAnswers}
-use Rattle.ccp_run.specs.Statuses.{number_of, read_line, write_line, memory_line}
+use Rattle.ccp_run.specs.Modes.{limit_in, limit_of, is_read}
+use Rattle.ccp_run.specs.Run.{IsRun, TellsRefusal, WritesAnswers}
+use Rattle.ccp_run.specs.Statuses.{read_line, memory_line}
 use Rattle.ccp_run.specs.Streams.{Stream, HasInput, Tells}
 
 appends_nothing : (old new : Known) → new ≡ old → Appends old new []

@@ -7,7 +7,6 @@ use Rattle.ccp_base.specs.Parts.{parts_of, without_last}
 use Rattle.portus_core.specs.Programs.{Form}
 use Rattle.portus_core.specs.ProgramForm.{form_of}
 use Rattle.portus_build.specs.declared.fault.BuildFault.{BuildFault}
-use Rattle.portus_build.specs.Settled as text
 use Rattle.portus_build.specs.Texts.{IsBuiltFrom, IsNoProgram}
 use Rattle.portus_build.proofs.SettledTexts.{settled_text}
 use Rattle.ccp_words.specs.declared.mode.Alone.TheVariants.{Check, Fold, Feed, Audit}
@@ -18,13 +17,12 @@ use Rattle.fold_run.specs.declared.ack_line.AckLine.TheVariants as said
 use Rattle.fold_run.specs.declared.acks.LineFault.{LineFault}
 use Rattle.fold_run.specs.declared.acks.LineFault.TheVariants as lines
 use Rattle.fold_run.specs.AckLine.{line_of}
-use Rattle.fold_run.specs.Acknowledgements.{with_line, with_lines, acks_of}
+use Rattle.fold_run.specs.Acknowledgements.{with_line, with_lines}
 use Rattle.fold_run.specs.Separated.{Cut, cut_of}
-use Rattle.ccp_run.specs.declared.outcome.ModeOutput.{ModeOutput}
 use Rattle.ccp_run.specs.declared.refusal.Refusal.{Refusal}
 use Rattle.ccp_run.specs.declared.refusal.Refusal.TheVariants.{TooLong, NoSeparator, Program, Line, TooManyAcks}
-use Rattle.ccp_run.specs.Check.{IsCheckOutput, IsNoCheck}
-use Rattle.ccp_run.specs.Fold.{acks_below, IsFold, IsFoldOutput, HasNoProgram, HasBadLines, IsNoFold}
+use Rattle.ccp_run.specs.Check.{IsNoCheck}
+use Rattle.ccp_run.specs.Fold.{acks_below, IsFold, HasNoProgram, HasBadLines, IsNoFold}
 use Rattle.ccp_run.specs.Settled.{is_there, IsInput, IsSettled}
 
 -- ---- check

@@ -7,4 +7,5 @@ pub mod Modes
 pub mod Attempts
 pub mod Endings
 pub mod Run
+pub mod Complete
 pub mod Settled

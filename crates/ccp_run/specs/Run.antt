@@ -1,5 +1,5 @@
 -- What a run promises: the theorem of every mode.
-use Rattle.std.specs.Prelude.{◌≡◌, ◌≢◌, ◌≤◌, ◌⊎◌, ℕ, ◌+◌, Bool, false, Option, Some, None, List, []}
+use Rattle.std.specs.Prelude.{◌≡◌, ◌≢◌, ◌≤◌, ℕ, ◌+◌, List, []}
 use Rattle.ccp_base.specs.Outside.{Rose, Takes, TakesWithin, Appends, AppendsPrefix}
 use Rattle.ccp_words.specs.declared.mode.Mode.{Mode}
 use Rattle.ccp_run.specs.declared.outcome.ModeOutput.{ModeOutput}

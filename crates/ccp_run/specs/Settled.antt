@@ -3,9 +3,9 @@ use Rattle.std.specs.Prelude.{◌≡◌, ◌⊎◌, List, ℕ, Bool, true, false
 use Rattle.ccp_base.specs.declared.ack.Ack.{Ack}
 use Rattle.portus_core.specs.Programs.{Form}
 use Rattle.portus_build.specs.Texts.{IsBuiltFrom}
-use Rattle.ccp_words.specs.declared.mode.Alone.TheVariants.{Check, Fold, Feed, Audit}
+use Rattle.ccp_words.specs.declared.mode.Alone.TheVariants.{Check, Fold}
 use Rattle.ccp_words.specs.declared.mode.Mode.{Mode}
-use Rattle.ccp_words.specs.declared.mode.Mode.TheVariants.{Alone, Live, Campaign, Soak, Rollout, Shared}
+use Rattle.ccp_words.specs.declared.mode.Mode.TheVariants.{Alone}
 use Rattle.ccp_run.specs.declared.outcome.ModeOutput.{ModeOutput}
 use Rattle.ccp_run.specs.declared.refusal.Refusal.{Refusal}
 use Rattle.ccp_run.specs.Fold.{IsFold}

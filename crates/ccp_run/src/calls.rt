@@ -1,6 +1,7 @@
 //! The modes whose work is done by their caller alone, and the end without words.
 
 ghost use Rattle.std.specs.Prelude.{◌≡◌};
+ghost use Rattle.ccp_run.specs.Complete.{IsComplete};
 ghost use Rattle.ccp_run.specs.Endings.{Ends};
 ghost use Rattle.ccp_run.specs.Run.{IsRun};
 ghost use Rattle.ccp_run.specs.Statuses.{memory_line};
@@ -23,7 +24,8 @@ pub fn alone<S: Source, K: Sink, E: Sink>(
     sink: &mut K,
     errors: &mut E,
 ) -> Outcome
-    ensures { IsRun (Mode.Alone mode) (stream (S.remaining source.old) (S.remaining source.new) (S.faults source.old) (S.faults source.new)) (stream (K.written sink.old) (K.written sink.new) (K.faults sink.old) (K.faults sink.new)) (stream (E.written errors.old) (E.written errors.new) (E.faults errors.old) (E.faults errors.new)) (K.is_finished sink.new) result }
+    ensures run { IsRun (Mode.Alone mode) (stream (S.remaining source.old) (S.remaining source.new) (S.faults source.old) (S.faults source.new)) (stream (K.written sink.old) (K.written sink.new) (K.faults sink.old) (K.faults sink.new)) (stream (E.written errors.old) (E.written errors.new) (E.faults errors.old) (E.faults errors.new)) (K.is_finished sink.new) result }
+    ensures complete { IsComplete (Mode.Alone mode) (stream (S.remaining source.old) (S.remaining source.new) (S.faults source.old) (S.faults source.new)) (stream (K.written sink.old) (K.written sink.new) (K.faults sink.old) (K.faults sink.new)) result }
 {
     let made = read_output(alloc, mode, source);
     end(alloc, made, sink, errors)

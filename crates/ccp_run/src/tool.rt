@@ -1,6 +1,7 @@
 ghost use Rattle.std.specs.Prelude.{◌≡◌, ◌≢◌, ◌↔◌, true, false, Some, IsSome, map, string_bytes};
 ghost use Rattle.ccp_words.specs.declared.words.Asked.{Asked};
 ghost use Rattle.ccp_words.specs.Words.{are_accepted, asked_in};
+ghost use Rattle.ccp_run.specs.Complete.{IsComplete};
 ghost use Rattle.ccp_run.specs.Run.{IsRun, IsUnasked};
 ghost use Rattle.ccp_run.specs.Streams.{stream};
 
@@ -32,6 +33,8 @@ pub fn run<R: Threads + Wait + Sync, S: Source, K: Sink, E: Sink, G: Gate + Sync
     // Else it is a run of the mode that they ask for.
     ensures asks { result.status ≢ 2 → result.status ≢ 6 → IsSome (asked_in (map string_bytes words.items)) }
     ensures asked { (asked : Asked) → are_accepted (map string_bytes words.items) ≡ true → asked_in (map string_bytes words.items) ≡ Some asked → IsRun asked.mode (stream (S.remaining source.old) (S.remaining source.new) (S.faults source.old) (S.faults source.new)) (stream (K.written sink.old) (K.written sink.new) (K.faults sink.old) (K.faults sink.new)) (stream (E.written errors.old) (E.written errors.new) (E.faults errors.old) (E.faults errors.new)) (K.is_finished sink.new) result }
+    // An input of that mode is answered, and every other is refused.
+    ensures complete { (asked : Asked) → are_accepted (map string_bytes words.items) ≡ true → asked_in (map string_bytes words.items) ≡ Some asked → IsComplete asked.mode (stream (S.remaining source.old) (S.remaining source.new) (S.faults source.old) (S.faults source.new)) (stream (K.written sink.old) (K.written sink.new) (K.faults sink.old) (K.faults sink.new)) result }
 {
     match read_words(alloc, &words) {
         Ok(asked) => asked_run(rt, alloc, asked, source, sink, errors, gate),

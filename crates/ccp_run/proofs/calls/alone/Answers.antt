@@ -1,12 +1,13 @@
 use Rattle.ccp_words.specs.declared.mode.Mode.TheVariants.{Alone}
-use Rattle.ccp_run.specs.Streams.{stream}
+use Rattle.ccp_run.specs.Streams.{Stream, stream}
+use Rattle.ccp_run.proofs.CompleteRuns.{complete}
 use Rattle.ccp_run.proofs.RunLemmas.{run_of}
 use Rattle.ccp_run.proofs.calls.alone.Goals as goal
 
 pub returns : goal.returns
 returns g c =
-    run_of (Alone c.args.mode)
-    (stream (g.S.Source.remaining c.args.source.now) (g.S.Source.remaining c.read_output-made.new.source) (g.S.Source.faults c.args.source.now) (g.S.Source.faults c.read_output-made.new.source))
-    (stream (g.K.Sink.written c.args.sink.now) (g.K.Sink.written c.end.new.sink) (g.K.Sink.faults c.args.sink.now) (g.K.Sink.faults c.end.new.sink))
-    (stream (g.E.Sink.written c.args.errors.now) (g.E.Sink.written c.end.new.errors) (g.E.Sink.faults c.args.errors.now) (g.E.Sink.faults c.end.new.errors))
-    (g.K.Sink.is_finished c.end.new.sink) c.end.result c.read_output-made.result c.read_output-made.ensures c.end.ensures
+    let source : Stream = stream (g.S.Source.remaining c.args.source.now) (g.S.Source.remaining c.read_output-made.new.source) (g.S.Source.faults c.args.source.now) (g.S.Source.faults c.read_output-made.new.source) in
+    let sink : Stream = stream (g.K.Sink.written c.args.sink.now) (g.K.Sink.written c.end.new.sink) (g.K.Sink.faults c.args.sink.now) (g.K.Sink.faults c.end.new.sink) in
+    let errors : Stream = stream (g.E.Sink.written c.args.errors.now) (g.E.Sink.written c.end.new.errors) (g.E.Sink.faults c.args.errors.now) (g.E.Sink.faults c.end.new.errors) in
+    let run = run_of (Alone c.args.mode) source sink errors (g.K.Sink.is_finished c.end.new.sink) c.end.result c.read_output-made.result c.read_output-made.ensures c.end.ensures in
+    record { run = run; complete = complete (Alone c.args.mode) source sink errors (g.K.Sink.is_finished c.end.new.sink) c.end.result run }

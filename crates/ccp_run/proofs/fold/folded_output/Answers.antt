@@ -1,4 +1,4 @@
-use Rattle.std.proofs.Common.{◌≡◌, ◌∙◌, ◌++◌, ℕ, List, length, ap, sym, subst}
+use Rattle.std.proofs.Common.{◌∙◌, ◌++◌, ℕ, List, length, ap, sym, subst}
 use Rattle.std.specs.List.{All}
 use Rattle.ccp_base.specs.declared.exchange.Report.{Report}
 use Rattle.portus_core.specs.Programs.{Form}
@@ -8,7 +8,7 @@ use Rattle.report_lines.specs.EndLine.{end_line}
 use Rattle.report_lines.specs.ReportLine.{report_lines}
 use Rattle.campaign_report.specs.FoldText.{ShowsAll, fold_text}
 use Rattle.fold_run.specs.declared.end.End.{End as FoldEnd}
-use Rattle.fold_run.specs.Fold.{fold_reports, fold_fault, fold_end}
+use Rattle.fold_run.specs.Fold.{fold_reports, fold_fault}
 use Rattle.ccp_run.specs.Fold.{shown_end, stopping_line}
 use Rattle.ccp_run.proofs.FoldLemmas.{reports_show_all, end_shows_all, line_of_notice}
 use Rattle.ccp_run.proofs.fold.folded_output.Goals as goal
