@@ -23,8 +23,8 @@ worked = record { reports = []; controls = []; events = event ∷ []; instrs = i
 
 pub new-requires-3 : goal.new-requires-3
 new-requires-3 c =
-    let made : Code = record { reports = c.new.result; controls = c.new-2.result; events = c.from_vec.result; instrs = c.in_ok-pack_all.pack_all } in
+    let made : Code = record { reports = c.new.result; controls = c.new-2.result; events = c.from_vec.result; instrs = c.in_ok-pack_all.field-0 } in
     let events : c.from_vec.result ≡ event ∷ [] = c.from_vec.ensures ∙ c.in_ok-vec.ensures.items in
-    let bounds : c.in_ok-pack_all.pack_all ≡ instrs = c.in_ok-pack_all.ensures ∙ (λ i. c.bind.ensures i ∷ c.bind-2.ensures i ∷ c.bind-3.ensures i ∷ []) in
+    let bounds : c.in_ok-pack_all.field-0 ≡ instrs = c.in_ok-pack_all.ensures ∙ (λ i. c.bind.ensures i ∷ c.bind-2.ensures i ∷ c.bind-3.ensures i ∷ []) in
     let same : made ≡ worked = λ i. record { reports = c.new.ensures i; controls = c.new-2.ensures i; events = events i; instrs = bounds i } in
     ap rejected same
