@@ -12,11 +12,10 @@ use Rattle.portus_build.proofs.SettledTexts.{settled_text}
 use Rattle.ccp_words.specs.declared.mode.Alone.TheVariants.{Check, Fold, Feed, Audit}
 use Rattle.ccp_words.specs.declared.mode.Mode.{Mode}
 use Rattle.ccp_words.specs.declared.mode.Mode.TheVariants.{Alone, Live, Campaign, Soak, Rollout, Shared}
-use Rattle.fold_run.specs.declared.ack_line.AckLine.{AckLine}
-use Rattle.fold_run.specs.declared.ack_line.AckLine.TheVariants as said
+use Rattle.fold_run.specs.AckLine.{AckLine, line_of}
+use Rattle.fold_run.specs.AckLine as said
 use Rattle.fold_run.specs.declared.acks.LineFault.{LineFault}
 use Rattle.fold_run.specs.declared.acks.LineFault.TheVariants as lines
-use Rattle.fold_run.specs.AckLine.{line_of}
 use Rattle.fold_run.specs.Acknowledgements.{with_line, with_lines}
 use Rattle.fold_run.specs.Separated.{Cut, cut_of}
 use Rattle.ccp_run.specs.declared.refusal.Refusal.{Refusal}
@@ -55,9 +54,9 @@ abbrev IsOfLines : Result (List Ack) LineFault → Type 0
 IsOfLines result = result ≢ Err lines.NoMemory
 
 of_line : (number : ℕ) (acks : List Ack) (line : AckLine) → IsOfLines (with_line number acks line)
-of_line number acks said.Nothing = λ e. cc
-of_line number acks said.Refused = λ e. cc
-of_line number acks (said.Given ack) = go (nat_lt (length acks) most_acks)
+of_line number acks said.nothing = λ e. cc
+of_line number acks said.refused = λ e. cc
+of_line number acks (said.given ack) = go (nat_lt (length acks) most_acks)
   where
     go : (few : Bool) → IsOfLines (cond few (Ok (acks ++ ack ∷ [])) (Err lines.TooMany))
     go true = λ e. cc
