@@ -81,13 +81,14 @@ fn texts_and_names_are_refused(rt: HostRuntime) {
     }
 }
 
-/// The status of a fold, its output and its error line.
-fn folds(alloc: Global, input: &[u8]) -> (u8, MemSink, MemSink) {
+/// Asserts that the fold of the input writes this text.
+fn is_folded(rt: &impl Abort, alloc: Global, input: &[u8], text: &[u8]) {
     let mut source = MemSource::new(input, 65_536, &[]);
     let mut sink = MemSink::new(alloc, 4096, &[]);
     let mut errors = MemSink::new(alloc, 4096, &[]);
     let outcome = alone(alloc, Alone::Fold, &mut source, &mut sink, &mut errors);
-    (outcome.status, sink, errors)
+    assert_eq!(rt; outcome.status, 0);
+    assert_eq!(rt; sink.as_slice(), text);
 }
 
 #[test]
@@ -97,11 +98,11 @@ fn a_fold_has_at_most_65536_acknowledgements(rt: HostRuntime) -> Result<(), Fail
     for _step in 0..65_536 {
         input.extend_from_slice(b"now=1\n")?;
     }
-    let (status, sink, _) = folds(alloc, &input);
-    assert_eq!(rt; status, 0);
-    assert_eq!(rt;
-        sink.as_slice(),
-        b"end acks=65536 reports=0 tail=0..65536 stopped=no cwnd=0 rate=0\n".as_slice()
+    is_folded(
+        &rt,
+        alloc,
+        &input,
+        b"end acks=65536 reports=0 tail=0..65536 stopped=no cwnd=0 rate=0\n",
     );
     input.extend_from_slice(b"now=2\n")?;
     is_refused(
@@ -123,11 +124,11 @@ fn zeros_before_a_numeral_count_for_nothing(rt: HostRuntime) {
         b"(def) (when true (:= Cwnd 0000000000000000000000007))\n---\nnow=0000000000000000000000005\n",
     ];
     for input in rows {
-        let (status, sink, _) = folds(rt.alloc(), input);
-        assert_eq!(rt; status, 0);
-        assert_eq!(rt;
-            sink.as_slice(),
-            b"end acks=1 reports=0 tail=0..1 stopped=no cwnd=7 rate=0\n".as_slice()
+        is_folded(
+            &rt,
+            rt.alloc(),
+            input,
+            b"end acks=1 reports=0 tail=0..1 stopped=no cwnd=7 rate=0\n",
         );
     }
 }
