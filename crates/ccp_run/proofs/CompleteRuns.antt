@@ -2,13 +2,12 @@
 use Rattle.std.proofs.Common.{◌≡◌, ◌≤◌, ◌<◌, ◌∙◌, inl, inr, ℕ, zero, suc, Bool, true, false, List, [], ◌++◌, length, Some, None, arith, ap, sym, subst, refl, append-nil, length-append}
 use Rattle.ccp_base.specs.Outside.{Known, Rose, Takes, IsAtEnd, TakesOver}
 use Rattle.ccp_words.specs.declared.mode.Alone.TheVariants.{Check, Fold, Feed, Audit}
-use Rattle.ccp_words.specs.declared.mode.Mode.{Mode}
-use Rattle.ccp_words.specs.declared.mode.Mode.TheVariants.{Alone, Live, Campaign, Soak, Rollout, Shared}
+use Rattle.ccp_run.specs.Tasks.{Task, Alone, Live, Campaign, Soak, Rollout, Shared}
 use Rattle.ccp_run.specs.declared.outcome.ModeOutput.{ModeOutput}
 use Rattle.ccp_run.specs.declared.outcome.Outcome.{Outcome}
 use Rattle.ccp_run.specs.declared.refusal.Refusal.{Refusal}
 use Rattle.ccp_run.specs.declared.status.Status.TheVariants as status
-use Rattle.ccp_run.specs.Attempts.{MakesOutput, RefusesInput}
+use Rattle.ccp_run.specs.Attempts.{MakesOutput, RefusesBytes, RefusesInput}
 use Rattle.ccp_run.specs.Complete.{EndsAs, IsNoInput, IsComplete}
 use Rattle.ccp_run.specs.Modes.{limit_of, is_read, IsMade, IsRefused}
 use Rattle.ccp_run.specs.Run.{IsRun}
@@ -33,86 +32,96 @@ whole bytes taken old (Some left) is takes end =
     let empty : left ≡ [] = cc in
     lists ∙ ap (λ rest. taken ++ rest) empty ∙ append-nil taken
 
--- a mode with an input, an output or a refusal is there, and reads its source
-pub record IsThere (mode : Mode) : Type 0 where
-  pub there : is_there mode ≡ true
-  pub reads : is_read mode ≡ true
+-- a task that doesn't read its source refuses nothing
+no_refusal : (task : Task) (bytes : List ℕ) (refusal : Refusal) → is_read task ≡ false → IsRefused task bytes refusal → ⊥
+no_refusal (Alone alone) bytes refusal reads refused = cc
+no_refusal (Live wire) bytes refusal reads refused = refused
+no_refusal (Campaign wire) bytes refusal reads refused = refused
+no_refusal (Soak number) bytes refusal reads refused = refused
+no_refusal Rollout bytes refusal reads refused = refused
+no_refusal Shared bytes refusal reads refused = refused
 
-by_input : (mode : Mode) (bytes : List ℕ) → IsInput mode bytes → IsThere mode
-by_input (Alone Check) bytes input = record { there = refl; reads = refl }
-by_input (Alone Fold) bytes input = record { there = refl; reads = refl }
+-- a task with an input or an output is there
+by_input : (task : Task) (bytes : List ℕ) → IsInput task bytes → is_there task ≡ true
+by_input (Alone Check) bytes input = refl
+by_input (Alone Fold) bytes input = refl
 by_input (Alone Feed) bytes input = absurd input
 by_input (Alone Audit) bytes input = absurd input
-by_input Live bytes input = absurd input
-by_input Campaign bytes input = absurd input
-by_input Soak bytes input = absurd input
+by_input (Live wire) bytes input = absurd input
+by_input (Campaign wire) bytes input = absurd input
+by_input (Soak number) bytes input = absurd input
 by_input Rollout bytes input = absurd input
 by_input Shared bytes input = absurd input
 
-by_output : (mode : Mode) (bytes : List ℕ) (output : ModeOutput) → IsMade mode bytes output → IsThere mode
-by_output (Alone Check) bytes output made = record { there = refl; reads = refl }
-by_output (Alone Fold) bytes output made = record { there = refl; reads = refl }
+by_output : (task : Task) (bytes : List ℕ) (output : ModeOutput) → IsMade task bytes output → is_there task ≡ true
+by_output (Alone Check) bytes output made = refl
+by_output (Alone Fold) bytes output made = refl
 by_output (Alone Feed) bytes output made = absurd made
 by_output (Alone Audit) bytes output made = absurd made
-by_output Live bytes output made = absurd made
-by_output Campaign bytes output made = absurd made
-by_output Soak bytes output made = absurd made
+by_output (Live wire) bytes output made = absurd made
+by_output (Campaign wire) bytes output made = absurd made
+by_output (Soak number) bytes output made = absurd made
 by_output Rollout bytes output made = absurd made
 by_output Shared bytes output made = absurd made
 
-module _ (mode : Mode) (source : Stream) (bytes : List ℕ) (is : source.old ≡ Some bytes) where
-  same_bytes : (read : Bool) → read ≡ true → (taken : List ℕ) → HasInput read source taken → bytes ≡ taken
-  same_bytes true reads taken has = whole bytes taken source.old source.new is has.taken has.end
-  same_bytes false reads taken has = let bad : ⊥ = cc in absurd bad
+module _ (task : Task) (source : Stream) (bytes : List ℕ) (is : source.old ≡ Some bytes) where
+  same_bytes : (taken : List ℕ) → HasInput true source taken → bytes ≡ taken
+  same_bytes taken has = whole bytes taken source.old source.new is has.taken has.end
 
-  not_refused : (refusal : Refusal) → length bytes ≤ limit_of mode → IsInput mode bytes → RefusesInput mode source refusal → ⊥
-  not_refused refusal short input (inl long) = not_over (limit_of mode) bytes source.old source.new is short long.over
-  not_refused refusal short input (inr r) =
-      let mode_is = by_input mode bytes input in
-      (settled_input mode bytes mode_is.there).apart refusal input
-      (subst (λ (b : List ℕ). IsRefused mode b refusal) (sym (same_bytes (is_read mode) mode_is.reads r.bytes r.read)) r.cause)
+  not_refused_bytes : (refusal : Refusal) → IsInput task bytes → (r : RefusesBytes task source refusal) → (reads : Bool) → is_read task ≡ reads → HasInput reads source r.bytes → ⊥
+  not_refused_bytes refusal input r true reads has =
+      (settled_input task bytes (by_input task bytes input)).apart refusal input
+      (subst (λ (b : List ℕ). IsRefused task b refusal) (sym (same_bytes r.bytes has)) r.cause)
+  not_refused_bytes refusal input r false reads has = no_refusal task r.bytes refusal reads r.cause
 
-  not_made : (output : ModeOutput) → IsNoInput mode bytes → MakesOutput mode source output → ⊥
-  not_made output other m =
-      let mode_is = by_output mode m.bytes output m.made in
-      let same : bytes ≡ m.bytes = same_bytes (is_read mode) mode_is.reads m.bytes m.read in
-      let settled = settled_input mode bytes mode_is.there in
-      elim other [
-        | inl long ↦
-            let short = m.short in
-            absurd (omega (arith, ap length same))
-        | inr refused ↦ settled.apart refused.0 (settled.made output (subst (λ (b : List ℕ). IsMade mode b output) (sym same) m.made)) refused.1
-      ]
+  not_refused : (refusal : Refusal) → length bytes ≤ limit_of task → IsInput task bytes → RefusesInput task source refusal → ⊥
+  not_refused refusal short input (inl long) = not_over (limit_of task) bytes source.old source.new is short long.over
+  not_refused refusal short input (inr r) = not_refused_bytes refusal input r (is_read task) refl r.read
 
-module _ (mode : Mode) (source sink errors : Stream) (is_finished : Type 0) (outcome : Outcome) (run : IsRun mode source sink errors is_finished outcome) where
-  answered : (bytes : List ℕ) → source.old ≡ Some bytes → length bytes ≤ limit_of mode → IsInput mode bytes
+  -- nothing is made of bytes that are past the limit, or that are refused
+  not_made_of : (output : ModeOutput) → IsNoInput task bytes → (m : MakesOutput task source output) → (reads : Bool) → is_read task ≡ reads → HasInput reads source m.bytes → ⊥
+  not_made_of output (inl long) m true reads has =
+      let short = m.short in
+      let over : limit_of task < length bytes = long.1 in
+      absurd (omega (arith, short, over, ap length (same_bytes m.bytes has)))
+  not_made_of output (inr refused) m true reads has =
+      let settled = settled_input task bytes (by_output task m.bytes output m.made) in
+      settled.apart refused.0 (settled.made output (subst (λ (b : List ℕ). IsMade task b output) (sym (same_bytes m.bytes has)) m.made)) refused.1
+  not_made_of output (inl long) m false reads has = let bad : ⊥ = let is_true : is_read task ≡ true = long.0 in cc in absurd bad
+  not_made_of output (inr refused) m false reads has = no_refusal task bytes refused.0 reads refused.1
+
+  not_made : (output : ModeOutput) → IsNoInput task bytes → MakesOutput task source output → ⊥
+  not_made output other m = not_made_of output other m (is_read task) refl m.read
+
+module _ (task : Task) (source sink errors : Stream) (is_finished : Type 0) (outcome : Outcome) (run : IsRun task source sink errors is_finished outcome) where
+  answered : (bytes : List ℕ) → source.old ≡ Some bytes → length bytes ≤ limit_of task → IsInput task bytes
       → (Rose source.before source.now → ⊥) → (Rose sink.before sink.now → ⊥) → (n : ℕ) → outcome.status ≡ n → EndsAs status.Done outcome
   answered bytes is short input no_read no_write zero e = inl e
   answered bytes is short input no_read no_write (suc zero) e = absurd (run.no_1 e)
   answered bytes is short input no_read no_write (suc (suc zero)) e = absurd (run.words e)
   answered bytes is short input no_read no_write (suc (suc (suc zero))) e =
-      absurd (not_refused mode source bytes is (run.refused e).refusal short input (run.refused e).refused)
+      absurd (not_refused task source bytes is (run.refused e).refusal short input (run.refused e).refused)
   answered bytes is short input no_read no_write (suc (suc (suc (suc zero)))) e = absurd (no_read (run.read_fault e))
   answered bytes is short input no_read no_write (suc (suc (suc (suc (suc zero))))) e = absurd (no_write (run.write_fault e))
   answered bytes is short input no_read no_write (suc (suc (suc (suc (suc (suc zero)))))) e = inr e
   answered bytes is short input no_read no_write (suc (suc (suc (suc (suc (suc (suc n))))))) e =
       let few = run.statuses in absurd (omega (arith, e, few))
 
-  refuses : (bytes : List ℕ) → source.old ≡ Some bytes → IsNoInput mode bytes → (Rose source.before source.now → ⊥)
+  refuses : (bytes : List ℕ) → source.old ≡ Some bytes → IsNoInput task bytes → (Rose source.before source.now → ⊥)
       → (n : ℕ) → outcome.status ≡ n → EndsAs status.InputRefused outcome
-  refuses bytes is other no_read zero e = absurd (not_made mode source bytes is (run.done e).output other (run.done e).made)
+  refuses bytes is other no_read zero e = absurd (not_made task source bytes is (run.done e).output other (run.done e).made)
   refuses bytes is other no_read (suc zero) e = absurd (run.no_1 e)
   refuses bytes is other no_read (suc (suc zero)) e = absurd (run.words e)
   refuses bytes is other no_read (suc (suc (suc zero))) e = inl e
   refuses bytes is other no_read (suc (suc (suc (suc zero)))) e = absurd (no_read (run.read_fault e))
   refuses bytes is other no_read (suc (suc (suc (suc (suc zero))))) e =
-      absurd (not_made mode source bytes is (run.front e).output other (run.front e).made)
+      absurd (not_made task source bytes is (run.front e).output other (run.front e).made)
   refuses bytes is other no_read (suc (suc (suc (suc (suc (suc zero)))))) e = inr e
   refuses bytes is other no_read (suc (suc (suc (suc (suc (suc (suc n))))))) e =
       let few = run.statuses in absurd (omega (arith, e, few))
 
   -- a run is complete
-  pub complete : IsComplete mode source sink outcome
+  pub complete : IsComplete task source sink outcome
   complete = record {
     answered = λ bytes is short input no_read no_write. answered bytes is short input no_read no_write outcome.status refl;
     refused = λ bytes is other no_read. refuses bytes is other no_read outcome.status refl;

@@ -10,8 +10,7 @@ use Rattle.portus_build.specs.declared.fault.BuildFault.{BuildFault}
 use Rattle.portus_build.specs.Texts.{IsBuiltFrom, IsNoProgram}
 use Rattle.portus_build.proofs.SettledTexts.{settled_text}
 use Rattle.ccp_words.specs.declared.mode.Alone.TheVariants.{Check, Fold, Feed, Audit}
-use Rattle.ccp_words.specs.declared.mode.Mode.{Mode}
-use Rattle.ccp_words.specs.declared.mode.Mode.TheVariants.{Alone, Live, Campaign, Soak, Rollout, Shared}
+use Rattle.ccp_run.specs.Tasks.{Task, Alone, Live, Campaign, Soak, Rollout, Shared}
 use Rattle.fold_run.specs.AckLine.{AckLine, line_of}
 use Rattle.fold_run.specs.AckLine as said
 use Rattle.fold_run.specs.declared.acks.LineFault.{LineFault}
@@ -152,13 +151,13 @@ module _ (bytes : List ℕ) where
   }
 
 -- every input is settled
-pub settled_input : (mode : Mode) (bytes : List ℕ) → is_there mode ≡ true → IsSettled mode bytes
+pub settled_input : (task : Task) (bytes : List ℕ) → is_there task ≡ true → IsSettled task bytes
 settled_input (Alone Check) bytes there = settled_check bytes
 settled_input (Alone Fold) bytes there = settled_fold bytes
 settled_input (Alone Feed) bytes there = let bad : ⊥ = cc in absurd bad
 settled_input (Alone Audit) bytes there = let bad : ⊥ = cc in absurd bad
-settled_input Live bytes there = let bad : ⊥ = cc in absurd bad
-settled_input Campaign bytes there = let bad : ⊥ = cc in absurd bad
-settled_input Soak bytes there = let bad : ⊥ = cc in absurd bad
+settled_input (Live wire) bytes there = let bad : ⊥ = cc in absurd bad
+settled_input (Campaign wire) bytes there = let bad : ⊥ = cc in absurd bad
+settled_input (Soak number) bytes there = let bad : ⊥ = cc in absurd bad
 settled_input Rollout bytes there = let bad : ⊥ = cc in absurd bad
 settled_input Shared bytes there = let bad : ⊥ = cc in absurd bad

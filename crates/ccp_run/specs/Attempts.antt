@@ -1,53 +1,60 @@
 -- What a mode came to before anything was written: its output, or why there is none.
-use Rattle.std.specs.Prelude.{◌≡◌, ◌≤◌, ◌⊎◌, ℕ, ◌+◌, Result, Ok, Err, List, length}
+use Rattle.std.specs.Prelude.{◌≡◌, ◌≤◌, ◌⊎◌, ℕ, ◌+◌, true, Result, Ok, Err, List, length}
 use Rattle.ccp_base.specs.Outside.{Rose, TakesOver, TakesWithin}
-use Rattle.ccp_words.specs.declared.mode.Mode.{Mode}
 use Rattle.ccp_run.specs.declared.outcome.ModeOutput.{ModeOutput}
 use Rattle.ccp_run.specs.declared.refusal.Refusal.{Refusal}
 use Rattle.ccp_run.specs.declared.refusal.Refusal.TheVariants.{TooLong}
 use Rattle.ccp_run.specs.declared.stop.Stop.{Stop}
 use Rattle.ccp_run.specs.declared.stop.Stop.TheVariants as stop
 use Rattle.ccp_run.specs.Modes.{limit_in, limit_of, is_read, IsMade, IsRefused}
-use Rattle.ccp_run.specs.Streams.{Stream, HasInput}
+use Rattle.ccp_run.specs.Streams.{Stream, HasInput, IsLeft}
+use Rattle.ccp_run.specs.Tasks.{Task}
 
 -- the mode's output for bytes, or the first refusal of these
-abbrev pub IsAnswer : Mode → List ℕ → Result ModeOutput Stop → Type 0
-IsAnswer mode bytes (Ok output) = IsMade mode bytes output
-IsAnswer mode bytes (Err (stop.Refused refusal)) = IsRefused mode bytes refusal
-IsAnswer mode bytes (Err stop.ReadFailed) = ⊥
-IsAnswer mode bytes (Err stop.NoMemory) = Unit {0}
+abbrev pub IsAnswer : Task → List ℕ → Result ModeOutput Stop → Type 0
+IsAnswer task bytes (Ok output) = IsMade task bytes output
+IsAnswer task bytes (Err (stop.Refused refusal)) = IsRefused task bytes refusal
+IsAnswer task bytes (Err stop.ReadFailed) = ⊥
+IsAnswer task bytes (Err stop.NoMemory) = Unit {0}
 
 -- the input was read to its end, is within the limit, and the mode makes this of it
-pub record MakesOutput (mode : Mode) (source : Stream) (output : ModeOutput) : Type 0 where
+pub record MakesOutput (task : Task) (source : Stream) (output : ModeOutput) : Type 0 where
   pub bytes : List ℕ
-  pub read : HasInput (is_read mode) source bytes
-  pub short : length bytes ≤ limit_of mode
-  pub made : IsMade mode bytes output
+  pub read : HasInput (is_read task) source bytes
+  pub short : length bytes ≤ limit_of task
+  pub made : IsMade task bytes output
 
 -- the input was read to its end, is within the limit, and this is its first refusal
-pub record RefusesBytes (mode : Mode) (source : Stream) (refusal : Refusal) : Type 0 where
+pub record RefusesBytes (task : Task) (source : Stream) (refusal : Refusal) : Type 0 where
   pub bytes : List ℕ
-  pub read : HasInput (is_read mode) source bytes
-  pub short : length bytes ≤ limit_of mode
-  pub cause : IsRefused mode bytes refusal
+  pub read : HasInput (is_read task) source bytes
+  pub short : length bytes ≤ limit_of task
+  pub cause : IsRefused task bytes refusal
 
 -- more bytes were taken than the limit, and that is the refusal
-pub record RefusesLength (mode : Mode) (source : Stream) (refusal : Refusal) : Type 0 where
-  pub over : TakesOver (limit_of mode) source.old source.new
-  pub most : TakesWithin (limit_of mode + 1) source.old source.new
-  pub cause : refusal ≡ TooLong (limit_in mode)
+pub record RefusesLength (task : Task) (source : Stream) (refusal : Refusal) : Type 0 where
+  pub reads : is_read task ≡ true
+  pub over : TakesOver (limit_of task) source.old source.new
+  pub most : TakesWithin (limit_of task + 1) source.old source.new
+  pub cause : refusal ≡ TooLong (limit_in task)
 
 -- an input past the limit is refused as too long and as nothing else
-abbrev pub RefusesInput : Mode → Stream → Refusal → Type 0
-RefusesInput mode source refusal = RefusesLength mode source refusal ⊎ RefusesBytes mode source refusal
+abbrev pub RefusesInput : Task → Stream → Refusal → Type 0
+RefusesInput task source refusal = RefusesLength task source refusal ⊎ RefusesBytes task source refusal
 
 -- a read failed, before more bytes were taken than the limit
-pub record FailsToRead (mode : Mode) (source : Stream) : Type 0 where
+pub record FailsToRead (task : Task) (source : Stream) : Type 0 where
+  pub reads : is_read task ≡ true
   pub rose : Rose source.before source.now
-  pub within : TakesWithin (limit_of mode) source.old source.new
+  pub within : TakesWithin (limit_of task) source.old source.new
 
-abbrev pub IsAttempt : Mode → Stream → Result ModeOutput Stop → Type 0
-IsAttempt mode source (Ok output) = MakesOutput mode source output
-IsAttempt mode source (Err (stop.Refused refusal)) = RefusesInput mode source refusal
-IsAttempt mode source (Err stop.ReadFailed) = FailsToRead mode source
-IsAttempt mode source (Err stop.NoMemory) = TakesWithin (limit_of mode) source.old source.new
+-- memory was wanted, before more bytes were taken than the limit
+pub record WantsMemory (task : Task) (source : Stream) : Type 0 where
+  pub left : IsLeft (is_read task) source
+  pub within : TakesWithin (limit_of task) source.old source.new
+
+abbrev pub IsAttempt : Task → Stream → Result ModeOutput Stop → Type 0
+IsAttempt task source (Ok output) = MakesOutput task source output
+IsAttempt task source (Err (stop.Refused refusal)) = RefusesInput task source refusal
+IsAttempt task source (Err stop.ReadFailed) = FailsToRead task source
+IsAttempt task source (Err stop.NoMemory) = WantsMemory task source

@@ -1,30 +1,30 @@
 -- What decides whether a run refuses its input, where the source tells its bytes.
-use Rattle.std.specs.Prelude.{◌≡◌, ◌≤◌, ◌<◌, ◌⊎◌, List, ℕ, Some, length}
+use Rattle.std.specs.Prelude.{◌≡◌, ◌≤◌, ◌<◌, ◌⊎◌, List, ℕ, true, Some, length}
 use Rattle.ccp_base.specs.Outside.{Rose}
-use Rattle.ccp_words.specs.declared.mode.Mode.{Mode}
 use Rattle.ccp_run.specs.declared.outcome.Outcome.{Outcome}
 use Rattle.ccp_run.specs.declared.refusal.Refusal.{Refusal}
 use Rattle.ccp_run.specs.declared.status.Status.{Status}
 use Rattle.ccp_run.specs.declared.status.Status.TheVariants as status
-use Rattle.ccp_run.specs.Modes.{limit_of, IsRefused}
+use Rattle.ccp_run.specs.Modes.{limit_of, is_read, IsRefused}
 use Rattle.ccp_run.specs.Settled.{IsInput}
 use Rattle.ccp_run.specs.Statuses.{number_of}
 use Rattle.ccp_run.specs.Streams.{Stream}
+use Rattle.ccp_run.specs.Tasks.{Task}
 
 -- the run ended so, or memory was wanted
 abbrev pub EndsAs : Status → Outcome → Type 0
 EndsAs end outcome = (outcome.status ≡ number_of end) ⊎ (outcome.status ≡ number_of status.NoMemory)
 
 -- bytes are past the limit, or have a first refusal
-abbrev pub IsNoInput : Mode → List ℕ → Type 0
-IsNoInput mode bytes = (limit_of mode < length bytes) ⊎ ((refusal : Refusal) × IsRefused mode bytes refusal)
+abbrev pub IsNoInput : Task → List ℕ → Type 0
+IsNoInput task bytes = ((is_read task ≡ true) × (limit_of task < length bytes)) ⊎ ((refusal : Refusal) × IsRefused task bytes refusal)
 
 -- where no count of faults rose, an input of the mode within the limit is answered by the mode's output, and every
 -- other one is refused
-pub record IsComplete (mode : Mode) (source sink : Stream) (outcome : Outcome) : Type 0 where
-  pub answered : (bytes : List ℕ) → source.old ≡ Some bytes → length bytes ≤ limit_of mode → IsInput mode bytes
+pub record IsComplete (task : Task) (source sink : Stream) (outcome : Outcome) : Type 0 where
+  pub answered : (bytes : List ℕ) → source.old ≡ Some bytes → length bytes ≤ limit_of task → IsInput task bytes
       → (Rose source.before source.now → ⊥) → (Rose sink.before sink.now → ⊥)
       → EndsAs status.Done outcome
-  pub refused : (bytes : List ℕ) → source.old ≡ Some bytes → IsNoInput mode bytes
+  pub refused : (bytes : List ℕ) → source.old ≡ Some bytes → IsNoInput task bytes
       → (Rose source.before source.now → ⊥)
       → EndsAs status.InputRefused outcome

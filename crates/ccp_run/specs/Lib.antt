@@ -3,6 +3,7 @@ pub mod Statuses
 pub mod ErrorLine
 pub mod Check
 pub mod Fold
+pub mod Tasks
 pub mod Modes
 pub mod Attempts
 pub mod Endings

@@ -1,8 +1,7 @@
--- What each mode takes, makes and refuses.
+-- What each task takes, makes and refuses.
 use Rattle.std.specs.Prelude.{ℕ, Bool, true, false, List, []}
 use Rattle.ccp_words.specs.declared.mode.Alone.TheVariants.{Check, Fold, Feed, Audit}
-use Rattle.ccp_words.specs.declared.mode.Mode.{Mode}
-use Rattle.ccp_words.specs.declared.mode.Mode.TheVariants.{Alone, Live, Campaign, Soak, Rollout, Shared}
+use Rattle.ccp_run.specs.Tasks.{Task, Alone, Live, Campaign, Soak, Rollout, Shared}
 use Rattle.ccp_run.specs.declared.outcome.ModeOutput.{ModeOutput}
 use Rattle.ccp_run.specs.declared.refusal.Limit.{Limit}
 use Rattle.ccp_run.specs.declared.refusal.Limit.TheVariants as limit
@@ -12,50 +11,50 @@ use Rattle.ccp_run.specs.Check.{IsCheckOutput, IsNoCheck}
 use Rattle.ccp_run.specs.Fold.{IsFoldOutput, IsNoFold}
 
 -- how long an input may be
-abbrev pub limit_in : Mode → Limit
+abbrev pub limit_in : Task → Limit
 limit_in (Alone Check) = limit.Input
 limit_in (Alone Fold) = limit.Input
 limit_in (Alone Feed) = limit.Input
 limit_in (Alone Audit) = limit.Audit
-limit_in Live = limit.Input
-limit_in Campaign = limit.Input
-limit_in Soak = limit.Input
+limit_in (Live wire) = limit.Input
+limit_in (Campaign wire) = limit.Input
+limit_in (Soak number) = limit.Input
 limit_in Rollout = limit.Input
 limit_in Shared = limit.Input
 
 -- the most bytes of an input
-abbrev pub limit_of : Mode → ℕ
-limit_of mode = most_bytes (limit_in mode)
+abbrev pub limit_of : Task → ℕ
+limit_of task = most_bytes (limit_in task)
 
 -- whether the source is read
-abbrev pub is_read : Mode → Bool
-is_read Soak = false
+abbrev pub is_read : Task → Bool
+is_read (Soak number) = false
 is_read _ = true
 
 -- what was written before the input was refused, where these bytes were taken
-abbrev pub answers_before : Mode → List ℕ → List ℕ
-answers_before mode bytes = []
+abbrev pub answers_before : Task → List ℕ → List ℕ
+answers_before task bytes = []
 
 -- the output is what the mode makes of its input
-abbrev pub IsMade : Mode → List ℕ → ModeOutput → Type 0
+abbrev pub IsMade : Task → List ℕ → ModeOutput → Type 0
 IsMade (Alone Check) bytes output = IsCheckOutput bytes output
 IsMade (Alone Fold) bytes output = IsFoldOutput bytes output
 IsMade (Alone Feed) bytes output = ⊥
 IsMade (Alone Audit) bytes output = ⊥
-IsMade Live bytes output = ⊥
-IsMade Campaign bytes output = ⊥
-IsMade Soak bytes output = ⊥
+IsMade (Live wire) bytes output = ⊥
+IsMade (Campaign wire) bytes output = ⊥
+IsMade (Soak number) bytes output = ⊥
 IsMade Rollout bytes output = ⊥
 IsMade Shared bytes output = ⊥
 
 -- bytes are no input of the mode, and this is their first refusal
-abbrev pub IsRefused : Mode → List ℕ → Refusal → Type 0
+abbrev pub IsRefused : Task → List ℕ → Refusal → Type 0
 IsRefused (Alone Check) bytes refusal = IsNoCheck bytes refusal
 IsRefused (Alone Fold) bytes refusal = IsNoFold bytes refusal
 IsRefused (Alone Feed) bytes refusal = ⊥
 IsRefused (Alone Audit) bytes refusal = ⊥
-IsRefused Live bytes refusal = ⊥
-IsRefused Campaign bytes refusal = ⊥
-IsRefused Soak bytes refusal = ⊥
+IsRefused (Live wire) bytes refusal = ⊥
+IsRefused (Campaign wire) bytes refusal = ⊥
+IsRefused (Soak number) bytes refusal = ⊥
 IsRefused Rollout bytes refusal = ⊥
 IsRefused Shared bytes refusal = ⊥

@@ -1,7 +1,6 @@
--- What a run promises: the theorem of every mode.
+-- What a run promises: the theorem of every task.
 use Rattle.std.specs.Prelude.{◌≡◌, ◌≢◌, ◌≤◌, ℕ, ◌+◌, List, []}
 use Rattle.ccp_base.specs.Outside.{Rose, Takes, TakesWithin, Appends, AppendsPrefix}
-use Rattle.ccp_words.specs.declared.mode.Mode.{Mode}
 use Rattle.ccp_run.specs.declared.outcome.ModeOutput.{ModeOutput}
 use Rattle.ccp_run.specs.declared.outcome.Outcome.{Outcome}
 use Rattle.ccp_run.specs.declared.refusal.Refusal.{Refusal}
@@ -9,55 +8,58 @@ use Rattle.ccp_run.specs.declared.status.Status.TheVariants as status
 use Rattle.ccp_run.specs.Attempts.{MakesOutput, RefusesInput}
 use Rattle.ccp_run.specs.Endings.{Ends, WritesAll}
 use Rattle.ccp_run.specs.ErrorLine.{refusal_line}
-use Rattle.ccp_run.specs.Modes.{limit_of, answers_before}
+use Rattle.ccp_run.specs.Modes.{limit_of, is_read, answers_before}
 use Rattle.ccp_run.specs.Statuses.{number_of, words_line, read_line, write_line, memory_line}
-use Rattle.ccp_run.specs.Streams.{Stream, Tells}
+use Rattle.ccp_run.specs.Streams.{Stream, IsLeft, Tells}
+use Rattle.ccp_run.specs.Tasks.{Task}
 
 -- the mode's whole output for the input was written, and the sink finished
-pub record IsDone (mode : Mode) (source sink errors : Stream) (is_finished : Type 0) (outcome : Outcome) : Type 0 where
+pub record IsDone (task : Task) (source sink errors : Stream) (is_finished : Type 0) (outcome : Outcome) : Type 0 where
   pub output : ModeOutput
-  pub made : MakesOutput mode source output
+  pub made : MakesOutput task source output
   pub written : WritesAll sink errors is_finished outcome output
 
 -- the mode has an output for the input, of which a front was written
-pub record WritesFront (mode : Mode) (source sink : Stream) : Type 0 where
+pub record WritesFront (task : Task) (source sink : Stream) : Type 0 where
   pub output : ModeOutput
-  pub made : MakesOutput mode source output
+  pub made : MakesOutput task source output
   pub front : AppendsPrefix sink.old sink.new output.text
 
 -- the input has a first refusal, and that was told
-pub record TellsRefusal (mode : Mode) (source errors : Stream) : Type 0 where
+pub record TellsRefusal (task : Task) (source errors : Stream) : Type 0 where
   pub refusal : Refusal
-  pub refused : RefusesInput mode source refusal
+  pub refused : RefusesInput task source refusal
   pub told : Tells errors (refusal_line refusal)
 
 -- of what was taken only the answers that come before a refusal were written, which most modes don't have
-pub record WritesAnswers (mode : Mode) (source sink : Stream) : Type 0 where
+pub record WritesAnswers (task : Task) (source sink : Stream) : Type 0 where
   pub taken : List ℕ
   pub takes : Takes source.old source.new taken
-  pub answers : Appends sink.old sink.new (answers_before mode taken)
+  pub answers : Appends sink.old sink.new (answers_before task taken)
 
-pub record IsRun (mode : Mode) (source sink errors : Stream) (is_finished : Type 0) (outcome : Outcome) : Type 0 where
+pub record IsRun (task : Task) (source sink errors : Stream) (is_finished : Type 0) (outcome : Outcome) : Type 0 where
   -- 0: the input was read to its end, and exactly the mode's output was written
-  pub done : outcome.status ≡ number_of status.Done → IsDone mode source sink errors is_finished outcome
+  pub done : outcome.status ≡ number_of status.Done → IsDone task source sink errors is_finished outcome
   -- 3: more bytes than the limit were taken and that is told, or the input was read to its end and its first refusal is
   -- told
-  pub refused : outcome.status ≡ number_of status.InputRefused → TellsRefusal mode source errors
+  pub refused : outcome.status ≡ number_of status.InputRefused → TellsRefusal task source errors
   -- 4: a read failed in this run, and that is told
   pub read_fault : outcome.status ≡ number_of status.ReadFailed → Rose source.before source.now
   pub told_read : outcome.status ≡ number_of status.ReadFailed → Tells errors read_line
   -- 5: a write failed in this run, a front of the mode's output was written, and that is told
   pub write_fault : outcome.status ≡ number_of status.WriteFailed → Rose sink.before sink.now
-  pub front : outcome.status ≡ number_of status.WriteFailed → WritesFront mode source sink
+  pub front : outcome.status ≡ number_of status.WriteFailed → WritesFront task source sink
   pub told_write : outcome.status ≡ number_of status.WriteFailed → Tells errors write_line
   -- 6: want of memory is told
   pub told_memory : outcome.status ≡ number_of status.NoMemory → Tells errors memory_line
   -- but at 3 at most as many bytes as the limit are taken, and at 3 at most one more
-  pub within : outcome.status ≢ number_of status.InputRefused → TakesWithin (limit_of mode) source.old source.new
-  pub most : TakesWithin (limit_of mode + 1) source.old source.new
+  pub within : outcome.status ≢ number_of status.InputRefused → TakesWithin (limit_of task) source.old source.new
+  pub most : TakesWithin (limit_of task + 1) source.old source.new
+  -- a source that the task doesn't read is left as it was
+  pub left : IsLeft (is_read task) source
   -- but at 0 and 5 nothing is written, save answers before a refusal
   pub nothing : outcome.status ≢ number_of status.Done → outcome.status ≢ number_of status.WriteFailed
-      → WritesAnswers mode source sink
+      → WritesAnswers task source sink
   -- but at 0 nothing is kept
   pub programs : outcome.status ≢ number_of status.Done → outcome.programs ≡ []
   pub ran : outcome.status ≢ number_of status.Done → outcome.ran ≡ 0

@@ -4,32 +4,31 @@ use Rattle.ccp_base.specs.declared.ack.Ack.{Ack}
 use Rattle.portus_core.specs.Programs.{Form}
 use Rattle.portus_build.specs.Texts.{IsBuiltFrom}
 use Rattle.ccp_words.specs.declared.mode.Alone.TheVariants.{Check, Fold}
-use Rattle.ccp_words.specs.declared.mode.Mode.{Mode}
-use Rattle.ccp_words.specs.declared.mode.Mode.TheVariants.{Alone}
+use Rattle.ccp_run.specs.Tasks.{Task, Alone}
 use Rattle.ccp_run.specs.declared.outcome.ModeOutput.{ModeOutput}
 use Rattle.ccp_run.specs.declared.refusal.Refusal.{Refusal}
 use Rattle.ccp_run.specs.Fold.{IsFold}
 use Rattle.ccp_run.specs.Modes.{IsMade, IsRefused}
 
 -- the modes that are there
-abbrev pub is_there : Mode → Bool
+abbrev pub is_there : Task → Bool
 is_there (Alone Check) = true
 is_there (Alone Fold) = true
 is_there _ = false
 
 -- bytes are an input of the mode
-abbrev pub IsInput : Mode → List ℕ → Type 0
+abbrev pub IsInput : Task → List ℕ → Type 0
 IsInput (Alone Check) bytes = (form : Form) × IsBuiltFrom bytes form
 IsInput (Alone Fold) bytes = (form : Form) × (acks : List Ack) × IsFold bytes form acks
 IsInput _ bytes = ⊥
 
-pub record IsSettled (mode : Mode) (bytes : List ℕ) : Type 0 where
-  pub some : IsInput mode bytes ⊎ ((refusal : Refusal) × IsRefused mode bytes refusal)
-  pub apart : (refusal : Refusal) → IsInput mode bytes → IsRefused mode bytes refusal → ⊥
-  pub one_refusal : (left right : Refusal) → IsRefused mode bytes left → IsRefused mode bytes right → left ≡ right
+pub record IsSettled (task : Task) (bytes : List ℕ) : Type 0 where
+  pub some : IsInput task bytes ⊎ ((refusal : Refusal) × IsRefused task bytes refusal)
+  pub apart : (refusal : Refusal) → IsInput task bytes → IsRefused task bytes refusal → ⊥
+  pub one_refusal : (left right : Refusal) → IsRefused task bytes left → IsRefused task bytes right → left ≡ right
   -- what is made of bytes is made of an input
-  pub made : (output : ModeOutput) → IsMade mode bytes output → IsInput mode bytes
+  pub made : (output : ModeOutput) → IsMade task bytes output → IsInput task bytes
 
 -- every input of every mode that is there
 abbrev pub AreSettled : Type 0
-AreSettled = (mode : Mode) (bytes : List ℕ) → is_there mode ≡ true → IsSettled mode bytes
+AreSettled = (task : Task) (bytes : List ℕ) → is_there task ≡ true → IsSettled task bytes

@@ -23,6 +23,11 @@ pub record IsUnused (source : Stream) (bytes : List ℕ) : Type 0 where
   pub none : bytes ≡ []
   pub same : source.new ≡ source.old
 
+-- a source that isn't read is as it was
+abbrev pub IsLeft : Bool → Stream → Type 0
+IsLeft true source = Unit {0}
+IsLeft false source = source.new ≡ source.old
+
 -- these are the bytes of the input, where it says whether there is one
 abbrev pub HasInput : Bool → Stream → List ℕ → Type 0
 HasInput true source bytes = ReadsToEnd source bytes

@@ -1,4 +1,5 @@
 //! The modes whose work is done by their caller alone, and the end without words.
+ghost use Rattle.ccp_run.specs.Tasks.{alone_task};
 
 ghost use Rattle.std.specs.Prelude.{◌≡◌};
 ghost use Rattle.ccp_run.specs.Complete.{IsComplete};
@@ -12,7 +13,7 @@ use crate::outcome::Outcome;
 use crate::reading::read_output;
 use crate::status::{MEMORY_LINE, Status};
 use ccp_base::{Sink, Source};
-use ccp_words::{Alone, Mode};
+use ccp_words::Alone;
 use std::alloc::Global;
 
 /// Reads the source to its end, works out the mode's output, and writes it to the sink; where it can't, it tells
@@ -24,8 +25,8 @@ pub fn alone<S: Source, K: Sink, E: Sink>(
     sink: &mut K,
     errors: &mut E,
 ) -> Outcome
-    ensures run { IsRun (Mode.Alone mode) (stream (S.remaining source.old) (S.remaining source.new) (S.faults source.old) (S.faults source.new)) (stream (K.written sink.old) (K.written sink.new) (K.faults sink.old) (K.faults sink.new)) (stream (E.written errors.old) (E.written errors.new) (E.faults errors.old) (E.faults errors.new)) (K.is_finished sink.new) result }
-    ensures complete { IsComplete (Mode.Alone mode) (stream (S.remaining source.old) (S.remaining source.new) (S.faults source.old) (S.faults source.new)) (stream (K.written sink.old) (K.written sink.new) (K.faults sink.old) (K.faults sink.new)) result }
+    ensures run { IsRun (alone_task mode) (stream (S.remaining source.old) (S.remaining source.new) (S.faults source.old) (S.faults source.new)) (stream (K.written sink.old) (K.written sink.new) (K.faults sink.old) (K.faults sink.new)) (stream (E.written errors.old) (E.written errors.new) (E.faults errors.old) (E.faults errors.new)) (K.is_finished sink.new) result }
+    ensures complete { IsComplete (alone_task mode) (stream (S.remaining source.old) (S.remaining source.new) (S.faults source.old) (S.faults source.new)) (stream (K.written sink.old) (K.written sink.new) (K.faults sink.old) (K.faults sink.new)) result }
 {
     let made = read_output(alloc, mode, source);
     end(alloc, made, sink, errors)

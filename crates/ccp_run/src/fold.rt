@@ -4,6 +4,7 @@ ghost use Rattle.portus_core.specs.ProgramForm.{form_of};
 ghost use Rattle.fold_run.specs.Ran.{ran_of};
 ghost use Rattle.ccp_run.specs.Attempts.{IsAnswer};
 ghost use Rattle.ccp_run.specs.Fold.{folded_text, shown_end};
+ghost use Rattle.ccp_run.specs.Tasks.{alone_task};
 
 use crate::outcome::ModeOutput;
 use crate::program::{only, program};
@@ -11,7 +12,7 @@ use crate::refusal::Refusal;
 use crate::stop::Stop;
 use campaign_report::{End, fold_text};
 use ccp_base::{Ack, NoMemory};
-use ccp_words::{Alone, Mode};
+use ccp_words::Alone;
 use fold_run::calls::folded;
 use fold_run::{Folded, LineFault, acknowledgements, separate};
 use reg_compiler::Built;
@@ -19,7 +20,7 @@ use std::alloc::Global;
 
 /// The fold that the bytes ask for, or the first refusal: of the separator, the program, the lines.
 pub fn fold_output(alloc: Global, bytes: &[u8]) -> Result<ModeOutput, Stop>
-    ensures { IsAnswer (Mode.Alone Alone.Fold) bytes.now result }
+    ensures { IsAnswer (alone_task Alone.Fold) bytes.now result }
 {
     let Some(cut) = separate(bytes) else {
         return Err(Stop::Refused(Refusal::NoSeparator));

@@ -2,6 +2,7 @@ ghost use Rattle.std.specs.Prelude.{◌≡◌};
 ghost use Rattle.ccp_run.specs.Attempts.{IsAnswer, IsAttempt};
 ghost use Rattle.ccp_run.specs.Modes.{limit_in};
 ghost use Rattle.ccp_run.specs.Streams.{stream};
+ghost use Rattle.ccp_run.specs.Tasks.{alone_task};
 
 use crate::check::check_output;
 use crate::fold::fold_output;
@@ -9,7 +10,7 @@ use crate::outcome::ModeOutput;
 use crate::refusal::{Limit, Refusal};
 use crate::stop::Stop;
 use ccp_base::{ReadFault, Source, read_all};
-use ccp_words::{Alone, Mode};
+use ccp_words::Alone;
 use std::alloc::Global;
 
 /// Reads the source to its end, and makes the mode's output.
@@ -18,7 +19,7 @@ pub fn read_output<S: Source>(
     mode: Alone,
     source: &mut S,
 ) -> Result<ModeOutput, Stop>
-    ensures { IsAttempt (Mode.Alone mode) (stream (S.remaining source.old) (S.remaining source.new) (S.faults source.old) (S.faults source.new)) result }
+    ensures { IsAttempt (alone_task mode) (stream (S.remaining source.old) (S.remaining source.new) (S.faults source.old) (S.faults source.new)) result }
 {
     let limit = limit(mode);
     match read_all(alloc, source, limit.bytes()) {
@@ -31,7 +32,7 @@ pub fn read_output<S: Source>(
 
 /// How long the input of a mode may be.
 fn limit(mode: Alone) -> Limit
-    ensures { result ≡ limit_in (Mode.Alone mode) }
+    ensures { result ≡ limit_in (alone_task mode) }
 {
     match mode {
         Alone::Check | Alone::Fold | Alone::Feed => Limit::Input,
@@ -41,7 +42,7 @@ fn limit(mode: Alone) -> Limit
 
 /// The output of a mode for an input that was read to its end. The words never ask for a mode that isn't there yet.
 fn output(alloc: Global, mode: Alone, bytes: &[u8]) -> Result<ModeOutput, Stop>
-    ensures { IsAnswer (Mode.Alone mode) bytes.now result }
+    ensures { IsAnswer (alone_task mode) bytes.now result }
 {
     match mode {
         Alone::Check => check_output(alloc, bytes),

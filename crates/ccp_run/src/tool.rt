@@ -4,6 +4,7 @@ ghost use Rattle.ccp_words.specs.Words.{are_accepted, asked_in};
 ghost use Rattle.ccp_run.specs.Complete.{IsComplete};
 ghost use Rattle.ccp_run.specs.Run.{IsRun, IsUnasked};
 ghost use Rattle.ccp_run.specs.Streams.{stream};
+ghost use Rattle.ccp_run.specs.Tasks.{task_of};
 
 use crate::calls::alone;
 use crate::ending::{end, end_without};
@@ -32,9 +33,9 @@ pub fn run<R: Threads + Wait + Sync, S: Source, K: Sink, E: Sink, G: Gate + Sync
     ensures unasked { are_accepted (map string_bytes words.items) ≡ false → IsUnasked (stream (S.remaining source.old) (S.remaining source.new) (S.faults source.old) (S.faults source.new)) (stream (K.written sink.old) (K.written sink.new) (K.faults sink.old) (K.faults sink.new)) (stream (E.written errors.old) (E.written errors.new) (E.faults errors.old) (E.faults errors.new)) result }
     // Else it is a run of the mode that they ask for.
     ensures asks { result.status ≢ 2 → result.status ≢ 6 → IsSome (asked_in (map string_bytes words.items)) }
-    ensures asked { (asked : Asked) → are_accepted (map string_bytes words.items) ≡ true → asked_in (map string_bytes words.items) ≡ Some asked → IsRun asked.mode (stream (S.remaining source.old) (S.remaining source.new) (S.faults source.old) (S.faults source.new)) (stream (K.written sink.old) (K.written sink.new) (K.faults sink.old) (K.faults sink.new)) (stream (E.written errors.old) (E.written errors.new) (E.faults errors.old) (E.faults errors.new)) (K.is_finished sink.new) result }
+    ensures asked { (asked : Asked) → are_accepted (map string_bytes words.items) ≡ true → asked_in (map string_bytes words.items) ≡ Some asked → IsRun (task_of asked) (stream (S.remaining source.old) (S.remaining source.new) (S.faults source.old) (S.faults source.new)) (stream (K.written sink.old) (K.written sink.new) (K.faults sink.old) (K.faults sink.new)) (stream (E.written errors.old) (E.written errors.new) (E.faults errors.old) (E.faults errors.new)) (K.is_finished sink.new) result }
     // An input of that mode is answered, and every other is refused.
-    ensures complete { (asked : Asked) → are_accepted (map string_bytes words.items) ≡ true → asked_in (map string_bytes words.items) ≡ Some asked → IsComplete asked.mode (stream (S.remaining source.old) (S.remaining source.new) (S.faults source.old) (S.faults source.new)) (stream (K.written sink.old) (K.written sink.new) (K.faults sink.old) (K.faults sink.new)) result }
+    ensures complete { (asked : Asked) → are_accepted (map string_bytes words.items) ≡ true → asked_in (map string_bytes words.items) ≡ Some asked → IsComplete (task_of asked) (stream (S.remaining source.old) (S.remaining source.new) (S.faults source.old) (S.faults source.new)) (stream (K.written sink.old) (K.written sink.new) (K.faults sink.old) (K.faults sink.new)) result }
 {
     match read_words(alloc, &words) {
         Ok(asked) => asked_run(rt, alloc, asked, source, sink, errors, gate),
@@ -53,7 +54,7 @@ fn asked_run<R: Threads + Wait + Sync, S: Source, K: Sink, E: Sink, G: Gate + Sy
     errors: &mut E,
     _gate: &G,
 ) -> Outcome
-    ensures { IsRun asked.mode (stream (S.remaining source.old) (S.remaining source.new) (S.faults source.old) (S.faults source.new)) (stream (K.written sink.old) (K.written sink.new) (K.faults sink.old) (K.faults sink.new)) (stream (E.written errors.old) (E.written errors.new) (E.faults errors.old) (E.faults errors.new)) (K.is_finished sink.new) result }
+    ensures { IsRun (task_of asked) (stream (S.remaining source.old) (S.remaining source.new) (S.faults source.old) (S.faults source.new)) (stream (K.written sink.old) (K.written sink.new) (K.faults sink.old) (K.faults sink.new)) (stream (E.written errors.old) (E.written errors.new) (E.faults errors.old) (E.faults errors.new)) (K.is_finished sink.new) result }
 {
     match asked.mode {
         Mode::Alone(mode) => alone(alloc, mode, source, sink, errors),

@@ -1,5 +1,5 @@
-use Rattle.ccp_words.specs.declared.mode.Mode.TheVariants.{Alone}
 use Rattle.ccp_run.specs.Streams.{Stream, stream}
+use Rattle.ccp_run.specs.Tasks.{Alone}
 use Rattle.ccp_run.proofs.CompleteRuns.{complete}
 use Rattle.ccp_run.proofs.RunLemmas.{run_of}
 use Rattle.ccp_run.proofs.calls.alone.Goals as goal
