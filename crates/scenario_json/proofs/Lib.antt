@@ -1,0 +1,4 @@
+pub mod DrawLemmas
+pub mod ProgramLemmas
+pub mod TableLemmas
+pub mod TextLemmas
