@@ -8,3 +8,4 @@ pub mod Traces
 pub mod ScenePrograms
 pub mod Scene
 pub mod Soak
+pub mod Cases

@@ -27,8 +27,7 @@ abbrev pub ComesTo : List ℕ → Result Form BuildFault → Type 0
 ComesTo text (Ok form) = IsBuiltFrom text form
 ComesTo text (Err fault) = IsNoProgram text fault
 
--- a reading that gives for each text what the text stands for. There is one, and only one: a text is built from a
--- program or has a first refusal, and not both
+-- a reading gives for each text what the text comes to
 pub record IsReading (read : Reading) : Type 0 where
   pub at : (text : List ℕ) → ComesTo text (read text)
 
