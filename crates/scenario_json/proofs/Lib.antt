@@ -1,0 +1,7 @@
+pub mod CaseLemmas
+pub mod DrawLemmas
+pub mod ProgramLemmas
+pub mod ReadingLemmas
+pub mod SceneLemmas
+pub mod TableLemmas
+pub mod TextLemmas
