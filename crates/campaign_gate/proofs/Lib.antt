@@ -1,0 +1,5 @@
+pub mod LeftLemmas
+pub mod PlanLemmas
+pub mod PeakLemmas
+pub mod SumLemmas
+pub mod WalkLemmas
