@@ -3,3 +3,5 @@ pub mod PlanLemmas
 pub mod PeakLemmas
 pub mod SumLemmas
 pub mod WalkLemmas
+pub mod DueLemmas
+pub mod RowLemmas

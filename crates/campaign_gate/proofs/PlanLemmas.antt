@@ -58,6 +58,12 @@ none-due lag acks false (Some ticket) can done = absurd (let wrong : false ≡ t
 none-due lag acks false None true done = absurd (let wrong : false ≡ true = done in (cc))
 none-due lag acks false None false done = refl
 
+heard-next : (due may_take may_hear done : Bool) → due ≡ false → may_take ≡ false → (may_hear ≡ false → done ≡ true) → done ≡ false
+    → first_letter due may_take may_hear ≡ Some A
+heard-next due may_take true done not_due not_take ends left = λ i. first_letter (not_due i) (not_take i) true
+heard-next due may_take false done not_due not_take ends left =
+    absurd (let wrong : true ≡ false = sym (ends refl) ∙ left in (cc))
+
 module _ {X : Type 0} (flow : Flow X) (lag : ℕ) where
   next-made : (w : World X) (next : Option Letter) → next_of flow lag w ≡ next
       → IsMade (is_due flow lag w) (is_legal flow w T) (is_legal flow w A) next
@@ -79,6 +85,19 @@ module _ {X : Type 0} (flow : Flow X) (lag : ℕ) where
 
   pub complete-none : (w : World X) → is_complete flow w ≡ true → next_of flow lag w ≡ None
   complete-none w done = none-due lag (length w.acks) (is_legal flow w A) w.out (can_take w) done
+
+  -- which letter is next
+  pub next-C : (w : World X) → is_due flow lag w ≡ true → next_of flow lag w ≡ Some C
+  next-C w due = ap (λ (b : Bool). first_letter b (is_legal flow w T) (is_legal flow w A)) due
+
+  pub next-T : (w : World X) → is_due flow lag w ≡ false → is_legal flow w T ≡ true → next_of flow lag w ≡ Some T
+  next-T w due may = λ i. first_letter (due i) (may i) (is_legal flow w A)
+
+  pub next-A : (w : World X) → is_due flow lag w ≡ false → is_legal flow w T ≡ false → is_complete flow w ≡ false
+      → next_of flow lag w ≡ Some A
+  next-A w due may left =
+      heard-next (is_due flow lag w) (is_legal flow w T) (is_legal flow w A) (is_complete flow w) due may
+      (ended lag (length w.acks) (is_legal flow w A) w.out (can_take w) due may) left
 
   -- ---- the word
 

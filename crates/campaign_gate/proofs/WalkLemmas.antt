@@ -1,7 +1,8 @@
 -- One more letter of the campaign word keeps a flow on its way.
-use Rattle.std.specs.Prelude.{◌≡◌, ℕ, zero, ◌+◌, ◌-◌, ◌*◌, ◌<◌, ◌≤◌, max, Bool, true, false, is_some, is_none, ◌&&◌, Option, Some, None, List, [], ◌∷◌, ◌++◌, length, refl}
+use Rattle.std.specs.Prelude.{◌≡◌, ℕ, zero, ◌+◌, ◌-◌, ◌*◌, ◌<◌, ◌≤◌, max, Bool, true, false, is_some, is_none, ◌&&◌, Option, Some, None, unwrap_or, slice_get, List, [], ◌∷◌, ◌++◌, length, refl}
 use Rattle.std.specs.Option.{ForSome}
 use Rattle.std.proofs.Common.{arith, ap, sym, ◌∙◌, subst, append_assoc, append-nil, length-append}
+use Rattle.std.proofs.lemmas.Bool.{ltb-true}
 use Rattle.ccp_base.specs.declared.ack.Ack.{Ack}
 use Rattle.ccp_base.specs.declared.exchange.Report.{Report}
 use Rattle.ccp_base.specs.declared.exchange.Reply.{Reply}
@@ -15,16 +16,16 @@ use Rattle.flow_core.specs.World.{Failure, Content, Taken, World, opening, takin
 use Rattle.flow_core.specs.Words.{from_link, after_letter, world, can_take, is_legal, is_complete}
 use Rattle.flow_core.specs.WordLaws.{world-append}
 use Rattle.flow_core.specs.Cells.{CellState, flow_at, world_at, ack_at}
-use Rattle.flow_core.proofs.WordLemmas.{take-keeps, answer-keeps}
+use Rattle.flow_core.proofs.WordLemmas.{slice_get-next, take-keeps, answer-keeps}
 use Rattle.campaign_gate.specs.declared.sums.Sums.{Sums}
 use Rattle.campaign_gate.specs.declared.walk.Walk.{Walk}
 use Rattle.campaign_gate.specs.CampaignWord.{plan_from, plan}
-use Rattle.campaign_gate.specs.CampaignRow.{peak_of}
-use Rattle.campaign_gate.specs.Walks.{letters_left, left_at, next_at, window_at, plan_at, sums_of, with_ack, sums_after, TakenAfter, IsOnWay, Makes}
+use Rattle.campaign_gate.specs.CampaignRow.{peak_of, row_over, row_after, row_of}
+use Rattle.campaign_gate.specs.Walks.{letters_left, left_at, next_at, window_at, plan_at, sums_of, with_ack, sums_after, TakenAfter, AreRoomy, IsOnWay, Makes}
 use Rattle.campaign_gate.proofs.LeftLemmas.{left-letter}
 use Rattle.campaign_gate.proofs.PlanLemmas.{next-legal, plan-next, plan-none}
 use Rattle.campaign_gate.proofs.PeakLemmas.{peak-append}
-use Rattle.campaign_gate.proofs.SumLemmas.{sums-append}
+use Rattle.campaign_gate.proofs.SumLemmas.{sums-append, roomy}
 
 -- ---- the ticket that is out
 
@@ -152,6 +153,36 @@ module _ (old : Walk) where
     pub fewer-left : (new : Walk) → Makes letter old new → left_at new.cell < left_at old.cell
     fewer-left new makes = subst (λ (cell : CellState). left_at cell < left_at old.cell) (sym makes.cell) fewer-longer
 
+-- ---- an acknowledgement
+
+-- the last of the list is the one that was added
+pub last-is : (before all : List Ack) (ack given : Ack) → all ≡ before ++ given ∷ [] → slice_get all (length all - 1) ≡ Some ack → ack ≡ given
+last-is before all ack given same last =
+    let at : length (before ++ given ∷ []) - 1 ≡ length before = omega (arith, length-append before (given ∷ [])) in
+    let is : Some given ≡ Some ack =
+    sym (slice_get-next before given []) ∙ sym (ap (slice_get (before ++ given ∷ [])) at)
+    ∙ sym (ap (λ (acks : List Ack). slice_get acks (length acks - 1)) same) ∙ last in
+    ap (λ (option : Option Ack). unwrap_or option ack) (sym is)
+
+-- the sums with the next acknowledgement are numbers of 64 bits
+pub roomy-heard : (old : Walk) → IsOnWay old → next_at old.cell ≡ Some A → AreRoomy (with_ack (ack_at old.cell) old.sums)
+roomy-heard old on next =
+    let flow = flow_at old.cell in
+    let link = old.cell.case.link in
+    let before = world_at old.cell in
+    let word = old.cell.word ++ A ∷ [] in
+    let ack = ack_at old.cell in
+    let made : (world flow link word).acks ≡ before.acks ++ ack ∷ [] =
+    ap (λ (w : World ℕ). w.acks) (world-append flow link old.cell.word A) in
+    let more : length before.acks < old.cell.case.acks =
+    ltb-true (length before.acks) old.cell.case.acks (next-legal flow old.cell.case.lag before A next) in
+    let most : old.cell.case.acks ≤ 65536 = old.cell.case.acks_within in
+    let few : length (world flow link word).acks ≤ 65536 =
+    omega (arith, ap length made, length-append before.acks (ack ∷ []), more, most) in
+    subst AreRoomy
+    (ap sums_of made ∙ sums-append before.acks ack ∙ ap (with_ack ack) (sym on.sums))
+    (roomy flow link word few)
+
 -- ---- the beginning and the end
 
 pub on-begun : (cell : CellState) (peak : ℕ) → cell.word ≡ [] → peak ≡ window_at cell
@@ -181,3 +212,11 @@ whole walk on done =
     ∙ ap (λ (rest : List Letter). cell.word ++ rest)
       (sym (plan-none (flow_at cell) cell.case.lag cell.case.link (3 * cell.case.acks - length cell.word) (world_at cell) done))
     ∙ on.word
+
+-- where the word is complete, the row is that of the case
+pub row-whole : (walk : Walk) → IsOnWay walk → is_complete (flow_at walk.cell) (world_at walk.cell) ≡ true
+    → row_over (flow_at walk.cell) (world_at walk.cell) walk.peak ≡ row_of walk.cell.case
+row-whole walk on done =
+    let cell = walk.cell in
+    ap (row_over (flow_at cell) (world_at cell)) on.peak
+    ∙ ap (row_after (flow_at cell) cell.case.link) (whole walk on done)

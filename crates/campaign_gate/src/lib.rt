@@ -2,8 +2,11 @@
 #![tactic(auto)]
 
 pub mod calls;
+mod case_row;
 mod row;
 mod sums;
 mod walk;
+mod workers;
 
-pub use row::Row;
+pub use calls::Cases;
+pub use row::{Row, Rows};

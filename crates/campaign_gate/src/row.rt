@@ -1,3 +1,5 @@
+use ccp_base::Sequence;
+
 /// What a case's flow came to on its campaign word.
 #[derive(Clone, Copy, PartialEq, Eq, Debug)]
 pub struct Row {
@@ -25,3 +27,6 @@ pub struct Row {
     /// How many acknowledgements came after the last report or change.
     pub tail: u64,
 }
+
+/// Rows in the order of their cases.
+pub type Rows = Sequence<Row>;

@@ -10,7 +10,7 @@ use crate::row::Row;
 use crate::sums::Sums;
 use agent_core::calls::answer;
 use ccp_base::{NoMemory, Told};
-use flow_core::{Cell, TakeFault, TicketLine};
+use flow_core::{Cell, Letter, TakeFault, TicketLine};
 use fold_machine::Steps;
 use std::alloc::Global;
 use std::sync::ledger::Ledger;
@@ -33,7 +33,7 @@ impl Walk {
         ensures cell { result.cell ≡ cell }
         ensures on { IsOnWay result }
     {
-        let peak = cell.cwnd();
+        let window = cell.cwnd();
         let sums = Sums {
             lost: 0,
             timeouts: 0,
@@ -43,7 +43,7 @@ impl Walk {
             cell,
             taken: 0,
             sums,
-            peak,
+            peak: window,
         }
     }
 
@@ -80,7 +80,7 @@ impl Walk {
         if self.cell.acks() >= case.acks {
             return is_out;
         }
-        is_out && self.taken + case.lag <= self.cell.acks()
+        is_out && u64::from(self.taken) + u64::from(case.lag) <= u64::from(self.cell.acks())
     }
 
     /// Applies the answer to the ticket that is out.
@@ -106,12 +106,14 @@ impl Walk {
     {
         match self.cell.take(alloc) {
             Ok(_) => {
-                self.taken = self.cell.acks();
+                let acks = self.cell.acks();
+                self.taken = acks;
                 self.peak = self.peak.max(self.cell.cwnd());
                 Ok(true)
             }
+            Err(TakeFault::NotYet) => Ok(false),
+            Err(TakeFault::Out(_)) => Ok(false),
             Err(TakeFault::NoMemory) => Err(NoMemory),
-            Err(_) => Ok(false),
         }
     }
 
