@@ -32,6 +32,7 @@ pub(crate) fn by_workers<
 
 /// The work of one worker: the cases whose numbers leave the worker's when they are divided by the number of workers,
 /// in order.
+#[tactic(auto, using(crate::proofs::RowLemmas::row_at_place))]
 fn work<C: Campaign, G: Gate>(
     alloc: Global,
     cases: &[Case],
@@ -56,6 +57,7 @@ fn work<C: Campaign, G: Gate>(
 }
 
 /// The rows in the order of the cases, out of what the workers made.
+#[tactic(auto, using(crate::proofs::RowLemmas::row_after_front, crate::proofs::RowLemmas::front_and_rest))]
 fn merged<C: Campaign>(
     alloc: Global,
     cases: &[Case],

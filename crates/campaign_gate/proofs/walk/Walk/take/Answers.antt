@@ -6,7 +6,7 @@ use Rattle.flow_core.specs.World.{Taken, World}
 use Rattle.flow_core.proofs.WordLemmas.{take-keeps}
 use Rattle.flow_core.specs.Words.{can_take, is_still}
 use Rattle.flow_core.specs.Books.{ticket_of}
-use Rattle.flow_core.specs.Cells.{flow_at, world_at, out_number_at}
+use Rattle.flow_core.specs.Cells.{CellState, flow_at, world_at, out_number_at}
 use Rattle.campaign_gate.proofs.PlanLemmas.{next-T}
 use Rattle.campaign_gate.proofs.DueLemmas.{may-take, nothing-left, one-out}
 use Rattle.campaign_gate.proofs.walk.Walk.take.Goals as goal
@@ -24,9 +24,20 @@ returns-in-Ok-clause-made c is =
       record {
         cell = c.in-Ok.ensures.ok;
         taken =
-            c.acks.ensures ∙ ap (λ (v : World ℕ). length v.acks) c.in-Ok.ensures.world
+            c.acks-acks.ensures ∙ ap (λ (v : World ℕ). length v.acks) c.in-Ok.ensures.world
             ∙ ap (λ (acks : List Ack). length acks) (take-keeps (flow_at cell) w).acks;
         sums = refl;
         peak = c.max-self.ensures ∙ ap (max c.args.self.now.peak) c.cwnd.ensures;
       },
+    )
+
+pub returns-in-Err-Out-clause-not : goal.returns-in-Err-Out-clause-not
+returns-in-Err-Out-clause-not c is =
+    let old = c.args.self.now in
+    let w = world_at old.cell in
+    let n = c.in-Err-Out.field-0-0 in
+    let refused : c.take.result ≡ Err (fault.Out n) = c.in-Err-Out.is ∙ ap Err c.in-Err-Out.field-0-is in (
+      one-out (λ (ticket : Ticket). ticket.number) (λ (ticket : Taken ℕ). ticket_of (flow_at old.cell) w ticket.told) w.out (can_take w) n
+          ((c.take.ensures.out n).0 refused),
+      ap (λ (cell : CellState). record old { cell = cell }) c.in-Err-Out.ensures.unchanged,
     )
