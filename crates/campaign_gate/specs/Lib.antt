@@ -1,0 +1,3 @@
+pub mod CampaignWord
+pub mod CampaignRow
+pub mod Walks

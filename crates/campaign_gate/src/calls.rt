@@ -1,0 +1,59 @@
+//! The run of one case, and of many.
+ghost use Rattle.std.specs.Prelude.{◌≡◌, ◌<◌, ◌≤◌, map, length, IfOk};
+ghost use Rattle.ccp_base.specs.Limits.{most_cases, most_workers};
+ghost use Rattle.campaign_gate.specs.CampaignRow.{row_of};
+
+use crate::row::{Row, Rows};
+use crate::walk::Walk;
+use crate::workers::by_workers;
+use ccp_base::{Gate, NoMemory, Sequence};
+use flow_core::{Case, Cell};
+use fold_machine::Steps;
+use std::alloc::Global;
+use std::marker::Brand;
+use std::sync::Wait;
+use std::sync::ledger::{Blank, Ledger};
+use std::thread::Threads;
+
+/// The row of a case: its flow makes its campaign word.
+pub fn run_case(alloc: Global, case: Case) -> Result<Row, NoMemory>
+    ensures { IfOk result (λ row. row ≡ row_of case) }
+{
+    counted::<Brand>(alloc, case, Blank::new(1))
+}
+
+/// The same, where a ledger of one part counts the steps.
+fn counted<L: Ledger>(alloc: Global, case: Case, blank: Blank) -> Result<Row, NoMemory>
+    requires name { blank.name ≡ L.name }
+    requires parts { blank.parts ≡ L.parts }
+    requires some { 0 < blank.parts }
+    ensures { IfOk result (λ row. row ≡ row_of case) }
+{
+    let mut steps = Steps::<L>::new(blank);
+    let mut walk = Walk::begin(Cell::new(alloc, case)?);
+    while !walk.cell.is_complete() {
+        walk.next(alloc, &mut steps)?;
+    }
+    Ok(walk.row())
+}
+
+/// The cases of a campaign in order.
+pub type Cases = Sequence<Case>;
+
+/// The rows of cases, in their order, whatever the number of workers, which is 1 to 32. Worker `w` runs the cases whose
+/// number leaves `w` when it is divided by the number of workers, in order, each in a cell that is dropped after it. It
+/// passes the gate at `InCase` before a case and at `AfterCase` after it. Where a thread can't be started the caller does
+/// its work. There are at most 1,024 cases.
+pub fn rows<R: Threads + Wait + Sync, G: Gate + Sync>(
+    rt: &R,
+    alloc: Global,
+    cases: Cases,
+    workers: u32,
+    gate: &G,
+) -> Result<Rows, NoMemory>
+    requires few { length cases ≤ most_cases }
+    requires workers { (1 ≤ workers) × (workers ≤ most_workers) }
+    ensures { IfOk result (λ rows. rows ≡ map row_of cases) }
+{
+    by_workers::<Brand, R, G>(rt, alloc, cases.as_slice(), workers, gate)
+}
