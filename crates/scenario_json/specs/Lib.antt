@@ -9,3 +9,4 @@ pub mod ScenePrograms
 pub mod Scene
 pub mod Soak
 pub mod Cases
+pub mod RefusalText

@@ -15,6 +15,7 @@ mod key;
 mod mode;
 mod names;
 mod plan;
+mod refusal;
 mod scenario;
 mod scene_programs;
 mod spot;
@@ -23,5 +24,6 @@ mod values;
 
 pub use fault::{Path, SceneFault};
 pub use mode::Mode;
+pub use refusal::put_scene_refusal;
 pub use plan::{Fates, Kind, Measures, Plan, Plans, Programs, Waits};
 pub use scenario::Scenario;

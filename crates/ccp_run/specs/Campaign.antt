@@ -1,0 +1,50 @@
+-- What `campaign` and `soak` make of their cases.
+use Rattle.std.specs.Prelude.{◌≡◌, ℕ, Bool, true, false, List, [], map}
+use Rattle.std.specs.List.{All}
+use Rattle.ccp_base.specs.Text.{◌⧺◌}
+use Rattle.agent_core.specs.declared.agent.Agent.{Agent}
+use Rattle.flow_core.specs.declared.case.Case.{Case}
+use Rattle.flow_core.specs.LiveText.{Sources, flow_from}
+use Rattle.reg_compiler.specs.declared.built.Built.{Built}
+use Rattle.campaign_gate.specs.declared.row.Row.{Row}
+use Rattle.campaign_gate.specs.CampaignRow.{row_read}
+use Rattle.campaign_report.specs.TableText.{table_text, soak_text}
+use Rattle.campaign_report.specs.WireText.{wire_text}
+use Rattle.scenario_json.specs.declared.mode.Mode.TheVariants as scene
+use Rattle.scenario_json.specs.Cases.{plan_of, case_names, IsCoded, AreFlowsFrom}
+use Rattle.scenario_json.specs.Scene.{scene_with}
+use Rattle.scenario_json.specs.ScenePrograms.{Reading, IsReading, forms_of}
+use Rattle.scenario_json.specs.Soak.{gen}
+use Rattle.ccp_run.specs.declared.outcome.ModeOutput.{ModeOutput}
+use Rattle.ccp_run.specs.Scenes.{IsScenario}
+
+-- the row of a case, read over the sources of its programs
+abbrev pub source_row : Sources → Case → Row
+source_row sources case = row_read (flow_from sources case) case.link case.lag
+
+abbrev pub source_rows : List (ℕ × Built) → List Case → List Row
+source_rows programs cases = map (source_row (forms_of programs)) cases
+
+abbrev pub case_agents : List Case → List Agent
+case_agents cases = map (λ case. case.agent) cases
+
+-- the programs' Install frames, where they are asked for
+abbrev pub frames_shown : Bool → List (ℕ × Built) → List ℕ
+frames_shown true programs = wire_text programs
+frames_shown false programs = []
+
+-- the output is the table of the scenario's cases, after the frames of its programs where they are asked for
+pub record IsCampaignOutput (wire : Bool) (bytes : List ℕ) (output : ModeOutput) : Type 0 where
+  pub cases : List Case
+  pub scenario : IsScenario scene.Campaign bytes output.programs cases
+  pub written : output.text ≡ frames_shown wire output.programs ⧺ table_text (case_names cases) (case_agents cases) (source_rows output.programs cases)
+  pub idle : output.ran ≡ 0
+
+-- the output is the total of the generated cases of this number
+pub record IsSoakOutput (number : ℕ) (output : ModeOutput) : Type 0 where
+  pub cases : List Case
+  pub generated : (read : Reading) → IsReading read → scene_with (forms_of output.programs) (map plan_of cases) ≡ gen read number
+  pub coded : All (IsCoded output.programs) cases
+  pub flows : AreFlowsFrom 0 cases
+  pub written : output.text ≡ soak_text number (source_rows output.programs cases)
+  pub idle : output.ran ≡ 0
