@@ -2,3 +2,4 @@ mod FoldLemmas
 mod RunLemmas
 pub mod SettledInputs
 mod CompleteRuns
+pub mod ReadLemmas

@@ -35,15 +35,15 @@ within_of task source bytes true read short = record { taken = bytes; takes = re
 within_of task source bytes false read short = untouched_within (limit_of task) source.old source.new read.same
 
 left_of : (source : Stream) (bytes : List ℕ) (read : Bool) → HasInput read source bytes → IsLeft read source
-left_of source bytes true has = unit
+left_of source bytes true has = tt
 left_of source bytes false has = has.same
 
-is_left : (read : Bool) (source : Stream) → read ≡ true → IsLeft read source
-is_left true source reads = unit
+pub is_left : (read : Bool) (source : Stream) → read ≡ true → IsLeft read source
+is_left true source reads = tt
 is_left false source reads = let bad : ⊥ = cc in absurd bad
 
 left_alone : (read : Bool) (source : Stream) → source.new ≡ source.old → IsLeft read source
-left_alone true source same = unit
+left_alone true source same = tt
 left_alone false source same = same
 
 pub untouched : (task : Task) (source : Stream) → source.new ≡ source.old → WantsMemory task source

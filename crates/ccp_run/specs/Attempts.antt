@@ -2,12 +2,14 @@
 use Rattle.std.specs.Prelude.{◌≡◌, ◌≤◌, ◌⊎◌, ℕ, ◌+◌, true, Result, Ok, Err, List, length}
 use Rattle.ccp_base.specs.Outside.{Rose, TakesOver, TakesWithin}
 use Rattle.ccp_run.specs.declared.outcome.ModeOutput.{ModeOutput}
+use Rattle.ccp_run.specs.declared.refusal.Limit.{Limit}
 use Rattle.ccp_run.specs.declared.refusal.Refusal.{Refusal}
 use Rattle.ccp_run.specs.declared.refusal.Refusal.TheVariants.{TooLong}
 use Rattle.ccp_run.specs.declared.stop.Stop.{Stop}
 use Rattle.ccp_run.specs.declared.stop.Stop.TheVariants as stop
+use Rattle.ccp_run.specs.ErrorLine.{most_bytes}
 use Rattle.ccp_run.specs.Modes.{limit_in, limit_of, is_read, IsMade, IsRefused}
-use Rattle.ccp_run.specs.Streams.{Stream, HasInput, IsLeft}
+use Rattle.ccp_run.specs.Streams.{Stream, ReadsToEnd, HasInput, IsLeft}
 use Rattle.ccp_run.specs.Tasks.{Task}
 
 -- the mode's output for bytes, or the first refusal of these
@@ -52,6 +54,16 @@ pub record FailsToRead (task : Task) (source : Stream) : Type 0 where
 pub record WantsMemory (task : Task) (source : Stream) : Type 0 where
   pub left : IsLeft (is_read task) source
   pub within : TakesWithin (limit_of task) source.old source.new
+
+-- the source was read to its end within the limit, or why it wasn't
+abbrev pub IsRead : Limit → Stream → Result (List ℕ) Stop → Type 0
+IsRead limit source (Ok bytes) = ReadsToEnd source bytes × (length bytes ≤ most_bytes limit)
+IsRead limit source (Err (stop.Refused refusal)) =
+    TakesOver (most_bytes limit) source.old source.new × TakesWithin (most_bytes limit + 1) source.old source.new
+    × (refusal ≡ TooLong limit)
+IsRead limit source (Err stop.ReadFailed) =
+    Rose source.before source.now × TakesWithin (most_bytes limit) source.old source.new
+IsRead limit source (Err stop.NoMemory) = TakesWithin (most_bytes limit) source.old source.new
 
 abbrev pub IsAttempt : Task → Stream → Result ModeOutput Stop → Type 0
 IsAttempt task source (Ok output) = MakesOutput task source output

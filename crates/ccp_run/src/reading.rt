@@ -1,5 +1,5 @@
 ghost use Rattle.std.specs.Prelude.{◌≡◌};
-ghost use Rattle.ccp_run.specs.Attempts.{IsAnswer, IsAttempt};
+ghost use Rattle.ccp_run.specs.Attempts.{IsAnswer, IsAttempt, IsRead};
 ghost use Rattle.ccp_run.specs.Modes.{limit_in};
 ghost use Rattle.ccp_run.specs.Streams.{stream};
 ghost use Rattle.ccp_run.specs.Tasks.{alone_task};
@@ -9,11 +9,12 @@ use crate::fold::fold_output;
 use crate::outcome::ModeOutput;
 use crate::refusal::{Limit, Refusal};
 use crate::stop::Stop;
-use ccp_base::{ReadFault, Source, read_all};
+use ccp_base::{Bytes, ReadFault, Source, read_all};
 use ccp_words::Alone;
 use std::alloc::Global;
 
 /// Reads the source to its end, and makes the mode's output.
+#[tactic(auto, using(crate::proofs::ReadLemmas::not_read, crate::proofs::ReadLemmas::answered))]
 pub fn read_output<S: Source>(
     alloc: Global,
     mode: Alone,
@@ -21,9 +22,18 @@ pub fn read_output<S: Source>(
 ) -> Result<ModeOutput, Stop>
     ensures { IsAttempt (alone_task mode) (stream (S.remaining source.old) (S.remaining source.new) (S.faults source.old) (S.faults source.new)) result }
 {
-    let limit = limit(mode);
-    match read_all(alloc, source, limit.bytes()) {
+    match read_bytes(alloc, limit(mode), source) {
         Ok(bytes) => output(alloc, mode, bytes.as_slice()),
+        Err(stop) => Err(stop),
+    }
+}
+
+/// Reads the source to its end, which comes within the limit.
+pub fn read_bytes<S: Source>(alloc: Global, limit: Limit, source: &mut S) -> Result<Bytes, Stop>
+    ensures { IsRead limit (stream (S.remaining source.old) (S.remaining source.new) (S.faults source.old) (S.faults source.new)) result }
+{
+    match read_all(alloc, source, limit.bytes()) {
+        Ok(bytes) => Ok(bytes),
         Err(ReadFault::Read) => Err(Stop::ReadFailed),
         Err(ReadFault::TooLong) => Err(Stop::Refused(Refusal::TooLong(limit))),
         Err(ReadFault::NoMemory) => Err(Stop::NoMemory),
