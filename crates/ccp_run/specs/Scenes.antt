@@ -1,32 +1,34 @@
 -- The inputs of the modes that run scenarios, and what a text that is none is refused for.
-use Rattle.std.specs.Prelude.{◌≡◌, ◌≢◌, ℕ, Result, Ok, Err, List, map}
+use Rattle.std.specs.Prelude.{◌≡◌, ℕ, Result, Ok, Err, List, map}
 use Rattle.std.specs.List.{All}
 use Rattle.flow_core.specs.declared.case.Case.{Case}
-use Rattle.flow_core.specs.LiveText.{Sources}
 use Rattle.reg_compiler.specs.declared.built.Built.{Built}
-use Rattle.scenario_json.specs.declared.fault.SceneFault.{SceneFault}
-use Rattle.scenario_json.specs.declared.fault.SceneFault.TheVariants as scene
 use Rattle.scenario_json.specs.declared.mode.Mode.{Mode as SceneMode}
 use Rattle.scenario_json.specs.Cases.{plan_of, IsCoded, AreFlowsFrom}
 use Rattle.scenario_json.specs.Scene.{Scene, scene_with, scene_of}
 use Rattle.scenario_json.specs.ScenePrograms.{Reading, IsReading, forms_of}
 use Rattle.ccp_run.specs.declared.refusal.Refusal.{Refusal}
 use Rattle.ccp_run.specs.declared.refusal.Refusal.TheVariants as refusal
+use Rattle.ccp_run.specs.declared.stop.Stop.{Stop}
+use Rattle.ccp_run.specs.declared.stop.Stop.TheVariants as stop
 
--- these cases are what a scene says, with the codes of these programs and agents that were told nothing yet
-pub record IsCast (programs : List (ℕ × Built)) (cases : List Case) (scene : Scene) : Type 0 where
-  pub says : scene_with (forms_of programs) (map plan_of cases) ≡ scene
-  pub coded : All (IsCoded programs) cases
-  pub flows : AreFlowsFrom 0 cases
+-- bytes are a scenario's text, which says this
+abbrev pub Says : SceneMode → List ℕ → Scene → Type 0
+Says mode bytes scene = (read : Reading) → IsReading read → scene_of read mode bytes ≡ Ok scene
 
 -- bytes are a scenario's text, and these are its programs and cases
 pub record IsScenario (mode : SceneMode) (bytes : List ℕ) (programs : List (ℕ × Built)) (cases : List Case) : Type 0 where
-  pub text : (read : Reading) → IsReading read → scene_of read mode bytes ≡ Ok (scene_with (forms_of programs) (map plan_of cases))
+  pub text : Says mode bytes (scene_with (forms_of programs) (map plan_of cases))
   pub coded : All (IsCoded programs) cases
   pub flows : AreFlowsFrom 0 cases
 
 -- bytes are no scenario's text, and this is their first refusal
 abbrev pub IsNoScenario : SceneMode → List ℕ → Refusal → Type 0
-IsNoScenario mode bytes (refusal.Scene fault) =
-    (fault ≢ scene.NoMemory) × ((read : Reading) → IsReading read → scene_of read mode bytes ≡ Err fault)
+IsNoScenario mode bytes (refusal.Scene fault) = (read : Reading) → IsReading read → scene_of read mode bytes ≡ Err fault
 IsNoScenario mode bytes _ = ⊥
+
+-- why there is no scenario, but for want of memory
+abbrev pub StopsScene : SceneMode → List ℕ → Stop → Type 0
+StopsScene mode bytes (stop.Refused refusal) = IsNoScenario mode bytes refusal
+StopsScene mode bytes stop.ReadFailed = ⊥
+StopsScene mode bytes stop.NoMemory = Unit {0}

@@ -31,3 +31,9 @@ task_of asked = task_in asked.mode asked
 -- a mode whose work is done by its caller alone
 abbrev pub alone_task : AloneMode → Task
 alone_task alone = Alone alone
+
+abbrev pub campaign_task : Bool → Task
+campaign_task wire = Campaign wire
+
+abbrev pub soak_task : ℕ → Task
+soak_task number = Soak number

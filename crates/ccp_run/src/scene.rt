@@ -1,0 +1,24 @@
+ghost use Rattle.std.specs.Prelude.{◌≡◌, ◌≤◌, IfOk, IfErr, length};
+ghost use Rattle.scenario_json.specs.Cases.{case_names};
+ghost use Rattle.scenario_json.specs.Scene.{most_cases_of};
+ghost use Rattle.ccp_run.specs.Scenes.{IsScenario, StopsScene};
+
+use crate::refusal::Refusal;
+use crate::stop::Stop;
+use scenario_json::calls::scenario;
+use scenario_json::{Mode, Scenario, SceneFault};
+use std::alloc::Global;
+
+/// The scenario that the bytes stand for.
+pub fn scene(alloc: Global, bytes: &[u8], mode: Mode) -> Result<Scenario, Stop>
+    ensures found { IfOk result (λ s. IsScenario mode bytes.now s.programs s.cases) }
+    ensures names { IfOk result (λ s. s.names ≡ case_names s.cases) }
+    ensures few { IfOk result (λ s. length s.cases ≤ most_cases_of mode) }
+    ensures err { IfErr result (StopsScene mode bytes.now) }
+{
+    match scenario(alloc, bytes, mode) {
+        Ok(scene) => Ok(scene),
+        Err(SceneFault::NoMemory) => Err(Stop::NoMemory),
+        Err(fault) => Err(Stop::Refused(Refusal::Scene(fault))),
+    }
+}
