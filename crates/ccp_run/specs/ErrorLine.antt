@@ -2,11 +2,12 @@
 use Rattle.std.specs.Prelude.{ℕ, List, codes, decimal}
 use Rattle.ccp_base.specs.Limits.{most_input_bytes, most_audit_bytes}
 use Rattle.portus_build.specs.RefusalText.{refusal_text}
+use Rattle.scenario_json.specs.RefusalText as scene
 use Rattle.report_lines.specs.Text.{◌⧺◌}
 use Rattle.ccp_run.specs.declared.refusal.Limit.{Limit}
 use Rattle.ccp_run.specs.declared.refusal.Limit.TheVariants.{Input, Audit}
 use Rattle.ccp_run.specs.declared.refusal.Refusal.{Refusal}
-use Rattle.ccp_run.specs.declared.refusal.Refusal.TheVariants.{TooLong, NoSeparator, Program, Line, TooManyAcks}
+use Rattle.ccp_run.specs.declared.refusal.Refusal.TheVariants.{TooLong, NoSeparator, Program, Line, TooManyAcks, Scene}
 
 abbrev pub most_bytes : Limit → ℕ
 most_bytes Input = most_input_bytes
@@ -19,6 +20,7 @@ refusal_part NoSeparator = codes "no separator\n"
 refusal_part (Program fault) = codes "program " ⧺ refusal_text fault ⧺ codes "\n"
 refusal_part (Line number) = codes "acknowledgement line " ⧺ decimal number ⧺ codes "\n"
 refusal_part TooManyAcks = codes "too many acknowledgements\n"
+refusal_part (Scene fault) = scene.refusal_text fault ⧺ codes "\n"
 
 abbrev pub refusal_line : Refusal → List ℕ
 refusal_line refusal = codes "ccp: input refused: " ⧺ refusal_part refusal

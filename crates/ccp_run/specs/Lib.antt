@@ -3,6 +3,8 @@ pub mod Statuses
 pub mod ErrorLine
 pub mod Check
 pub mod Fold
+pub mod Scenes
+pub mod Campaign
 pub mod Tasks
 pub mod Modes
 pub mod Attempts

@@ -7,6 +7,9 @@ use Rattle.ccp_run.specs.declared.refusal.Limit.{Limit}
 use Rattle.ccp_run.specs.declared.refusal.Limit.TheVariants as limit
 use Rattle.ccp_run.specs.declared.refusal.Refusal.{Refusal}
 use Rattle.ccp_run.specs.ErrorLine.{most_bytes}
+use Rattle.scenario_json.specs.declared.mode.Mode.TheVariants as scene
+use Rattle.ccp_run.specs.Scenes.{IsNoScenario}
+use Rattle.ccp_run.specs.Campaign.{IsCampaignOutput, IsSoakOutput}
 use Rattle.ccp_run.specs.Check.{IsCheckOutput, IsNoCheck}
 use Rattle.ccp_run.specs.Fold.{IsFoldOutput, IsNoFold}
 
@@ -42,8 +45,8 @@ IsMade (Alone Fold) bytes output = IsFoldOutput bytes output
 IsMade (Alone Feed) bytes output = ⊥
 IsMade (Alone Audit) bytes output = ⊥
 IsMade (Live wire) bytes output = ⊥
-IsMade (Campaign wire) bytes output = ⊥
-IsMade (Soak number) bytes output = ⊥
+IsMade (Campaign wire) bytes output = IsCampaignOutput wire bytes output
+IsMade (Soak number) bytes output = IsSoakOutput number output
 IsMade Rollout bytes output = ⊥
 IsMade Shared bytes output = ⊥
 
@@ -54,7 +57,7 @@ IsRefused (Alone Fold) bytes refusal = IsNoFold bytes refusal
 IsRefused (Alone Feed) bytes refusal = ⊥
 IsRefused (Alone Audit) bytes refusal = ⊥
 IsRefused (Live wire) bytes refusal = ⊥
-IsRefused (Campaign wire) bytes refusal = ⊥
+IsRefused (Campaign wire) bytes refusal = IsNoScenario scene.Campaign bytes refusal
 IsRefused (Soak number) bytes refusal = ⊥
 IsRefused Rollout bytes refusal = ⊥
 IsRefused Shared bytes refusal = ⊥

@@ -4,22 +4,30 @@ use Rattle.ccp_base.specs.declared.ack.Ack.{Ack}
 use Rattle.portus_core.specs.Programs.{Form}
 use Rattle.portus_build.specs.Texts.{IsBuiltFrom}
 use Rattle.ccp_words.specs.declared.mode.Alone.TheVariants.{Check, Fold}
-use Rattle.ccp_run.specs.Tasks.{Task, Alone}
+use Rattle.ccp_run.specs.Tasks.{Task, Alone, Campaign, Soak}
 use Rattle.ccp_run.specs.declared.outcome.ModeOutput.{ModeOutput}
 use Rattle.ccp_run.specs.declared.refusal.Refusal.{Refusal}
 use Rattle.ccp_run.specs.Fold.{IsFold}
+use Rattle.scenario_json.specs.declared.mode.Mode.TheVariants as scene
+use Rattle.scenario_json.specs.Scene.{Scene}
+use Rattle.ccp_run.specs.Scenes.{Says}
 use Rattle.ccp_run.specs.Modes.{IsMade, IsRefused}
 
 -- the modes that are there
 abbrev pub is_there : Task → Bool
 is_there (Alone Check) = true
 is_there (Alone Fold) = true
+is_there (Campaign wire) = true
+is_there (Soak number) = true
 is_there _ = false
 
 -- bytes are an input of the mode
 abbrev pub IsInput : Task → List ℕ → Type 0
 IsInput (Alone Check) bytes = (form : Form) × IsBuiltFrom bytes form
 IsInput (Alone Fold) bytes = (form : Form) × (acks : List Ack) × IsFold bytes form acks
+IsInput (Campaign wire) bytes = (said : Scene) × Says scene.Campaign bytes said
+-- a generated campaign doesn't look at its source
+IsInput (Soak number) bytes = Unit {0}
 IsInput _ bytes = ⊥
 
 pub record IsSettled (task : Task) (bytes : List ℕ) : Type 0 where

@@ -50,10 +50,10 @@ fn write_output<K: Sink, E: Sink>(
 fn refuse<E: Sink>(alloc: Global, refusal: Refusal, errors: &mut E) -> Outcome
     ensures { Refuses (stream (E.written errors.old) (E.written errors.new) (E.faults errors.old) (E.faults errors.new)) result refusal }
 {
-    if let Refusal::TooLong(limit) = refusal {
+    if let Refusal::TooLong(limit) = &refusal {
         return end_without(alloc, errors, Status::InputRefused, limit.line());
     }
-    match refusal_line(alloc, refusal) {
+    match refusal_line(alloc, &refusal) {
         Ok(line) => end_without(alloc, errors, Status::InputRefused, line.as_slice()),
         Err(NoMemory) => end_without(alloc, errors, Status::NoMemory, MEMORY_LINE),
     }

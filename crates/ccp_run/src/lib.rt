@@ -2,6 +2,7 @@
 #![tactic(auto)]
 
 pub mod calls;
+mod campaign;
 mod check;
 mod ending;
 mod fold;
@@ -10,6 +11,8 @@ mod outcome;
 mod program;
 mod reading;
 mod refusal;
+mod scene;
+mod soak;
 mod status;
 mod stop;
 mod tool;

@@ -3,6 +3,7 @@ ghost use Rattle.ccp_run.specs.ErrorLine.{most_bytes, refusal_line};
 
 use ccp_base::{Bytes, NoMemory};
 use portus_build::{BuildFault, put_refusal};
+use scenario_json::{SceneFault, put_scene_refusal};
 use std::alloc::Global;
 
 /// How long an input may be.
@@ -42,7 +43,7 @@ impl Limit {
 }
 
 /// Why an input is refused.
-#[derive(Clone, Copy, PartialEq, Eq, Debug)]
+#[derive(Debug, Drop)]
 pub enum Refusal {
     /// It has more bytes than this.
     TooLong(Limit),
@@ -54,19 +55,22 @@ pub enum Refusal {
     Line(u64),
     /// There are more than 65,536 acknowledgements.
     TooManyAcks,
+    /// The text is no scenario.
+    Scene(SceneFault),
 }
 
 /// The line that tells why an input is refused.
-pub fn refusal_line(alloc: Global, refusal: Refusal) -> Result<Bytes, NoMemory>
-    ensures { IfOk result (λ line. line ≡ refusal_line refusal) }
+pub fn refusal_line(alloc: Global, refusal: &Refusal) -> Result<Bytes, NoMemory>
+    ensures { IfOk result (λ line. line ≡ refusal_line refusal.now) }
 {
     let mut line = Bytes::new(alloc);
     match refusal {
         Refusal::TooLong(limit) => line.extend(limit.line())?,
         Refusal::NoSeparator => line.extend(b"ccp: input refused: no separator\n")?,
-        Refusal::Program(fault) => put_program_fault(alloc, &mut line, fault)?,
-        Refusal::Line(number) => put_line_fault(alloc, &mut line, number)?,
+        Refusal::Program(fault) => put_program_fault(alloc, &mut line, *fault)?,
+        Refusal::Line(number) => put_line_fault(alloc, &mut line, *number)?,
         Refusal::TooManyAcks => line.extend(b"ccp: input refused: too many acknowledgements\n")?,
+        Refusal::Scene(fault) => put_scene_fault(alloc, &mut line, fault)?,
     }
     Ok(line)
 }
@@ -84,6 +88,15 @@ fn put_program_fault(alloc: Global, line: &mut Bytes, fault: BuildFault) -> Resu
 {
     line.extend(b"ccp: input refused: program ")?;
     put_refusal(alloc, line, fault)?;
+    line.push(b'\n')?;
+    Ok(())
+}
+
+fn put_scene_fault(alloc: Global, line: &mut Bytes, fault: &SceneFault) -> Result<(), NoMemory>
+    ensures { OnOk result (line.new ≡ line.old ++ refusal_line (Refusal.Scene fault.now)) }
+{
+    line.extend(b"ccp: input refused: ")?;
+    put_scene_refusal(alloc, line, fault)?;
     line.push(b'\n')?;
     Ok(())
 }

@@ -1,8 +1,12 @@
 ghost use Rattle.std.specs.Prelude.{◌≡◌, ◌≤◌};
 ghost use Rattle.ccp_base.specs.Limits.{most_workers};
+ghost use Rattle.ccp_run.specs.Attempts.{IsAttempt};
 ghost use Rattle.ccp_run.specs.Campaign.{IsSoakOutput};
+ghost use Rattle.ccp_run.specs.Streams.{Stream};
+ghost use Rattle.ccp_run.specs.Tasks.{soak_task};
 
 use crate::outcome::ModeOutput;
+use crate::stop::Stop;
 use campaign_gate::calls::rows;
 use campaign_report::soak_text;
 use ccp_base::{Gate, NoMemory};
@@ -11,8 +15,21 @@ use std::alloc::Global;
 use std::sync::Wait;
 use std::thread::Threads;
 
-/// Runs the generated cases of this number, and sums them up.
-pub fn soaked<R: Threads + Wait + Sync, G: Gate + Sync>(
+/// Runs the generated cases of this number, and sums them up. It reads nothing.
+pub fn soak_output<R: Threads + Wait + Sync, G: Gate + Sync>(
+    rt: &R,
+    alloc: Global,
+    workers: u32,
+    number: u32,
+    gate: &G,
+) -> Result<ModeOutput, Stop>
+    requires workers { (1 ≤ workers) × (workers ≤ most_workers) }
+    ensures { (source : Stream) → source.new ≡ source.old → IsAttempt (soak_task number) source result }
+{
+    Ok(soaked(rt, alloc, workers, number, gate)?)
+}
+
+fn soaked<R: Threads + Wait + Sync, G: Gate + Sync>(
     rt: &R,
     alloc: Global,
     workers: u32,

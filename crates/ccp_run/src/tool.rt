@@ -1,14 +1,16 @@
 ghost use Rattle.std.specs.Prelude.{◌≡◌, ◌≢◌, ◌↔◌, true, false, Some, IsSome, map, string_bytes};
 ghost use Rattle.ccp_words.specs.declared.words.Asked.{Asked};
-ghost use Rattle.ccp_words.specs.Words.{are_accepted, asked_in};
+ghost use Rattle.ccp_words.specs.Words.{HasWorkers, are_accepted, asked_in};
 ghost use Rattle.ccp_run.specs.Complete.{IsComplete};
 ghost use Rattle.ccp_run.specs.Run.{IsRun, IsUnasked};
 ghost use Rattle.ccp_run.specs.Streams.{stream};
 ghost use Rattle.ccp_run.specs.Tasks.{task_of};
 
 use crate::calls::alone;
+use crate::campaign::read_campaign;
 use crate::ending::{end, end_without};
 use crate::outcome::Outcome;
+use crate::soak::soak_output;
 use crate::status::{MEMORY_LINE, Status, WORDS_LINE};
 use crate::stop::Stop;
 use ccp_base::{Gate, Sink, Source};
@@ -46,19 +48,28 @@ pub fn run<R: Threads + Wait + Sync, S: Source, K: Sink, E: Sink, G: Gate + Sync
 
 /// Does what is asked for. The words never ask for a mode that isn't there yet.
 fn asked_run<R: Threads + Wait + Sync, S: Source, K: Sink, E: Sink, G: Gate + Sync>(
-    _rt: &R,
+    rt: &R,
     alloc: Global,
     asked: Asked,
     source: &mut S,
     sink: &mut K,
     errors: &mut E,
-    _gate: &G,
+    gate: &G,
 ) -> Outcome
+    requires { HasWorkers asked }
     ensures { IsRun (task_of asked) (stream (S.remaining source.old) (S.remaining source.new) (S.faults source.old) (S.faults source.new)) (stream (K.written sink.old) (K.written sink.new) (K.faults sink.old) (K.faults sink.new)) (stream (E.written errors.old) (E.written errors.new) (E.faults errors.old) (E.faults errors.new)) (K.is_finished sink.new) result }
 {
     match asked.mode {
         Mode::Alone(mode) => alone(alloc, mode, source, sink, errors),
-        Mode::Live | Mode::Campaign | Mode::Soak | Mode::Rollout | Mode::Shared => {
+        Mode::Campaign => {
+            let made = read_campaign(rt, alloc, asked.workers, asked.wire, source, gate);
+            end(alloc, made, sink, errors)
+        }
+        Mode::Soak => {
+            let made = soak_output(rt, alloc, asked.workers, asked.number, gate);
+            end(alloc, made, sink, errors)
+        }
+        Mode::Live | Mode::Rollout | Mode::Shared => {
             end(alloc, Err(Stop::NoMemory), sink, errors)
         }
     }
