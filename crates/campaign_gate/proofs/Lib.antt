@@ -5,3 +5,4 @@ pub mod SumLemmas
 pub mod WalkLemmas
 pub mod DueLemmas
 pub mod RowLemmas
+pub mod LiftedRowLemmas

@@ -1,3 +1,4 @@
 pub mod CampaignWord
 pub mod CampaignRow
 pub mod Walks
+pub mod LiftedRow

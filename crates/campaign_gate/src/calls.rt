@@ -2,6 +2,7 @@
 ghost use Rattle.std.specs.Prelude.{◌≡◌, ◌<◌, ◌≤◌, map, length, IfOk};
 ghost use Rattle.ccp_base.specs.Limits.{most_cases, most_workers};
 ghost use Rattle.campaign_gate.specs.CampaignRow.{row_of};
+ghost use Rattle.campaign_gate.specs.LiftedRow.{IsLifted};
 
 use crate::row::{Row, Rows};
 use crate::walk::Walk;
@@ -15,9 +16,11 @@ use std::sync::Wait;
 use std::sync::ledger::{Blank, Ledger};
 use std::thread::Threads;
 
-/// The row of a case: its flow makes its campaign word.
+/// The row of a case: its flow makes its campaign word. For all programs that the case's codes simulate, that is the row
+/// read over these sources.
 pub fn run_case(alloc: Global, case: Case) -> Result<Row, NoMemory>
-    ensures { IfOk result (λ row. row ≡ row_of case) }
+    ensures row { IfOk result (λ row. row ≡ row_of case) }
+    ensures lifted { IsLifted case }
 {
     counted::<Brand>(alloc, case, Blank::new(1))
 }
@@ -43,7 +46,7 @@ pub type Cases = Sequence<Case>;
 /// The rows of cases, in their order, whatever the number of workers, which is 1 to 32. Worker `w` runs the cases whose
 /// number leaves `w` when it is divided by the number of workers, in order, each in a cell that is dropped after it. It
 /// passes the gate at `InCase` before a case and at `AfterCase` after it. Where a thread can't be started the caller does
-/// its work. There are at most 1,024 cases.
+/// its work. There are at most 1,024 cases. The row of each case is that of its programs.
 pub fn rows<R: Threads + Wait + Sync, G: Gate + Sync>(
     rt: &R,
     alloc: Global,
@@ -53,7 +56,8 @@ pub fn rows<R: Threads + Wait + Sync, G: Gate + Sync>(
 ) -> Result<Rows, NoMemory>
     requires few { length cases ≤ most_cases }
     requires workers { (1 ≤ workers) × (workers ≤ most_workers) }
-    ensures { IfOk result (λ rows. rows ≡ map row_of cases) }
+    ensures rows { IfOk result (λ rows. rows ≡ map row_of cases) }
+    ensures lifted { (case : Case) → IsLifted case }
 {
     by_workers::<Brand, R, G>(rt, alloc, cases.as_slice(), workers, gate)
 }

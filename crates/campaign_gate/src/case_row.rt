@@ -1,4 +1,5 @@
 ghost use Rattle.std.specs.Prelude.{◌≡◌, List, [], Some, map, slice_get, IfOk, IfSome};
+ghost use Rattle.flow_core.specs.declared.case.Case.{Case};
 ghost use Rattle.campaign_gate.specs.CampaignRow.{row_of};
 
 use crate::calls::run_case;

@@ -1,2 +1,1 @@
 pub mod LookWithin
-pub mod WorkedRow
