@@ -3,3 +3,4 @@ mod RunLemmas
 pub mod SettledInputs
 mod CompleteRuns
 pub mod ReadLemmas
+mod CampaignLemmas

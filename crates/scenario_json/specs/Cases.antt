@@ -66,3 +66,8 @@ case_names cases = map (λ case. case.name) cases
 abbrev pub AreFlowsFrom : ℕ → List Case → Type 0
 AreFlowsFrom flow [] = ⊤
 AreFlowsFrom flow (case ∷ rest) = (case.flow ≡ flow) × AreFlowsFrom (flow + 1) rest
+
+-- the programs have the numbers from this one on, in order
+abbrev pub AreNumberedFrom : ℕ → List (ℕ × Built) → Type 0
+AreNumberedFrom number [] = ⊤
+AreNumberedFrom number (one ∷ rest) = (one.0 ≡ number) × AreNumberedFrom (number + 1) rest
