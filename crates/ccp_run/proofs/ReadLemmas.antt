@@ -1,11 +1,11 @@
 -- What a task comes to, from how its source was read and what is made of the bytes.
-use Rattle.std.proofs.Common.{◌≡◌, ◌≤◌, ℕ, Bool, true, false, Result, Ok, Err, List, length, inl, inr}
+use Rattle.std.proofs.Common.{◌≡◌, ℕ, Bool, true, false, Result, Ok, Err, List, inl, inr}
 use Rattle.ccp_run.specs.declared.outcome.ModeOutput.{ModeOutput}
 use Rattle.ccp_run.specs.declared.stop.Stop.{Stop}
 use Rattle.ccp_run.specs.declared.stop.Stop.TheVariants as stop
 use Rattle.ccp_run.specs.Attempts.{IsAnswer, IsAttempt, IsRead}
 use Rattle.ccp_run.specs.Modes.{limit_in, is_read}
-use Rattle.ccp_run.specs.Streams.{Stream, ReadsToEnd, HasInput, IsLeft}
+use Rattle.ccp_run.specs.Streams.{Stream, ReadsToEnd, HasInput}
 use Rattle.ccp_run.specs.Tasks.{Task}
 use Rattle.ccp_run.proofs.RunLemmas.{is_left}
 
