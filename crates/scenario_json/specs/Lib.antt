@@ -9,3 +9,6 @@ pub mod ScenePrograms
 pub mod Scene
 pub mod Soak
 pub mod Cases
+pub mod Rollout
+pub mod OpenCases
+pub mod SharedScenes

@@ -24,7 +24,7 @@ use serde_json::Value;
 use std::alloc::Global;
 
 /// The most acknowledgements of a live run.
-const ACKS_IN_ALL: u64 = 262_144;
+pub(crate) const ACKS_IN_ALL: u64 = 262_144;
 
 /// What a scenario says, before its cases are put together.
 #[derive(Drop)]
@@ -54,8 +54,9 @@ fn all_programs(alloc: Global, whole: &Value) -> Result<SceneProgramList, SceneF
     programs_in(alloc, members)
 }
 
+/// A list that doesn't have more items than there may be cases.
 #[tactic(auto, using(crate::proofs::ProgramLemmas::items_count))]
-fn few_items(alloc: Global, mode: Mode, items: &[Value]) -> Result<(), SceneFault>
+pub(crate) fn few_items(alloc: Global, mode: Mode, items: &[Value]) -> Result<(), SceneFault>
     ensures ok { OnOk result (few_items mode (items_view items.now) ≡ Ok (items_view items.now)) }
     ensures count { OnOk result (length items.now ≤ most_cases_of mode) }
     ensures err { IfErr result (λ e. e ≢ fault.NoMemory → few_items mode (items_view items.now) ≡ Err e) }
@@ -116,7 +117,7 @@ fn within_total(mode: Mode, plans: Plans) -> Result<Plans, SceneFault>
 }
 
 /// What comes before the programs.
-fn opening(alloc: Global, whole: &Value) -> Result<u64, SceneFault>
+pub(crate) fn opening(alloc: Global, whole: &Value) -> Result<u64, SceneFault>
     ensures ok { IfOk result (λ version. opening_in (view whole.now) ≡ Ok version) }
     ensures err { IfErr result (λ e. e ≢ fault.NoMemory → opening_in (view whole.now) ≡ Err e) }
 {
