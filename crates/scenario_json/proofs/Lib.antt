@@ -1,5 +1,6 @@
 pub mod CaseLemmas
 pub mod DrawLemmas
+pub mod OpenLemmas
 pub mod ProgramLemmas
 pub mod ReadingLemmas
 pub mod SceneLemmas

@@ -1,4 +1,4 @@
-use Rattle.std.proofs.Common.{◌≡◌, ℕ, List, [], ◌∷◌, ◌++◌, Ok, length, refl, sym, ap, ◌∙◌}
+use Rattle.std.proofs.Common.{◌≡◌, ℕ, List, [], ◌∷◌, ◌++◌, Ok, length, refl, sym, ap, ◌∙◌, ◌+◌, arith, tt}
 use Rattle.std.proofs.lemmas.List.{length-map, map_push}
 use Rattle.std.proofs.lemmas.List.Elements.{All-push}
 use Rattle.std.specs.List.{All}
@@ -10,6 +10,7 @@ use Rattle.serde_json.proofs.Views.{members_len-members_view, items_len-items_vi
 use Rattle.portus_core.specs.ProgramForm.{form_of}
 use Rattle.reg_compiler.specs.declared.built.Built.{Built}
 use Rattle.ccp_base.specs.Chaining.{then_do}
+use Rattle.scenario_json.specs.Cases.{AreNumberedFrom}
 use Rattle.scenario_json.proofs.TableLemmas.{Entry}
 use Rattle.scenario_json.specs.ScenePrograms.{Reading, Forms, named_program, programs_from, forms_of}
 
@@ -33,3 +34,9 @@ all_pushed P items one h here = All-push P items one h here
 -- a list has as many items as its value
 pub items_count : (values : List Value) → items_len (items_view values) ≡ length values
 items_count values = items_len-items_view values
+
+-- one more program with the next number
+pub numbered_pushed : (k : ℕ) (programs : List (ℕ × Built)) (one : ℕ × Built) → AreNumberedFrom k programs → one.0 ≡ k + length programs
+    → AreNumberedFrom k (programs ++ one ∷ [])
+numbered_pushed k [] one numbered is = (omega (arith, is), tt)
+numbered_pushed k (first ∷ rest) one numbered is = (numbered.0, numbered_pushed (k + 1) rest one numbered.1 (omega (arith, is)))

@@ -10,3 +10,6 @@ pub mod Scene
 pub mod Soak
 pub mod Cases
 pub mod RefusalText
+pub mod Rollout
+pub mod OpenCases
+pub mod SharedScenes

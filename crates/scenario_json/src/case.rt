@@ -22,7 +22,7 @@ use link_model::Trace;
 use serde_json::Value;
 use std::alloc::Global;
 
-fn case_name(alloc: Global, i: usize, whole: &Value) -> Result<Name, SceneFault>
+pub(crate) fn case_name(alloc: Global, i: usize, whole: &Value) -> Result<Name, SceneFault>
     ensures ok { IfOk result (λ n. case_name i (view whole.now) ≡ Ok n) }
     ensures err { IfErr result (λ e. e ≢ fault.NoMemory → case_name i (view whole.now) ≡ Err e) }
 {
@@ -74,7 +74,12 @@ pub(crate) fn trace_in(
     }
 }
 
-fn case_trace(alloc: Global, traces: &Traces, i: usize, whole: &Value) -> Result<Trace, SceneFault>
+pub(crate) fn case_trace(
+    alloc: Global,
+    traces: &Traces,
+    i: usize,
+    whole: &Value,
+) -> Result<Trace, SceneFault>
     ensures ok { IfOk result (λ t. case_trace (table_of traces.now.entries) i (view whole.now) ≡ Ok t) }
     ensures err { IfErr result (λ e. e ≢ fault.NoMemory
         → case_trace (table_of traces.now.entries) i (view whole.now) ≡ Err e) }

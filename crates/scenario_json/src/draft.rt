@@ -3,6 +3,7 @@ ghost use Rattle.std.specs.List.{All};
 ghost use Rattle.serde_json.specs.View.{view, items_view};
 ghost use Rattle.ccp_base.specs.Limits.{most_named_programs};
 ghost use Rattle.scenario_json.specs.Values.{member_of};
+ghost use Rattle.scenario_json.specs.Cases.{AreNumberedFrom};
 ghost use Rattle.scenario_json.specs.Plans.{IsPlan};
 ghost use Rattle.scenario_json.specs.Traces.{table_of};
 ghost use Rattle.scenario_json.specs.ScenePrograms.{Reading, IsReading, forms_of};
@@ -24,7 +25,7 @@ use serde_json::Value;
 use std::alloc::Global;
 
 /// The most acknowledgements of a live run.
-const ACKS_IN_ALL: u64 = 262_144;
+pub(crate) const ACKS_IN_ALL: u64 = 262_144;
 
 /// What a scenario says, before its cases are put together.
 #[derive(Drop)]
@@ -38,6 +39,7 @@ pub(crate) struct Draft {
 fn all_programs(alloc: Global, whole: &Value) -> Result<SceneProgramList, SceneFault>
     ensures ok { (read : Reading) → IsReading read
         → IfOk result (λ p. all_programs read (member_of key.Programs (view whole.now)) ≡ Ok (forms_of p.builts, p.names)) }
+    ensures numbered { IfOk result (λ p. AreNumberedFrom 0 p.builts) }
     ensures count { IfOk result (λ p. length p.builts ≡ length p.names + 3) }
     ensures few { IfOk result (λ p. length p.names ≤ most_named_programs) }
     ensures err { (read : Reading) → IsReading read → IfErr result (λ e. e ≢ fault.NoMemory
@@ -54,8 +56,9 @@ fn all_programs(alloc: Global, whole: &Value) -> Result<SceneProgramList, SceneF
     programs_in(alloc, members)
 }
 
+/// A list that doesn't have more items than there may be cases.
 #[tactic(auto, using(crate::proofs::ProgramLemmas::items_count))]
-fn few_items(alloc: Global, mode: Mode, items: &[Value]) -> Result<(), SceneFault>
+pub(crate) fn few_items(alloc: Global, mode: Mode, items: &[Value]) -> Result<(), SceneFault>
     ensures ok { OnOk result (few_items mode (items_view items.now) ≡ Ok (items_view items.now)) }
     ensures count { OnOk result (length items.now ≤ most_cases_of mode) }
     ensures err { IfErr result (λ e. e ≢ fault.NoMemory → few_items mode (items_view items.now) ≡ Err e) }
@@ -116,7 +119,7 @@ fn within_total(mode: Mode, plans: Plans) -> Result<Plans, SceneFault>
 }
 
 /// What comes before the programs.
-fn opening(alloc: Global, whole: &Value) -> Result<u64, SceneFault>
+pub(crate) fn opening(alloc: Global, whole: &Value) -> Result<u64, SceneFault>
     ensures ok { IfOk result (λ version. opening_in (view whole.now) ≡ Ok version) }
     ensures err { IfErr result (λ e. e ≢ fault.NoMemory → opening_in (view whole.now) ≡ Err e) }
 {
@@ -128,6 +131,7 @@ fn opening(alloc: Global, whole: &Value) -> Result<u64, SceneFault>
 pub(crate) fn draft_in(alloc: Global, mode: Mode, whole: &Value) -> Result<Draft, SceneFault>
     ensures ok { (read : Reading) → IsReading read
         → IfOk result (λ d. parts_in read mode (view whole.now) ≡ Ok (parts_with (forms_of d.programs.builts) (table_of d.traces.entries) d.plans)) }
+    ensures numbered { IfOk result (λ d. AreNumberedFrom 0 d.programs.builts) }
     ensures within { IfOk result (λ d. All (IsPlan (length d.programs.builts)) d.plans) }
     ensures count { IfOk result (λ d. length d.plans ≤ most_cases_of mode) }
     ensures err { (read : Reading) → IsReading read

@@ -35,9 +35,7 @@ pub(crate) fn put_together(
 {
     let mut names = Sequence::new(alloc);
     let mut cases = Sequence::new(alloc);
-    let mut left = plans.into_vec();
-    while !left.is_empty() {
-        let plan = left.remove(0);
+    for plan in plans.into_vec() {
         names.push(plan.name)?;
         let flow = cases.len() as u32;
         cases.push(case(alloc, programs.as_slice(), flow, plan)?)?;

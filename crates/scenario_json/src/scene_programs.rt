@@ -5,6 +5,7 @@ ghost use Rattle.ccp_base.specs.Limits.{most_named_programs};
 ghost use Rattle.portus_core.specs.ProgramForm.{form_of};
 ghost use Rattle.portus_build.specs.Builtins.{builtin_text};
 ghost use Rattle.portus_build.specs.declared.fault.BuildFault.TheVariants as build_fault;
+ghost use Rattle.scenario_json.specs.Cases.{AreNumberedFrom};
 ghost use Rattle.scenario_json.specs.ScenePrograms.{Reading, IsReading, named_program, programs_in, built_in, built_ins, few_members, names_of, forms_of};
 ghost use Rattle.scenario_json.specs.declared.fault.SceneFault.TheVariants as fault;
 
@@ -60,6 +61,7 @@ fn built_in(alloc: Global, number: u32) -> Result<Built, NoMemory>
 /// The built-in programs.
 pub(crate) fn built_ins(alloc: Global) -> Result<Builts, NoMemory>
     ensures forms { (read : Reading) → IsReading read → IfOk result (λ builts. forms_of builts ≡ built_ins read) }
+    ensures numbered { IfOk result (AreNumberedFrom 0) }
     ensures count { IfOk result (λ builts. length builts ≡ 3) }
 {
     let mut builts = Sequence::new(alloc);
@@ -110,6 +112,7 @@ pub(crate) fn programs_in(
     ensures ok { (read : Reading) → IsReading read
         → IfOk result (λ p. programs_in read (members_view members.now.entries) ≡ Ok (forms_of p.builts)) }
     ensures names { IfOk result (λ p. p.names ≡ names_of (members_view members.now.entries)) }
+    ensures numbered { IfOk result (λ p. AreNumberedFrom 0 p.builts) }
     ensures count { IfOk result (λ p. length p.builts ≡ length p.names + 3) }
     ensures few { IfOk result (λ p. length p.names ≤ most_named_programs) }
     ensures err { (read : Reading) → IsReading read

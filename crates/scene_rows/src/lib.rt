@@ -9,3 +9,5 @@ mod refused_cases;
 mod refused_parts;
 #[cfg(test)]
 mod scenes;
+#[cfg(test)]
+mod texts;

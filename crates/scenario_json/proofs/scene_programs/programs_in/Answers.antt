@@ -1,11 +1,13 @@
-use Rattle.std.proofs.Common.{suc, rules, arith, ◌≡◌, ◌≤◌, ◌+◌, Ok, [], ◌∷◌, ◌++◌, length, string_bytes, sym, ap, ◌∙◌, append_assoc}
+use Rattle.std.proofs.Common.{suc, rules, arith, ◌≡◌, ◌≤◌, ◌+◌, Ok, [], ◌∷◌, ◌++◌, length, string_bytes, sym, refl, subst, ℕ, List, ap, ◌∙◌, append_assoc}
 use Rattle.std.proofs.lemmas.List.{length-append}
 use Rattle.serde_json.specs.View.{view, members_view}
 use Rattle.serde_json.specs.Events.{members_len}
 use Rattle.portus_core.specs.ProgramForm.{form_of}
 use Rattle.scenario_json.specs.ScenePrograms.{named_program, programs_from, names_of, forms_of}
 use Rattle.scenario_json.proofs.TableLemmas.{Entry}
-use Rattle.scenario_json.proofs.ProgramLemmas.{forms_pushed}
+use Rattle.reg_compiler.specs.declared.built.Built.{Built}
+use Rattle.scenario_json.specs.Cases.{AreNumberedFrom}
+use Rattle.scenario_json.proofs.ProgramLemmas.{forms_pushed, numbered_pushed}
 use Rattle.scenario_json.proofs.scene_programs.programs_in.Goals as goal
 
 pub loop-name-preserved : goal.loop-name-preserved
@@ -30,6 +32,7 @@ loop-name-preserved c =
           ∙ sym (ap (λ es. programs_from read (forms_of l.builts) (members_view es)) step) ∙ l.invariant.0 read h,
       ap (λ ns. ns ++ names_of (members_view left)) names_at ∙ append_assoc l.names (k ∷ []) (names_of (members_view left))
           ∙ sym (ap (λ es. l.names ++ names_of (members_view es)) step) ∙ l.invariant.1,
-      omega (arith, count, built_count, l.invariant.2),
-      omega (arith, count, fewer, l.invariant.3),
+      subst (λ (bs : List (ℕ × Built)). AreNumberedFrom 0 bs) (sym builts) (numbered_pushed 0 l.builts (length l.builts, built) l.invariant.2 refl),
+      omega (arith, count, built_count, l.invariant.3),
+      omega (arith, count, fewer, l.invariant.4),
     )
