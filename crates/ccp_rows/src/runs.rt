@@ -431,7 +431,11 @@ fn refused_words_are_told<R: Threads + Wait + Sync + Abort>(
 
 #[test]
 fn refused_words_leave_the_source(rt: HostRuntime) -> Result<(), Fail> {
-    let rows: [&[&str]; 3] = [&["ccp", "fold", "--workers", "33"], &["ccp"], &["ccp", "folds"]];
+    let rows: [&[&str]; 3] = [
+        &["ccp", "fold", "--workers", "33"],
+        &["ccp"],
+        &["ccp", "folds"],
+    ];
     for given in rows {
         refused_words_are_told(&rt, rt.alloc(), given)?;
     }
