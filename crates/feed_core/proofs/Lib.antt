@@ -1,0 +1,3 @@
+mod FeedEats
+mod FeedKept
+mod FeedLemmas

@@ -1,0 +1,4 @@
+pub mod Feed
+pub mod FeedBytes
+pub mod FeedHolds
+pub mod FeedStops
