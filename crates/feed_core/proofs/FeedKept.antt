@@ -6,10 +6,11 @@ use Rattle.std.proofs.lemmas.List.{length-set, length-map}
 use Rattle.ccp_base.specs.declared.ack.Ack.{Ack}
 use Rattle.ccp_base.specs.declared.fields.FieldReg.{FieldReg}
 use Rattle.ccp_base.specs.declared.fields.FieldReg.TheVariants as field
-use Rattle.ccp_base.specs.FieldReg.{Pair}
+use Rattle.ccp_base.specs.FieldReg.{Pair, first_bad}
+use Rattle.ccp_base.specs.Limits.{most_flows, most_kept_programs, most_messages}
 use Rattle.reg_code.specs.declared.code.Code.{Code}
 use Rattle.reg_code.specs.AcceptedCode.{◌or_else◌, Refusal, rejected, IsAccepted, sizes_of, counts_refusal, events_refusal}
-use Rattle.reg_code.specs.CodeStart.{with_value, with_values, declared_kept, first_bad}
+use Rattle.reg_code.specs.CodeStart.{with_value, with_values, declared_kept}
 use Rattle.reg_code.specs.CodeStep.{Kept, IsKeptOf, Work, done, failed, stuck, events_of, begun, settled, is_true, mone, made_of}
 use Rattle.reg_code.specs.CodeStep as steps
 use Rattle.reg_code.specs.SoundLaws.{HasSizes, WorkSized, events-sized, none-next, IsSound-accepted}
@@ -83,11 +84,11 @@ heard-fits false code ack machine accepted fits = record { started = fits.starte
 
 -- ---- answers have frames
 
-short : (version : Version) (n : ℕ) → n ≤ 1048576 → IsShortCount version n
+short : (version : Version) (n : ℕ) → n ≤ most_messages → IsShortCount version n
 short One n small = omega (arith, small)
 short Two n small = tt
 
-module _ (code : Code) (ack : Ack) (n : ℕ) (epoch : Epoch) (flow : Flow) (first : flow.first ≤ flow.count) (count : flow.count < 1048576) (few : AreFew flow.version (length code.reports)) where
+module _ (code : Code) (ack : Ack) (n : ℕ) (epoch : Epoch) (flow : Flow) (first : flow.first ≤ flow.count) (count : flow.count < most_messages) (few : AreFew flow.version (length code.reports)) where
   asked-framed : (asked : Bool) (machine : MachineState) (kept : Kept) (ran : ℕ) → length kept.reports ≡ length code.reports
       → HasFrame (in_version flow.version (told_of (after_made (made_of (steps.answered code asked true kept) ran) machine) ack n epoch flow))
   asked-framed false machine kept ran sized = tt
@@ -244,7 +245,7 @@ module _ (state : FeedState) (held : IsFeed state) where
       → IsKept (state.messages + 1) (changed_at flow state version n program values)
   kept-changed version n program values None is = kept-refused version n 3 0 (omega arith) (omega arith)
   kept-changed version n program values (Some flow) is =
-      kept-if (state.messages + 1) (nat_lt program 16) (changed_to (there state.programs program) state version n program values flow) (refused state version n 4 program)
+      kept-if (state.messages + 1) (nat_lt program most_kept_programs) (changed_to (there state.programs program) state version n program values flow) (refused state version n 4 program)
       (kept-to version n program values flow is (there state.programs program) refl)
       (kept-refused version n 4 program (omega arith) (omega arith))
 
@@ -281,7 +282,7 @@ module _ (state : FeedState) (held : IsFeed state) where
       kept-updated-on None e = kept-refused version n 6 0 (omega arith) (omega arith)
       kept-updated-on (Some epoch) e = kept-updated-code epoch e (there state.programs epoch.program) refl (runs-now (Some epoch) e)
 
-    module _ (small : state.messages < 1048576) (ack : Ack) where
+    module _ (small : state.messages < most_messages) (ack : Ack) where
       kept-acked-code : (epoch : Epoch) → flow.epoch ≡ Some epoch → (o : Option Code) → there state.programs epoch.program ≡ o
           → RunsOn (Some epoch) flow.version flow.machine (option_map (λ code. (epoch, code)) o)
           → IsKept (state.messages + 1) (acked_on (option_map (λ code. (epoch, code)) o) state n ack flow)
@@ -289,7 +290,7 @@ module _ (state : FeedState) (held : IsFeed state) where
       kept-acked-code epoch e (Some code) here runs =
           let accepted = accepted-there epoch.program code here in
           let came = heard code ack true flow.machine in
-          let count : flow.count < 1048576 = omega (arith, is.counted, small) in
+          let count : flow.count < most_messages = omega (arith, is.counted, small) in
           kept-flow n (flow_after came ack flow) (in_version flow.version (told_of came ack n epoch flow)) (record {
             counted = omega (arith, is.counted);
             spanned = first-within code ack n epoch flow is.spanned count runs.1 came;
@@ -311,17 +312,17 @@ module _ (state : FeedState) (held : IsFeed state) where
   kept-updated version n values None is = kept-refused version n 3 0 (omega arith) (omega arith)
   kept-updated version n values (Some flow) is = kept-updated-on n flow is version values flow.epoch refl
 
-  kept-acked : (version : Version) (n : ℕ) (ack : Ack) → state.messages < 1048576 → (flow : Option Flow) → IsFlowThere state.programs state.messages flow
+  kept-acked : (version : Version) (n : ℕ) (ack : Ack) → state.messages < most_messages → (flow : Option Flow) → IsFlowThere state.programs state.messages flow
       → IsKept (state.messages + 1) (acked_at flow state version n ack)
   kept-acked version n ack small None is = kept-refused version n 3 0 (omega arith) (omega arith)
   kept-acked version n ack small (Some flow) is = kept-acked-on n flow is small ack flow.epoch refl
 
-  pub told-kept : (message : Message) (version : Version) → state.messages < 1048576 → IsKept (state.messages + 1) (told state message version)
+  pub told-kept : (message : Message) (version : Version) → state.messages < most_messages → IsKept (state.messages + 1) (told state message version)
   told-kept (Create n mss cwnd) version small =
-      kept-if (state.messages + 1) (nat_lt n 64) (created_at (there state.flows n) state version n cwnd) (refused state version n 1 0)
+      kept-if (state.messages + 1) (nat_lt n most_flows) (created_at (there state.flows n) state version n cwnd) (refused state version n 1 0)
       (kept-created (there state.flows n) version n cwnd) (kept-refused version n 1 0 (omega arith) (omega arith))
   told-kept (Install n program code) version small =
-      kept-if (state.messages + 1) (nat_lt program 16) (installed_at (there state.programs program) state version n program code) (refused state version n 4 program)
+      kept-if (state.messages + 1) (nat_lt program most_kept_programs) (installed_at (there state.programs program) state version n program code) (refused state version n 4 program)
       (kept-installed version n program code (there state.programs program) refl) (kept-refused version n 4 program (omega arith) (omega arith))
   told-kept (Change n program values) version small = kept-changed version n program values (there state.flows n) (flow-there n)
   told-kept (Update n values) version small = kept-updated version n values (there state.flows n) (flow-there n)

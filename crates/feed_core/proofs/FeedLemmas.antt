@@ -3,10 +3,10 @@ use Rattle.std.proofs.Common.{◌≡◌, ◌≢◌, ℕ, ◌<◌, ◌≤◌, Boo
 use Rattle.std.proofs.lemmas.List.{set-get_or}
 use Rattle.std.proofs.lemmas.Option.{slice_get-get_or}
 use Rattle.ccp_base.specs.declared.ack.Ack.{Ack}
-use Rattle.ccp_base.specs.FieldReg.{Pair}
+use Rattle.ccp_base.specs.FieldReg.{Pair, first_bad}
+use Rattle.ccp_base.specs.Limits.{most_kept_programs}
 use Rattle.reg_code.specs.declared.code.Code.{Code}
 use Rattle.reg_code.specs.AcceptedCode.{Refusal, rejected}
-use Rattle.reg_code.specs.CodeStart.{first_bad}
 use Rattle.reply_frames.specs.declared.outline.Version.{Version}
 use Rattle.ccp_messages.specs.declared.message.Message.{Message}
 use Rattle.ccp_messages.specs.declared.message.Message.TheVariants.{Refused}
@@ -98,13 +98,13 @@ module _ (flows : List (Option Flow)) (programs : List (Option Code)) (messages 
     change-at : changed old version n program values ≡ changed_at (Some flow) old version n program values
     change-at = ap (λ f. changed_at f old version n program values) (is_there flows n x lt is ∙ some)
 
-    pub change-above : (r : Answer) → nat_lt program 16 ≡ false → r ≡ Some (Refused n 4 program, version)
+    pub change-above : (r : Answer) → nat_lt program most_kept_programs ≡ false → r ≡ Some (Refused n 4 program, version)
         → ◌≡◌ {A = Answered} (r, put (Some flow)) (changed old version n program values)
     change-above r above answer =
         refuses 4 program (Some flow) r (sym some) answer
         ∙ sym (change-at ∙ ap (λ b. cond b (changed_to (there programs program) old version n program values flow) (Some (Refused n 4 program, version), old)) above)
 
-    module _ (below : nat_lt program 16 ≡ true) where
+    module _ (below : nat_lt program most_kept_programs ≡ true) where
       change-to : changed old version n program values ≡ changed_to (there programs program) old version n program values flow
       change-to = change-at ∙ ap (λ b. cond b (changed_to (there programs program) old version n program values flow) (Some (Refused n 4 program, version), old)) below
 
@@ -142,7 +142,7 @@ module _ (flows : List (Option Flow)) (programs : List (Option Code)) (messages 
 -- ---- installs
 
 module _ (flows : List (Option Flow)) (programs : List (Option Code)) (messages n : ℕ) (version : Version) (program : ℕ) (code : Code)
-    (below : nat_lt program 16 ≡ true) (free : there programs program ≡ None) where
+    (below : nat_lt program most_kept_programs ≡ true) (free : there programs program ≡ None) where
   abbrev before : FeedState
   before = record { flows = flows; programs = programs; messages = messages }
 

@@ -2,10 +2,10 @@
 use Rattle.std.specs.Prelude.{◌≡◌, ℕ, ◌+◌, ◌<◌, ◌≤◌, nat_lt, Bool, true, false, ◌&&◌, if◌then◌else◌, Option, Some, None, option_map, unwrap_or, List, length, slice_get, slice_set, replicate, map}
 use Rattle.std.specs.Option.{option_and_then}
 use Rattle.ccp_base.specs.declared.ack.Ack.{Ack}
-use Rattle.ccp_base.specs.FieldReg.{Pair}
+use Rattle.ccp_base.specs.FieldReg.{Pair, first_bad}
+use Rattle.ccp_base.specs.Limits.{most_flows, most_kept_programs, most_short_fields}
 use Rattle.reg_code.specs.declared.code.Code.{Code}
 use Rattle.reg_code.specs.AcceptedCode.{Refusal, rejected}
-use Rattle.reg_code.specs.CodeStart.{first_bad}
 use Rattle.reply_frames.specs.declared.outline.Version.{Version}
 use Rattle.reply_frames.specs.declared.outline.Version.TheVariants.{One, Two}
 use Rattle.ccp_messages.specs.declared.message.Message.{Message}
@@ -30,7 +30,7 @@ there places n = unwrap_or (slice_get places n) None
 
 -- room for flows 0 to 63 and programs 0 to 15, and none at first
 abbrev pub no_flows : FeedState
-no_flows = record { flows = replicate 64 None; programs = replicate 16 None; messages = 0 }
+no_flows = record { flows = replicate most_flows None; programs = replicate most_kept_programs None; messages = 0 }
 
 -- an answer with its version
 abbrev pub Answer : Type 0
@@ -58,7 +58,7 @@ created_at None state version n cwnd = (None, with_flow state n (fresh_flow vers
 
 abbrev pub created : FeedState → Version → ℕ → ℕ → Answered
 created state version n cwnd =
-    if nat_lt n 64 then created_at (there state.flows n) state version n cwnd else refused state version n 1 0
+    if nat_lt n most_flows then created_at (there state.flows n) state version n cwnd else refused state version n 1 0
 
 -- ---- Install: an accepted code is kept
 
@@ -72,7 +72,7 @@ installed_at None state version n program code = installed_as (rejected code) st
 
 abbrev pub installed : FeedState → Version → ℕ → ℕ → Code → Answered
 installed state version n program code =
-    if nat_lt program 16 then installed_at (there state.programs program) state version n program code
+    if nat_lt program most_kept_programs then installed_at (there state.programs program) state version n program code
     else refused state version n 4 program
 
 -- ---- Change: the program starts with the values; the first change of a flow is its epoch 0
@@ -90,7 +90,7 @@ changed_flow code program values flow = record flow {
 
 -- a report of the program has no frame in the version
 abbrev pub is_too_wide : Version → Code → Bool
-is_too_wide One code = nat_lt 32 (length code.reports)
+is_too_wide One code = nat_lt most_short_fields (length code.reports)
 is_too_wide Two code = false
 
 abbrev pub changed_with : Option ℕ → FeedState → Version → ℕ → ℕ → List Pair → Flow → Code → Answered
@@ -106,7 +106,7 @@ changed_to (Some code) state version n program values flow =
 abbrev pub changed_at : Option Flow → FeedState → Version → ℕ → ℕ → List Pair → Answered
 changed_at None state version n program values = refused state version n 3 0
 changed_at (Some flow) state version n program values =
-    if nat_lt program 16 then changed_to (there state.programs program) state version n program values flow
+    if nat_lt program most_kept_programs then changed_to (there state.programs program) state version n program values flow
     else refused state version n 4 program
 
 abbrev pub changed : FeedState → Version → ℕ → ℕ → List Pair → Answered

@@ -1,6 +1,7 @@
 -- What a datapath answers to the frames of an input, and how the input ends.
 use Rattle.std.specs.Prelude.{◌≡◌, ℕ, zero, suc, ◌+◌, ◌-◌, ◌<◌, ◌≤◌, nat_lt, Bool, true, false, Option, Some, None, Result, Ok, Err, List, [], ◌∷◌, ◌++◌, length, take, drop}
 use Rattle.ccp_base.specs.Outside.{Known, Rose, Takes, IsAtEnd, Appends, AppendsPrefix}
+use Rattle.ccp_base.specs.Limits.{most_input_bytes}
 use Rattle.reply_frames.specs.declared.fault.BadKind.{BadKind}
 use Rattle.ccp_messages.specs.declared.fault.DecodeFault.{DecodeFault}
 use Rattle.ccp_messages.specs.declared.fault.DecodeFault.TheVariants.{More, Bad, NoMemory}
@@ -42,13 +43,9 @@ abbrev pub fed : ℕ → ℕ → FeedState → List ℕ → Fed
 fed zero place state bytes = record { answers = []; tail = left place bytes }
 fed (suc frames) place state bytes = fed_on (fed frames) place state bytes (decoded_of bytes)
 
--- the longest input, in bytes; it has fewer frames
-abbrev pub most : ℕ
-most = 1048576
-
--- the answers to the frames that the first bytes of an input begin with
+-- the answers to the frames that the first bytes of an input begin with; these are fewer than its bytes
 unfoldable pub feed_of : List ℕ → Fed
-feed_of bytes = fed most 0 no_flows (take most bytes)
+feed_of bytes = fed most_input_bytes 0 no_flows (take most_input_bytes bytes)
 
 -- where a feed stands: what it took and wrote, its state, and the bytes after the frames that it has answered
 pub record IsFeeding (source source' sink sink' : Known) (state : FeedState) (eaten : ℕ) (rest : List ℕ) : Type 0 where
@@ -57,7 +54,7 @@ pub record IsFeeding (source source' sink sink' : Known) (state : FeedState) (ea
   pub taken : Takes source source' (front ++ rest)
   pub eaten_is : length front ≡ eaten
   pub written : Appends sink sink' answers
-  pub goes : (more : List ℕ) → fed most 0 no_flows (front ++ more) ≡ with_answers answers (fed (most - state.messages) eaten state more)
+  pub goes : (more : List ℕ) → fed most_input_bytes 0 no_flows (front ++ more) ≡ with_answers answers (fed (most_input_bytes - state.messages) eaten state more)
   pub held : IsFeed state
   pub few : state.messages ≤ eaten
-  pub within : eaten + length rest ≤ most
+  pub within : eaten + length rest ≤ most_input_bytes

@@ -8,6 +8,7 @@ use Rattle.reply_frames.specs.declared.outline.Version.{Version}
 use Rattle.ccp_messages.specs.declared.message.Message.{Message}
 use Rattle.ccp_messages.specs.Messages.{AreFew, Meets}
 use Rattle.fold_machine.specs.MachineState.{MachineState, Fits}
+use Rattle.ccp_base.specs.Limits.{most_flows, most_kept_programs}
 use Rattle.feed_core.specs.declared.flow.Epoch.{Epoch}
 use Rattle.feed_core.specs.declared.flow.Flow.{Flow}
 use Rattle.feed_core.specs.declared.feed.Feed.{Feed}
@@ -46,8 +47,8 @@ IsAcceptedThere None = Unit {0}
 IsAcceptedThere (Some code) = IsAccepted code
 
 pub record AreHeld (flows : List (Option Flow)) (programs : List (Option Code)) (messages : ℕ) : Type 0 where
-  pub flows_full : length flows ≡ 64
-  pub programs_full : length programs ≡ 16
+  pub flows_full : length flows ≡ most_flows
+  pub programs_full : length programs ≡ most_kept_programs
   pub accepted : AllByRecursion IsAcceptedThere programs
   pub each : AllByRecursion (IsFlowThere programs messages) flows
 

@@ -1,4 +1,7 @@
 pub mod Feed
 pub mod FeedBytes
+pub mod FeedEnds
 pub mod FeedHolds
 pub mod FeedStops
+pub mod FeedTurns
+pub mod Rests

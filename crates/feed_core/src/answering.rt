@@ -2,6 +2,7 @@
 
 ghost use Rattle.std.specs.Prelude.{◌≡◌, ◌<◌, ◌≤◌, OnOk, IfErr};
 ghost use Rattle.ccp_base.specs.Outside.{Rose, Appends, AppendsPrefix};
+ghost use Rattle.ccp_base.specs.Limits.{most_messages};
 ghost use Rattle.feed_core.specs.Feed.{answered};
 ghost use Rattle.feed_core.specs.FeedHolds.{state_of, IsFeed};
 ghost use Rattle.ccp_messages.specs.Messages.{Meets, frame_bytes};
@@ -44,7 +45,7 @@ pub fn answer<K: Sink>(
     version: Version,
     sink: &mut K,
 ) -> Result<(), Unanswered>
-    requires few { feed.old.messages < 1048576 }
+    requires few { feed.old.messages < most_messages }
     requires held { IsFeed (state_of feed.old) }
     ensures state { OnOk result (state_of feed.new ≡ (answered (state_of feed.old) message version).1) }
     ensures written { OnOk result (Appends (K.written sink.old) (K.written sink.new) (answer_bytes (answered (state_of feed.old) message version).0)) }

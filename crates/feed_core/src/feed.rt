@@ -1,6 +1,7 @@
 //! A datapath over a stream of frames: flows and programs by number, and the answer to each message.
 
 ghost use Rattle.std.specs.Prelude.{◌≡◌, ℕ, ◌+◌, ◌<◌, ◌≤◌, None, Some, IfOk, OnOk, OnErr, IsTrue, ◌↔◌, true, option_map, map, replicate, length, List};
+ghost use Rattle.ccp_base.specs.Limits.{most_messages};
 ghost use Rattle.reg_code.specs.declared.checked.Checked.{Checked};
 ghost use Rattle.feed_core.specs.Feed.{no_flows, there, refused, created, installed, is_too_wide, changed, code_of, updated, in_version, acked_by, told, answered};
 ghost use Rattle.feed_core.specs.FeedHolds.{state_of, codes_in, AreHeld, IsFeed, HasFrame};
@@ -122,7 +123,7 @@ impl Feed {
         message: Message,
         version: Version,
     ) -> Result<Option<(Message, Version)>, NoMemory>
-        requires few { self.old.messages < 1048576 }
+        requires few { self.old.messages < most_messages }
         requires held { IsFeed (state_of self.old) }
         ensures answered { IfOk result (λ answer. (answer, state_of self.new) ≡ answered (state_of self.old) message version) }
         ensures unchanged { OnErr result (state_of self.new ≡ state_of self.old) }
@@ -142,7 +143,7 @@ impl Feed {
         message: Message,
         version: Version,
     ) -> Result<Option<(Message, Version)>, NoMemory>
-        requires few { self.old.messages < 1048576 }
+        requires few { self.old.messages < most_messages }
         requires held { IsFeed (state_of self.old) }
         ensures told { IfOk result (λ answer. (answer, state_of self.new) ≡ told (state_of self.old) message version) }
         ensures messages { self.new.messages ≡ self.old.messages }
@@ -226,7 +227,7 @@ impl Feed {
         program: u32,
         values: &Fields,
     ) -> Option<(Message, Version)>
-        requires few { self.old.messages < 1048576 }
+        requires few { self.old.messages < most_messages }
         requires held { IsFeed (state_of self.old) }
         ensures told { (result, state_of self.new) ≡ changed (state_of self.old) version n program values.now }
         ensures messages { self.new.messages ≡ self.old.messages }
@@ -277,7 +278,7 @@ impl Feed {
 
     /// Runs an acknowledgement of a flow.
     fn ack(&mut self, version: Version, n: u32, ack: &Ack) -> Option<(Message, Version)>
-        requires few { self.old.messages < 1048576 }
+        requires few { self.old.messages < most_messages }
         requires held { IsFeed (state_of self.old) }
         ensures told { (result, state_of self.new) ≡ acked_by (state_of self.old) version n ack.entry.now }
         ensures messages { self.new.messages ≡ self.old.messages }

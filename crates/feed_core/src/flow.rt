@@ -3,7 +3,7 @@
 ghost use Rattle.std.specs.Prelude.{◌≡◌, ◌+◌, ◌<◌, ◌^◌, true, None, IfOk, Some, IsOk, ◌↔◌, length, IfErr, OnOk, OnErr};
 ghost use Rattle.fold_machine.specs.MachineState.{Fits};
 ghost use Rattle.fold_machine.specs.Heard.{heard};
-ghost use Rattle.reg_code.specs.CodeStart.{first_bad};
+ghost use Rattle.ccp_base.specs.FieldReg.{first_bad};
 ghost use Rattle.feed_core.specs.Feed.{fresh_flow, next_epoch, changed_flow, updated_flow, counted_flow, flow_after, told_of};
 
 use ccp_base::{Ack, Fields, NoMemory, Notice, Report};

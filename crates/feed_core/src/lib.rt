@@ -2,11 +2,15 @@
 #![tactic(auto)]
 
 mod answering;
+pub mod calls;
+mod ending;
 mod feed;
 #[cfg(test)]
 mod feed_tests;
 mod flow;
+mod rest;
+mod turn;
 
-pub use answering::{Unanswered, answer};
+pub use ending::FeedEnd;
 pub use feed::Feed;
 pub use flow::{Epoch, Flow};

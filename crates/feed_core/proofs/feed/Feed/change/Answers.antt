@@ -4,7 +4,8 @@ use Rattle.std.proofs.lemmas.List.{map-set}
 use Rattle.std.proofs.lemmas.Option.{slice_get-map}
 use Rattle.reg_code.specs.declared.code.Code.{Code}
 use Rattle.reg_code.specs.declared.checked.Checked.{Checked}
-use Rattle.reg_code.specs.CodeStart.{first_bad}
+use Rattle.ccp_base.specs.FieldReg.{first_bad}
+use Rattle.ccp_base.specs.Limits.{most_kept_programs}
 use Rattle.feed_core.specs.declared.flow.Epoch.{Epoch}
 use Rattle.feed_core.specs.declared.flow.Flow.{Flow}
 use Rattle.feed_core.specs.Feed.{code_of, in_version, there, is_too_wide, changed_flow}
@@ -27,7 +28,7 @@ pub returns-then-program-ge-PROGRAMS : goal.returns-then-program-ge-PROGRAMS
 returns-then-program-ge-PROGRAMS c =
     let feed = c.args.self.now in
     let lt : c.args.n < length feed.flows.items = omega (arith, c.requires.held.flows_full) in
-    let above : nat_lt c.args.program 16 ≡ false = grind (arith, nat_tests) in
+    let above : nat_lt c.args.program most_kept_programs ≡ false = grind (arith, nat_tests) in
     record {
       messages = refl;
       told = change-above feed.flows.items (codes_in feed.programs.items) feed.messages c.args.n c.args.version c.index_mut.result.now lt c.index_mut.ensures.value
@@ -38,7 +39,7 @@ pub returns-in_default-program_at : goal.returns-in_default-program_at
 returns-in_default-program_at c =
     let feed = c.args.self.now in
     let lt : c.args.n < length feed.flows.items = omega (arith, c.requires.held.flows_full) in
-    let below : nat_lt c.args.program 16 ≡ true = grind (arith, nat_tests) in
+    let below : nat_lt c.args.program most_kept_programs ≡ true = grind (arith, nat_tests) in
     let none : c.program_at.result ≡ None = search rules in
     let here : there (codes_in feed.programs.items) c.args.program ≡ None =
     ap (λ ps. there (codes_in ps) c.args.program) (sym c.as_slice.ensures.value) ∙ sym c.program_at.ensures ∙ ap (option_map _) none in
@@ -52,7 +53,7 @@ pub returns-then-is_too_wide : goal.returns-then-is_too_wide
 returns-then-is_too_wide c =
     let feed = c.args.self.now in
     let lt : c.args.n < length feed.flows.items = omega (arith, c.requires.held.flows_full) in
-    let below : nat_lt c.args.program 16 ≡ true = grind (arith, nat_tests) in
+    let below : nat_lt c.args.program most_kept_programs ≡ true = grind (arith, nat_tests) in
     let code = c.in-Some-program_at.code.now.code in
     let here : there (codes_in feed.programs.items) c.args.program ≡ Some code =
     ap (λ ps. there (codes_in ps) c.args.program) (sym c.as_slice.ensures.value) ∙ sym c.program_at.ensures ∙ ap (option_map _) c.in-Some-program_at.is in
@@ -66,7 +67,7 @@ pub returns-in-Ok : goal.returns-in-Ok
 returns-in-Ok c =
     let feed = c.args.self.now in
     let lt : c.args.n < length feed.flows.items = omega (arith, c.requires.held.flows_full) in
-    let below : nat_lt c.args.program 16 ≡ true = grind (arith, nat_tests) in
+    let below : nat_lt c.args.program most_kept_programs ≡ true = grind (arith, nat_tests) in
     let code = c.in-Some-program_at.code.now.code in
     let here : there (codes_in feed.programs.items) c.args.program ≡ Some code =
     ap (λ ps. there (codes_in ps) c.args.program) (sym c.as_slice.ensures.value) ∙ sym c.program_at.ensures ∙ ap (option_map _) c.in-Some-program_at.is in
@@ -80,7 +81,7 @@ pub returns-in-Err : goal.returns-in-Err
 returns-in-Err c =
     let feed = c.args.self.now in
     let lt : c.args.n < length feed.flows.items = omega (arith, c.requires.held.flows_full) in
-    let below : nat_lt c.args.program 16 ≡ true = grind (arith, nat_tests) in
+    let below : nat_lt c.args.program most_kept_programs ≡ true = grind (arith, nat_tests) in
     let code = c.in-Some-program_at.code.now.code in
     let here : there (codes_in feed.programs.items) c.args.program ≡ Some code =
     ap (λ ps. there (codes_in ps) c.args.program) (sym c.as_slice.ensures.value) ∙ sym c.program_at.ensures ∙ ap (option_map _) c.in-Some-program_at.is in

@@ -3,6 +3,7 @@ use Rattle.std.proofs.lemmas.Bool.Decides.{nat_tests}
 use Rattle.std.proofs.lemmas.List.{map-set}
 use Rattle.reg_code.specs.declared.checked.Checked.{Checked}
 use Rattle.reg_code.specs.AcceptedCode.{IsAccepted}
+use Rattle.ccp_base.specs.Limits.{most_kept_programs}
 use Rattle.feed_core.specs.Feed.{there}
 use Rattle.feed_core.specs.FeedHolds.{codes_in, code_in}
 use Rattle.feed_core.proofs.FeedLemmas.{install-rejected, install-kept}
@@ -11,7 +12,7 @@ use Rattle.feed_core.proofs.feed.Feed.install.Goals as goal
 pub returns-in-Err : goal.returns-in-Err
 returns-in-Err c =
     let feed = c.args.self.now in
-    let below : nat_lt c.args.program 16 ≡ true = grind (arith, nat_tests) in
+    let below : nat_lt c.args.program most_kept_programs ≡ true = grind (arith, nat_tests) in
     let none : c.program_at.result ≡ None = search rules in
     let free : there (codes_in feed.programs.items) c.args.program ≡ None =
     ap (λ ps. there (codes_in ps) c.args.program) (sym c.as_slice.ensures.value) ∙ sym c.program_at.ensures ∙ ap (option_map _) none in
@@ -24,7 +25,7 @@ returns-in-Err c =
 pub returns-in-Ok : goal.returns-in-Ok
 returns-in-Ok c =
     let feed = c.args.self.now in
-    let below : nat_lt c.args.program 16 ≡ true = grind (arith, nat_tests) in
+    let below : nat_lt c.args.program most_kept_programs ≡ true = grind (arith, nat_tests) in
     let none : c.program_at.result ≡ None = search rules in
     let free : there (codes_in feed.programs.items) c.args.program ≡ None =
     ap (λ ps. there (codes_in ps) c.args.program) (sym c.as_slice.ensures.value) ∙ sym c.program_at.ensures ∙ ap (option_map _) none in

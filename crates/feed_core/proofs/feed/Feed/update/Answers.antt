@@ -4,7 +4,7 @@ use Rattle.std.proofs.lemmas.List.{map-set}
 use Rattle.std.proofs.lemmas.Option.{slice_get-map}
 use Rattle.reg_code.specs.declared.code.Code.{Code}
 use Rattle.reg_code.specs.declared.checked.Checked.{Checked}
-use Rattle.reg_code.specs.CodeStart.{first_bad}
+use Rattle.ccp_base.specs.FieldReg.{first_bad}
 use Rattle.feed_core.specs.declared.flow.Epoch.{Epoch}
 use Rattle.feed_core.specs.declared.flow.Flow.{Flow}
 use Rattle.feed_core.specs.Feed.{code_of, in_version, there, is_too_wide, changed_flow}
