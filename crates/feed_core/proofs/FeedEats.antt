@@ -14,7 +14,7 @@ use Rattle.feed_core.specs.FeedHolds.{IsFeed}
 use Rattle.feed_core.specs.FeedBytes.{Fed, answer_bytes, with_answers, fed_after, fed_on, fed, IsFeeding}
 
 -- a frame takes some bytes
-some-used : (bytes : List ℕ) (message : Message) (version : Version) (used : ℕ) → Begins bytes message version used → (0 < used) × (used ≤ length bytes)
+pub some-used : (bytes : List ℕ) (message : Message) (version : Version) (used : ℕ) → Begins bytes message version used → (0 < used) × (used ≤ length bytes)
 some-used bytes message version used b = (omega (arith, b.used_is, head-long version message), omega (arith, b.used_is, ap length b.parts, length-append (frame_bytes version message) b.rest))
   where
     head-long : (version : Version) (message : Message) → 0 < length (frame_bytes version message)

@@ -8,10 +8,11 @@ use Rattle.ccp_base.specs.declared.fields.FieldReg.{FieldReg}
 use Rattle.ccp_base.specs.declared.fields.FieldReg.TheVariants as field
 use Rattle.ccp_base.specs.FieldReg.{Pair, first_bad}
 use Rattle.ccp_base.specs.Limits.{most_flows, most_kept_programs, most_messages}
+use Rattle.ccp_base.specs.Truth.{is_true}
 use Rattle.reg_code.specs.declared.code.Code.{Code}
 use Rattle.reg_code.specs.AcceptedCode.{◌or_else◌, Refusal, rejected, IsAccepted, sizes_of, counts_refusal, events_refusal}
 use Rattle.reg_code.specs.CodeStart.{with_value, with_values, declared_kept}
-use Rattle.reg_code.specs.CodeStep.{Kept, IsKeptOf, Work, done, failed, stuck, events_of, begun, settled, is_true, mone, made_of}
+use Rattle.reg_code.specs.CodeStep.{Kept, IsKeptOf, Work, done, failed, stuck, events_of, begun, settled, mone, made_of}
 use Rattle.reg_code.specs.CodeStep as steps
 use Rattle.reg_code.specs.SoundLaws.{HasSizes, WorkSized, events-sized, none-next, IsSound-accepted}
 use Rattle.reply_frames.specs.declared.outline.Version.{Version}

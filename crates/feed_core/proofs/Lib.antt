@@ -1,3 +1,4 @@
 mod FeedEats
 mod FeedKept
 mod FeedLemmas
+mod TurnLemmas

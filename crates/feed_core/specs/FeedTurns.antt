@@ -5,7 +5,7 @@ use Rattle.ccp_base.specs.Limits.{most_frame_bytes}
 use Rattle.reply_frames.specs.declared.outline.Version.{Version}
 use Rattle.ccp_messages.specs.declared.message.Message.{Message}
 use Rattle.ccp_messages.specs.declared.fault.DecodeFault.{DecodeFault}
-use Rattle.ccp_messages.specs.declared.fault.DecodeFault.TheVariants.{More, Bad}
+use Rattle.ccp_messages.specs.declared.fault.DecodeFault.TheVariants.{More, Bad, NoMemory}
 use Rattle.ccp_messages.specs.Decoding.{Begins, decoded_of}
 use Rattle.feed_core.specs.declared.turn.Turn.{Turn}
 use Rattle.feed_core.specs.declared.turn.Turn.TheVariants as turn
@@ -35,6 +35,12 @@ pub record FailsOne (before now : ℕ) (old new : Known) (state : FeedState) (by
   pub within : used ≤ length bytes
   pub rose : Rose before now
   pub written : AppendsPrefix old new (answer_bytes (answered state message version).0)
+
+-- what bytes come to that don't begin with a frame
+abbrev pub without_frame : DecodeFault → Turn
+without_frame (More needed) = turn.Part
+without_frame (Bad field offset) = turn.Bad field offset
+without_frame NoMemory = turn.NoMemory
 
 -- no frame begins the bytes, which are a part of one
 pub record IsPart (old new : Known) (state state' : FeedState) (bytes : List ℕ) : Type 0 where

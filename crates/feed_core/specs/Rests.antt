@@ -1,13 +1,12 @@
 -- The bytes of an input that no frame has taken yet, and what a read adds to them.
 use Rattle.std.specs.Prelude.{◌≡◌, ℕ, ◌+◌, ◌-◌, ◌<◌, ◌≤◌, List, ◌++◌, length, take, drop}
 use Rattle.ccp_base.specs.Outside.{Known, Rose, Takes, IsAtEnd}
-use Rattle.feed_core.specs.declared.rest.Rest.{Rest}
-use Rattle.feed_core.specs.declared.rest.Piece.{Piece}
-use Rattle.feed_core.specs.declared.rest.Piece.TheVariants.{Bytes, End, Further, Failed}
+use Rattle.feed_core.specs.declared.piece.Piece.{Piece}
+use Rattle.feed_core.specs.declared.piece.Piece.TheVariants.{Bytes, End, Further, Failed}
 
 -- the bytes from the start up to the end
-abbrev pub rest_of : Rest → List ℕ
-rest_of rest = take (rest.end - rest.start) (drop rest.start rest.bytes)
+abbrev pub between : List ℕ → ℕ → ℕ → List ℕ
+between bytes start end = take (end - start) (drop start bytes)
 
 -- some bytes were taken, within the room, and stand behind those before
 pub record AddsPiece (old new : Known) (room : ℕ) (rest rest' : List ℕ) (count : ℕ) : Type 0 where

@@ -1,6 +1,6 @@
 //! The answer to one frame of a feed, written.
 
-ghost use Rattle.std.specs.Prelude.{◌≡◌, ◌<◌, ◌≤◌, OnOk, IfErr};
+ghost use Rattle.std.specs.Prelude.{◌≡◌, ◌+◌, ◌<◌, ◌≤◌, OnOk, IfErr};
 ghost use Rattle.ccp_base.specs.Outside.{Rose, Appends, AppendsPrefix};
 ghost use Rattle.ccp_base.specs.Limits.{most_messages};
 ghost use Rattle.feed_core.specs.Feed.{answered};
@@ -48,6 +48,7 @@ pub fn answer<K: Sink>(
     requires few { feed.old.messages < most_messages }
     requires held { IsFeed (state_of feed.old) }
     ensures state { OnOk result (state_of feed.new ≡ (answered (state_of feed.old) message version).1) }
+    ensures one { OnOk result (feed.new.messages ≡ feed.old.messages + 1) }
     ensures written { OnOk result (Appends (K.written sink.old) (K.written sink.new) (answer_bytes (answered (state_of feed.old) message version).0)) }
     ensures held { IsFeed (state_of feed.new) }
     ensures counted { K.faults sink.old ≤ K.faults sink.new }

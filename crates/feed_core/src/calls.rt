@@ -6,7 +6,8 @@ ghost use Rattle.feed_core.specs.FeedEnds.{stream, IsFed};
 
 use crate::ending::FeedEnd;
 use crate::feed::Feed;
-use crate::rest::{Piece, Rest};
+use crate::piece::Piece;
+use crate::rest::Rest;
 use crate::turn::{Turn, next_frame};
 use ccp_base::{Sink, Source};
 use std::alloc::Global;

@@ -8,6 +8,7 @@ mod feed;
 #[cfg(test)]
 mod feed_tests;
 mod flow;
+mod piece;
 mod rest;
 mod turn;
 

@@ -2,25 +2,13 @@
 
 ghost use Rattle.std.specs.Prelude.{◌≡◌, ◌+◌, ◌-◌, ◌<◌, ◌≤◌, [], ◌++◌, length, drop};
 ghost use Rattle.ccp_base.specs.Limits.{most_frame_bytes};
-ghost use Rattle.feed_core.specs.Rests.{rest_of, IsPiece};
+ghost use Rattle.feed_core.specs.Rests.{between, IsPiece};
 
+use crate::piece::Piece;
 use ccp_base::Source;
 
 /// The bytes of the longest frame.
 const LONGEST: usize = 8596;
-
-/// What a read brought.
-#[derive(Clone, Copy, PartialEq, Eq, Debug)]
-pub enum Piece {
-    /// So many bytes, at least one.
-    Bytes(usize),
-    /// The source has no further byte.
-    End,
-    /// A further byte is there, and none may come.
-    Further,
-    /// The read failed.
-    Failed,
-}
 
 /// The bytes that were read and that no whole frame has taken, which are kept in place.
 #[derive(Clone, Copy, Debug)]
@@ -35,7 +23,7 @@ pub struct Rest {
 impl Rest {
     /// No bytes.
     pub fn new() -> Self
-        ensures { rest_of result ≡ [] }
+        ensures { between result.bytes result.start result.end ≡ [] }
     {
         Rest {
             bytes: [0; LONGEST],
@@ -46,29 +34,29 @@ impl Rest {
 
     /// How many bytes they are.
     pub fn len(&self) -> usize
-        ensures { result ≡ length (rest_of self.now) }
+        ensures { result ≡ length (between self.now.bytes self.now.start self.now.end) }
     {
         self.end - self.start
     }
 
     /// The bytes.
     pub fn as_slice(&self) -> &[u8]
-        ensures { result.now ≡ rest_of self.now }
+        ensures { result.now ≡ between self.now.bytes self.now.start self.now.end }
     {
         &self.bytes[self.start..self.end]
     }
 
     /// Takes so many bytes off the front.
     pub fn drop_front(&mut self, count: usize)
-        requires { count ≤ length (rest_of self.old) }
-        ensures { rest_of self.new ≡ drop count (rest_of self.old) }
+        requires { count ≤ length (between self.old.bytes self.old.start self.old.end) }
+        ensures { between self.new.bytes self.new.start self.new.end ≡ drop count (between self.old.bytes self.old.start self.old.end) }
     {
         self.start += count;
     }
 
     /// Moves the bytes to the front of their place.
     fn settle(&mut self)
-        ensures same { rest_of self.new ≡ rest_of self.old }
+        ensures same { between self.new.bytes self.new.start self.new.end ≡ between self.old.bytes self.old.start self.old.end }
         ensures start { self.new.start ≡ 0 }
     {
         let len = self.end - self.start;
@@ -80,10 +68,10 @@ impl Rest {
     /// Reads a piece of at most `room` bytes and puts it behind these. Where `room` is 0 it asks for one byte, and
     /// keeps none.
     pub fn read<S: Source>(&mut self, source: &mut S, room: usize) -> Piece
-        requires { length (rest_of self.old) < most_frame_bytes }
+        requires { length (between self.old.bytes self.old.start self.old.end) < most_frame_bytes }
         ensures counted { S.faults source.old ≤ S.faults source.new }
         ensures came { IsPiece (S.faults source.old) (S.faults source.new) (S.remaining source.old)
-            (S.remaining source.new) room (rest_of self.old) (rest_of self.new) result }
+            (S.remaining source.new) room (between self.old.bytes self.old.start self.old.end) (between self.new.bytes self.new.start self.new.end) result }
     {
         self.settle();
         let asked = room.max(1).min(LONGEST - self.end);

@@ -3,7 +3,7 @@
 ghost use Rattle.std.specs.Prelude.{◌≡◌, ◌+◌, ◌≤◌, length};
 ghost use Rattle.ccp_base.specs.Limits.{most_messages};
 ghost use Rattle.feed_core.specs.FeedHolds.{state_of, IsFeed};
-ghost use Rattle.feed_core.specs.FeedTurns.{IsTurn};
+ghost use Rattle.feed_core.specs.FeedTurns.{without_frame, IsTurn};
 
 use crate::answering::{Unanswered, answer};
 use crate::feed::Feed;
@@ -25,6 +25,17 @@ pub enum Turn {
     NoMemory,
 }
 
+/// What bytes come to that don't begin with a frame.
+fn without_frame(fault: DecodeFault) -> Turn
+    ensures { result ≡ without_frame fault }
+{
+    match fault {
+        DecodeFault::More(_) => Turn::Part,
+        DecodeFault::Bad(field, offset) => Turn::Bad(field, offset),
+        DecodeFault::NoMemory => Turn::NoMemory,
+    }
+}
+
 /// Answers the frame that the bytes begin with.
 pub fn next_frame<K: Sink>(alloc: Global, feed: &mut Feed, bytes: &[u8], sink: &mut K) -> Turn
     requires few { feed.old.messages + length bytes.now ≤ most_messages }
@@ -39,8 +50,6 @@ pub fn next_frame<K: Sink>(alloc: Global, feed: &mut Feed, bytes: &[u8], sink: &
             Err(Unanswered::Write) => Turn::WriteFailed,
             Err(Unanswered::NoMemory) => Turn::NoMemory,
         },
-        Err(DecodeFault::More(_)) => Turn::Part,
-        Err(DecodeFault::Bad(field, offset)) => Turn::Bad(field, offset),
-        Err(DecodeFault::NoMemory) => Turn::NoMemory,
+        Err(fault) => without_frame(fault),
     }
 }
