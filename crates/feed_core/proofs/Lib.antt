@@ -1,4 +1,5 @@
 mod FeedEats
 mod FeedKept
 mod FeedLemmas
+mod RestLemmas
 mod TurnLemmas
