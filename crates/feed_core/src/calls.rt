@@ -1,8 +1,8 @@
 //! The loop that reads frames and writes answers.
 
-ghost use Rattle.std.specs.Prelude.{◌≡◌, ◌+◌, ◌-◌, ◌<◌, ◌≤◌, [], ◌++◌, length, drop};
-ghost use Rattle.ccp_base.specs.Limits.{most_frame_bytes};
+ghost use Rattle.std.specs.Prelude.{◌≡◌, ◌≤◌};
 ghost use Rattle.feed_core.specs.FeedEnds.{stream, IsFed};
+ghost use Rattle.feed_core.specs.FeedLast.{IsLast};
 
 use crate::ending::FeedEnd;
 use crate::feed::Feed;
@@ -36,12 +36,15 @@ pub fn feed<S: Source, K: Sink>(alloc: Global, source: &mut S, sink: &mut K) -> 
                 rest.drop_front(used);
                 eaten += used;
             }
-            Turn::Part => match rest.read(source, LIMIT - eaten - rest.len()) {
-                Piece::Bytes(_) => {}
-                Piece::End => return at_end(sink, eaten, rest.len()),
-                Piece::Further => return FeedEnd::TooLong,
-                Piece::Failed => return FeedEnd::ReadFailed,
-            },
+            Turn::Part => {
+                let left = rest.len();
+                match rest.read(source, LIMIT - eaten - left) {
+                    Piece::Bytes(_) => {}
+                    Piece::End => return at_end(sink, eaten, left),
+                    Piece::Further => return FeedEnd::TooLong,
+                    Piece::Failed => return FeedEnd::ReadFailed,
+                }
+            }
             Turn::Bad(field, offset) => return FeedEnd::Bad(field, (eaten + offset) as u64),
             Turn::WriteFailed => return FeedEnd::WriteFailed,
             Turn::NoMemory => return FeedEnd::NoMemory,
@@ -49,10 +52,14 @@ pub fn feed<S: Source, K: Sink>(alloc: Global, source: &mut S, sink: &mut K) -> 
     }
 }
 
-/// The end of an input that was read to its end, of whose last frame so many bytes are there.
-fn at_end<K: Sink>(sink: &mut K, eaten: usize, left: usize) -> FeedEnd {
+/// The end of an input that was read to its end, where so many bytes are left from this place on.
+fn at_end<K: Sink>(sink: &mut K, place: usize, left: usize) -> FeedEnd
+    ensures counted { K.faults sink.old ≤ K.faults sink.new }
+    ensures kept { K.written sink.new ≡ K.written sink.old }
+    ensures last { IsLast (K.faults sink.old) (K.faults sink.new) (K.is_finished sink.new) place left result }
+{
     if left > 0 {
-        return FeedEnd::Cut(eaten as u64);
+        return FeedEnd::Cut(place as u64);
     }
     match sink.finish() {
         Ok(()) => FeedEnd::Whole,
