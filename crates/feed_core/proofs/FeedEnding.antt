@@ -24,85 +24,8 @@ use Rattle.feed_core.specs.FeedTurns.{FailsOne}
 use Rattle.feed_core.specs.FeedEnds.{answers_of, end_from, end_of, stream, Answers, IsOpen, IsFed}
 use Rattle.feed_core.specs.FeedLast.{IsLast}
 use Rattle.feed_core.proofs.FeedEats.{some-used}
-
--- ---- the frames of some bytes
-
-take-front : (n : ℕ) (xs ys : List ℕ) → length xs ≤ n → take n (xs ++ ys) ≡ xs ++ take (n - length xs) ys
-take-front n xs ys within =
-    let parts : n ≡ length xs + (n - length xs) = omega (arith, within) in
-    ap (λ k. take k (xs ++ ys)) parts ∙ take-append-add xs ys (n - length xs)
-
--- a part of a frame has no answers
-fed-part : (frames place : ℕ) (state : FeedState) (bytes : List ℕ) (needed : ℕ) → decoded_of bytes ≡ Err (More needed)
-    → fed frames place state bytes ≡ record { answers = []; tail = left place bytes }
-fed-part zero place state bytes needed e = refl
-fed-part (suc frames) place state bytes needed e = ap (fed_on (fed frames) place state bytes) e
-
--- nor have bytes that no frame begins with
-fed-bad : (frames place : ℕ) (state : FeedState) (bytes : List ℕ) (field : BadKind) (offset : ℕ) → 0 < frames → decoded_of bytes ≡ Err (Bad field offset)
-    → fed frames place state bytes ≡ record { answers = []; tail = bad field (place + offset) }
-fed-bad zero place state bytes field offset some e = absurd (omega (arith, some))
-fed-bad (suc frames) place state bytes field offset some e = ap (fed_on (fed frames) place state bytes) e
-
--- no bytes have no answers
-nothing-read : (frames place : ℕ) (state : FeedState) (read : Result Found DecodeFault) → decoded_of [] ≡ read → (fed_on (fed frames) place state [] read).answers ≡ []
-nothing-read frames place state (Ok (message, version, used)) e =
-    let begins = decoded-begins [] (message, version, used) (λ i. omega arith) e in
-    let used' = some-used [] message version used begins in
-    absurd (omega (arith, used'.0, used'.1))
-nothing-read frames place state (Err (More needed)) e = refl
-nothing-read frames place state (Err (Bad field offset)) e = refl
-nothing-read frames place state (Err NoMemory) e = refl
-
-fed-nothing : (frames place : ℕ) (state : FeedState) → (fed frames place state []).answers ≡ []
-fed-nothing zero place state = refl
-fed-nothing (suc frames) place state = nothing-read frames place state (decoded_of []) refl
-
--- bytes that no frame begins with stay so, whatever follows
-pub bad-on : (bytes more : List ℕ) (field : BadKind) (place : ℕ) → decoded_of bytes ≡ Err (Bad field place) → decoded_of (bytes ++ more) ≡ Err (Bad field place)
-bad-on bytes more field place e =
-    let is = decoded-bad bytes field place e in
-    let r = exact-frame.bad bytes field (length bytes - place) is.1 in
-    let rest : List ℕ = r.byte ∷ (r.after ++ more) in
-    let parts : bytes ++ more ≡ r.front ++ rest = ap (λ xs. xs ++ more) r.parts ∙ append_assoc r.front (r.byte ∷ r.after) more in
-    let read : frame_at (bytes ++ more) ≡ Err (stops.Bad field (length rest)) = ap frame_at parts ∙ r.again (r.after ++ more) in
-    let within : place < length bytes = is.0.within in
-    let at : length (bytes ++ more) - length rest ≡ place =
-        omega (arith, within, r.left_is, ap length r.parts, length-append r.front (r.byte ∷ r.after), ap length parts, length-append r.front rest) in
-    ap (λ read. decoded_from (bytes ++ more) (found_from (length (bytes ++ more)) read)) read ∙ ap (λ n. Err (Bad field n)) at
-
--- ---- streams
-
-takes-nothing : (known : Known) → Takes known known []
-takes-nothing None = refl
-takes-nothing (Some bytes) = refl
-
-appends-nothing : (known : Known) → Appends known known []
-appends-nothing None = refl
-appends-nothing (Some bytes) = ap Some (sym (append-nil bytes))
-
-appends-all : (old new : Known) (bytes : List ℕ) → Appends old new bytes → AppendsPrefix old new bytes
-appends-all old new bytes all = record {
-  count = length bytes;
-  within = omega arith;
-  appends = subst (Appends old new) (sym (take_all (length bytes) bytes (omega arith))) all;
-}
-
--- what is written before, and then a front of the next, is a front of all
-appends-front : (old middle new : Known) (first next later : List ℕ) → Appends old middle first → AppendsPrefix middle new next → AppendsPrefix old new (first ++ (next ++ later))
-appends-front old middle new first next later before front =
-    let short : take (front.count) (next ++ later) ≡ take front.count next = take-append-le front.count next later front.within in
-    let whole : take (length first + front.count) (first ++ (next ++ later)) ≡ first ++ take front.count next =
-        take-append-add first (next ++ later) front.count ∙ ap (λ xs. first ++ xs) short in
-    let within : front.count ≤ length next = front.within in
-    record {
-      count = length first + front.count;
-      within = omega (arith, within, length-append first (next ++ later), length-append next later);
-      appends = subst (Appends old new) (sym whole) (Appends-append old middle new first (take front.count next) before front.appends);
-    }
-
-rose-late : (before middle now : ℕ) → before ≤ middle → Rose middle now → middle ≤ now → Rose before now
-rose-late before middle now first rose then = search rules
+use Rattle.feed_core.proofs.FrameEnds.{take-front, fed-part, fed-bad, fed-nothing, bad-on}
+use Rattle.feed_core.proofs.StreamEnds.{takes-nothing, appends-nothing, appends-all, appends-front, rose-late}
 
 -- ---- ends
 
@@ -163,39 +86,39 @@ module _ (source source' sink sink' : Known) (state : FeedState) (eaten : ℕ) (
     -- the source was read to its end
     pub ends-last : IsAtEnd source' → (wm : ℕ) → wb ≤ wm → wm ≤ wn → (end : FeedEnd) → IsLast wm wn is_finished eaten (length rest) end
         → IsFed (stream source source' rb rn) (stream sink sink' wb wn) is_finished end
-    ends-last at_end wm first then ends.Whole last = (record {
+    ends-last at_end wm first grown ends.Whole last = (record {
       bytes = bytes;
       answered = all-answered;
       at_end = at_end;
       within = fits;
       end_is = end-here ∙ end-none eaten rest last.0;
     }, last.1)
-    ends-last at_end wm first then (ends.Cut place) last = record {
+    ends-last at_end wm first grown (ends.Cut place) last = record {
       bytes = bytes;
       answered = all-answered;
       at_end = at_end;
       within = fits;
       end_is = end-here ∙ end-some eaten rest last.0 ∙ ap ends.Cut (sym last.1);
     }
-    ends-last at_end wm first then ends.WriteFailed last = record {
+    ends-last at_end wm first grown ends.WriteFailed last = record {
       bytes = bytes;
       taken = feeding.taken;
       within = fits;
-      rose = rose-late wb wm wn first last.1 then;
+      rose = rose-late wb wm wn first last.1 grown;
       front = appends-all sink sink' (answers_of bytes) all-answered.written;
     }
-    ends-last at_end wm first then (ends.Bad field place) last = absurd last
-    ends-last at_end wm first then ends.TooLong last = absurd last
-    ends-last at_end wm first then ends.ReadFailed last = absurd last
-    ends-last at_end wm first then ends.NoMemory last = absurd last
+    ends-last at_end wm first grown (ends.Bad field place) last = absurd last
+    ends-last at_end wm first grown ends.TooLong last = absurd last
+    ends-last at_end wm first grown ends.ReadFailed last = absurd last
+    ends-last at_end wm first grown ends.NoMemory last = absurd last
 
     -- a read failed
     pub ends-unread : (rm : ℕ) → rb ≤ rm → rm ≤ rn → Rose rm rn → IsFed (stream source source' rb rn) (stream sink sink' wb wn) is_finished ends.ReadFailed
-    ends-unread rm first then rose = record {
+    ends-unread rm first grown rose = record {
       bytes = bytes;
       answered = all-answered;
       within = fits;
-      rose = rose-late rb rm rn first rose then;
+      rose = rose-late rb rm rn first rose grown;
       goes_on = subst IsOpen (sym end-here) (is-open eaten rest);
     }
 
@@ -252,7 +175,7 @@ module _ (source source' sink sink' : Known) (state : FeedState) (eaten : ℕ) (
 
   pub ends-unwritten : (sink'' : Known) (wm : ℕ) → wb ≤ wm → wm ≤ wn → FailsOne wm wn sink' sink'' state rest
       → IsFed (stream source source' rb rn) (stream sink sink'' wb wn) is_finished ends.WriteFailed
-  ends-unwritten sink'' wm first then fails =
+  ends-unwritten sink'' wm first grown fails =
       let some : 0 < fails.used = fails.some in
       let used : fails.used ≤ length rest = fails.within in
       let fuel : frames ≡ suc (frames - 1) = omega (arith, some, used, feeding.few, feeding.within) in
@@ -265,12 +188,16 @@ module _ (source source' sink sink' : Known) (state : FeedState) (eaten : ℕ) (
         bytes = bytes;
         taken = feeding.taken;
         within = fits;
-        rose = rose-late wb wm wn first fails.rose then;
+        rose = rose-late wb wm wn first fails.rose grown;
         front = subst (AppendsPrefix sink sink'') (sym (ap (λ (f : Fed). f.answers) step))
             (appends-front sink sink' sink'' feeding.answers (answer_bytes (answered state fails.message fails.version).0) later.answers feeding.written fails.written);
       }
 
   -- ---- where memory is wanted
+
+  front-here : length feeding.front ≤ most_input_bytes → feed_of feeding.front ≡ with_answers feeding.answers (fed frames eaten state [])
+  unfolding feed_of
+  front-here short = ap (fed most_input_bytes 0 no_flows) (take_all most_input_bytes feeding.front short ∙ sym (append-nil feeding.front)) ∙ feeding.goes []
 
   pub ends-wanting : IsFed (stream source source' rb rn) (stream sink sink' wb wn) is_finished ends.NoMemory
   ends-wanting =
@@ -286,37 +213,3 @@ module _ (source source' sink sink' : Known) (state : FeedState) (eaten : ℕ) (
         written = subst (Appends sink sink') (sym now) feeding.written;
         begins = ap (λ (f : Fed). f.answers) here ∙ ap (λ xs. xs ++ (fed frames eaten state rest).answers) (sym now);
       }
-    where
-      front-here : length feeding.front ≤ most_input_bytes → feed_of feeding.front ≡ with_answers feeding.answers (fed frames eaten state [])
-      unfolding feed_of
-      front-here short = ap (fed most_input_bytes 0 no_flows) (take_all most_input_bytes feeding.front short ∙ sym (append-nil feeding.front)) ∙ feeding.goes []
-
--- where a feed begins
-pub feeding-first : (source sink : Known) (state : FeedState) (rest : List ℕ) → state ≡ no_flows → IsFeed state → rest ≡ [] → IsFeeding source source sink sink state 0 rest
-feeding-first source sink state rest first held none = record {
-  front = [];
-  answers = [];
-  taken = subst (Takes source source) (sym none) (takes-nothing source);
-  eaten_is = refl;
-  written = appends-nothing sink;
-  goes = λ more. ap (λ s. with_answers [] (fed (most_input_bytes - s.messages) 0 s more)) (sym first);
-  held = held;
-  few = omega (arith, ap (λ (s : FeedState). s.messages) first);
-  within = omega (arith, ap length none);
-}
-
--- no memory for a feed
-pub ends-unbegun : (source sink : Known) (rb rn wb wn : ℕ) (is_finished : Type 0) → IsFed (stream source source rb rn) (stream sink sink wb wn) is_finished ends.NoMemory
-ends-unbegun source sink rb rn wb wn is_finished = record {
-  front = [];
-  rest = [];
-  later = [];
-  taken = takes-nothing source;
-  within = omega arith;
-  written = subst (Appends sink sink) (sym none) (appends-nothing sink);
-  begins = sym (append-nil (answers_of []));
-}
-  where
-    none : answers_of [] ≡ []
-    unfolding feed_of
-    none = fed-nothing most_input_bytes 0 no_flows

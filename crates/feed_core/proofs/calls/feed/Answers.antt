@@ -6,7 +6,8 @@ use Rattle.feed_core.specs.FeedBytes.{IsFeeding}
 use Rattle.feed_core.specs.FeedLast.{IsLast}
 use Rattle.feed_core.specs.Rests.{between}
 use Rattle.feed_core.proofs.FeedSteps.{feeds-frame, feeds-part, cut-part, feeds-same, feeds-quiet, feeds-piece}
-use Rattle.feed_core.proofs.FeedEnding.{ends-last, ends-unread, ends-long, ends-bad, ends-unwritten, ends-wanting, feeding-first, ends-unbegun}
+use Rattle.feed_core.proofs.FeedEnding.{ends-last, ends-unread, ends-long, ends-bad, ends-unwritten, ends-wanting}
+use Rattle.feed_core.proofs.FeedBegins.{feeding-first, ends-unbegun}
 use Rattle.feed_core.proofs.calls.feed.Goals as goal
 
 pub returns-in_default-clause-fed : goal.returns-in_default-clause-fed
