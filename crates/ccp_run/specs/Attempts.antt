@@ -1,6 +1,6 @@
 -- What a mode came to before anything was written: its output, or why there is none.
-use Rattle.std.specs.Prelude.{◌≡◌, ◌≤◌, ◌⊎◌, ℕ, ◌+◌, Result, Ok, Err, List, length}
-use Rattle.ccp_base.specs.Outside.{Rose, TakesOver, TakesWithin}
+use Rattle.std.specs.Prelude.{◌≡◌, ◌≤◌, ◌⊎◌, ℕ, ◌+◌, Bool, true, false, Result, Ok, Err, List, ◌++◌, length}
+use Rattle.ccp_base.specs.Outside.{Rose, Takes, TakesOver, TakesWithin}
 use Rattle.ccp_words.specs.declared.mode.Mode.{Mode}
 use Rattle.ccp_run.specs.declared.outcome.ModeOutput.{ModeOutput}
 use Rattle.ccp_run.specs.declared.refusal.Refusal.{Refusal}
@@ -40,6 +40,17 @@ pub record RefusesLength (mode : Mode) (source : Stream) (refusal : Refusal) : T
 -- an input past the limit is refused as too long and as nothing else
 abbrev pub RefusesInput : Mode → Stream → Refusal → Type 0
 RefusesInput mode source refusal = RefusesLength mode source refusal ⊎ RefusesBytes mode source refusal
+
+-- what was taken of the input has this refusal, whatever follows
+pub record RefusesEarly (mode : Mode) (source : Stream) (refusal : Refusal) : Type 0 where
+  pub bytes : List ℕ
+  pub taken : Takes source.old source.new bytes
+  pub cause : (more : List ℕ) → IsRefused mode (bytes ++ more) refusal
+
+-- whether the input is a stream that is answered as it comes, and how it is refused then or else
+abbrev pub RefusesAny : Bool → Mode → Stream → Refusal → Type 0
+RefusesAny true mode source refusal = RefusesEarly mode source refusal ⊎ RefusesBytes mode source refusal
+RefusesAny false mode source refusal = RefusesInput mode source refusal
 
 -- a read failed, before more bytes were taken than the limit
 pub record FailsToRead (mode : Mode) (source : Stream) : Type 0 where

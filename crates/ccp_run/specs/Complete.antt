@@ -1,12 +1,12 @@
 -- What decides whether a run refuses its input, where the source tells its bytes.
-use Rattle.std.specs.Prelude.{◌≡◌, ◌≤◌, ◌<◌, ◌⊎◌, List, ℕ, Some, length}
+use Rattle.std.specs.Prelude.{◌≡◌, ◌≤◌, ◌<◌, ◌⊎◌, List, ℕ, true, Some, length}
 use Rattle.ccp_base.specs.Outside.{Rose}
 use Rattle.ccp_words.specs.declared.mode.Mode.{Mode}
 use Rattle.ccp_run.specs.declared.outcome.Outcome.{Outcome}
 use Rattle.ccp_run.specs.declared.refusal.Refusal.{Refusal}
 use Rattle.ccp_run.specs.declared.status.Status.{Status}
 use Rattle.ccp_run.specs.declared.status.Status.TheVariants as status
-use Rattle.ccp_run.specs.Modes.{limit_of, IsRefused}
+use Rattle.ccp_run.specs.Modes.{limit_of, is_stream, IsRefused}
 use Rattle.ccp_run.specs.Settled.{IsInput}
 use Rattle.ccp_run.specs.Statuses.{number_of}
 use Rattle.ccp_run.specs.Streams.{Stream}
@@ -20,11 +20,11 @@ abbrev pub IsNoInput : Mode → List ℕ → Type 0
 IsNoInput mode bytes = (limit_of mode < length bytes) ⊎ ((refusal : Refusal) × IsRefused mode bytes refusal)
 
 -- where no count of faults rose, an input of the mode within the limit is answered by the mode's output, and every
--- other one is refused
+-- other one is refused; the sink's count matters to a refusal only where answers are written before it
 pub record IsComplete (mode : Mode) (source sink : Stream) (outcome : Outcome) : Type 0 where
   pub answered : (bytes : List ℕ) → source.old ≡ Some bytes → length bytes ≤ limit_of mode → IsInput mode bytes
       → (Rose source.before source.now → ⊥) → (Rose sink.before sink.now → ⊥)
       → EndsAs status.Done outcome
   pub refused : (bytes : List ℕ) → source.old ≡ Some bytes → IsNoInput mode bytes
-      → (Rose source.before source.now → ⊥)
+      → (Rose source.before source.now → ⊥) → (is_stream mode ≡ true → Rose sink.before sink.now → ⊥)
       → EndsAs status.InputRefused outcome

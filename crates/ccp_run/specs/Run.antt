@@ -1,15 +1,15 @@
 -- What a run promises: the theorem of every mode.
-use Rattle.std.specs.Prelude.{◌≡◌, ◌≢◌, ◌≤◌, ℕ, ◌+◌, List, []}
+use Rattle.std.specs.Prelude.{◌≡◌, ◌≢◌, ◌≤◌, ℕ, ◌+◌, Bool, true, false, List, [], ◌++◌}
 use Rattle.ccp_base.specs.Outside.{Rose, Takes, TakesWithin, Appends, AppendsPrefix}
 use Rattle.ccp_words.specs.declared.mode.Mode.{Mode}
 use Rattle.ccp_run.specs.declared.outcome.ModeOutput.{ModeOutput}
 use Rattle.ccp_run.specs.declared.outcome.Outcome.{Outcome}
 use Rattle.ccp_run.specs.declared.refusal.Refusal.{Refusal}
 use Rattle.ccp_run.specs.declared.status.Status.TheVariants as status
-use Rattle.ccp_run.specs.Attempts.{MakesOutput, RefusesInput}
+use Rattle.ccp_run.specs.Attempts.{MakesOutput, RefusesAny}
 use Rattle.ccp_run.specs.Endings.{Ends, WritesAll}
 use Rattle.ccp_run.specs.ErrorLine.{refusal_line}
-use Rattle.ccp_run.specs.Modes.{limit_of, answers_before}
+use Rattle.ccp_run.specs.Modes.{limit_of, is_stream, answers_before, GoesOn}
 use Rattle.ccp_run.specs.Statuses.{number_of, words_line, read_line, write_line, memory_line}
 use Rattle.ccp_run.specs.Streams.{Stream, Tells}
 
@@ -25,17 +25,43 @@ pub record WritesFront (mode : Mode) (source sink : Stream) : Type 0 where
   pub made : MakesOutput mode source output
   pub front : AppendsPrefix sink.old sink.new output.text
 
+-- of the answers to what was taken a front was written
+pub record AnswersFront (mode : Mode) (source sink : Stream) : Type 0 where
+  pub taken : List ℕ
+  pub takes : Takes source.old source.new taken
+  pub front : AppendsPrefix sink.old sink.new (answers_before mode taken)
+
+-- whether the input is a stream that is answered as it comes, and the front that is written then or else
+abbrev pub WritesAnyFront : Bool → Mode → Stream → Stream → Type 0
+WritesAnyFront true mode source sink = AnswersFront mode source sink
+WritesAnyFront false mode source sink = WritesFront mode source sink
+
 -- the input has a first refusal, and that was told
 pub record TellsRefusal (mode : Mode) (source errors : Stream) : Type 0 where
   pub refusal : Refusal
-  pub refused : RefusesInput mode source refusal
+  pub refused : RefusesAny (is_stream mode) mode source refusal
   pub told : Tells errors (refusal_line refusal)
 
--- of what was taken only the answers that come before a refusal were written, which most modes don't have
+-- exactly the answers to what was taken were written, which most modes don't have
 pub record WritesAnswers (mode : Mode) (source sink : Stream) : Type 0 where
   pub taken : List ℕ
   pub takes : Takes source.old source.new taken
   pub answers : Appends sink.old sink.new (answers_before mode taken)
+
+-- exactly the answers to a front of what was taken were written, and those to the rest would follow them
+pub record WritesSomeAnswers (mode : Mode) (source sink : Stream) : Type 0 where
+  pub front : List ℕ
+  pub rest : List ℕ
+  pub later : List ℕ
+  pub takes : Takes source.old source.new (front ++ rest)
+  pub answers : Appends sink.old sink.new (answers_before mode front)
+  pub begins : answers_before mode (front ++ rest) ≡ answers_before mode front ++ later
+
+-- what was taken isn't refused so far
+pub record TakesOpen (mode : Mode) (source : Stream) : Type 0 where
+  pub taken : List ℕ
+  pub takes : Takes source.old source.new taken
+  pub goes_on : GoesOn mode taken
 
 pub record IsRun (mode : Mode) (source sink errors : Stream) (is_finished : Type 0) (outcome : Outcome) : Type 0 where
   -- 0: the input was read to its end, and exactly the mode's output was written
@@ -43,21 +69,23 @@ pub record IsRun (mode : Mode) (source sink errors : Stream) (is_finished : Type
   -- 3: more bytes than the limit were taken and that is told, or the input was read to its end and its first refusal is
   -- told
   pub refused : outcome.status ≡ number_of status.InputRefused → TellsRefusal mode source errors
-  -- 4: a read failed in this run, and that is told
+  -- 4: a read failed in this run, before the input was refused, and that is told
   pub read_fault : outcome.status ≡ number_of status.ReadFailed → Rose source.before source.now
+  pub read_open : outcome.status ≡ number_of status.ReadFailed → TakesOpen mode source
   pub told_read : outcome.status ≡ number_of status.ReadFailed → Tells errors read_line
   -- 5: a write failed in this run, a front of the mode's output was written, and that is told
   pub write_fault : outcome.status ≡ number_of status.WriteFailed → Rose sink.before sink.now
-  pub front : outcome.status ≡ number_of status.WriteFailed → WritesFront mode source sink
+  pub front : outcome.status ≡ number_of status.WriteFailed → WritesAnyFront (is_stream mode) mode source sink
   pub told_write : outcome.status ≡ number_of status.WriteFailed → Tells errors write_line
   -- 6: want of memory is told
   pub told_memory : outcome.status ≡ number_of status.NoMemory → Tells errors memory_line
   -- but at 3 at most as many bytes as the limit are taken, and at 3 at most one more
   pub within : outcome.status ≢ number_of status.InputRefused → TakesWithin (limit_of mode) source.old source.new
   pub most : TakesWithin (limit_of mode + 1) source.old source.new
-  -- but at 0 and 5 nothing is written, save answers before a refusal
+  -- but at 0 and 5 nothing is written, save the answers to all that was taken, or at 6 to a front of it
   pub nothing : outcome.status ≢ number_of status.Done → outcome.status ≢ number_of status.WriteFailed
-      → WritesAnswers mode source sink
+      → outcome.status ≢ number_of status.NoMemory → WritesAnswers mode source sink
+  pub nothing_more : outcome.status ≡ number_of status.NoMemory → WritesSomeAnswers mode source sink
   -- but at 0 nothing is kept
   pub programs : outcome.status ≢ number_of status.Done → outcome.programs ≡ []
   pub ran : outcome.status ≢ number_of status.Done → outcome.ran ≡ 0

@@ -48,7 +48,8 @@ feeding-first source sink state rest first held none = record {
   within = omega (arith, ap length none);
 }
 
-no-answers : answers_of [] ≡ []
+-- no bytes have no answers
+pub no-answers : answers_of [] ≡ []
 unfolding feed_of
 no-answers = fed-nothing most_input_bytes 0 no_flows
 

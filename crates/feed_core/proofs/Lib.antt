@@ -1,4 +1,4 @@
-mod FeedBegins
+pub mod FeedBegins
 mod FeedEats
 mod FeedEnding
 mod FeedKept
