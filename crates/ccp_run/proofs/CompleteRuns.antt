@@ -8,10 +8,10 @@ use Rattle.ccp_run.specs.declared.outcome.ModeOutput.{ModeOutput}
 use Rattle.ccp_run.specs.declared.outcome.Outcome.{Outcome}
 use Rattle.ccp_run.specs.declared.refusal.Refusal.{Refusal}
 use Rattle.ccp_run.specs.declared.status.Status.TheVariants as status
-use Rattle.ccp_run.specs.Attempts.{MakesOutput, RefusesInput}
+use Rattle.ccp_run.specs.Attempts.{MakesOutput, RefusesBytes, RefusesInput, RefusesAny}
 use Rattle.ccp_run.specs.Complete.{EndsAs, IsNoInput, IsComplete}
-use Rattle.ccp_run.specs.Modes.{limit_of, is_read, IsMade, IsRefused}
-use Rattle.ccp_run.specs.Run.{IsRun}
+use Rattle.ccp_run.specs.Modes.{limit_of, is_read, is_stream, IsMade, IsRefused}
+use Rattle.ccp_run.specs.Run.{IsRun, WritesAnyFront}
 use Rattle.ccp_run.specs.Settled.{is_there, IsInput}
 use Rattle.ccp_run.specs.Streams.{Stream, HasInput}
 use Rattle.ccp_run.proofs.SettledInputs.{settled_input}
@@ -33,6 +33,11 @@ whole bytes taken old (Some left) is takes end =
     let empty : left ≡ [] = cc in
     lists ∙ ap (λ rest. taken ++ rest) empty ∙ append-nil taken
 
+-- what was taken stands at the front
+split : (bytes taken : List ℕ) (old new : Known) → old ≡ Some bytes → Takes old new taken → (left : List ℕ) × (bytes ≡ taken ++ left)
+split bytes taken old None is takes = let e : Some bytes ≡ None = sym is ∙ takes in let bad : ⊥ = cc in absurd bad
+split bytes taken old (Some left) is takes = let e : Some bytes ≡ Some (taken ++ left) = sym is ∙ takes in let lists : bytes ≡ taken ++ left = cc in (left, lists)
+
 -- a mode with an input, an output or a refusal is there, and reads its source
 pub record IsThere (mode : Mode) : Type 0 where
   pub there : is_there mode ≡ true
@@ -41,7 +46,7 @@ pub record IsThere (mode : Mode) : Type 0 where
 by_input : (mode : Mode) (bytes : List ℕ) → IsInput mode bytes → IsThere mode
 by_input (Alone Check) bytes input = record { there = refl; reads = refl }
 by_input (Alone Fold) bytes input = record { there = refl; reads = refl }
-by_input (Alone Feed) bytes input = absurd input
+by_input (Alone Feed) bytes input = record { there = refl; reads = refl }
 by_input (Alone Audit) bytes input = absurd input
 by_input Live bytes input = absurd input
 by_input Campaign bytes input = absurd input
@@ -52,7 +57,7 @@ by_input Shared bytes input = absurd input
 by_output : (mode : Mode) (bytes : List ℕ) (output : ModeOutput) → IsMade mode bytes output → IsThere mode
 by_output (Alone Check) bytes output made = record { there = refl; reads = refl }
 by_output (Alone Fold) bytes output made = record { there = refl; reads = refl }
-by_output (Alone Feed) bytes output made = absurd made
+by_output (Alone Feed) bytes output made = record { there = refl; reads = refl }
 by_output (Alone Audit) bytes output made = absurd made
 by_output Live bytes output made = absurd made
 by_output Campaign bytes output made = absurd made
@@ -65,12 +70,21 @@ module _ (mode : Mode) (source : Stream) (bytes : List ℕ) (is : source.old ≡
   same_bytes true reads taken has = whole bytes taken source.old source.new is has.taken has.end
   same_bytes false reads taken has = let bad : ⊥ = cc in absurd bad
 
-  not_refused : (refusal : Refusal) → length bytes ≤ limit_of mode → IsInput mode bytes → RefusesInput mode source refusal → ⊥
-  not_refused refusal short input (inl long) = not_over (limit_of mode) bytes source.old source.new is short long.over
-  not_refused refusal short input (inr r) =
+  not_refused_bytes : (refusal : Refusal) → IsInput mode bytes → RefusesBytes mode source refusal → ⊥
+  not_refused_bytes refusal input r =
       let mode_is = by_input mode bytes input in
       (settled_input mode bytes mode_is.there).apart refusal input
       (subst (λ (b : List ℕ). IsRefused mode b refusal) (sym (same_bytes (is_read mode) mode_is.reads r.bytes r.read)) r.cause)
+
+  not_refused : (refusal : Refusal) → length bytes ≤ limit_of mode → IsInput mode bytes → (answers_early : Bool) → RefusesAny answers_early mode source refusal → ⊥
+  not_refused refusal short input true (inl early) =
+      let mode_is = by_input mode bytes input in
+      let parts = split bytes early.bytes source.old source.new is early.taken in
+      (settled_input mode bytes mode_is.there).apart refusal input
+      (subst (λ (b : List ℕ). IsRefused mode b refusal) (sym parts.1) (early.cause parts.0))
+  not_refused refusal short input true (inr r) = not_refused_bytes refusal input r
+  not_refused refusal short input false (inl long) = not_over (limit_of mode) bytes source.old source.new is short long.over
+  not_refused refusal short input false (inr r) = not_refused_bytes refusal input r
 
   not_made : (output : ModeOutput) → IsNoInput mode bytes → MakesOutput mode source output → ⊥
   not_made output other m =
@@ -91,29 +105,35 @@ module _ (mode : Mode) (source sink errors : Stream) (is_finished : Type 0) (out
   answered bytes is short input no_read no_write (suc zero) e = absurd (run.no_1 e)
   answered bytes is short input no_read no_write (suc (suc zero)) e = absurd (run.words e)
   answered bytes is short input no_read no_write (suc (suc (suc zero))) e =
-      absurd (not_refused mode source bytes is (run.refused e).refusal short input (run.refused e).refused)
+      absurd (not_refused mode source bytes is (run.refused e).refusal short input (is_stream mode) (run.refused e).refused)
   answered bytes is short input no_read no_write (suc (suc (suc (suc zero)))) e = absurd (no_read (run.read_fault e))
   answered bytes is short input no_read no_write (suc (suc (suc (suc (suc zero))))) e = absurd (no_write (run.write_fault e))
   answered bytes is short input no_read no_write (suc (suc (suc (suc (suc (suc zero)))))) e = inr e
   answered bytes is short input no_read no_write (suc (suc (suc (suc (suc (suc (suc n))))))) e =
       let few = run.statuses in absurd (omega (arith, e, few))
 
+  no_front : (bytes : List ℕ) → source.old ≡ Some bytes → IsNoInput mode bytes → (is_stream mode ≡ true → Rose sink.before sink.now → ⊥) → Rose sink.before sink.now
+      → (answers_early : Bool) → is_stream mode ≡ answers_early → WritesAnyFront answers_early mode source sink → ⊥
+  no_front bytes is other no_write rose true e front = no_write e rose
+  no_front bytes is other no_write rose false e front = not_made mode source bytes is front.output other front.made
+
   refuses : (bytes : List ℕ) → source.old ≡ Some bytes → IsNoInput mode bytes → (Rose source.before source.now → ⊥)
+      → (is_stream mode ≡ true → Rose sink.before sink.now → ⊥)
       → (n : ℕ) → outcome.status ≡ n → EndsAs status.InputRefused outcome
-  refuses bytes is other no_read zero e = absurd (not_made mode source bytes is (run.done e).output other (run.done e).made)
-  refuses bytes is other no_read (suc zero) e = absurd (run.no_1 e)
-  refuses bytes is other no_read (suc (suc zero)) e = absurd (run.words e)
-  refuses bytes is other no_read (suc (suc (suc zero))) e = inl e
-  refuses bytes is other no_read (suc (suc (suc (suc zero)))) e = absurd (no_read (run.read_fault e))
-  refuses bytes is other no_read (suc (suc (suc (suc (suc zero))))) e =
-      absurd (not_made mode source bytes is (run.front e).output other (run.front e).made)
-  refuses bytes is other no_read (suc (suc (suc (suc (suc (suc zero)))))) e = inr e
-  refuses bytes is other no_read (suc (suc (suc (suc (suc (suc (suc n))))))) e =
+  refuses bytes is other no_read no_write zero e = absurd (not_made mode source bytes is (run.done e).output other (run.done e).made)
+  refuses bytes is other no_read no_write (suc zero) e = absurd (run.no_1 e)
+  refuses bytes is other no_read no_write (suc (suc zero)) e = absurd (run.words e)
+  refuses bytes is other no_read no_write (suc (suc (suc zero))) e = inl e
+  refuses bytes is other no_read no_write (suc (suc (suc (suc zero)))) e = absurd (no_read (run.read_fault e))
+  refuses bytes is other no_read no_write (suc (suc (suc (suc (suc zero))))) e =
+      absurd (no_front bytes is other no_write (run.write_fault e) (is_stream mode) refl (run.front e))
+  refuses bytes is other no_read no_write (suc (suc (suc (suc (suc (suc zero)))))) e = inr e
+  refuses bytes is other no_read no_write (suc (suc (suc (suc (suc (suc (suc n))))))) e =
       let few = run.statuses in absurd (omega (arith, e, few))
 
   -- a run is complete
   pub complete : IsComplete mode source sink outcome
   complete = record {
     answered = λ bytes is short input no_read no_write. answered bytes is short input no_read no_write outcome.status refl;
-    refused = λ bytes is other no_read. refuses bytes is other no_read outcome.status refl;
+    refused = λ bytes is other no_read no_write. refuses bytes is other no_read no_write outcome.status refl;
   }

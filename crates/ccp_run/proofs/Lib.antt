@@ -1,4 +1,5 @@
 mod FoldLemmas
 mod RunLemmas
+mod FeedRunLemmas
 pub mod SettledInputs
 mod CompleteRuns

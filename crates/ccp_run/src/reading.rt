@@ -39,7 +39,8 @@ fn limit(mode: Alone) -> Limit
     }
 }
 
-/// The output of a mode for an input that was read to its end. The words never ask for a mode that isn't there yet.
+/// The output of a mode for an input that was read to its end. That of `feed` is written before it, by a loop of its
+/// own, and the words never ask for a mode that isn't there yet.
 fn output(alloc: Global, mode: Alone, bytes: &[u8]) -> Result<ModeOutput, Stop>
     ensures { IsAnswer (Mode.Alone mode) bytes.now result }
 {
