@@ -1,5 +1,6 @@
 mod FoldLemmas
 mod RunLemmas
+mod FeedRunLemmas
 pub mod SettledInputs
 mod CompleteRuns
 pub mod ReadLemmas
