@@ -6,6 +6,7 @@ use crate::frames_of_tests::{
 use ccp_base::{Bytes, MemSink, MemSource};
 use ccp_messages::BadKind;
 use std::alloc::Global;
+use std::process::Abort;
 use std::test::Fail;
 
 /// The frames in turn.
@@ -53,48 +54,6 @@ fn inputs_end(rt: HostRuntime) -> Result<(), Fail> {
         let input = joined(rt.alloc(), frames)?;
         ends_in_pieces(&rt, rt.alloc(), name, input.as_slice(), output, end);
     }
-    Ok(())
-}
-
-#[test]
-fn a_frame_is_cut_at_each_byte(rt: HostRuntime) {
-    for count in 1..=88 {
-        ends(&rt, rt.alloc(), "cut", &INSTALL[..count], 4096, b"", FeedEnd::Cut(0));
-    }
-}
-
-/// Asserts what a feed whose read of this number fails has written, of an input that comes by 16 bytes.
-fn read_fails(rt: &impl Abort, alloc: Global, input: &[u8], call: u64, output: &[u8]) {
-    let failing = [call];
-    let mut source = MemSource::new(input, 16, &failing);
-    let mut sink = MemSink::new(alloc, 4096, &[]);
-    let ended = feed(alloc, &mut source, &mut sink);
-    assert_eq!(rt; ended, FeedEnd::ReadFailed, "read {call}");
-    assert_eq!(rt; sink.as_slice(), output, "read {call}");
-}
-
-/// Asserts what a feed whose call of the sink of this number fails has written, where a write takes 16 bytes.
-fn write_fails(rt: &impl Abort, alloc: Global, input: &[u8], call: u64, output: &[u8]) {
-    let failing = [call];
-    let mut source = MemSource::new(input, 4096, &[]);
-    let mut sink = MemSink::new(alloc, 16, &failing);
-    let ended = feed(alloc, &mut source, &mut sink);
-    assert_eq!(rt; ended, FeedEnd::WriteFailed, "write {call}");
-    assert_eq!(rt; sink.as_slice(), output, "write {call}");
-}
-
-#[test]
-fn each_call_fails(rt: HostRuntime) -> Result<(), Fail> {
-    let input = joined(rt.alloc(), &[CREATE, INSTALL, CHANGE, ACK])?;
-    for call in 0..18 {
-        read_fails(&rt, rt.alloc(), input.as_slice(), call, b"");
-    }
-    read_fails(&rt, rt.alloc(), input.as_slice(), 18, MEASURE);
-    for call in 0..4 {
-        write_fails(&rt, rt.alloc(), input.as_slice(), call, &MEASURE[..call as usize * 16]);
-    }
-    write_fails(&rt, rt.alloc(), input.as_slice(), 4, MEASURE);
-    write_fails(&rt, rt.alloc(), input.as_slice(), 5, MEASURE);
     Ok(())
 }
 
