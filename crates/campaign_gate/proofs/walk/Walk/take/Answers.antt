@@ -8,7 +8,7 @@ use Rattle.flow_core.specs.Words.{can_take, is_still}
 use Rattle.flow_core.specs.Books.{ticket_of}
 use Rattle.flow_core.specs.Cells.{CellState, flow_at, world_at, out_number_at}
 use Rattle.campaign_gate.proofs.PlanLemmas.{next-T}
-use Rattle.campaign_gate.proofs.DueLemmas.{may-take, nothing-left, one-out}
+use Rattle.campaign_gate.proofs.DueLemmas.{may-take, one-out}
 use Rattle.campaign_gate.proofs.walk.Walk.take.Goals as goal
 
 pub returns-in-Ok : goal.returns-in-Ok
