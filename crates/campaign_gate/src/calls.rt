@@ -15,7 +15,6 @@ use flow_core::{Case, Cell};
 use fold_machine::Steps;
 use std::alloc::Global;
 use std::marker::Brand;
-use std::sync::Wait;
 use std::sync::ledger::{Blank, Ledger};
 use std::thread::Threads;
 
@@ -52,7 +51,7 @@ pub type Cases = Sequence<Case>;
 /// number leaves `w` when it is divided by the number of workers, in order, each in a cell that is dropped after it. It
 /// passes the gate at `InCase` before a case and at `AfterCase` after it. Where a thread can't be started the caller does
 /// its work. There are at most 1,024 cases. The row of each case is that of its programs.
-pub fn rows<R: Threads + Wait + Sync, G: Gate + Sync>(
+pub fn rows<R: Threads + Sync, G: Gate + Sync>(
     rt: &R,
     alloc: Global,
     cases: Cases,

@@ -8,12 +8,11 @@ use crate::row::{Row, Rows};
 use ccp_base::{Gate, NoMemory, Point};
 use flow_core::Case;
 use std::alloc::Global;
-use std::sync::Wait;
 use std::thread;
 use std::thread::Threads;
 
 /// The rows of a campaign's cases, by so many workers.
-pub(crate) fn by_workers<C: Campaign + Send + Sync, R: Threads + Wait + Sync, G: Gate + Sync>(
+pub(crate) fn by_workers<C: Campaign + Send + Sync, R: Threads + Sync, G: Gate + Sync>(
     rt: &R,
     alloc: Global,
     cases: &[Case],
