@@ -1,0 +1,8 @@
+pub mod LeftLemmas
+pub mod PlanLemmas
+pub mod PeakLemmas
+pub mod SumLemmas
+pub mod WalkLemmas
+pub mod DueLemmas
+pub mod RowLemmas
+pub mod LiftedRowLemmas

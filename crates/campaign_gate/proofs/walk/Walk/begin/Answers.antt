@@ -1,0 +1,5 @@
+use Rattle.campaign_gate.proofs.WalkLemmas.{on-begun}
+use Rattle.campaign_gate.proofs.walk.Walk.begin.Goals as goal
+
+pub returns-clause-on : goal.returns-clause-on
+returns-clause-on c = on-begun c.args.cell c.cwnd-window.result c.requires c.cwnd-window.ensures

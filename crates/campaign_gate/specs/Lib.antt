@@ -1,0 +1,5 @@
+pub mod CampaignWord
+pub mod CampaignRow
+pub mod Walks
+pub mod LiftedRow
+pub mod Tried

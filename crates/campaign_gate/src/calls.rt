@@ -1,0 +1,67 @@
+//! The run of one case, and of many.
+ghost use Rattle.std.specs.Prelude.{◌≡◌, ◌<◌, ◌≤◌, true, map, length, IfOk};
+ghost use Rattle.ccp_base.specs.Limits.{most_cases, most_workers};
+ghost use Rattle.flow_core.specs.Readings.{over_codes};
+ghost use Rattle.flow_core.specs.Words.{world, legal, is_complete};
+ghost use Rattle.campaign_gate.specs.CampaignWord.{plan};
+ghost use Rattle.campaign_gate.specs.CampaignRow.{row_of};
+ghost use Rattle.campaign_gate.specs.LiftedRow.{IsLifted};
+
+use crate::row::{Row, Rows};
+use crate::walk::Walk;
+use crate::workers::by_workers;
+use ccp_base::{Gate, NoMemory, Sequence};
+use flow_core::{Case, Cell};
+use fold_machine::Steps;
+use std::alloc::Global;
+use std::marker::Brand;
+use std::sync::ledger::{Blank, Ledger};
+use std::thread::Threads;
+
+/// The row of a case: its flow makes its campaign word, which is legal and complete. For all programs that the case's
+/// codes simulate, that is the row read over these sources.
+pub fn run_case(alloc: Global, case: Case) -> Result<Row, NoMemory>
+    ensures row { IfOk result (λ row. row ≡ row_of case) }
+    ensures legal { legal (over_codes case) case.link (plan case) ≡ true }
+    ensures complete { is_complete (over_codes case) (world (over_codes case) case.link (plan case)) ≡ true }
+    ensures lifted { IsLifted case }
+{
+    counted::<Brand>(alloc, case, Blank::new(1))
+}
+
+/// The same, where a ledger of one part counts the steps.
+fn counted<L: Ledger>(alloc: Global, case: Case, blank: Blank) -> Result<Row, NoMemory>
+    requires name { blank.name ≡ L.name }
+    requires parts { blank.parts ≡ L.parts }
+    requires some { 0 < blank.parts }
+    ensures { IfOk result (λ row. row ≡ row_of case) }
+{
+    let mut steps = Steps::<L>::new(blank);
+    let mut walk = Walk::begin(Cell::new(alloc, case)?);
+    while !walk.cell.is_complete() {
+        walk.next(alloc, &mut steps)?;
+    }
+    Ok(walk.row())
+}
+
+/// The cases of a campaign in order.
+pub type Cases = Sequence<Case>;
+
+/// The rows of cases, in their order, whatever the number of workers, which is 1 to 32. Worker `w` runs the cases whose
+/// number leaves `w` when it is divided by the number of workers, in order, each in a cell that is dropped after it. It
+/// passes the gate at `InCase` before a case and at `AfterCase` after it. Where a thread can't be started the caller does
+/// its work. There are at most 1,024 cases. The row of each case is that of its programs.
+pub fn rows<R: Threads + Sync, G: Gate + Sync>(
+    rt: &R,
+    alloc: Global,
+    cases: Cases,
+    workers: u32,
+    gate: &G,
+) -> Result<Rows, NoMemory>
+    requires few { length cases ≤ most_cases }
+    requires workers { (1 ≤ workers) × (workers ≤ most_workers) }
+    ensures rows { IfOk result (λ rows. rows ≡ map row_of cases) }
+    ensures lifted { (case : Case) → IsLifted case }
+{
+    by_workers::<Brand, R, G>(rt, alloc, cases.as_slice(), workers, gate)
+}

@@ -1,0 +1,12 @@
+//! Campaigns: one flow a case, which makes its campaign word, and many of them side by side.
+#![tactic(auto)]
+
+pub mod calls;
+mod case_row;
+mod row;
+mod sums;
+mod walk;
+mod workers;
+
+pub use calls::Cases;
+pub use row::{Row, Rows};

@@ -1,0 +1,179 @@
+ghost use Rattle.std.specs.Prelude.{◌≡◌, ◌<◌, [], Some, false, OnOk, IfOk};
+ghost use Rattle.flow_core.specs.LiveText.{report_count};
+ghost use Rattle.flow_core.specs.Words.{is_complete};
+ghost use Rattle.flow_core.specs.Cells.{flow_at, world_at, IsComplete};
+ghost use Rattle.campaign_gate.specs.CampaignWord.{is_due};
+ghost use Rattle.campaign_gate.specs.CampaignRow.{row_of};
+ghost use Rattle.campaign_gate.specs.Tried.{Tried};
+ghost use Rattle.campaign_gate.specs.Walks.{left_at, next_at, IsOnWay, Makes};
+
+use crate::row::Row;
+use crate::sums::Sums;
+use agent_core::calls::answer;
+use ccp_base::{NoMemory, Told};
+use flow_core::{Cell, Letter, TakeFault, TicketLine};
+use fold_machine::Steps;
+use std::alloc::Global;
+use std::sync::ledger::Ledger;
+
+/// A flow on the way along its campaign word.
+#[derive(Drop)]
+pub(crate) struct Walk {
+    pub(crate) cell: Cell,
+    /// At how many acknowledgements the ticket that is out was taken.
+    pub(crate) taken: u32,
+    pub(crate) sums: Sums,
+    /// The greatest window so far, in bytes.
+    pub(crate) peak: u64,
+}
+
+impl Walk {
+    /// The way of a flow without a letter.
+    pub(crate) fn begin(cell: Cell) -> Walk
+        requires { cell.word ≡ [] }
+        ensures cell { result.cell ≡ cell }
+        ensures on { IsOnWay result }
+    {
+        let window = cell.cwnd();
+        let sums = Sums {
+            lost: 0,
+            timeouts: 0,
+            acked: 0,
+        };
+        Walk {
+            cell,
+            taken: 0,
+            sums,
+            peak: window,
+        }
+    }
+
+    /// Makes the next letter.
+    pub(crate) fn next<L: Ledger>(
+        &mut self,
+        alloc: Global,
+        steps: &mut Steps<L>,
+    ) -> Result<(), NoMemory>
+        requires on { IsOnWay self.old }
+        requires open { is_complete (flow_at self.old.cell) (world_at self.old.cell) ≡ false }
+        ensures on { OnOk result (IsOnWay self.new) }
+        ensures case { OnOk result (self.new.cell.case ≡ self.old.cell.case) }
+        ensures fewer { OnOk result (left_at self.new.cell < left_at self.old.cell) }
+    {
+        if self.is_due() {
+            self.settle();
+            return Ok(());
+        }
+        if self.take(alloc)? {
+            return Ok(());
+        }
+        self.hear(steps);
+        Ok(())
+    }
+
+    /// Whether an answer is due.
+    fn is_due(&self) -> bool
+        requires { IsOnWay self.now }
+        ensures { result ≡ is_due (flow_at self.now.cell) self.now.cell.case.lag (world_at self.now.cell) }
+    {
+        let case = self.cell.case();
+        let is_out = self.cell.out().is_some();
+        if self.cell.acks() >= case.acks {
+            return is_out;
+        }
+        is_out && u64::from(self.taken) + u64::from(case.lag) <= u64::from(self.cell.acks())
+    }
+
+    /// Applies the answer to the ticket that is out.
+    fn settle(&mut self)
+        requires on { IsOnWay self.old }
+        requires due { next_at self.old.cell ≡ Some Letter.C }
+        ensures { Makes Letter.C self.old self.new }
+    {
+        let Some(ticket) = self.cell.out() else {
+            unreachable!()
+        };
+        let Ok(()) = self.cell.settle(answer(ticket)) else {
+            unreachable!()
+        };
+        self.peak = self.peak.max(self.cell.cwnd());
+    }
+
+    /// Takes a ticket where it is legal, and says whether it did.
+    fn take(&mut self, alloc: Global) -> Result<bool, NoMemory>
+        requires due { is_due (flow_at self.old.cell) self.old.cell.case.lag (world_at self.old.cell) ≡ false }
+        ensures { IfOk result (λ took. Tried took self.old self.new) }
+    {
+        match self.cell.take(alloc) {
+            Ok(_) => {
+                let acks = self.cell.acks();
+                self.taken = acks;
+                self.peak = self.peak.max(self.cell.cwnd());
+                Ok(true)
+            }
+            Err(TakeFault::NotYet) => Ok(false),
+            Err(TakeFault::Out(_)) => Ok(false),
+            Err(TakeFault::NoMemory) => Err(NoMemory),
+        }
+    }
+
+    /// Takes the next acknowledgement.
+    fn hear<L: Ledger>(&mut self, steps: &mut Steps<L>)
+        requires on { IsOnWay self.old }
+        requires next { next_at self.old.cell ≡ Some Letter.A }
+        ensures { Makes Letter.A self.old self.new }
+    {
+        let Ok(_) = self.cell.ack(steps) else {
+            unreachable!()
+        };
+        let Some(ack) = self.cell.last() else {
+            unreachable!()
+        };
+        self.sums = self.sums.with(ack);
+        self.peak = self.peak.max(self.cell.cwnd());
+    }
+
+    /// The row of the flow, whose word must be complete.
+    pub(crate) fn row(self) -> Row
+        requires on { IsOnWay self }
+        requires complete { IsComplete self.cell }
+        ensures { result ≡ row_of self.cell.case }
+    {
+        let cwnd = self.cell.cwnd();
+        let acks = u64::from(self.cell.acks());
+        let now = match self.cell.last() {
+            Some(ack) => ack.now,
+            None => 0,
+        };
+        let book = self.cell.finish();
+        Row {
+            acks,
+            reports: reports_in(book.tickets.as_slice()),
+            held: u64::from(book.held),
+            faults: book.faults.len() as u64,
+            epochs: book.epochs.len() as u64,
+            lost: self.sums.lost,
+            timeouts: self.sums.timeouts,
+            acked: self.sums.acked,
+            peak: self.peak,
+            cwnd,
+            now,
+            tail: acks.saturating_sub(book.first),
+        }
+    }
+}
+
+/// How many tickets told a report.
+fn reports_in(tickets: &[TicketLine]) -> u64
+    ensures { result ≡ report_count tickets.now }
+{
+    let mut left = tickets;
+    let mut count = 0;
+    while let Some((ticket, rest)) = left.split_first() {
+        if let Told::Report(_) = ticket.told {
+            count += 1;
+        }
+        left = rest;
+    }
+    count
+}
