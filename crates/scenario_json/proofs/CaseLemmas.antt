@@ -1,0 +1,55 @@
+use Rattle.std.proofs.Common.{◌≡◌, ℕ, ◌<◌, List, Some, length, codes, refl, sym, ap, ◌∙◌, subst}
+use Rattle.std.specs.Option.{ForSome}
+use Rattle.std.proofs.lemmas.List.{length-map}
+use Rattle.ccp_base.specs.declared.look.Role.{Role}
+use Rattle.ccp_base.specs.declared.place.Place.{Place}
+use Rattle.portus_core.specs.declared.program.Decl.{Decl}
+use Rattle.portus_core.specs.Programs.{Form}
+use Rattle.reg_code.specs.declared.code.Code.{Code}
+use Rattle.reg_compiler.specs.declared.built.Built.{Built}
+use Rattle.reg_compiler.specs.Simulation.{start_of, Simulates}
+use Rattle.portus_build.specs.Looks.{number_of, number_of-within, look_of}
+use Rattle.agent_core.specs.Agents.{course_of}
+use Rattle.flow_core.specs.declared.case.Coded.{Coded}
+use Rattle.flow_core.specs.Cases.{KeepsWithin, AreOne}
+use Rattle.scenario_json.specs.declared.plan.Kind.{Kind}
+use Rattle.scenario_json.specs.declared.plan.Kind.TheVariants.{Reno, Cubic}
+use Rattle.scenario_json.specs.Cases.{coded_at, agent_of, kind_of}
+
+within : (name : List ℕ) (decls : List Decl) (count : ℕ) → count ≡ length decls → ForSome (number_of name decls) (λ n. n < count)
+within name decls count is = subst (λ m. ForSome (number_of name decls) (λ n. n < m)) (sym is) (number_of-within name decls)
+
+-- what a program declares, the code that simulates it has as registers
+pub looks_within : (form : Form) (code : Code) (places : List Place) → Simulates form code places → KeepsWithin (look_of form) code
+looks_within form code places h =
+    let fields : length code.reports ≡ length form.fields = ap length h.2.0 ∙ length-map form.fields start_of in
+    let controls : length code.controls ≡ length form.controls = ap length h.2.1 ∙ length-map form.controls start_of in (
+      within (codes "acked") form.fields (length code.reports) fields,
+      within (codes "loss") form.fields (length code.reports) fields,
+      within (codes "timeout") form.fields (length code.reports) fields,
+      within (codes "rtt") form.fields (length code.reports) fields,
+      within (codes "inflight") form.fields (length code.reports) fields,
+      within (codes "ecn") form.fields (length code.reports) fields,
+      within (codes "cap") form.controls (length code.controls) controls,
+      within (codes "mss") form.controls (length code.controls) controls,
+    )
+
+one_value : (left right : Coded) → Some left ≡ Some right → left ≡ right
+one_value left right e = cc
+
+-- two roles of one number have one program
+pub one_program : (programs : List (ℕ × Built)) (ss ca : Coded) → coded_at programs ss.role.number ≡ Some ss → coded_at programs ca.role.number ≡ Some ca → AreOne ss ca
+one_program programs ss ca is_ss is_ca = λ same.
+    let one : ss ≡ ca = one_value ss ca (sym is_ss ∙ ap (coded_at programs) same ∙ is_ca) in (ap (λ c. c.role.look) one, ap (λ c. c.code.code) one)
+
+pub ss_of_agent : (kind : Kind) (mss : ℕ) (ss ca : Role) → (course_of (agent_of kind mss ss ca)).ss ≡ ss
+ss_of_agent Reno mss ss ca = refl
+ss_of_agent Cubic mss ss ca = refl
+
+pub ca_of_agent : (kind : Kind) (mss : ℕ) (ss ca : Role) → (course_of (agent_of kind mss ss ca)).ca ≡ ca
+ca_of_agent Reno mss ss ca = refl
+ca_of_agent Cubic mss ss ca = refl
+
+pub kind_of_agent : (kind : Kind) (mss : ℕ) (ss ca : Role) → kind_of (agent_of kind mss ss ca) ≡ kind
+kind_of_agent Reno mss ss ca = refl
+kind_of_agent Cubic mss ss ca = refl

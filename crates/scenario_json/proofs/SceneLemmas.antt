@@ -1,0 +1,47 @@
+use Rattle.std.proofs.Common.{◌≡◌, ℕ, ◌+◌, ◌<◌, List, [], ◌∷◌, ◌++◌, length, map, refl, sym, ap, ap₂, ◌∙◌, arith, append_assoc, slice_index_or}
+use Rattle.std.proofs.lemmas.List.{append-nil}
+use Rattle.std.proofs.lemmas.List.{map_push}
+use Rattle.std.specs.List.{All, remove}
+use Rattle.reg_compiler.specs.declared.built.Built.{Built}
+use Rattle.flow_core.specs.declared.case.Case.{Case}
+use Rattle.scenario_json.specs.declared.plan.Plan.{Plan}
+use Rattle.scenario_json.specs.Cases.{plan_of, case_names, IsCoded, AreFlowsFrom}
+use Rattle.scenario_json.proofs.ProgramLemmas.{all_pushed}
+
+-- these cases are put together of the plans but for those that are left
+pub record ArePut (programs : List (ℕ × Built)) (plans : List Plan) (cases : List Case) (left : List Plan) (names : List (List ℕ)) : Type 0 where
+  pub said : map plan_of cases ++ left ≡ plans
+  pub coded : All (IsCoded programs) cases
+  pub flows : AreFlowsFrom 0 cases
+  pub named : names ≡ case_names cases
+
+-- the first item, and the rest after it is removed
+pub taken : {X : Type 0} (items : List X) (first : X) (rest : List X) → 0 < length items → first ≡ slice_index_or items 0 first → rest ≡ remove items 0
+    → items ≡ first ∷ rest
+taken [] first rest some is left = absurd (omega (arith, some))
+taken (item ∷ items) first rest some is left = ap₂ (λ a b. a ∷ b) (sym is) (sym left)
+
+flows_pushed : (flow : ℕ) (cases : List Case) (one : Case) → AreFlowsFrom flow cases → one.flow ≡ flow + length cases → AreFlowsFrom flow (cases ++ one ∷ [])
+flows_pushed flow [] one h is = (omega (arith, is), tt)
+flows_pushed flow (case ∷ rest) one h is = (h.0, flows_pushed (flow + 1) rest one h.1 (omega (arith, is)))
+
+-- one more case is put together
+pub put_step : (programs : List (ℕ × Built)) (plans : List Plan) (cases : List Case) (left rest : List Plan) (plan : Plan) (one : Case) (names : List (List ℕ))
+    → left ≡ plan ∷ rest → ArePut programs plans cases left names → one.flow ≡ length cases → plan_of one ≡ plan → IsCoded programs one
+    → ArePut programs plans (cases ++ one ∷ []) rest (names ++ plan.name ∷ [])
+put_step programs plans cases left rest plan one names is h flow said coded = record {
+  said =
+      ap (λ done. done ++ rest) (map_push plan_of cases one) ∙ append_assoc (map plan_of cases) (plan_of one ∷ []) rest
+      ∙ ap (λ p. map plan_of cases ++ p ∷ rest) said ∙ sym (ap (λ ps. map plan_of cases ++ ps) is) ∙ h.said;
+  coded = all_pushed (IsCoded programs) cases one h.coded coded;
+  flows = flows_pushed 0 cases one h.flows (omega (arith, flow));
+  named =
+      ap (λ ns. ns ++ plan.name ∷ []) h.named ∙ ap (λ n. case_names cases ++ n ∷ []) (sym (ap (λ p. p.name) said))
+      ∙ sym (map_push (λ case. case.name) cases one);
+}
+
+-- nothing is left
+pub put_all : (programs : List (ℕ × Built)) (plans : List Plan) (cases : List Case) (left : List Plan) (names : List (List ℕ))
+    → ArePut programs plans cases left names → left ≡ [] → map plan_of cases ≡ plans
+put_all programs plans cases left names h none =
+    sym (append-nil (map plan_of cases)) ∙ sym (ap (λ ps. map plan_of cases ++ ps) none) ∙ h.said

@@ -1,0 +1,68 @@
+-- What the cases of a scenario are: what they say, with agents that are told nothing yet and the codes of their programs.
+use Rattle.std.specs.Prelude.{◌≡◌, ℕ, ◌+◌, Option, Some, option_map, List, [], ◌∷◌, map, slice_get, ⊤}
+use Rattle.ccp_base.specs.declared.look.Role.{Role}
+use Rattle.portus_core.specs.ProgramForm.{form_of}
+use Rattle.reg_compiler.specs.declared.built.Built.{Built}
+use Rattle.portus_build.specs.Looks.{look_of}
+use Rattle.reno_agent.specs.Reno.{first_reno}
+use Rattle.cubic_agent.specs.Cubic.{first_cubic}
+use Rattle.agent_core.specs.declared.agent.Agent.{Agent}
+use Rattle.agent_core.specs.declared.agent.Agent.TheVariants as agent
+use Rattle.flow_core.specs.declared.case.Coded.{Coded}
+use Rattle.flow_core.specs.declared.case.Case.{Case}
+use Rattle.scenario_json.specs.declared.plan.Kind.{Kind}
+use Rattle.scenario_json.specs.declared.plan.Kind.TheVariants.{Reno, Cubic}
+use Rattle.scenario_json.specs.declared.plan.Plan.{Plan}
+
+-- a built program as an agent's role has it: its number, where it keeps what agents read and write, and its code
+abbrev pub coded_of : ℕ → ℕ × Built → Coded
+coded_of number one = record {
+  role = record { number = number; look = look_of (form_of one.1.program) };
+  code = one.1.code;
+}
+
+-- the program of this number; the programs stand in the order of their numbers
+abbrev pub coded_at : List (ℕ × Built) → ℕ → Option Coded
+coded_at programs number = option_map (coded_of number) (slice_get programs number)
+
+-- an agent that was told nothing yet
+abbrev pub agent_of : Kind → ℕ → Role → Role → Agent
+agent_of Reno mss ss ca = agent.Reno (first_reno mss ss ca)
+agent_of Cubic mss ss ca = agent.Cubic (first_cubic mss ss ca)
+
+abbrev pub kind_of : Agent → Kind
+kind_of (agent.Reno state) = Reno
+kind_of (agent.Cubic state) = Cubic
+
+-- what a case says
+abbrev pub plan_of : Case → Plan
+plan_of case = record {
+  name = case.name;
+  kind = kind_of case.agent;
+  trace = case.link.trace;
+  measures = record {
+    mss = case.link.mss;
+    queue = case.link.queue;
+    delay_us = case.link.delay_us;
+    timeout_us = case.link.timeout_us;
+    acks = case.acks;
+  };
+  waits = record { slots = case.slots; lag = case.lag };
+  fates = record { losses = case.link.losses; mark = case.link.mark };
+  programs = record { ss = case.ss.role.number; ca = case.ca.role.number };
+}
+
+-- a case's codes are those of its programs, and its agent was told nothing yet
+pub record IsCoded (programs : List (ℕ × Built)) (case : Case) : Type 0 where
+  pub ss : coded_at programs case.ss.role.number ≡ Some case.ss
+  pub ca : coded_at programs case.ca.role.number ≡ Some case.ca
+  pub opening : case.agent ≡ agent_of (kind_of case.agent) case.link.mss case.ss.role case.ca.role
+
+-- the names of cases, in order
+abbrev pub case_names : List Case → List (List ℕ)
+case_names cases = map (λ case. case.name) cases
+
+-- the cases are those of the flows from this number on, in order
+abbrev pub AreFlowsFrom : ℕ → List Case → Type 0
+AreFlowsFrom flow [] = ⊤
+AreFlowsFrom flow (case ∷ rest) = (case.flow ≡ flow) × AreFlowsFrom (flow + 1) rest

@@ -1,0 +1,14 @@
+pub mod Keys
+pub mod Paths
+pub mod Values
+pub mod SceneNames
+pub mod CaseWalk
+pub mod Plans
+pub mod Traces
+pub mod ScenePrograms
+pub mod Scene
+pub mod Soak
+pub mod Cases
+pub mod Rollout
+pub mod OpenCases
+pub mod SharedScenes

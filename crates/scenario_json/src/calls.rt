@@ -1,0 +1,131 @@
+ghost use Rattle.std.specs.Prelude.{◌≡◌, ◌≢◌, ◌≤◌, IfOk, IfErr, Ok, Err, length, map};
+ghost use Rattle.std.specs.List.{All};
+ghost use Rattle.ccp_base.specs.Limits.{most_flows, most_queue, most_quantum_us, most_rounds};
+ghost use Rattle.scenario_json.specs.ScenePrograms.{Reading, IsReading, forms_of};
+ghost use Rattle.scenario_json.specs.Scene.{scene_with, scene_of, most_cases_of};
+ghost use Rattle.scenario_json.specs.Soak.{gen};
+ghost use Rattle.scenario_json.specs.Rollout.{rollout_of};
+ghost use Rattle.scenario_json.specs.OpenCases.{open_plan_of, AreOpenFlowsFrom};
+ghost use Rattle.scenario_json.specs.SharedScenes.{shared_with, shared_scene_of};
+ghost use Rattle.scenario_json.specs.Cases.{plan_of, case_names, IsCoded, AreFlowsFrom};
+ghost use Rattle.scenario_json.specs.declared.fault.SceneFault.TheVariants as fault;
+
+use crate::draft::{Draft, draft_in};
+use crate::draws::plans;
+use crate::fault::SceneFault;
+use crate::json::value_in;
+use crate::mode::Mode;
+use crate::open_case::OpenCases;
+use crate::open_cases::open_plans_in;
+use crate::scenario::{Scenario, put_together};
+use crate::scene_programs::{SceneProgramList, built_ins};
+use crate::shared_scene::SharedScene;
+use crate::shares::{Shares, flow_links, shares_in};
+use ccp_base::NoMemory;
+use shared_link::SharedCase;
+use std::alloc::Global;
+
+/// Reads a scenario: a JSON object with its programs, traces and cases. The refusals are those of `SceneFault`, the
+/// first one in the order of the scenario's parts.
+#[tactic(auto, using(crate::proofs::ReadingLemmas::some_reading))]
+pub fn scenario(alloc: Global, text: &[u8], mode: Mode) -> Result<Scenario, SceneFault>
+    // There is a reading of program texts: each text comes to a program, or to its first refusal.
+    ensures readable { (read : Reading) × IsReading read }
+
+    // The answer is the scene of the text, and each refusal the text's first one, over every reading.
+    ensures found { (read : Reading) → IsReading read → IfOk result (λ s.
+        scene_of read mode text.now ≡ Ok (scene_with (forms_of s.programs) (map plan_of s.cases))) }
+    ensures refused { (read : Reading) → IsReading read
+        → IfErr result (λ e. e ≢ fault.NoMemory → scene_of read mode text.now ≡ Err e) }
+
+    // Each case has the codes of its programs, and an agent that was told nothing yet; case i is flow i.
+    ensures coded { IfOk result (λ s. All (IsCoded s.programs) s.cases) }
+    ensures flows { IfOk result (λ s. AreFlowsFrom 0 s.cases) }
+    ensures names { IfOk result (λ s. s.names ≡ case_names s.cases) }
+    ensures few { IfOk result (λ s. length s.cases ≤ most_cases_of mode) }
+{
+    let whole = value_in(alloc, text)?;
+    let Draft {
+        programs,
+        traces: _,
+        plans,
+    } = draft_in(alloc, mode, &whole)?;
+    let SceneProgramList { names: _, builts } = programs;
+    Ok(put_together(alloc, builts, plans)?)
+}
+
+/// Generates the scenario of a number: 64 cases of the built-in programs, by draws from the number.
+pub fn soak(alloc: Global, number: u32) -> Result<Scenario, NoMemory>
+    ensures found { (read : Reading) → IsReading read → IfOk result (λ s.
+        scene_with (forms_of s.programs) (map plan_of s.cases) ≡ gen read number) }
+    ensures coded { IfOk result (λ s. All (IsCoded s.programs) s.cases) }
+    ensures flows { IfOk result (λ s. AreFlowsFrom 0 s.cases) }
+    ensures names { IfOk result (λ s. s.names ≡ case_names s.cases) }
+    ensures count { IfOk result (λ s. length s.cases ≡ most_flows) }
+{
+    let programs = built_ins(alloc)?;
+    put_together(alloc, programs, plans(alloc, number)?)
+}
+
+/// Reads the scenario of a rollout: as `scenario` in a live run, but that the texts of programs aren't built, and that a
+/// case has a first window and the names of its steps in place of an agent. The cases are those of the flows from 0 on.
+pub fn rollout_scene(alloc: Global, text: &[u8]) -> Result<OpenCases, SceneFault>
+    // The answer is what the text says, and each refusal the text's first one.
+    ensures found { IfOk result (λ cases. rollout_of text.now ≡ Ok (map open_plan_of cases)) }
+    ensures refused { IfErr result (λ e. e ≢ fault.NoMemory → rollout_of text.now ≡ Err e) }
+
+    // Case i is flow i.
+    ensures flows { IfOk result (λ cases. AreOpenFlowsFrom 0 cases) }
+    ensures few { IfOk result (λ cases. length cases ≤ most_flows) }
+{
+    let whole = value_in(alloc, text)?;
+    open_plans_in(alloc, &whole)
+}
+
+/// Reads the scenario of flows that share one link: that of a live run with the member `shared`. The link has one flow
+/// for each case, in order. The refusals of a live run come first, then those of `shared`.
+pub fn shared_scene(alloc: Global, text: &[u8]) -> Result<SharedScene, SceneFault>
+    // The answer is the scene of the text with its link, and each refusal the text's first one, over every reading.
+    ensures found { (read : Reading) → IsReading read → IfOk result (λ s. shared_scene_of read text.now
+        ≡ Ok (shared_with (scene_with (forms_of s.scene.programs) (map plan_of s.scene.cases)) s.link s.rounds)) }
+    ensures refused { (read : Reading) → IsReading read
+        → IfErr result (λ e. e ≢ fault.NoMemory → shared_scene_of read text.now ≡ Err e) }
+
+    // Each case has the codes of its programs, and an agent that was told nothing yet; case i is flow i.
+    ensures coded { IfOk result (λ s. All (IsCoded s.scene.programs) s.scene.cases) }
+    ensures flows { IfOk result (λ s. AreFlowsFrom 0 s.scene.cases) }
+    ensures names { IfOk result (λ s. s.scene.names ≡ case_names s.scene.cases) }
+    ensures few { IfOk result (λ s. length s.scene.cases ≤ most_flows) }
+
+    // The link is within its limits.
+    ensures queue { IfOk result (λ s. (1 ≤ s.link.queue) × (s.link.queue ≤ most_queue)) }
+    ensures quantum_us { IfOk result (λ s. (1 ≤ s.link.quantum_us) × (s.link.quantum_us ≤ most_quantum_us)) }
+    ensures rounds { IfOk result (λ s. (1 ≤ s.rounds) × (s.rounds ≤ most_rounds)) }
+{
+    let whole = value_in(alloc, text)?;
+    let Draft {
+        programs,
+        traces,
+        plans,
+    } = draft_in(alloc, Mode::Live, &whole)?;
+    let Shares {
+        trace,
+        queue,
+        quantum_us,
+        rounds,
+    } = shares_in(alloc, &traces, &whole)?;
+    let SceneProgramList { names: _, builts } = programs;
+    let scene = put_together(alloc, builts, plans)?;
+    let flows = flow_links(alloc, scene.cases.as_slice())?;
+    let link = SharedCase {
+        trace,
+        queue,
+        quantum_us,
+        flows,
+    };
+    Ok(SharedScene {
+        scene,
+        link,
+        rounds,
+    })
+}

@@ -1,0 +1,163 @@
+ghost use Rattle.std.specs.Prelude.{◌≡◌, ◌≢◌, ◌≤◌, ◌+◌, IfOk, IfErr, Ok, Err, [], length};
+ghost use Rattle.std.specs.List.{All};
+ghost use Rattle.serde_json.specs.View.{view, items_view};
+ghost use Rattle.ccp_base.specs.Limits.{most_named_programs};
+ghost use Rattle.scenario_json.specs.CaseWalk.{case_name, kind_named, case_kind, trace_in, case_trace, case_members, case_in, cases_from};
+ghost use Rattle.scenario_json.specs.Traces.{table_of};
+ghost use Rattle.scenario_json.specs.Plans.{IsPlan};
+ghost use Rattle.scenario_json.specs.declared.fault.SceneFault.TheVariants as fault;
+
+use crate::case_fates::fates;
+use crate::case_numbers::{measures, waits};
+use crate::case_programs::programs;
+use crate::fault::SceneFault;
+use crate::key::Key;
+use crate::names::name;
+use crate::plan::{Kind, Plan, Plans};
+use crate::spot::Spot;
+use crate::traces::{Traces, trace_named};
+use crate::values::{needed, object, text};
+use ccp_base::{Name, Sequence};
+use link_model::Trace;
+use serde_json::Value;
+use std::alloc::Global;
+
+pub(crate) fn case_name(alloc: Global, i: usize, whole: &Value) -> Result<Name, SceneFault>
+    ensures ok { IfOk result (λ n. case_name i (view whole.now) ≡ Ok n) }
+    ensures err { IfErr result (λ e. e ≢ fault.NoMemory → case_name i (view whole.now) ≡ Err e) }
+{
+    let spot = Spot::In(i, Key::Name);
+    let value = needed(alloc, spot, whole, Key::Name)?;
+    name(alloc, spot, value)
+}
+
+fn kind_named(text: &[u8]) -> Option<Kind>
+    ensures { result ≡ kind_named text.now }
+{
+    if text == b"reno".as_slice() {
+        Some(Kind::Reno)
+    } else if text == b"cubic".as_slice() {
+        Some(Kind::Cubic)
+    } else {
+        None
+    }
+}
+
+fn case_kind(alloc: Global, i: usize, whole: &Value) -> Result<Kind, SceneFault>
+    ensures ok { IfOk result (λ k. case_kind i (view whole.now) ≡ Ok k) }
+    ensures err { IfErr result (λ e. e ≢ fault.NoMemory → case_kind i (view whole.now) ≡ Err e) }
+{
+    let spot = Spot::In(i, Key::Agent);
+    let value = needed(alloc, spot, whole, Key::Agent)?;
+    let text = text(alloc, spot, value)?;
+    match kind_named(text.as_bytes()) {
+        Some(kind) => Ok(kind),
+        None => Err(spot.wrong(alloc)),
+    }
+}
+
+/// A copy of the trace that a value names.
+pub(crate) fn trace_in(
+    alloc: Global,
+    spot: Spot,
+    traces: &Traces,
+    value: &Value,
+) -> Result<Trace, SceneFault>
+    ensures ok { IfOk result (λ t. trace_in spot (table_of traces.now.entries) (view value.now) ≡ Ok t) }
+    ensures err { IfErr result (λ e. e ≢ fault.NoMemory
+        → trace_in spot (table_of traces.now.entries) (view value.now) ≡ Err e) }
+{
+    let name = text(alloc, spot, value)?;
+    match trace_named(traces, name) {
+        Some(trace) => Ok(trace.copy(alloc)?),
+        None => Err(spot.wrong(alloc)),
+    }
+}
+
+pub(crate) fn case_trace(
+    alloc: Global,
+    traces: &Traces,
+    i: usize,
+    whole: &Value,
+) -> Result<Trace, SceneFault>
+    ensures ok { IfOk result (λ t. case_trace (table_of traces.now.entries) i (view whole.now) ≡ Ok t) }
+    ensures err { IfErr result (λ e. e ≢ fault.NoMemory
+        → case_trace (table_of traces.now.entries) i (view whole.now) ≡ Err e) }
+{
+    let spot = Spot::In(i, Key::Trace);
+    let value = needed(alloc, spot, whole, Key::Trace)?;
+    trace_in(alloc, spot, traces, value)
+}
+
+/// What the members of a case say.
+fn members(
+    alloc: Global,
+    names: &[Name],
+    traces: &Traces,
+    i: usize,
+    whole: &Value,
+) -> Result<Plan, SceneFault>
+    requires { length names.now ≤ most_named_programs }
+    ensures ok { IfOk result (λ p. case_members names.now (table_of traces.now.entries) i (view whole.now) ≡ Ok p) }
+    ensures within { IfOk result (λ p. IsPlan (length names.now + 3) p) }
+    ensures err { IfErr result (λ e. e ≢ fault.NoMemory
+        → case_members names.now (table_of traces.now.entries) i (view whole.now) ≡ Err e) }
+{
+    let name = case_name(alloc, i, whole)?;
+    let kind = case_kind(alloc, i, whole)?;
+    let trace = case_trace(alloc, traces, i, whole)?;
+    let measures = measures(alloc, i, whole)?;
+    let waits = waits(alloc, i, whole)?;
+    let fates = fates(alloc, i, whole)?;
+    let programs = programs(alloc, names, kind, i, whole)?;
+    Ok(Plan {
+        name,
+        kind,
+        trace,
+        measures,
+        waits,
+        fates,
+        programs,
+    })
+}
+
+fn case_in(
+    alloc: Global,
+    names: &[Name],
+    traces: &Traces,
+    i: usize,
+    whole: &Value,
+) -> Result<Plan, SceneFault>
+    requires { length names.now ≤ most_named_programs }
+    ensures ok { IfOk result (λ p. case_in names.now (table_of traces.now.entries) i (view whole.now) ≡ Ok p) }
+    ensures within { IfOk result (λ p. IsPlan (length names.now + 3) p) }
+    ensures err { IfErr result (λ e. e ≢ fault.NoMemory
+        → case_in names.now (table_of traces.now.entries) i (view whole.now) ≡ Err e) }
+{
+    object(alloc, Spot::Case(i), whole)?;
+    members(alloc, names, traces, i, whole)
+}
+
+/// What cases say, in order.
+#[tactic(auto, using(crate::proofs::ProgramLemmas::all_pushed))]
+pub(crate) fn cases_from(
+    alloc: Global,
+    names: &[Name],
+    traces: &Traces,
+    values: &[Value],
+) -> Result<Plans, SceneFault>
+    requires { length names.now ≤ most_named_programs }
+    ensures ok { IfOk result (λ ps. cases_from names.now (table_of traces.now.entries) [] (items_view values.now) ≡ Ok ps) }
+    ensures within { IfOk result (λ ps. All (IsPlan (length names.now + 3)) ps) }
+    ensures count { IfOk result (λ ps. length ps ≡ length values.now) }
+    ensures err { IfErr result (λ e. e ≢ fault.NoMemory
+        → cases_from names.now (table_of traces.now.entries) [] (items_view values.now) ≡ Err e) }
+{
+    let mut plans = Sequence::new(alloc);
+    let mut rest = values;
+    while let Some((value, later)) = rest.split_first() {
+        plans.push(case_in(alloc, names, traces, plans.len(), value)?)?;
+        rest = later;
+    }
+    Ok(plans)
+}

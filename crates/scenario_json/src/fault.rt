@@ -1,0 +1,70 @@
+use ccp_base::{Bytes, Name, NoMemory};
+use link_model::TraceFault;
+use portus_build::BuildFault;
+use std::alloc::{AllocError, AllocFailed};
+use thiserror::Error;
+
+/// Where a value stands in a scenario, as `cases[0].mss`.
+pub type Path = Bytes;
+
+/// Why a text is no scenario: the first cause, in the order of the text's parts.
+#[derive(Debug, Drop, Error)]
+pub enum SceneFault {
+    /// It is no JSON.
+    #[error("no JSON")]
+    Json,
+    /// A member isn't there.
+    #[error("missing {0:?}")]
+    Missing(Path),
+    /// A value is of another kind, a name is no name, or nothing has that name.
+    #[error("wrong {0:?}")]
+    Wrong(Path),
+    /// A number, or the length of a list or an object, isn't in its range.
+    #[error("out of range {0:?}")]
+    Range(Path),
+    /// The text of the program with this name is built into no code.
+    #[error("program {0:?}: {1}")]
+    Program(Name, BuildFault),
+    /// The text of the trace with this name is no trace.
+    #[error("trace {0:?}: {1:?}")]
+    Trace(Name, TraceFault),
+    /// The cases have more than 262,144 acknowledgements.
+    #[error("too many acknowledgements")]
+    Totals,
+    /// There was no memory left.
+    #[error("out of memory")]
+    NoMemory,
+}
+
+impl From<AllocError> for SceneFault {
+    ghost use Rattle.std.specs.Prelude.{◌≡◌};
+    ghost use Rattle.scenario_json.specs.declared.fault.SceneFault.TheVariants as fault;
+
+    ghost from_gives = { λ _ f. f ≡ fault.NoMemory };
+
+    fn from(_error: AllocError) -> SceneFault {
+        SceneFault::NoMemory
+    }
+}
+
+impl<T: Drop> From<AllocFailed<T>> for SceneFault {
+    ghost use Rattle.std.specs.Prelude.{◌≡◌};
+    ghost use Rattle.scenario_json.specs.declared.fault.SceneFault.TheVariants as fault;
+
+    ghost from_gives = { λ _ f. f ≡ fault.NoMemory };
+
+    fn from(_error: AllocFailed<T>) -> SceneFault {
+        SceneFault::NoMemory
+    }
+}
+
+impl From<NoMemory> for SceneFault {
+    ghost use Rattle.std.specs.Prelude.{◌≡◌};
+    ghost use Rattle.scenario_json.specs.declared.fault.SceneFault.TheVariants as fault;
+
+    ghost from_gives = { λ _ f. f ≡ fault.NoMemory };
+
+    fn from(_error: NoMemory) -> SceneFault {
+        SceneFault::NoMemory
+    }
+}

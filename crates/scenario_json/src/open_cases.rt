@@ -1,0 +1,169 @@
+ghost use Rattle.std.specs.Prelude.{◌≡◌, ◌≢◌, ◌≤◌, IfOk, IfErr, Ok, Err, [], length, map};
+ghost use Rattle.serde_json.specs.View.{view, items_view};
+ghost use Rattle.ccp_base.specs.Limits.{most_flows};
+ghost use Rattle.scenario_json.specs.Traces.{table_of};
+ghost use Rattle.scenario_json.specs.Rollout.{open_members, open_case_in, open_cases_from, open_cases_in, open_acks_of, within_open_total, open_plans_in};
+ghost use Rattle.scenario_json.specs.OpenCases.{open_plan_of, AreOpenFlowsFrom, texts_of};
+ghost use Rattle.scenario_json.specs.declared.fault.SceneFault.TheVariants as fault;
+
+use crate::case::{case_name, case_trace};
+use crate::case_fates::fates;
+use crate::case_numbers::{case_number, measures};
+use crate::draft::{ACKS_IN_ALL, few_items, opening};
+use crate::fault::SceneFault;
+use crate::key::Key;
+use crate::mode::Mode;
+use crate::open_case::{OpenCase, OpenCases};
+use crate::open_steps::case_steps;
+use crate::open_texts::{OpenText, texts_in};
+use crate::spot::Spot;
+use crate::traces::{Traces, traces_in};
+use crate::values::{list, needed, object};
+use ccp_base::Sequence;
+use link_model::LinkCase;
+use serde_json::Value;
+use std::alloc::Global;
+
+/// The case that the members of a case say.
+fn open_members(
+    alloc: Global,
+    texts: &[OpenText],
+    traces: &Traces,
+    i: usize,
+    whole: &Value,
+) -> Result<OpenCase, SceneFault>
+    requires { i ≤ most_flows }
+    ensures ok { IfOk result (λ c.
+        open_members (texts_of texts.now) (table_of traces.now.entries) i (view whole.now) ≡ Ok (open_plan_of c)) }
+    ensures flow { IfOk result (λ c. c.flow ≡ i) }
+    ensures err { IfErr result (λ e. e ≢ fault.NoMemory
+        → open_members (texts_of texts.now) (table_of traces.now.entries) i (view whole.now) ≡ Err e) }
+{
+    let name = case_name(alloc, i, whole)?;
+    let trace = case_trace(alloc, traces, i, whole)?;
+    let measures = measures(alloc, i, whole)?;
+    let fates = fates(alloc, i, whole)?;
+    let cwnd = case_number(alloc, i, Key::Cwnd, whole)?;
+    let steps = case_steps(alloc, texts, i, whole)?;
+    let link = LinkCase {
+        trace,
+        mss: measures.mss,
+        queue: measures.queue,
+        delay_us: measures.delay_us,
+        timeout_us: measures.timeout_us,
+        losses: fates.losses,
+        mark: fates.mark,
+    };
+    Ok(OpenCase {
+        flow: i as u32,
+        name,
+        link,
+        acks: measures.acks,
+        cwnd,
+        steps,
+    })
+}
+
+fn open_case_in(
+    alloc: Global,
+    texts: &[OpenText],
+    traces: &Traces,
+    i: usize,
+    whole: &Value,
+) -> Result<OpenCase, SceneFault>
+    requires { i ≤ most_flows }
+    ensures ok { IfOk result (λ c.
+        open_case_in (texts_of texts.now) (table_of traces.now.entries) i (view whole.now) ≡ Ok (open_plan_of c)) }
+    ensures flow { IfOk result (λ c. c.flow ≡ i) }
+    ensures err { IfErr result (λ e. e ≢ fault.NoMemory
+        → open_case_in (texts_of texts.now) (table_of traces.now.entries) i (view whole.now) ≡ Err e) }
+{
+    object(alloc, Spot::Case(i), whole)?;
+    open_members(alloc, texts, traces, i, whole)
+}
+
+/// The cases, in order.
+fn open_cases_from(
+    alloc: Global,
+    texts: &[OpenText],
+    traces: &Traces,
+    values: &[Value],
+) -> Result<OpenCases, SceneFault>
+    requires { length values.now ≤ most_flows }
+    ensures ok { IfOk result (λ cs.
+        open_cases_from (texts_of texts.now) (table_of traces.now.entries) [] (items_view values.now) ≡ Ok (map open_plan_of cs)) }
+    ensures flows { IfOk result (λ cs. AreOpenFlowsFrom 0 cs) }
+    ensures count { IfOk result (λ cs. length cs ≡ length values.now) }
+    ensures err { IfErr result (λ e. e ≢ fault.NoMemory
+        → open_cases_from (texts_of texts.now) (table_of traces.now.entries) [] (items_view values.now) ≡ Err e) }
+{
+    let mut cases = Sequence::new(alloc);
+    let mut rest = values;
+    while let Some((value, later)) = rest.split_first() {
+        cases.push(open_case_in(alloc, texts, traces, cases.len(), value)?)?;
+        rest = later;
+    }
+    Ok(cases)
+}
+
+/// The cases of a scenario.
+fn open_cases_in(
+    alloc: Global,
+    texts: &[OpenText],
+    traces: &Traces,
+    whole: &Value,
+) -> Result<OpenCases, SceneFault>
+    ensures ok { IfOk result (λ cs.
+        open_cases_in (texts_of texts.now) (table_of traces.now.entries) (view whole.now) ≡ Ok (map open_plan_of cs)) }
+    ensures flows { IfOk result (λ cs. AreOpenFlowsFrom 0 cs) }
+    ensures count { IfOk result (λ cs. length cs ≤ most_flows) }
+    ensures err { IfErr result (λ e. e ≢ fault.NoMemory
+        → open_cases_in (texts_of texts.now) (table_of traces.now.entries) (view whole.now) ≡ Err e) }
+{
+    let spot = Spot::Top(Key::Cases);
+    let value = needed(alloc, spot, whole, Key::Cases)?;
+    let items = list(alloc, spot, value)?;
+    few_items(alloc, Mode::Live, items.as_slice())?;
+    open_cases_from(alloc, texts, traces, items.as_slice())
+}
+
+/// The acknowledgements of all cases.
+fn open_acks_of(cases: &[OpenCase]) -> u64
+    requires { length cases.now ≤ most_flows }
+    ensures { result ≡ open_acks_of (map open_plan_of cases.now) }
+{
+    let mut total = 0;
+    let mut rest = cases;
+    while let Some((case, later)) = rest.split_first() {
+        total += u64::from(case.acks);
+        rest = later;
+    }
+    total
+}
+
+fn within_open_total(cases: OpenCases) -> Result<OpenCases, SceneFault>
+    requires { length cases ≤ most_flows }
+    ensures ok { IfOk result (λ cs. within_open_total (map open_plan_of cases) ≡ Ok (map open_plan_of cs)) }
+    ensures same { IfOk result (λ cs. cs ≡ cases) }
+    ensures err { IfErr result (λ e. within_open_total (map open_plan_of cases) ≡ Err e) }
+{
+    if open_acks_of(cases.as_slice()) > ACKS_IN_ALL {
+        Err(SceneFault::Totals)
+    } else {
+        Ok(cases)
+    }
+}
+
+/// The cases that a value says.
+pub(crate) fn open_plans_in(alloc: Global, whole: &Value) -> Result<OpenCases, SceneFault>
+    ensures ok { IfOk result (λ cs. open_plans_in (view whole.now) ≡ Ok (map open_plan_of cs)) }
+    ensures flows { IfOk result (λ cs. AreOpenFlowsFrom 0 cs) }
+    ensures count { IfOk result (λ cs. length cs ≤ most_flows) }
+    ensures err { IfErr result (λ e. e ≢ fault.NoMemory → open_plans_in (view whole.now) ≡ Err e) }
+{
+    opening(alloc, whole)?;
+    let texts = texts_in(alloc, whole)?;
+    let traces = traces_in(alloc, whole)?;
+    let cases = open_cases_in(alloc, texts.as_slice(), &traces, whole)?;
+    within_open_total(cases)
+}

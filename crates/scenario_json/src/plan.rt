@@ -1,0 +1,62 @@
+use ccp_base::{Name, Sequence};
+use link_model::Trace;
+
+/// Which agent a case has.
+#[derive(Clone, Copy, PartialEq, Eq, Debug)]
+pub enum Kind {
+    Reno,
+    Cubic,
+}
+
+/// The numbers that every case gives.
+#[derive(Clone, Copy, PartialEq, Eq, Debug)]
+pub struct Measures {
+    /// A packet's size, in bytes.
+    pub mss: u32,
+    /// How many packets may wait for their chances.
+    pub queue: u32,
+    /// From a packet's chance to its acknowledgement, in microseconds.
+    pub delay_us: u64,
+    /// How long the sender waits where every packet in flight is lost, in microseconds.
+    pub timeout_us: u64,
+    /// How many acknowledgements come.
+    pub acks: u32,
+}
+
+/// How many reports may wait, and for how many acknowledgements an answer is late.
+#[derive(Clone, Copy, PartialEq, Eq, Debug)]
+pub struct Waits {
+    pub slots: u32,
+    pub lag: u32,
+}
+
+/// Which packets are lost whatever the queue, and from how many waiting packets on a packet is marked.
+#[derive(Debug, Drop)]
+pub struct Fates {
+    pub losses: Sequence<u32>,
+    pub mark: Option<u32>,
+}
+
+/// The numbers of a case's programs.
+#[derive(Clone, Copy, PartialEq, Eq, Debug)]
+pub struct Programs {
+    /// The program of slow start.
+    pub ss: u32,
+    /// The program of congestion avoidance.
+    pub ca: u32,
+}
+
+/// What a case says.
+#[derive(Debug, Drop)]
+pub struct Plan {
+    pub name: Name,
+    pub kind: Kind,
+    pub trace: Trace,
+    pub measures: Measures,
+    pub waits: Waits,
+    pub fates: Fates,
+    pub programs: Programs,
+}
+
+/// What cases say, in order.
+pub type Plans = Sequence<Plan>;

@@ -1,0 +1,127 @@
+ghost use Rattle.std.specs.Prelude.{◌≡◌, ◌≢◌, ◌≤◌, ◌<◌, ◌+◌, ◌++◌, ◌∷◌, [], IfOk, IfErr, OnOk, Ok, Err, length, option_map};
+ghost use Rattle.serde_json.specs.View.{view, members_view};
+ghost use Rattle.serde_json.specs.Events.{members_len};
+ghost use Rattle.ccp_base.specs.Limits.{most_named_programs};
+ghost use Rattle.portus_core.specs.ProgramForm.{form_of};
+ghost use Rattle.portus_build.specs.Builtins.{builtin_text};
+ghost use Rattle.portus_build.specs.declared.fault.BuildFault.TheVariants as build_fault;
+ghost use Rattle.scenario_json.specs.ScenePrograms.{Reading, IsReading, named_program, programs_in, built_in, built_ins, few_members, names_of, forms_of};
+ghost use Rattle.scenario_json.specs.declared.fault.SceneFault.TheVariants as fault;
+
+use crate::fault::SceneFault;
+use crate::key::Key;
+use crate::spot::Spot;
+use crate::traces::named_text;
+use crate::values::object;
+use ccp_base::{Name, Names, NoMemory, Sequence};
+use portus_build::{BuildFault, build, builtin};
+use reg_compiler::{Built, Builts};
+use serde_json::{Map, Value};
+use std::alloc::Global;
+
+/// The most programs that a scenario names.
+const NAMED_PROGRAMS: usize = 13;
+
+/// A program under its name.
+#[derive(Debug, Drop)]
+pub(crate) struct NamedProgram {
+    pub name: Name,
+    pub built: Built,
+}
+
+/// All programs of a scenario with their numbers, and the names of those that it names.
+#[derive(Debug, Drop)]
+pub(crate) struct SceneProgramList {
+    pub names: Names,
+    pub builts: Builts,
+}
+
+/// What a text is built into: what every reading gives for it.
+fn built(alloc: Global, text: &[u8]) -> Result<Built, BuildFault>
+    ensures ok { (read : Reading) → IsReading read → IfOk result (λ b. read text.now ≡ Ok (form_of b.program)) }
+    ensures err { (read : Reading) → IsReading read
+        → IfErr result (λ e. e ≢ build_fault.NoMemory → read text.now ≡ Err e) }
+{
+    build(alloc, text)
+}
+
+/// A built-in program. Its text is one of a program, so that it is refused only for want of memory.
+fn built_in(alloc: Global, number: u32) -> Result<Built, NoMemory>
+    requires { number < 3 }
+    ensures { (read : Reading) → IsReading read
+        → IfOk result (λ b. built_in number (read (builtin_text number)) ≡ (number, form_of b.program) ∷ []) }
+{
+    match built(alloc, builtin(number)) {
+        Ok(built) => Ok(built),
+        Err(_) => Err(NoMemory),
+    }
+}
+
+/// The built-in programs.
+pub(crate) fn built_ins(alloc: Global) -> Result<Builts, NoMemory>
+    ensures forms { (read : Reading) → IsReading read → IfOk result (λ builts. forms_of builts ≡ built_ins read) }
+    ensures count { IfOk result (λ builts. length builts ≡ 3) }
+{
+    let mut builts = Sequence::new(alloc);
+    builts.push((0, built_in(alloc, 0)?))?;
+    builts.push((1, built_in(alloc, 1)?))?;
+    builts.push((2, built_in(alloc, 2)?))?;
+    Ok(builts)
+}
+
+fn named_program(alloc: Global, name: &str, value: &Value) -> Result<NamedProgram, SceneFault>
+    ensures ok { (read : Reading) → IsReading read
+        → IfOk result (λ p. named_program read name.now (view value.now) ≡ Ok (form_of p.built.program)) }
+    ensures name { IfOk result (λ p. p.name ≡ name.now) }
+    ensures err { (read : Reading) → IsReading read
+        → IfErr result (λ e. e ≢ fault.NoMemory → named_program read name.now (view value.now) ≡ Err e) }
+{
+    let named = named_text(alloc, Key::Programs, name, value)?;
+    match built(alloc, named.text.as_bytes()) {
+        Ok(built) => Ok(NamedProgram {
+            name: named.name,
+            built,
+        }),
+        Err(BuildFault::NoMemory) => Err(SceneFault::NoMemory),
+        Err(fault) => Err(SceneFault::Program(named.name, fault)),
+    }
+}
+
+/// An object that doesn't have more members than a scenario names programs.
+#[tactic(auto, using(crate::proofs::ProgramLemmas::members_count))]
+pub(crate) fn few_members(alloc: Global, members: &Map<String, Value>) -> Result<(), SceneFault>
+    ensures ok { OnOk result (few_members (members_view members.now.entries) ≡ Ok (members_view members.now.entries)) }
+    ensures count { OnOk result (members_len (members_view members.now.entries) ≤ most_named_programs) }
+    ensures err { IfErr result (λ e. e ≢ fault.NoMemory → few_members (members_view members.now.entries) ≡ Err e) }
+{
+    if members.len() <= NAMED_PROGRAMS {
+        Ok(())
+    } else {
+        Err(Spot::Top(Key::Programs).out_of_range(alloc))
+    }
+}
+
+/// All programs of a scenario that names these.
+pub(crate) fn programs_in(
+    alloc: Global,
+    members: &Map<String, Value>,
+) -> Result<SceneProgramList, SceneFault>
+    requires { members_len (members_view members.now.entries) ≤ most_named_programs }
+    ensures ok { (read : Reading) → IsReading read
+        → IfOk result (λ p. programs_in read (members_view members.now.entries) ≡ Ok (forms_of p.builts)) }
+    ensures names { IfOk result (λ p. p.names ≡ names_of (members_view members.now.entries)) }
+    ensures count { IfOk result (λ p. length p.builts ≡ length p.names + 3) }
+    ensures few { IfOk result (λ p. length p.names ≤ most_named_programs) }
+    ensures err { (read : Reading) → IsReading read
+        → IfErr result (λ e. e ≢ fault.NoMemory → programs_in read (members_view members.now.entries) ≡ Err e) }
+{
+    let mut names = Sequence::new(alloc);
+    let mut builts = built_ins(alloc)?;
+    for (name, value) in members.iter() {
+        let NamedProgram { name, built } = named_program(alloc, name.as_str(), value)?;
+        let number = builts.len() as u32;
+        names.push(name)?;
+        builts.push((number, built))?;
+    }
+    Ok(SceneProgramList { names, builts })
+}

@@ -1,0 +1,12 @@
+use crate::scenario::Scenario;
+use shared_link::SharedCase;
+
+/// What is run where flows share one link: the scenario, the link with one flow for each case in order, and the most
+/// rounds.
+#[derive(Debug, Drop)]
+pub struct SharedScene {
+    pub scene: Scenario,
+    pub link: SharedCase,
+    /// 1 to 10,000.
+    pub rounds: u32,
+}

@@ -1,0 +1,117 @@
+ghost use Rattle.std.specs.Prelude.{◌≡◌, ◌≢◌, ◌++◌, IfOk, OnOk};
+ghost use Rattle.scenario_json.specs.Paths.{path_of, printable, named_path, shown};
+ghost use Rattle.scenario_json.specs.declared.fault.SceneFault.TheVariants as fault;
+
+use crate::fault::{Path, SceneFault};
+use crate::key::Key;
+use ccp_base::{Bytes, NoMemory};
+use std::alloc::{AllocError, Global};
+
+/// Where a value stands in a scenario.
+#[derive(Clone, Copy, PartialEq, Eq, Debug)]
+pub(crate) enum Spot {
+    Whole,
+    /// A member of the whole.
+    Top(Key),
+    /// The case of this number.
+    Case(usize),
+    /// A member of a case.
+    In(usize, Key),
+    /// An item of a member of a case.
+    Item(usize, Key, usize),
+    /// A member of `shared`.
+    Shared(Key),
+}
+
+impl Spot {
+    fn text(self, alloc: Global) -> Result<String, AllocError>
+        ensures { IfOk result (λ text. text.bytes.items ≡ path_of self) }
+    {
+        match self {
+            Spot::Whole => Ok(String::new(alloc)),
+            Spot::Top(key) => String::from_str(alloc, key.word()),
+            Spot::Case(i) => format!(in alloc; "cases[{i}]"),
+            Spot::In(i, key) => format!(in alloc; "cases[{i}].{}", key.word()),
+            Spot::Item(i, key, j) => format!(in alloc; "cases[{i}].{}[{j}]", key.word()),
+            Spot::Shared(key) => format!(in alloc; "shared.{}", key.word()),
+        }
+    }
+
+    fn path(self, alloc: Global) -> Result<Path, NoMemory>
+        ensures { IfOk result (λ path. path ≡ path_of self) }
+    {
+        Ok(Bytes::from_vec(self.text(alloc)?.into_bytes()))
+    }
+
+    /// That the value here isn't there.
+    pub fn missing(self, alloc: Global) -> SceneFault
+        ensures { result ≢ fault.NoMemory → result ≡ fault.Missing (path_of self) }
+    {
+        match self.path(alloc) {
+            Ok(path) => SceneFault::Missing(path),
+            Err(NoMemory) => SceneFault::NoMemory,
+        }
+    }
+
+    /// That the value here isn't of its kind.
+    pub fn wrong(self, alloc: Global) -> SceneFault
+        ensures { result ≢ fault.NoMemory → result ≡ fault.Wrong (path_of self) }
+    {
+        match self.path(alloc) {
+            Ok(path) => SceneFault::Wrong(path),
+            Err(NoMemory) => SceneFault::NoMemory,
+        }
+    }
+
+    /// That the value here isn't in its range.
+    pub fn out_of_range(self, alloc: Global) -> SceneFault
+        ensures { result ≢ fault.NoMemory → result ≡ fault.Range (path_of self) }
+    {
+        match self.path(alloc) {
+            Ok(path) => SceneFault::Range(path),
+            Err(NoMemory) => SceneFault::NoMemory,
+        }
+    }
+}
+
+/// A byte of a name as paths show it.
+fn shown(byte: u8) -> u8
+    ensures { result ≡ shown byte }
+{
+    if 0x20 <= byte && byte <= 0x7E {
+        byte
+    } else {
+        b'?'
+    }
+}
+
+fn put_printable(path: &mut Path, name: &[u8]) -> Result<(), NoMemory>
+    ensures { OnOk result (path.new ≡ path.old ++ printable name.now) }
+{
+    let mut rest = name;
+    while let Some((byte, later)) = rest.split_first() {
+        path.push(shown(*byte))?;
+        rest = later;
+    }
+    Ok(())
+}
+
+fn named_path(alloc: Global, key: Key, name: &[u8]) -> Result<Path, NoMemory>
+    ensures { IfOk result (λ path. path ≡ named_path key name.now) }
+{
+    let mut path = Bytes::new(alloc);
+    path.extend(key.word().as_bytes())?;
+    path.push(b'.')?;
+    put_printable(&mut path, name)?;
+    Ok(path)
+}
+
+/// That a member which the scenario names by itself has no name, or isn't of its kind.
+pub(crate) fn wrong_named(alloc: Global, key: Key, name: &[u8]) -> SceneFault
+    ensures { result ≢ fault.NoMemory → result ≡ fault.Wrong (named_path key name.now) }
+{
+    match named_path(alloc, key, name) {
+        Ok(path) => SceneFault::Wrong(path),
+        Err(NoMemory) => SceneFault::NoMemory,
+    }
+}

@@ -1,0 +1,133 @@
+ghost use Rattle.std.specs.Prelude.{◌≡◌, ◌≢◌, ◌≤◌, IfOk, IfErr, Ok, Err, option_map};
+ghost use Rattle.serde_json.specs.View.{view, items_view, members_view};
+ghost use Rattle.scenario_json.specs.Keys.{least_of, most_of};
+ghost use Rattle.scenario_json.specs.Values.{member_of, needed, in_range, number_in, text_in, list_in, object_in, needed_number, number_or};
+ghost use Rattle.scenario_json.specs.declared.fault.SceneFault.TheVariants as fault;
+
+use crate::fault::SceneFault;
+use crate::key::Key;
+use crate::spot::Spot;
+use serde_json::{Map, Value};
+use std::alloc::Global;
+
+/// The member of an object with this key.
+pub(crate) fn member(whole: &Value, key: Key) -> Option<&Value>
+    ensures { option_map (λ v. view v.now) result ≡ member_of key (view whole.now) }
+{
+    whole.get(key.word())
+}
+
+/// A member that must be there.
+pub(crate) fn needed(
+    alloc: Global,
+    spot: Spot,
+    whole: &Value,
+    key: Key,
+) -> Result<&Value, SceneFault>
+    ensures ok { IfOk result (λ v. needed spot (member_of key (view whole.now)) ≡ Ok (view v.now)) }
+    ensures err { IfErr result (λ e. e ≢ fault.NoMemory → needed spot (member_of key (view whole.now)) ≡ Err e) }
+{
+    match member(whole, key) {
+        Some(value) => Ok(value),
+        None => Err(spot.missing(alloc)),
+    }
+}
+
+fn in_range(alloc: Global, spot: Spot, key: Key, number: u64) -> Result<u64, SceneFault>
+    ensures ok { IfOk result (λ n. in_range spot key number ≡ Ok n) }
+    ensures least { IfOk result (λ n. least_of key ≤ n) }
+    ensures most { IfOk result (λ n. n ≤ most_of key) }
+    ensures err { IfErr result (λ e. e ≢ fault.NoMemory → in_range spot key number ≡ Err e) }
+{
+    if key.least() <= number && number <= key.most() {
+        Ok(number)
+    } else {
+        Err(spot.out_of_range(alloc))
+    }
+}
+
+/// A whole number in the range of this key. A negative one is out of range, and 5.0 is no whole number.
+pub(crate) fn number(alloc: Global, spot: Spot, key: Key, value: &Value) -> Result<u64, SceneFault>
+    ensures ok { IfOk result (λ n. number_in spot key (view value.now) ≡ Ok n) }
+    ensures least { IfOk result (λ n. least_of key ≤ n) }
+    ensures most { IfOk result (λ n. n ≤ most_of key) }
+    ensures err { IfErr result (λ e. e ≢ fault.NoMemory → number_in spot key (view value.now) ≡ Err e) }
+{
+    match (value.as_u64(), value.as_i64()) {
+        (Some(number), _) => in_range(alloc, spot, key, number),
+        (None, Some(_)) => Err(spot.out_of_range(alloc)),
+        (None, None) => Err(spot.wrong(alloc)),
+    }
+}
+
+pub(crate) fn text(alloc: Global, spot: Spot, value: &Value) -> Result<&str, SceneFault>
+    ensures ok { IfOk result (λ text. text_in spot (view value.now) ≡ Ok text.now) }
+    ensures err { IfErr result (λ e. e ≢ fault.NoMemory → text_in spot (view value.now) ≡ Err e) }
+{
+    match value.as_str() {
+        Some(text) => Ok(text),
+        None => Err(spot.wrong(alloc)),
+    }
+}
+
+pub(crate) fn list(alloc: Global, spot: Spot, value: &Value) -> Result<&Vec<Value>, SceneFault>
+    ensures ok { IfOk result (λ list. list_in spot (view value.now) ≡ Ok (items_view list.now.items)) }
+    ensures err { IfErr result (λ e. e ≢ fault.NoMemory → list_in spot (view value.now) ≡ Err e) }
+{
+    match value.as_array() {
+        Some(list) => Ok(list),
+        None => Err(spot.wrong(alloc)),
+    }
+}
+
+pub(crate) fn object(
+    alloc: Global,
+    spot: Spot,
+    value: &Value,
+) -> Result<&Map<String, Value>, SceneFault>
+    ensures ok { IfOk result (λ map. object_in spot (view value.now) ≡ Ok (members_view map.now.entries)) }
+    ensures err { IfErr result (λ e. e ≢ fault.NoMemory → object_in spot (view value.now) ≡ Err e) }
+{
+    match value.as_object() {
+        Some(map) => Ok(map),
+        None => Err(spot.wrong(alloc)),
+    }
+}
+
+/// A number that must be there.
+pub(crate) fn needed_number(
+    alloc: Global,
+    spot: Spot,
+    whole: &Value,
+    key: Key,
+) -> Result<u64, SceneFault>
+    ensures ok { IfOk result (λ n. needed_number spot key (view whole.now) ≡ Ok n) }
+    ensures least { IfOk result (λ n. least_of key ≤ n) }
+    ensures most { IfOk result (λ n. n ≤ most_of key) }
+    ensures err { IfErr result (λ e. e ≢ fault.NoMemory → needed_number spot key (view whole.now) ≡ Err e) }
+{
+    let value = needed(alloc, spot, whole, key)?;
+    number(alloc, spot, key, value)
+}
+
+/// A number where there is one, else the default.
+pub(crate) fn number_or(
+    alloc: Global,
+    spot: Spot,
+    whole: &Value,
+    key: Key,
+    default: u64,
+) -> Result<u64, SceneFault>
+    requires least { least_of key ≤ default }
+    requires most { default ≤ most_of key }
+    ensures ok { IfOk result (λ n. number_or spot key default (member_of key (view whole.now)) ≡ Ok n) }
+    ensures least { IfOk result (λ n. least_of key ≤ n) }
+    ensures most { IfOk result (λ n. n ≤ most_of key) }
+    ensures err { IfErr result (λ e. e ≢ fault.NoMemory
+        → number_or spot key default (member_of key (view whole.now)) ≡ Err e) }
+{
+    match member(whole, key) {
+        Some(value) => number(alloc, spot, key, value),
+        None => Ok(default),
+    }
+}

@@ -1,0 +1,32 @@
+use ccp_base::Sequence;
+use link_model::Trace;
+
+/// What a flow has of its own on a link that several flows share.
+#[derive(Debug, Drop)]
+pub struct FlowLink {
+    /// A packet's size, in bytes.
+    pub mss: u32,
+    /// From a packet's chance to its acknowledgement, in microseconds.
+    pub delay_us: u64,
+    /// How long the sender waits where every packet in flight is lost, in microseconds.
+    pub timeout_us: u64,
+    /// The numbers of the flow's packets that are lost whatever the queue, each above the one before.
+    pub losses: Sequence<u32>,
+    /// From how many waiting packets of all flows on a packet is marked, or no marks.
+    pub mark: Option<u32>,
+}
+
+/// What flows have on a shared link, in order.
+pub type FlowLinks = Sequence<FlowLink>;
+
+/// What a link of several flows is.
+#[derive(Debug, Drop)]
+pub struct SharedCase {
+    /// When the link has a chance to send a packet.
+    pub trace: Trace,
+    /// How many packets of all flows may wait for their chances.
+    pub queue: u32,
+    /// The length of a round, in microseconds.
+    pub quantum_us: u64,
+    pub flows: FlowLinks,
+}
