@@ -1,7 +1,7 @@
 -- Whether an answer is due, by the ticket that is out and at how many acknowledgements it was taken.
 use Rattle.std.specs.Prelude.{◌≡◌, ℕ, ◌+◌, Bool, true, false, ◌&&◌, nat_le, is_some, is_none, not, ◌≢◌, if◌then◌else◌, Option, Some, None, option_map, refl}
 use Rattle.std.specs.Option.{ForSome}
-use Rattle.std.proofs.Common.{ap, sym, ◌∙◌}
+use Rattle.std.proofs.Common.{ap, ◌∙◌}
 use Rattle.flow_core.specs.World.{Taken}
 use Rattle.campaign_gate.specs.CampaignWord.{is_late}
 

@@ -1,6 +1,6 @@
 -- Each legal letter leaves fewer letters than could come before it.
-use Rattle.std.specs.Prelude.{◌≡◌, ◌+◌, ◌<◌, ◌≤◌, Bool, true, false, nat_lt, is_some, is_none, ◌&&◌, Option, Some, None, List, [], ◌∷◌, length, refl}
-use Rattle.std.proofs.Common.{arith, ap, sym, ◌∙◌, length-append}
+use Rattle.std.specs.Prelude.{◌≡◌, ◌<◌, ◌≤◌, Bool, true, false, is_some, is_none, ◌&&◌, Option, Some, None, List, [], ◌∷◌, length, refl}
+use Rattle.std.proofs.Common.{arith, ap, length-append}
 use Rattle.std.proofs.lemmas.Bool.{ltb-true}
 use Rattle.ccp_base.specs.declared.ack.Ack.{Ack}
 use Rattle.ccp_base.specs.declared.arithmetic.FaultKind.{FaultKind}
@@ -17,7 +17,7 @@ use Rattle.link_model.specs.Link.{ack_after}
 use Rattle.flow_core.specs.declared.letter.Letter.{Letter}
 use Rattle.flow_core.specs.declared.letter.Letter.TheVariants.{A, T, C}
 use Rattle.flow_core.specs.Readings.{Flow}
-use Rattle.flow_core.specs.World.{Failure, Taken, World, track_of, has_room, with_met, after_ack, taking, with_taken, after_take, told_as, with_turn, answer_applied, after_answer}
+use Rattle.flow_core.specs.World.{Failure, Taken, World, track_of, has_room, with_met, after_ack, taking, with_taken, told_as, with_turn, answer_applied}
 use Rattle.flow_core.specs.Words.{from_link, after_letter, can_take, is_legal}
 use Rattle.flow_core.specs.States.{some_count}
 use Rattle.campaign_gate.specs.Walks.{letters_left}

@@ -1,5 +1,5 @@
 -- Where a case's codes simulate two programs, its row over the codes is its row over the programs.
-use Rattle.std.specs.Prelude.{◌≡◌, ℕ, zero, suc, ◌+◌, ◌-◌, ◌*◌, ◌==◌, max, Bool, true, false, not, nat_lt, nat_le, is_some, is_none, ◌&&◌, if◌then◌else◌, Option, Some, None, option_map, List, [], ◌∷◌, ◌++◌, length, map, refl}
+use Rattle.std.specs.Prelude.{◌≡◌, ℕ, zero, suc, ◌+◌, ◌-◌, ◌*◌, ◌==◌, max, Bool, true, false, nat_lt, is_some, is_none, ◌&&◌, if◌then◌else◌, Option, Some, None, option_map, List, [], ◌∷◌, ◌++◌, length, map, refl}
 use Rattle.std.proofs.Common.{ap, sym, ◌∙◌}
 use Rattle.std.proofs.lemmas.List.{length-map}
 use Rattle.ccp_base.specs.declared.place.Place.{Place}
@@ -20,14 +20,13 @@ use Rattle.flow_core.specs.declared.letter.Letter.{Letter}
 use Rattle.flow_core.specs.declared.letter.Letter.TheVariants.{A, T, C}
 use Rattle.flow_core.specs.Readings.{Flow, by_number, code_at, over_codes, over_sources}
 use Rattle.flow_core.specs.World.{Failure, Content, of_report, of_failure, Era, Taken, Answered, World, time_of, track_in, track_of, era_of, opening, taking, with_taken, with_reply, told_as, answer_applied}
-use Rattle.flow_core.specs.Words.{from_link, after_letter, world_from, world, can_take, is_legal}
+use Rattle.flow_core.specs.Words.{from_link, after_letter, world_from, world}
 use Rattle.flow_core.specs.WordLaws.{world-append}
 use Rattle.flow_core.specs.Lift.{Placing, place_in, map_failure, map_content, map_taken, map_answered, map_world}
 use Rattle.flow_core.specs.Books.{ticket_line}
 use Rattle.flow_core.specs.LiveText.{report_count, reports_told}
 use Rattle.flow_core.proofs.LiftLemmas.{link-lift}
 use Rattle.flow_core.proofs.SimulatedEpochs.{after-simulated}
-use Rattle.campaign_gate.specs.declared.row.Row.{Row}
 use Rattle.campaign_gate.specs.CampaignWord.{is_late, first_letter, next_of, with_next, plan_from, plan_over}
 use Rattle.campaign_gate.specs.CampaignRow.{lost_in, timeouts_in, acked_in, window_of, peak_from, row_after, row_read, row_of}
 use Rattle.campaign_gate.specs.LiftedRow.{IsLifted}

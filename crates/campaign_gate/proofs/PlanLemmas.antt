@@ -1,5 +1,5 @@
 -- The campaign word of a flow is legal, and it is complete.
-use Rattle.std.specs.Prelude.{◌≡◌, ℕ, zero, suc, ◌+◌, ◌-◌, ◌*◌, ◌<◌, ◌≤◌, Bool, true, false, not, nat_lt, is_some, is_none, ◌&&◌, if◌then◌else◌, Option, Some, None, List, [], ◌∷◌, length, refl}
+use Rattle.std.specs.Prelude.{◌≡◌, ℕ, zero, suc, ◌-◌, ◌*◌, ◌<◌, ◌≤◌, Bool, true, false, not, is_some, is_none, ◌&&◌, if◌then◌else◌, Option, Some, None, [], ◌∷◌, length, refl}
 use Rattle.std.proofs.Common.{arith, ap, sym, ◌∙◌, subst}
 use Rattle.link_model.specs.declared.link_case.LinkCase.{LinkCase}
 use Rattle.flow_core.specs.declared.case.Case.{Case}
@@ -121,7 +121,7 @@ module _ {X : Type 0} (flow : Flow X) (lag : ℕ) where
 
     complete-next : (more : ℕ) (w : World X) (next : Option Letter) → next_of flow lag w ≡ next → letters_left flow w ≤ suc more
         → ((letter : Letter) → letters_left flow (after_letter flow (from_link flow link) w letter) ≤ more
-            → is_complete flow (world_from flow (from_link flow link) (after_letter flow (from_link flow link) w letter) (plan_from flow link lag more (after_letter flow (from_link flow link) w letter))) ≡ true)
+        → is_complete flow (world_from flow (from_link flow link) (after_letter flow (from_link flow link) w letter) (plan_from flow link lag more (after_letter flow (from_link flow link) w letter))) ≡ true)
         → is_complete flow (world_from flow (from_link flow link) w (with_next next (λ letter. plan_from flow link lag more (after_letter flow (from_link flow link) w letter)))) ≡ true
     complete-next more w None is enough rest = none-complete w is
     complete-next more w (Some letter) is enough rest =

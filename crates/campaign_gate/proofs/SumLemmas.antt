@@ -1,12 +1,11 @@
 -- The sums over the acknowledgements of a link are numbers of 64 bits.
 use Rattle.std.specs.Prelude.{◌≡◌, ℕ, zero, suc, ◌+◌, ◌-◌, ◌*◌, ◌<◌, ◌≤◌, Bool, true, false, ◌&&◌, if◌then◌else◌, List, [], ◌∷◌, ◌++◌, length, refl}
-use Rattle.std.proofs.Common.{arith, ap, sym, ◌∙◌, subst, length-append}
+use Rattle.std.proofs.Common.{arith, sym, ◌∙◌, subst, length-append}
 use Rattle.ccp_base.specs.declared.ack.Ack.{Ack}
 use Rattle.link_model.specs.declared.link_case.LinkCase.{LinkCase}
 use Rattle.link_model.specs.Link.{Packet, Taking, Numbered, Given, Run, packets_to, time_of, Next, arrives, all_lost, allowance, is_lost, packet_after, with_sent, takes, left_by, lost_by, numbered, in_flight, next_of, answer_by, answer_to, sent_by, called, run_from, run_of, acks_in_order, acks_of}
 use Rattle.flow_core.specs.declared.letter.Letter.{Letter}
 use Rattle.flow_core.specs.Readings.{Flow}
-use Rattle.flow_core.specs.World.{World}
 use Rattle.flow_core.specs.Words.{world}
 use Rattle.flow_core.proofs.LinkWordLemmas.{acks-of-world, length-world, length-windows}
 use Rattle.campaign_gate.specs.CampaignRow.{lost_in, timeouts_in, acked_in}

@@ -1,5 +1,5 @@
 -- One more letter of the campaign word keeps a flow on its way.
-use Rattle.std.specs.Prelude.{◌≡◌, ℕ, zero, ◌+◌, ◌-◌, ◌*◌, ◌<◌, ◌≤◌, max, Bool, true, false, is_some, is_none, ◌&&◌, Option, Some, None, unwrap_or, slice_get, List, [], ◌∷◌, ◌++◌, length, refl}
+use Rattle.std.specs.Prelude.{◌≡◌, ℕ, ◌-◌, ◌*◌, ◌<◌, ◌≤◌, max, Bool, true, false, is_some, is_none, ◌&&◌, Option, Some, None, unwrap_or, slice_get, List, [], ◌∷◌, ◌++◌, length, refl}
 use Rattle.std.specs.Option.{ForSome}
 use Rattle.std.proofs.Common.{arith, ap, sym, ◌∙◌, subst, append_assoc, append-nil, length-append}
 use Rattle.std.proofs.lemmas.Bool.{ltb-true}
@@ -12,7 +12,7 @@ use Rattle.agent_core.specs.Agents.{replied}
 use Rattle.flow_core.specs.declared.letter.Letter.{Letter}
 use Rattle.flow_core.specs.declared.letter.Letter.TheVariants.{A, T, C}
 use Rattle.flow_core.specs.Readings.{Flow}
-use Rattle.flow_core.specs.World.{Failure, Content, Taken, World, opening, taking, with_taken, after_take, told_as, with_turn, answer_applied, after_answer}
+use Rattle.flow_core.specs.World.{Failure, Content, Taken, World, opening, taking, with_taken, told_as, with_turn, answer_applied}
 use Rattle.flow_core.specs.Words.{from_link, after_letter, world, can_take, is_legal, is_complete}
 use Rattle.flow_core.specs.WordLaws.{world-append}
 use Rattle.flow_core.specs.Cells.{CellState, flow_at, world_at, ack_at}
@@ -20,7 +20,7 @@ use Rattle.flow_core.proofs.WordLemmas.{slice_get-next, take-keeps, answer-keeps
 use Rattle.campaign_gate.specs.declared.sums.Sums.{Sums}
 use Rattle.campaign_gate.specs.declared.walk.Walk.{Walk}
 use Rattle.campaign_gate.specs.CampaignWord.{plan_from, plan}
-use Rattle.campaign_gate.specs.CampaignRow.{peak_of, row_over, row_after, row_of}
+use Rattle.campaign_gate.specs.CampaignRow.{row_over, row_after, row_of}
 use Rattle.campaign_gate.specs.Walks.{letters_left, left_at, next_at, window_at, plan_at, sums_of, with_ack, sums_after, TakenAfter, AreRoomy, IsOnWay, Makes}
 use Rattle.campaign_gate.proofs.LeftLemmas.{left-letter}
 use Rattle.campaign_gate.proofs.PlanLemmas.{next-legal, plan-next, plan-none}
@@ -210,7 +210,7 @@ whole walk on done =
     let cell = walk.cell in
     sym (append-nil cell.word)
     ∙ ap (λ (rest : List Letter). cell.word ++ rest)
-      (sym (plan-none (flow_at cell) cell.case.lag cell.case.link (3 * cell.case.acks - length cell.word) (world_at cell) done))
+    (sym (plan-none (flow_at cell) cell.case.lag cell.case.link (3 * cell.case.acks - length cell.word) (world_at cell) done))
     ∙ on.word
 
 -- where the word is complete, the row is that of the case

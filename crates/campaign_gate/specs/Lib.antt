@@ -2,3 +2,4 @@ pub mod CampaignWord
 pub mod CampaignRow
 pub mod Walks
 pub mod LiftedRow
+pub mod Tried

@@ -1,6 +1,9 @@
 //! The run of one case, and of many.
-ghost use Rattle.std.specs.Prelude.{◌≡◌, ◌<◌, ◌≤◌, map, length, IfOk};
+ghost use Rattle.std.specs.Prelude.{◌≡◌, ◌<◌, ◌≤◌, true, map, length, IfOk};
 ghost use Rattle.ccp_base.specs.Limits.{most_cases, most_workers};
+ghost use Rattle.flow_core.specs.Readings.{over_codes};
+ghost use Rattle.flow_core.specs.Words.{world, legal, is_complete};
+ghost use Rattle.campaign_gate.specs.CampaignWord.{plan};
 ghost use Rattle.campaign_gate.specs.CampaignRow.{row_of};
 ghost use Rattle.campaign_gate.specs.LiftedRow.{IsLifted};
 
@@ -12,14 +15,15 @@ use flow_core::{Case, Cell};
 use fold_machine::Steps;
 use std::alloc::Global;
 use std::marker::Brand;
-use std::sync::Wait;
 use std::sync::ledger::{Blank, Ledger};
 use std::thread::Threads;
 
-/// The row of a case: its flow makes its campaign word. For all programs that the case's codes simulate, that is the row
-/// read over these sources.
+/// The row of a case: its flow makes its campaign word, which is legal and complete. For all programs that the case's
+/// codes simulate, that is the row read over these sources.
 pub fn run_case(alloc: Global, case: Case) -> Result<Row, NoMemory>
     ensures row { IfOk result (λ row. row ≡ row_of case) }
+    ensures legal { legal (over_codes case) case.link (plan case) ≡ true }
+    ensures complete { is_complete (over_codes case) (world (over_codes case) case.link (plan case)) ≡ true }
     ensures lifted { IsLifted case }
 {
     counted::<Brand>(alloc, case, Blank::new(1))
@@ -47,7 +51,7 @@ pub type Cases = Sequence<Case>;
 /// number leaves `w` when it is divided by the number of workers, in order, each in a cell that is dropped after it. It
 /// passes the gate at `InCase` before a case and at `AfterCase` after it. Where a thread can't be started the caller does
 /// its work. There are at most 1,024 cases. The row of each case is that of its programs.
-pub fn rows<R: Threads + Wait + Sync, G: Gate + Sync>(
+pub fn rows<R: Threads + Sync, G: Gate + Sync>(
     rt: &R,
     alloc: Global,
     cases: Cases,

@@ -1,10 +1,11 @@
-ghost use Rattle.std.specs.Prelude.{◌≡◌, ◌+◌, ◌<◌, ◌↔◌, [], ◌∷◌, ◌++◌, Ok, Some, true, false, OnOk};
+ghost use Rattle.std.specs.Prelude.{◌≡◌, ◌<◌, [], Some, false, OnOk, IfOk};
 ghost use Rattle.flow_core.specs.LiveText.{report_count};
-ghost use Rattle.flow_core.specs.Words.{is_complete, is_legal};
-ghost use Rattle.flow_core.specs.Cells.{flow_at, world_at, out_at, IsComplete};
+ghost use Rattle.flow_core.specs.Words.{is_complete};
+ghost use Rattle.flow_core.specs.Cells.{flow_at, world_at, IsComplete};
 ghost use Rattle.campaign_gate.specs.CampaignWord.{is_due};
 ghost use Rattle.campaign_gate.specs.CampaignRow.{row_of};
-ghost use Rattle.campaign_gate.specs.Walks.{left_at, next_at, window_at, IsOnWay, Makes};
+ghost use Rattle.campaign_gate.specs.Tried.{Tried};
+ghost use Rattle.campaign_gate.specs.Walks.{left_at, next_at, IsOnWay, Makes};
 
 use crate::row::Row;
 use crate::sums::Sums;
@@ -101,8 +102,7 @@ impl Walk {
     /// Takes a ticket where it is legal, and says whether it did.
     fn take(&mut self, alloc: Global) -> Result<bool, NoMemory>
         requires due { is_due (flow_at self.old.cell) self.old.cell.case.lag (world_at self.old.cell) ≡ false }
-        ensures made { result ≡ Ok true → (next_at self.old.cell ≡ Some Letter.T) × Makes Letter.T self.old self.new }
-        ensures not { result ≡ Ok false → (is_legal (flow_at self.old.cell) (world_at self.old.cell) Letter.T ≡ false) × (self.new ≡ self.old) }
+        ensures { IfOk result (λ took. Tried took self.old self.new) }
     {
         match self.cell.take(alloc) {
             Ok(_) => {

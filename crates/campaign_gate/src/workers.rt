@@ -8,16 +8,17 @@ use crate::row::{Row, Rows};
 use ccp_base::{Gate, NoMemory, Point};
 use flow_core::Case;
 use std::alloc::Global;
-use std::sync::Wait;
 use std::thread;
 use std::thread::Threads;
 
 /// The rows of a campaign's cases, by so many workers.
-pub(crate) fn by_workers<
-    C: Campaign + Send + Sync,
-    R: Threads + Wait + Sync,
-    G: Gate + Sync,
->(rt: &R, alloc: Global, cases: &[Case], workers: u32, gate: &G) -> Result<Rows, NoMemory>
+pub(crate) fn by_workers<C: Campaign + Send + Sync, R: Threads + Sync, G: Gate + Sync>(
+    rt: &R,
+    alloc: Global,
+    cases: &[Case],
+    workers: u32,
+    gate: &G,
+) -> Result<Rows, NoMemory>
     requires cases { cases.now ≡ C.cases }
     requires few { length cases.now ≤ most_cases }
     requires workers { (1 ≤ workers) × (workers ≤ most_workers) }

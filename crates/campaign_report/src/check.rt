@@ -13,7 +13,6 @@ use std::alloc::Global;
 
 /// The text of a checked program: its summary, and the listing of its code.
 pub fn check_text(alloc: Global, built: &Built) -> Result<Bytes, NoMemory>
-    requires { refusal_of (form_of built.now.program) ≡ None }
     ensures { IfOk result (λ text. text ≡ check_text (form_of built.now.program) built.now.code.code) }
 {
     let mut text = summary(alloc, &built.program)?;

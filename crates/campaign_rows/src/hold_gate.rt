@@ -9,6 +9,7 @@ const TURNS: u32 = 2_000_000;
 const LOADS: u32 = 1000;
 
 /// Holds the worker of one case before it until another case was run.
+#[derive(Drop)]
 pub(crate) struct HoldGate {
     /// The case that is held.
     held: u32,

@@ -4,6 +4,8 @@
 #[cfg(test)]
 mod checked_programs;
 #[cfg(test)]
+mod feeds;
+#[cfg(test)]
 mod limits;
 #[cfg(test)]
 mod refused_programs;

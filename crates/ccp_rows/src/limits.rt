@@ -39,6 +39,22 @@ fn an_input_has_at_most_1048576_bytes(rt: HostRuntime) -> Result<(), Fail> {
 }
 
 #[test]
+fn an_input_of_1048576_bytes_is_taken(rt: HostRuntime) -> Result<(), Fail> {
+    let alloc = rt.alloc();
+    let mut input = b"(def)\n---\n".to_vec(alloc)?;
+    while input.len() < 1_048_576 {
+        input.push(b' ')?;
+    }
+    is_folded(
+        &rt,
+        alloc,
+        &input,
+        b"end acks=0 reports=0 tail=0..0 stopped=no cwnd=0 rate=0\n",
+    );
+    Ok(())
+}
+
+#[test]
 fn a_text_has_at_most_65536_bytes(rt: HostRuntime) -> Result<(), Fail> {
     let alloc = rt.alloc();
     let mut blanks = vec![in alloc; b' '; 65_536]?;

@@ -86,6 +86,13 @@ fn folds_are_written_and_refusals_told(rt: HostRuntime) {
             errors: "",
         },
         Row {
+            name: "lean-fault-in-fold",
+            input: "(def (Report (x 0))) (when true (:= Report.x (/ 1 0)))\n---\nnow=1\n",
+            status: 0,
+            output: "fault epoch=0 ack=0 kind=ZeroDivisor at=1:47\nend acks=1 reports=0 tail=0..1 stopped=yes cwnd=0 rate=0 x=0\n",
+            errors: "",
+        },
+        Row {
             name: "both-parts-of-and",
             input: "(def (Report (x 0))) (when (&& false (== 1 (/ 1 0))) (report))\n---\nnow=1\n",
             status: 0,
@@ -389,6 +396,48 @@ fn other_words_are_refused(rt: HostRuntime) -> Result<(), Fail> {
     ];
     for given in rows {
         assert_eq!(rt; ran_on(&rt, rt.alloc(), given)?, (2, false), "at {given:?}");
+    }
+    Ok(())
+}
+
+/// Asserts that the words are refused, and that this is told and nothing read or written.
+fn refused_words_are_told<R: Threads + Wait + Sync + Abort>(
+    rt: &R,
+    alloc: Global,
+    given: &[&str],
+) -> Result<(), Fail> {
+    let words = words(alloc, given)?;
+    let mut source = MemSource::new(FIRST_REPORT.as_bytes(), 4096, &[0]);
+    let mut sink = MemSink::new(alloc, 4096, &[]);
+    let mut errors = MemSink::new(alloc, 4096, &[]);
+    let outcome = run(
+        rt,
+        alloc,
+        words,
+        &mut source,
+        &mut sink,
+        &mut errors,
+        &OpenGate,
+    );
+    assert_eq!(rt; outcome.status, 2, "at {given:?}");
+    assert_eq!(rt; sink.as_slice().len(), 0, "at {given:?}");
+    assert_eq!(rt;
+        errors.as_slice(),
+        b"ccp: words refused\n".as_slice(),
+        "at {given:?}"
+    );
+    Ok(())
+}
+
+#[test]
+fn refused_words_leave_the_source(rt: HostRuntime) -> Result<(), Fail> {
+    let rows: [&[&str]; 3] = [
+        &["ccp", "fold", "--workers", "33"],
+        &["ccp"],
+        &["ccp", "folds"],
+    ];
+    for given in rows {
+        refused_words_are_told(&rt, rt.alloc(), given)?;
     }
     Ok(())
 }

@@ -7,10 +7,10 @@ use Rattle.ccp_run.specs.declared.outcome.ModeOutput.{ModeOutput}
 use Rattle.ccp_run.specs.declared.outcome.Outcome.{Outcome}
 use Rattle.ccp_run.specs.declared.refusal.Refusal.{Refusal}
 use Rattle.ccp_run.specs.declared.status.Status.TheVariants as status
-use Rattle.ccp_run.specs.Attempts.{MakesOutput, RefusesBytes, RefusesInput}
+use Rattle.ccp_run.specs.Attempts.{MakesOutput, RefusesBytes, RefusesInput, RefusesAny}
 use Rattle.ccp_run.specs.Complete.{EndsAs, IsNoInput, IsComplete}
-use Rattle.ccp_run.specs.Modes.{limit_of, is_read, IsMade, IsRefused}
-use Rattle.ccp_run.specs.Run.{IsRun}
+use Rattle.ccp_run.specs.Modes.{limit_of, is_read, is_stream, IsMade, IsRefused}
+use Rattle.ccp_run.specs.Run.{IsRun, WritesAnyFront}
 use Rattle.ccp_run.specs.Settled.{is_there, IsInput}
 use Rattle.ccp_run.specs.Streams.{Stream, HasInput}
 use Rattle.ccp_run.proofs.SettledInputs.{settled_input}
@@ -32,11 +32,16 @@ whole bytes taken old (Some left) is takes end =
     let empty : left ≡ [] = cc in
     lists ∙ ap (λ rest. taken ++ rest) empty ∙ append-nil taken
 
+-- what was taken stands at the front
+split : (bytes taken : List ℕ) (old new : Known) → old ≡ Some bytes → Takes old new taken → (left : List ℕ) × (bytes ≡ taken ++ left)
+split bytes taken old None is takes = let e : Some bytes ≡ None = sym is ∙ takes in let bad : ⊥ = cc in absurd bad
+split bytes taken old (Some left) is takes = let e : Some bytes ≡ Some (taken ++ left) = sym is ∙ takes in let lists : bytes ≡ taken ++ left = cc in (left, lists)
+
 -- a task that doesn't read its source refuses nothing
 no_refusal : (task : Task) (bytes : List ℕ) (refusal : Refusal) → is_read task ≡ false → IsRefused task bytes refusal → ⊥
 no_refusal (Alone alone) bytes refusal reads refused = cc
 no_refusal (Live wire) bytes refusal reads refused = refused
-no_refusal (Campaign wire) bytes refusal reads refused = refused
+no_refusal (Campaign wire) bytes refusal reads refused = let bad : ⊥ = cc in absurd bad
 no_refusal (Soak number) bytes refusal reads refused = refused
 no_refusal Rollout bytes refusal reads refused = refused
 no_refusal Shared bytes refusal reads refused = refused
@@ -45,22 +50,22 @@ no_refusal Shared bytes refusal reads refused = refused
 by_input : (task : Task) (bytes : List ℕ) → IsInput task bytes → is_there task ≡ true
 by_input (Alone Check) bytes input = refl
 by_input (Alone Fold) bytes input = refl
-by_input (Alone Feed) bytes input = absurd input
+by_input (Alone Feed) bytes input = refl
 by_input (Alone Audit) bytes input = absurd input
 by_input (Live wire) bytes input = absurd input
-by_input (Campaign wire) bytes input = absurd input
-by_input (Soak number) bytes input = absurd input
+by_input (Campaign wire) bytes input = refl
+by_input (Soak number) bytes input = refl
 by_input Rollout bytes input = absurd input
 by_input Shared bytes input = absurd input
 
 by_output : (task : Task) (bytes : List ℕ) (output : ModeOutput) → IsMade task bytes output → is_there task ≡ true
 by_output (Alone Check) bytes output made = refl
 by_output (Alone Fold) bytes output made = refl
-by_output (Alone Feed) bytes output made = absurd made
+by_output (Alone Feed) bytes output made = refl
 by_output (Alone Audit) bytes output made = absurd made
 by_output (Live wire) bytes output made = absurd made
-by_output (Campaign wire) bytes output made = absurd made
-by_output (Soak number) bytes output made = absurd made
+by_output (Campaign wire) bytes output made = refl
+by_output (Soak number) bytes output made = refl
 by_output Rollout bytes output made = absurd made
 by_output Shared bytes output made = absurd made
 
@@ -74,9 +79,14 @@ module _ (task : Task) (source : Stream) (bytes : List ℕ) (is : source.old ≡
       (subst (λ (b : List ℕ). IsRefused task b refusal) (sym (same_bytes r.bytes has)) r.cause)
   not_refused_bytes refusal input r false reads has = no_refusal task r.bytes refusal reads r.cause
 
-  not_refused : (refusal : Refusal) → length bytes ≤ limit_of task → IsInput task bytes → RefusesInput task source refusal → ⊥
-  not_refused refusal short input (inl long) = not_over (limit_of task) bytes source.old source.new is short long.over
-  not_refused refusal short input (inr r) = not_refused_bytes refusal input r (is_read task) refl r.read
+  not_refused : (refusal : Refusal) → length bytes ≤ limit_of task → IsInput task bytes → (answers_early : Bool) → RefusesAny answers_early task source refusal → ⊥
+  not_refused refusal short input true (inl early) =
+      let parts = split bytes early.bytes source.old source.new is early.taken in
+      (settled_input task bytes (by_input task bytes input)).apart refusal input
+      (subst (λ (b : List ℕ). IsRefused task b refusal) (sym parts.1) (early.cause parts.0))
+  not_refused refusal short input true (inr r) = not_refused_bytes refusal input r (is_read task) refl r.read
+  not_refused refusal short input false (inl long) = not_over (limit_of task) bytes source.old source.new is short long.over
+  not_refused refusal short input false (inr r) = not_refused_bytes refusal input r (is_read task) refl r.read
 
   -- nothing is made of bytes that are past the limit, or that are refused
   not_made_of : (output : ModeOutput) → IsNoInput task bytes → (m : MakesOutput task source output) → (reads : Bool) → is_read task ≡ reads → HasInput reads source m.bytes → ⊥
@@ -100,29 +110,35 @@ module _ (task : Task) (source sink errors : Stream) (is_finished : Type 0) (out
   answered bytes is short input no_read no_write (suc zero) e = absurd (run.no_1 e)
   answered bytes is short input no_read no_write (suc (suc zero)) e = absurd (run.words e)
   answered bytes is short input no_read no_write (suc (suc (suc zero))) e =
-      absurd (not_refused task source bytes is (run.refused e).refusal short input (run.refused e).refused)
+      absurd (not_refused task source bytes is (run.refused e).refusal short input (is_stream task) (run.refused e).refused)
   answered bytes is short input no_read no_write (suc (suc (suc (suc zero)))) e = absurd (no_read (run.read_fault e))
   answered bytes is short input no_read no_write (suc (suc (suc (suc (suc zero))))) e = absurd (no_write (run.write_fault e))
   answered bytes is short input no_read no_write (suc (suc (suc (suc (suc (suc zero)))))) e = inr e
   answered bytes is short input no_read no_write (suc (suc (suc (suc (suc (suc (suc n))))))) e =
       let few = run.statuses in absurd (omega (arith, e, few))
 
+  no_front : (bytes : List ℕ) → source.old ≡ Some bytes → IsNoInput task bytes → (is_stream task ≡ true → Rose sink.before sink.now → ⊥) → Rose sink.before sink.now
+      → (answers_early : Bool) → is_stream task ≡ answers_early → WritesAnyFront answers_early task source sink → ⊥
+  no_front bytes is other no_write rose true e front = no_write e rose
+  no_front bytes is other no_write rose false e front = not_made task source bytes is front.output other front.made
+
   refuses : (bytes : List ℕ) → source.old ≡ Some bytes → IsNoInput task bytes → (Rose source.before source.now → ⊥)
+      → (is_stream task ≡ true → Rose sink.before sink.now → ⊥)
       → (n : ℕ) → outcome.status ≡ n → EndsAs status.InputRefused outcome
-  refuses bytes is other no_read zero e = absurd (not_made task source bytes is (run.done e).output other (run.done e).made)
-  refuses bytes is other no_read (suc zero) e = absurd (run.no_1 e)
-  refuses bytes is other no_read (suc (suc zero)) e = absurd (run.words e)
-  refuses bytes is other no_read (suc (suc (suc zero))) e = inl e
-  refuses bytes is other no_read (suc (suc (suc (suc zero)))) e = absurd (no_read (run.read_fault e))
-  refuses bytes is other no_read (suc (suc (suc (suc (suc zero))))) e =
-      absurd (not_made task source bytes is (run.front e).output other (run.front e).made)
-  refuses bytes is other no_read (suc (suc (suc (suc (suc (suc zero)))))) e = inr e
-  refuses bytes is other no_read (suc (suc (suc (suc (suc (suc (suc n))))))) e =
+  refuses bytes is other no_read no_write zero e = absurd (not_made task source bytes is (run.done e).output other (run.done e).made)
+  refuses bytes is other no_read no_write (suc zero) e = absurd (run.no_1 e)
+  refuses bytes is other no_read no_write (suc (suc zero)) e = absurd (run.words e)
+  refuses bytes is other no_read no_write (suc (suc (suc zero))) e = inl e
+  refuses bytes is other no_read no_write (suc (suc (suc (suc zero)))) e = absurd (no_read (run.read_fault e))
+  refuses bytes is other no_read no_write (suc (suc (suc (suc (suc zero))))) e =
+      absurd (no_front bytes is other no_write (run.write_fault e) (is_stream task) refl (run.front e))
+  refuses bytes is other no_read no_write (suc (suc (suc (suc (suc (suc zero)))))) e = inr e
+  refuses bytes is other no_read no_write (suc (suc (suc (suc (suc (suc (suc n))))))) e =
       let few = run.statuses in absurd (omega (arith, e, few))
 
   -- a run is complete
   pub complete : IsComplete task source sink outcome
   complete = record {
     answered = λ bytes is short input no_read no_write. answered bytes is short input no_read no_write outcome.status refl;
-    refused = λ bytes is other no_read. refuses bytes is other no_read outcome.status refl;
+    refused = λ bytes is other no_read no_write. refuses bytes is other no_read no_write outcome.status refl;
   }

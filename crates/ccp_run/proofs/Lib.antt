@@ -1,6 +1,8 @@
 mod FoldLemmas
 mod RunLemmas
+mod FeedRunLemmas
 pub mod SettledInputs
 mod CompleteRuns
 pub mod ReadLemmas
-mod CampaignLemmas
+pub mod CampaignLemmas
+mod SettledScenes

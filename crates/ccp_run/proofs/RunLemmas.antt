@@ -1,20 +1,22 @@
 -- A run's promises, from what its mode came to and how it then ended.
-use Rattle.std.proofs.Common.{◌≡◌, ◌≢◌, ◌≤◌, ◌⊎◌, inl, inr, ◌∙◌, ℕ, zero, suc, ◌+◌, Bool, true, false, subst, Some, None, Result, Ok, Err, List, [], length, arith, ap, sym, refl, append-nil}
-use Rattle.ccp_base.specs.Outside.{Known, Rose, Takes, TakesOver, TakesWithin, Appends}
+use Rattle.std.proofs.Common.{◌≡◌, ◌≢◌, ◌≤◌, ◌⊎◌, inl, inr, ◌∙◌, ℕ, zero, suc, ◌+◌, Bool, true, false, subst, Some, None, Result, Ok, Err, List, [], ◌++◌, length, arith, ap, sym, refl, append-nil}
+use Rattle.ccp_base.specs.Outside.{Known, Rose, Takes, TakesOver, TakesWithin, Appends, AppendsPrefix}
+use Rattle.ccp_words.specs.declared.mode.Alone.TheVariants.{Check, Fold, Feed, Audit}
+use Rattle.ccp_run.specs.Tasks.{Task, Alone, Live, Campaign, Soak, Rollout, Shared}
+use Rattle.feed_core.proofs.FeedBegins.{no-answers}
 use Rattle.ccp_run.specs.declared.outcome.ModeOutput.{ModeOutput}
 use Rattle.ccp_run.specs.declared.outcome.Outcome.{Outcome}
 use Rattle.ccp_run.specs.declared.refusal.Refusal.{Refusal}
 use Rattle.ccp_run.specs.declared.status.Status.TheVariants as status
 use Rattle.ccp_run.specs.declared.stop.Stop.{Stop}
 use Rattle.ccp_run.specs.declared.stop.Stop.TheVariants as stop
-use Rattle.ccp_run.specs.Attempts.{IsAttempt, MakesOutput, RefusesInput, FailsToRead, WantsMemory}
-use Rattle.ccp_run.specs.Endings.{Ends, IsEnding, Writes, Refuses}
+use Rattle.ccp_run.specs.Attempts.{IsAttempt, MakesOutput, RefusesInput, RefusesAny, FailsToRead, WantsMemory}
+use Rattle.ccp_run.specs.Endings.{Ends, IsEnding, Writes, WritesAll, Refuses}
 use Rattle.ccp_run.specs.ErrorLine.{refusal_line}
-use Rattle.ccp_run.specs.Modes.{limit_in, limit_of, is_read}
-use Rattle.ccp_run.specs.Run.{IsRun, TellsRefusal, WritesAnswers}
-use Rattle.ccp_run.specs.Statuses.{read_line, memory_line}
+use Rattle.ccp_run.specs.Modes.{limit_in, limit_of, is_read, is_stream, answers_before, GoesOn}
+use Rattle.ccp_run.specs.Run.{IsRun, TellsRefusal, WritesFront, WritesAnyFront, WritesAnswers, WritesSomeAnswers, TakesOpen}
+use Rattle.ccp_run.specs.Statuses.{read_line, write_line, memory_line}
 use Rattle.ccp_run.specs.Streams.{Stream, HasInput, IsLeft, Tells}
-use Rattle.ccp_run.specs.Tasks.{Task}
 
 appends_nothing : (old new : Known) → new ≡ old → Appends old new []
 appends_nothing None new same = same
@@ -27,7 +29,7 @@ takes_nothing old (Some left) same = sym same
 pub untouched_within : (limit : ℕ) (old new : Known) → new ≡ old → TakesWithin limit old new
 untouched_within limit old new same = record { taken = []; takes = takes_nothing old new same; within = omega arith }
 
-one_more : (limit : ℕ) (old new : Known) → TakesWithin limit old new → TakesWithin (limit + 1) old new
+pub one_more : (limit : ℕ) (old new : Known) → TakesWithin limit old new → TakesWithin (limit + 1) old new
 one_more limit old new few = record { taken = few.taken; takes = few.takes; within = let w = few.within in omega (arith, w) }
 
 within_of : (task : Task) (source : Stream) (bytes : List ℕ) (read : Bool) → HasInput read source bytes → length bytes ≤ limit_of task → TakesWithin (limit_of task) source.old source.new
@@ -46,84 +48,80 @@ left_alone : (read : Bool) (source : Stream) → source.new ≡ source.old → I
 left_alone true source same = tt
 left_alone false source same = same
 
-pub untouched : (task : Task) (source : Stream) → source.new ≡ source.old → WantsMemory task source
-untouched task source same = record {
-  left = left_alone (is_read task) source same;
-  within = untouched_within (limit_of task) source.old source.new same;
-}
+is_zero : (n : ℕ) → (n ≡ 0) ⊎ (n ≢ 0)
+is_zero zero = inl refl
+is_zero (suc n) = inr (λ e. omega (arith, e))
 
-zero_or_five : (P : ℕ → Type 0) (n : ℕ) → (n ≢ 0 → n ≡ 5) → P 0 → P 5 → P n
-zero_or_five P zero five at0 at5 = at0
-zero_or_five P (suc n) five at0 at5 = subst P (sym (five (λ e. omega (arith, e)))) at5
-
-is_three : (n : ℕ) → (n ≡ 3) ⊎ (n ≢ 3)
+pub is_three : (n : ℕ) → (n ≡ 3) ⊎ (n ≢ 3)
 is_three zero = inr (λ e. omega (arith, e))
 is_three (suc zero) = inr (λ e. omega (arith, e))
 is_three (suc (suc zero)) = inr (λ e. omega (arith, e))
 is_three (suc (suc (suc zero))) = inl refl
 is_three (suc (suc (suc (suc n)))) = inr (λ e. omega (arith, e))
 
+-- no bytes have no answers, in any mode
+nothing_before : (task : Task) → answers_before task [] ≡ []
+nothing_before (Alone Check) = refl
+nothing_before (Alone Fold) = refl
+nothing_before (Alone Feed) = no-answers
+nothing_before (Alone Audit) = refl
+nothing_before (Live wire) = refl
+nothing_before (Campaign wire) = refl
+nothing_before (Soak number) = refl
+nothing_before Rollout = refl
+nothing_before Shared = refl
+
+-- a mode that isn't a stream has no answers
+none_before : (task : Task) (bytes : List ℕ) → is_stream task ≡ false → answers_before task bytes ≡ []
+none_before (Alone Check) bytes plain = refl
+none_before (Alone Fold) bytes plain = refl
+none_before (Alone Feed) bytes plain = let bad : ⊥ = cc in absurd bad
+none_before (Alone Audit) bytes plain = refl
+none_before (Live wire) bytes plain = refl
+none_before (Campaign wire) bytes plain = refl
+none_before (Soak number) bytes plain = refl
+none_before Rollout bytes plain = refl
+none_before Shared bytes plain = refl
+
+goes_on : (task : Task) (bytes : List ℕ) → is_stream task ≡ false → GoesOn task bytes
+goes_on (Alone Check) bytes plain = tt
+goes_on (Alone Fold) bytes plain = tt
+goes_on (Alone Feed) bytes plain = let bad : ⊥ = cc in absurd bad
+goes_on (Alone Audit) bytes plain = tt
+goes_on (Live wire) bytes plain = tt
+goes_on (Campaign wire) bytes plain = tt
+goes_on (Soak number) bytes plain = tt
+goes_on Rollout bytes plain = tt
+goes_on Shared bytes plain = tt
+
 module _ (task : Task) (source sink errors : Stream) (is_finished : Type 0) (outcome : Outcome) where
-  answers : TakesWithin (limit_of task) source.old source.new → sink.new ≡ sink.old → WritesAnswers task source sink
-  answers few same = record { taken = few.taken; takes = few.takes; answers = appends_nothing sink.old sink.new same }
-
-  answers_over : TakesOver (limit_of task) source.old source.new → sink.new ≡ sink.old → WritesAnswers task source sink
-  answers_over over same = record { taken = over.taken; takes = over.takes; answers = appends_nothing sink.old sink.new same }
-
-  -- the output was made, and written or not
-  written : (output : ModeOutput) → MakesOutput task source output → Writes sink errors is_finished outcome output → IsRun task source sink errors is_finished outcome
-  written output made w =
-      let few = within_of task source made.bytes (is_read task) made.read made.short in
-      record {
-        done = λ is. record { output = output; made = made; written = w.whole is };
-        refused = λ is. absurd (other 3 is (λ e. omega (arith, e)) (λ e. omega (arith, e)));
-        read_fault = λ is. absurd (other 4 is (λ e. omega (arith, e)) (λ e. omega (arith, e)));
-        told_read = λ is. absurd (other 4 is (λ e. omega (arith, e)) (λ e. omega (arith, e)));
-        write_fault = λ is. (w.failed (not_done 5 is (λ e. omega (arith, e)))).rose;
-        front = λ is. record { output = output; made = made; front = (w.failed (not_done 5 is (λ e. omega (arith, e)))).front };
-        told_write = λ is. (w.failed (not_done 5 is (λ e. omega (arith, e)))).ends.told;
-        told_memory = λ is. absurd (other 6 is (λ e. omega (arith, e)) (λ e. omega (arith, e)));
-        within = λ _. few;
-        most = one_more (limit_of task) source.old source.new few;
-        left = left_of source made.bytes (is_read task) made.read;
-        nothing = λ is0 is5. absurd (is5 (w.failed is0).ends.status);
-        programs = λ is0. (w.failed is0).ends.programs;
-        ran = λ is0. (w.failed is0).ends.ran;
-        statuses = zero_or_five (λ n. n ≤ 6) outcome.status (λ is0. (w.failed is0).ends.status) (omega arith) (omega arith);
-        no_1 = zero_or_five (λ n. n ≢ 1) outcome.status (λ is0. (w.failed is0).ends.status) (λ e. omega (arith, e)) (λ e. omega (arith, e));
-        words = zero_or_five (λ n. n ≢ 2) outcome.status (λ is0. (w.failed is0).ends.status) (λ e. omega (arith, e)) (λ e. omega (arith, e));
-      }
-    where
-      not_done : (n : ℕ) → outcome.status ≡ n → n ≢ 0 → outcome.status ≢ 0
-      not_done n is other is0 = other (sym is ∙ is0)
-
-      other : (n : ℕ) → outcome.status ≡ n → n ≢ 0 → n ≢ 5 → ⊥
-      other n is no0 no5 = no5 (sym is ∙ (w.failed (not_done n is no0)).ends.status)
-
-  -- there was no output, and the run ended with this status
-  ended : (n : ℕ) → outcome.status ≡ n → n ≢ 0 → n ≢ 5 → n ≢ 1 → n ≢ 2 → n ≤ 6
+  -- there was no whole output, and the run ended with this status
+  pub ended : (n : ℕ) → outcome.status ≡ n → n ≢ 0 → n ≢ 1 → n ≢ 2 → n ≤ 6
       → outcome.programs ≡ [] → outcome.ran ≡ 0
       → (n ≡ 3 → TellsRefusal task source errors)
-      → (n ≡ 4 → Rose source.before source.now) → (n ≡ 4 → Tells errors read_line)
-      → (n ≡ 6 → Tells errors memory_line)
+      → (n ≡ 4 → Rose source.before source.now × TakesOpen task source × Tells errors read_line)
+      → (n ≡ 5 → Rose sink.before sink.now × WritesAnyFront (is_stream task) task source sink × Tells errors write_line)
+      → (n ≡ 6 → Tells errors memory_line × WritesSomeAnswers task source sink)
       → (n ≢ 3 → TakesWithin (limit_of task) source.old source.new)
       → TakesWithin (limit_of task + 1) source.old source.new
       → IsLeft (is_read task) source
-      → WritesAnswers task source sink
+      → (n ≢ 5 → n ≢ 6 → WritesAnswers task source sink)
       → IsRun task source sink errors is_finished outcome
-  ended n is no0 no5 no1 no2 below programs ran refused rose told_read told_memory within most left nothing = record {
+  ended n is no0 no1 no2 below programs ran refused read write memory within most left nothing = record {
     done = λ at. absurd (no0 (sym is ∙ at));
     refused = λ at. refused (sym is ∙ at);
-    read_fault = λ at. rose (sym is ∙ at);
-    told_read = λ at. told_read (sym is ∙ at);
-    write_fault = λ at. absurd (no5 (sym is ∙ at));
-    front = λ at. absurd (no5 (sym is ∙ at));
-    told_write = λ at. absurd (no5 (sym is ∙ at));
-    told_memory = λ at. told_memory (sym is ∙ at);
+    read_fault = λ at. (read (sym is ∙ at)).0;
+    read_open = λ at. (read (sym is ∙ at)).1;
+    told_read = λ at. (read (sym is ∙ at)).2;
+    write_fault = λ at. (write (sym is ∙ at)).0;
+    front = λ at. (write (sym is ∙ at)).1;
+    told_write = λ at. (write (sym is ∙ at)).2;
+    told_memory = λ at. (memory (sym is ∙ at)).0;
     within = λ other. within (λ at. other (is ∙ at));
     most = most;
     left = left;
-    nothing = λ _ _. nothing;
+    nothing = λ _ not5 not6. nothing (λ at. not5 (is ∙ at)) (λ at. not6 (is ∙ at));
+    nothing_more = λ at. (memory (sym is ∙ at)).1;
     programs = λ _. programs;
     ran = λ _. ran;
     statuses = let e = is in omega (arith, e, below);
@@ -131,37 +129,144 @@ module _ (task : Task) (source sink errors : Stream) (is_finished : Type 0) (out
     words = λ at. no2 (sym is ∙ at);
   }
 
-  pub wants_memory : WantsMemory task source → sink.new ≡ sink.old → Ends errors outcome status.NoMemory memory_line → IsRun task source sink errors is_finished outcome
-  wants_memory wants same e =
-      ended 6 e.status (λ a. omega (arith, a)) (λ a. omega (arith, a)) (λ a. omega (arith, a)) (λ a. omega (arith, a)) (omega arith)
-      e.programs e.ran (λ a. absurd (omega (arith, a))) (λ a. absurd (omega (arith, a))) (λ a. absurd (omega (arith, a))) (λ _. e.told)
-      (λ _. wants.within) (one_more (limit_of task) source.old source.new wants.within) wants.left (answers wants.within same)
+  -- memory was wanted, and these are the answers
+  pub ends_wanting : TakesWithin (limit_of task) source.old source.new → IsLeft (is_read task) source → WritesSomeAnswers task source sink → Ends errors outcome status.NoMemory memory_line
+      → IsRun task source sink errors is_finished outcome
+  ends_wanting few left some e =
+      ended 6 e.status (λ a. omega (arith, a)) (λ a. omega (arith, a)) (λ a. omega (arith, a)) (omega arith)
+      e.programs e.ran (λ a. absurd (omega (arith, a))) (λ a. absurd (omega (arith, a))) (λ a. absurd (omega (arith, a))) (λ _. (e.told, some))
+      (λ _. few) (one_more (limit_of task) source.old source.new few) left (λ _ not6. absurd (not6 refl))
+
+  -- the refusal was told
+  pub ends_refused : (refusal : Refusal) → RefusesAny (is_stream task) task source refusal → TakesWithin (limit_of task + 1) source.old source.new → IsLeft (is_read task) source → WritesAnswers task source sink
+      → Ends errors outcome status.InputRefused (refusal_line refusal)
+      → IsRun task source sink errors is_finished outcome
+  ends_refused refusal cause most left answers e =
+      ended 3 e.status (λ a. omega (arith, a)) (λ a. omega (arith, a)) (λ a. omega (arith, a)) (omega arith)
+      e.programs e.ran (λ _. record { refusal = refusal; refused = cause; told = e.told })
+      (λ a. absurd (omega (arith, a))) (λ a. absurd (omega (arith, a))) (λ a. absurd (omega (arith, a)))
+      (λ other. absurd (other refl)) most left (λ _ _. answers)
+
+  -- a read failed
+  pub ends_unread : Rose source.before source.now → TakesOpen task source → TakesWithin (limit_of task) source.old source.new → IsLeft (is_read task) source → WritesAnswers task source sink
+      → Ends errors outcome status.ReadFailed read_line
+      → IsRun task source sink errors is_finished outcome
+  ends_unread rose open_so_far few left answers e =
+      ended 4 e.status (λ a. omega (arith, a)) (λ a. omega (arith, a)) (λ a. omega (arith, a)) (omega arith)
+      e.programs e.ran (λ a. absurd (omega (arith, a))) (λ _. (rose, open_so_far, e.told)) (λ a. absurd (omega (arith, a))) (λ a. absurd (omega (arith, a)))
+      (λ _. few) (one_more (limit_of task) source.old source.new few) left (λ _ _. answers)
+
+  -- a write failed
+  pub ends_unwritten : Rose sink.before sink.now → WritesAnyFront (is_stream task) task source sink → TakesWithin (limit_of task) source.old source.new → IsLeft (is_read task) source
+      → Ends errors outcome status.WriteFailed write_line
+      → IsRun task source sink errors is_finished outcome
+  ends_unwritten rose front few left e =
+      ended 5 e.status (λ a. omega (arith, a)) (λ a. omega (arith, a)) (λ a. omega (arith, a)) (omega arith)
+      e.programs e.ran (λ a. absurd (omega (arith, a))) (λ a. absurd (omega (arith, a))) (λ _. (rose, front, e.told)) (λ a. absurd (omega (arith, a)))
+      (λ _. few) (one_more (limit_of task) source.old source.new few) left (λ not5 _. absurd (not5 refl))
+
+  -- the whole output was written, and the sink finished
+  pub ends_done : (output : ModeOutput) → MakesOutput task source output → WritesAll sink errors is_finished outcome output → outcome.status ≡ 0
+      → IsRun task source sink errors is_finished outcome
+  ends_done output made written is =
+      let few = within_of task source made.bytes (is_read task) made.read made.short in
+      record {
+        done = λ _. record { output = output; made = made; written = written };
+        refused = λ at. absurd (other 3 at (λ e. omega (arith, e)));
+        read_fault = λ at. absurd (other 4 at (λ e. omega (arith, e)));
+        read_open = λ at. absurd (other 4 at (λ e. omega (arith, e)));
+        told_read = λ at. absurd (other 4 at (λ e. omega (arith, e)));
+        write_fault = λ at. absurd (other 5 at (λ e. omega (arith, e)));
+        front = λ at. absurd (other 5 at (λ e. omega (arith, e)));
+        told_write = λ at. absurd (other 5 at (λ e. omega (arith, e)));
+        told_memory = λ at. absurd (other 6 at (λ e. omega (arith, e)));
+        within = λ _. few;
+        most = one_more (limit_of task) source.old source.new few;
+        left = left_of source made.bytes (is_read task) made.read;
+        nothing = λ not0 _ _. absurd (not0 is);
+        nothing_more = λ at. absurd (other 6 at (λ e. omega (arith, e)));
+        programs = λ not0. absurd (not0 is);
+        ran = λ not0. absurd (not0 is);
+        statuses = let e = is in omega (arith, e);
+        no_1 = λ at. other 1 at (λ e. omega (arith, e));
+        words = λ at. other 2 at (λ e. omega (arith, e));
+      }
+    where
+      other : (n : ℕ) → outcome.status ≡ n → n ≢ 0 → ⊥
+      other n at no0 = no0 (sym at ∙ is)
+
+  -- memory was wanted before anything was read
+  pub wants_at_once : source.new ≡ source.old → sink.new ≡ sink.old → Ends errors outcome status.NoMemory memory_line → IsRun task source sink errors is_finished outcome
+  wants_at_once same quiet e =
+      ends_wanting (untouched_within (limit_of task) source.old source.new same) (left_alone (is_read task) source same)
+      (record {
+        front = [];
+        rest = [];
+        later = [];
+        takes = takes_nothing source.old source.new same;
+        answers = subst (Appends sink.old sink.new) (sym (nothing_before task)) (appends_nothing sink.old sink.new quiet);
+        begins = sym (append-nil (answers_before task []));
+      })
+      e
+
+-- where the mode reads its source to the end before it writes
+module _ (task : Task) (plain : is_stream task ≡ false) (source sink errors : Stream) (is_finished : Type 0) (outcome : Outcome) where
+  answers : (taken : List ℕ) → Takes source.old source.new taken → sink.new ≡ sink.old → WritesAnswers task source sink
+  answers taken takes same = record {
+    taken = taken;
+    takes = takes;
+    answers = subst (Appends sink.old sink.new) (sym (none_before task taken plain)) (appends_nothing sink.old sink.new same);
+  }
+
+  some_answers : TakesWithin (limit_of task) source.old source.new → sink.new ≡ sink.old → WritesSomeAnswers task source sink
+  some_answers few same = record {
+    front = few.taken;
+    rest = [];
+    later = [];
+    takes = subst (Takes source.old source.new) (sym (append-nil few.taken)) few.takes;
+    answers = subst (Appends sink.old sink.new) (sym (none_before task few.taken plain)) (appends_nothing sink.old sink.new same);
+    begins = ap (answers_before task) (append-nil few.taken) ∙ sym (append-nil (answers_before task few.taken));
+  }
+
+  plain_cause : (refusal : Refusal) → RefusesInput task source refusal → RefusesAny (is_stream task) task source refusal
+  plain_cause refusal cause = subst (λ (b : Bool). RefusesAny b task source refusal) (sym plain) cause
+
+  plain_front : WritesFront task source sink → WritesAnyFront (is_stream task) task source sink
+  plain_front front = subst (λ (b : Bool). WritesAnyFront b task source sink) (sym plain) front
+
+  -- the output was made, and written or not
+  written_or_not : (output : ModeOutput) → MakesOutput task source output → Writes sink errors is_finished outcome output → (outcome.status ≡ 0) ⊎ (outcome.status ≢ 0)
+      → IsRun task source sink errors is_finished outcome
+  written_or_not output made w (inl is) = ends_done task source sink errors is_finished outcome output made (w.whole is) is
+  written_or_not output made w (inr not) =
+      let failed = w.failed not in
+      ends_unwritten task source sink errors is_finished outcome failed.rose
+      (plain_front (record { output = output; made = made; front = failed.front }))
+      (within_of task source made.bytes (is_read task) made.read made.short) (left_of source made.bytes (is_read task) made.read) failed.ends
+
+  wants_memory : WantsMemory task source → sink.new ≡ sink.old → Ends errors outcome status.NoMemory memory_line → IsRun task source sink errors is_finished outcome
+  wants_memory wants same e = ends_wanting task source sink errors is_finished outcome wants.within wants.left (some_answers wants.within same) e
 
   read_failed : FailsToRead task source → sink.new ≡ sink.old → Ends errors outcome status.ReadFailed read_line → IsRun task source sink errors is_finished outcome
   read_failed failed same e =
-      ended 4 e.status (λ a. omega (arith, a)) (λ a. omega (arith, a)) (λ a. omega (arith, a)) (λ a. omega (arith, a)) (omega arith)
-      e.programs e.ran (λ a. absurd (omega (arith, a))) (λ _. failed.rose) (λ _. e.told) (λ a. absurd (omega (arith, a)))
-      (λ _. failed.within) (one_more (limit_of task) source.old source.new failed.within) (is_left (is_read task) source failed.reads) (answers failed.within same)
-
-  told_refusal : (refusal : Refusal) → RefusesInput task source refusal → TakesWithin (limit_of task + 1) source.old source.new → IsLeft (is_read task) source → WritesAnswers task source sink → Ends errors outcome status.InputRefused (refusal_line refusal)
-      → IsRun task source sink errors is_finished outcome
-  told_refusal refusal cause most left nothing e =
-      ended 3 e.status (λ a. omega (arith, a)) (λ a. omega (arith, a)) (λ a. omega (arith, a)) (λ a. omega (arith, a)) (omega arith)
-      e.programs e.ran (λ _. record { refusal = refusal; refused = cause; told = e.told }) (λ a. absurd (omega (arith, a))) (λ a. absurd (omega (arith, a))) (λ a. absurd (omega (arith, a)))
-      (λ other. absurd (other refl)) most left nothing
+      ends_unread task source sink errors is_finished outcome failed.rose
+      (record { taken = failed.within.taken; takes = failed.within.takes; goes_on = goes_on task failed.within.taken plain })
+      failed.within (is_left (is_read task) source failed.reads) (answers failed.within.taken failed.within.takes same) e
 
   refused_or_not : (refusal : Refusal) → RefusesInput task source refusal → sink.new ≡ sink.old → Refuses errors outcome refusal → (outcome.status ≡ 3) ⊎ (outcome.status ≢ 3) → IsRun task source sink errors is_finished outcome
   refused_or_not refusal (inl length) same r which =
-      told_refusal refusal (inl length) length.most (is_left (is_read task) source length.reads) (answers_over length.over same) (r.told (r.too_long (limit_in task) length.cause))
+      ends_refused task source sink errors is_finished outcome refusal (plain_cause refusal (inl length)) length.most (is_left (is_read task) source length.reads) (answers length.over.taken length.over.takes same)
+      (r.told (r.too_long (limit_in task) length.cause))
   refused_or_not refusal (inr bytes) same r (inl three) =
       let few = within_of task source bytes.bytes (is_read task) bytes.read bytes.short in
-      told_refusal refusal (inr bytes) (one_more (limit_of task) source.old source.new few) (left_of source bytes.bytes (is_read task) bytes.read) (answers few same) (r.told three)
+      ends_refused task source sink errors is_finished outcome refusal (plain_cause refusal (inr bytes)) (one_more (limit_of task) source.old source.new few) (left_of source bytes.bytes (is_read task) bytes.read)
+      (answers few.taken few.takes same) (r.told three)
   refused_or_not refusal (inr bytes) same r (inr other) =
       wants_memory (record { left = left_of source bytes.bytes (is_read task) bytes.read; within = within_of task source bytes.bytes (is_read task) bytes.read bytes.short }) same (r.failed other)
 
   -- a run of a mode
   pub run_of : (made : Result ModeOutput Stop) → IsAttempt task source made → IsEnding sink errors is_finished outcome made → IsRun task source sink errors is_finished outcome
-  run_of (Ok output) attempt ending = written output attempt ending
+  run_of (Ok output) attempt ending = written_or_not output attempt ending (is_zero outcome.status)
   run_of (Err (stop.Refused refusal)) attempt ending = refused_or_not refusal attempt ending.0 ending.1 (is_three outcome.status)
   run_of (Err stop.ReadFailed) attempt ending = read_failed attempt ending.0 ending.1
   run_of (Err stop.NoMemory) attempt ending = wants_memory attempt ending.0 ending.1

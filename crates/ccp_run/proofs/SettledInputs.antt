@@ -2,7 +2,7 @@
 use Rattle.std.proofs.Common.{◌≡◌, ◌≢◌, ◌∙◌, ◌⊎◌, inl, inr, ℕ, ◌+◌, Bool, true, false, nat_lt, cond, refl, List, [], ◌∷◌, ◌++◌, length, Option, Some, None, Result, Ok, Err, ap, sym, subst}
 use Rattle.ccp_base.specs.declared.ack.Ack.{Ack}
 use Rattle.ccp_base.specs.declared.parts.Separator.TheVariants.{LineFeed}
-use Rattle.ccp_base.specs.Limits.{most_acks}
+use Rattle.ccp_base.specs.Limits.{most_acks, most_input_bytes}
 use Rattle.ccp_base.specs.Parts.{parts_of, without_last}
 use Rattle.portus_core.specs.Programs.{Form}
 use Rattle.portus_core.specs.ProgramForm.{form_of}
@@ -17,11 +17,19 @@ use Rattle.fold_run.specs.declared.acks.LineFault.{LineFault}
 use Rattle.fold_run.specs.declared.acks.LineFault.TheVariants as lines
 use Rattle.fold_run.specs.Acknowledgements.{with_line, with_lines}
 use Rattle.fold_run.specs.Separated.{Cut, cut_of}
+use Rattle.feed_core.specs.declared.ending.FeedEnd.{FeedEnd}
+use Rattle.feed_core.specs.declared.ending.FeedEnd.TheVariants as ends
+use Rattle.feed_core.specs.FeedBytes.{Tail, feed_of}
+use Rattle.feed_core.specs.FeedBytes as feeds
+use Rattle.feed_core.specs.FeedEnds.{end_from, end_of}
+use Rattle.ccp_run.specs.declared.refusal.Limit.TheVariants.{Input, Audit}
 use Rattle.ccp_run.specs.declared.refusal.Refusal.{Refusal}
-use Rattle.ccp_run.specs.declared.refusal.Refusal.TheVariants.{TooLong, NoSeparator, Program, Line, TooManyAcks}
+use Rattle.ccp_run.specs.declared.refusal.Refusal.TheVariants.{TooLong, NoSeparator, Program, Line, TooManyAcks, Frame, FrameCut}
 use Rattle.ccp_run.specs.Check.{IsNoCheck}
+use Rattle.ccp_run.specs.FeedRuns.{IsNoFeed}
 use Rattle.ccp_run.specs.Fold.{acks_below, IsFold, HasNoProgram, HasBadLines, IsNoFold}
 use Rattle.ccp_run.specs.Settled.{is_there, IsInput, IsSettled}
+use Rattle.ccp_run.proofs.SettledScenes.{settled_campaign, settled_soak}
 
 -- ---- check
 
@@ -31,6 +39,8 @@ only_program bytes NoSeparator bad = absurd bad
 only_program bytes (Program fault) bad = (fault, bad, refl)
 only_program bytes (Line n) bad = absurd bad
 only_program bytes TooManyAcks bad = absurd bad
+only_program bytes (Frame field place) bad = absurd bad
+only_program bytes (FrameCut place) bad = absurd bad
 
 check_some : (bytes : List ℕ) → ((form : Form) × IsBuiltFrom bytes form) ⊎ ((fault : BuildFault) × IsNoProgram bytes fault) → IsInput (Alone Check) bytes ⊎ ((refusal : Refusal) × IsNoCheck bytes refusal)
 check_some bytes (inl built) = inl built
@@ -106,10 +116,16 @@ module _ (bytes : List ℕ) where
       let same : Ok acks ≡ Err (lines.Line n) = one_lines input.cut bad.cut (Ok acks) (Err (lines.Line n)) input.at_separator bad.at_separator input.lines bad.refused in cc
   fold_apart form acks TooManyAcks input bad =
       let same : Ok acks ≡ Err lines.TooMany = one_lines input.cut bad.cut (Ok acks) (Err lines.TooMany) input.at_separator bad.at_separator input.lines bad.refused in cc
+  fold_apart form acks (Frame field place) input bad = bad
+  fold_apart form acks (FrameCut place) input bad = bad
 
   fold_one : (left right : Refusal) → IsNoFold bytes left → IsNoFold bytes right → left ≡ right
   fold_one (TooLong limit) right bad bad' = absurd bad
   fold_one left (TooLong limit) bad bad' = absurd bad'
+  fold_one (Frame field place) right bad bad' = absurd bad
+  fold_one left (Frame field place) bad bad' = absurd bad'
+  fold_one (FrameCut place) right bad bad' = absurd bad
+  fold_one left (FrameCut place) bad bad' = absurd bad'
   fold_one NoSeparator NoSeparator bad bad' = refl
   fold_one NoSeparator (Program fault) bad bad' = absurd (no_cut bad'.cut bad bad'.at_separator)
   fold_one NoSeparator (Line n) bad bad' = absurd (no_cut bad'.cut bad bad'.at_separator)
@@ -150,14 +166,47 @@ module _ (bytes : List ℕ) where
     made = λ output made. (made.form, made.acks, made.input);
   }
 
+-- ---- feed
+
+-- the end of a feed as the refusal that tells it, or none where the input is whole
+abbrev refusal_of : FeedEnd → Option Refusal
+refusal_of (ends.Bad field place) = Some (Frame field place)
+refusal_of (ends.Cut place) = Some (FrameCut place)
+refusal_of ends.TooLong = Some (TooLong Input)
+refusal_of _ = None
+
+no_feed : (bytes : List ℕ) (refusal : Refusal) → IsNoFeed bytes refusal → refusal_of (end_of bytes) ≡ Some refusal
+no_feed bytes (TooLong Input) is = ap refusal_of is
+no_feed bytes (TooLong Audit) is = absurd is
+no_feed bytes NoSeparator is = absurd is
+no_feed bytes (Program fault) is = absurd is
+no_feed bytes (Line n) is = absurd is
+no_feed bytes TooManyAcks is = absurd is
+no_feed bytes (Frame field place) is = ap refusal_of is
+no_feed bytes (FrameCut place) is = ap refusal_of is
+
+feed_some : (bytes : List ℕ) (tail : Tail) (longer : Bool) → end_of bytes ≡ end_from tail longer → IsInput (Alone Feed) bytes ⊎ ((refusal : Refusal) × IsNoFeed bytes refusal)
+feed_some bytes (feeds.bad field place) longer is = inr (Frame field place, is)
+feed_some bytes (feeds.left place rest) true is = inr (TooLong Input, is)
+feed_some bytes (feeds.left place []) false is = inl is
+feed_some bytes (feeds.left place (byte ∷ rest)) false is = inr (FrameCut place, is)
+
+settled_feed : (bytes : List ℕ) → IsSettled (Alone Feed) bytes
+settled_feed bytes = record {
+  some = feed_some bytes (feed_of bytes).tail (nat_lt most_input_bytes (length bytes)) refl;
+  apart = λ refusal input bad. let same : None ≡ Some refusal = sym (ap refusal_of input) ∙ no_feed bytes refusal bad in cc;
+  one_refusal = λ left right bad bad'. let same : Some left ≡ Some right = sym (no_feed bytes left bad) ∙ no_feed bytes right bad' in cc;
+  made = λ output made. made.whole;
+}
+
 -- every input is settled
 pub settled_input : (task : Task) (bytes : List ℕ) → is_there task ≡ true → IsSettled task bytes
 settled_input (Alone Check) bytes there = settled_check bytes
 settled_input (Alone Fold) bytes there = settled_fold bytes
-settled_input (Alone Feed) bytes there = let bad : ⊥ = cc in absurd bad
+settled_input (Alone Feed) bytes there = settled_feed bytes
 settled_input (Alone Audit) bytes there = let bad : ⊥ = cc in absurd bad
 settled_input (Live wire) bytes there = let bad : ⊥ = cc in absurd bad
-settled_input (Campaign wire) bytes there = let bad : ⊥ = cc in absurd bad
-settled_input (Soak number) bytes there = let bad : ⊥ = cc in absurd bad
+settled_input (Campaign wire) bytes there = settled_campaign wire bytes
+settled_input (Soak number) bytes there = settled_soak number bytes
 settled_input Rollout bytes there = let bad : ⊥ = cc in absurd bad
 settled_input Shared bytes there = let bad : ⊥ = cc in absurd bad

@@ -1,6 +1,6 @@
 -- What a mode came to before anything was written: its output, or why there is none.
-use Rattle.std.specs.Prelude.{◌≡◌, ◌≤◌, ◌⊎◌, ℕ, ◌+◌, true, Result, Ok, Err, List, length}
-use Rattle.ccp_base.specs.Outside.{Rose, TakesOver, TakesWithin}
+use Rattle.std.specs.Prelude.{◌≡◌, ◌≤◌, ◌⊎◌, ℕ, ◌+◌, Bool, true, false, Result, Ok, Err, List, ◌++◌, length}
+use Rattle.ccp_base.specs.Outside.{Rose, Takes, TakesOver, TakesWithin}
 use Rattle.ccp_run.specs.declared.outcome.ModeOutput.{ModeOutput}
 use Rattle.ccp_run.specs.declared.refusal.Limit.{Limit}
 use Rattle.ccp_run.specs.declared.refusal.Refusal.{Refusal}
@@ -43,6 +43,17 @@ pub record RefusesLength (task : Task) (source : Stream) (refusal : Refusal) : T
 -- an input past the limit is refused as too long and as nothing else
 abbrev pub RefusesInput : Task → Stream → Refusal → Type 0
 RefusesInput task source refusal = RefusesLength task source refusal ⊎ RefusesBytes task source refusal
+
+-- what was taken of the input has this refusal, whatever follows
+pub record RefusesEarly (task : Task) (source : Stream) (refusal : Refusal) : Type 0 where
+  pub bytes : List ℕ
+  pub taken : Takes source.old source.new bytes
+  pub cause : (more : List ℕ) → IsRefused task (bytes ++ more) refusal
+
+-- whether the input is a stream that is answered as it comes, and how it is refused then or else
+abbrev pub RefusesAny : Bool → Task → Stream → Refusal → Type 0
+RefusesAny true task source refusal = RefusesEarly task source refusal ⊎ RefusesBytes task source refusal
+RefusesAny false task source refusal = RefusesInput task source refusal
 
 -- a read failed, before more bytes were taken than the limit
 pub record FailsToRead (task : Task) (source : Stream) : Type 0 where

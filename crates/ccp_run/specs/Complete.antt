@@ -5,7 +5,7 @@ use Rattle.ccp_run.specs.declared.outcome.Outcome.{Outcome}
 use Rattle.ccp_run.specs.declared.refusal.Refusal.{Refusal}
 use Rattle.ccp_run.specs.declared.status.Status.{Status}
 use Rattle.ccp_run.specs.declared.status.Status.TheVariants as status
-use Rattle.ccp_run.specs.Modes.{limit_of, is_read, IsRefused}
+use Rattle.ccp_run.specs.Modes.{limit_of, is_read, is_stream, IsRefused}
 use Rattle.ccp_run.specs.Settled.{IsInput}
 use Rattle.ccp_run.specs.Statuses.{number_of}
 use Rattle.ccp_run.specs.Streams.{Stream}
@@ -20,11 +20,11 @@ abbrev pub IsNoInput : Task → List ℕ → Type 0
 IsNoInput task bytes = ((is_read task ≡ true) × (limit_of task < length bytes)) ⊎ ((refusal : Refusal) × IsRefused task bytes refusal)
 
 -- where no count of faults rose, an input of the mode within the limit is answered by the mode's output, and every
--- other one is refused
+-- other one is refused; the sink's count matters to a refusal only where answers are written before it
 pub record IsComplete (task : Task) (source sink : Stream) (outcome : Outcome) : Type 0 where
   pub answered : (bytes : List ℕ) → source.old ≡ Some bytes → length bytes ≤ limit_of task → IsInput task bytes
       → (Rose source.before source.now → ⊥) → (Rose sink.before sink.now → ⊥)
       → EndsAs status.Done outcome
   pub refused : (bytes : List ℕ) → source.old ≡ Some bytes → IsNoInput task bytes
-      → (Rose source.before source.now → ⊥)
+      → (Rose source.before source.now → ⊥) → (is_stream task ≡ true → Rose sink.before sink.now → ⊥)
       → EndsAs status.InputRefused outcome

@@ -23,7 +23,7 @@ use Rattle.fold_run.specs.Ran.{ran_of}
 use Rattle.fold_run.specs.Separated.{Cut, cut_of}
 use Rattle.ccp_run.specs.declared.outcome.ModeOutput.{ModeOutput}
 use Rattle.ccp_run.specs.declared.refusal.Refusal.{Refusal}
-use Rattle.ccp_run.specs.declared.refusal.Refusal.TheVariants.{TooLong, NoSeparator, Program, Line, TooManyAcks, Scene}
+use Rattle.ccp_run.specs.declared.refusal.Refusal.TheVariants.{TooLong, NoSeparator, Program, Line, TooManyAcks, Scene, Frame, FrameCut}
 
 -- the acknowledgements of what stands below the separator, or the first fault among its lines
 abbrev pub acks_below : Cut → Result (List Ack) LineFault
@@ -90,3 +90,5 @@ IsNoFold bytes (Program fault) = HasNoProgram bytes fault
 IsNoFold bytes (Line n) = HasBadLines bytes (lines.Line n)
 IsNoFold bytes TooManyAcks = HasBadLines bytes lines.TooMany
 IsNoFold bytes (Scene fault) = ⊥
+IsNoFold bytes (Frame field place) = ⊥
+IsNoFold bytes (FrameCut place) = ⊥

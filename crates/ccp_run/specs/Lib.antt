@@ -3,12 +3,14 @@ pub mod Statuses
 pub mod ErrorLine
 pub mod Check
 pub mod Fold
+pub mod FeedRuns
 pub mod Scenes
 pub mod Campaign
 pub mod Tasks
 pub mod Modes
 pub mod Attempts
 pub mod Endings
+pub mod FeedEndings
 pub mod Run
 pub mod Complete
 pub mod Settled

@@ -7,10 +7,12 @@ use Rattle.ccp_run.specs.declared.refusal.Limit.{Limit}
 use Rattle.ccp_run.specs.declared.refusal.Limit.TheVariants as limit
 use Rattle.ccp_run.specs.declared.refusal.Refusal.{Refusal}
 use Rattle.ccp_run.specs.ErrorLine.{most_bytes}
+use Rattle.feed_core.specs.FeedEnds.{IsOpen, answers_of, end_of}
 use Rattle.scenario_json.specs.declared.mode.Mode.TheVariants as scene
 use Rattle.ccp_run.specs.Scenes.{IsNoScenario}
 use Rattle.ccp_run.specs.Campaign.{IsCampaignOutput, IsSoakOutput}
 use Rattle.ccp_run.specs.Check.{IsCheckOutput, IsNoCheck}
+use Rattle.ccp_run.specs.FeedRuns.{IsFeedOutput, IsNoFeed}
 use Rattle.ccp_run.specs.Fold.{IsFoldOutput, IsNoFold}
 
 -- how long an input may be
@@ -34,15 +36,26 @@ abbrev pub is_read : Task → Bool
 is_read (Soak number) = false
 is_read _ = true
 
--- what was written before the input was refused, where these bytes were taken
+-- whether answers are written before the input was read to its end
+abbrev pub is_stream : Task → Bool
+is_stream (Alone Feed) = true
+is_stream _ = false
+
+-- what is written of the output where these bytes were taken, before the input was read to its end
 abbrev pub answers_before : Task → List ℕ → List ℕ
-answers_before task bytes = []
+answers_before (Alone Feed) bytes = answers_of bytes
+answers_before _ bytes = []
+
+-- bytes that were taken aren't refused so far
+abbrev pub GoesOn : Task → List ℕ → Type 0
+GoesOn (Alone Feed) bytes = IsOpen (end_of bytes)
+GoesOn _ bytes = Unit {0}
 
 -- the output is what the mode makes of its input
 abbrev pub IsMade : Task → List ℕ → ModeOutput → Type 0
 IsMade (Alone Check) bytes output = IsCheckOutput bytes output
 IsMade (Alone Fold) bytes output = IsFoldOutput bytes output
-IsMade (Alone Feed) bytes output = ⊥
+IsMade (Alone Feed) bytes output = IsFeedOutput bytes output
 IsMade (Alone Audit) bytes output = ⊥
 IsMade (Live wire) bytes output = ⊥
 IsMade (Campaign wire) bytes output = IsCampaignOutput wire bytes output
@@ -54,7 +67,7 @@ IsMade Shared bytes output = ⊥
 abbrev pub IsRefused : Task → List ℕ → Refusal → Type 0
 IsRefused (Alone Check) bytes refusal = IsNoCheck bytes refusal
 IsRefused (Alone Fold) bytes refusal = IsNoFold bytes refusal
-IsRefused (Alone Feed) bytes refusal = ⊥
+IsRefused (Alone Feed) bytes refusal = IsNoFeed bytes refusal
 IsRefused (Alone Audit) bytes refusal = ⊥
 IsRefused (Live wire) bytes refusal = ⊥
 IsRefused (Campaign wire) bytes refusal = IsNoScenario scene.Campaign bytes refusal

@@ -3,7 +3,9 @@ use Rattle.std.specs.Prelude.{◌≡◌, ◌⊎◌, List, ℕ, Bool, true, false
 use Rattle.ccp_base.specs.declared.ack.Ack.{Ack}
 use Rattle.portus_core.specs.Programs.{Form}
 use Rattle.portus_build.specs.Texts.{IsBuiltFrom}
-use Rattle.ccp_words.specs.declared.mode.Alone.TheVariants.{Check, Fold}
+use Rattle.feed_core.specs.declared.ending.FeedEnd.TheVariants.{Whole}
+use Rattle.feed_core.specs.FeedEnds.{end_of}
+use Rattle.ccp_words.specs.declared.mode.Alone.TheVariants.{Check, Fold, Feed}
 use Rattle.ccp_run.specs.Tasks.{Task, Alone, Campaign, Soak}
 use Rattle.ccp_run.specs.declared.outcome.ModeOutput.{ModeOutput}
 use Rattle.ccp_run.specs.declared.refusal.Refusal.{Refusal}
@@ -17,6 +19,7 @@ use Rattle.ccp_run.specs.Modes.{IsMade, IsRefused}
 abbrev pub is_there : Task → Bool
 is_there (Alone Check) = true
 is_there (Alone Fold) = true
+is_there (Alone Feed) = true
 is_there (Campaign wire) = true
 is_there (Soak number) = true
 is_there _ = false
@@ -25,6 +28,7 @@ is_there _ = false
 abbrev pub IsInput : Task → List ℕ → Type 0
 IsInput (Alone Check) bytes = (form : Form) × IsBuiltFrom bytes form
 IsInput (Alone Fold) bytes = (form : Form) × (acks : List Ack) × IsFold bytes form acks
+IsInput (Alone Feed) bytes = end_of bytes ≡ Whole
 IsInput (Campaign wire) bytes = (said : Scene) × Says scene.Campaign bytes said
 -- a generated campaign doesn't look at its source
 IsInput (Soak number) bytes = Unit {0}

@@ -47,7 +47,7 @@ fn write_output<K: Sink, E: Sink>(
 }
 
 /// Tells why the input is refused.
-fn refuse<E: Sink>(alloc: Global, refusal: Refusal, errors: &mut E) -> Outcome
+pub fn refuse<E: Sink>(alloc: Global, refusal: Refusal, errors: &mut E) -> Outcome
     ensures { Refuses (stream (E.written errors.old) (E.written errors.new) (E.faults errors.old) (E.faults errors.new)) result refusal }
 {
     if let Refusal::TooLong(limit) = &refusal {

@@ -5,6 +5,7 @@ pub mod calls;
 mod campaign;
 mod check;
 mod ending;
+mod feed;
 mod fold;
 mod laws;
 mod outcome;
@@ -18,6 +19,7 @@ mod stop;
 mod tool;
 
 pub use ccp_words::{Alone, Mode};
+pub use feed_core::{Epoch, Feed, FeedEnd, Flow};
 pub use laws::input_law;
 pub use outcome::{ModeOutput, Outcome};
 pub use refusal::{Limit, Refusal};

@@ -1,9 +1,10 @@
-ghost use Rattle.std.specs.Prelude.{◌≡◌, ◌++◌, IfOk, OnOk};
-ghost use Rattle.ccp_run.specs.ErrorLine.{most_bytes, refusal_line};
+ghost use Rattle.std.specs.Prelude.{◌≡◌, ◌++◌, IfOk, OnOk, codes, decimal};
+ghost use Rattle.ccp_run.specs.ErrorLine.{field_name, most_bytes, refusal_line};
 
 use ccp_base::{Bytes, NoMemory};
 use portus_build::{BuildFault, put_refusal};
 use scenario_json::{SceneFault, put_scene_refusal};
+use reply_frames::BadKind;
 use std::alloc::Global;
 
 /// How long an input may be.
@@ -57,6 +58,10 @@ pub enum Refusal {
     TooManyAcks,
     /// The text is no scenario.
     Scene(SceneFault),
+    /// No frame goes on so: the field, and the offset of its first bad byte in the input.
+    Frame(BadKind, u64),
+    /// The input ends within the frame that begins at this offset.
+    FrameCut(u64),
 }
 
 /// The line that tells why an input is refused.
@@ -71,6 +76,8 @@ pub fn refusal_line(alloc: Global, refusal: &Refusal) -> Result<Bytes, NoMemory>
         Refusal::Line(number) => put_line_fault(alloc, &mut line, *number)?,
         Refusal::TooManyAcks => line.extend(b"ccp: input refused: too many acknowledgements\n")?,
         Refusal::Scene(fault) => put_scene_fault(alloc, &mut line, fault)?,
+        Refusal::Frame(field, place) => put_frame_fault(alloc, &mut line, field, place)?,
+        Refusal::FrameCut(place) => put_frame_cut(alloc, &mut line, place)?,
     }
     Ok(line)
 }
@@ -90,6 +97,55 @@ fn put_program_fault(alloc: Global, line: &mut Bytes, fault: BuildFault) -> Resu
     put_refusal(alloc, line, fault)?;
     line.push(b'\n')?;
     Ok(())
+}
+
+fn put_frame_fault(alloc: Global, line: &mut Bytes, field: BadKind, place: u64) -> Result<(), NoMemory>
+    ensures { OnOk result (line.new ≡ line.old ++ refusal_line (Refusal.Frame field place)) }
+{
+    line.extend(b"ccp: input refused: frame ")?;
+    put_field(line, field)?;
+    put_place(alloc, line, place)?;
+    Ok(())
+}
+
+fn put_field(line: &mut Bytes, field: BadKind) -> Result<(), NoMemory>
+    ensures { OnOk result (line.new ≡ line.old ++ field_name field) }
+{
+    line.extend(field_name(field))?;
+    Ok(())
+}
+
+fn put_place(alloc: Global, line: &mut Bytes, place: u64) -> Result<(), NoMemory>
+    ensures { OnOk result (line.new ≡ line.old ++ (codes " at " ++ (decimal place ++ codes "\n"))) }
+{
+    let part = format!(in alloc; " at {place}\n")?;
+    line.extend(part.as_bytes())?;
+    Ok(())
+}
+
+fn put_frame_cut(alloc: Global, line: &mut Bytes, place: u64) -> Result<(), NoMemory>
+    ensures { OnOk result (line.new ≡ line.old ++ refusal_line (Refusal.FrameCut place)) }
+{
+    let part = format!(in alloc; "ccp: input refused: frame cut at {place}\n")?;
+    line.extend(part.as_bytes())?;
+    Ok(())
+}
+
+/// The name of the field in which a byte is bad.
+fn field_name<'a>(field: BadKind) -> &'a [u8]
+    ensures { result.now ≡ field_name field }
+{
+    match field {
+        BadKind::Kind => b"Kind",
+        BadKind::Version => b"Version",
+        BadKind::Count => b"Count",
+        BadKind::Length => b"Length",
+        BadKind::Flag => b"Flag",
+        BadKind::Op => b"Op",
+        BadKind::Class => b"Class",
+        BadKind::Index => b"Index",
+        BadKind::FaultKind => b"FaultKind",
+    }
 }
 
 fn put_scene_fault(alloc: Global, line: &mut Bytes, fault: &SceneFault) -> Result<(), NoMemory>

@@ -5,6 +5,7 @@ ghost use Rattle.fold_machine.specs.MachineState.{fresh_machine, Fits};
 ghost use Rattle.fold_machine.specs.Heard.{started_by, updated_by, heard, is_fault, count_after};
 
 use crate::acked::{Acked, BadRegister};
+use crate::frame::restore;
 use crate::kept::{declare, write_values};
 use crate::places::{CWND, RATE, REPORTS};
 use crate::steps::Steps;
@@ -23,7 +24,7 @@ use std::sync::ledger::Ledger;
 #[derive(Drop)]
 pub struct Machine {
     store: Store,
-    /// The words of an acknowledgement while it is worked on.
+    /// The words that acknowledgements are worked on in. They have the registers that are kept.
     words: Vec<u64>,
     /// How many report fields and control variables the started program has.
     sizes: Sizes,
@@ -64,13 +65,16 @@ impl Machine {
         let mut store = Store::new(alloc, slots)?;
         store.set_register(CWND, cwnd);
         store.set_register(RATE, rate);
+        let sizes = Sizes {
+            reports: 0,
+            controls: 0,
+        };
+        let mut words = vec![in alloc; 0u64; places::ALL]?;
+        restore(&mut words, &store, sizes);
         Ok(Machine {
             store,
-            words: vec![in alloc; 0u64; places::ALL]?,
-            sizes: Sizes {
-                reports: 0,
-                controls: 0,
-            },
+            words,
+            sizes,
             reported: 0,
             started: false,
             stopped: false,
@@ -98,6 +102,7 @@ impl Machine {
         };
         declare(&mut self.store, code, now);
         write_values(&mut self.store, self.sizes, values);
+        restore(&mut self.words, &self.store, self.sizes);
         self.started = true;
         self.stopped = false;
         self.ran = 0;
@@ -164,6 +169,7 @@ impl Machine {
             return Err(BadRegister(i));
         }
         write_values(&mut self.store, self.sizes, values);
+        restore(&mut self.words, &self.store, self.sizes);
         Ok(())
     }
 

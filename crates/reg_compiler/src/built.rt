@@ -1,4 +1,6 @@
+ghost use Rattle.std.specs.Prelude.{◌≡◌, None};
 ghost use Rattle.portus_core.specs.ProgramForm.{form_of};
+ghost use Rattle.reg_compiler.specs.Refusal.{refusal_of};
 ghost use Rattle.reg_compiler.specs.Simulation.{Simulates};
 
 use ccp_base::{Place, Sequence};
@@ -7,7 +9,7 @@ use reg_code::Checked;
 
 /// A program and code that simulates it: for every state that the program can have, every acknowledgement and either
 /// room, the code comes to the same outcome with the same fields, and leaves the same state. Where the program faults,
-/// the code faults at an instruction with the same place, and the other way round.
+/// the code faults at an instruction with the same place, and the other way round. The compiler refuses no such program.
 #[derive(Debug, Drop)]
 pub struct Built {
     pub program: Program,
@@ -16,6 +18,7 @@ pub struct Built {
     /// which can't fault.
     pub places: Sequence<Place>,
     pub ghost simulates: { Simulates (form_of program) code.code places },
+    pub ghost compiled: { refusal_of (form_of program) ≡ None },
 }
 
 /// Programs with their code, each with its number.

@@ -1,4 +1,3 @@
-use Rattle.flow_core.specs.declared.case.Case.{Case}
 use Rattle.campaign_gate.proofs.LiftedRowLemmas.{lifted}
 use Rattle.campaign_gate.proofs.calls.rows.Goals as goal
 

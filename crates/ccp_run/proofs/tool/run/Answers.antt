@@ -2,20 +2,20 @@ use Rattle.std.proofs.Common.{◌≡◌, ◌∙◌, Some, ap, refl, rules, sym, 
 use Rattle.ccp_words.specs.declared.words.Asked.{Asked}
 use Rattle.ccp_words.specs.Words.{asked_in}
 use Rattle.ccp_run.specs.Complete.{IsComplete}
-use Rattle.ccp_run.specs.Streams.{Stream, stream}
 use Rattle.ccp_run.specs.Tasks.{task_of}
+use Rattle.ccp_run.specs.Streams.{Stream, stream}
 use Rattle.ccp_run.proofs.CompleteRuns.{complete}
-use Rattle.ccp_run.proofs.RunLemmas.{untouched, wants_memory}
+use Rattle.ccp_run.proofs.RunLemmas.{wants_at_once}
 use Rattle.ccp_run.proofs.tool.run.Goals as goal
 
 pub returns-clause-asked : goal.returns-clause-asked
 returns-clause-asked g c = λ asked accepted is.
-    wants_memory (task_of asked)
+    wants_at_once (task_of asked)
     (stream (g.S.Source.remaining c.args.source.now) (g.S.Source.remaining c.args.source.now) (g.S.Source.faults c.args.source.now) (g.S.Source.faults c.args.source.now))
     (stream (g.K.Sink.written c.args.sink.now) (g.K.Sink.written c.args.sink.now) (g.K.Sink.faults c.args.sink.now) (g.K.Sink.faults c.args.sink.now))
     (stream (g.E.Sink.written c.args.errors.now) (g.E.Sink.written c.end_without-in-Err-NoMemory.new.errors) (g.E.Sink.faults c.args.errors.now) (g.E.Sink.faults c.end_without-in-Err-NoMemory.new.errors))
     (g.K.Sink.is_finished c.args.sink.now) c.end_without-in-Err-NoMemory.result
-    (untouched (task_of asked) (stream (g.S.Source.remaining c.args.source.now) (g.S.Source.remaining c.args.source.now) (g.S.Source.faults c.args.source.now) (g.S.Source.faults c.args.source.now)) refl) refl c.end_without-in-Err-NoMemory.ensures
+    refl refl c.end_without-in-Err-NoMemory.ensures
 
 pub returns-in-Ok-clause-complete : goal.returns-in-Ok-clause-complete
 returns-in-Ok-clause-complete g c = λ asked accepted is.

@@ -28,13 +28,11 @@ new-requires c =
     let few : form_count form ≤ 256 = omega arith in
     subst (λ (code : Code). IsAccepted code) (sym c.in_ok-code.ensures.code) (IsAccepted-compiled form c.args.program.valid (cc) few)
 
-pub invariant_of-result : goal.invariant_of-result
-invariant_of-result c =
+pub invariant_of-result-clause-simulates : goal.invariant_of-result-clause-simulates
+invariant_of-result-clause-simulates c =
     let form = form_of c.args.program in
     let few : form_count form ≤ 256 = omega arith in
-    record {
-      simulates = Simulates-emitted form c.new.result.code c.in_ok-code.field-0.places c.args.program.valid (cc) few (c.new.ensures ∙ c.in_ok-code.ensures.code) c.in_ok-code.ensures.places;
-    }
+    Simulates-emitted form c.new.result.code c.in_ok-code.field-0.places c.args.program.valid (cc) few (c.new.ensures ∙ c.in_ok-code.ensures.code) c.in_ok-code.ensures.places
 
 pub returns-clause-within : goal.returns-clause-within
 returns-clause-within c =

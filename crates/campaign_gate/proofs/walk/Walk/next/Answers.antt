@@ -1,8 +1,9 @@
-use Rattle.std.proofs.Common.{◌≡◌, ◌<◌, Ok, Some, true, sym, ap, ◌∙◌, subst}
+use Rattle.std.proofs.Common.{◌≡◌, ◌<◌, Bool, Some, true, false, sym, ◌∙◌, subst}
 use Rattle.flow_core.specs.declared.letter.Letter.TheVariants.{A, T, C}
 use Rattle.flow_core.specs.Cells.{flow_at, world_at}
 use Rattle.campaign_gate.specs.declared.walk.Walk.{Walk}
 use Rattle.campaign_gate.specs.Walks.{left_at, next_at, IsOnWay, Makes}
+use Rattle.campaign_gate.specs.Tried.{Tried}
 use Rattle.campaign_gate.proofs.PlanLemmas.{next-C, next-A}
 use Rattle.campaign_gate.proofs.WalkLemmas.{on-made, fewer-left}
 use Rattle.campaign_gate.proofs.walk.Walk.next.Goals as goal
@@ -23,12 +24,14 @@ returns-then-is_due-clause-fewer g c =
 
 pub returns-then-branch-clause-on : goal.returns-then-branch-clause-on
 returns-then-branch-clause-on g c =
-    let made = c.take.ensures.made (c.in_ok-take.is ∙ ap Ok c.if-branch.true) in
+    let made : Tried true c.args.self.now c.take.new.self =
+    subst (λ (took : Bool). Tried took c.args.self.now c.take.new.self) c.if-branch.true c.in_ok-take.ensures in
     on-made c.args.self.now c.requires.on T made.0 c.take.new.self made.1
 
 pub returns-then-branch-clause-fewer : goal.returns-then-branch-clause-fewer
 returns-then-branch-clause-fewer g c =
-    let made = c.take.ensures.made (c.in_ok-take.is ∙ ap Ok c.if-branch.true) in
+    let made : Tried true c.args.self.now c.take.new.self =
+    subst (λ (took : Bool). Tried took c.args.self.now c.take.new.self) c.if-branch.true c.in_ok-take.ensures in
     fewer-left c.args.self.now c.requires.on T made.0 c.take.new.self made.1
 
 -- no ticket was taken, and so the next acknowledgement is
@@ -44,13 +47,15 @@ heard old between on same next new makes =
 pub returns-clause-on : goal.returns-clause-on
 returns-clause-on g c =
     let old = c.args.self.now in
-    let none = c.take.ensures.not (c.in_ok-take.is ∙ ap Ok c.if-branch.false) in
+    let none : Tried false old c.take.new.self =
+    subst (λ (took : Bool). Tried took old c.take.new.self) c.if-branch.false c.in_ok-take.ensures in
     let next = next-A (flow_at old.cell) old.cell.case.lag (world_at old.cell) (sym c.is_due.ensures ∙ c.if-is_due.false) none.0 c.requires.open in
     (heard old c.take.new.self c.requires.on none.1 next c.hear.new.self c.hear.ensures).0
 
 pub returns-clause-fewer : goal.returns-clause-fewer
 returns-clause-fewer g c =
     let old = c.args.self.now in
-    let none = c.take.ensures.not (c.in_ok-take.is ∙ ap Ok c.if-branch.false) in
+    let none : Tried false old c.take.new.self =
+    subst (λ (took : Bool). Tried took old c.take.new.self) c.if-branch.false c.in_ok-take.ensures in
     let next = next-A (flow_at old.cell) old.cell.case.lag (world_at old.cell) (sym c.is_due.ensures ∙ c.if-is_due.false) none.0 c.requires.open in
     (heard old c.take.new.self c.requires.on none.1 next c.hear.new.self c.hear.ensures).1

@@ -1,16 +1,12 @@
-use Rattle.std.proofs.Common.{◌≡◌, ◌+◌, ◌-◌, ◌∷◌, [], ◌++◌, List, Option, length, map, sym, ap, ◌∙◌, length-append, arith}
+use Rattle.std.proofs.Common.{◌≡◌, ◌+◌, ◌-◌, ◌∷◌, [], ◌++◌, List, length, sym, ap, ◌∙◌, length-append}
 use Rattle.std.proofs.lemmas.List.{length-map}
-use Rattle.ccp_base.specs.declared.ack.Ack.{Ack}
 use Rattle.flow_core.specs.declared.book.EpochLine.{EpochLine}
-use Rattle.flow_core.specs.declared.book.TicketLine.{TicketLine}
 use Rattle.ccp_base.specs.declared.exchange.Notice.{Notice}
-use Rattle.flow_core.specs.World.{World, track_of, time_of, notice_of}
+use Rattle.flow_core.specs.World.{track_of, time_of, notice_of}
 use Rattle.flow_core.specs.Cells.{flow_at, world_at}
 use Rattle.flow_core.specs.Books.{epoch_line}
 use Rattle.flow_core.specs.LiveText.{report_count}
 use Rattle.flow_core.proofs.TimeLemmas.{time_in, time-last}
-use Rattle.campaign_gate.specs.declared.sums.Sums.{Sums}
-use Rattle.campaign_gate.specs.declared.row.Row.{Row}
 use Rattle.campaign_gate.specs.CampaignRow.{row_over}
 use Rattle.campaign_gate.proofs.WalkLemmas.{row-whole}
 use Rattle.campaign_gate.proofs.walk.Walk.row.Goals.{in-Some, in-None}

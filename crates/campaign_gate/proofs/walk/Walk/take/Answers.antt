@@ -8,11 +8,11 @@ use Rattle.flow_core.specs.Words.{can_take, is_still}
 use Rattle.flow_core.specs.Books.{ticket_of}
 use Rattle.flow_core.specs.Cells.{CellState, flow_at, world_at, out_number_at}
 use Rattle.campaign_gate.proofs.PlanLemmas.{next-T}
-use Rattle.campaign_gate.proofs.DueLemmas.{may-take, nothing-left, one-out}
+use Rattle.campaign_gate.proofs.DueLemmas.{may-take, one-out}
 use Rattle.campaign_gate.proofs.walk.Walk.take.Goals as goal
 
-pub returns-in-Ok-clause-made : goal.returns-in-Ok-clause-made
-returns-in-Ok-clause-made c is =
+pub returns-in-Ok : goal.returns-in-Ok
+returns-in-Ok c =
     let cell = c.args.self.now.cell in
     let w = world_at cell in
     let none_out : (n : ℕ) → out_number_at cell ≢ Some n =
@@ -31,8 +31,8 @@ returns-in-Ok-clause-made c is =
       },
     )
 
-pub returns-in-Err-Out-clause-not : goal.returns-in-Err-Out-clause-not
-returns-in-Err-Out-clause-not c is =
+pub returns-in-Err-Out : goal.returns-in-Err-Out
+returns-in-Err-Out c =
     let old = c.args.self.now in
     let w = world_at old.cell in
     let n = c.in-Err-Out.field-0-0 in

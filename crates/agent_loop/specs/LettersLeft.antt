@@ -1,0 +1,19 @@
+-- How many letters a flow's word can have yet.
+use Rattle.std.specs.Prelude.{◌≡◌, ℕ, ◌+◌, ◌-◌, ◌*◌, ◌<◌, length}
+use Rattle.flow_core.specs.Readings.{Flow}
+use Rattle.flow_core.specs.World.{World}
+use Rattle.flow_core.specs.States.{some_count}
+use Rattle.flow_core.specs.Cells.{CellState, flow_at, world_at}
+
+-- an acknowledgement makes one ticket at most, and a ticket is taken and answered
+abbrev pub letters_left : {X : Type 0} → Flow X → World X → ℕ
+letters_left flow w =
+    3 * (flow.acks - length w.acks) + (2 * (length w.waiting + some_count w.untold) + some_count w.out)
+
+abbrev pub left_at : CellState → ℕ
+left_at cell = letters_left (flow_at cell) (world_at cell)
+
+-- the same flow, nearer to the end of its word
+pub record IsNearer (old new : CellState) : Type 0 where
+  pub case : new.case ≡ old.case
+  pub fewer : left_at new < left_at old

@@ -1,0 +1,2 @@
+pub mod LiveBooks
+pub mod LettersLeft

@@ -1,0 +1,59 @@
+ghost use Rattle.std.specs.Prelude.{◌≡◌, ◌<◌, map, IfOk};
+ghost use Rattle.flow_core.specs.Cells.{IsComplete};
+ghost use Rattle.flow_table.specs.Tables.{case_of};
+ghost use Rattle.agent_loop.specs.LiveBooks.{IsWhole, AreBooksOf};
+
+use crate::Books;
+use crate::turn::next;
+use ccp_base::NoMemory;
+use flow_core::{Book, Cell};
+use flow_table::Cells;
+use fold_machine::Steps;
+use std::alloc::Global;
+use std::marker::Brand;
+use std::sync::ledger::{Blank, Ledger};
+
+/// The books of flows, in order.
+pub(crate) fn books(alloc: Global, cells: Cells) -> Result<Books, NoMemory>
+    ensures { IfOk result (λ books. AreBooksOf (map case_of cells) books) }
+{
+    counted::<Brand>(alloc, cells, Blank::new(1))
+}
+
+/// The same, where a ledger of one part counts the steps.
+fn counted<L: Ledger>(alloc: Global, cells: Cells, blank: Blank) -> Result<Books, NoMemory>
+    requires name { blank.name ≡ L.name }
+    requires parts { blank.parts ≡ L.parts }
+    requires some { 0 < blank.parts }
+    ensures { IfOk result (λ books. AreBooksOf (map case_of cells) books) }
+{
+    let mut steps = Steps::<L>::new(blank);
+    let mut left = cells.into_vec();
+    let mut books = Books::new(alloc);
+    while !left.is_empty() {
+        let cell = left.remove(0);
+        books.push(finished(alloc, cell, &mut steps)?)?;
+    }
+    Ok(books)
+}
+
+/// The book of a flow, after every letter that is left.
+fn finished<L: Ledger>(alloc: Global, cell: Cell, steps: &mut Steps<L>) -> Result<Book, NoMemory>
+    ensures case { IfOk result (λ book. book.case ≡ cell.case) }
+    ensures whole { IfOk result IsWhole }
+{
+    let mut cell = cell;
+    while !cell.is_complete() {
+        next(alloc, &mut cell, steps)?;
+    }
+    Ok(closed(cell))
+}
+
+/// The book of a flow whose word is complete.
+fn closed(cell: Cell) -> Book
+    requires { IsComplete cell }
+    ensures case { result.case ≡ cell.case }
+    ensures whole { IsWhole result }
+{
+    cell.finish()
+}

@@ -1,0 +1,37 @@
+ghost use Rattle.std.specs.Prelude.{◌≤◌, IfOk};
+ghost use Rattle.ccp_base.specs.Limits.{most_workers};
+ghost use Rattle.agent_loop.specs.LiveBooks.{AreBooksOf};
+
+use crate::Books;
+use crate::books::books;
+use crate::workers::work;
+use ccp_base::{Gate, NoMemory};
+use flow_table::FlowTable;
+use std::alloc::Global;
+use std::sync::Wait;
+use std::thread::Threads;
+
+/// One book a case, in order, whatever the numbers of workers, which are 1 to 32, and in whatever order threads take
+/// the flows' locks: each book has its case and a word that is legal and complete for it. Which such word it is nobody
+/// says.
+///
+/// Datapath worker `d` takes the acknowledgements of the flows `f` with `f mod datapaths = d`, one of each in turn. It
+/// passes the gate at `BeforeAck` and `AfterAck` without a lock and at `InAck` with the flow's. Agent workers, whose
+/// numbers come after these, are told where a report or a fault waits. For each telling one of them takes a ticket,
+/// passes `AfterTake`, works out the answer without a lock, settles it and passes `AfterSettle`. What they leave is done
+/// by the caller at the end, and so is the work of a datapath worker whose thread can't be started.
+pub fn live<R: Threads + Wait + Sync, G: Gate + Sync>(
+    rt: &R,
+    alloc: Global,
+    table: FlowTable,
+    datapaths: u32,
+    agents: u32,
+    gate: &G,
+) -> Result<Books, NoMemory>
+    requires datapaths { (1 ≤ datapaths) × (datapaths ≤ most_workers) }
+    requires agents { (1 ≤ agents) × (agents ≤ most_workers) }
+    ensures { IfOk result (λ books. AreBooksOf table books) }
+{
+    work(rt, alloc, &table, datapaths, agents, gate)?;
+    books(alloc, table.close(alloc)?)
+}

@@ -1,0 +1,86 @@
+-- A run of `feed`, from how its loop ended and what was told then.
+use Rattle.std.proofs.Common.{◌≡◌, ◌≢◌, ◌⊎◌, inl, inr, ◌∙◌, ℕ, ◌+◌, Bool, true, false, List, [], ◌++◌, ap, sym, refl, subst, append-nil}
+use Rattle.ccp_base.specs.Limits.{most_input_bytes}
+use Rattle.ccp_base.specs.Outside.{Known, Rose, Takes, TakesWithin}
+use Rattle.feed_core.specs.declared.ending.FeedEnd.{FeedEnd}
+use Rattle.feed_core.specs.declared.ending.FeedEnd.TheVariants as ends
+use Rattle.feed_core.specs.FeedEnds.{answers_of, IsFed, Answers}
+use Rattle.feed_core.specs.FeedEnds.{Stream as Frames, stream as frames}
+use Rattle.ccp_words.specs.declared.mode.Alone.TheVariants.{Feed}
+use Rattle.ccp_run.specs.Tasks.{Task, Alone}
+use Rattle.ccp_run.specs.declared.outcome.ModeOutput.{ModeOutput}
+use Rattle.ccp_run.specs.declared.outcome.Outcome.{Outcome}
+use Rattle.ccp_run.specs.declared.refusal.Limit.TheVariants.{Input}
+use Rattle.ccp_run.specs.declared.refusal.Refusal.{Refusal}
+use Rattle.ccp_run.specs.declared.refusal.Refusal.TheVariants.{TooLong, Frame, FrameCut}
+use Rattle.ccp_run.specs.Attempts.{RefusesAny}
+use Rattle.ccp_run.specs.Endings.{Refuses}
+use Rattle.ccp_run.specs.FeedEndings.{EndsFeed}
+use Rattle.ccp_run.specs.Modes.{answers_before}
+use Rattle.ccp_run.specs.Run.{IsRun, WritesAnswers, WritesSomeAnswers}
+use Rattle.ccp_run.specs.Streams.{Stream}
+use Rattle.ccp_run.proofs.RunLemmas.{is_three, one_more, ends_done, ends_refused, ends_unread, ends_unwritten, ends_wanting}
+
+module _ (source sink errors : Stream) (is_finished : Type 0) (outcome : Outcome) where
+  abbrev source_of : Frames
+  source_of = frames source.old source.new source.before source.now
+
+  abbrev sink_of : Frames
+  sink_of = frames sink.old sink.new sink.before sink.now
+
+  answers : (bytes : List ℕ) → Answers source_of sink_of bytes → WritesAnswers (Alone Feed) source sink
+  answers bytes all = record { taken = bytes; takes = all.taken; answers = all.written }
+
+  no_rest : WritesAnswers (Alone Feed) source sink → WritesSomeAnswers (Alone Feed) source sink
+  no_rest all = record {
+    front = all.taken;
+    rest = [];
+    later = [];
+    takes = subst (Takes source.old source.new) (sym (append-nil all.taken)) all.takes;
+    answers = all.answers;
+    begins = ap answers_of (append-nil all.taken) ∙ sym (append-nil (answers_of all.taken));
+  }
+
+  -- a frame is bad or cut, and that is told, or memory is wanted for its line
+  bad_or_not : (refusal : Refusal) → RefusesAny true (Alone Feed) source refusal → TakesWithin most_input_bytes source.old source.new → WritesAnswers (Alone Feed) source sink
+      → Refuses errors outcome refusal → (outcome.status ≡ 3) ⊎ (outcome.status ≢ 3) → IsRun (Alone Feed) source sink errors is_finished outcome
+  bad_or_not refusal cause few all r (inl three) =
+      ends_refused (Alone Feed) source sink errors is_finished outcome refusal cause (one_more most_input_bytes source.old source.new few) tt all (r.told three)
+  bad_or_not refusal cause few all r (inr other) =
+      ends_wanting (Alone Feed) source sink errors is_finished outcome few tt (no_rest all) (r.failed other)
+
+  pub run_of_feed : (end : FeedEnd) → IsFed source_of sink_of is_finished end → EndsFeed errors outcome end → IsRun (Alone Feed) source sink errors is_finished outcome
+  run_of_feed ends.Whole fed e =
+      let output : ModeOutput = record { text = answers_of fed.0.bytes; programs = []; ran = 0 } in
+      ends_done (Alone Feed) source sink errors is_finished outcome output
+      (record {
+        bytes = fed.0.bytes;
+        read = record { taken = fed.0.answered.taken; end = fed.0.at_end };
+        short = fed.0.within;
+        made = record { whole = fed.0.end_is; written = refl; kept = refl; idle = refl };
+      })
+      (record { written = fed.0.answered.written; finished = fed.1; programs = e.programs; ran = e.ran; quiet = e.quiet })
+      e.status
+  run_of_feed (ends.Bad field place) fed e =
+      bad_or_not (Frame field place) (inl (record { bytes = fed.bytes; taken = fed.answered.taken; cause = fed.end_is }))
+      (record { taken = fed.bytes; takes = fed.answered.taken; within = fed.within }) (answers fed.bytes fed.answered) e (is_three outcome.status)
+  run_of_feed (ends.Cut place) fed e =
+      bad_or_not (FrameCut place)
+      (inr (record { bytes = fed.bytes; read = record { taken = fed.answered.taken; end = fed.at_end }; short = fed.within; cause = fed.end_is }))
+      (record { taken = fed.bytes; takes = fed.answered.taken; within = fed.within }) (answers fed.bytes fed.answered) e (is_three outcome.status)
+  run_of_feed ends.TooLong fed e =
+      ends_refused (Alone Feed) source sink errors is_finished outcome (TooLong Input)
+      (inl (record { bytes = fed.bytes; taken = fed.answered.taken; cause = fed.end_is }))
+      (record { taken = fed.bytes; takes = fed.answered.taken; within = fed.within }) tt (answers fed.bytes fed.answered) (e.told (e.too_long Input refl))
+  run_of_feed ends.ReadFailed fed e =
+      ends_unread (Alone Feed) source sink errors is_finished outcome fed.rose
+      (record { taken = fed.bytes; takes = fed.answered.taken; goes_on = fed.goes_on })
+      (record { taken = fed.bytes; takes = fed.answered.taken; within = fed.within }) tt (answers fed.bytes fed.answered) e
+  run_of_feed ends.WriteFailed fed e =
+      ends_unwritten (Alone Feed) source sink errors is_finished outcome fed.rose
+      (record { taken = fed.bytes; takes = fed.taken; front = fed.front })
+      (record { taken = fed.bytes; takes = fed.taken; within = fed.within }) tt e
+  run_of_feed ends.NoMemory fed e =
+      ends_wanting (Alone Feed) source sink errors is_finished outcome
+      (record { taken = fed.front ++ fed.rest; takes = fed.taken; within = fed.within }) tt
+      (record { front = fed.front; rest = fed.rest; later = fed.later; takes = fed.taken; answers = fed.written; begins = fed.begins }) e

@@ -1,0 +1,28 @@
+-- How a run of `feed` ends once its loop has ended.
+use Rattle.std.specs.Prelude.{◌≡◌, List, []}
+use Rattle.feed_core.specs.declared.ending.FeedEnd.{FeedEnd}
+use Rattle.feed_core.specs.declared.ending.FeedEnd.TheVariants as ends
+use Rattle.ccp_run.specs.declared.outcome.Outcome.{Outcome}
+use Rattle.ccp_run.specs.declared.refusal.Limit.TheVariants.{Input}
+use Rattle.ccp_run.specs.declared.refusal.Refusal.TheVariants.{TooLong, Frame, FrameCut}
+use Rattle.ccp_run.specs.declared.status.Status.TheVariants as status
+use Rattle.ccp_run.specs.Endings.{Ends, Refuses}
+use Rattle.ccp_run.specs.Statuses.{number_of, read_line, write_line, memory_line}
+use Rattle.ccp_run.specs.Streams.{Stream}
+
+-- nothing was told, and nothing is kept
+pub record EndsWhole (errors : Stream) (outcome : Outcome) : Type 0 where
+  pub status : outcome.status ≡ number_of status.Done
+  pub programs : outcome.programs ≡ []
+  pub ran : outcome.ran ≡ 0
+  pub quiet : errors.new ≡ errors.old
+
+-- what each end of the loop is told as
+abbrev pub EndsFeed : Stream → Outcome → FeedEnd → Type 0
+EndsFeed errors outcome ends.Whole = EndsWhole errors outcome
+EndsFeed errors outcome (ends.Bad field place) = Refuses errors outcome (Frame field place)
+EndsFeed errors outcome (ends.Cut place) = Refuses errors outcome (FrameCut place)
+EndsFeed errors outcome ends.TooLong = Refuses errors outcome (TooLong Input)
+EndsFeed errors outcome ends.ReadFailed = Ends errors outcome status.ReadFailed read_line
+EndsFeed errors outcome ends.WriteFailed = Ends errors outcome status.WriteFailed write_line
+EndsFeed errors outcome ends.NoMemory = Ends errors outcome status.NoMemory memory_line

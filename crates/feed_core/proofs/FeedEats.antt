@@ -1,0 +1,82 @@
+-- One more frame, and one more piece, of a feed's input.
+use Rattle.std.proofs.Common.{◌≡◌, ◌≢◌, ℕ, zero, suc, ◌+◌, ◌-◌, ◌<◌, ◌≤◌, Option, Some, None, Result, Ok, Err, List, [], ◌∷◌, ◌++◌, length, take, drop, ap, sym, refl, subst, ◌∙◌, arith, append_assoc, length-append, append-nil}
+use Rattle.std.proofs.Math.Seq.{take-append_seam, drop-append_seam}
+use Rattle.ccp_base.specs.Outside.{Known, Takes, Appends, Takes-append, Appends-append}
+use Rattle.ccp_base.specs.Limits.{most_input_bytes}
+use Rattle.reply_frames.specs.declared.outline.Version.{Version}
+use Rattle.ccp_messages.specs.declared.message.Message.{Message}
+use Rattle.ccp_messages.specs.declared.fault.DecodeFault.{DecodeFault}
+use Rattle.ccp_messages.specs.Messages.{frame_bytes}
+use Rattle.ccp_messages.specs.Decoding.{Found, Begins, decoded_of}
+use Rattle.ccp_messages.proofs.DecodeLaws.{begins-decoded}
+use Rattle.feed_core.specs.Feed.{FeedState, no_flows, answered, Answered}
+use Rattle.feed_core.specs.FeedHolds.{IsFeed}
+use Rattle.feed_core.specs.FeedBytes.{Fed, answer_bytes, with_answers, fed_after, fed_on, fed, IsFeeding}
+
+-- a frame takes some bytes
+pub some-used : (bytes : List ℕ) (message : Message) (version : Version) (used : ℕ) → Begins bytes message version used → (0 < used) × (used ≤ length bytes)
+some-used bytes message version used b = (omega (arith, b.used_is, head-long version message), omega (arith, b.used_is, ap length b.parts, length-append (frame_bytes version message) b.rest))
+  where
+    head-long : (version : Version) (message : Message) → 0 < length (frame_bytes version message)
+    head-long version message = omega arith
+
+with-with : (a b : List ℕ) (f : Fed) → with_answers a (with_answers b f) ≡ with_answers (a ++ b) f
+with-with a b f = λ i. record { answers = sym (append_assoc a b f.answers) i; tail = f.tail }
+
+-- the frames from a whole one on
+fed-frame : (frames place : ℕ) (state : FeedState) (frame more : List ℕ) (message : Message) (version : Version) → frame ≡ frame_bytes version message
+    → decoded_of (frame ++ more) ≡ Ok (message, version, length frame)
+    → fed (suc frames) place state (frame ++ more) ≡ with_answers (answer_bytes (answered state message version).0) (fed frames (place + length frame) (answered state message version).1 more)
+fed-frame frames place state frame more message version is read =
+    ap (fed_on (fed frames) place state (frame ++ more)) read
+    ∙ ap (λ bytes. with_answers (answer_bytes (answered state message version).0) (fed frames (place + length frame) (answered state message version).1 bytes)) (drop-append_seam frame more)
+
+module _ (source source' sink sink' after : Known) (state : FeedState) (eaten : ℕ) (rest : List ℕ) (feeding : IsFeeding source source' sink sink' state eaten rest)
+    (message : Message) (version : Version) (used : ℕ) (begins : Begins rest message version used) (some : 0 < used) where
+  pub eats : (next : FeedState) → (answered state message version).1 ≡ next → IsFeed next → next.messages ≡ state.messages + 1
+      → Appends sink' after (answer_bytes (answered state message version).0)
+      → IsFeeding source source' sink after next (eaten + used) (drop used rest)
+  eats next is held one appended =
+      let frame = frame_bytes version message in
+      let drops : drop used rest ≡ begins.rest = ap (λ n. drop n rest) begins.used_is ∙ ap (drop (length frame)) begins.parts ∙ drop-append_seam frame begins.rest in
+      let whole : feeding.front ++ rest ≡ (feeding.front ++ frame) ++ drop used rest =
+          ap (λ xs. feeding.front ++ xs) (begins.parts ∙ ap (λ xs. frame ++ xs) (sym drops)) ∙ sym (append_assoc feeding.front frame (drop used rest)) in
+      let long : length (feeding.front ++ frame) ≡ eaten + used = omega (arith, length-append feeding.front frame, feeding.eaten_is, begins.used_is) in
+      let room : eaten + used + length (drop used rest) ≡ eaten + length rest = omega (arith, ap length begins.parts, ap length drops, length-append frame begins.rest, begins.used_is) in
+      let fuel : most_input_bytes - state.messages ≡ suc (most_input_bytes - next.messages) = omega (arith, one, feeding.few, feeding.within, room, some) in
+      record {
+        front = feeding.front ++ frame;
+        answers = feeding.answers ++ answer_bytes (answered state message version).0;
+        taken = subst (Takes source source') whole feeding.taken;
+        eaten_is = long;
+        written = Appends-append sink sink' after feeding.answers (answer_bytes (answered state message version).0) feeding.written appended;
+        goes = λ more.
+            let read : decoded_of (frame ++ more) ≡ Ok (message, version, length frame) =
+                begins-decoded (frame ++ more) message version (length frame) (record { rest = more; parts = refl; used_is = refl; meets = begins.meets; typed = begins.typed }) in
+            ap (fed most_input_bytes 0 no_flows) (append_assoc feeding.front frame more)
+            ∙ feeding.goes (frame ++ more)
+            ∙ ap (with_answers feeding.answers)
+                (ap (λ n. fed n eaten state (frame ++ more)) fuel
+                ∙ fed-frame (most_input_bytes - next.messages) eaten state frame more message version refl read
+                ∙ ap (λ n. with_answers (answer_bytes (answered state message version).0) (fed (most_input_bytes - next.messages) (eaten + n) (answered state message version).1 more)) (sym begins.used_is)
+                ∙ ap (λ s. with_answers (answer_bytes (answered state message version).0) (fed (most_input_bytes - next.messages) (eaten + used) s more)) is)
+            ∙ with-with feeding.answers (answer_bytes (answered state message version).0) (fed (most_input_bytes - next.messages) (eaten + used) next more);
+        held = held;
+        few = omega (arith, one, feeding.few, some);
+        within = omega (arith, room, feeding.within);
+      }
+
+-- a further piece
+pub takes-more : (source source' source'' sink sink' : Known) (state : FeedState) (eaten : ℕ) (rest piece : List ℕ) → IsFeeding source source' sink sink' state eaten rest
+    → Takes source' source'' piece → eaten + length rest + length piece ≤ most_input_bytes → IsFeeding source source'' sink sink' state eaten (rest ++ piece)
+takes-more source source' source'' sink sink' state eaten rest piece feeding takes fits = record {
+  front = feeding.front;
+  answers = feeding.answers;
+  taken = subst (Takes source source'') (append_assoc feeding.front rest piece) (Takes-append source source' source'' (feeding.front ++ rest) piece feeding.taken takes);
+  eaten_is = feeding.eaten_is;
+  written = feeding.written;
+  goes = feeding.goes;
+  held = feeding.held;
+  few = feeding.few;
+  within = omega (arith, fits, length-append rest piece);
+}

@@ -1,0 +1,215 @@
+-- How a feed ends from where it stands.
+use Rattle.std.proofs.Common.{◌≡◌, ◌≢◌, ℕ, zero, suc, ◌+◌, ◌-◌, ◌<◌, ◌≤◌, ◌^◌, Bool, true, false, nat_lt, Option, Some, None, Result, Ok, Err, List, [], ◌∷◌, ◌++◌, length, take, drop, option_map, ap, sym, refl, subst, ◌∙◌, arith, append_assoc, length-append, append-nil}
+use Rattle.std.proofs.Math.Seq.{take-append-add}
+use Rattle.std.proofs.lemmas.Bool.Decides.{nat_tests}
+use Rattle.std.proofs.lemmas.List.{take_all, take-append-le}
+use Rattle.ccp_base.specs.Limits.{most_input_bytes}
+use Rattle.ccp_base.specs.Outside.{Known, Rose, Takes, IsAtEnd, Appends, AppendsPrefix, Takes-append, Appends-append}
+use Rattle.reply_frames.specs.declared.fault.BadKind.{BadKind}
+use Rattle.reply_frames.specs.declared.fault.Stop.TheVariants as stops
+use Rattle.reply_frames.specs.Frames.{frame_at}
+use Rattle.reply_frames.proofs.ExactFrames.{exact-frame}
+use Rattle.ccp_messages.specs.declared.message.Message.{Message}
+use Rattle.reply_frames.specs.declared.outline.Version.{Version}
+use Rattle.ccp_messages.specs.declared.fault.DecodeFault.{DecodeFault}
+use Rattle.ccp_messages.specs.declared.fault.DecodeFault.TheVariants.{More, Bad, NoMemory}
+use Rattle.ccp_messages.specs.Decoding.{Found, Begins, found_from, decoded_from, decoded_of}
+use Rattle.ccp_messages.proofs.DecodeLaws.{begins-decoded, decoded-begins, decoded-bad}
+use Rattle.feed_core.specs.declared.ending.FeedEnd.{FeedEnd}
+use Rattle.feed_core.specs.declared.ending.FeedEnd.TheVariants as ends
+use Rattle.feed_core.specs.Feed.{FeedState, no_flows, answered}
+use Rattle.feed_core.specs.FeedHolds.{IsFeed}
+use Rattle.feed_core.specs.FeedBytes.{Tail, left, bad, Fed, answer_bytes, with_answers, fed_on, fed, feed_of, IsFeeding}
+use Rattle.feed_core.specs.FeedTurns.{FailsOne}
+use Rattle.feed_core.specs.FeedEnds.{answers_of, end_from, end_of, stream, Answers, IsOpen, IsFed}
+use Rattle.feed_core.specs.FeedLast.{IsLast}
+use Rattle.feed_core.proofs.FeedEats.{some-used}
+use Rattle.feed_core.proofs.FrameEnds.{take-front, fed-part, fed-bad, fed-nothing, bad-on}
+use Rattle.feed_core.proofs.StreamEnds.{takes-nothing, appends-nothing, appends-all, appends-front, rose-late}
+
+-- ---- ends
+
+not-longer : (n : ℕ) → n ≤ most_input_bytes → nat_lt most_input_bytes n ≡ false
+not-longer n within = grind (arith, nat_tests)
+
+longer : (n : ℕ) → most_input_bytes < n → nat_lt most_input_bytes n ≡ true
+longer n over = grind (arith, nat_tests)
+
+end-none : (place : ℕ) (rest : List ℕ) → length rest ≡ 0 → end_from (left place rest) false ≡ ends.Whole
+end-none place [] none = refl
+end-none place (byte ∷ rest) none = absurd (omega (arith, none))
+
+end-some : (place : ℕ) (rest : List ℕ) → 0 < length rest → end_from (left place rest) false ≡ ends.Cut place
+end-some place [] some = absurd (omega (arith, some))
+end-some place (byte ∷ rest) some = refl
+
+is-open : (place : ℕ) (rest : List ℕ) → IsOpen (end_from (left place rest) false)
+is-open place [] = tt
+is-open place (byte ∷ rest) = tt
+
+module _ (source source' sink sink' : Known) (state : FeedState) (eaten : ℕ) (rest : List ℕ) (feeding : IsFeeding source source' sink sink' state eaten rest)
+    (rb rn wb wn : ℕ) (is_finished : Type 0) where
+  abbrev bytes : List ℕ
+  bytes = feeding.front ++ rest
+
+  abbrev frames : ℕ
+  frames = most_input_bytes - state.messages
+
+  fits : length bytes ≤ most_input_bytes
+  fits = omega (arith, feeding.within, feeding.eaten_is, length-append feeding.front rest)
+
+  here : feed_of bytes ≡ with_answers feeding.answers (fed frames eaten state rest)
+  unfolding feed_of
+  here = ap (fed most_input_bytes 0 no_flows) (take_all most_input_bytes bytes fits) ∙ feeding.goes rest
+
+  on : (more : List ℕ) → feed_of (bytes ++ more) ≡ with_answers feeding.answers (fed frames eaten state (rest ++ take (most_input_bytes - length bytes) more))
+  unfolding feed_of
+  on more =
+      let rest' : List ℕ = take (most_input_bytes - length bytes) more in
+      ap (fed most_input_bytes 0 no_flows) (take-front most_input_bytes bytes more fits ∙ append_assoc feeding.front rest rest') ∙ feeding.goes (rest ++ rest')
+
+  -- ---- where the rest is a part of a frame
+
+  module _ (needed : ℕ) (cut : decoded_of rest ≡ Err (More needed)) where
+    left-here : feed_of bytes ≡ record { answers = feeding.answers ++ []; tail = left eaten rest }
+    left-here = here ∙ ap (with_answers feeding.answers) (fed-part frames eaten state rest needed cut)
+
+    answers-here : answers_of bytes ≡ feeding.answers
+    answers-here = ap (λ (f : Fed). f.answers) left-here ∙ append-nil feeding.answers
+
+    all-answered : Answers (stream source source' rb rn) (stream sink sink' wb wn) bytes
+    all-answered = record { taken = feeding.taken; written = subst (Appends sink sink') (sym answers-here) feeding.written }
+
+    end-here : end_of bytes ≡ end_from (left eaten rest) false
+    end-here = ap (λ (f : Fed). end_from f.tail (nat_lt most_input_bytes (length bytes))) left-here ∙ ap (end_from (left eaten rest)) (not-longer (length bytes) fits)
+
+    -- the source was read to its end
+    pub ends-last : IsAtEnd source' → (wm : ℕ) → wb ≤ wm → wm ≤ wn → (end : FeedEnd) → IsLast wm wn is_finished eaten (length rest) end
+        → IsFed (stream source source' rb rn) (stream sink sink' wb wn) is_finished end
+    ends-last at_end wm first grown ends.Whole last = (record {
+      bytes = bytes;
+      answered = all-answered;
+      at_end = at_end;
+      within = fits;
+      end_is = end-here ∙ end-none eaten rest last.0;
+    }, last.1)
+    ends-last at_end wm first grown (ends.Cut place) last = record {
+      bytes = bytes;
+      answered = all-answered;
+      at_end = at_end;
+      within = fits;
+      end_is = end-here ∙ end-some eaten rest last.0 ∙ ap ends.Cut (sym last.1);
+    }
+    ends-last at_end wm first grown ends.WriteFailed last = record {
+      bytes = bytes;
+      taken = feeding.taken;
+      within = fits;
+      rose = rose-late wb wm wn first last.1 grown;
+      front = appends-all sink sink' (answers_of bytes) all-answered.written;
+    }
+    ends-last at_end wm first grown (ends.Bad field place) last = absurd last
+    ends-last at_end wm first grown ends.TooLong last = absurd last
+    ends-last at_end wm first grown ends.ReadFailed last = absurd last
+    ends-last at_end wm first grown ends.NoMemory last = absurd last
+
+    -- a read failed
+    pub ends-unread : (rm : ℕ) → rb ≤ rm → rm ≤ rn → Rose rm rn → IsFed (stream source source' rb rn) (stream sink sink' wb wn) is_finished ends.ReadFailed
+    ends-unread rm first grown rose = record {
+      bytes = bytes;
+      answered = all-answered;
+      within = fits;
+      rose = rose-late rb rm rn first rose grown;
+      goes_on = subst IsOpen (sym end-here) (is-open eaten rest);
+    }
+
+    -- a byte more than the longest input is there
+    pub ends-long : (source'' : Known) (piece : List ℕ) → Takes source' source'' piece → length piece ≡ 1 → eaten + length rest ≡ most_input_bytes
+        → IsFed (stream source source'' rb rn) (stream sink sink' wb wn) is_finished ends.TooLong
+    ends-long source'' piece takes one full =
+        let taken : List ℕ = bytes ++ piece in
+        let long : length bytes ≡ most_input_bytes = omega (arith, full, feeding.eaten_is, length-append feeding.front rest) in
+        let none : most_input_bytes - length bytes ≡ 0 = omega (arith, long) in
+        let again : (more : List ℕ) → feed_of (taken ++ more) ≡ record { answers = feeding.answers ++ []; tail = left eaten rest } = λ more.
+            ap feed_of (append_assoc bytes piece more)
+            ∙ on (piece ++ more)
+            ∙ ap (λ n. with_answers feeding.answers (fed frames eaten state (rest ++ take n (piece ++ more)))) none
+            ∙ ap (λ xs. with_answers feeding.answers (fed frames eaten state xs)) (append-nil rest)
+            ∙ ap (with_answers feeding.answers) (fed-part frames eaten state rest needed cut) in
+        let answers : (more : List ℕ) → answers_of (taken ++ more) ≡ feeding.answers = λ more. ap (λ (f : Fed). f.answers) (again more) ∙ append-nil feeding.answers in
+        let now : answers_of taken ≡ feeding.answers = ap answers_of (sym (append-nil taken)) ∙ answers [] in
+        record {
+          bytes = taken;
+          answered = record {
+            taken = Takes-append source source' source'' bytes piece feeding.taken takes;
+            written = subst (Appends sink sink') (sym now) feeding.written;
+          };
+          within = omega (arith, long, one, length-append bytes piece);
+          end_is = λ more.
+              let over : most_input_bytes < length (taken ++ more) = omega (arith, long, one, length-append bytes piece, length-append taken more) in
+              ap (λ (f : Fed). end_from f.tail (nat_lt most_input_bytes (length (taken ++ more)))) (again more)
+              ∙ ap (end_from (left eaten rest)) (longer (length (taken ++ more)) over);
+          no_more = λ more. answers more ∙ sym now;
+        }
+
+  -- ---- where no frame begins so
+
+  pub ends-bad : (field : BadKind) (offset place : ℕ) → decoded_of rest ≡ Err (Bad field offset) → offset < length rest → place ≡ eaten + offset
+      → IsFed (stream source source' rb rn) (stream sink sink' wb wn) is_finished (ends.Bad field place)
+  ends-bad field offset place refused within at =
+      let some : 0 < frames = omega (arith, within, feeding.few, feeding.within) in
+      let again : (more : List ℕ) → feed_of (bytes ++ more) ≡ record { answers = feeding.answers ++ []; tail = bad field place } = λ more.
+          on more
+          ∙ ap (with_answers feeding.answers) (fed-bad frames eaten state (rest ++ take (most_input_bytes - length bytes) more) field offset some (bad-on rest (take (most_input_bytes - length bytes) more) field offset refused))
+          ∙ ap (λ n. with_answers feeding.answers (record { answers = []; tail = bad field n })) (sym at) in
+      let answers : (more : List ℕ) → answers_of (bytes ++ more) ≡ feeding.answers = λ more. ap (λ (f : Fed). f.answers) (again more) ∙ append-nil feeding.answers in
+      let now : answers_of bytes ≡ feeding.answers = ap answers_of (sym (append-nil bytes)) ∙ answers [] in
+      record {
+        bytes = bytes;
+        answered = record { taken = feeding.taken; written = subst (Appends sink sink') (sym now) feeding.written };
+        within = fits;
+        end_is = λ more. ap (λ (f : Fed). end_from f.tail (nat_lt most_input_bytes (length (bytes ++ more)))) (again more);
+        no_more = λ more. answers more ∙ sym now;
+      }
+
+  -- ---- where a write fails
+
+  pub ends-unwritten : (sink'' : Known) (wm : ℕ) → wb ≤ wm → wm ≤ wn → FailsOne wm wn sink' sink'' state rest
+      → IsFed (stream source source' rb rn) (stream sink sink'' wb wn) is_finished ends.WriteFailed
+  ends-unwritten sink'' wm first grown fails =
+      let some : 0 < fails.used = fails.some in
+      let used : fails.used ≤ length rest = fails.within in
+      let fuel : frames ≡ suc (frames - 1) = omega (arith, some, used, feeding.few, feeding.within) in
+      let later : Fed = fed (frames - 1) (eaten + fails.used) (answered state fails.message fails.version).1 (drop fails.used rest) in
+      let step : feed_of bytes ≡ with_answers feeding.answers (with_answers (answer_bytes (answered state fails.message fails.version).0) later) =
+          here
+          ∙ ap (λ n. with_answers feeding.answers (fed n eaten state rest)) fuel
+          ∙ ap (λ read. with_answers feeding.answers (fed_on (fed (frames - 1)) eaten state rest read)) (begins-decoded rest fails.message fails.version fails.used fails.begins) in
+      record {
+        bytes = bytes;
+        taken = feeding.taken;
+        within = fits;
+        rose = rose-late wb wm wn first fails.rose grown;
+        front = subst (AppendsPrefix sink sink'') (sym (ap (λ (f : Fed). f.answers) step))
+            (appends-front sink sink' sink'' feeding.answers (answer_bytes (answered state fails.message fails.version).0) later.answers feeding.written fails.written);
+      }
+
+  -- ---- where memory is wanted
+
+  front-here : length feeding.front ≤ most_input_bytes → feed_of feeding.front ≡ with_answers feeding.answers (fed frames eaten state [])
+  unfolding feed_of
+  front-here short = ap (fed most_input_bytes 0 no_flows) (take_all most_input_bytes feeding.front short ∙ sym (append-nil feeding.front)) ∙ feeding.goes []
+
+  pub ends-wanting : IsFed (stream source source' rb rn) (stream sink sink' wb wn) is_finished ends.NoMemory
+  ends-wanting =
+      let short : length feeding.front ≤ most_input_bytes = omega (arith, feeding.within, feeding.eaten_is) in
+      let so_far : feed_of feeding.front ≡ with_answers feeding.answers (fed frames eaten state []) = front-here short in
+      let now : answers_of feeding.front ≡ feeding.answers = ap (λ (f : Fed). f.answers) so_far ∙ ap (λ xs. feeding.answers ++ xs) (fed-nothing frames eaten state) ∙ append-nil feeding.answers in
+      record {
+        front = feeding.front;
+        rest = rest;
+        later = (fed frames eaten state rest).answers;
+        taken = feeding.taken;
+        within = fits;
+        written = subst (Appends sink sink') (sym now) feeding.written;
+        begins = ap (λ (f : Fed). f.answers) here ∙ ap (λ xs. xs ++ (fed frames eaten state rest).answers) (sym now);
+      }

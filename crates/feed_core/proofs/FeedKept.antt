@@ -1,0 +1,333 @@
+-- What holds of a feed's fields holds after each message, and each answer has a frame.
+use Rattle.std.proofs.Common.{◌≡◌, ◌≢◌, ℕ, zero, suc, ◌+◌, ◌<◌, ◌≤◌, Bool, true, false, nat_lt, if◌then◌else◌, Option, Some, None, option_map, unwrap_or, List, [], ◌∷◌, length, map, replicate, slice_get, slice_set, ap, sym, refl, subst, ◌∙◌, arith, cond}
+use Rattle.std.specs.List.{AllByRecursion}
+use Rattle.std.proofs.lemmas.Bool.Decides.{nat_tests}
+use Rattle.std.proofs.lemmas.List.{length-set, length-map}
+use Rattle.ccp_base.specs.declared.ack.Ack.{Ack}
+use Rattle.ccp_base.specs.declared.fields.FieldReg.{FieldReg}
+use Rattle.ccp_base.specs.declared.fields.FieldReg.TheVariants as field
+use Rattle.ccp_base.specs.FieldReg.{Pair, first_bad}
+use Rattle.ccp_base.specs.Limits.{most_flows, most_kept_programs, most_messages}
+use Rattle.ccp_base.specs.Truth.{is_true}
+use Rattle.reg_code.specs.declared.code.Code.{Code}
+use Rattle.reg_code.specs.AcceptedCode.{◌or_else◌, Refusal, rejected, IsAccepted, sizes_of, counts_refusal, events_refusal}
+use Rattle.reg_code.specs.CodeStart.{with_value, with_values, declared_kept}
+use Rattle.reg_code.specs.CodeStep.{Kept, IsKeptOf, Work, done, failed, stuck, events_of, begun, settled, mone, made_of}
+use Rattle.reg_code.specs.CodeStep as steps
+use Rattle.reg_code.specs.SoundLaws.{HasSizes, WorkSized, events-sized, none-next, IsSound-accepted}
+use Rattle.reply_frames.specs.declared.outline.Version.{Version}
+use Rattle.reply_frames.specs.declared.outline.Version.TheVariants.{One, Two}
+use Rattle.ccp_messages.specs.declared.message.Message.{Message}
+use Rattle.ccp_messages.specs.declared.message.Message.TheVariants.{Create, Measure, Install, Update, Change, Fault, Refused}
+use Rattle.ccp_messages.specs.declared.message.Message.TheVariants as message
+use Rattle.ccp_messages.specs.Messages.{AreFew, IsShortCount, Meets}
+use Rattle.fold_machine.specs.declared.acked.Acked.{Acked}
+use Rattle.fold_machine.specs.declared.acked.Acked.TheVariants as acked
+use Rattle.fold_machine.specs.MachineState.{MachineState, Fits}
+use Rattle.fold_machine.specs.Heard.{heard, heard_where, after_made, started_by, updated_by}
+use Rattle.feed_core.specs.declared.flow.Epoch.{Epoch}
+use Rattle.feed_core.specs.declared.flow.Flow.{Flow}
+use Rattle.feed_core.specs.Feed.{FeedState, there, no_flows, Answer, Answered, refused, with_flow, fresh_flow, created_at, installed_as, installed_at, next_epoch, changed_flow, is_too_wide, changed_with, changed_to, changed_at, code_of, updated_flow, updated_with, updated_on, updated_at, counted_flow, first_after, flow_after, told_of, in_version, acked_on, acked_at, told, answered}
+use Rattle.feed_core.specs.FeedHolds.{RunsOn, IsFlow, IsFlowThere, IsAcceptedThere, AreHeld, IsFeed, HasFrame}
+
+-- ---- lists of places
+
+each-there : {A : Type 0} (P : Option A → Type 0) → P None → (xs : List (Option A)) (n : ℕ) → AllByRecursion P xs → P (there xs n)
+each-there P none [] n all = none
+each-there P none (x ∷ xs) zero all = all.0
+each-there P none (x ∷ xs) (suc n) all = each-there P none xs n all.1
+
+each-set : {A : Type 0} (P : Option A → Type 0) (xs : List (Option A)) (n : ℕ) (x : Option A) → P x → AllByRecursion P xs → AllByRecursion P (slice_set xs n x)
+each-set P [] n x is all = all
+each-set P (y ∷ xs) zero x is all = (is, all.1)
+each-set P (y ∷ xs) (suc n) x is all = (all.0, each-set P xs n x is all.1)
+
+each-too : {A : Type 0} (P Q : A → Type 0) → ((x : A) → P x → Q x) → (xs : List A) → AllByRecursion P xs → AllByRecursion Q xs
+each-too P Q too [] all = tt
+each-too P Q too (x ∷ xs) all = (too x all.0, each-too P Q too xs all.1)
+
+each-none : {A : Type 0} (P : Option A → Type 0) → P None → (n : ℕ) → AllByRecursion P (replicate n None)
+each-none P none zero = tt
+each-none P none (suc n) = (none, each-none P none n)
+
+-- what is there stays where something is put at a free place
+there-stays : {A : Type 0} (xs : List (Option A)) (p q : ℕ) (y : Option A) (x : A) → there xs p ≡ None → there xs q ≡ Some x → there (slice_set xs p y) q ≡ Some x
+there-stays [] p q y x free is = is
+there-stays (z ∷ xs) zero zero y x free is = let bad : ⊥ = cc in absurd bad
+there-stays (z ∷ xs) zero (suc q) y x free is = is
+there-stays (z ∷ xs) (suc p) zero y x free is = is
+there-stays (z ∷ xs) (suc p) (suc q) y x free is = there-stays xs p q y x free is
+
+-- ---- the registers of a code stay as many
+
+one-kept : (reg : FieldReg) (value : ℕ) (code : Code) (kept : Kept) → IsKeptOf code kept → IsKeptOf code (with_value reg value kept)
+one-kept field.Cwnd value code kept is = record { reports = is.reports; controls = is.controls }
+one-kept field.Rate value code kept is = record { reports = is.reports; controls = is.controls }
+one-kept (field.Control i) value code kept is = record { reports = is.reports; controls = length-set kept.controls i value ∙ is.controls }
+
+with-kept : (values : List Pair) (code : Code) (kept : Kept) → IsKeptOf code kept → IsKeptOf code (with_values values kept)
+with-kept [] code kept is = is
+with-kept (pair ∷ rest) code kept is = with-kept rest code (with_value pair.0 pair.1 kept) (one-kept pair.0 pair.1 code kept is)
+
+started-fits : (code : Code) (values : List Pair) (last : ℕ) (machine : MachineState) → Fits (started_by code values last machine) code
+started-fits code values last machine = record {
+  started = refl;
+  kept = with-kept values code (declared_kept code machine.kept.cwnd machine.kept.rate last)
+      (record { reports = length-map code.reports _; controls = length-map code.controls _ });
+}
+
+updated-fits : (code : Code) (values : List Pair) (machine : MachineState) → Fits machine code → Fits (updated_by values machine) code
+updated-fits code values machine fits = record { started = fits.started; kept = with-kept values code machine.kept fits.kept }
+
+heard-fits : (stopped : Bool) (code : Code) (ack : Ack) (machine : MachineState) → IsAccepted code → Fits machine code → Fits (heard_where stopped code ack true machine).1 code
+heard-fits true code ack machine accepted fits = record { started = fits.started; kept = fits.kept }
+heard-fits false code ack machine accepted fits = record { started = fits.started; kept = (IsSound-accepted code accepted).kept machine.kept ack true fits.kept }
+
+-- ---- answers have frames
+
+short : (version : Version) (n : ℕ) → n ≤ most_messages → IsShortCount version n
+short One n small = omega (arith, small)
+short Two n small = tt
+
+module _ (code : Code) (ack : Ack) (n : ℕ) (epoch : Epoch) (flow : Flow) (first : flow.first ≤ flow.count) (count : flow.count < most_messages) (few : AreFew flow.version (length code.reports)) where
+  asked-framed : (asked : Bool) (machine : MachineState) (kept : Kept) (ran : ℕ) → length kept.reports ≡ length code.reports
+      → HasFrame (in_version flow.version (told_of (after_made (made_of (steps.answered code asked true kept) ran) machine) ack n epoch flow))
+  asked-framed false machine kept ran sized = tt
+  asked-framed true machine kept ran sized =
+      (short flow.version flow.first (omega (arith, first, count)), short flow.version (flow.count + 1) (omega (arith, count)), subst (AreFew flow.version) (sym sized) few)
+
+  work-framed : (work : Work) (kept : Kept) (machine : MachineState) → WorkSized (sizes_of code) work
+      → HasFrame (in_version flow.version (told_of (after_made (settled code kept true work) machine) ack n epoch flow))
+  work-framed (done ran regs) kept machine sized = asked-framed (is_true regs.send) machine regs.kept ran sized.reports
+  work-framed (failed kind index ran) kept machine sized = short flow.version flow.count (omega (arith, count))
+  work-framed (stuck ran) kept machine sized = absurd sized
+
+  heard-framed : (stopped : Bool) (machine : MachineState) → IsAccepted code → Fits machine code
+      → HasFrame (in_version flow.version (told_of (heard_where stopped code ack true machine) ack n epoch flow))
+  heard-framed true machine accepted fits = tt
+  heard-framed false machine accepted fits =
+      let none = none-next (counts_refusal code or_else events_refusal code.events 0 (length code.instrs)) _ accepted in
+      work-framed (events_of code.events 0 code.instrs ack 0 (begun machine.kept)) machine.kept machine
+      (events-sized code.events (sizes_of code) 0 0 code.instrs ack 0 (begun machine.kept) none (record { reports = fits.kept.reports; controls = fits.kept.controls }))
+
+  -- a report ends the span, which begins at most at the count
+  first-within : (came : Option Acked × MachineState) → first_after came.0 flow ≤ flow.count + 1
+  first-within (None, machine) = omega (arith, first)
+  first-within (Some acked.Quiet, machine) = omega (arith, first)
+  first-within (Some acked.Reported, machine) = omega arith
+  first-within (Some acked.Held, machine) = omega (arith, first)
+  first-within (Some (acked.Faulted kind index), machine) = omega (arith, first)
+  first-within (Some acked.Stopped, machine) = omega (arith, first)
+
+-- ---- a message
+
+-- what holds after a message: of the fields, and of the answer
+abbrev pub IsKept : ℕ → Answered → Type 0
+IsKept messages (answer, state) = AreHeld state.flows state.programs messages × HasFrame answer
+
+kept-if : (messages : ℕ) (b : Bool) (x y : Answered) → IsKept messages x → IsKept messages y → IsKept messages (cond b x y)
+kept-if messages true x y p q = p
+kept-if messages false x y p q = q
+
+-- a flow after one more message
+later : (programs : List (Option Code)) (messages : ℕ) (flow : Option Flow) → IsFlowThere programs messages flow → IsFlowThere programs (messages + 1) flow
+later programs messages None is = tt
+later programs messages (Some flow) is = record { counted = omega (arith, is.counted); spanned = is.spanned; changed = omega (arith, is.changed); runs = is.runs }
+
+module _ (state : FeedState) (held : IsFeed state) where
+  kept-same : (answer : Answer) → HasFrame answer → IsKept (state.messages + 1) (answer, state)
+  kept-same answer framed = (
+    record {
+      flows_full = held.flows_full;
+      programs_full = held.programs_full;
+      accepted = held.accepted;
+      each = each-too (IsFlowThere state.programs state.messages) (IsFlowThere state.programs (state.messages + 1)) (later state.programs state.messages) state.flows held.each;
+    },
+    framed,
+  )
+
+  kept-refused : (version : Version) (n reason index : ℕ) → 1 ≤ reason → reason ≤ 9 → IsKept (state.messages + 1) (refused state version n reason index)
+  kept-refused version n reason index least most = kept-same (Some (Refused n reason index, version)) (least, most)
+
+  kept-flow : (n : ℕ) (flow : Flow) (answer : Answer) → IsFlow state.programs (state.messages + 1) flow → HasFrame answer → IsKept (state.messages + 1) (answer, with_flow state n flow)
+  kept-flow n flow answer is framed = (
+    record {
+      flows_full = length-set state.flows n (Some flow) ∙ held.flows_full;
+      programs_full = held.programs_full;
+      accepted = held.accepted;
+      each = each-set (IsFlowThere state.programs (state.messages + 1)) state.flows n (Some flow) is
+          (each-too (IsFlowThere state.programs state.messages) (IsFlowThere state.programs (state.messages + 1)) (later state.programs state.messages) state.flows held.each);
+    },
+    framed,
+  )
+
+  flow-there : (n : ℕ) → IsFlowThere state.programs state.messages (there state.flows n)
+  flow-there n = each-there (IsFlowThere state.programs state.messages) tt state.flows n held.each
+
+  accepted-there : (p : ℕ) (code : Code) → there state.programs p ≡ Some code → IsAccepted code
+  accepted-there p code is = subst IsAcceptedThere is (each-there IsAcceptedThere tt state.programs p held.accepted)
+
+  -- ---- Create
+
+  kept-created : (there : Option Flow) (version : Version) (n cwnd : ℕ) → IsKept (state.messages + 1) (created_at there state version n cwnd)
+  kept-created (Some flow) version n cwnd = kept-refused version n 2 0 (omega arith) (omega arith)
+  kept-created None version n cwnd = kept-flow n (fresh_flow version cwnd) None (record { counted = omega arith; spanned = omega arith; changed = omega arith; runs = tt }) tt
+
+  -- ---- Install
+
+  runs-stay : (epoch : Epoch) (version : Version) (machine : MachineState) (o o' : Option Code) → ((code : Code) → o ≡ Some code → o' ≡ Some code)
+      → RunsOn (Some epoch) version machine (option_map (λ code. (epoch, code)) o) → RunsOn (Some epoch) version machine (option_map (λ code. (epoch, code)) o')
+  runs-stay epoch version machine None o' stays runs = absurd runs
+  runs-stay epoch version machine (Some code) o' stays runs =
+      subst (λ (o : Option Code). RunsOn (Some epoch) version machine (option_map (λ code. (epoch, code)) o)) (sym (stays code refl)) runs
+
+  flow-stays : (p : ℕ) (code : Code) → there state.programs p ≡ None → (flow : Option Flow)
+      → IsFlowThere state.programs state.messages flow → IsFlowThere (slice_set state.programs p (Some code)) (state.messages + 1) flow
+  flow-stays p code free None is = tt
+  flow-stays p code free (Some flow) is = record {
+    counted = omega (arith, is.counted);
+    spanned = is.spanned;
+    changed = omega (arith, is.changed);
+    runs = go flow.epoch is.runs;
+  }
+    where
+      go : (epoch : Option Epoch) → RunsOn epoch flow.version flow.machine (code_of epoch state.programs)
+          → RunsOn epoch flow.version flow.machine (code_of epoch (slice_set state.programs p (Some code)))
+      go None runs = tt
+      go (Some epoch) runs = runs-stay epoch flow.version flow.machine (there state.programs epoch.program) (there (slice_set state.programs p (Some code)) epoch.program)
+          (λ other is. there-stays state.programs p epoch.program (Some code) other free is) runs
+
+  kept-as : (version : Version) (n program : ℕ) (code : Code) → there state.programs program ≡ None → (o : Option Refusal) → rejected code ≡ o
+      → IsKept (state.messages + 1) (installed_as o state version n program code)
+  kept-as version n program code free (Some refusal) is = kept-refused version n 7 refusal.1 (omega arith) (omega arith)
+  kept-as version n program code free None is = (
+    record {
+      flows_full = held.flows_full;
+      programs_full = length-set state.programs program (Some code) ∙ held.programs_full;
+      accepted = each-set IsAcceptedThere state.programs program (Some code) is held.accepted;
+      each = each-too (IsFlowThere state.programs state.messages) (IsFlowThere (slice_set state.programs program (Some code)) (state.messages + 1)) (flow-stays program code free) state.flows held.each;
+    },
+    tt,
+  )
+
+  kept-installed : (version : Version) (n program : ℕ) (code : Code) (o : Option Code) → there state.programs program ≡ o
+      → IsKept (state.messages + 1) (installed_at o state version n program code)
+  kept-installed version n program code (Some old) is = kept-refused version n 5 program (omega arith) (omega arith)
+  kept-installed version n program code None is = kept-as version n program code is (rejected code) refl
+
+  -- ---- Change
+
+  few : (version : Version) (code : Code) → is_too_wide version code ≡ false → AreFew version (length code.reports)
+  few One code is = grind (arith, nat_tests)
+  few Two code is = tt
+
+  module _ (version : Version) (n program : ℕ) (values : List Pair) (flow : Flow) (is : IsFlow state.programs state.messages flow) where
+    kept-with : (code : Code) → there state.programs program ≡ Some code → is_too_wide flow.version code ≡ false → (o : Option ℕ)
+        → IsKept (state.messages + 1) (changed_with o state version n program values flow code)
+    kept-with code here fits (Some place) = kept-refused version n 8 place (omega arith) (omega arith)
+    kept-with code here fits None = kept-flow n (changed_flow code program values flow) None (record {
+      counted = omega (arith, is.counted);
+      spanned = omega arith;
+      changed = omega (arith, is.changed);
+      runs = subst (λ (o : Option Code). RunsOn (Some (record { program = program; number = next_epoch flow.epoch })) flow.version (started_by code values flow.last flow.machine) (option_map (λ code. (record { program = program; number = next_epoch flow.epoch }, code)) o))
+          (sym here) (started-fits code values flow.last flow.machine, few flow.version code fits);
+    }) tt
+
+    kept-narrow : (code : Code) → there state.programs program ≡ Some code → (b : Bool) → is_too_wide flow.version code ≡ b
+        → IsKept (state.messages + 1) (cond b (refused state version n 9 program) (changed_with (first_bad (length code.controls) values) state version n program values flow code))
+    kept-narrow code here true wide = kept-refused version n 9 program (omega arith) (omega arith)
+    kept-narrow code here false wide = kept-with code here wide (first_bad (length code.controls) values)
+
+    kept-to : (o : Option Code) → there state.programs program ≡ o → IsKept (state.messages + 1) (changed_to o state version n program values flow)
+    kept-to None here = kept-refused version n 6 program (omega arith) (omega arith)
+    kept-to (Some code) here = kept-narrow code here (is_too_wide flow.version code) refl
+
+  kept-changed : (version : Version) (n program : ℕ) (values : List Pair) (flow : Option Flow) → IsFlowThere state.programs state.messages flow
+      → IsKept (state.messages + 1) (changed_at flow state version n program values)
+  kept-changed version n program values None is = kept-refused version n 3 0 (omega arith) (omega arith)
+  kept-changed version n program values (Some flow) is =
+      kept-if (state.messages + 1) (nat_lt program most_kept_programs) (changed_to (there state.programs program) state version n program values flow) (refused state version n 4 program)
+      (kept-to version n program values flow is (there state.programs program) refl)
+      (kept-refused version n 4 program (omega arith) (omega arith))
+
+  -- ---- Update and Ack: the program that was started is there
+
+  runs-at : (epoch : Epoch) (program : Option Epoch) (version : Version) (machine : MachineState) (code : Code) → program ≡ Some epoch → there state.programs epoch.program ≡ Some code
+      → Fits machine code → AreFew version (length code.reports) → RunsOn program version machine (code_of program state.programs)
+  runs-at epoch program version machine code e here fits few =
+      subst (λ (p : Option Epoch). RunsOn p version machine (code_of p state.programs)) (sym e)
+      (subst (λ (o : Option Code). RunsOn (Some epoch) version machine (option_map (λ code. (epoch, code)) o)) (sym here) (fits, few))
+
+  module _ (n : ℕ) (flow : Flow) (is : IsFlow state.programs state.messages flow) where
+    runs-now : (epoch : Option Epoch) → flow.epoch ≡ epoch → RunsOn epoch flow.version flow.machine (code_of epoch state.programs)
+    runs-now epoch e = subst (λ (p : Option Epoch). RunsOn p flow.version flow.machine (code_of p state.programs)) e is.runs
+
+    module _ (version : Version) (values : List Pair) where
+      kept-written : (epoch : Epoch) (code : Code) → flow.epoch ≡ Some epoch → there state.programs epoch.program ≡ Some code → Fits flow.machine code → AreFew flow.version (length code.reports)
+          → (o : Option ℕ) → IsKept (state.messages + 1) (updated_with o state version n values flow)
+      kept-written epoch code e here fits few (Some place) = kept-refused version n 8 place (omega arith) (omega arith)
+      kept-written epoch code e here fits few None = kept-flow n (updated_flow values flow) None (record {
+        counted = omega (arith, is.counted);
+        spanned = is.spanned;
+        changed = omega (arith, is.changed);
+        runs = runs-at epoch flow.epoch flow.version (updated_by values flow.machine) code e here (updated-fits code values flow.machine fits) few;
+      }) tt
+
+      kept-updated-code : (epoch : Epoch) → flow.epoch ≡ Some epoch → (o : Option Code) → there state.programs epoch.program ≡ o
+          → RunsOn (Some epoch) flow.version flow.machine (option_map (λ code. (epoch, code)) o)
+          → IsKept (state.messages + 1) (updated_on (option_map (λ code. (epoch, code)) o) state version n values flow)
+      kept-updated-code epoch e None here runs = absurd runs
+      kept-updated-code epoch e (Some code) here runs = kept-written epoch code e here runs.0 runs.1 (first_bad (length code.controls) values)
+
+      kept-updated-on : (epoch : Option Epoch) → flow.epoch ≡ epoch → IsKept (state.messages + 1) (updated_on (code_of epoch state.programs) state version n values flow)
+      kept-updated-on None e = kept-refused version n 6 0 (omega arith) (omega arith)
+      kept-updated-on (Some epoch) e = kept-updated-code epoch e (there state.programs epoch.program) refl (runs-now (Some epoch) e)
+
+    module _ (small : state.messages < most_messages) (ack : Ack) where
+      kept-acked-code : (epoch : Epoch) → flow.epoch ≡ Some epoch → (o : Option Code) → there state.programs epoch.program ≡ o
+          → RunsOn (Some epoch) flow.version flow.machine (option_map (λ code. (epoch, code)) o)
+          → IsKept (state.messages + 1) (acked_on (option_map (λ code. (epoch, code)) o) state n ack flow)
+      kept-acked-code epoch e None here runs = absurd runs
+      kept-acked-code epoch e (Some code) here runs =
+          let accepted = accepted-there epoch.program code here in
+          let came = heard code ack true flow.machine in
+          let count : flow.count < most_messages = omega (arith, is.counted, small) in
+          kept-flow n (flow_after came ack flow) (in_version flow.version (told_of came ack n epoch flow)) (record {
+            counted = omega (arith, is.counted);
+            spanned = first-within code ack n epoch flow is.spanned count runs.1 came;
+            changed = omega (arith, is.changed);
+            runs = runs-at epoch flow.epoch flow.version came.1 code e here (heard-fits flow.machine.is_stopped code ack flow.machine accepted runs.0) runs.1;
+          }) (heard-framed code ack n epoch flow is.spanned count runs.1 flow.machine.is_stopped flow.machine accepted runs.0)
+
+      kept-acked-on : (epoch : Option Epoch) → flow.epoch ≡ epoch → IsKept (state.messages + 1) (acked_on (code_of epoch state.programs) state n ack flow)
+      kept-acked-on None e = kept-flow n (counted_flow ack flow) None (record {
+        counted = omega (arith, is.counted);
+        spanned = omega (arith, is.spanned);
+        changed = omega (arith, is.changed);
+        runs = is.runs;
+      }) tt
+      kept-acked-on (Some epoch) e = kept-acked-code epoch e (there state.programs epoch.program) refl (runs-now (Some epoch) e)
+
+  kept-updated : (version : Version) (n : ℕ) (values : List Pair) (flow : Option Flow) → IsFlowThere state.programs state.messages flow
+      → IsKept (state.messages + 1) (updated_at flow state version n values)
+  kept-updated version n values None is = kept-refused version n 3 0 (omega arith) (omega arith)
+  kept-updated version n values (Some flow) is = kept-updated-on n flow is version values flow.epoch refl
+
+  kept-acked : (version : Version) (n : ℕ) (ack : Ack) → state.messages < most_messages → (flow : Option Flow) → IsFlowThere state.programs state.messages flow
+      → IsKept (state.messages + 1) (acked_at flow state version n ack)
+  kept-acked version n ack small None is = kept-refused version n 3 0 (omega arith) (omega arith)
+  kept-acked version n ack small (Some flow) is = kept-acked-on n flow is small ack flow.epoch refl
+
+  pub told-kept : (message : Message) (version : Version) → state.messages < most_messages → IsKept (state.messages + 1) (told state message version)
+  told-kept (Create n mss cwnd) version small =
+      kept-if (state.messages + 1) (nat_lt n most_flows) (created_at (there state.flows n) state version n cwnd) (refused state version n 1 0)
+      (kept-created (there state.flows n) version n cwnd) (kept-refused version n 1 0 (omega arith) (omega arith))
+  told-kept (Install n program code) version small =
+      kept-if (state.messages + 1) (nat_lt program most_kept_programs) (installed_at (there state.programs program) state version n program code) (refused state version n 4 program)
+      (kept-installed version n program code (there state.programs program) refl) (kept-refused version n 4 program (omega arith) (omega arith))
+  told-kept (Change n program values) version small = kept-changed version n program values (there state.flows n) (flow-there n)
+  told-kept (Update n values) version small = kept-updated version n values (there state.flows n) (flow-there n)
+  told-kept (message.Ack n ack) version small = kept-acked version n ack small (there state.flows n) (flow-there n)
+  told-kept (Measure report) version small = kept-same None tt
+  told-kept (Fault notice) version small = kept-same None tt
+  told-kept (Refused n reason index) version small = kept-same None tt

@@ -1,0 +1,71 @@
+-- The answers to bytes that no whole frame begins.
+use Rattle.std.proofs.Common.{◌≡◌, ◌≢◌, ℕ, zero, suc, ◌+◌, ◌-◌, ◌<◌, ◌≤◌, ◌^◌, Bool, true, false, nat_lt, Option, Some, None, Result, Ok, Err, List, [], ◌∷◌, ◌++◌, length, take, drop, option_map, ap, sym, refl, subst, ◌∙◌, arith, append_assoc, length-append, append-nil}
+use Rattle.std.proofs.Math.Seq.{take-append-add}
+use Rattle.std.proofs.lemmas.Bool.Decides.{nat_tests}
+use Rattle.std.proofs.lemmas.List.{take_all, take-append-le}
+use Rattle.ccp_base.specs.Limits.{most_input_bytes}
+use Rattle.ccp_base.specs.Outside.{Known, Rose, Takes, IsAtEnd, Appends, AppendsPrefix, Takes-append, Appends-append}
+use Rattle.reply_frames.specs.declared.fault.BadKind.{BadKind}
+use Rattle.reply_frames.specs.declared.fault.Stop.TheVariants as stops
+use Rattle.reply_frames.specs.Frames.{frame_at}
+use Rattle.reply_frames.proofs.ExactFrames.{exact-frame}
+use Rattle.ccp_messages.specs.declared.message.Message.{Message}
+use Rattle.reply_frames.specs.declared.outline.Version.{Version}
+use Rattle.ccp_messages.specs.declared.fault.DecodeFault.{DecodeFault}
+use Rattle.ccp_messages.specs.declared.fault.DecodeFault.TheVariants.{More, Bad, NoMemory}
+use Rattle.ccp_messages.specs.Decoding.{Found, Begins, found_from, decoded_from, decoded_of}
+use Rattle.ccp_messages.proofs.DecodeLaws.{begins-decoded, decoded-begins, decoded-bad}
+use Rattle.feed_core.specs.declared.ending.FeedEnd.{FeedEnd}
+use Rattle.feed_core.specs.declared.ending.FeedEnd.TheVariants as ends
+use Rattle.feed_core.specs.Feed.{FeedState, no_flows, answered}
+use Rattle.feed_core.specs.FeedHolds.{IsFeed}
+use Rattle.feed_core.specs.FeedBytes.{Tail, left, bad, Fed, answer_bytes, with_answers, fed_on, fed, feed_of, IsFeeding}
+use Rattle.feed_core.specs.FeedTurns.{FailsOne}
+use Rattle.feed_core.specs.FeedEnds.{answers_of, end_from, end_of, stream, Answers, IsOpen, IsFed}
+use Rattle.feed_core.specs.FeedLast.{IsLast}
+use Rattle.feed_core.proofs.FeedEats.{some-used}
+
+pub take-front : (n : ℕ) (xs ys : List ℕ) → length xs ≤ n → take n (xs ++ ys) ≡ xs ++ take (n - length xs) ys
+take-front n xs ys within =
+    let parts : n ≡ length xs + (n - length xs) = omega (arith, within) in
+    ap (λ k. take k (xs ++ ys)) parts ∙ take-append-add xs ys (n - length xs)
+
+-- a part of a frame has no answers
+pub fed-part : (frames place : ℕ) (state : FeedState) (bytes : List ℕ) (needed : ℕ) → decoded_of bytes ≡ Err (More needed)
+    → fed frames place state bytes ≡ record { answers = []; tail = left place bytes }
+fed-part zero place state bytes needed e = refl
+fed-part (suc frames) place state bytes needed e = ap (fed_on (fed frames) place state bytes) e
+
+-- nor have bytes that no frame begins with
+pub fed-bad : (frames place : ℕ) (state : FeedState) (bytes : List ℕ) (field : BadKind) (offset : ℕ) → 0 < frames → decoded_of bytes ≡ Err (Bad field offset)
+    → fed frames place state bytes ≡ record { answers = []; tail = bad field (place + offset) }
+fed-bad zero place state bytes field offset some e = absurd (omega (arith, some))
+fed-bad (suc frames) place state bytes field offset some e = ap (fed_on (fed frames) place state bytes) e
+
+-- no bytes have no answers
+pub nothing-read : (frames place : ℕ) (state : FeedState) (read : Result Found DecodeFault) → decoded_of [] ≡ read → (fed_on (fed frames) place state [] read).answers ≡ []
+nothing-read frames place state (Ok (message, version, used)) e =
+    let begins = decoded-begins [] (message, version, used) (λ i. omega arith) e in
+    let used' = some-used [] message version used begins in
+    absurd (omega (arith, used'.0, used'.1))
+nothing-read frames place state (Err (More needed)) e = refl
+nothing-read frames place state (Err (Bad field offset)) e = refl
+nothing-read frames place state (Err NoMemory) e = refl
+
+pub fed-nothing : (frames place : ℕ) (state : FeedState) → (fed frames place state []).answers ≡ []
+fed-nothing zero place state = refl
+fed-nothing (suc frames) place state = nothing-read frames place state (decoded_of []) refl
+
+-- bytes that no frame begins with stay so, whatever follows
+pub bad-on : (bytes more : List ℕ) (field : BadKind) (place : ℕ) → decoded_of bytes ≡ Err (Bad field place) → decoded_of (bytes ++ more) ≡ Err (Bad field place)
+bad-on bytes more field place e =
+    let is = decoded-bad bytes field place e in
+    let r = exact-frame.bad bytes field (length bytes - place) is.1 in
+    let rest : List ℕ = r.byte ∷ (r.after ++ more) in
+    let parts : bytes ++ more ≡ r.front ++ rest = ap (λ xs. xs ++ more) r.parts ∙ append_assoc r.front (r.byte ∷ r.after) more in
+    let read : frame_at (bytes ++ more) ≡ Err (stops.Bad field (length rest)) = ap frame_at parts ∙ r.again (r.after ++ more) in
+    let within : place < length bytes = is.0.within in
+    let at : length (bytes ++ more) - length rest ≡ place =
+        omega (arith, within, r.left_is, ap length r.parts, length-append r.front (r.byte ∷ r.after), ap length parts, length-append r.front rest) in
+    ap (λ read. decoded_from (bytes ++ more) (found_from (length (bytes ++ more)) read)) read ∙ ap (λ n. Err (Bad field n)) at
+

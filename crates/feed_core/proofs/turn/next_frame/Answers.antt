@@ -1,0 +1,28 @@
+use Rattle.std.proofs.Common.{sym, subst, arith}
+use Rattle.feed_core.specs.FeedHolds.{state_of}
+use Rattle.feed_core.specs.FeedTurns.{IsTurn}
+use Rattle.feed_core.proofs.FeedEats.{some-used}
+use Rattle.feed_core.proofs.TurnLemmas.{turns-without}
+use Rattle.feed_core.proofs.turn.next_frame.Goals as goal
+
+pub returns-in-Ok-answer-clause-turn : goal.returns-in-Ok-answer-clause-turn
+returns-in-Ok-answer-clause-turn g c =
+    let used = some-used c.args.bytes.now c.in-Ok.message c.in-Ok.version c.in-Ok.used c.in-Ok.ensures.found in
+    record {
+      message = c.in-Ok.message;
+      version = c.in-Ok.version;
+      begins = c.in-Ok.ensures.found;
+      some = used.0;
+      within = used.1;
+      next = sym c.in-Ok-answer.ensures.state;
+      counted = c.in-Ok-answer.ensures.one;
+      written = c.in-Ok-answer.ensures.written;
+      held = c.in-Ok-answer.ensures.held;
+    }
+
+pub returns-in-Err-clause-turn : goal.returns-in-Err-clause-turn
+returns-in-Err-clause-turn g c =
+    subst (IsTurn (g.K.Sink.faults c.args.sink.now) (g.K.Sink.faults c.args.sink.now) (g.K.Sink.written c.args.sink.now) (g.K.Sink.written c.args.sink.now) (state_of c.args.feed.now) (state_of c.args.feed.now) c.args.bytes.now)
+        (sym c.without_frame.ensures)
+        (turns-without (g.K.Sink.faults c.args.sink.now) (g.K.Sink.written c.args.sink.now) (state_of c.args.feed.now) c.args.bytes.now (λ i. omega (arith, c.type_inv.bytes i))
+            c.decode.result c.decode.ensures.told c.decode.ensures.more c.decode.ensures.bad c.in-Err.fault c.in-Err.is)

@@ -1,0 +1,212 @@
+-- What a datapath over a stream of frames keeps, and its answer to a message.
+use Rattle.std.specs.Prelude.{◌≡◌, ℕ, ◌+◌, ◌<◌, ◌≤◌, nat_lt, Bool, true, false, ◌&&◌, if◌then◌else◌, Option, Some, None, option_map, unwrap_or, List, length, slice_get, slice_set, replicate, map}
+use Rattle.std.specs.Option.{option_and_then}
+use Rattle.ccp_base.specs.declared.ack.Ack.{Ack}
+use Rattle.ccp_base.specs.FieldReg.{Pair, first_bad}
+use Rattle.ccp_base.specs.Limits.{most_flows, most_kept_programs, most_short_fields}
+use Rattle.reg_code.specs.declared.code.Code.{Code}
+use Rattle.reg_code.specs.AcceptedCode.{Refusal, rejected}
+use Rattle.reply_frames.specs.declared.outline.Version.{Version}
+use Rattle.reply_frames.specs.declared.outline.Version.TheVariants.{One, Two}
+use Rattle.ccp_messages.specs.declared.message.Message.{Message}
+use Rattle.ccp_messages.specs.declared.message.Message.TheVariants.{Create, Measure, Install, Update, Change, Fault, Refused}
+use Rattle.ccp_messages.specs.declared.message.Message.TheVariants as message
+use Rattle.fold_machine.specs.declared.acked.Acked.{Acked}
+use Rattle.fold_machine.specs.declared.acked.Acked.TheVariants as acked
+use Rattle.fold_machine.specs.MachineState.{MachineState, fresh_machine}
+use Rattle.fold_machine.specs.Heard.{heard, started_by, updated_by}
+use Rattle.feed_core.specs.declared.flow.Epoch.{Epoch}
+use Rattle.feed_core.specs.declared.flow.Flow.{Flow}
+
+-- the flows and the programs by number, where they are there, and how many messages there were
+pub record FeedState : Type 0 where
+  pub flows : List (Option Flow)
+  pub programs : List (Option Code)
+  pub messages : ℕ
+
+-- what has this number
+abbrev pub there : {A : Type 0} → List (Option A) → ℕ → Option A
+there places n = unwrap_or (slice_get places n) None
+
+-- room for flows 0 to 63 and programs 0 to 15, and none at first
+abbrev pub no_flows : FeedState
+no_flows = record { flows = replicate most_flows None; programs = replicate most_kept_programs None; messages = 0 }
+
+-- an answer with its version
+abbrev pub Answer : Type 0
+Answer = Option (Message × Version)
+
+-- the answer to a message, and the state after it
+abbrev pub Answered : Type 0
+Answered = Answer × FeedState
+
+-- a refused frame is answered in its own version, and changes nothing
+abbrev pub refused : FeedState → Version → ℕ → ℕ → ℕ → Answered
+refused state version n reason index = (Some (Refused n reason index, version), state)
+
+abbrev pub with_flow : FeedState → ℕ → Flow → FeedState
+with_flow state n flow = record state { flows = slice_set state.flows n (Some flow) }
+
+-- ---- Create: a flow with a window, without a program
+
+abbrev pub fresh_flow : Version → ℕ → Flow
+fresh_flow version cwnd = record { version = version; machine = fresh_machine cwnd 0 0; epoch = None; first = 0; count = 0; last = 0 }
+
+abbrev pub created_at : Option Flow → FeedState → Version → ℕ → ℕ → Answered
+created_at (Some flow) state version n cwnd = refused state version n 2 0
+created_at None state version n cwnd = (None, with_flow state n (fresh_flow version cwnd))
+
+abbrev pub created : FeedState → Version → ℕ → ℕ → Answered
+created state version n cwnd =
+    if nat_lt n most_flows then created_at (there state.flows n) state version n cwnd else refused state version n 1 0
+
+-- ---- Install: an accepted code is kept
+
+abbrev pub installed_as : Option Refusal → FeedState → Version → ℕ → ℕ → Code → Answered
+installed_as (Some refusal) state version n program code = refused state version n 7 refusal.1
+installed_as None state version n program code = (None, record state { programs = slice_set state.programs program (Some code) })
+
+abbrev pub installed_at : Option Code → FeedState → Version → ℕ → ℕ → Code → Answered
+installed_at (Some old) state version n program code = refused state version n 5 program
+installed_at None state version n program code = installed_as (rejected code) state version n program code
+
+abbrev pub installed : FeedState → Version → ℕ → ℕ → Code → Answered
+installed state version n program code =
+    if nat_lt program most_kept_programs then installed_at (there state.programs program) state version n program code
+    else refused state version n 4 program
+
+-- ---- Change: the program starts with the values; the first change of a flow is its epoch 0
+
+abbrev pub next_epoch : Option Epoch → ℕ
+next_epoch None = 0
+next_epoch (Some epoch) = epoch.number + 1
+
+abbrev pub changed_flow : Code → ℕ → List Pair → Flow → Flow
+changed_flow code program values flow = record flow {
+  machine = started_by code values flow.last flow.machine;
+  epoch = Some (record { program = program; number = next_epoch flow.epoch });
+  first = flow.count;
+}
+
+-- a report of the program has no frame in the version
+abbrev pub is_too_wide : Version → Code → Bool
+is_too_wide One code = nat_lt most_short_fields (length code.reports)
+is_too_wide Two code = false
+
+abbrev pub changed_with : Option ℕ → FeedState → Version → ℕ → ℕ → List Pair → Flow → Code → Answered
+changed_with (Some place) state version n program values flow code = refused state version n 8 place
+changed_with None state version n program values flow code = (None, with_flow state n (changed_flow code program values flow))
+
+abbrev pub changed_to : Option Code → FeedState → Version → ℕ → ℕ → List Pair → Flow → Answered
+changed_to None state version n program values flow = refused state version n 6 program
+changed_to (Some code) state version n program values flow =
+    if is_too_wide flow.version code then refused state version n 9 program
+    else changed_with (first_bad (length code.controls) values) state version n program values flow code
+
+abbrev pub changed_at : Option Flow → FeedState → Version → ℕ → ℕ → List Pair → Answered
+changed_at None state version n program values = refused state version n 3 0
+changed_at (Some flow) state version n program values =
+    if nat_lt program most_kept_programs then changed_to (there state.programs program) state version n program values flow
+    else refused state version n 4 program
+
+abbrev pub changed : FeedState → Version → ℕ → ℕ → List Pair → Answered
+changed state version n program values = changed_at (there state.flows n) state version n program values
+
+-- ---- Update: values for the program that was started; a stopped one stays stopped
+
+-- the code that a flow runs
+abbrev pub code_of : Option Epoch → List (Option Code) → Option (Epoch × Code)
+code_of None programs = None
+code_of (Some epoch) programs = option_map (λ code. (epoch, code)) (there programs epoch.program)
+
+abbrev pub updated_flow : List Pair → Flow → Flow
+updated_flow values flow = record flow { machine = updated_by values flow.machine }
+
+abbrev pub updated_with : Option ℕ → FeedState → Version → ℕ → List Pair → Flow → Answered
+updated_with (Some place) state version n values flow = refused state version n 8 place
+updated_with None state version n values flow = (None, with_flow state n (updated_flow values flow))
+
+abbrev pub updated_on : Option (Epoch × Code) → FeedState → Version → ℕ → List Pair → Flow → Answered
+updated_on None state version n values flow = refused state version n 6 0
+updated_on (Some (epoch, code)) state version n values flow =
+    updated_with (first_bad (length code.controls) values) state version n values flow
+
+abbrev pub updated_at : Option Flow → FeedState → Version → ℕ → List Pair → Answered
+updated_at None state version n values = refused state version n 3 0
+updated_at (Some flow) state version n values = updated_on (code_of flow.epoch state.programs) state version n values flow
+
+abbrev pub updated : FeedState → Version → ℕ → List Pair → Answered
+updated state version n values = updated_at (there state.flows n) state version n values
+
+-- ---- Ack: one acknowledgement with room for a report, or only counted where no program was started
+
+abbrev pub counted_flow : Ack → Flow → Flow
+counted_flow ack flow = record flow { count = flow.count + 1; last = ack.now }
+
+-- a report ends the span that it reports
+abbrev pub first_after : Option Acked → Flow → ℕ
+first_after (Some acked.Reported) flow = flow.count + 1
+first_after _ flow = flow.first
+
+abbrev pub flow_after : Option Acked × MachineState → Ack → Flow → Flow
+flow_after (came, machine) ack flow = record flow { machine = machine; first = first_after came flow; count = flow.count + 1; last = ack.now }
+
+-- what is told of a flow after an acknowledgement: its report, or its fault
+abbrev pub told_of : Option Acked × MachineState → Ack → ℕ → Epoch → Flow → Option Message
+told_of (Some acked.Reported, machine) ack n epoch flow = Some (Measure (record {
+  flow = n;
+  program = epoch.program;
+  epoch = epoch.number;
+  first = flow.first;
+  end = flow.count + 1;
+  now = ack.now;
+  cwnd = machine.kept.cwnd;
+  rate = machine.kept.rate;
+  fields = machine.report;
+}))
+told_of (Some (acked.Faulted kind index), machine) ack n epoch flow = Some (Fault (record {
+  flow = n;
+  program = epoch.program;
+  epoch = epoch.number;
+  at = flow.count;
+  kind = kind;
+  index = index;
+  now = ack.now;
+  cwnd = machine.kept.cwnd;
+}))
+told_of _ ack n epoch flow = None
+
+abbrev pub in_version : Version → Option Message → Answer
+in_version version told = option_map (λ message. (message, version)) told
+
+abbrev pub acked_on : Option (Epoch × Code) → FeedState → ℕ → Ack → Flow → Answered
+acked_on None state n ack flow = (None, with_flow state n (counted_flow ack flow))
+acked_on (Some (epoch, code)) state n ack flow =
+    let came = heard code ack true flow.machine in
+    (in_version flow.version (told_of came ack n epoch flow), with_flow state n (flow_after came ack flow))
+
+abbrev pub acked_at : Option Flow → FeedState → Version → ℕ → Ack → Answered
+acked_at None state version n ack = refused state version n 3 0
+acked_at (Some flow) state version n ack = acked_on (code_of flow.epoch state.programs) state n ack flow
+
+abbrev pub acked_by : FeedState → Version → ℕ → Ack → Answered
+acked_by state version n ack = acked_at (there state.flows n) state version n ack
+
+-- ---- a message of any kind
+
+abbrev pub told : FeedState → Message → Version → Answered
+told state (Create n mss cwnd) version = created state version n cwnd
+told state (Install n program code) version = installed state version n program code
+told state (Change n program values) version = changed state version n program values
+told state (Update n values) version = updated state version n values
+told state (message.Ack n ack) version = acked_by state version n ack
+told state (Measure report) version = (None, state)
+told state (Fault notice) version = (None, state)
+told state (Refused n reason index) version = (None, state)
+
+abbrev pub counted : Answered → Answered
+counted (answer, state) = (answer, record state { messages = state.messages + 1 })
+
+-- the answer to a message, and the state after it; every message counts
+abbrev pub answered : FeedState → Message → Version → Answered
+answered state message version = counted (told state message version)

@@ -1,0 +1,97 @@
+-- How an input of frames ends, and what a feed has taken and written then.
+use Rattle.std.specs.Prelude.{◌≡◌, ◌≢◌, ℕ, ◌+◌, ◌≤◌, nat_lt, Bool, true, false, List, [], ◌∷◌, ◌++◌, length}
+use Rattle.ccp_base.specs.Outside.{Known, Rose, Takes, IsAtEnd, TakesOver, Appends, AppendsPrefix}
+use Rattle.ccp_base.specs.Limits.{most_input_bytes}
+use Rattle.feed_core.specs.declared.ending.FeedEnd.{FeedEnd}
+use Rattle.feed_core.specs.declared.ending.FeedEnd.TheVariants.{Whole, Bad, Cut, TooLong, ReadFailed, WriteFailed, NoMemory}
+use Rattle.feed_core.specs.FeedBytes.{Tail, left, bad, feed_of}
+
+-- the answers to the frames of an input, as they are written
+abbrev pub answers_of : List ℕ → List ℕ
+answers_of bytes = (feed_of bytes).answers
+
+-- the end after these frames, where the input is longer than the longest one or isn't: the first that holds of a bad
+-- frame, a further byte, a last frame that is cut, and else it is whole
+abbrev pub end_from : Tail → Bool → FeedEnd
+end_from (bad field place) longer = Bad field place
+end_from (left place rest) true = TooLong
+end_from (left place []) false = Whole
+end_from (left place (byte ∷ rest)) false = Cut place
+
+-- the end of an input
+abbrev pub end_of : List ℕ → FeedEnd
+end_of bytes = end_from (feed_of bytes).tail (nat_lt most_input_bytes (length bytes))
+
+-- a source or a sink over a call: the bytes that it has left, or was given, before and after, and how many of its calls
+-- had failed before and after
+pub record Stream : Type 0 where
+  pub old : Known
+  pub new : Known
+  pub before : ℕ
+  pub now : ℕ
+
+abbrev pub stream : Known → Known → ℕ → ℕ → Stream
+stream old new before now = record { old = old; new = new; before = before; now = now }
+
+-- these bytes were taken, and exactly the answers to the frames that they begin with were written
+pub record Answers (source sink : Stream) (bytes : List ℕ) : Type 0 where
+  pub taken : Takes source.old source.new bytes
+  pub written : Appends sink.old sink.new (answers_of bytes)
+
+-- the source was read to its end, and the input ends so
+pub record EndsThere (source sink : Stream) (end : FeedEnd) : Type 0 where
+  pub bytes : List ℕ
+  pub answered : Answers source sink bytes
+  pub at_end : IsAtEnd source.new
+  pub within : length bytes ≤ most_input_bytes
+  pub end_is : end_of bytes ≡ end
+
+-- the input ends so whatever follows what was taken of it, and has no further answers
+pub record EndsBefore (limit : ℕ) (source sink : Stream) (end : FeedEnd) : Type 0 where
+  pub bytes : List ℕ
+  pub answered : Answers source sink bytes
+  pub within : length bytes ≤ limit
+  pub end_is : (more : List ℕ) → end_of (bytes ++ more) ≡ end
+  pub no_more : (more : List ℕ) → answers_of (bytes ++ more) ≡ answers_of bytes
+
+-- the frames aren't at their end: none is bad, and there is no further byte
+abbrev pub IsOpen : FeedEnd → Type 0
+IsOpen Whole = Unit {0}
+IsOpen (Cut place) = Unit {0}
+IsOpen _ = ⊥
+
+-- a read failed, and all frames that were whole before it are answered
+pub record FailsToRead (source sink : Stream) : Type 0 where
+  pub bytes : List ℕ
+  pub answered : Answers source sink bytes
+  pub within : length bytes ≤ most_input_bytes
+  pub rose : Rose source.before source.now
+  pub goes_on : IsOpen (end_of bytes)
+
+-- a write failed, and a front of the answers to what was taken was written
+pub record FailsToWrite (source sink : Stream) : Type 0 where
+  pub bytes : List ℕ
+  pub taken : Takes source.old source.new bytes
+  pub within : length bytes ≤ most_input_bytes
+  pub rose : Rose sink.before sink.now
+  pub front : AppendsPrefix sink.old sink.new (answers_of bytes)
+
+-- memory was wanted, and the frames before are answered
+pub record WantsMemory (source sink : Stream) : Type 0 where
+  pub front : List ℕ
+  pub rest : List ℕ
+  pub later : List ℕ
+  pub taken : Takes source.old source.new (front ++ rest)
+  pub within : length (front ++ rest) ≤ most_input_bytes
+  pub written : Appends sink.old sink.new (answers_of front)
+  pub begins : answers_of (front ++ rest) ≡ answers_of front ++ later
+
+-- what each end of a feed says
+abbrev pub IsFed : Stream → Stream → Type 0 → FeedEnd → Type 0
+IsFed source sink is_finished Whole = EndsThere source sink Whole × is_finished
+IsFed source sink is_finished (Bad field place) = EndsBefore most_input_bytes source sink (Bad field place)
+IsFed source sink is_finished (Cut place) = EndsThere source sink (Cut place)
+IsFed source sink is_finished TooLong = EndsBefore (most_input_bytes + 1) source sink TooLong
+IsFed source sink is_finished ReadFailed = FailsToRead source sink
+IsFed source sink is_finished WriteFailed = FailsToWrite source sink
+IsFed source sink is_finished NoMemory = WantsMemory source sink

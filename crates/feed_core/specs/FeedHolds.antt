@@ -1,0 +1,61 @@
+-- What holds of a feed's fields.
+use Rattle.std.specs.Prelude.{◌≡◌, ℕ, ◌+◌, ◌<◌, ◌≤◌, Option, Some, None, option_map, List, length, map}
+use Rattle.std.specs.List.{AllByRecursion}
+use Rattle.reg_code.specs.declared.code.Code.{Code}
+use Rattle.reg_code.specs.declared.checked.Checked.{Checked}
+use Rattle.reg_code.specs.AcceptedCode.{IsAccepted}
+use Rattle.reply_frames.specs.declared.outline.Version.{Version}
+use Rattle.ccp_messages.specs.declared.message.Message.{Message}
+use Rattle.ccp_messages.specs.Messages.{AreFew, Meets}
+use Rattle.fold_machine.specs.MachineState.{MachineState, Fits}
+use Rattle.ccp_base.specs.Limits.{most_flows, most_kept_programs}
+use Rattle.feed_core.specs.declared.flow.Epoch.{Epoch}
+use Rattle.feed_core.specs.declared.flow.Flow.{Flow}
+use Rattle.feed_core.specs.declared.feed.Feed.{Feed}
+use Rattle.feed_core.specs.Feed.{FeedState, Answer, next_epoch, code_of}
+
+-- the code of an accepted one
+abbrev pub code_in : Option Checked → Option Code
+code_in checked = option_map (λ (c : Checked). c.code) checked
+
+abbrev pub codes_in : List (Option Checked) → List (Option Code)
+codes_in programs = map code_in programs
+
+-- what contracts see of a feed
+abbrev pub state_of : Feed → FeedState
+state_of feed = record { flows = feed.flows.items; programs = codes_in feed.programs.items; messages = feed.messages }
+
+-- the flow's machine runs the code, whose reports have frames of the flow's version
+abbrev pub RunsOn : Option Epoch → Version → MachineState → Option (Epoch × Code) → Type 0
+RunsOn None version machine running = Unit {0}
+RunsOn (Some epoch) version machine None = ⊥
+RunsOn (Some epoch) version machine (Some (same, code)) = Fits machine code × AreFew version (length code.reports)
+
+-- after so many messages
+pub record IsFlow (programs : List (Option Code)) (messages : ℕ) (flow : Flow) : Type 0 where
+  pub counted : flow.count ≤ messages
+  pub spanned : flow.first ≤ flow.count
+  pub changed : next_epoch flow.epoch ≤ messages
+  pub runs : RunsOn flow.epoch flow.version flow.machine (code_of flow.epoch programs)
+
+abbrev pub IsFlowThere : List (Option Code) → ℕ → Option Flow → Type 0
+IsFlowThere programs messages None = Unit {0}
+IsFlowThere programs messages (Some flow) = IsFlow programs messages flow
+
+abbrev pub IsAcceptedThere : Option Code → Type 0
+IsAcceptedThere None = Unit {0}
+IsAcceptedThere (Some code) = IsAccepted code
+
+pub record AreHeld (flows : List (Option Flow)) (programs : List (Option Code)) (messages : ℕ) : Type 0 where
+  pub flows_full : length flows ≡ most_flows
+  pub programs_full : length programs ≡ most_kept_programs
+  pub accepted : AllByRecursion IsAcceptedThere programs
+  pub each : AllByRecursion (IsFlowThere programs messages) flows
+
+abbrev pub IsFeed : FeedState → Type 0
+IsFeed state = AreHeld state.flows state.programs state.messages
+
+-- the answer has a frame
+abbrev pub HasFrame : Answer → Type 0
+HasFrame None = Unit {0}
+HasFrame (Some (message, version)) = Meets version message

@@ -1,0 +1,13 @@
+-- The end of an input that was read to its end.
+use Rattle.std.specs.Prelude.{◌≡◌, ℕ, ◌<◌}
+use Rattle.ccp_base.specs.Outside.{Rose}
+use Rattle.feed_core.specs.declared.ending.FeedEnd.{FeedEnd}
+use Rattle.feed_core.specs.declared.ending.FeedEnd.TheVariants.{Whole, Bad, Cut, TooLong, ReadFailed, WriteFailed, NoMemory}
+
+-- its frames are whole and the sink finished or didn't, or a frame is cut whose place this is, of which some bytes are
+-- left
+abbrev pub IsLast : (before now : ℕ) → (is_finished : Type 0) → (place left : ℕ) → FeedEnd → Type 0
+IsLast before now is_finished place left Whole = (left ≡ 0) × is_finished
+IsLast before now is_finished place left (Cut start) = (0 < left) × (start ≡ place)
+IsLast before now is_finished place left WriteFailed = (left ≡ 0) × Rose before now
+IsLast before now is_finished place left _ = ⊥

@@ -1,0 +1,58 @@
+-- What one more frame of a feed comes to.
+use Rattle.std.specs.Prelude.{◌≡◌, ℕ, ◌+◌, ◌<◌, ◌≤◌, List, length, Result, Err}
+use Rattle.ccp_base.specs.Outside.{Known, Rose, Appends, AppendsPrefix}
+use Rattle.ccp_base.specs.Limits.{most_frame_bytes}
+use Rattle.reply_frames.specs.declared.outline.Version.{Version}
+use Rattle.ccp_messages.specs.declared.message.Message.{Message}
+use Rattle.ccp_messages.specs.declared.fault.DecodeFault.{DecodeFault}
+use Rattle.ccp_messages.specs.declared.fault.DecodeFault.TheVariants.{More, Bad, NoMemory}
+use Rattle.ccp_messages.specs.Decoding.{Begins, decoded_of}
+use Rattle.feed_core.specs.declared.turn.Turn.{Turn}
+use Rattle.feed_core.specs.declared.turn.Turn.TheVariants as turn
+use Rattle.feed_core.specs.Feed.{FeedState, answered}
+use Rattle.feed_core.specs.FeedHolds.{IsFeed}
+use Rattle.feed_core.specs.FeedBytes.{answer_bytes}
+
+-- a frame begins the bytes, and its whole answer was written
+pub record AnswersOne (old new : Known) (state state' : FeedState) (bytes : List ℕ) (used : ℕ) : Type 0 where
+  pub message : Message
+  pub version : Version
+  pub begins : Begins bytes message version used
+  pub some : 0 < used
+  pub within : used ≤ length bytes
+  pub next : (answered state message version).1 ≡ state'
+  pub counted : state'.messages ≡ state.messages + 1
+  pub written : Appends old new (answer_bytes (answered state message version).0)
+  pub held : IsFeed state'
+
+-- a frame begins the bytes, and a write of its answer failed
+pub record FailsOne (before now : ℕ) (old new : Known) (state : FeedState) (bytes : List ℕ) : Type 0 where
+  pub message : Message
+  pub version : Version
+  pub used : ℕ
+  pub begins : Begins bytes message version used
+  pub some : 0 < used
+  pub within : used ≤ length bytes
+  pub rose : Rose before now
+  pub written : AppendsPrefix old new (answer_bytes (answered state message version).0)
+
+-- what bytes come to that don't begin with a frame
+abbrev pub without_frame : DecodeFault → Turn
+without_frame (More needed) = turn.Part
+without_frame (Bad field offset) = turn.Bad field offset
+without_frame NoMemory = turn.NoMemory
+
+-- no frame begins the bytes, which are a part of one
+pub record IsPart (old new : Known) (state state' : FeedState) (bytes : List ℕ) : Type 0 where
+  pub needed : ℕ
+  pub more : decoded_of bytes ≡ Err (More needed)
+  pub short : length bytes < most_frame_bytes
+  pub same : state' ≡ state
+  pub nothing : new ≡ old
+
+abbrev pub IsTurn : (before now : ℕ) (old new : Known) (state state' : FeedState) (bytes : List ℕ) → Turn → Type 0
+IsTurn before now old new state state' bytes (turn.Answered used) = AnswersOne old new state state' bytes used
+IsTurn before now old new state state' bytes turn.Part = IsPart old new state state' bytes
+IsTurn before now old new state state' bytes (turn.Bad field offset) = (decoded_of bytes ≡ Err (Bad field offset)) × (offset < length bytes) × (new ≡ old)
+IsTurn before now old new state state' bytes turn.WriteFailed = FailsOne before now old new state bytes
+IsTurn before now old new state state' bytes turn.NoMemory = new ≡ old

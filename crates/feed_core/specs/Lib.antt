@@ -1,0 +1,8 @@
+pub mod Feed
+pub mod FeedBytes
+pub mod FeedEnds
+pub mod FeedHolds
+pub mod FeedLast
+pub mod FeedStops
+pub mod FeedTurns
+pub mod Rests

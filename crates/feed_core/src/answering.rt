@@ -1,0 +1,78 @@
+//! The answer to one frame of a feed, written.
+
+ghost use Rattle.std.specs.Prelude.{◌≡◌, ◌+◌, ◌<◌, ◌≤◌, OnOk, IfErr};
+ghost use Rattle.ccp_base.specs.Outside.{Rose, Appends, AppendsPrefix};
+ghost use Rattle.ccp_base.specs.Limits.{most_messages};
+ghost use Rattle.feed_core.specs.Feed.{answered};
+ghost use Rattle.feed_core.specs.FeedHolds.{state_of, IsFeed};
+ghost use Rattle.ccp_messages.specs.Messages.{Meets, frame_bytes};
+ghost use Rattle.feed_core.specs.FeedBytes.{answer_bytes};
+ghost use Rattle.feed_core.specs.FeedStops.{StopsAnswer};
+
+use crate::feed::Feed;
+use ccp_base::{NoMemory, Sink, write_all};
+use ccp_messages::{Message, encode_into};
+use reply_frames::Version;
+use std::alloc::Global;
+
+/// How many bytes an answer has at the most.
+const ANSWER: usize = 576;
+
+/// Why an answer wasn't written.
+#[derive(Clone, Copy, PartialEq, Eq, Debug)]
+pub enum Unanswered {
+    /// A write failed; a front of the answer was written.
+    Write,
+    NoMemory,
+}
+
+impl From<NoMemory> for Unanswered {
+    ghost use Rattle.std.specs.Prelude.{◌≡◌};
+    ghost use Rattle.feed_core.specs.declared.answering.Unanswered.TheVariants as unanswered;
+
+    ghost from_gives = { λ _ e. e ≡ unanswered.NoMemory };
+
+    fn from(_: NoMemory) -> Unanswered {
+        Unanswered::NoMemory
+    }
+}
+
+/// Answers a message, and writes the answer.
+pub fn answer<K: Sink>(
+    alloc: Global,
+    feed: &mut Feed,
+    message: Message,
+    version: Version,
+    sink: &mut K,
+) -> Result<(), Unanswered>
+    requires few { feed.old.messages < most_messages }
+    requires held { IsFeed (state_of feed.old) }
+    ensures state { OnOk result (state_of feed.new ≡ (answered (state_of feed.old) message version).1) }
+    ensures one { OnOk result (feed.new.messages ≡ feed.old.messages + 1) }
+    ensures written { OnOk result (Appends (K.written sink.old) (K.written sink.new) (answer_bytes (answered (state_of feed.old) message version).0)) }
+    ensures held { IsFeed (state_of feed.new) }
+    ensures counted { K.faults sink.old ≤ K.faults sink.new }
+    ensures err { IfErr result (StopsAnswer (K.faults sink.old) (K.faults sink.new) (K.written sink.old) (K.written sink.new) (answer_bytes (answered (state_of feed.old) message version).0)) }
+{
+    match feed.frame(alloc, message, version)? {
+        None => Ok(()),
+        Some((message, version)) => write(sink, &message, version),
+    }
+}
+
+/// Writes the frame of a message.
+fn write<K: Sink>(sink: &mut K, message: &Message, version: Version) -> Result<(), Unanswered>
+    requires { Meets version message.now }
+    ensures written { OnOk result (Appends (K.written sink.old) (K.written sink.new) (frame_bytes version message.now)) }
+    ensures counted { K.faults sink.old ≤ K.faults sink.new }
+    ensures err { IfErr result (StopsAnswer (K.faults sink.old) (K.faults sink.new) (K.written sink.old) (K.written sink.new) (frame_bytes version message.now)) }
+{
+    let mut out = [0u8; ANSWER];
+    match encode_into(message, version, &mut out) {
+        Ok(size) => match write_all(sink, &out[..size]) {
+            Ok(()) => Ok(()),
+            Err(_) => Err(Unanswered::Write),
+        },
+        Err(_) => Err(Unanswered::NoMemory),
+    }
+}

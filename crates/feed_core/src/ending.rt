@@ -1,0 +1,21 @@
+//! How a feed ends.
+
+use reply_frames::BadKind;
+
+/// How a feed ends.
+#[derive(Clone, Copy, PartialEq, Eq, Debug)]
+pub enum FeedEnd {
+    /// The source was read to its end, and its frames are whole.
+    Whole,
+    /// No frame goes on so: the field, and the offset of its first bad byte in the input.
+    Bad(BadKind, u64),
+    /// The input ends within the frame that begins at this offset.
+    Cut(u64),
+    /// The input has more than 1,048,576 bytes.
+    TooLong,
+    /// A read failed.
+    ReadFailed,
+    /// A write failed.
+    WriteFailed,
+    NoMemory,
+}

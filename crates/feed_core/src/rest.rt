@@ -1,0 +1,89 @@
+//! The bytes of a feed's input that no frame has taken yet.
+
+ghost use Rattle.std.specs.Prelude.{◌≡◌, ◌+◌, ◌-◌, ◌<◌, ◌≤◌, [], ◌++◌, length, drop};
+ghost use Rattle.ccp_base.specs.Limits.{most_frame_bytes};
+ghost use Rattle.feed_core.specs.Rests.{between, IsPiece};
+
+use crate::piece::Piece;
+use ccp_base::Source;
+
+/// The bytes of the longest frame.
+const LONGEST: usize = 8596;
+
+/// The bytes that were read and that no whole frame has taken, which are kept in place.
+#[derive(Clone, Copy, Debug)]
+pub struct Rest {
+    bytes: [u8; LONGEST],
+    start: usize,
+    end: usize,
+    ghost ordered: { start ≤ end },
+    ghost within: { end ≤ most_frame_bytes },
+}
+
+impl Rest {
+    /// No bytes.
+    pub fn new() -> Self
+        ensures { between result.bytes result.start result.end ≡ [] }
+    {
+        Rest {
+            bytes: [0; LONGEST],
+            start: 0,
+            end: 0,
+        }
+    }
+
+    /// How many bytes they are.
+    pub fn len(&self) -> usize
+        ensures { result ≡ length (between self.now.bytes self.now.start self.now.end) }
+    {
+        self.end - self.start
+    }
+
+    /// The bytes.
+    pub fn as_slice(&self) -> &[u8]
+        ensures { result.now ≡ between self.now.bytes self.now.start self.now.end }
+    {
+        &self.bytes[self.start..self.end]
+    }
+
+    /// Takes so many bytes off the front.
+    pub fn drop_front(&mut self, count: usize)
+        requires { count ≤ length (between self.old.bytes self.old.start self.old.end) }
+        ensures { between self.new.bytes self.new.start self.new.end ≡ drop count (between self.old.bytes self.old.start self.old.end) }
+    {
+        self.start += count;
+    }
+
+    /// Moves the bytes to the front of their place.
+    fn settle(&mut self)
+        ensures same { between self.new.bytes self.new.start self.new.end ≡ between self.old.bytes self.old.start self.old.end }
+        ensures start { self.new.start ≡ 0 }
+    {
+        let len = self.end - self.start;
+        self.bytes.copy_within(self.start..self.end, 0);
+        self.start = 0;
+        self.end = len;
+    }
+
+    /// Reads a piece of at most `room` bytes and puts it behind these. Where `room` is 0 it asks for one byte, and
+    /// keeps none.
+    pub fn read<S: Source>(&mut self, source: &mut S, room: usize) -> Piece
+        requires { length (between self.old.bytes self.old.start self.old.end) < most_frame_bytes }
+        ensures counted { S.faults source.old ≤ S.faults source.new }
+        ensures came { IsPiece (S.faults source.old) (S.faults source.new) (S.remaining source.old)
+            (S.remaining source.new) room (between self.old.bytes self.old.start self.old.end) (between self.new.bytes self.new.start self.new.end) result }
+    {
+        self.settle();
+        let asked = room.max(1).min(LONGEST - self.end);
+        let to = self.end + asked;
+        match source.read(&mut self.bytes[self.end..to]) {
+            Err(_) => Piece::Failed,
+            Ok(0) => Piece::End,
+            Ok(_) if room == 0 => Piece::Further,
+            Ok(count) => {
+                self.end += count;
+                Piece::Bytes(count)
+            }
+        }
+    }
+}

@@ -1,0 +1,55 @@
+//! The next frame of a feed, answered.
+
+ghost use Rattle.std.specs.Prelude.{◌≡◌, ◌+◌, ◌≤◌, length};
+ghost use Rattle.ccp_base.specs.Limits.{most_messages};
+ghost use Rattle.feed_core.specs.FeedHolds.{state_of, IsFeed};
+ghost use Rattle.feed_core.specs.FeedTurns.{without_frame, IsTurn};
+
+use crate::answering::{Unanswered, answer};
+use crate::feed::Feed;
+use ccp_base::Sink;
+use ccp_messages::{BadKind, DecodeFault, decode};
+use std::alloc::Global;
+
+/// What the bytes after the frames that were answered came to.
+#[derive(Clone, Copy, PartialEq, Eq, Debug)]
+pub enum Turn {
+    /// They began with a frame of this length, and it was answered.
+    Answered(usize),
+    /// They are a proper prefix of a frame.
+    Part,
+    /// No frame begins so: the field, and the offset of the first byte that no frame goes on with.
+    Bad(BadKind, usize),
+    /// A write failed; a front of the answer was written.
+    WriteFailed,
+    NoMemory,
+}
+
+/// What bytes come to that don't begin with a frame.
+fn without_frame(fault: DecodeFault) -> Turn
+    ensures { result ≡ without_frame fault }
+{
+    match fault {
+        DecodeFault::More(_) => Turn::Part,
+        DecodeFault::Bad(field, offset) => Turn::Bad(field, offset),
+        DecodeFault::NoMemory => Turn::NoMemory,
+    }
+}
+
+/// Answers the frame that the bytes begin with.
+pub fn next_frame<K: Sink>(alloc: Global, feed: &mut Feed, bytes: &[u8], sink: &mut K) -> Turn
+    requires few { feed.old.messages + length bytes.now ≤ most_messages }
+    requires held { IsFeed (state_of feed.old) }
+    ensures counted { K.faults sink.old ≤ K.faults sink.new }
+    ensures turn { IsTurn (K.faults sink.old) (K.faults sink.new) (K.written sink.old) (K.written sink.new)
+        (state_of feed.old) (state_of feed.new) bytes.now result }
+{
+    match decode(alloc, bytes) {
+        Ok((message, version, used)) => match answer(alloc, feed, message, version, sink) {
+            Ok(()) => Turn::Answered(used),
+            Err(Unanswered::Write) => Turn::WriteFailed,
+            Err(Unanswered::NoMemory) => Turn::NoMemory,
+        },
+        Err(fault) => without_frame(fault),
+    }
+}

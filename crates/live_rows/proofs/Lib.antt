@@ -1,0 +1,2 @@
+pub mod LookWithin
+pub mod Numbered
