@@ -24,7 +24,7 @@ use Rattle.feed_core.specs.FeedBytes as feeds
 use Rattle.feed_core.specs.FeedEnds.{end_from, end_of}
 use Rattle.ccp_run.specs.declared.refusal.Limit.TheVariants.{Input, Audit}
 use Rattle.ccp_run.specs.declared.refusal.Refusal.{Refusal}
-use Rattle.ccp_run.specs.declared.refusal.Refusal.TheVariants.{TooLong, NoSeparator, Program, Line, TooManyAcks, Frame, FrameCut}
+use Rattle.ccp_run.specs.declared.refusal.Refusal.TheVariants.{TooLong, NoSeparator, Program, Line, TooManyAcks, Scene, Frame, FrameCut}
 use Rattle.ccp_run.specs.Check.{IsNoCheck}
 use Rattle.ccp_run.specs.FeedRuns.{IsNoFeed}
 use Rattle.ccp_run.specs.Fold.{acks_below, IsFold, HasNoProgram, HasBadLines, IsNoFold}
@@ -41,6 +41,7 @@ only_program bytes (Line n) bad = absurd bad
 only_program bytes TooManyAcks bad = absurd bad
 only_program bytes (Frame field place) bad = absurd bad
 only_program bytes (FrameCut place) bad = absurd bad
+only_program bytes (Scene fault) bad = absurd bad
 
 check_some : (bytes : List ℕ) → ((form : Form) × IsBuiltFrom bytes form) ⊎ ((fault : BuildFault) × IsNoProgram bytes fault) → IsInput (Alone Check) bytes ⊎ ((refusal : Refusal) × IsNoCheck bytes refusal)
 check_some bytes (inl built) = inl built
@@ -118,6 +119,7 @@ module _ (bytes : List ℕ) where
       let same : Ok acks ≡ Err lines.TooMany = one_lines input.cut bad.cut (Ok acks) (Err lines.TooMany) input.at_separator bad.at_separator input.lines bad.refused in cc
   fold_apart form acks (Frame field place) input bad = bad
   fold_apart form acks (FrameCut place) input bad = bad
+  fold_apart form acks (Scene fault) input bad = bad
 
   fold_one : (left right : Refusal) → IsNoFold bytes left → IsNoFold bytes right → left ≡ right
   fold_one (TooLong limit) right bad bad' = absurd bad
@@ -126,6 +128,8 @@ module _ (bytes : List ℕ) where
   fold_one left (Frame field place) bad bad' = absurd bad'
   fold_one (FrameCut place) right bad bad' = absurd bad
   fold_one left (FrameCut place) bad bad' = absurd bad'
+  fold_one (Scene fault) right bad bad' = absurd bad
+  fold_one left (Scene fault) bad bad' = absurd bad'
   fold_one NoSeparator NoSeparator bad bad' = refl
   fold_one NoSeparator (Program fault) bad bad' = absurd (no_cut bad'.cut bad bad'.at_separator)
   fold_one NoSeparator (Line n) bad bad' = absurd (no_cut bad'.cut bad bad'.at_separator)
@@ -182,6 +186,7 @@ no_feed bytes NoSeparator is = absurd is
 no_feed bytes (Program fault) is = absurd is
 no_feed bytes (Line n) is = absurd is
 no_feed bytes TooManyAcks is = absurd is
+no_feed bytes (Scene fault) is = absurd is
 no_feed bytes (Frame field place) is = ap refusal_of is
 no_feed bytes (FrameCut place) is = ap refusal_of is
 

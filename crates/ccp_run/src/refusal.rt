@@ -76,8 +76,8 @@ pub fn refusal_line(alloc: Global, refusal: &Refusal) -> Result<Bytes, NoMemory>
         Refusal::Line(number) => put_line_fault(alloc, &mut line, *number)?,
         Refusal::TooManyAcks => line.extend(b"ccp: input refused: too many acknowledgements\n")?,
         Refusal::Scene(fault) => put_scene_fault(alloc, &mut line, fault)?,
-        Refusal::Frame(field, place) => put_frame_fault(alloc, &mut line, field, place)?,
-        Refusal::FrameCut(place) => put_frame_cut(alloc, &mut line, place)?,
+        Refusal::Frame(field, place) => put_frame_fault(alloc, &mut line, *field, *place)?,
+        Refusal::FrameCut(place) => put_frame_cut(alloc, &mut line, *place)?,
     }
     Ok(line)
 }
