@@ -1,5 +1,5 @@
 -- Each text is a scenario's, or has one first refusal, over every reading of program texts.
-use Rattle.std.proofs.Common.{◌≡◌, ◌∙◌, ◌⊎◌, inl, inr, ℕ, Bool, Result, Ok, Err, List, ap, sym, refl, tt}
+use Rattle.std.proofs.Common.{◌≡◌, ◌∙◌, ◌⊎◌, inl, inr, ℕ, Bool, Result, Ok, Err, List, ap, sym, refl}
 use Rattle.portus_core.specs.Programs.{Form}
 use Rattle.portus_build.specs.declared.fault.BuildFault.{BuildFault}
 use Rattle.portus_build.proofs.SettledTexts.{settled_text}

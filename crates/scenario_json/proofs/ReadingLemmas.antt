@@ -1,4 +1,4 @@
-use Rattle.std.proofs.Common.{◌≡◌, inl, inr, List, ℕ, Option, Some, None, Result, Ok, Err, refl}
+use Rattle.std.proofs.Common.{◌≡◌, ◌≢◌, inl, inr, List, ℕ, Option, Some, None, Result, Ok, Err, IfOk, IfErr, ap, refl}
 use Rattle.portus_core.specs.Programs.{Form}
 use Rattle.portus_core.specs.Trees.{Nodes}
 use Rattle.portus_parser.specs.Spelling.{Spells}
@@ -9,8 +9,12 @@ use Rattle.scope_types.specs.WellScoped.{IsScoped}
 use Rattle.scope_types.proofs.Agreement.{scoped_from}
 use Rattle.reg_compiler.specs.declared.fault.CompileFault.{CompileFault}
 use Rattle.reg_compiler.specs.Refusal.{refusal_of}
+use Rattle.portus_core.specs.ProgramForm.{form_of}
+use Rattle.reg_compiler.specs.declared.built.Built.{Built}
+use Rattle.portus_build.specs.Settled.{IsSettled}
+use Rattle.portus_build.specs.Texts.{IsNoProgram, IsBuiltFrom}
 use Rattle.portus_build.specs.declared.fault.BuildFault.{BuildFault}
-use Rattle.portus_build.specs.declared.fault.BuildFault.TheVariants.{Parse, Scope, Compile}
+use Rattle.portus_build.specs.declared.fault.BuildFault.TheVariants.{Parse, Scope, Compile, NoMemory}
 use Rattle.scenario_json.specs.ScenePrograms.{Reading, ComesTo, IsReading}
 
 -- what a text comes to
@@ -36,3 +40,23 @@ outcome_of text = elim (IsSettled-always text).some [
 -- there is a reading of program texts
 pub some_reading : (read : Reading) × IsReading read
 some_reading = (λ text. (outcome_of text).0, record { at = λ text. (outcome_of text).1 })
+
+-- ---- what a reading gives for a text that is built, and for one that isn't
+
+same_ok : (text : List ℕ) → IsSettled text → (came : Result Form BuildFault) → ComesTo text came → (form : Form) → IsBuiltFrom text form → came ≡ Ok form
+same_ok text settled (Ok other) comes form built = ap Ok (settled.one other form comes built)
+same_ok text settled (Err fault) comes form built = absurd (settled.apart form fault built comes)
+
+same_err : (text : List ℕ) → IsSettled text → (came : Result Form BuildFault) → ComesTo text came → (fault : BuildFault) → IsNoProgram text fault → came ≡ Err fault
+same_err text settled (Ok form) comes fault refused = absurd (settled.apart form fault comes refused)
+same_err text settled (Err other) comes fault refused = ap Err (settled.one_refusal other fault comes refused)
+
+pub read_ok : (text : List ℕ) → IsSettled text → (result : Result Built BuildFault) → IfOk result (λ b. IsBuiltFrom text (form_of b.program))
+    → (read : Reading) → IsReading read → IfOk result (λ b. read text ≡ Ok (form_of b.program))
+read_ok text settled (Ok b) found read reading = same_ok text settled (read text) (reading.at text) (form_of b.program) found
+read_ok text settled (Err e) found read reading = tt
+
+pub read_err : (text : List ℕ) → IsSettled text → (result : Result Built BuildFault) → IfErr result (λ e. e ≢ NoMemory → IsNoProgram text e)
+    → (read : Reading) → IsReading read → IfErr result (λ e. e ≢ NoMemory → read text ≡ Err e)
+read_err text settled (Ok b) refused read reading = tt
+read_err text settled (Err e) refused read reading = λ other. same_err text settled (read text) (reading.at text) e (refused other)

@@ -32,7 +32,7 @@ loop-name-preserved c =
           ∙ sym (ap (λ es. programs_from read (forms_of l.builts) (members_view es)) step) ∙ l.invariant.0 read h,
       ap (λ ns. ns ++ names_of (members_view left)) names_at ∙ append_assoc l.names (k ∷ []) (names_of (members_view left))
           ∙ sym (ap (λ es. l.names ++ names_of (members_view es)) step) ∙ l.invariant.1,
-      subst (λ (bs : List (ℕ × Built)). AreNumberedFrom 0 bs) (sym builts) (numbered_pushed 0 l.builts (length l.builts, built) l.invariant.2 refl),
+      subst (λ (bs : List (ℕ × Built)). AreNumberedFrom 0 bs) (sym builts) (numbered_pushed 0 l.builts (length l.builts, built) l.invariant.2 (omega arith)),
       omega (arith, count, built_count, l.invariant.3),
       omega (arith, count, fewer, l.invariant.4),
     )
