@@ -1,6 +1,9 @@
-use Rattle.std.proofs.Common.{◌≡◌, ℕ, ◌<◌, List, Some, length, codes, refl, sym, ap, ◌∙◌, subst}
+use Rattle.std.proofs.Common.{◌≡◌, ℕ, ◌<◌, ◌≤◌, List, Some, None, cond, nat_lt, take, length, codes, refl, sym, ap, ◌∙◌, subst, arith}
 use Rattle.std.specs.Option.{ForSome}
-use Rattle.std.proofs.lemmas.List.{length-map}
+use Rattle.std.proofs.lemmas.Bool.Decides.{nat_tests}
+use Rattle.std.proofs.lemmas.List.{length-map, length-take}
+use Rattle.std.specs.List.{position_or_len}
+use Rattle.ccp_base.specs.Limits.{most_fields}
 use Rattle.ccp_base.specs.declared.look.Role.{Role}
 use Rattle.ccp_base.specs.declared.place.Place.{Place}
 use Rattle.portus_core.specs.declared.program.Decl.{Decl}
@@ -8,7 +11,7 @@ use Rattle.portus_core.specs.Programs.{Form}
 use Rattle.reg_code.specs.declared.code.Code.{Code}
 use Rattle.reg_compiler.specs.declared.built.Built.{Built}
 use Rattle.reg_compiler.specs.Simulation.{start_of, Simulates}
-use Rattle.portus_build.specs.Looks.{number_of, number_of-within, look_of}
+use Rattle.portus_build.specs.Looks.{has_name, number_of, look_of}
 use Rattle.agent_core.specs.Agents.{course_of}
 use Rattle.flow_core.specs.declared.case.Coded.{Coded}
 use Rattle.flow_core.specs.Cases.{KeepsWithin, AreOne}
@@ -16,8 +19,13 @@ use Rattle.scenario_json.specs.declared.plan.Kind.{Kind}
 use Rattle.scenario_json.specs.declared.plan.Kind.TheVariants.{Reno, Cubic}
 use Rattle.scenario_json.specs.Cases.{coded_at, agent_of, kind_of}
 
+below_where : (n m limit x : ℕ) → m ≤ limit → cond (nat_lt n m) (Some n) None ≡ Some x → x < limit
+below_where n m limit x short found = grind (arith, nat_tests)
+
 within : (name : List ℕ) (decls : List Decl) (count : ℕ) → count ≡ length decls → ForSome (number_of name decls) (λ n. n < count)
-within name decls count is = subst (λ m. ForSome (number_of name decls) (λ n. n < m)) (sym is) (number_of-within name decls)
+within name decls count is = λ x found.
+    below_where (position_or_len (has_name name) (take most_fields decls)) (length (take most_fields decls)) count x
+    (omega (arith, is, length-take most_fields decls)) found
 
 -- what a program declares, the code that simulates it has as registers
 pub looks_within : (form : Form) (code : Code) (places : List Place) → Simulates form code places → KeepsWithin (look_of form) code
