@@ -69,11 +69,7 @@ fn shared_members(alloc: Global, traces: &Traces, value: &Value) -> Result<Share
 }
 
 /// What a scenario says of its shared link.
-pub(crate) fn shares_in(
-    alloc: Global,
-    traces: &Traces,
-    whole: &Value,
-) -> Result<Shares, SceneFault>
+pub(crate) fn shares_in(alloc: Global, traces: &Traces, whole: &Value) -> Result<Shares, SceneFault>
     ensures ok { IfOk result (λ s. shares_in (table_of traces.now.entries) (view whole.now) ≡ Ok s) }
     ensures queue { IfOk result (λ s. (1 ≤ s.queue) × (s.queue ≤ most_queue)) }
     ensures quantum_us { IfOk result (λ s. (1 ≤ s.quantum_us) × (s.quantum_us ≤ most_quantum_us)) }
