@@ -1,17 +1,16 @@
 -- One more frame, and one more piece, of a feed's input.
-use Rattle.std.proofs.Common.{◌≡◌, ◌≢◌, ℕ, zero, suc, ◌+◌, ◌-◌, ◌<◌, ◌≤◌, Option, Some, None, Result, Ok, Err, List, [], ◌∷◌, ◌++◌, length, take, drop, ap, sym, refl, subst, ◌∙◌, arith, append_assoc, length-append, append-nil}
-use Rattle.std.proofs.Math.Seq.{take-append_seam, drop-append_seam}
+use Rattle.std.proofs.Common.{◌≡◌, ℕ, suc, ◌+◌, ◌-◌, ◌<◌, ◌≤◌, Ok, List, ◌++◌, length, drop, ap, sym, refl, subst, ◌∙◌, arith, append_assoc, length-append}
+use Rattle.std.proofs.Math.Seq.{drop-append_seam}
 use Rattle.ccp_base.specs.Outside.{Known, Takes, Appends, Takes-append, Appends-append}
 use Rattle.ccp_base.specs.Limits.{most_input_bytes}
 use Rattle.reply_frames.specs.declared.outline.Version.{Version}
 use Rattle.ccp_messages.specs.declared.message.Message.{Message}
-use Rattle.ccp_messages.specs.declared.fault.DecodeFault.{DecodeFault}
 use Rattle.ccp_messages.specs.Messages.{frame_bytes}
-use Rattle.ccp_messages.specs.Decoding.{Found, Begins, decoded_of}
+use Rattle.ccp_messages.specs.Decoding.{Begins, decoded_of}
 use Rattle.ccp_messages.proofs.DecodeLaws.{begins-decoded}
-use Rattle.feed_core.specs.Feed.{FeedState, no_flows, answered, Answered}
+use Rattle.feed_core.specs.Feed.{FeedState, no_flows, answered}
 use Rattle.feed_core.specs.FeedHolds.{IsFeed}
-use Rattle.feed_core.specs.FeedBytes.{Fed, answer_bytes, with_answers, fed_after, fed_on, fed, IsFeeding}
+use Rattle.feed_core.specs.FeedBytes.{Fed, answer_bytes, with_answers, fed_on, fed, IsFeeding}
 
 -- a frame takes some bytes
 pub some-used : (bytes : List ℕ) (message : Message) (version : Version) (used : ℕ) → Begins bytes message version used → (0 < used) × (used ≤ length bytes)

@@ -1,5 +1,5 @@
 -- A feed after one more turn of its loop.
-use Rattle.std.proofs.Common.{◌≡◌, ℕ, ◌+◌, ◌≤◌, Result, Err, List, ◌++◌, length, drop, ap, sym, subst, ◌∙◌, arith}
+use Rattle.std.proofs.Common.{◌≡◌, ℕ, ◌+◌, ◌≤◌, Err, List, ◌++◌, length, drop, ap, sym, subst, ◌∙◌, arith}
 use Rattle.ccp_base.specs.Limits.{most_input_bytes}
 use Rattle.ccp_base.specs.Outside.{Known}
 use Rattle.ccp_messages.specs.declared.fault.DecodeFault.TheVariants.{More}

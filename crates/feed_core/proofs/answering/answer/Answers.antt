@@ -1,4 +1,4 @@
-use Rattle.std.proofs.Common.{◌≡◌, ◌∙◌, List, ℕ, Some, OnOk, IfErr, ap, sym, subst}
+use Rattle.std.proofs.Common.{◌≡◌, ◌∙◌, List, ℕ, OnOk, IfErr, ap, sym, subst}
 use Rattle.ccp_base.specs.Outside.{Appends}
 use Rattle.ccp_messages.specs.Messages.{frame_bytes}
 use Rattle.feed_core.specs.Feed.{Answered, answered}

@@ -1,4 +1,4 @@
-use Rattle.std.proofs.Common.{◌≡◌, List, ℕ, subst}
+use Rattle.std.proofs.Common.{List, ℕ, subst}
 use Rattle.ccp_base.specs.Outside.{AppendsPrefix}
 use Rattle.feed_core.proofs.answering.write.Goals as goal
 

@@ -1,6 +1,5 @@
-use Rattle.std.proofs.Common.{◌≡◌, ◌∙◌, ℕ, ◌+◌, ◌-◌, ◌≤◌, List, length, ap, refl, sym, subst, arith}
-use Rattle.ccp_base.specs.Limits.{most_input_bytes}
-use Rattle.ccp_base.specs.Outside.{Known, IsAtEnd}
+use Rattle.std.proofs.Common.{ℕ, ◌+◌, ◌-◌, List, refl, sym, subst, arith}
+use Rattle.ccp_base.specs.Outside.{IsAtEnd}
 use Rattle.feed_core.specs.FeedHolds.{state_of}
 use Rattle.feed_core.specs.FeedBytes.{IsFeeding}
 use Rattle.feed_core.specs.FeedLast.{IsLast}
