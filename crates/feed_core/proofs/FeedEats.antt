@@ -39,7 +39,7 @@ module _ (source source' sink sink' after : Known) (state : FeedState) (eaten : 
       let frame = frame_bytes version message in
       let drops : drop used rest ≡ begins.rest = ap (λ n. drop n rest) begins.used_is ∙ ap (drop (length frame)) begins.parts ∙ drop-append_seam frame begins.rest in
       let whole : feeding.front ++ rest ≡ (feeding.front ++ frame) ++ drop used rest =
-          ap (λ xs. feeding.front ++ xs) (begins.parts ∙ ap (λ xs. frame ++ xs) (sym drops)) ∙ sym (append_assoc feeding.front frame (drop used rest)) in
+      ap (λ xs. feeding.front ++ xs) (begins.parts ∙ ap (λ xs. frame ++ xs) (sym drops)) ∙ sym (append_assoc feeding.front frame (drop used rest)) in
       let long : length (feeding.front ++ frame) ≡ eaten + used = omega (arith, length-append feeding.front frame, feeding.eaten_is, begins.used_is) in
       let room : eaten + used + length (drop used rest) ≡ eaten + length rest = omega (arith, ap length begins.parts, ap length drops, length-append frame begins.rest, begins.used_is) in
       let fuel : most_input_bytes - state.messages ≡ suc (most_input_bytes - next.messages) = omega (arith, one, feeding.few, feeding.within, room, some) in
@@ -51,14 +51,14 @@ module _ (source source' sink sink' after : Known) (state : FeedState) (eaten : 
         written = Appends-append sink sink' after feeding.answers (answer_bytes (answered state message version).0) feeding.written appended;
         goes = λ more.
             let read : decoded_of (frame ++ more) ≡ Ok (message, version, length frame) =
-                begins-decoded (frame ++ more) message version (length frame) (record { rest = more; parts = refl; used_is = refl; meets = begins.meets; typed = begins.typed }) in
+            begins-decoded (frame ++ more) message version (length frame) (record { rest = more; parts = refl; used_is = refl; meets = begins.meets; typed = begins.typed }) in
             ap (fed most_input_bytes 0 no_flows) (append_assoc feeding.front frame more)
             ∙ feeding.goes (frame ++ more)
             ∙ ap (with_answers feeding.answers)
-                (ap (λ n. fed n eaten state (frame ++ more)) fuel
-                ∙ fed-frame (most_input_bytes - next.messages) eaten state frame more message version refl read
-                ∙ ap (λ n. with_answers (answer_bytes (answered state message version).0) (fed (most_input_bytes - next.messages) (eaten + n) (answered state message version).1 more)) (sym begins.used_is)
-                ∙ ap (λ s. with_answers (answer_bytes (answered state message version).0) (fed (most_input_bytes - next.messages) (eaten + used) s more)) is)
+            (ap (λ n. fed n eaten state (frame ++ more)) fuel
+            ∙ fed-frame (most_input_bytes - next.messages) eaten state frame more message version refl read
+            ∙ ap (λ n. with_answers (answer_bytes (answered state message version).0) (fed (most_input_bytes - next.messages) (eaten + n) (answered state message version).1 more)) (sym begins.used_is)
+            ∙ ap (λ s. with_answers (answer_bytes (answered state message version).0) (fed (most_input_bytes - next.messages) (eaten + used) s more)) is)
             ∙ with-with feeding.answers (answer_bytes (answered state message version).0) (fed (most_input_bytes - next.messages) (eaten + used) next more);
         held = held;
         few = omega (arith, one, feeding.few, some);

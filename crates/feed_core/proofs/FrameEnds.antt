@@ -54,6 +54,5 @@ bad-on bytes more field place e =
     let read : frame_at (bytes ++ more) ≡ Err (stops.Bad field (length rest)) = ap frame_at parts ∙ r.again (r.after ++ more) in
     let within : place < length bytes = is.0.within in
     let at : length (bytes ++ more) - length rest ≡ place =
-        omega (arith, within, r.left_is, ap length r.parts, length-append r.front (r.byte ∷ r.after), ap length parts, length-append r.front rest) in
+    omega (arith, within, r.left_is, ap length r.parts, length-append r.front (r.byte ∷ r.after), ap length parts, length-append r.front rest) in
     ap (λ read. decoded_from (bytes ++ more) (found_from (length (bytes ++ more)) read)) read ∙ ap (λ n. Err (Bad field n)) at
-

@@ -24,7 +24,7 @@ pub appends-front : (old middle new : Known) (first next later : List ℕ) → A
 appends-front old middle new first next later before front =
     let short : take (front.count) (next ++ later) ≡ take front.count next = take-append-le front.count next later front.within in
     let whole : take (length first + front.count) (first ++ (next ++ later)) ≡ first ++ take front.count next =
-        take-append-add first (next ++ later) front.count ∙ ap (λ xs. first ++ xs) short in
+    take-append-add first (next ++ later) front.count ∙ ap (λ xs. first ++ xs) short in
     let within : front.count ≤ length next = front.within in
     record {
       count = length first + front.count;
@@ -34,4 +34,3 @@ appends-front old middle new first next later before front =
 
 pub rose-late : (before middle now : ℕ) → before ≤ middle → Rose middle now → middle ≤ now → Rose before now
 rose-late before middle now first rose grown = search rules
-
