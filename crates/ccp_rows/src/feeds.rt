@@ -69,21 +69,42 @@ fn joined(alloc: Global, frames: &[&[u8]]) -> Result<Bytes, Fail> {
 }
 
 /// Asserts what a feed comes to whose reads and writes take at most so many bytes.
-fn comes_to(rt: &impl Abort, alloc: Global, name: &str, input: &[u8], most: usize, wanted: Wanted<'_>) {
+fn comes_to(
+    rt: &impl Abort,
+    alloc: Global,
+    name: &str,
+    input: &[u8],
+    most: usize,
+    wanted: Wanted<'_>,
+) {
     assert!(rt; most > 0);
     let mut source = MemSource::new(input, most, &[]);
     let mut sink = MemSink::new(alloc, most, &[]);
     let mut errors = MemSink::new(alloc, 4096, &[]);
     let outcome = alone(alloc, Alone::Feed, &mut source, &mut sink, &mut errors);
     assert_eq!(rt; outcome.status, wanted.status, "status of {name} by {most}");
-    assert_eq!(rt; sink.as_slice(), wanted.output, "output of {name} by {most}");
-    assert_eq!(rt; errors.as_slice(), wanted.errors, "error line of {name} by {most}");
+    assert_eq!(rt;
+        sink.as_slice(),
+        wanted.output,
+        "output of {name} by {most}"
+    );
+    assert_eq!(rt;
+        errors.as_slice(),
+        wanted.errors,
+        "error line of {name} by {most}"
+    );
     assert_eq!(rt; outcome.programs.len(), 0, "programs of {name} by {most}");
     assert_eq!(rt; outcome.ran, 0, "instructions of {name} by {most}");
 }
 
 /// Asserts it of pieces of each length from 1 to 20, and of the whole input.
-fn comes_to_in_pieces(rt: &impl Abort, alloc: Global, name: &str, input: &[u8], wanted: Wanted<'_>) {
+fn comes_to_in_pieces(
+    rt: &impl Abort,
+    alloc: Global,
+    name: &str,
+    input: &[u8],
+    wanted: Wanted<'_>,
+) {
     for most in 1..=20 {
         comes_to(rt, alloc, name, input, most, wanted);
     }
@@ -105,7 +126,15 @@ fn comes_to_on_words<R: Threads + Wait + Sync>(
     let mut source = MemSource::new(input, 4096, &[]);
     let mut sink = MemSink::new(alloc, 4096, &[]);
     let mut errors = MemSink::new(alloc, 4096, &[]);
-    let outcome = run(rt, alloc, words, &mut source, &mut sink, &mut errors, &OpenGate);
+    let outcome = run(
+        rt,
+        alloc,
+        words,
+        &mut source,
+        &mut sink,
+        &mut errors,
+        &OpenGate,
+    );
     assert_eq!(abort; outcome.status, wanted.status, "status of {name}");
     assert_eq!(abort; sink.as_slice(), wanted.output, "output of {name}");
     assert_eq!(abort; errors.as_slice(), wanted.errors, "error line of {name}");
@@ -117,7 +146,13 @@ fn feeds_come_in_any_pieces(rt: HostRuntime) -> Result<(), Fail> {
     let nine: &[u8] = b"\x09";
     let front: &[u8] = &ACK[..20];
     let rows: [(&str, &[&[u8]], u8, &[u8], &[u8]); 8] = [
-        ("feed-report", &[CREATE, INSTALL, CHANGE, ACK], 0, MEASURE, b""),
+        (
+            "feed-report",
+            &[CREATE, INSTALL, CHANGE, ACK],
+            0,
+            MEASURE,
+            b"",
+        ),
         ("feed-flow-twice", &[CREATE, CREATE], 0, REFUSED_2, b""),
         ("feed-no-program", &[CREATE, ACK, CHANGE], 0, REFUSED_6, b""),
         (
@@ -135,12 +170,28 @@ fn feeds_come_in_any_pieces(rt: HostRuntime) -> Result<(), Fail> {
             b"ccp: input refused: frame Kind at 28\n",
         ),
         ("feed-nothing", &[], 0, b"", b""),
-        ("feed-too-many-fields", &[CREATE, INSTALL_WIDE, CHANGE], 0, REFUSED_9, b""),
-        ("feed-version-2", &[CREATE_2, INSTALL, CHANGE, ACK], 0, MEASURE_2, b""),
+        (
+            "feed-too-many-fields",
+            &[CREATE, INSTALL_WIDE, CHANGE],
+            0,
+            REFUSED_9,
+            b"",
+        ),
+        (
+            "feed-version-2",
+            &[CREATE_2, INSTALL, CHANGE, ACK],
+            0,
+            MEASURE_2,
+            b"",
+        ),
     ];
     for (name, frames, status, output, errors) in rows {
         let input = joined(rt.alloc(), frames)?;
-        let wanted = Wanted { status, output, errors };
+        let wanted = Wanted {
+            status,
+            output,
+            errors,
+        };
         comes_to_in_pieces(&rt, rt.alloc(), name, input.as_slice(), wanted);
         comes_to_on_words(&rt, &rt, rt.alloc(), name, input.as_slice(), wanted)?;
     }
@@ -174,7 +225,11 @@ fn a_field_is_named(rt: HostRuntime) {
         ),
     ];
     for (input, errors) in rows {
-        let wanted = Wanted { status: 3, output: b"", errors };
+        let wanted = Wanted {
+            status: 3,
+            output: b"",
+            errors,
+        };
         comes_to(&rt, rt.alloc(), "bad", input, 4096, wanted);
     }
 }
@@ -188,7 +243,11 @@ fn read_fails(rt: &impl Abort, alloc: Global, input: &[u8], call: u64, output: &
     let outcome = alone(alloc, Alone::Feed, &mut source, &mut sink, &mut errors);
     assert_eq!(rt; outcome.status, 4, "read {call}");
     assert_eq!(rt; sink.as_slice(), output, "read {call}");
-    assert_eq!(rt; errors.as_slice(), b"ccp: read fault\n".as_slice(), "read {call}");
+    assert_eq!(rt;
+        errors.as_slice(),
+        b"ccp: read fault\n".as_slice(),
+        "read {call}"
+    );
 }
 
 /// Asserts what a feed comes to whose call of the sink of this number fails, where a write takes 16 bytes.
@@ -200,7 +259,11 @@ fn write_fails(rt: &impl Abort, alloc: Global, input: &[u8], call: u64, output: 
     let outcome = alone(alloc, Alone::Feed, &mut source, &mut sink, &mut errors);
     assert_eq!(rt; outcome.status, 5, "write {call}");
     assert_eq!(rt; sink.as_slice(), output, "write {call}");
-    assert_eq!(rt; errors.as_slice(), b"ccp: write fault\n".as_slice(), "write {call}");
+    assert_eq!(rt;
+        errors.as_slice(),
+        b"ccp: write fault\n".as_slice(),
+        "write {call}"
+    );
 }
 
 #[test]
@@ -211,7 +274,15 @@ fn each_read_and_each_write_of_a_feed_fails(rt: HostRuntime) -> Result<(), Fail>
     }
     read_fails(&rt, rt.alloc(), input.as_slice(), 18, MEASURE);
     for call in 0..4 {
-        write_fails(&rt, rt.alloc(), input.as_slice(), call, &MEASURE[..call as usize * 16]);
+        write_fails(
+            &rt,
+            rt.alloc(),
+            input.as_slice(),
+            call,
+            &MEASURE[..call as usize * 16],
+        );
     }
+    write_fails(&rt, rt.alloc(), input.as_slice(), 4, MEASURE);
+    write_fails(&rt, rt.alloc(), input.as_slice(), 5, MEASURE);
     Ok(())
 }

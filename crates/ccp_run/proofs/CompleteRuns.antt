@@ -7,7 +7,7 @@ use Rattle.ccp_run.specs.declared.outcome.ModeOutput.{ModeOutput}
 use Rattle.ccp_run.specs.declared.outcome.Outcome.{Outcome}
 use Rattle.ccp_run.specs.declared.refusal.Refusal.{Refusal}
 use Rattle.ccp_run.specs.declared.status.Status.TheVariants as status
-use Rattle.ccp_run.specs.Attempts.{MakesOutput, RefusesBytes, RefusesInput, RefusesAny}
+use Rattle.ccp_run.specs.Attempts.{MakesOutput, RefusesBytes, RefusesAny}
 use Rattle.ccp_run.specs.Complete.{EndsAs, IsNoInput, IsComplete}
 use Rattle.ccp_run.specs.Modes.{limit_of, is_read, is_stream, IsMade, IsRefused}
 use Rattle.ccp_run.specs.Run.{IsRun, WritesAnyFront}

@@ -1,7 +1,7 @@
 -- A run of `feed`, from how its loop ended and what was told then.
-use Rattle.std.proofs.Common.{◌≡◌, ◌≢◌, ◌⊎◌, inl, inr, ◌∙◌, ℕ, ◌+◌, Bool, true, false, List, [], ◌++◌, ap, sym, refl, subst, append-nil}
+use Rattle.std.proofs.Common.{◌≡◌, ◌≢◌, ◌⊎◌, inl, inr, ◌∙◌, ℕ, true, List, [], ◌++◌, ap, sym, refl, subst, append-nil}
 use Rattle.ccp_base.specs.Limits.{most_input_bytes}
-use Rattle.ccp_base.specs.Outside.{Known, Rose, Takes, TakesWithin}
+use Rattle.ccp_base.specs.Outside.{Takes, TakesWithin}
 use Rattle.feed_core.specs.declared.ending.FeedEnd.{FeedEnd}
 use Rattle.feed_core.specs.declared.ending.FeedEnd.TheVariants as ends
 use Rattle.feed_core.specs.FeedEnds.{answers_of, IsFed, Answers}
@@ -16,7 +16,6 @@ use Rattle.ccp_run.specs.declared.refusal.Refusal.TheVariants.{TooLong, Frame, F
 use Rattle.ccp_run.specs.Attempts.{RefusesAny}
 use Rattle.ccp_run.specs.Endings.{Refuses}
 use Rattle.ccp_run.specs.FeedEndings.{EndsFeed}
-use Rattle.ccp_run.specs.Modes.{answers_before}
 use Rattle.ccp_run.specs.Run.{IsRun, WritesAnswers, WritesSomeAnswers}
 use Rattle.ccp_run.specs.Streams.{Stream}
 use Rattle.ccp_run.proofs.RunLemmas.{is_three, one_more, ends_done, ends_refused, ends_unread, ends_unwritten, ends_wanting}

@@ -1,6 +1,6 @@
 -- A run's promises, from what its mode came to and how it then ended.
-use Rattle.std.proofs.Common.{◌≡◌, ◌≢◌, ◌≤◌, ◌⊎◌, inl, inr, ◌∙◌, ℕ, zero, suc, ◌+◌, Bool, true, false, subst, Some, None, Result, Ok, Err, List, [], ◌++◌, length, arith, ap, sym, refl, append-nil}
-use Rattle.ccp_base.specs.Outside.{Known, Rose, Takes, TakesOver, TakesWithin, Appends, AppendsPrefix}
+use Rattle.std.proofs.Common.{◌≡◌, ◌≢◌, ◌≤◌, ◌⊎◌, inl, inr, ◌∙◌, ℕ, zero, suc, ◌+◌, Bool, true, false, subst, Some, None, Result, Ok, Err, List, [], length, arith, ap, sym, refl, append-nil}
+use Rattle.ccp_base.specs.Outside.{Known, Rose, Takes, TakesWithin, Appends}
 use Rattle.ccp_words.specs.declared.mode.Alone.TheVariants.{Check, Fold, Feed, Audit}
 use Rattle.ccp_run.specs.Tasks.{Task, Alone, Live, Campaign, Soak, Rollout, Shared}
 use Rattle.feed_core.proofs.FeedBegins.{no-answers}

@@ -1,5 +1,5 @@
 -- How a run of `feed` ends once its loop has ended.
-use Rattle.std.specs.Prelude.{◌≡◌, List, []}
+use Rattle.std.specs.Prelude.{◌≡◌, []}
 use Rattle.feed_core.specs.declared.ending.FeedEnd.{FeedEnd}
 use Rattle.feed_core.specs.declared.ending.FeedEnd.TheVariants as ends
 use Rattle.ccp_run.specs.declared.outcome.Outcome.{Outcome}

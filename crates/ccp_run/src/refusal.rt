@@ -99,7 +99,12 @@ fn put_program_fault(alloc: Global, line: &mut Bytes, fault: BuildFault) -> Resu
     Ok(())
 }
 
-fn put_frame_fault(alloc: Global, line: &mut Bytes, field: BadKind, place: u64) -> Result<(), NoMemory>
+fn put_frame_fault(
+    alloc: Global,
+    line: &mut Bytes,
+    field: BadKind,
+    place: u64,
+) -> Result<(), NoMemory>
     ensures { OnOk result (line.new ≡ line.old ++ refusal_line (Refusal.Frame field place)) }
 {
     line.extend(b"ccp: input refused: frame ")?;

@@ -1,17 +1,16 @@
 -- One more frame, and one more piece, of a feed's input.
-use Rattle.std.proofs.Common.{◌≡◌, ◌≢◌, ℕ, zero, suc, ◌+◌, ◌-◌, ◌<◌, ◌≤◌, Option, Some, None, Result, Ok, Err, List, [], ◌∷◌, ◌++◌, length, take, drop, ap, sym, refl, subst, ◌∙◌, arith, append_assoc, length-append, append-nil}
-use Rattle.std.proofs.Math.Seq.{take-append_seam, drop-append_seam}
+use Rattle.std.proofs.Common.{◌≡◌, ℕ, suc, ◌+◌, ◌-◌, ◌<◌, ◌≤◌, Ok, List, ◌++◌, length, drop, ap, sym, refl, subst, ◌∙◌, arith, append_assoc, length-append}
+use Rattle.std.proofs.Math.Seq.{drop-append_seam}
 use Rattle.ccp_base.specs.Outside.{Known, Takes, Appends, Takes-append, Appends-append}
 use Rattle.ccp_base.specs.Limits.{most_input_bytes}
 use Rattle.reply_frames.specs.declared.outline.Version.{Version}
 use Rattle.ccp_messages.specs.declared.message.Message.{Message}
-use Rattle.ccp_messages.specs.declared.fault.DecodeFault.{DecodeFault}
 use Rattle.ccp_messages.specs.Messages.{frame_bytes}
-use Rattle.ccp_messages.specs.Decoding.{Found, Begins, decoded_of}
+use Rattle.ccp_messages.specs.Decoding.{Begins, decoded_of}
 use Rattle.ccp_messages.proofs.DecodeLaws.{begins-decoded}
-use Rattle.feed_core.specs.Feed.{FeedState, no_flows, answered, Answered}
+use Rattle.feed_core.specs.Feed.{FeedState, no_flows, answered}
 use Rattle.feed_core.specs.FeedHolds.{IsFeed}
-use Rattle.feed_core.specs.FeedBytes.{Fed, answer_bytes, with_answers, fed_after, fed_on, fed, IsFeeding}
+use Rattle.feed_core.specs.FeedBytes.{Fed, answer_bytes, with_answers, fed_on, fed, IsFeeding}
 
 -- a frame takes some bytes
 pub some-used : (bytes : List ℕ) (message : Message) (version : Version) (used : ℕ) → Begins bytes message version used → (0 < used) × (used ≤ length bytes)
@@ -40,7 +39,7 @@ module _ (source source' sink sink' after : Known) (state : FeedState) (eaten : 
       let frame = frame_bytes version message in
       let drops : drop used rest ≡ begins.rest = ap (λ n. drop n rest) begins.used_is ∙ ap (drop (length frame)) begins.parts ∙ drop-append_seam frame begins.rest in
       let whole : feeding.front ++ rest ≡ (feeding.front ++ frame) ++ drop used rest =
-          ap (λ xs. feeding.front ++ xs) (begins.parts ∙ ap (λ xs. frame ++ xs) (sym drops)) ∙ sym (append_assoc feeding.front frame (drop used rest)) in
+      ap (λ xs. feeding.front ++ xs) (begins.parts ∙ ap (λ xs. frame ++ xs) (sym drops)) ∙ sym (append_assoc feeding.front frame (drop used rest)) in
       let long : length (feeding.front ++ frame) ≡ eaten + used = omega (arith, length-append feeding.front frame, feeding.eaten_is, begins.used_is) in
       let room : eaten + used + length (drop used rest) ≡ eaten + length rest = omega (arith, ap length begins.parts, ap length drops, length-append frame begins.rest, begins.used_is) in
       let fuel : most_input_bytes - state.messages ≡ suc (most_input_bytes - next.messages) = omega (arith, one, feeding.few, feeding.within, room, some) in
@@ -52,14 +51,14 @@ module _ (source source' sink sink' after : Known) (state : FeedState) (eaten : 
         written = Appends-append sink sink' after feeding.answers (answer_bytes (answered state message version).0) feeding.written appended;
         goes = λ more.
             let read : decoded_of (frame ++ more) ≡ Ok (message, version, length frame) =
-                begins-decoded (frame ++ more) message version (length frame) (record { rest = more; parts = refl; used_is = refl; meets = begins.meets; typed = begins.typed }) in
+            begins-decoded (frame ++ more) message version (length frame) (record { rest = more; parts = refl; used_is = refl; meets = begins.meets; typed = begins.typed }) in
             ap (fed most_input_bytes 0 no_flows) (append_assoc feeding.front frame more)
             ∙ feeding.goes (frame ++ more)
             ∙ ap (with_answers feeding.answers)
-                (ap (λ n. fed n eaten state (frame ++ more)) fuel
-                ∙ fed-frame (most_input_bytes - next.messages) eaten state frame more message version refl read
-                ∙ ap (λ n. with_answers (answer_bytes (answered state message version).0) (fed (most_input_bytes - next.messages) (eaten + n) (answered state message version).1 more)) (sym begins.used_is)
-                ∙ ap (λ s. with_answers (answer_bytes (answered state message version).0) (fed (most_input_bytes - next.messages) (eaten + used) s more)) is)
+            (ap (λ n. fed n eaten state (frame ++ more)) fuel
+            ∙ fed-frame (most_input_bytes - next.messages) eaten state frame more message version refl read
+            ∙ ap (λ n. with_answers (answer_bytes (answered state message version).0) (fed (most_input_bytes - next.messages) (eaten + n) (answered state message version).1 more)) (sym begins.used_is)
+            ∙ ap (λ s. with_answers (answer_bytes (answered state message version).0) (fed (most_input_bytes - next.messages) (eaten + used) s more)) is)
             ∙ with-with feeding.answers (answer_bytes (answered state message version).0) (fed (most_input_bytes - next.messages) (eaten + used) next more);
         held = held;
         few = omega (arith, one, feeding.few, some);

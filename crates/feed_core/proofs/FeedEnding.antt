@@ -1,31 +1,22 @@
 -- How a feed ends from where it stands.
-use Rattle.std.proofs.Common.{◌≡◌, ◌≢◌, ℕ, zero, suc, ◌+◌, ◌-◌, ◌<◌, ◌≤◌, ◌^◌, Bool, true, false, nat_lt, Option, Some, None, Result, Ok, Err, List, [], ◌∷◌, ◌++◌, length, take, drop, option_map, ap, sym, refl, subst, ◌∙◌, arith, append_assoc, length-append, append-nil}
-use Rattle.std.proofs.Math.Seq.{take-append-add}
+use Rattle.std.proofs.Common.{◌≡◌, ℕ, suc, ◌+◌, ◌-◌, ◌<◌, ◌≤◌, true, false, nat_lt, Err, List, [], ◌∷◌, ◌++◌, length, take, drop, ap, sym, refl, subst, ◌∙◌, arith, append_assoc, length-append, append-nil}
 use Rattle.std.proofs.lemmas.Bool.Decides.{nat_tests}
-use Rattle.std.proofs.lemmas.List.{take_all, take-append-le}
+use Rattle.std.proofs.lemmas.List.{take_all}
 use Rattle.ccp_base.specs.Limits.{most_input_bytes}
-use Rattle.ccp_base.specs.Outside.{Known, Rose, Takes, IsAtEnd, Appends, AppendsPrefix, Takes-append, Appends-append}
+use Rattle.ccp_base.specs.Outside.{Known, Rose, Takes, IsAtEnd, Appends, AppendsPrefix, Takes-append}
 use Rattle.reply_frames.specs.declared.fault.BadKind.{BadKind}
-use Rattle.reply_frames.specs.declared.fault.Stop.TheVariants as stops
-use Rattle.reply_frames.specs.Frames.{frame_at}
-use Rattle.reply_frames.proofs.ExactFrames.{exact-frame}
-use Rattle.ccp_messages.specs.declared.message.Message.{Message}
-use Rattle.reply_frames.specs.declared.outline.Version.{Version}
-use Rattle.ccp_messages.specs.declared.fault.DecodeFault.{DecodeFault}
-use Rattle.ccp_messages.specs.declared.fault.DecodeFault.TheVariants.{More, Bad, NoMemory}
-use Rattle.ccp_messages.specs.Decoding.{Found, Begins, found_from, decoded_from, decoded_of}
-use Rattle.ccp_messages.proofs.DecodeLaws.{begins-decoded, decoded-begins, decoded-bad}
+use Rattle.ccp_messages.specs.declared.fault.DecodeFault.TheVariants.{More, Bad}
+use Rattle.ccp_messages.specs.Decoding.{decoded_of}
+use Rattle.ccp_messages.proofs.DecodeLaws.{begins-decoded}
 use Rattle.feed_core.specs.declared.ending.FeedEnd.{FeedEnd}
 use Rattle.feed_core.specs.declared.ending.FeedEnd.TheVariants as ends
 use Rattle.feed_core.specs.Feed.{FeedState, no_flows, answered}
-use Rattle.feed_core.specs.FeedHolds.{IsFeed}
-use Rattle.feed_core.specs.FeedBytes.{Tail, left, bad, Fed, answer_bytes, with_answers, fed_on, fed, feed_of, IsFeeding}
+use Rattle.feed_core.specs.FeedBytes.{left, bad, Fed, answer_bytes, with_answers, fed_on, fed, feed_of, IsFeeding}
 use Rattle.feed_core.specs.FeedTurns.{FailsOne}
 use Rattle.feed_core.specs.FeedEnds.{answers_of, end_from, end_of, stream, Answers, IsOpen, IsFed}
 use Rattle.feed_core.specs.FeedLast.{IsLast}
-use Rattle.feed_core.proofs.FeedEats.{some-used}
 use Rattle.feed_core.proofs.FrameEnds.{take-front, fed-part, fed-bad, fed-nothing, bad-on}
-use Rattle.feed_core.proofs.StreamEnds.{takes-nothing, appends-nothing, appends-all, appends-front, rose-late}
+use Rattle.feed_core.proofs.StreamEnds.{appends-all, appends-front, rose-late}
 
 -- ---- ends
 
@@ -86,13 +77,16 @@ module _ (source source' sink sink' : Known) (state : FeedState) (eaten : ℕ) (
     -- the source was read to its end
     pub ends-last : IsAtEnd source' → (wm : ℕ) → wb ≤ wm → wm ≤ wn → (end : FeedEnd) → IsLast wm wn is_finished eaten (length rest) end
         → IsFed (stream source source' rb rn) (stream sink sink' wb wn) is_finished end
-    ends-last at_end wm first grown ends.Whole last = (record {
-      bytes = bytes;
-      answered = all-answered;
-      at_end = at_end;
-      within = fits;
-      end_is = end-here ∙ end-none eaten rest last.0;
-    }, last.1)
+    ends-last at_end wm first grown ends.Whole last = (
+      record {
+        bytes = bytes;
+        answered = all-answered;
+        at_end = at_end;
+        within = fits;
+        end_is = end-here ∙ end-none eaten rest last.0;
+      },
+      last.1,
+    )
     ends-last at_end wm first grown (ends.Cut place) last = record {
       bytes = bytes;
       answered = all-answered;
@@ -130,11 +124,11 @@ module _ (source source' sink sink' : Known) (state : FeedState) (eaten : ℕ) (
         let long : length bytes ≡ most_input_bytes = omega (arith, full, feeding.eaten_is, length-append feeding.front rest) in
         let none : most_input_bytes - length bytes ≡ 0 = omega (arith, long) in
         let again : (more : List ℕ) → feed_of (taken ++ more) ≡ record { answers = feeding.answers ++ []; tail = left eaten rest } = λ more.
-            ap feed_of (append_assoc bytes piece more)
-            ∙ on (piece ++ more)
-            ∙ ap (λ n. with_answers feeding.answers (fed frames eaten state (rest ++ take n (piece ++ more)))) none
-            ∙ ap (λ xs. with_answers feeding.answers (fed frames eaten state xs)) (append-nil rest)
-            ∙ ap (with_answers feeding.answers) (fed-part frames eaten state rest needed cut) in
+        ap feed_of (append_assoc bytes piece more)
+        ∙ on (piece ++ more)
+        ∙ ap (λ n. with_answers feeding.answers (fed frames eaten state (rest ++ take n (piece ++ more)))) none
+        ∙ ap (λ xs. with_answers feeding.answers (fed frames eaten state xs)) (append-nil rest)
+        ∙ ap (with_answers feeding.answers) (fed-part frames eaten state rest needed cut) in
         let answers : (more : List ℕ) → answers_of (taken ++ more) ≡ feeding.answers = λ more. ap (λ (f : Fed). f.answers) (again more) ∙ append-nil feeding.answers in
         let now : answers_of taken ≡ feeding.answers = ap answers_of (sym (append-nil taken)) ∙ answers [] in
         record {
@@ -158,9 +152,9 @@ module _ (source source' sink sink' : Known) (state : FeedState) (eaten : ℕ) (
   ends-bad field offset place refused within at =
       let some : 0 < frames = omega (arith, within, feeding.few, feeding.within) in
       let again : (more : List ℕ) → feed_of (bytes ++ more) ≡ record { answers = feeding.answers ++ []; tail = bad field place } = λ more.
-          on more
-          ∙ ap (with_answers feeding.answers) (fed-bad frames eaten state (rest ++ take (most_input_bytes - length bytes) more) field offset some (bad-on rest (take (most_input_bytes - length bytes) more) field offset refused))
-          ∙ ap (λ n. with_answers feeding.answers (record { answers = []; tail = bad field n })) (sym at) in
+      on more
+      ∙ ap (with_answers feeding.answers) (fed-bad frames eaten state (rest ++ take (most_input_bytes - length bytes) more) field offset some (bad-on rest (take (most_input_bytes - length bytes) more) field offset refused))
+      ∙ ap (λ n. with_answers feeding.answers (record { answers = []; tail = bad field n })) (sym at) in
       let answers : (more : List ℕ) → answers_of (bytes ++ more) ≡ feeding.answers = λ more. ap (λ (f : Fed). f.answers) (again more) ∙ append-nil feeding.answers in
       let now : answers_of bytes ≡ feeding.answers = ap answers_of (sym (append-nil bytes)) ∙ answers [] in
       record {
@@ -181,9 +175,9 @@ module _ (source source' sink sink' : Known) (state : FeedState) (eaten : ℕ) (
       let fuel : frames ≡ suc (frames - 1) = omega (arith, some, used, feeding.few, feeding.within) in
       let later : Fed = fed (frames - 1) (eaten + fails.used) (answered state fails.message fails.version).1 (drop fails.used rest) in
       let step : feed_of bytes ≡ with_answers feeding.answers (with_answers (answer_bytes (answered state fails.message fails.version).0) later) =
-          here
-          ∙ ap (λ n. with_answers feeding.answers (fed n eaten state rest)) fuel
-          ∙ ap (λ read. with_answers feeding.answers (fed_on (fed (frames - 1)) eaten state rest read)) (begins-decoded rest fails.message fails.version fails.used fails.begins) in
+      here
+      ∙ ap (λ n. with_answers feeding.answers (fed n eaten state rest)) fuel
+      ∙ ap (λ read. with_answers feeding.answers (fed_on (fed (frames - 1)) eaten state rest read)) (begins-decoded rest fails.message fails.version fails.used fails.begins) in
       record {
         bytes = bytes;
         taken = feeding.taken;

@@ -1,5 +1,5 @@
 -- What holds of a feed's fields holds after each message, and each answer has a frame.
-use Rattle.std.proofs.Common.{◌≡◌, ◌≢◌, ℕ, zero, suc, ◌+◌, ◌<◌, ◌≤◌, Bool, true, false, nat_lt, if◌then◌else◌, Option, Some, None, option_map, unwrap_or, List, [], ◌∷◌, length, map, replicate, slice_get, slice_set, ap, sym, refl, subst, ◌∙◌, arith, cond}
+use Rattle.std.proofs.Common.{◌≡◌, ℕ, zero, suc, ◌+◌, ◌<◌, ◌≤◌, Bool, true, false, nat_lt, Option, Some, None, option_map, List, [], ◌∷◌, length, replicate, slice_set, sym, refl, subst, ◌∙◌, arith, cond}
 use Rattle.std.specs.List.{AllByRecursion}
 use Rattle.std.proofs.lemmas.Bool.Decides.{nat_tests}
 use Rattle.std.proofs.lemmas.List.{length-set, length-map}
@@ -14,20 +14,20 @@ use Rattle.reg_code.specs.AcceptedCode.{◌or_else◌, Refusal, rejected, IsAcce
 use Rattle.reg_code.specs.CodeStart.{with_value, with_values, declared_kept}
 use Rattle.reg_code.specs.CodeStep.{Kept, IsKeptOf, Work, done, failed, stuck, events_of, begun, settled, mone, made_of}
 use Rattle.reg_code.specs.CodeStep as steps
-use Rattle.reg_code.specs.SoundLaws.{HasSizes, WorkSized, events-sized, none-next, IsSound-accepted}
+use Rattle.reg_code.specs.SoundLaws.{WorkSized, events-sized, none-next, IsSound-accepted}
 use Rattle.reply_frames.specs.declared.outline.Version.{Version}
 use Rattle.reply_frames.specs.declared.outline.Version.TheVariants.{One, Two}
 use Rattle.ccp_messages.specs.declared.message.Message.{Message}
 use Rattle.ccp_messages.specs.declared.message.Message.TheVariants.{Create, Measure, Install, Update, Change, Fault, Refused}
 use Rattle.ccp_messages.specs.declared.message.Message.TheVariants as message
-use Rattle.ccp_messages.specs.Messages.{AreFew, IsShortCount, Meets}
+use Rattle.ccp_messages.specs.Messages.{AreFew, IsShortCount}
 use Rattle.fold_machine.specs.declared.acked.Acked.{Acked}
 use Rattle.fold_machine.specs.declared.acked.Acked.TheVariants as acked
 use Rattle.fold_machine.specs.MachineState.{MachineState, Fits}
 use Rattle.fold_machine.specs.Heard.{heard, heard_where, after_made, started_by, updated_by}
 use Rattle.feed_core.specs.declared.flow.Epoch.{Epoch}
 use Rattle.feed_core.specs.declared.flow.Flow.{Flow}
-use Rattle.feed_core.specs.Feed.{FeedState, there, no_flows, Answer, Answered, refused, with_flow, fresh_flow, created_at, installed_as, installed_at, next_epoch, changed_flow, is_too_wide, changed_with, changed_to, changed_at, code_of, updated_flow, updated_with, updated_on, updated_at, counted_flow, first_after, flow_after, told_of, in_version, acked_on, acked_at, told, answered}
+use Rattle.feed_core.specs.Feed.{FeedState, there, Answer, Answered, refused, with_flow, fresh_flow, created_at, installed_as, installed_at, next_epoch, changed_flow, is_too_wide, changed_with, changed_to, changed_at, code_of, updated_flow, updated_with, updated_on, updated_at, counted_flow, first_after, flow_after, told_of, in_version, acked_on, acked_at, told}
 use Rattle.feed_core.specs.FeedHolds.{RunsOn, IsFlow, IsFlowThere, IsAcceptedThere, AreHeld, IsFeed, HasFrame}
 
 -- ---- lists of places

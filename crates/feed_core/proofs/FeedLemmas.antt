@@ -1,5 +1,5 @@
 -- What a feed's calls come to, place by place.
-use Rattle.std.proofs.Common.{◌≡◌, ◌≢◌, ℕ, ◌<◌, ◌≤◌, Bool, true, false, nat_lt, if◌then◌else◌, Option, Some, None, option_map, unwrap_or, List, length, map, slice_get, slice_set, slice_index_or, ap, ap₂, sym, refl, ◌∙◌, arith, cond}
+use Rattle.std.proofs.Common.{◌≡◌, ℕ, ◌<◌, Bool, true, false, nat_lt, Option, Some, None, unwrap_or, List, length, slice_set, slice_index_or, ap, sym, ◌∙◌, cond}
 use Rattle.std.proofs.lemmas.List.{set-get_or}
 use Rattle.std.proofs.lemmas.Option.{slice_get-get_or}
 use Rattle.ccp_base.specs.declared.ack.Ack.{Ack}
@@ -8,7 +8,6 @@ use Rattle.ccp_base.specs.Limits.{most_kept_programs}
 use Rattle.reg_code.specs.declared.code.Code.{Code}
 use Rattle.reg_code.specs.AcceptedCode.{Refusal, rejected}
 use Rattle.reply_frames.specs.declared.outline.Version.{Version}
-use Rattle.ccp_messages.specs.declared.message.Message.{Message}
 use Rattle.ccp_messages.specs.declared.message.Message.TheVariants.{Refused}
 use Rattle.fold_machine.specs.Heard.{heard, updated_by}
 use Rattle.feed_core.specs.declared.flow.Epoch.{Epoch}

@@ -1,5 +1,5 @@
 -- A feed after one more turn of its loop.
-use Rattle.std.proofs.Common.{◌≡◌, ℕ, ◌+◌, ◌≤◌, Result, Err, List, ◌++◌, length, drop, ap, sym, subst, ◌∙◌, arith}
+use Rattle.std.proofs.Common.{◌≡◌, ℕ, ◌+◌, ◌≤◌, Err, List, ◌++◌, length, drop, ap, sym, subst, ◌∙◌, arith}
 use Rattle.ccp_base.specs.Limits.{most_input_bytes}
 use Rattle.ccp_base.specs.Outside.{Known}
 use Rattle.ccp_messages.specs.declared.fault.DecodeFault.TheVariants.{More}
@@ -17,7 +17,7 @@ pub feeds-frame : (source source' sink sink' sink'' : Known) (state state' : Fee
 feeds-frame source source' sink sink' sink'' state state' eaten used rest bytes rest' feeding same one after =
     let here : IsFeeding source source' sink sink' state eaten bytes = subst (IsFeeding source source' sink sink' state eaten) (sym same) feeding in
     let next : IsFeeding source source' sink sink'' state' (eaten + used) (drop used bytes) =
-        eats source source' sink sink' sink'' state eaten bytes here one.message one.version used one.begins one.some state' one.next one.held one.counted one.written in
+    eats source source' sink sink' sink'' state eaten bytes here one.message one.version used one.begins one.some state' one.next one.held one.counted one.written in
     subst (IsFeeding source source' sink sink'' state' (eaten + used)) (ap (drop used) same ∙ sym after) next
 
 -- the rest is a part of a frame, and nothing was written
@@ -48,5 +48,5 @@ pub feeds-piece : (source source' source'' sink sink' : Known) (state : FeedStat
     → IsFeeding source source'' sink sink' state eaten rest'
 feeds-piece source source' source'' sink sink' state eaten room count rest rest' feeding adds fits =
     let more : IsFeeding source source'' sink sink' state eaten (rest ++ adds.piece) =
-        takes-more source source' source'' sink sink' state eaten rest adds.piece feeding adds.taken (omega (arith, fits, adds.long, adds.within)) in
+    takes-more source source' source'' sink sink' state eaten rest adds.piece feeding adds.taken (omega (arith, fits, adds.long, adds.within)) in
     subst (IsFeeding source source'' sink sink' state eaten) (sym adds.added) more

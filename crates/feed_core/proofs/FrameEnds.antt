@@ -1,28 +1,16 @@
 -- The answers to bytes that no whole frame begins.
-use Rattle.std.proofs.Common.{◌≡◌, ◌≢◌, ℕ, zero, suc, ◌+◌, ◌-◌, ◌<◌, ◌≤◌, ◌^◌, Bool, true, false, nat_lt, Option, Some, None, Result, Ok, Err, List, [], ◌∷◌, ◌++◌, length, take, drop, option_map, ap, sym, refl, subst, ◌∙◌, arith, append_assoc, length-append, append-nil}
+use Rattle.std.proofs.Common.{◌≡◌, ℕ, zero, suc, ◌+◌, ◌-◌, ◌<◌, ◌≤◌, Result, Ok, Err, List, [], ◌∷◌, ◌++◌, length, take, ap, refl, ◌∙◌, arith, append_assoc, length-append}
 use Rattle.std.proofs.Math.Seq.{take-append-add}
-use Rattle.std.proofs.lemmas.Bool.Decides.{nat_tests}
-use Rattle.std.proofs.lemmas.List.{take_all, take-append-le}
-use Rattle.ccp_base.specs.Limits.{most_input_bytes}
-use Rattle.ccp_base.specs.Outside.{Known, Rose, Takes, IsAtEnd, Appends, AppendsPrefix, Takes-append, Appends-append}
 use Rattle.reply_frames.specs.declared.fault.BadKind.{BadKind}
 use Rattle.reply_frames.specs.declared.fault.Stop.TheVariants as stops
 use Rattle.reply_frames.specs.Frames.{frame_at}
 use Rattle.reply_frames.proofs.ExactFrames.{exact-frame}
-use Rattle.ccp_messages.specs.declared.message.Message.{Message}
-use Rattle.reply_frames.specs.declared.outline.Version.{Version}
 use Rattle.ccp_messages.specs.declared.fault.DecodeFault.{DecodeFault}
 use Rattle.ccp_messages.specs.declared.fault.DecodeFault.TheVariants.{More, Bad, NoMemory}
-use Rattle.ccp_messages.specs.Decoding.{Found, Begins, found_from, decoded_from, decoded_of}
-use Rattle.ccp_messages.proofs.DecodeLaws.{begins-decoded, decoded-begins, decoded-bad}
-use Rattle.feed_core.specs.declared.ending.FeedEnd.{FeedEnd}
-use Rattle.feed_core.specs.declared.ending.FeedEnd.TheVariants as ends
-use Rattle.feed_core.specs.Feed.{FeedState, no_flows, answered}
-use Rattle.feed_core.specs.FeedHolds.{IsFeed}
-use Rattle.feed_core.specs.FeedBytes.{Tail, left, bad, Fed, answer_bytes, with_answers, fed_on, fed, feed_of, IsFeeding}
-use Rattle.feed_core.specs.FeedTurns.{FailsOne}
-use Rattle.feed_core.specs.FeedEnds.{answers_of, end_from, end_of, stream, Answers, IsOpen, IsFed}
-use Rattle.feed_core.specs.FeedLast.{IsLast}
+use Rattle.ccp_messages.specs.Decoding.{Found, found_from, decoded_from, decoded_of}
+use Rattle.ccp_messages.proofs.DecodeLaws.{decoded-begins, decoded-bad}
+use Rattle.feed_core.specs.Feed.{FeedState}
+use Rattle.feed_core.specs.FeedBytes.{left, bad, fed_on, fed}
 use Rattle.feed_core.proofs.FeedEats.{some-used}
 
 pub take-front : (n : ℕ) (xs ys : List ℕ) → length xs ≤ n → take n (xs ++ ys) ≡ xs ++ take (n - length xs) ys
@@ -66,6 +54,5 @@ bad-on bytes more field place e =
     let read : frame_at (bytes ++ more) ≡ Err (stops.Bad field (length rest)) = ap frame_at parts ∙ r.again (r.after ++ more) in
     let within : place < length bytes = is.0.within in
     let at : length (bytes ++ more) - length rest ≡ place =
-        omega (arith, within, r.left_is, ap length r.parts, length-append r.front (r.byte ∷ r.after), ap length parts, length-append r.front rest) in
+    omega (arith, within, r.left_is, ap length r.parts, length-append r.front (r.byte ∷ r.after), ap length parts, length-append r.front rest) in
     ap (λ read. decoded_from (bytes ++ more) (found_from (length (bytes ++ more)) read)) read ∙ ap (λ n. Err (Bad field n)) at
-

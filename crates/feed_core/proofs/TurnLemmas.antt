@@ -1,5 +1,5 @@
 -- What decoding says of the bytes of a feed.
-use Rattle.std.proofs.Common.{◌≡◌, ◌≢◌, ℕ, zero, suc, ◌+◌, ◌<◌, ◌≤◌, Result, Ok, Err, List, [], ◌∷◌, ◌++◌, length, get_or, ap, sym, refl, ◌∙◌, arith, length-append}
+use Rattle.std.proofs.Common.{◌≡◌, ◌≢◌, ℕ, zero, suc, ◌<◌, ◌≤◌, Result, Err, List, [], ◌∷◌, ◌++◌, length, sym, refl, ◌∙◌, arith, length-append}
 use Rattle.ccp_base.specs.Limits.{most_frame_bytes}
 use Rattle.ccp_base.specs.Outside.{Known}
 use Rattle.reply_frames.specs.declared.fault.BadKind.{BadKind}

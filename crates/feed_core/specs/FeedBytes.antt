@@ -1,6 +1,6 @@
 -- What a datapath answers to the frames of an input, and how the input ends.
-use Rattle.std.specs.Prelude.{◌≡◌, ℕ, zero, suc, ◌+◌, ◌-◌, ◌<◌, ◌≤◌, nat_lt, Bool, true, false, Option, Some, None, Result, Ok, Err, List, [], ◌∷◌, ◌++◌, length, take, drop}
-use Rattle.ccp_base.specs.Outside.{Known, Rose, Takes, IsAtEnd, Appends, AppendsPrefix}
+use Rattle.std.specs.Prelude.{◌≡◌, ℕ, zero, suc, ◌+◌, ◌-◌, ◌≤◌, Some, None, Result, Ok, Err, List, [], ◌++◌, length, take, drop}
+use Rattle.ccp_base.specs.Outside.{Known, Takes, Appends}
 use Rattle.ccp_base.specs.Limits.{most_input_bytes}
 use Rattle.reply_frames.specs.declared.fault.BadKind.{BadKind}
 use Rattle.ccp_messages.specs.declared.fault.DecodeFault.{DecodeFault}

@@ -1,11 +1,10 @@
 -- What holds of a feed's fields.
-use Rattle.std.specs.Prelude.{◌≡◌, ℕ, ◌+◌, ◌<◌, ◌≤◌, Option, Some, None, option_map, List, length, map}
+use Rattle.std.specs.Prelude.{◌≡◌, ℕ, ◌≤◌, Option, Some, None, option_map, List, length, map}
 use Rattle.std.specs.List.{AllByRecursion}
 use Rattle.reg_code.specs.declared.code.Code.{Code}
 use Rattle.reg_code.specs.declared.checked.Checked.{Checked}
 use Rattle.reg_code.specs.AcceptedCode.{IsAccepted}
 use Rattle.reply_frames.specs.declared.outline.Version.{Version}
-use Rattle.ccp_messages.specs.declared.message.Message.{Message}
 use Rattle.ccp_messages.specs.Messages.{AreFew, Meets}
 use Rattle.fold_machine.specs.MachineState.{MachineState, Fits}
 use Rattle.ccp_base.specs.Limits.{most_flows, most_kept_programs}

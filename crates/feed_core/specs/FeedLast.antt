@@ -2,7 +2,7 @@
 use Rattle.std.specs.Prelude.{◌≡◌, ℕ, ◌<◌}
 use Rattle.ccp_base.specs.Outside.{Rose}
 use Rattle.feed_core.specs.declared.ending.FeedEnd.{FeedEnd}
-use Rattle.feed_core.specs.declared.ending.FeedEnd.TheVariants.{Whole, Bad, Cut, TooLong, ReadFailed, WriteFailed, NoMemory}
+use Rattle.feed_core.specs.declared.ending.FeedEnd.TheVariants.{Whole, Cut, WriteFailed}
 
 -- its frames are whole and the sink finished or didn't, or a frame is cut whose place this is, of which some bytes are
 -- left

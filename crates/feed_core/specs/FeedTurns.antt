@@ -1,5 +1,5 @@
 -- What one more frame of a feed comes to.
-use Rattle.std.specs.Prelude.{◌≡◌, ℕ, ◌+◌, ◌<◌, ◌≤◌, List, length, Result, Err}
+use Rattle.std.specs.Prelude.{◌≡◌, ℕ, ◌+◌, ◌<◌, ◌≤◌, List, length, Err}
 use Rattle.ccp_base.specs.Outside.{Known, Rose, Appends, AppendsPrefix}
 use Rattle.ccp_base.specs.Limits.{most_frame_bytes}
 use Rattle.reply_frames.specs.declared.outline.Version.{Version}

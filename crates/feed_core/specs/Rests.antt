@@ -1,5 +1,5 @@
 -- The bytes of an input that no frame has taken yet, and what a read adds to them.
-use Rattle.std.specs.Prelude.{◌≡◌, ℕ, ◌+◌, ◌-◌, ◌<◌, ◌≤◌, List, ◌++◌, length, take, drop}
+use Rattle.std.specs.Prelude.{◌≡◌, ℕ, ◌-◌, ◌<◌, ◌≤◌, List, ◌++◌, length, take, drop}
 use Rattle.ccp_base.specs.Outside.{Known, Rose, Takes, IsAtEnd}
 use Rattle.feed_core.specs.declared.piece.Piece.{Piece}
 use Rattle.feed_core.specs.declared.piece.Piece.TheVariants.{Bytes, End, Further, Failed}

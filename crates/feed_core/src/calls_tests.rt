@@ -19,18 +19,37 @@ fn joined(alloc: Global, frames: &[&[u8]]) -> Result<Bytes, Fail> {
 }
 
 /// Asserts how a feed ends and what it has written, where at most so many bytes come at a time.
-fn ends(rt: &impl Abort, alloc: Global, name: &str, input: &[u8], most: usize, output: &[u8], end: FeedEnd) {
+fn ends(
+    rt: &impl Abort,
+    alloc: Global,
+    name: &str,
+    input: &[u8],
+    most: usize,
+    output: &[u8],
+    end: FeedEnd,
+) {
     assert!(rt; most > 0);
     let mut source = MemSource::new(input, most, &[]);
     let mut sink = MemSink::new(alloc, 4096, &[]);
     let ended = feed(alloc, &mut source, &mut sink);
     assert_eq!(rt; ended, end, "{name} by {most}");
     assert_eq!(rt; sink.as_slice(), output, "{name} by {most}");
-    assert_eq!(rt; sink.is_finished(), end == FeedEnd::Whole || !output.is_empty(), "{name} by {most}");
+    assert_eq!(rt;
+        sink.is_finished(),
+        end == FeedEnd::Whole || !output.is_empty(),
+        "{name} by {most}"
+    );
 }
 
 /// Asserts it for pieces of each length from 1 to 20, and for the whole input.
-fn ends_in_pieces(rt: &impl Abort, alloc: Global, name: &str, input: &[u8], output: &[u8], end: FeedEnd) {
+fn ends_in_pieces(
+    rt: &impl Abort,
+    alloc: Global,
+    name: &str,
+    input: &[u8],
+    output: &[u8],
+    end: FeedEnd,
+) {
     for most in 1..=20 {
         ends(rt, alloc, name, input, most, output, end);
     }
@@ -42,12 +61,42 @@ fn inputs_end(rt: HostRuntime) -> Result<(), Fail> {
     let nine: &[u8] = b"\x09";
     let front: &[u8] = &ACK[..20];
     let rows: [(&str, &[&[u8]], &[u8], FeedEnd); 7] = [
-        ("feed-report", &[CREATE, INSTALL, CHANGE, ACK], MEASURE, FeedEnd::Whole),
-        ("feed-version-2", &[CREATE_2, INSTALL, CHANGE, ACK], MEASURE_2, FeedEnd::Whole),
-        ("feed-flow-twice", &[CREATE, CREATE], REFUSED_2, FeedEnd::Whole),
-        ("feed-no-program", &[CREATE, ACK, CHANGE], REFUSED_6, FeedEnd::Whole),
-        ("feed-cut", &[CREATE, INSTALL, CHANGE, ACK, front], MEASURE, FeedEnd::Cut(273)),
-        ("feed-bad-frame", &[CREATE, nine], b"", FeedEnd::Bad(BadKind::Kind, 28)),
+        (
+            "feed-report",
+            &[CREATE, INSTALL, CHANGE, ACK],
+            MEASURE,
+            FeedEnd::Whole,
+        ),
+        (
+            "feed-version-2",
+            &[CREATE_2, INSTALL, CHANGE, ACK],
+            MEASURE_2,
+            FeedEnd::Whole,
+        ),
+        (
+            "feed-flow-twice",
+            &[CREATE, CREATE],
+            REFUSED_2,
+            FeedEnd::Whole,
+        ),
+        (
+            "feed-no-program",
+            &[CREATE, ACK, CHANGE],
+            REFUSED_6,
+            FeedEnd::Whole,
+        ),
+        (
+            "feed-cut",
+            &[CREATE, INSTALL, CHANGE, ACK, front],
+            MEASURE,
+            FeedEnd::Cut(273),
+        ),
+        (
+            "feed-bad-frame",
+            &[CREATE, nine],
+            b"",
+            FeedEnd::Bad(BadKind::Kind, 28),
+        ),
         ("feed-nothing", &[], b"", FeedEnd::Whole),
     ];
     for (name, frames, output, end) in rows {
@@ -63,7 +112,10 @@ fn inputs_have_a_limit(rt: HostRuntime) -> Result<(), Fail> {
         (b"", FeedEnd::Whole),
         (b"\x08\x01\x00\x00", FeedEnd::Cut(1_048_572)),
         (b"\x08\x01\x00\x00\x00", FeedEnd::TooLong),
-        (b"\x08\x01\x00\x01\x00", FeedEnd::Bad(BadKind::Count, 1_048_575)),
+        (
+            b"\x08\x01\x00\x01\x00",
+            FeedEnd::Bad(BadKind::Count, 1_048_575),
+        ),
     ];
     for (tail, end) in rows {
         let mut input = Bytes::new(rt.alloc());

@@ -1,7 +1,10 @@
 ghost use Rattle.feed_core.specs.FeedHolds.{state_of, IsFeed};
 
 use crate::feed::Feed;
-use crate::frames_of_tests::{ACK, BAD_CODE, CHANGE, CHANGE_16, CHANGE_BAD, CREATE, CREATE_2, CREATE_64, INSTALL, MEASURE, MEASURE_2, REFUSED_2, REFUSED_6, UPDATE};
+use crate::frames_of_tests::{
+    ACK, BAD_CODE, CHANGE, CHANGE_16, CHANGE_BAD, CREATE, CREATE_2, CREATE_64, INSTALL, MEASURE,
+    MEASURE_2, REFUSED_2, REFUSED_6, UPDATE,
+};
 use ccp_base::Bytes;
 use ccp_messages::{decode, encode_into};
 use std::alloc::Global;
@@ -39,26 +42,14 @@ fn answers(alloc: Global, frames: &[&[u8]]) -> Result<Bytes, Fail> {
 #[test]
 fn frames_are_answered(rt: HostRuntime) -> Result<(), Fail> {
     let rows: [(&str, &[&[u8]], &[u8]); 12] = [
-        (
-            "feed-report",
-            &[INSTALL, CREATE, CHANGE, ACK],
-            MEASURE,
-        ),
+        ("feed-report", &[INSTALL, CREATE, CHANGE, ACK], MEASURE),
         (
             "feed-version-2",
             &[CREATE_2, INSTALL, CHANGE, ACK],
             MEASURE_2,
         ),
-        (
-            "feed-flow-twice",
-            &[CREATE, CREATE],
-            REFUSED_2,
-        ),
-        (
-            "feed-no-program",
-            &[CREATE, ACK, CHANGE],
-            REFUSED_6,
-        ),
+        ("feed-flow-twice", &[CREATE, CREATE], REFUSED_2),
+        ("feed-no-program", &[CREATE, ACK, CHANGE], REFUSED_6),
         (
             "flow-above",
             &[CREATE_64],
@@ -89,11 +80,7 @@ fn frames_are_answered(rt: HostRuntime) -> Result<(), Fail> {
             &[CREATE, INSTALL, CHANGE_BAD],
             b"\x08\x01\x00\x00\x00\x00\x00\x00\x00\x00\x00\x00\x15\x00\x00\x00\x08\x00\x00\x00\x00",
         ),
-        (
-            "update-without-a-program",
-            &[CREATE, UPDATE],
-            REFUSED_6,
-        ),
+        ("update-without-a-program", &[CREATE, UPDATE], REFUSED_6),
         (
             "update",
             &[CREATE, INSTALL, CHANGE, UPDATE, ACK],

@@ -1,6 +1,5 @@
-use Rattle.std.proofs.Common.{◌≡◌, ◌∙◌, ℕ, ◌+◌, ◌-◌, ◌≤◌, List, length, ap, refl, sym, subst, arith}
-use Rattle.ccp_base.specs.Limits.{most_input_bytes}
-use Rattle.ccp_base.specs.Outside.{Known, IsAtEnd}
+use Rattle.std.proofs.Common.{ℕ, ◌+◌, ◌-◌, List, refl, sym, subst, arith}
+use Rattle.ccp_base.specs.Outside.{IsAtEnd}
 use Rattle.feed_core.specs.FeedHolds.{state_of}
 use Rattle.feed_core.specs.FeedBytes.{IsFeeding}
 use Rattle.feed_core.specs.FeedLast.{IsLast}
@@ -40,8 +39,8 @@ loop-used-preserved g c =
     let rest : List ℕ = between c.loop-used.rest.bytes c.loop-used.rest.start c.loop-used.rest.end in
     let rest' : List ℕ = between c.read.new.self.bytes c.read.new.self.start c.read.new.self.end in
     let part = feeds-part (g.S.Source.remaining c.args.source.now) (g.S.Source.remaining c.loop-used.source)
-        (g.K.Sink.written c.args.sink.now) (g.K.Sink.written c.loop-used.sink) (g.K.Sink.written c.next_frame.new.sink)
-        (state_of c.loop-used.feed) (state_of c.next_frame.new.feed) c.loop-used.eaten rest c.as_slice.result.now c.loop-used.invariant.feeding c.in-Part.ensures.turn in
+    (g.K.Sink.written c.args.sink.now) (g.K.Sink.written c.loop-used.sink) (g.K.Sink.written c.next_frame.new.sink)
+    (state_of c.loop-used.feed) (state_of c.next_frame.new.feed) c.loop-used.eaten rest c.as_slice.result.now c.loop-used.invariant.feeding c.in-Part.ensures.turn in
     record {
       reads = omega (arith, c.loop-used.invariant.reads, c.read.ensures.counted);
       writes = omega (arith, c.loop-used.invariant.writes, c.next_frame.ensures.counted);
@@ -55,71 +54,71 @@ pub returns-in-End-clause-fed : goal.returns-in-End-clause-fed
 returns-in-End-clause-fed g c =
     let rest : List ℕ = between c.loop-used.rest.bytes c.loop-used.rest.start c.loop-used.rest.end in
     let part = feeds-part (g.S.Source.remaining c.args.source.now) (g.S.Source.remaining c.loop-used.source)
-        (g.K.Sink.written c.args.sink.now) (g.K.Sink.written c.loop-used.sink) (g.K.Sink.written c.next_frame.new.sink)
-        (state_of c.loop-used.feed) (state_of c.next_frame.new.feed) c.loop-used.eaten rest c.as_slice.result.now c.loop-used.invariant.feeding c.in-Part.ensures.turn in
+    (g.K.Sink.written c.args.sink.now) (g.K.Sink.written c.loop-used.sink) (g.K.Sink.written c.next_frame.new.sink)
+    (state_of c.loop-used.feed) (state_of c.next_frame.new.feed) c.loop-used.eaten rest c.as_slice.result.now c.loop-used.invariant.feeding c.in-Part.ensures.turn in
     let same = feeds-same (g.S.Source.remaining c.args.source.now) (g.S.Source.remaining c.loop-used.source) (g.S.Source.remaining c.read.new.source)
-        (g.K.Sink.written c.args.sink.now) (g.K.Sink.written c.next_frame.new.sink) (state_of c.next_frame.new.feed) c.loop-used.eaten rest part c.in-End.ensures.came.0 in
+    (g.K.Sink.written c.args.sink.now) (g.K.Sink.written c.next_frame.new.sink) (state_of c.next_frame.new.feed) c.loop-used.eaten rest part c.in-End.ensures.came.0 in
     let quiet = feeds-quiet (g.S.Source.remaining c.args.source.now) (g.S.Source.remaining c.read.new.source)
-        (g.K.Sink.written c.args.sink.now) (g.K.Sink.written c.next_frame.new.sink) (g.K.Sink.written c.at_end.new.sink) (state_of c.next_frame.new.feed) c.loop-used.eaten rest same c.at_end.ensures.kept in
+    (g.K.Sink.written c.args.sink.now) (g.K.Sink.written c.next_frame.new.sink) (g.K.Sink.written c.at_end.new.sink) (state_of c.next_frame.new.feed) c.loop-used.eaten rest same c.at_end.ensures.kept in
     let end : IsAtEnd (g.S.Source.remaining c.read.new.source) = subst IsAtEnd (sym c.in-End.ensures.came.0) c.in-End.ensures.came.1 in
     ends-last (g.S.Source.remaining c.args.source.now) (g.S.Source.remaining c.read.new.source) (g.K.Sink.written c.args.sink.now) (g.K.Sink.written c.at_end.new.sink)
-        (state_of c.next_frame.new.feed) c.loop-used.eaten rest quiet
-        (g.S.Source.faults c.args.source.now) (g.S.Source.faults c.read.new.source) (g.K.Sink.faults c.args.sink.now) (g.K.Sink.faults c.at_end.new.sink) (g.K.Sink.is_finished c.at_end.new.sink)
-        c.in-Part.ensures.turn.needed (cut-part (g.K.Sink.written c.loop-used.sink) (g.K.Sink.written c.next_frame.new.sink) (state_of c.loop-used.feed) (state_of c.next_frame.new.feed) rest c.as_slice.result.now c.as_slice.ensures c.in-Part.ensures.turn)
-        end (g.K.Sink.faults c.next_frame.new.sink) (omega (arith, c.loop-used.invariant.writes, c.next_frame.ensures.counted)) c.at_end.ensures.counted c.at_end.result
-        (subst (λ (left : ℕ). IsLast (g.K.Sink.faults c.next_frame.new.sink) (g.K.Sink.faults c.at_end.new.sink) (g.K.Sink.is_finished c.at_end.new.sink) c.loop-used.eaten left c.at_end.result) c.len-left.ensures c.at_end.ensures.last)
+    (state_of c.next_frame.new.feed) c.loop-used.eaten rest quiet
+    (g.S.Source.faults c.args.source.now) (g.S.Source.faults c.read.new.source) (g.K.Sink.faults c.args.sink.now) (g.K.Sink.faults c.at_end.new.sink) (g.K.Sink.is_finished c.at_end.new.sink)
+    c.in-Part.ensures.turn.needed (cut-part (g.K.Sink.written c.loop-used.sink) (g.K.Sink.written c.next_frame.new.sink) (state_of c.loop-used.feed) (state_of c.next_frame.new.feed) rest c.as_slice.result.now c.as_slice.ensures c.in-Part.ensures.turn)
+    end (g.K.Sink.faults c.next_frame.new.sink) (omega (arith, c.loop-used.invariant.writes, c.next_frame.ensures.counted)) c.at_end.ensures.counted c.at_end.result
+    (subst (λ (left : ℕ). IsLast (g.K.Sink.faults c.next_frame.new.sink) (g.K.Sink.faults c.at_end.new.sink) (g.K.Sink.is_finished c.at_end.new.sink) c.loop-used.eaten left c.at_end.result) c.len-left.ensures c.at_end.ensures.last)
 
 pub returns-in-Further-clause-fed : goal.returns-in-Further-clause-fed
 returns-in-Further-clause-fed g c =
     let rest : List ℕ = between c.loop-used.rest.bytes c.loop-used.rest.start c.loop-used.rest.end in
     let part = feeds-part (g.S.Source.remaining c.args.source.now) (g.S.Source.remaining c.loop-used.source)
-        (g.K.Sink.written c.args.sink.now) (g.K.Sink.written c.loop-used.sink) (g.K.Sink.written c.next_frame.new.sink)
-        (state_of c.loop-used.feed) (state_of c.next_frame.new.feed) c.loop-used.eaten rest c.as_slice.result.now c.loop-used.invariant.feeding c.in-Part.ensures.turn in
+    (g.K.Sink.written c.args.sink.now) (g.K.Sink.written c.loop-used.sink) (g.K.Sink.written c.next_frame.new.sink)
+    (state_of c.loop-used.feed) (state_of c.next_frame.new.feed) c.loop-used.eaten rest c.as_slice.result.now c.loop-used.invariant.feeding c.in-Part.ensures.turn in
     ends-long (g.S.Source.remaining c.args.source.now) (g.S.Source.remaining c.loop-used.source) (g.K.Sink.written c.args.sink.now) (g.K.Sink.written c.next_frame.new.sink)
-        (state_of c.next_frame.new.feed) c.loop-used.eaten rest part
-        (g.S.Source.faults c.args.source.now) (g.S.Source.faults c.read.new.source) (g.K.Sink.faults c.args.sink.now) (g.K.Sink.faults c.next_frame.new.sink) (g.K.Sink.is_finished c.next_frame.new.sink)
-        c.in-Part.ensures.turn.needed (cut-part (g.K.Sink.written c.loop-used.sink) (g.K.Sink.written c.next_frame.new.sink) (state_of c.loop-used.feed) (state_of c.next_frame.new.feed) rest c.as_slice.result.now c.as_slice.ensures c.in-Part.ensures.turn)
-        (g.S.Source.remaining c.read.new.source) c.in-Further.ensures.came.piece c.in-Further.ensures.came.taken c.in-Further.ensures.came.one
-        (omega (arith, c.in-Further.ensures.came.none, c.len-left.ensures, part.within))
+    (state_of c.next_frame.new.feed) c.loop-used.eaten rest part
+    (g.S.Source.faults c.args.source.now) (g.S.Source.faults c.read.new.source) (g.K.Sink.faults c.args.sink.now) (g.K.Sink.faults c.next_frame.new.sink) (g.K.Sink.is_finished c.next_frame.new.sink)
+    c.in-Part.ensures.turn.needed (cut-part (g.K.Sink.written c.loop-used.sink) (g.K.Sink.written c.next_frame.new.sink) (state_of c.loop-used.feed) (state_of c.next_frame.new.feed) rest c.as_slice.result.now c.as_slice.ensures c.in-Part.ensures.turn)
+    (g.S.Source.remaining c.read.new.source) c.in-Further.ensures.came.piece c.in-Further.ensures.came.taken c.in-Further.ensures.came.one
+    (omega (arith, c.in-Further.ensures.came.none, c.len-left.ensures, part.within))
 
 pub returns-in-Failed-clause-fed : goal.returns-in-Failed-clause-fed
 returns-in-Failed-clause-fed g c =
     let rest : List ℕ = between c.loop-used.rest.bytes c.loop-used.rest.start c.loop-used.rest.end in
     let part = feeds-part (g.S.Source.remaining c.args.source.now) (g.S.Source.remaining c.loop-used.source)
-        (g.K.Sink.written c.args.sink.now) (g.K.Sink.written c.loop-used.sink) (g.K.Sink.written c.next_frame.new.sink)
-        (state_of c.loop-used.feed) (state_of c.next_frame.new.feed) c.loop-used.eaten rest c.as_slice.result.now c.loop-used.invariant.feeding c.in-Part.ensures.turn in
+    (g.K.Sink.written c.args.sink.now) (g.K.Sink.written c.loop-used.sink) (g.K.Sink.written c.next_frame.new.sink)
+    (state_of c.loop-used.feed) (state_of c.next_frame.new.feed) c.loop-used.eaten rest c.as_slice.result.now c.loop-used.invariant.feeding c.in-Part.ensures.turn in
     let same = feeds-same (g.S.Source.remaining c.args.source.now) (g.S.Source.remaining c.loop-used.source) (g.S.Source.remaining c.read.new.source)
-        (g.K.Sink.written c.args.sink.now) (g.K.Sink.written c.next_frame.new.sink) (state_of c.next_frame.new.feed) c.loop-used.eaten rest part c.in-Failed.ensures.came.1 in
+    (g.K.Sink.written c.args.sink.now) (g.K.Sink.written c.next_frame.new.sink) (state_of c.next_frame.new.feed) c.loop-used.eaten rest part c.in-Failed.ensures.came.1 in
     ends-unread (g.S.Source.remaining c.args.source.now) (g.S.Source.remaining c.read.new.source) (g.K.Sink.written c.args.sink.now) (g.K.Sink.written c.next_frame.new.sink)
-        (state_of c.next_frame.new.feed) c.loop-used.eaten rest same
-        (g.S.Source.faults c.args.source.now) (g.S.Source.faults c.read.new.source) (g.K.Sink.faults c.args.sink.now) (g.K.Sink.faults c.next_frame.new.sink) (g.K.Sink.is_finished c.next_frame.new.sink)
-        c.in-Part.ensures.turn.needed (cut-part (g.K.Sink.written c.loop-used.sink) (g.K.Sink.written c.next_frame.new.sink) (state_of c.loop-used.feed) (state_of c.next_frame.new.feed) rest c.as_slice.result.now c.as_slice.ensures c.in-Part.ensures.turn)
-        (g.S.Source.faults c.loop-used.source) c.loop-used.invariant.reads c.read.ensures.counted c.in-Failed.ensures.came.0
+    (state_of c.next_frame.new.feed) c.loop-used.eaten rest same
+    (g.S.Source.faults c.args.source.now) (g.S.Source.faults c.read.new.source) (g.K.Sink.faults c.args.sink.now) (g.K.Sink.faults c.next_frame.new.sink) (g.K.Sink.is_finished c.next_frame.new.sink)
+    c.in-Part.ensures.turn.needed (cut-part (g.K.Sink.written c.loop-used.sink) (g.K.Sink.written c.next_frame.new.sink) (state_of c.loop-used.feed) (state_of c.next_frame.new.feed) rest c.as_slice.result.now c.as_slice.ensures c.in-Part.ensures.turn)
+    (g.S.Source.faults c.loop-used.source) c.loop-used.invariant.reads c.read.ensures.counted c.in-Failed.ensures.came.0
 
 pub returns-in-Bad-clause-fed : goal.returns-in-Bad-clause-fed
 returns-in-Bad-clause-fed g c =
     let bytes : List ℕ = c.as_slice.result.now in
     let here = subst (IsFeeding (g.S.Source.remaining c.args.source.now) (g.S.Source.remaining c.loop-used.source) (g.K.Sink.written c.args.sink.now) (g.K.Sink.written c.loop-used.sink) (state_of c.loop-used.feed) c.loop-used.eaten) (sym c.as_slice.ensures) c.loop-used.invariant.feeding in
     let quiet = feeds-quiet (g.S.Source.remaining c.args.source.now) (g.S.Source.remaining c.loop-used.source)
-        (g.K.Sink.written c.args.sink.now) (g.K.Sink.written c.loop-used.sink) (g.K.Sink.written c.next_frame.new.sink) (state_of c.loop-used.feed) c.loop-used.eaten bytes here c.in-Bad.ensures.turn.2 in
+    (g.K.Sink.written c.args.sink.now) (g.K.Sink.written c.loop-used.sink) (g.K.Sink.written c.next_frame.new.sink) (state_of c.loop-used.feed) c.loop-used.eaten bytes here c.in-Bad.ensures.turn.2 in
     ends-bad (g.S.Source.remaining c.args.source.now) (g.S.Source.remaining c.loop-used.source) (g.K.Sink.written c.args.sink.now) (g.K.Sink.written c.next_frame.new.sink)
-        (state_of c.loop-used.feed) c.loop-used.eaten bytes quiet
-        (g.S.Source.faults c.args.source.now) (g.S.Source.faults c.loop-used.source) (g.K.Sink.faults c.args.sink.now) (g.K.Sink.faults c.next_frame.new.sink) (g.K.Sink.is_finished c.next_frame.new.sink)
-        c.in-Bad.field c.in-Bad.offset (c.loop-used.eaten + c.in-Bad.offset) c.in-Bad.ensures.turn.0 c.in-Bad.ensures.turn.1 refl
+    (state_of c.loop-used.feed) c.loop-used.eaten bytes quiet
+    (g.S.Source.faults c.args.source.now) (g.S.Source.faults c.loop-used.source) (g.K.Sink.faults c.args.sink.now) (g.K.Sink.faults c.next_frame.new.sink) (g.K.Sink.is_finished c.next_frame.new.sink)
+    c.in-Bad.field c.in-Bad.offset (c.loop-used.eaten + c.in-Bad.offset) c.in-Bad.ensures.turn.0 c.in-Bad.ensures.turn.1 refl
 
 pub returns-in-WriteFailed-clause-fed : goal.returns-in-WriteFailed-clause-fed
 returns-in-WriteFailed-clause-fed g c =
     let here = subst (IsFeeding (g.S.Source.remaining c.args.source.now) (g.S.Source.remaining c.loop-used.source) (g.K.Sink.written c.args.sink.now) (g.K.Sink.written c.loop-used.sink) (state_of c.loop-used.feed) c.loop-used.eaten) (sym c.as_slice.ensures) c.loop-used.invariant.feeding in
     ends-unwritten (g.S.Source.remaining c.args.source.now) (g.S.Source.remaining c.loop-used.source) (g.K.Sink.written c.args.sink.now) (g.K.Sink.written c.loop-used.sink)
-        (state_of c.loop-used.feed) c.loop-used.eaten c.as_slice.result.now here
-        (g.S.Source.faults c.args.source.now) (g.S.Source.faults c.loop-used.source) (g.K.Sink.faults c.args.sink.now) (g.K.Sink.faults c.next_frame.new.sink) (g.K.Sink.is_finished c.next_frame.new.sink)
-        (g.K.Sink.written c.next_frame.new.sink) (g.K.Sink.faults c.loop-used.sink) c.loop-used.invariant.writes c.next_frame.ensures.counted c.in-WriteFailed.ensures.turn
+    (state_of c.loop-used.feed) c.loop-used.eaten c.as_slice.result.now here
+    (g.S.Source.faults c.args.source.now) (g.S.Source.faults c.loop-used.source) (g.K.Sink.faults c.args.sink.now) (g.K.Sink.faults c.next_frame.new.sink) (g.K.Sink.is_finished c.next_frame.new.sink)
+    (g.K.Sink.written c.next_frame.new.sink) (g.K.Sink.faults c.loop-used.sink) c.loop-used.invariant.writes c.next_frame.ensures.counted c.in-WriteFailed.ensures.turn
 
 pub returns-in-NoMemory-clause-fed : goal.returns-in-NoMemory-clause-fed
 returns-in-NoMemory-clause-fed g c =
     let rest : List ℕ = between c.loop-used.rest.bytes c.loop-used.rest.start c.loop-used.rest.end in
     let quiet = feeds-quiet (g.S.Source.remaining c.args.source.now) (g.S.Source.remaining c.loop-used.source)
-        (g.K.Sink.written c.args.sink.now) (g.K.Sink.written c.loop-used.sink) (g.K.Sink.written c.next_frame.new.sink) (state_of c.loop-used.feed) c.loop-used.eaten rest c.loop-used.invariant.feeding c.in-NoMemory.ensures.turn in
+    (g.K.Sink.written c.args.sink.now) (g.K.Sink.written c.loop-used.sink) (g.K.Sink.written c.next_frame.new.sink) (state_of c.loop-used.feed) c.loop-used.eaten rest c.loop-used.invariant.feeding c.in-NoMemory.ensures.turn in
     ends-wanting (g.S.Source.remaining c.args.source.now) (g.S.Source.remaining c.loop-used.source) (g.K.Sink.written c.args.sink.now) (g.K.Sink.written c.next_frame.new.sink)
-        (state_of c.loop-used.feed) c.loop-used.eaten rest quiet
-        (g.S.Source.faults c.args.source.now) (g.S.Source.faults c.loop-used.source) (g.K.Sink.faults c.args.sink.now) (g.K.Sink.faults c.next_frame.new.sink) (g.K.Sink.is_finished c.next_frame.new.sink)
+    (state_of c.loop-used.feed) c.loop-used.eaten rest quiet
+    (g.S.Source.faults c.args.source.now) (g.S.Source.faults c.loop-used.source) (g.K.Sink.faults c.args.sink.now) (g.K.Sink.faults c.next_frame.new.sink) (g.K.Sink.is_finished c.next_frame.new.sink)

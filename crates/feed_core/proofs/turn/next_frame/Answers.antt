@@ -23,6 +23,6 @@ returns-in-Ok-answer-clause-turn g c =
 pub returns-in-Err-clause-turn : goal.returns-in-Err-clause-turn
 returns-in-Err-clause-turn g c =
     subst (IsTurn (g.K.Sink.faults c.args.sink.now) (g.K.Sink.faults c.args.sink.now) (g.K.Sink.written c.args.sink.now) (g.K.Sink.written c.args.sink.now) (state_of c.args.feed.now) (state_of c.args.feed.now) c.args.bytes.now)
-        (sym c.without_frame.ensures)
-        (turns-without (g.K.Sink.faults c.args.sink.now) (g.K.Sink.written c.args.sink.now) (state_of c.args.feed.now) c.args.bytes.now (λ i. omega (arith, c.type_inv.bytes i))
-            c.decode.result c.decode.ensures.told c.decode.ensures.more c.decode.ensures.bad c.in-Err.fault c.in-Err.is)
+    (sym c.without_frame.ensures)
+    (turns-without (g.K.Sink.faults c.args.sink.now) (g.K.Sink.written c.args.sink.now) (state_of c.args.feed.now) c.args.bytes.now (λ i. omega (arith, c.type_inv.bytes i))
+    c.decode.result c.decode.ensures.told c.decode.ensures.more c.decode.ensures.bad c.in-Err.fault c.in-Err.is)

@@ -1,8 +1,4 @@
-use Rattle.std.proofs.Common.{◌≡◌, ◌∙◌, ℕ, ◌<◌, ◌≤◌, Bool, true, false, nat_lt, Option, Some, None, option_map, List, length, map, slice_index_or, slice_set, ap, sym, refl, arith, rules}
-use Rattle.reg_code.specs.declared.code.Code.{Code}
-use Rattle.reg_code.specs.declared.checked.Checked.{Checked}
-use Rattle.feed_core.specs.declared.flow.Epoch.{Epoch}
-use Rattle.feed_core.specs.declared.flow.Flow.{Flow}
+use Rattle.std.proofs.Common.{◌≡◌, ◌∙◌, ◌<◌, Some, None, option_map, length, ap, sym, refl, arith, rules}
 use Rattle.feed_core.specs.Feed.{code_of, in_version}
 use Rattle.feed_core.specs.FeedHolds.{codes_in}
 use Rattle.feed_core.proofs.FeedLemmas.{ack-absent, ack-counted, ack-heard}

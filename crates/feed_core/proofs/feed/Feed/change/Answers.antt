@@ -1,15 +1,8 @@
-use Rattle.std.proofs.Common.{◌≡◌, ◌∙◌, ℕ, ◌<◌, ◌≤◌, Bool, true, false, nat_lt, Option, Some, None, option_map, List, length, map, slice_index_or, slice_set, ap, sym, refl, arith, rules}
+use Rattle.std.proofs.Common.{◌≡◌, ◌∙◌, ◌<◌, true, false, nat_lt, Some, None, option_map, length, ap, sym, refl, arith, rules}
 use Rattle.std.proofs.lemmas.Bool.Decides.{nat_tests}
-use Rattle.std.proofs.lemmas.List.{map-set}
-use Rattle.std.proofs.lemmas.Option.{slice_get-map}
-use Rattle.reg_code.specs.declared.code.Code.{Code}
-use Rattle.reg_code.specs.declared.checked.Checked.{Checked}
-use Rattle.ccp_base.specs.FieldReg.{first_bad}
 use Rattle.ccp_base.specs.Limits.{most_kept_programs}
-use Rattle.feed_core.specs.declared.flow.Epoch.{Epoch}
-use Rattle.feed_core.specs.declared.flow.Flow.{Flow}
-use Rattle.feed_core.specs.Feed.{code_of, in_version, there, is_too_wide, changed_flow}
-use Rattle.feed_core.specs.FeedHolds.{codes_in, code_in}
+use Rattle.feed_core.specs.Feed.{there}
+use Rattle.feed_core.specs.FeedHolds.{codes_in}
 use Rattle.feed_core.proofs.FeedLemmas.{change-absent, change-above, change-unknown, change-wide, change-bad, change-started}
 use Rattle.feed_core.proofs.feed.Feed.change.Goals as goal
 

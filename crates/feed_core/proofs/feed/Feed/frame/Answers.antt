@@ -1,5 +1,5 @@
-use Rattle.std.proofs.Common.{◌≡◌, ℕ, ◌+◌, sym, subst}
-use Rattle.feed_core.specs.Feed.{Answered, told}
+use Rattle.std.proofs.Common.{ℕ, ◌+◌, sym, subst}
+use Rattle.feed_core.specs.Feed.{Answered}
 use Rattle.feed_core.specs.FeedHolds.{state_of, codes_in, AreHeld}
 use Rattle.feed_core.proofs.FeedKept.{IsKept, told-kept}
 use Rattle.feed_core.proofs.feed.Feed.frame.Goals as goal

@@ -1,7 +1,6 @@
-use Rattle.std.proofs.Common.{◌≡◌, ◌∙◌, ℕ, ◌<◌, ◌≤◌, Bool, true, false, nat_lt, Option, Some, None, option_map, List, length, map, slice_set, ap, sym, refl, arith, rules}
+use Rattle.std.proofs.Common.{◌≡◌, ◌∙◌, true, nat_lt, Some, None, option_map, slice_set, ap, sym, refl, arith, rules}
 use Rattle.std.proofs.lemmas.Bool.Decides.{nat_tests}
 use Rattle.std.proofs.lemmas.List.{map-set}
-use Rattle.reg_code.specs.declared.checked.Checked.{Checked}
 use Rattle.reg_code.specs.AcceptedCode.{IsAccepted}
 use Rattle.ccp_base.specs.Limits.{most_kept_programs}
 use Rattle.feed_core.specs.Feed.{there}

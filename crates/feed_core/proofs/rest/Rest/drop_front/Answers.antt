@@ -1,5 +1,4 @@
 use Rattle.feed_core.proofs.RestLemmas.{between-drop}
-use Rattle.std.proofs.Common.{arith}
 use Rattle.feed_core.proofs.rest.Rest.drop_front.Goals as goal
 
 pub returns : goal.returns
