@@ -1,2 +1,5 @@
 pub mod FoldText
 pub mod CheckText
+pub mod WireText
+pub mod TableText
+pub mod Columns

@@ -11,10 +11,9 @@ use crate::reading::read_bytes;
 use crate::refusal::Limit;
 use crate::scene::scene;
 use crate::stop::Stop;
-use agent_core::Agent;
 use campaign_gate::calls::rows;
-use campaign_report::{table_text, wire_text};
-use ccp_base::{Bytes, Gate, NoMemory, Sequence, Source};
+use campaign_report::{Agents, table_text, wire_text};
+use ccp_base::{Bytes, Gate, NoMemory, Source};
 use flow_core::Case;
 use reg_compiler::Builts;
 use scenario_json::Mode;
@@ -77,10 +76,10 @@ pub fn frames(alloc: Global, wire: bool, programs: &Builts) -> Result<Bytes, NoM
 }
 
 /// The agents of cases, in order.
-fn agents(alloc: Global, cases: &[Case]) -> Result<Sequence<Agent>, NoMemory>
+fn agents(alloc: Global, cases: &[Case]) -> Result<Agents, NoMemory>
     ensures { IfOk result (λ agents. agents ≡ case_agents cases.now) }
 {
-    let mut agents = Sequence::new(alloc);
+    let mut agents = Agents::new(alloc);
     for case in cases {
         agents.push(case.agent)?;
     }
