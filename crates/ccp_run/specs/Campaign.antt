@@ -33,11 +33,16 @@ abbrev pub frames_shown : Bool → List (ℕ × Built) → List ℕ
 frames_shown true programs = wire_text programs
 frames_shown false programs = []
 
+-- the table of cases of these programs, after the programs' frames where they are asked for
+abbrev pub campaign_text : Bool → List (ℕ × Built) → List Case → List ℕ
+campaign_text wire programs cases =
+    frames_shown wire programs ⧺ table_text (case_names cases) (case_agents cases) (source_rows programs cases)
+
 -- the output is the table of the scenario's cases, after the frames of its programs where they are asked for
 pub record IsCampaignOutput (wire : Bool) (bytes : List ℕ) (output : ModeOutput) : Type 0 where
   pub cases : List Case
   pub scenario : IsScenario scene.Campaign bytes output.programs cases
-  pub written : output.text ≡ frames_shown wire output.programs ⧺ table_text (case_names cases) (case_agents cases) (source_rows output.programs cases)
+  pub written : output.text ≡ campaign_text wire output.programs cases
   pub idle : output.ran ≡ 0
 
 -- the output is the total of the generated cases of this number

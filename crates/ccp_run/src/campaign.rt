@@ -2,7 +2,9 @@ ghost use Rattle.std.specs.Prelude.{◌≡◌, ◌≤◌, IfOk, map, length};
 ghost use Rattle.ccp_base.specs.Limits.{most_cases, most_workers};
 ghost use Rattle.flow_core.specs.declared.case.Case.{Case};
 ghost use Rattle.ccp_run.specs.Attempts.{IsAnswer, IsAttempt};
-ghost use Rattle.ccp_run.specs.Campaign.{case_agents, frames_shown};
+ghost use Rattle.std.specs.List.{All};
+ghost use Rattle.scenario_json.specs.Cases.{case_names, IsCoded, AreNumberedFrom};
+ghost use Rattle.ccp_run.specs.Campaign.{campaign_text, case_agents, frames_shown};
 ghost use Rattle.ccp_run.specs.Streams.{stream};
 ghost use Rattle.ccp_run.specs.Tasks.{campaign_task};
 
@@ -16,7 +18,7 @@ use campaign_report::{Agents, table_text, wire_text};
 use ccp_base::{Bytes, Gate, NoMemory, Source};
 use flow_core::Case;
 use reg_compiler::Builts;
-use scenario_json::Mode;
+use scenario_json::{Mode, Scenario};
 use std::alloc::Global;
 use std::sync::Wait;
 use std::thread::Threads;
@@ -53,9 +55,31 @@ fn campaign<R: Threads + Wait + Sync, G: Gate + Sync>(
     ensures { IsAnswer (campaign_task wire) bytes.now result }
 {
     let scene = scene(alloc, bytes, Mode::Campaign)?;
+    Ok(campaigned(rt, alloc, workers, wire, scene, gate)?)
+}
+
+/// What the cases of a scenario come to.
+#[tactic(auto, using(crate::proofs::CampaignLemmas::rows_over))]
+fn campaigned<R: Threads + Wait + Sync, G: Gate + Sync>(
+    rt: &R,
+    alloc: Global,
+    workers: u32,
+    wire: bool,
+    scene: Scenario,
+    gate: &G,
+) -> Result<ModeOutput, NoMemory>
+    requires workers { (1 ≤ workers) × (workers ≤ most_workers) }
+    requires names { scene.names ≡ case_names scene.cases }
+    requires few { length scene.cases ≤ most_cases }
+    requires numbered { AreNumberedFrom 0 scene.programs }
+    requires coded { All (IsCoded scene.programs) scene.cases }
+    ensures text { IfOk result (λ output. output.text ≡ campaign_text wire scene.programs scene.cases) }
+    ensures programs { IfOk result (λ output. output.programs ≡ scene.programs) }
+    ensures ran { IfOk result (λ output. output.ran ≡ 0) }
+{
     let agents = agents(alloc, scene.cases.as_slice())?;
-    let mut text = frames(alloc, wire, &scene.programs)?;
     let rows = rows(rt, alloc, scene.cases, workers, gate)?;
+    let mut text = frames(alloc, wire, &scene.programs)?;
     text.extend(table_text(alloc, &scene.names, &agents, &rows)?.as_slice())?;
     Ok(ModeOutput {
         text,
@@ -80,8 +104,10 @@ fn agents(alloc: Global, cases: &[Case]) -> Result<Agents, NoMemory>
     ensures { IfOk result (λ agents. agents ≡ case_agents cases.now) }
 {
     let mut agents = Agents::new(alloc);
-    for case in cases {
+    let mut left = cases;
+    while let Some((case, rest)) = left.split_first() {
         agents.push(case.agent)?;
+        left = rest;
     }
     Ok(agents)
 }

@@ -1,5 +1,5 @@
 ghost use Rattle.std.specs.Prelude.{◌≡◌, ◌≤◌, IfOk, IfErr, length};
-ghost use Rattle.scenario_json.specs.Cases.{case_names};
+ghost use Rattle.scenario_json.specs.Cases.{case_names, AreNumberedFrom};
 ghost use Rattle.scenario_json.specs.Scene.{most_cases_of};
 ghost use Rattle.ccp_run.specs.Scenes.{IsScenario, StopsScene};
 
@@ -12,6 +12,7 @@ use std::alloc::Global;
 /// The scenario that the bytes stand for.
 pub fn scene(alloc: Global, bytes: &[u8], mode: Mode) -> Result<Scenario, Stop>
     ensures found { IfOk result (λ s. IsScenario mode bytes.now s.programs s.cases) }
+    ensures numbered { IfOk result (λ s. AreNumberedFrom 0 s.programs) }
     ensures names { IfOk result (λ s. s.names ≡ case_names s.cases) }
     ensures few { IfOk result (λ s. length s.cases ≤ most_cases_of mode) }
     ensures err { IfErr result (StopsScene mode bytes.now) }

@@ -1,4 +1,4 @@
-ghost use Rattle.std.specs.Prelude.{◌≡◌, ◌≤◌};
+ghost use Rattle.std.specs.Prelude.{◌≡◌, ◌≤◌, IfOk};
 ghost use Rattle.ccp_base.specs.Limits.{most_workers};
 ghost use Rattle.ccp_run.specs.Attempts.{IsAttempt};
 ghost use Rattle.ccp_run.specs.Campaign.{IsSoakOutput};

@@ -1,13 +1,32 @@
-use Rattle.std.proofs.Common.{refl}
-use Rattle.ccp_run.specs.Tasks.{task_of}
-use Rattle.ccp_run.specs.Streams.{stream}
-use Rattle.ccp_run.proofs.RunLemmas.{wants_at_once}
+use Rattle.std.proofs.Common.{ap, refl, subst, sym}
+use Rattle.ccp_run.specs.Run.{IsRun}
+use Rattle.ccp_run.specs.Streams.{Stream, stream}
+use Rattle.ccp_run.specs.Tasks.{Task, Campaign, Soak, task_in, task_of}
+use Rattle.ccp_run.proofs.RunLemmas.{run_of, wants_at_once}
 use Rattle.ccp_run.proofs.tool.asked_run.Goals as goal
+
+pub returns-in-Campaign : goal.returns-in-Campaign
+returns-in-Campaign g c =
+    let source : Stream = stream (g.S.Source.remaining c.args.source.now) (g.S.Source.remaining c.read_campaign-made.new.source) (g.S.Source.faults c.args.source.now) (g.S.Source.faults c.read_campaign-made.new.source) in
+    let sink : Stream = stream (g.K.Sink.written c.args.sink.now) (g.K.Sink.written c.end.new.sink) (g.K.Sink.faults c.args.sink.now) (g.K.Sink.faults c.end.new.sink) in
+    let errors : Stream = stream (g.E.Sink.written c.args.errors.now) (g.E.Sink.written c.end.new.errors) (g.E.Sink.faults c.args.errors.now) (g.E.Sink.faults c.end.new.errors) in
+    subst (λ (task : Task). IsRun task source sink errors (g.K.Sink.is_finished c.end.new.sink) c.end.result)
+    (sym (ap (λ mode. task_in mode c.args.asked) c.in-Campaign.is))
+    (run_of (Campaign c.args.asked.wire) refl source sink errors (g.K.Sink.is_finished c.end.new.sink) c.end.result c.read_campaign-made.result c.read_campaign-made.ensures c.end.ensures)
+
+pub returns-in-Soak : goal.returns-in-Soak
+returns-in-Soak g c =
+    let source : Stream = stream (g.S.Source.remaining c.args.source.now) (g.S.Source.remaining c.args.source.now) (g.S.Source.faults c.args.source.now) (g.S.Source.faults c.args.source.now) in
+    let sink : Stream = stream (g.K.Sink.written c.args.sink.now) (g.K.Sink.written c.end-in-Soak.new.sink) (g.K.Sink.faults c.args.sink.now) (g.K.Sink.faults c.end-in-Soak.new.sink) in
+    let errors : Stream = stream (g.E.Sink.written c.args.errors.now) (g.E.Sink.written c.end-in-Soak.new.errors) (g.E.Sink.faults c.args.errors.now) (g.E.Sink.faults c.end-in-Soak.new.errors) in
+    subst (λ (task : Task). IsRun task source sink errors (g.K.Sink.is_finished c.end-in-Soak.new.sink) c.end-in-Soak.result)
+    (sym (ap (λ mode. task_in mode c.args.asked) c.in-Soak.is))
+    (run_of (Soak c.args.asked.number) refl source sink errors (g.K.Sink.is_finished c.end-in-Soak.new.sink) c.end-in-Soak.result c.soak_output-made.result (c.soak_output-made.ensures source refl) c.end-in-Soak.ensures)
 
 pub returns-in-Live : goal.returns-in-Live
 returns-in-Live g c =
     wants_at_once (task_of c.args.asked)
     (stream (g.S.Source.remaining c.args.source.now) (g.S.Source.remaining c.args.source.now) (g.S.Source.faults c.args.source.now) (g.S.Source.faults c.args.source.now))
-    (stream (g.K.Sink.written c.args.sink.now) (g.K.Sink.written c.end.new.sink) (g.K.Sink.faults c.args.sink.now) (g.K.Sink.faults c.end.new.sink))
-    (stream (g.E.Sink.written c.args.errors.now) (g.E.Sink.written c.end.new.errors) (g.E.Sink.faults c.args.errors.now) (g.E.Sink.faults c.end.new.errors))
-    (g.K.Sink.is_finished c.end.new.sink) c.end.result refl c.end.ensures.0 c.end.ensures.1
+    (stream (g.K.Sink.written c.args.sink.now) (g.K.Sink.written c.end-in-Live.new.sink) (g.K.Sink.faults c.args.sink.now) (g.K.Sink.faults c.end-in-Live.new.sink))
+    (stream (g.E.Sink.written c.args.errors.now) (g.E.Sink.written c.end-in-Live.new.errors) (g.E.Sink.faults c.args.errors.now) (g.E.Sink.faults c.end-in-Live.new.errors))
+    (g.K.Sink.is_finished c.end-in-Live.new.sink) c.end-in-Live.result refl c.end-in-Live.ensures.0 c.end-in-Live.ensures.1
