@@ -1,2 +1,0 @@
-pub mod LookWithin
-pub mod Numbered
