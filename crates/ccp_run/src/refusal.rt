@@ -3,8 +3,8 @@ ghost use Rattle.ccp_run.specs.ErrorLine.{field_name, most_bytes, refusal_line};
 
 use ccp_base::{Bytes, NoMemory};
 use portus_build::{BuildFault, put_refusal};
-use scenario_json::{SceneFault, put_scene_refusal};
 use reply_frames::BadKind;
+use scenario_json::{SceneFault, put_scene_refusal};
 use std::alloc::Global;
 
 /// How long an input may be.

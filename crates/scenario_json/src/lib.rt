@@ -30,8 +30,8 @@ mod values;
 
 pub use fault::{Path, SceneFault};
 pub use mode::Mode;
-pub use refusal::put_scene_refusal;
 pub use open_case::{OpenCase, OpenCases, StepTexts};
 pub use plan::{Fates, Kind, Measures, Plan, Plans, Programs, Waits};
+pub use refusal::put_scene_refusal;
 pub use scenario::Scenario;
 pub use shared_scene::SharedScene;

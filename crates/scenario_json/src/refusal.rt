@@ -49,12 +49,7 @@ fn put_program(
     put_refusal(alloc, text, fault)
 }
 
-fn put_trace(
-    alloc: Global,
-    text: &mut Bytes,
-    name: Name,
-    fault: TraceFault,
-) -> Result<(), NoMemory>
+fn put_trace(alloc: Global, text: &mut Bytes, name: Name, fault: TraceFault) -> Result<(), NoMemory>
     ensures { OnOk result (text.new ≡ text.old ++ refusal_text (SceneFault.Trace name fault)) }
 {
     text.extend(b"trace ")?;
