@@ -18,9 +18,14 @@ version_for fields = if nat_lt most_short_fields fields then Two else One
 abbrev pub install_frame : ℕ → Built → List ℕ
 install_frame number built = frame_bytes (version_for (length (form_of built.program).fields)) (Install 0 number built.code.code)
 
+abbrev pub install_head : ℕ → List ℕ
+install_head number = codes "install " ⧺ decimal number ⧺ codes " "
+
+abbrev pub hex_line : List ℕ → List ℕ
+hex_line bytes = encode_lower bytes ⧺ codes "\n"
+
 abbrev pub install_line : ℕ → Built → List ℕ
-install_line number built =
-    codes "install " ⧺ decimal number ⧺ codes " " ⧺ encode_lower (install_frame number built) ⧺ codes "\n"
+install_line number built = install_head number ⧺ hex_line (install_frame number built)
 
 -- the programs in their order
 abbrev pub wire_text : List (ℕ × Built) → List ℕ

@@ -1,7 +1,7 @@
 ghost use Rattle.std.specs.Prelude.{◌≡◌, ◌++◌, IfOk, OnOk, length};
 ghost use Rattle.ccp_messages.specs.Messages.{Meets, frame_bytes};
 ghost use Rattle.ccp_messages.specs.declared.message.Message.TheVariants.{Install};
-ghost use Rattle.campaign_report.specs.WireText.{install_frame, install_line, version_for, wire_text};
+ghost use Rattle.campaign_report.specs.WireText.{hex_line, install_frame, install_head, install_line, version_for, wire_text};
 
 use ccp_base::{Bytes, NoMemory};
 use ccp_messages::{Message, Short, Version, encode_into};
@@ -35,10 +35,24 @@ fn put_installs(alloc: Global, text: &mut Bytes, programs: &[(u32, Built)]) -> R
 fn put_install(alloc: Global, text: &mut Bytes, number: u32, built: &Built) -> Result<(), NoMemory>
     ensures { OnOk result (text.new ≡ text.old ++ install_line number built.now) }
 {
+    put_head(alloc, text, number)?;
+    let frame = install_frame(alloc, number, built)?;
+    put_digits(alloc, text, frame.as_slice())?;
+    Ok(())
+}
+
+fn put_head(alloc: Global, text: &mut Bytes, number: u32) -> Result<(), NoMemory>
+    ensures { OnOk result (text.new ≡ text.old ++ install_head number) }
+{
     let head = format!(in alloc; "install {number} ")?;
     text.extend(head.as_bytes())?;
-    let frame = install_frame(alloc, number, built)?;
-    let digits = hex::encode(alloc, frame.as_slice())?;
+    Ok(())
+}
+
+fn put_digits(alloc: Global, text: &mut Bytes, bytes: &[u8]) -> Result<(), NoMemory>
+    ensures { OnOk result (text.new ≡ text.old ++ hex_line bytes.now) }
+{
+    let digits = hex::encode(alloc, bytes)?;
     text.extend(digits.as_bytes())?;
     text.push(b'\n')?;
     Ok(())

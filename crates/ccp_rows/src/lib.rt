@@ -2,6 +2,8 @@
 #![tactic(auto)]
 
 #[cfg(test)]
+mod campaigns;
+#[cfg(test)]
 mod checked_programs;
 #[cfg(test)]
 mod feeds;

@@ -1,0 +1,206 @@
+use ccp_base::{Bytes, MemSink, MemSource, OpenGate};
+use ccp_run::run;
+use std::alloc::Global;
+use std::process::Abort;
+use std::sync::Wait;
+use std::test::Fail;
+use std::thread::Threads;
+
+/// A scenario of one flow of Reno's with four acknowledgements.
+const ONE_CASE: &[u8] =
+    b"{\"version\":1,\"traces\":{\"t\":\"10\\n\"},\"cases\":[{\"name\":\"a\",\"agent\":\"reno\",\"trace\":\"t\",\"mss\":1448,\"queue\":10,\"delay_us\":20000,\"timeout_us\":1000000,\"acks\":4}]}";
+
+/// Its table.
+const ONE_ROW: &[u8] =
+    b"case agent acks reports held faults epochs lost timeouts acked peak cwnd now tail\na reno 4 1 0 0 1 0 0 5792 10136 10136 60000 0\ntotal cases=1 acks=4 reports=1 held=0 faults=0 lost=0 timeouts=0 acked=5792\n";
+
+/// A scenario without cases.
+const NO_CASES: &[u8] = b"{\"version\":1,\"traces\":{},\"cases\":[]}";
+
+/// Its table.
+const NO_ROWS: &[u8] =
+    b"case agent acks reports held faults epochs lost timeouts acked peak cwnd now tail\ntotal cases=0 acks=0 reports=0 held=0 faults=0 lost=0 timeouts=0 acked=0\n";
+
+/// A run on words: which call of the source and of the sink fails, if one does, and how many bytes a call takes.
+#[derive(Clone, Copy)]
+struct Ways<'a> {
+    read: &'a [u64],
+    write: &'a [u64],
+    most: usize,
+}
+
+/// Calls that take what they are given, of which none fails.
+const WHOLE: Ways<'static> = Ways {
+    read: &[],
+    write: &[],
+    most: 4096,
+};
+
+/// What a run came to: its status, what was written, and the error line.
+#[derive(Debug, Drop)]
+struct Came {
+    status: u8,
+    output: Bytes,
+    errors: Bytes,
+}
+
+fn copied(alloc: Global, bytes: &[u8]) -> Result<Bytes, Fail> {
+    let mut copy = Bytes::new(alloc);
+    copy.extend(bytes)?;
+    Ok(copy)
+}
+
+/// What a run on these words comes to.
+fn comes_to<R: Threads + Wait + Sync>(
+    rt: &R,
+    abort: &impl Abort,
+    alloc: Global,
+    given: &[&str],
+    input: &[u8],
+    ways: Ways<'_>,
+) -> Result<Came, Fail> {
+    assert!(abort; ways.most > 0);
+    let mut words = Vec::new(alloc);
+    for word in given {
+        words.push(String::from_str(alloc, word)?)?;
+    }
+    let mut source = MemSource::new(input, ways.most, ways.read);
+    let mut sink = MemSink::new(alloc, ways.most, ways.write);
+    let mut errors = MemSink::new(alloc, 4096, &[]);
+    let outcome = run(
+        rt,
+        alloc,
+        words,
+        &mut source,
+        &mut sink,
+        &mut errors,
+        &OpenGate,
+    );
+    Ok(Came {
+        status: outcome.status,
+        output: copied(alloc, sink.as_slice())?,
+        errors: copied(alloc, errors.as_slice())?,
+    })
+}
+
+#[test]
+fn a_campaign_is_a_table(rt: HostRuntime) -> Result<(), Fail> {
+    let rows: [(&str, &[&str], &[u8], u8, &[u8], &[u8]); 7] = [
+        ("one case", &["ccp", "campaign"], ONE_CASE, 0, ONE_ROW, b""),
+        (
+            "4 workers",
+            &["ccp", "campaign", "--workers", "4"],
+            ONE_CASE,
+            0,
+            ONE_ROW,
+            b"",
+        ),
+        (
+            "8 workers",
+            &["ccp", "campaign", "--workers=8"],
+            ONE_CASE,
+            0,
+            ONE_ROW,
+            b"",
+        ),
+        ("no cases", &["ccp", "campaign"], NO_CASES, 0, NO_ROWS, b""),
+        (
+            "no JSON",
+            &["ccp", "campaign"],
+            b"{",
+            3,
+            b"",
+            b"ccp: input refused: json\n",
+        ),
+        (
+            "an empty path",
+            &["ccp", "campaign"],
+            b"[]",
+            3,
+            b"",
+            b"ccp: input refused: wrong \n",
+        ),
+        (
+            "a member",
+            &["ccp", "campaign"],
+            b"{\"version\":2}",
+            3,
+            b"",
+            b"ccp: input refused: range version\n",
+        ),
+    ];
+    for (name, words, input, status, output, errors) in rows {
+        let came = comes_to(&rt, &rt, rt.alloc(), words, input, WHOLE)?;
+        assert_eq!(rt; came.status, status, "status of {name}");
+        assert_eq!(rt; came.output.as_slice(), output, "output of {name}");
+        assert_eq!(rt; came.errors.as_slice(), errors, "error line of {name}");
+    }
+    Ok(())
+}
+
+#[test]
+fn the_frames_come_before_the_table(rt: HostRuntime) -> Result<(), Fail> {
+    let words = ["ccp", "campaign", "--wire"];
+    let came = comes_to(&rt, &rt, rt.alloc(), &words, NO_CASES, WHOLE)?;
+    let output = came.output.as_slice();
+    assert_eq!(rt; came.status, 0);
+    assert!(rt; output.starts_with(b"install 0 0301"), "the first frame");
+    assert!(rt; output.ends_with(NO_ROWS), "the table");
+    Ok(())
+}
+
+#[test]
+fn a_soak_is_one_total_for_any_number_of_workers(rt: HostRuntime) -> Result<(), Fail> {
+    let one = comes_to(&rt, &rt, rt.alloc(), &["ccp", "soak"], b"unread", WHOLE)?;
+    let words = ["ccp", "soak", "--workers", "8"];
+    let eight = comes_to(&rt, &rt, rt.alloc(), &words, b"", WHOLE)?;
+    assert_eq!(rt; one.status, 0);
+    assert_eq!(rt; eight.status, 0);
+    let head = b"soak number=1\ntotal cases=64 ";
+    assert!(rt;
+        one.output.as_slice().starts_with(head),
+        "the number and the cases"
+    );
+    assert_eq!(rt; one.output.as_slice(), eight.output.as_slice());
+    Ok(())
+}
+
+#[test]
+fn each_read_and_each_write_of_a_campaign_fails(rt: HostRuntime) -> Result<(), Fail> {
+    let words = ["ccp", "campaign"];
+    for call in 0..3 {
+        let ways = Ways {
+            read: &[call],
+            write: &[],
+            most: 64,
+        };
+        let came = comes_to(&rt, &rt, rt.alloc(), &words, ONE_CASE, ways)?;
+        assert_eq!(rt; came.status, 4, "read {call}");
+        assert_eq!(rt; came.output.len(), 0, "read {call}");
+        assert_eq!(rt;
+            came.errors.as_slice(),
+            b"ccp: read fault\n".as_slice(),
+            "read {call}"
+        );
+    }
+    for call in 0..4 {
+        let ways = Ways {
+            read: &[],
+            write: &[call],
+            most: 64,
+        };
+        let came = comes_to(&rt, &rt, rt.alloc(), &words, ONE_CASE, ways)?;
+        assert_eq!(rt; came.status, 5, "write {call}");
+        assert_eq!(rt;
+            came.output.as_slice(),
+            &ONE_ROW[..64 * call as usize],
+            "write {call}"
+        );
+        assert_eq!(rt;
+            came.errors.as_slice(),
+            b"ccp: write fault\n".as_slice(),
+            "write {call}"
+        );
+    }
+    Ok(())
+}
