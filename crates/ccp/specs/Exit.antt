@@ -5,6 +5,7 @@ use Rattle.ccp_words.specs.Words.{are_accepted, asked_in}
 use Rattle.ccp_run.specs.declared.outcome.Outcome.{Outcome}
 use Rattle.ccp_run.specs.Run.{IsRun, IsUnasked}
 use Rattle.ccp_run.specs.Streams.{Stream}
+use Rattle.ccp_run.specs.Tasks.{task_of}
 
 -- the status is that of a run on the words
 pub record IsExit (words : List (List ℕ)) (source sink errors : Stream) (is_finished : Type 0) (status : ℕ) : Type 0 where
@@ -16,4 +17,4 @@ pub record IsExit (words : List (List ℕ)) (source sink errors : Stream) (is_fi
   -- else it is a run of the mode that they ask for
   pub asks : outcome.status ≢ 2 → outcome.status ≢ 6 → IsSome (asked_in words)
   pub asked : (asked : Asked) → are_accepted words ≡ true → asked_in words ≡ Some asked
-      → IsRun asked.mode source sink errors is_finished outcome
+      → IsRun (task_of asked) source sink errors is_finished outcome
