@@ -80,7 +80,7 @@ fn names_of_a_case_are_refused(rt: HostRuntime) -> Result<(), Fail> {
 }
 
 /// Members that only cases with agents have: what those come to, then what a rollout does.
-const OF_AGENTS: [(&str, &str, &str); 18] = [
+const OF_AGENTS: [(&str, &str, &str); 20] = [
     (",\"agent\":null", "wrong cases[0].agent", "ok 1"),
     (",\"agent\":\"bbr\"", "wrong cases[0].agent", "ok 1"),
     (",\"agent\":\"Reno\"", "wrong cases[0].agent", "ok 1"),
@@ -97,6 +97,8 @@ const OF_AGENTS: [(&str, &str, &str); 18] = [
     (",\"slots\":64", "ok 1", "ok 1"),
     (",\"slots\":65", "range cases[0].slots", "ok 1"),
     (",\"lag\":\"\"", "wrong cases[0].lag", "ok 1"),
+    (",\"lag\":-1", "range cases[0].lag", "ok 1"),
+    (",\"lag\":0", "ok 1", "ok 1"),
     (",\"lag\":1000", "ok 1", "ok 1"),
     (",\"lag\":1001", "range cases[0].lag", "ok 1"),
 ];
@@ -128,13 +130,14 @@ fn a_number_is_refused(rt: HostRuntime) -> Result<(), Fail> {
     members_come_to(&rt, rt.alloc(), &NUMBERS)
 }
 
-const RANGES: [(&str, &str); 22] = [
+const RANGES: [(&str, &str); 25] = [
     (",\"queue\":true", "wrong cases[0].queue"),
     (",\"queue\":0", "range cases[0].queue"),
     (",\"queue\":1", "ok 1"),
     (",\"queue\":4096", "ok 1"),
     (",\"queue\":4097", "range cases[0].queue"),
     (",\"delay_us\":[]", "wrong cases[0].delay_us"),
+    (",\"delay_us\":-1", "range cases[0].delay_us"),
     (",\"delay_us\":0", "ok 1"),
     (",\"delay_us\":10000000", "ok 1"),
     (",\"delay_us\":10000001", "range cases[0].delay_us"),
@@ -144,11 +147,13 @@ const RANGES: [(&str, &str); 22] = [
     (",\"timeout_us\":60000000", "ok 1"),
     (",\"timeout_us\":60000001", "range cases[0].timeout_us"),
     (",\"acks\":\"4\"", "wrong cases[0].acks"),
+    (",\"acks\":-1", "range cases[0].acks"),
     (",\"acks\":0", "ok 1"),
     (",\"acks\":65536", "ok 1"),
     (",\"acks\":65537", "range cases[0].acks"),
     (",\"mark\":true", "wrong cases[0].mark"),
     (",\"mark\":0", "range cases[0].mark"),
+    (",\"mark\":1", "ok 1"),
     (",\"mark\":4096", "ok 1"),
     (",\"mark\":4097", "range cases[0].mark"),
 ];
