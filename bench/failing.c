@@ -4,20 +4,24 @@
    FAIL_READ=N         the Nth read of standard input fails
    FAIL_WRITE=N        the Nth write to standard output fails
    PIECES=1            each read of standard input and each write to standard output moves one byte at most
-   COUNTS=FILE         at the end the numbers of allocations, reads and writes are written there */
+   COUNTS=FILE         the numbers of allocations, reads and writes stand there, three numbers of 8 bytes */
 #define _GNU_SOURCE
 #include <dlfcn.h>
 #include <errno.h>
+#include <fcntl.h>
 #include <stdatomic.h>
-#include <stdio.h>
 #include <stdlib.h>
-#include <string.h>
-#include <sys/uio.h>
+#include <sys/mman.h>
 #include <unistd.h>
 
-static atomic_long allocations, reads, writes;
+struct counts {
+    atomic_long allocations, reads, writes;
+};
+
+static struct counts own;
+/* in the file, since a program may end without any call that could write it */
+static struct counts *counts = &own;
 static long fail_allocation, fail_read, fail_write, pieces;
-static int counts;
 
 static long number(const char *name)
 {
@@ -31,25 +35,19 @@ __attribute__((constructor)) static void begin(void)
     fail_read = number("FAIL_READ");
     fail_write = number("FAIL_WRITE");
     pieces = number("PIECES");
-    counts = getenv("COUNTS") != NULL;
-    allocations = 0;
-}
-
-__attribute__((destructor)) static void end(void)
-{
-    if (counts) {
-        long found[3] = {allocations, reads, writes};
-        FILE *file = fopen(getenv("COUNTS"), "w");
-        if (file) {
-            fprintf(file, "%ld %ld %ld\n", found[0], found[1], found[2]);
-            fclose(file);
-        }
+    const char *path = getenv("COUNTS");
+    int file = path ? open(path, O_RDWR | O_CREAT | O_TRUNC, 0600) : -1;
+    if (file >= 0 && ftruncate(file, sizeof *counts) == 0) {
+        void *kept = mmap(NULL, sizeof *counts, PROT_READ | PROT_WRITE, MAP_SHARED, file, 0);
+        if (kept != MAP_FAILED)
+            counts = kept;
     }
+    counts->allocations = 0;
 }
 
 static int is_refused(void)
 {
-    return atomic_fetch_add(&allocations, 1) + 1 == fail_allocation;
+    return atomic_fetch_add(&counts->allocations, 1) + 1 == fail_allocation;
 }
 
 extern void *__libc_malloc(size_t);
@@ -107,7 +105,7 @@ ssize_t read(int fd, void *to, size_t size)
     if (!real)
         real = (ssize_t(*)(int, void *, size_t))dlsym(RTLD_NEXT, "read");
     if (fd == 0) {
-        if (atomic_fetch_add(&reads, 1) + 1 == fail_read) {
+        if (atomic_fetch_add(&counts->reads, 1) + 1 == fail_read) {
             errno = EIO;
             return -1;
         }
@@ -123,7 +121,7 @@ ssize_t write(int fd, const void *from, size_t size)
     if (!real)
         real = (ssize_t(*)(int, const void *, size_t))dlsym(RTLD_NEXT, "write");
     if (fd == 1) {
-        if (atomic_fetch_add(&writes, 1) + 1 == fail_write) {
+        if (atomic_fetch_add(&counts->writes, 1) + 1 == fail_write) {
             errno = EIO;
             return -1;
         }
