@@ -142,7 +142,9 @@ module _ (case : Case) (ss ca : Form) (ss_places ca_places : List Place)
       after-simulated (form_at era.program) (code_at case era.program) (places_at era.program)
       (simulates_where (era.program == case.ss.role.number)) era.events (track_at era.at era.first) shape
 
-  track-lifts : (word : List Letter) → track_of codes (by_code word) ≡ track_of sources (by_source word)
+  pub track-lifts : (word : List Letter)
+      → track_of (over_codes case) (world (over_codes case) case.link word)
+      ≡ track_of (over_sources case ss ca) (world (over_sources case ss ca) case.link word)
   track-lifts word =
       ap (λ (w : World Place). track_in codes w.present) (worlds-lift word)
       ∙ era-lifts (by_source word).present (Shaped-word word)

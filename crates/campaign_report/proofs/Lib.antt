@@ -1,1 +1,4 @@
 mod CompiledCounts
+mod StopLemmas
+pub mod BookLemmas
+mod FaultSteps

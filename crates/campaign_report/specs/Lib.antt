@@ -3,3 +3,5 @@ pub mod CheckText
 pub mod WireText
 pub mod TableText
 pub mod Columns
+pub mod BookText
+pub mod ToldBooks

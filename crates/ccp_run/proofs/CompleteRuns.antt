@@ -40,7 +40,7 @@ split bytes taken old (Some left) is takes = let e : Some bytes ≡ Some (taken 
 -- a task that doesn't read its source refuses nothing
 no_refusal : (task : Task) (bytes : List ℕ) (refusal : Refusal) → is_read task ≡ false → IsRefused task bytes refusal → ⊥
 no_refusal (Alone alone) bytes refusal reads refused = cc
-no_refusal (Live wire) bytes refusal reads refused = refused
+no_refusal (Live wire) bytes refusal reads refused = let bad : ⊥ = cc in absurd bad
 no_refusal (Campaign wire) bytes refusal reads refused = let bad : ⊥ = cc in absurd bad
 no_refusal (Soak number) bytes refusal reads refused = refused
 no_refusal Rollout bytes refusal reads refused = refused
@@ -52,7 +52,7 @@ by_input (Alone Check) bytes input = refl
 by_input (Alone Fold) bytes input = refl
 by_input (Alone Feed) bytes input = refl
 by_input (Alone Audit) bytes input = absurd input
-by_input (Live wire) bytes input = absurd input
+by_input (Live wire) bytes input = refl
 by_input (Campaign wire) bytes input = refl
 by_input (Soak number) bytes input = refl
 by_input Rollout bytes input = absurd input
@@ -63,7 +63,7 @@ by_output (Alone Check) bytes output made = refl
 by_output (Alone Fold) bytes output made = refl
 by_output (Alone Feed) bytes output made = refl
 by_output (Alone Audit) bytes output made = absurd made
-by_output (Live wire) bytes output made = absurd made
+by_output (Live wire) bytes output made = refl
 by_output (Campaign wire) bytes output made = refl
 by_output (Soak number) bytes output made = refl
 by_output Rollout bytes output made = absurd made

@@ -50,15 +50,15 @@ module _ (source sink errors : Stream) (is_finished : Type 0) (outcome : Outcome
 
   pub run_of_feed : (end : FeedEnd) → IsFed source_of sink_of is_finished end → EndsFeed errors outcome end → IsRun (Alone Feed) source sink errors is_finished outcome
   run_of_feed ends.Whole fed e =
-      let output : ModeOutput = record { text = answers_of fed.0.bytes; programs = []; ran = 0 } in
+      let output : ModeOutput = record { text = answers_of fed.0.bytes; books = []; programs = []; ran = 0 } in
       ends_done (Alone Feed) source sink errors is_finished outcome output
       (record {
         bytes = fed.0.bytes;
         read = record { taken = fed.0.answered.taken; end = fed.0.at_end };
         short = fed.0.within;
-        made = record { whole = fed.0.end_is; written = refl; kept = refl; idle = refl };
+        made = record { whole = fed.0.end_is; written = refl; kept = refl; no_books = refl; idle = refl };
       })
-      (record { written = fed.0.answered.written; finished = fed.1; programs = e.programs; ran = e.ran; quiet = e.quiet })
+      (record { written = fed.0.answered.written; finished = fed.1; books = e.books; programs = e.programs; ran = e.ran; quiet = e.quiet })
       e.status
   run_of_feed (ends.Bad field place) fed e =
       bad_or_not (Frame field place) (inl (record { bytes = fed.bytes; taken = fed.answered.taken; cause = fed.end_is }))

@@ -4,5 +4,7 @@ mod FeedRunLemmas
 pub mod SettledInputs
 mod CompleteRuns
 pub mod ReadLemmas
+mod CodedLemmas
 pub mod CampaignLemmas
+pub mod LiveLemmas
 mod SettledScenes

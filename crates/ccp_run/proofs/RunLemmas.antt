@@ -97,7 +97,7 @@ goes_on Shared bytes plain = tt
 module _ (task : Task) (source sink errors : Stream) (is_finished : Type 0) (outcome : Outcome) where
   -- there was no whole output, and the run ended with this status
   pub ended : (n : ℕ) → outcome.status ≡ n → n ≢ 0 → n ≢ 1 → n ≢ 2 → n ≤ 6
-      → outcome.programs ≡ [] → outcome.ran ≡ 0
+      → outcome.books ≡ [] → outcome.programs ≡ [] → outcome.ran ≡ 0
       → (n ≡ 3 → TellsRefusal task source errors)
       → (n ≡ 4 → Rose source.before source.now × TakesOpen task source × Tells errors read_line)
       → (n ≡ 5 → Rose sink.before sink.now × WritesAnyFront (is_stream task) task source sink × Tells errors write_line)
@@ -107,7 +107,7 @@ module _ (task : Task) (source sink errors : Stream) (is_finished : Type 0) (out
       → IsLeft (is_read task) source
       → (n ≢ 5 → n ≢ 6 → WritesAnswers task source sink)
       → IsRun task source sink errors is_finished outcome
-  ended n is no0 no1 no2 below programs ran refused read write memory within most left nothing = record {
+  ended n is no0 no1 no2 below books programs ran refused read write memory within most left nothing = record {
     done = λ at. absurd (no0 (sym is ∙ at));
     refused = λ at. refused (sym is ∙ at);
     read_fault = λ at. (read (sym is ∙ at)).0;
@@ -122,6 +122,7 @@ module _ (task : Task) (source sink errors : Stream) (is_finished : Type 0) (out
     left = left;
     nothing = λ _ not5 not6. nothing (λ at. not5 (is ∙ at)) (λ at. not6 (is ∙ at));
     nothing_more = λ at. (memory (sym is ∙ at)).1;
+    books = λ _. books;
     programs = λ _. programs;
     ran = λ _. ran;
     statuses = let e = is in omega (arith, e, below);
@@ -134,7 +135,7 @@ module _ (task : Task) (source sink errors : Stream) (is_finished : Type 0) (out
       → IsRun task source sink errors is_finished outcome
   ends_wanting few left some e =
       ended 6 e.status (λ a. omega (arith, a)) (λ a. omega (arith, a)) (λ a. omega (arith, a)) (omega arith)
-      e.programs e.ran (λ a. absurd (omega (arith, a))) (λ a. absurd (omega (arith, a))) (λ a. absurd (omega (arith, a))) (λ _. (e.told, some))
+      e.books e.programs e.ran (λ a. absurd (omega (arith, a))) (λ a. absurd (omega (arith, a))) (λ a. absurd (omega (arith, a))) (λ _. (e.told, some))
       (λ _. few) (one_more (limit_of task) source.old source.new few) left (λ _ not6. absurd (not6 refl))
 
   -- the refusal was told
@@ -143,7 +144,7 @@ module _ (task : Task) (source sink errors : Stream) (is_finished : Type 0) (out
       → IsRun task source sink errors is_finished outcome
   ends_refused refusal cause most left answers e =
       ended 3 e.status (λ a. omega (arith, a)) (λ a. omega (arith, a)) (λ a. omega (arith, a)) (omega arith)
-      e.programs e.ran (λ _. record { refusal = refusal; refused = cause; told = e.told })
+      e.books e.programs e.ran (λ _. record { refusal = refusal; refused = cause; told = e.told })
       (λ a. absurd (omega (arith, a))) (λ a. absurd (omega (arith, a))) (λ a. absurd (omega (arith, a)))
       (λ other. absurd (other refl)) most left (λ _ _. answers)
 
@@ -153,7 +154,7 @@ module _ (task : Task) (source sink errors : Stream) (is_finished : Type 0) (out
       → IsRun task source sink errors is_finished outcome
   ends_unread rose open_so_far few left answers e =
       ended 4 e.status (λ a. omega (arith, a)) (λ a. omega (arith, a)) (λ a. omega (arith, a)) (omega arith)
-      e.programs e.ran (λ a. absurd (omega (arith, a))) (λ _. (rose, open_so_far, e.told)) (λ a. absurd (omega (arith, a))) (λ a. absurd (omega (arith, a)))
+      e.books e.programs e.ran (λ a. absurd (omega (arith, a))) (λ _. (rose, open_so_far, e.told)) (λ a. absurd (omega (arith, a))) (λ a. absurd (omega (arith, a)))
       (λ _. few) (one_more (limit_of task) source.old source.new few) left (λ _ _. answers)
 
   -- a write failed
@@ -162,7 +163,7 @@ module _ (task : Task) (source sink errors : Stream) (is_finished : Type 0) (out
       → IsRun task source sink errors is_finished outcome
   ends_unwritten rose front few left e =
       ended 5 e.status (λ a. omega (arith, a)) (λ a. omega (arith, a)) (λ a. omega (arith, a)) (omega arith)
-      e.programs e.ran (λ a. absurd (omega (arith, a))) (λ a. absurd (omega (arith, a))) (λ _. (rose, front, e.told)) (λ a. absurd (omega (arith, a)))
+      e.books e.programs e.ran (λ a. absurd (omega (arith, a))) (λ a. absurd (omega (arith, a))) (λ _. (rose, front, e.told)) (λ a. absurd (omega (arith, a)))
       (λ _. few) (one_more (limit_of task) source.old source.new few) left (λ not5 _. absurd (not5 refl))
 
   -- the whole output was written, and the sink finished
@@ -185,6 +186,7 @@ module _ (task : Task) (source sink errors : Stream) (is_finished : Type 0) (out
         left = left_of source made.bytes (is_read task) made.read;
         nothing = λ not0 _ _. absurd (not0 is);
         nothing_more = λ at. absurd (other 6 at (λ e. omega (arith, e)));
+        books = λ not0. absurd (not0 is);
         programs = λ not0. absurd (not0 is);
         ran = λ not0. absurd (not0 is);
         statuses = let e = is in omega (arith, e);

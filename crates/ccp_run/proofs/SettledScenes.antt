@@ -12,8 +12,8 @@ use Rattle.scenario_json.proofs.ReadingLemmas.{some_reading}
 use Rattle.ccp_run.specs.declared.refusal.Refusal.{Refusal}
 use Rattle.ccp_run.specs.declared.refusal.Refusal.TheVariants.{TooLong, NoSeparator, Program, Line, TooManyAcks, Scene as SceneRefused, Frame, FrameCut}
 use Rattle.ccp_run.specs.Scenes.{Says, IsNoScenario}
-use Rattle.ccp_run.specs.Settled.{IsInput, IsSettled}
-use Rattle.ccp_run.specs.Tasks.{Campaign, Soak}
+use Rattle.ccp_run.specs.Settled.{IsSettled}
+use Rattle.ccp_run.specs.Tasks.{Live, Campaign, Soak}
 
 -- a text comes to one thing
 one_outcome : (text : List ℕ) (x y : Result Form BuildFault) → ComesTo text x → ComesTo text y → x ≡ y
@@ -58,21 +58,41 @@ module _ (mode : SceneMode) (bytes : List ℕ) where
   of_scene (Frame field place) refused = absurd refused
   of_scene (FrameCut place) refused = absurd refused
 
-module _ (wire : Bool) (bytes : List ℕ) where
-  some_scene : (came : Result Scene SceneFault) → scene_now scene.Campaign bytes ≡ came → IsInput (Campaign wire) bytes ⊎ ((refusal : Refusal) × IsNoScenario scene.Campaign bytes refusal)
-  some_scene (Ok said) is = inl (said, for_all scene.Campaign bytes (Ok said) is)
-  some_scene (Err fault) is = inr (SceneRefused fault, for_all scene.Campaign bytes (Err fault) is)
+  some_of : (came : Result Scene SceneFault) → scene_now ≡ came
+      → ((said : Scene) × Says mode bytes said) ⊎ ((refusal : Refusal) × IsNoScenario mode bytes refusal)
+  some_of (Ok said) is = inl (said, for_all (Ok said) is)
+  some_of (Err fault) is = inr (SceneRefused fault, for_all (Err fault) is)
 
-  pub settled_campaign : IsSettled (Campaign wire) bytes
-  settled_campaign = record {
-    some = some_scene (scene_now scene.Campaign bytes) refl;
-    apart = λ refusal input bad. let of = of_scene scene.Campaign bytes refusal bad in scene_apart scene.Campaign bytes input.0 of.fault input.1 of.refused;
-    one_refusal = λ left right l r.
-        let of_left = of_scene scene.Campaign bytes left l in
-        let of_right = of_scene scene.Campaign bytes right r in
-        of_left.same ∙ (ap SceneRefused (scene_one scene.Campaign bytes of_left.fault of_right.fault of_left.refused of_right.refused) ∙ sym of_right.same);
-    made = λ output made. (_, made.scenario.text);
-  }
+  -- the text is a scenario's, or is refused
+  pub some_scene : ((said : Scene) × Says mode bytes said) ⊎ ((refusal : Refusal) × IsNoScenario mode bytes refusal)
+  some_scene = some_of scene_now refl
+
+  -- and not both
+  pub no_both : (refusal : Refusal) → ((said : Scene) × Says mode bytes said) → IsNoScenario mode bytes refusal → ⊥
+  no_both refusal input bad = let of = of_scene refusal bad in scene_apart input.0 of.fault input.1 of.refused
+
+  -- and has one refusal
+  pub one_refused : (left right : Refusal) → IsNoScenario mode bytes left → IsNoScenario mode bytes right → left ≡ right
+  one_refused left right l r =
+      let of_left = of_scene left l in
+      let of_right = of_scene right r in
+      of_left.same ∙ (ap SceneRefused (scene_one of_left.fault of_right.fault of_left.refused of_right.refused) ∙ sym of_right.same)
+
+pub settled_live : (wire : Bool) (bytes : List ℕ) → IsSettled (Live wire) bytes
+settled_live wire bytes = record {
+  some = some_scene scene.Live bytes;
+  apart = no_both scene.Live bytes;
+  one_refusal = one_refused scene.Live bytes;
+  made = λ output made. (_, made.scenario.text);
+}
+
+pub settled_campaign : (wire : Bool) (bytes : List ℕ) → IsSettled (Campaign wire) bytes
+settled_campaign wire bytes = record {
+  some = some_scene scene.Campaign bytes;
+  apart = no_both scene.Campaign bytes;
+  one_refusal = one_refused scene.Campaign bytes;
+  made = λ output made. (_, made.scenario.text);
+}
 
 pub settled_soak : (number : ℕ) (bytes : List ℕ) → IsSettled (Soak number) bytes
 settled_soak number bytes = record {

@@ -43,6 +43,7 @@ pub record IsCampaignOutput (wire : Bool) (bytes : List ℕ) (output : ModeOutpu
   pub cases : List Case
   pub scenario : IsScenario scene.Campaign bytes output.programs cases
   pub written : output.text ≡ campaign_text wire output.programs cases
+  pub no_books : output.books ≡ []
   pub idle : output.ran ≡ 0
 
 -- the output is the total of the generated cases of this number
@@ -52,4 +53,5 @@ pub record IsSoakOutput (number : ℕ) (output : ModeOutput) : Type 0 where
   pub coded : All (IsCoded output.programs) cases
   pub flows : AreFlowsFrom 0 cases
   pub written : output.text ≡ soak_text number (source_rows output.programs cases)
+  pub no_books : output.books ≡ []
   pub idle : output.ran ≡ 0

@@ -19,6 +19,7 @@ pub record IsCheckOutput (bytes : List ℕ) (output : ModeOutput) : Type 0 where
   pub lean_code : length built.code.code.instrs ≤ lean (form_of built.program)
   pub written : output.text ≡ check_text (form_of built.program) built.code.code
   pub kept : output.programs ≡ (0, built) ∷ []
+  pub no_books : output.books ≡ []
   pub idle : output.ran ≡ 0
 
 -- the input isn't the text of a program, and this is the program's refusal

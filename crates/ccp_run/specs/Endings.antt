@@ -17,6 +17,7 @@ use Rattle.ccp_run.specs.Streams.{Stream, Tells}
 -- the run ends with this status, tells this line, and keeps nothing
 pub record Ends (errors : Stream) (outcome : Outcome) (end : Status) (line : List ℕ) : Type 0 where
   pub status : outcome.status ≡ number_of end
+  pub books : outcome.books ≡ []
   pub programs : outcome.programs ≡ []
   pub ran : outcome.ran ≡ 0
   pub told : Tells errors line
@@ -25,6 +26,7 @@ pub record Ends (errors : Stream) (outcome : Outcome) (end : Status) (line : Lis
 pub record WritesAll (sink errors : Stream) (is_finished : Type 0) (outcome : Outcome) (output : ModeOutput) : Type 0 where
   pub written : Appends sink.old sink.new output.text
   pub finished : is_finished
+  pub books : outcome.books ≡ output.books
   pub programs : outcome.programs ≡ output.programs
   pub ran : outcome.ran ≡ output.ran
   pub quiet : errors.new ≡ errors.old

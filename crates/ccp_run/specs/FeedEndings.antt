@@ -13,6 +13,7 @@ use Rattle.ccp_run.specs.Streams.{Stream}
 -- nothing was told, and nothing is kept
 pub record EndsWhole (errors : Stream) (outcome : Outcome) : Type 0 where
   pub status : outcome.status ≡ number_of status.Done
+  pub books : outcome.books ≡ []
   pub programs : outcome.programs ≡ []
   pub ran : outcome.ran ≡ 0
   pub quiet : errors.new ≡ errors.old

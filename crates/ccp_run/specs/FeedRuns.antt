@@ -12,6 +12,7 @@ pub record IsFeedOutput (bytes : List ℕ) (output : ModeOutput) : Type 0 where
   pub whole : end_of bytes ≡ ends.Whole
   pub written : output.text ≡ answers_of bytes
   pub kept : output.programs ≡ []
+  pub no_books : output.books ≡ []
   pub idle : output.ran ≡ 0
 
 -- the input ends otherwise, and the refusal says how

@@ -66,6 +66,7 @@ pub record IsFoldOutput (bytes : List ℕ) (output : ModeOutput) : Type 0 where
   pub built : Built
   pub program : form_of built.program ≡ form
   pub kept : output.programs ≡ (0, built) ∷ []
+  pub no_books : output.books ≡ []
   pub counted : output.ran ≡ ran_of built.code.code acks
 
 -- the separator is there, and the text before it is no program

@@ -6,6 +6,7 @@ pub mod Fold
 pub mod FeedRuns
 pub mod Scenes
 pub mod Campaign
+pub mod Live
 pub mod Tasks
 pub mod Modes
 pub mod Attempts

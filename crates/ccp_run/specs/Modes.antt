@@ -14,6 +14,7 @@ use Rattle.ccp_run.specs.Campaign.{IsCampaignOutput, IsSoakOutput}
 use Rattle.ccp_run.specs.Check.{IsCheckOutput, IsNoCheck}
 use Rattle.ccp_run.specs.FeedRuns.{IsFeedOutput, IsNoFeed}
 use Rattle.ccp_run.specs.Fold.{IsFoldOutput, IsNoFold}
+use Rattle.ccp_run.specs.Live.{IsLiveOutput}
 
 -- how long an input may be
 abbrev pub limit_in : Task → Limit
@@ -57,7 +58,7 @@ IsMade (Alone Check) bytes output = IsCheckOutput bytes output
 IsMade (Alone Fold) bytes output = IsFoldOutput bytes output
 IsMade (Alone Feed) bytes output = IsFeedOutput bytes output
 IsMade (Alone Audit) bytes output = ⊥
-IsMade (Live wire) bytes output = ⊥
+IsMade (Live wire) bytes output = IsLiveOutput wire bytes output
 IsMade (Campaign wire) bytes output = IsCampaignOutput wire bytes output
 IsMade (Soak number) bytes output = IsSoakOutput number output
 IsMade Rollout bytes output = ⊥
@@ -69,7 +70,7 @@ IsRefused (Alone Check) bytes refusal = IsNoCheck bytes refusal
 IsRefused (Alone Fold) bytes refusal = IsNoFold bytes refusal
 IsRefused (Alone Feed) bytes refusal = IsNoFeed bytes refusal
 IsRefused (Alone Audit) bytes refusal = ⊥
-IsRefused (Live wire) bytes refusal = ⊥
+IsRefused (Live wire) bytes refusal = IsNoScenario scene.Live bytes refusal
 IsRefused (Campaign wire) bytes refusal = IsNoScenario scene.Campaign bytes refusal
 IsRefused (Soak number) bytes refusal = ⊥
 IsRefused Rollout bytes refusal = ⊥

@@ -89,6 +89,7 @@ pub record IsRun (task : Task) (source sink errors : Stream) (is_finished : Type
       → outcome.status ≢ number_of status.NoMemory → WritesAnswers task source sink
   pub nothing_more : outcome.status ≡ number_of status.NoMemory → WritesSomeAnswers task source sink
   -- but at 0 nothing is kept
+  pub books : outcome.status ≢ number_of status.Done → outcome.books ≡ []
   pub programs : outcome.status ≢ number_of status.Done → outcome.programs ≡ []
   pub ran : outcome.status ≢ number_of status.Done → outcome.ran ≡ 0
   -- there is no other status

@@ -32,6 +32,9 @@ task_of asked = task_in asked.mode asked
 abbrev pub alone_task : AloneMode → Task
 alone_task alone = Alone alone
 
+abbrev pub live_task : Bool → Task
+live_task wire = Live wire
+
 abbrev pub campaign_task : Bool → Task
 campaign_task wire = Campaign wire
 

@@ -1,4 +1,4 @@
-ghost use Rattle.std.specs.Prelude.{◌≡◌, ◌≤◌, IfOk, map, length};
+ghost use Rattle.std.specs.Prelude.{◌≡◌, ◌≤◌, [], IfOk, map, length};
 ghost use Rattle.ccp_base.specs.Limits.{most_cases, most_workers};
 ghost use Rattle.flow_core.specs.declared.case.Case.{Case};
 ghost use Rattle.ccp_run.specs.Attempts.{IsAnswer, IsAttempt};
@@ -13,6 +13,7 @@ use crate::reading::read_bytes;
 use crate::refusal::Limit;
 use crate::scene::scene;
 use crate::stop::Stop;
+use agent_loop::Books;
 use campaign_gate::calls::rows;
 use campaign_report::{Agents, table_text, wire_text};
 use ccp_base::{Bytes, Gate, NoMemory, Source};
@@ -74,6 +75,7 @@ fn campaigned<R: Threads + Wait + Sync, G: Gate + Sync>(
     requires numbered { AreNumberedFrom 0 scene.programs }
     requires coded { All (IsCoded scene.programs) scene.cases }
     ensures text { IfOk result (λ output. output.text ≡ campaign_text wire scene.programs scene.cases) }
+    ensures books { IfOk result (λ output. output.books ≡ []) }
     ensures programs { IfOk result (λ output. output.programs ≡ scene.programs) }
     ensures ran { IfOk result (λ output. output.ran ≡ 0) }
 {
@@ -83,6 +85,7 @@ fn campaigned<R: Threads + Wait + Sync, G: Gate + Sync>(
     text.extend(table_text(alloc, &scene.names, &agents, &rows)?.as_slice())?;
     Ok(ModeOutput {
         text,
+        books: Books::new(alloc),
         programs: scene.programs,
         ran: 0,
     })

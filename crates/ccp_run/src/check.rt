@@ -5,6 +5,7 @@ ghost use Rattle.ccp_run.specs.Tasks.{alone_task};
 use crate::outcome::ModeOutput;
 use crate::program::{only, program};
 use crate::stop::Stop;
+use agent_loop::Books;
 use campaign_report::check_text;
 use ccp_words::Alone;
 use std::alloc::Global;
@@ -17,6 +18,7 @@ pub fn check_output(alloc: Global, bytes: &[u8]) -> Result<ModeOutput, Stop>
     let text = check_text(alloc, &built)?;
     Ok(ModeOutput {
         text,
+        books: Books::new(alloc),
         programs: only(alloc, built)?,
         ran: 0,
     })

@@ -6,6 +6,7 @@ use crate::outcome::{ModeOutput, Outcome};
 use crate::refusal::{Refusal, refusal_line};
 use crate::status::{MEMORY_LINE, READ_LINE, Status, WRITE_LINE};
 use crate::stop::Stop;
+use agent_loop::Books;
 use ccp_base::{NoMemory, Sink, write_all};
 use reg_compiler::Builts;
 use std::alloc::Global;
@@ -39,6 +40,7 @@ fn write_output<K: Sink, E: Sink>(
     match write_all(sink, output.text.as_slice()) {
         Ok(()) => Outcome {
             status: Status::Done.number(),
+            books: output.books,
             programs: output.programs,
             ran: output.ran,
         },
@@ -66,6 +68,7 @@ pub fn end_without<E: Sink>(alloc: Global, errors: &mut E, status: Status, line:
     let _ = write_all(errors, line);
     Outcome {
         status: status.number(),
+        books: Books::new(alloc),
         programs: Builts::new(alloc),
         ran: 0,
     }

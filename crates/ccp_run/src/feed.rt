@@ -11,6 +11,7 @@ use crate::ending::{end_without, refuse};
 use crate::outcome::Outcome;
 use crate::refusal::{Limit, Refusal};
 use crate::status::{MEMORY_LINE, READ_LINE, Status, WRITE_LINE};
+use agent_loop::Books;
 use ccp_base::{Sink, Source};
 use feed_core::FeedEnd;
 use feed_core::calls::feed;
@@ -37,6 +38,7 @@ fn end_feed<E: Sink>(alloc: Global, errors: &mut E, ended: FeedEnd) -> Outcome
     match ended {
         FeedEnd::Whole => Outcome {
             status: Status::Done.number(),
+            books: Books::new(alloc),
             programs: Builts::new(alloc),
             ran: 0,
         },

@@ -10,6 +10,7 @@ use crate::outcome::ModeOutput;
 use crate::program::{only, program};
 use crate::refusal::Refusal;
 use crate::stop::Stop;
+use agent_loop::Books;
 use campaign_report::{End, fold_text};
 use ccp_base::{Ack, NoMemory};
 use ccp_words::Alone;
@@ -38,6 +39,7 @@ pub fn fold_output(alloc: Global, bytes: &[u8]) -> Result<ModeOutput, Stop>
 fn folded_output(alloc: Global, built: Built, acks: &[Ack]) -> Result<ModeOutput, NoMemory>
     requires { length acks.now ≤ most_acks }
     ensures text { IfOk result (λ output. output.text ≡ folded_text (form_of built.program) acks.now) }
+    ensures books { IfOk result (λ output. output.books ≡ []) }
     ensures programs { IfOk result (λ output. output.programs ≡ (0, built) ∷ []) }
     ensures ran { IfOk result (λ output. output.ran ≡ ran_of built.code.code acks.now) }
 {
@@ -51,6 +53,7 @@ fn folded_output(alloc: Global, built: Built, acks: &[Ack]) -> Result<ModeOutput
     )?;
     Ok(ModeOutput {
         text,
+        books: Books::new(alloc),
         programs: only(alloc, built)?,
         ran: folded.ran,
     })

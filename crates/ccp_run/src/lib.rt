@@ -8,6 +8,7 @@ mod ending;
 mod feed;
 mod fold;
 mod laws;
+mod live;
 mod outcome;
 mod program;
 mod reading;

@@ -1,21 +1,27 @@
+use agent_loop::Books;
 use ccp_base::Bytes;
 use reg_compiler::Builts;
 
 /// What a mode makes of its input.
-#[derive(Debug, Drop)]
+#[derive(Drop)]
 pub struct ModeOutput {
     pub text: Bytes,
-    /// In `check` and `fold` the program with its code, under the number 0.
+    /// In `live` a book of each flow, in order; else none.
+    pub books: Books,
+    /// In `check` and `fold` the program with its code, under the number 0; in `live`, `campaign` and `soak` all programs
+    /// of the scenario; else none.
     pub programs: Builts,
     /// In `fold` how many instructions the program's code ran, one that faulted included; else 0.
     pub ran: u64,
 }
 
 /// What a run came to.
-#[derive(Debug, Drop)]
+#[derive(Drop)]
 pub struct Outcome {
     /// The number of a `Status`.
     pub status: u8,
+    /// At status 0 those of the mode's output, else none.
+    pub books: Books,
     /// At status 0 those of the mode's output, else none.
     pub programs: Builts,
     /// At status 0 that of the mode's output, else 0.

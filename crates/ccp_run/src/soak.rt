@@ -7,6 +7,7 @@ ghost use Rattle.ccp_run.specs.Tasks.{soak_task};
 
 use crate::outcome::ModeOutput;
 use crate::stop::Stop;
+use agent_loop::Books;
 use campaign_gate::calls::rows;
 use campaign_report::soak_text;
 use ccp_base::{Gate, NoMemory};
@@ -43,6 +44,7 @@ fn soaked<R: Threads + Wait + Sync, G: Gate + Sync>(
     let rows = rows(rt, alloc, scene.cases, workers, gate)?;
     Ok(ModeOutput {
         text: soak_text(alloc, number, &rows)?,
+        books: Books::new(alloc),
         programs: scene.programs,
         ran: 0,
     })

@@ -9,6 +9,7 @@ ghost use Rattle.ccp_run.specs.Tasks.{task_of};
 use crate::calls::alone;
 use crate::campaign::read_campaign;
 use crate::ending::{end, end_without};
+use crate::live::read_live;
 use crate::outcome::Outcome;
 use crate::soak::soak_output;
 use crate::status::{MEMORY_LINE, Status, WORDS_LINE};
@@ -69,8 +70,18 @@ fn asked_run<R: Threads + Wait + Sync, S: Source, K: Sink, E: Sink, G: Gate + Sy
             let made = soak_output(rt, alloc, asked.workers, asked.number, gate);
             end(alloc, made, sink, errors)
         }
-        Mode::Live | Mode::Rollout | Mode::Shared => {
-            end(alloc, Err(Stop::NoMemory), sink, errors)
+        Mode::Live => {
+            let made = read_live(
+                rt,
+                alloc,
+                asked.datapaths,
+                asked.agents,
+                asked.wire,
+                source,
+                gate,
+            );
+            end(alloc, made, sink, errors)
         }
+        Mode::Rollout | Mode::Shared => end(alloc, Err(Stop::NoMemory), sink, errors),
     }
 }

@@ -13,5 +13,6 @@ returns g c =
       cases = cases;
       scenario = subst (λ (programs : List (ℕ × Built)). IsScenario scene.Campaign c.args.bytes.now programs cases) (sym made.programs) c.in_ok-scene.ensures.found;
       written = made.text ∙ ap (λ programs. campaign_text c.args.wire programs cases) (sym made.programs);
+      no_books = made.books;
       idle = made.ran;
     }

@@ -22,5 +22,6 @@ returns-in-Ok c =
       built = built;
       program = refl;
       kept = c.in_ok-folded_output-in-Ok.ensures.programs;
+      no_books = c.in_ok-folded_output-in-Ok.ensures.books;
       counted = c.in_ok-folded_output-in-Ok.ensures.ran ∙ ap (ran_of built.code.code) c.as_slice.ensures;
     }

@@ -17,5 +17,6 @@ returns g c =
       coded = scene.coded;
       flows = scene.flows;
       written = text ∙ ap (soak_text c.args.number) (rows ∙ rows_over c.in_ok-scene.scene.programs scene.numbered c.in_ok-rows.ensures.lifted cases scene.coded);
+      no_books = refl;
       idle = refl;
     }

@@ -1,0 +1,158 @@
+-- The text of a book that tells what its word came to is its flow's part of the live text.
+use Rattle.std.specs.Prelude.{◌≡◌, ℕ, zero, suc, ◌+◌, ◌-◌, ◌==◌, ◌||◌, Bool, List, [], ◌∷◌, ◌++◌, length, map, codes, decimal, refl}
+use Rattle.std.specs.List.{All}
+use Rattle.std.proofs.Common.{ap, sym, ◌∙◌, arith, length-append}
+use Rattle.std.proofs.lemmas.List.{length-map}
+use Rattle.ccp_base.specs.declared.exchange.Notice.{Notice}
+use Rattle.ccp_base.specs.declared.exchange.Told.{Told}
+use Rattle.ccp_base.specs.declared.exchange.Told.TheVariants.{Report, Fault}
+use Rattle.ccp_base.specs.declared.place.Place.{Place}
+use Rattle.ccp_base.specs.Text.{◌⧺◌}
+use Rattle.portus_core.specs.declared.env.Env.{Env}
+use Rattle.portus_core.specs.Epoch.{Track}
+use Rattle.reg_compiler.specs.declared.built.Built.{Built}
+use Rattle.report_lines.specs.EndLine.{end_head, end_tail}
+use Rattle.flow_core.specs.declared.book.Book.{Book}
+use Rattle.flow_core.specs.declared.book.EpochLine.{EpochLine}
+use Rattle.flow_core.specs.declared.book.TicketLine.{TicketLine}
+use Rattle.flow_core.specs.declared.case.Case.{Case}
+use Rattle.flow_core.specs.declared.letter.Letter.{Letter}
+use Rattle.flow_core.specs.declared.letter.Letter.TheVariants.{A, T, C}
+use Rattle.flow_core.specs.Books.{ticket_line, epoch_line}
+use Rattle.flow_core.specs.LiveText.{Account, Sources, account_of, account_text, answer_text, end_of, epoch_lines, fault_lines, fields_at, flow_line, live_text, part, report_count, reports_told, source_at, ticket_lines, told_text}
+use Rattle.flow_core.specs.Readings.{Flow}
+use Rattle.flow_core.specs.WordLaws.{acks_in}
+use Rattle.flow_core.specs.World.{Failure, Era, Answered, World, told_as, track_of}
+use Rattle.flow_core.proofs.LinkWordLemmas.{length-world}
+use Rattle.campaign_report.specs.BookText.{account_in, ack_count, book_text, books_text, end_in, failure_of, fault_text, fault_texts, is_faulted, last_program, sources_of}
+use Rattle.campaign_report.specs.ToldBooks.{answered_of, content_of, flows_of, IsRead, read_flow, read_world}
+use Rattle.campaign_report.proofs.StopLemmas.{fails_in, stopped-where}
+
+ack_count-acks_in : (word : List Letter) → ack_count word ≡ acks_in word
+ack_count-acks_in [] = refl
+ack_count-acks_in (A ∷ rest) = omega (arith, ack_count-acks_in rest)
+ack_count-acks_in (T ∷ rest) = omega (arith, ack_count-acks_in rest)
+ack_count-acks_in (C ∷ rest) = omega (arith, ack_count-acks_in rest)
+
+pub fault_texts-lines : (programs : List (ℕ × Built)) (case : Case) (faults : List Notice) → fault_texts programs case faults ≡ fault_lines (map (failure_of programs case) faults)
+fault_texts-lines programs case [] = refl
+fault_texts-lines programs case (notice ∷ rest) = ap (λ (t : List ℕ). fault_text programs case notice ⧺ t) (fault_texts-lines programs case rest)
+
+last_program-present : (program : ℕ) (past : List Era) (present : Era) → last_program program (map epoch_line (past ++ present ∷ [])) ≡ present.program
+last_program-present program [] present = refl
+last_program-present program (era ∷ rest) present = last_program-present era.program rest present
+
+-- the last epoch's number
+last_number : (past : List Era) (present : Era) → length (map epoch_line (past ++ present ∷ [])) - 1 ≡ length past
+last_number past present =
+    let same = length-map (past ++ present ∷ []) epoch_line in
+    let more = length-append past (present ∷ []) in
+    omega (arith, same, more)
+
+module _ (programs : List (ℕ × Built)) (case : Case) (flow : Flow Place) where
+  abbrev texts : Sources
+  texts = sources_of programs
+
+  faulted-fails : (number : ℕ) (faults : List Notice) → is_faulted number faults ≡ fails_in number (map (failure_of programs case) faults)
+  faulted-fails number [] = refl
+  faulted-fails number (notice ∷ rest) = ap (λ (b : Bool). (notice.epoch == number) || b) (faulted-fails number rest)
+
+  -- a fault's place isn't shown with its ticket
+  told-shown : (told : Told) (answer : List ℕ) → told_text texts told answer ≡ told_text texts (told_as flow (content_of programs case told)) answer
+  told-shown (Report report) answer = refl
+  told-shown (Fault notice) answer = refl
+
+  count-shown : (told : Told) → reports_told told ≡ reports_told (told_as flow (content_of programs case told))
+  count-shown (Report report) = refl
+  count-shown (Fault notice) = refl
+
+  -- the lines of tickets with their faults' places
+  abbrev shown : List TicketLine → List TicketLine
+  shown tickets = map (ticket_line flow) (map (answered_of programs case) tickets)
+
+  tickets-shown : (number : ℕ) (tickets : List TicketLine) → ticket_lines texts number tickets ≡ ticket_lines texts number (shown tickets)
+  tickets-shown number [] = refl
+  tickets-shown number (ticket ∷ rest) =
+      λ i. codes "ticket " ⧺ decimal number ⧺ codes " " ⧺ told-shown ticket.told (answer_text ticket) i ⧺ tickets-shown (number + 1) rest i
+
+  counts-shown : (tickets : List TicketLine) → report_count tickets ≡ report_count (shown tickets)
+  counts-shown [] = refl
+  counts-shown (ticket ∷ rest) = λ i. count-shown ticket.told i + counts-shown rest i
+
+  -- an account with these tickets
+  abbrev with_tickets : Account → List TicketLine → Account
+  with_tickets account tickets = record account { tickets = tickets }
+
+  account-shown : (account : Account) (tickets : List TicketLine)
+      → account_text texts case (with_tickets account tickets) ≡ account_text texts case (with_tickets account (shown tickets))
+  account-shown account tickets =
+      λ i. flow_line case.flow case.name case.agent
+      ⧺ epoch_lines 0 account.epochs
+      ⧺ fault_lines account.faults
+      ⧺ tickets-shown 0 tickets i
+      ⧺ end_head (counts-shown tickets i) account.end
+      ⧺ codes " held=" ⧺ decimal account.held ⧺ codes " faults=" ⧺ decimal (length account.faults)
+      ⧺ end_tail (fields_at texts account.program) account.end
+
+module _ (programs : List (ℕ × Built)) (book : Book) (told : IsRead programs book) where
+  abbrev flow : Flow Place
+  flow = read_flow programs book
+
+  abbrev w : World Place
+  w = read_world programs book
+
+  abbrev track : Track
+  track = track_of flow w
+
+  stopped : is_faulted (length book.epochs - 1) book.faults ≡ track.is_stopped
+  stopped =
+      let ss = source_at (sources_of programs) book.case.ss.role.number in
+      let ca = source_at (sources_of programs) book.case.ca.role.number in
+      ap (λ (es : List EpochLine). is_faulted (length es - 1) book.faults) told.epochs
+      ∙ ap (λ (n : ℕ). is_faulted n book.faults) (last_number w.past w.present)
+      ∙ faulted-fails programs book.case flow (length w.past) book.faults
+      ∙ ap (fails_in (length w.past)) told.faults
+      ∙ sym (stopped-where book.case ss ca book.case.link book.word)
+
+  ends : end_in book ≡ end_of (length w.acks) track
+  ends =
+      let acks : ack_count book.word ≡ length w.acks = ack_count-acks_in book.word ∙ sym (length-world flow book.case.link book.word) in
+      λ i. record {
+        acks = acks i;
+        first = told.first i;
+        stopped = stopped i;
+        cwnd = (told.registers i).cwnd;
+        rate = (told.registers i).rate;
+        fields = (told.registers i).fields;
+      }
+
+  -- the book's account, with its tickets as they stand in the book
+  abbrev account : Account
+  account = record (account_of flow w) { tickets = book.tickets }
+
+  accounts : account_in programs book ≡ account
+  accounts =
+      let program = ap (λ (es : List EpochLine). last_program 0 es) told.epochs ∙ last_program-present 0 w.past w.present in
+      λ i. record {
+        epochs = told.epochs i;
+        faults = told.faults i;
+        tickets = book.tickets;
+        held = told.held i;
+        program = program i;
+        end = ends i;
+      }
+
+  pub book-part : book_text programs book ≡ part (sources_of programs) book.case (read_world programs book)
+  book-part =
+      ap (λ (a : Account). account_text (sources_of programs) book.case a) accounts
+      ∙ account-shown programs book.case flow (account_of flow w) book.tickets
+      ∙ ap (λ (ts : List (Answered Place)). account_text (sources_of programs) book.case (record (account_of flow w) { tickets = map (ticket_line flow) ts })) told.tickets
+
+-- and so are those of books in order
+pub books-live : (programs : List (ℕ × Built)) (books : List Book) → All (IsRead programs) books
+    → books_text programs books ≡ live_text (sources_of programs) (flows_of books)
+books-live programs [] told = refl
+books-live programs (book ∷ rest) told =
+    let part = book-part programs book (told 0 book (omega arith)) in
+    let parts = books-live programs rest (λ k d h. told (suc k) d (omega (arith, h))) in
+    λ i. part i ⧺ parts i

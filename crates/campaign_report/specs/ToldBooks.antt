@@ -1,0 +1,53 @@
+-- When a book tells what its flow's word came to, read over the sources of programs, with the places of their
+-- instructions.
+use Rattle.std.specs.Prelude.{◌≡◌, ℕ, List, [], ◌∷◌, ◌++◌, map}
+use Rattle.ccp_base.specs.declared.exchange.Told.{Told}
+use Rattle.ccp_base.specs.declared.exchange.Told.TheVariants.{Report, Fault}
+use Rattle.ccp_base.specs.declared.place.Place.{Place}
+use Rattle.reg_compiler.specs.declared.built.Built.{Built}
+use Rattle.flow_core.specs.declared.book.Book.{Book}
+use Rattle.flow_core.specs.declared.book.TicketLine.{TicketLine}
+use Rattle.flow_core.specs.declared.case.Case.{Case}
+use Rattle.flow_core.specs.declared.letter.Letter.{Letter}
+use Rattle.flow_core.specs.Books.{epoch_line}
+use Rattle.flow_core.specs.LiveText.{flow_from}
+use Rattle.flow_core.specs.Readings.{Flow, env_of}
+use Rattle.flow_core.specs.Words.{world}
+use Rattle.flow_core.specs.World.{Content, of_report, of_failure, Answered, World, track_of}
+use Rattle.campaign_report.specs.BookText.{failure_of, sources_of}
+
+-- what a ticket told, a fault with the place of its instruction
+abbrev pub content_of : List (ℕ × Built) → Case → Told → Content Place
+content_of programs case (Report report) = of_report report
+content_of programs case (Fault notice) = of_failure (failure_of programs case notice)
+
+abbrev pub answered_of : List (ℕ × Built) → Case → TicketLine → Answered Place
+answered_of programs case ticket = record {
+  told = content_of programs case ticket.told;
+  taken = ticket.taken;
+  answered = ticket.answered;
+  reply = ticket.reply;
+}
+
+-- a book's flow, read over the sources of its programs
+abbrev pub read_flow : List (ℕ × Built) → Book → Flow Place
+read_flow programs book = flow_from (sources_of programs) book.case
+
+-- and its state after the book's word
+abbrev pub read_world : List (ℕ × Built) → Book → World Place
+read_world programs book = world (read_flow programs book) book.case.link book.word
+
+-- the book's tickets, epochs, faults, held number and registers are those of that state, each fault with the place of
+-- its instruction
+pub record IsRead (programs : List (ℕ × Built)) (book : Book) : Type 0 where
+  pub tickets : map (answered_of programs book.case) book.tickets ≡ (read_world programs book).answered
+  pub epochs : book.epochs ≡ map epoch_line ((read_world programs book).past ++ (read_world programs book).present ∷ [])
+  pub faults : map (failure_of programs book.case) book.faults ≡ (read_world programs book).faults
+  pub held : book.held ≡ (read_world programs book).held
+  pub first : book.first ≡ (track_of (read_flow programs book) (read_world programs book)).first
+  pub registers : env_of book.machine.kept ≡ (track_of (read_flow programs book) (read_world programs book)).env
+  pub stopped : book.machine.is_stopped ≡ (track_of (read_flow programs book) (read_world programs book)).is_stopped
+
+-- the flows of books: each its case and its word
+abbrev pub flows_of : List Book → List (Case × List Letter)
+flows_of books = map (λ (book : Book). (book.case, book.word)) books

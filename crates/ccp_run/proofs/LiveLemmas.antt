@@ -1,0 +1,131 @@
+-- The books of a live run tell what their words come to over the sources of the programs.
+use Rattle.std.proofs.Common.{◌≡◌, ◌∙◌, ℕ, zero, suc, ◌+◌, Option, Some, None, true, List, [], ◌∷◌, ◌++◌, length, map, slice_get, ap, sym, refl, arith}
+use Rattle.std.specs.List.{All}
+use Rattle.std.proofs.lemmas.List.Elements.{All-cons, All-nil}
+use Rattle.ccp_base.specs.declared.exchange.Notice.{Notice}
+use Rattle.ccp_base.specs.declared.place.Place.{Place}
+use Rattle.portus_core.specs.Programs.{Form}
+use Rattle.portus_core.specs.Epoch.{Track}
+use Rattle.reg_compiler.specs.declared.built.Built.{Built}
+use Rattle.reg_compiler.specs.Simulation.{Simulates}
+use Rattle.flow_core.specs.declared.book.Book.{Book}
+use Rattle.flow_core.specs.declared.book.TicketLine.{TicketLine}
+use Rattle.flow_core.specs.declared.case.Case.{Case}
+use Rattle.flow_core.specs.Books.{ticket_line, epoch_line}
+use Rattle.flow_core.specs.Lift.{Placing, place_in, map_failure, map_content, map_answered, map_world}
+use Rattle.flow_core.specs.LiveText.{source_at}
+use Rattle.flow_core.specs.Readings.{Flow, over_codes}
+use Rattle.flow_core.specs.Words.{world}
+use Rattle.flow_core.specs.World.{Failure, Content, of_report, of_failure, Answered, World, notice_of, told_as, track_of}
+use Rattle.flow_core.proofs.LiftLemmas.{link-lift, legal-lift, complete-lift}
+use Rattle.flow_table.specs.Tables.{AreNumbered}
+use Rattle.agent_loop.specs.LiveBooks.{IsWhole}
+use Rattle.campaign_gate.proofs.LiftedRowLemmas.{track-lifts}
+use Rattle.campaign_report.specs.BookText.{failure_of, places_of}
+use Rattle.campaign_report.specs.ToldBooks.{content_of, answered_of, read_flow, read_world, IsRead}
+use Rattle.scenario_json.specs.Cases.{IsCoded, AreFlowsFrom, AreNumberedFrom}
+use Rattle.scenario_json.specs.ScenePrograms.{forms_of}
+use Rattle.ccp_run.specs.Live.{IsTold, book_cases}
+use Rattle.ccp_run.proofs.CodedLemmas.{simulated}
+
+-- ---- cases in order
+
+numbered_from : (flow : ℕ) (cases : List Case) → AreFlowsFrom flow cases
+    → (place : ℕ) (case : Case) → slice_get cases place ≡ Some case → case.flow ≡ flow + place
+numbered_from flow [] flows place case is = let bad : ⊥ = cc in absurd bad
+numbered_from flow (first ∷ rest) flows zero case is =
+    let same : first ≡ case = cc in
+    let number : case.flow ≡ flow = ap (λ (c : Case). c.flow) (sym same) ∙ flows.0 in
+    omega (arith, number)
+numbered_from flow (first ∷ rest) flows (suc place) case is =
+    let number : case.flow ≡ (flow + 1) + place = numbered_from (flow + 1) rest flows.1 place case is in
+    omega (arith, number)
+
+pub flows_numbered : (cases : List Case) → AreFlowsFrom 0 cases → AreNumbered cases
+flows_numbered cases flows place case is = numbered_from 0 cases flows place case is
+
+-- ---- what a book over codes tells, with the places of instructions
+
+module _ (programs : List (ℕ × Built)) (case : Case) where
+  abbrev codes : Flow ℕ
+  codes = over_codes case
+
+  abbrev place : Placing
+  place = place_in case (places_of programs case.ss.role.number) (places_of programs case.ca.role.number)
+
+  faults-placed : (failures : List (Failure ℕ)) → map (failure_of programs case) (map (notice_of codes) failures) ≡ map (map_failure place) failures
+  faults-placed [] = refl
+  faults-placed (failure ∷ rest) = ap (λ (fs : List (Failure Place)). map_failure place failure ∷ fs) (faults-placed rest)
+
+  told-placed : (told : Content ℕ) → content_of programs case (told_as codes told) ≡ map_content place told
+  told-placed (of_report report) = refl
+  told-placed (of_failure failure) = refl
+
+  tickets-placed : (tickets : List (Answered ℕ)) → map (answered_of programs case) (map (ticket_line codes) tickets) ≡ map (map_answered place) tickets
+  tickets-placed [] = refl
+  tickets-placed (ticket ∷ rest) =
+      λ i. record { told = told-placed ticket.told i; taken = ticket.taken; answered = ticket.answered; reply = ticket.reply } ∷ tickets-placed rest i
+
+module _ (programs : List (ℕ × Built)) (numbered : AreNumberedFrom 0 programs) (book : Book) (whole : IsWhole book) (coded : IsCoded programs book.case) where
+  abbrev case : Case
+  case = book.case
+
+  abbrev ss : Form
+  ss = source_at (forms_of programs) case.ss.role.number
+
+  abbrev ca : Form
+  ca = source_at (forms_of programs) case.ca.role.number
+
+  abbrev ss_places : List Place
+  ss_places = places_of programs case.ss.role.number
+
+  abbrev ca_places : List Place
+  ca_places = places_of programs case.ca.role.number
+
+  ss_simulates : Simulates ss case.ss.code.code ss_places
+  ss_simulates = simulated programs numbered case.ss.role.number case.ss coded.ss
+
+  ca_simulates : Simulates ca case.ca.code.code ca_places
+  ca_simulates = simulated programs numbered case.ca.role.number case.ca coded.ca
+
+  abbrev by_code : World ℕ
+  by_code = world (over_codes case) case.link book.word
+
+  worlds : map_world (place programs case) by_code ≡ read_world programs book
+  worlds = link-lift case ss ca ss_places ca_places ss_simulates ca_simulates case.link book.word
+
+  tracks : track_of (over_codes case) by_code ≡ track_of (read_flow programs book) (read_world programs book)
+  tracks = track-lifts case ss ca ss_places ca_places ss_simulates ca_simulates book.word
+
+  told : IsRead programs book
+  told = record {
+    tickets = ap (λ (ts : List TicketLine). map (answered_of programs case) ts) whole.told.tickets
+    ∙ tickets-placed programs case by_code.answered ∙ ap (λ (w : World Place). w.answered) worlds;
+    epochs = whole.told.epochs ∙ ap (λ (w : World Place). map epoch_line (w.past ++ w.present ∷ [])) worlds;
+    faults = ap (λ (ns : List Notice). map (failure_of programs case) ns) whole.told.faults
+    ∙ faults-placed programs case by_code.faults ∙ ap (λ (w : World Place). w.faults) worlds;
+    held = whole.told.held ∙ ap (λ (w : World Place). w.held) worlds;
+    first = whole.told.first ∙ ap (λ (t : Track). t.first) tracks;
+    registers = whole.told.registers ∙ ap (λ (t : Track). t.env) tracks;
+    stopped = whole.told.stopped ∙ ap (λ (t : Track). t.is_stopped) tracks;
+  }
+
+  book_told : IsTold programs book
+  book_told = record {
+    legal = sym (legal-lift case ss ca ss_places ca_places ss_simulates ca_simulates case.link book.word) ∙ whole.legal;
+    complete = sym (complete-lift case ss ca ss_places ca_places ss_simulates ca_simulates case.link book.word) ∙ whole.complete;
+    told = told;
+  }
+
+-- each book of coded cases tells of its word
+pub books_told : (programs : List (ℕ × Built)) → AreNumberedFrom 0 programs → (books : List Book) → All IsWhole books
+    → All (IsCoded programs) (book_cases books) → All (IsTold programs) books
+books_told programs numbered [] whole coded = All-nil (IsTold programs)
+books_told programs numbered (book ∷ rest) whole coded =
+    All-cons (IsTold programs) book rest
+    (book_told programs numbered book (whole 0 book (omega arith)) (coded 0 book.case (omega arith)))
+    (books_told programs numbered rest (λ k d h. whole (suc k) d (omega (arith, h))) (λ k d h. coded (suc k) d (omega (arith, h))))
+
+-- what each book tells, without its word's being legal and complete
+pub books_read : (programs : List (ℕ × Built)) (books : List Book) → All (IsTold programs) books → All (IsRead programs) books
+books_read programs books told = λ k d h. (told k d h).told

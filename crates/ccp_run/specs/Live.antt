@@ -1,0 +1,40 @@
+-- What `live` makes of its cases: a book of each, and the text of these books.
+use Rattle.std.specs.Prelude.{◌≡◌, ℕ, Bool, true, List, map}
+use Rattle.std.specs.List.{All}
+use Rattle.ccp_base.specs.Text.{◌⧺◌}
+use Rattle.reg_compiler.specs.declared.built.Built.{Built}
+use Rattle.flow_core.specs.declared.book.Book.{Book}
+use Rattle.flow_core.specs.declared.case.Case.{Case}
+use Rattle.flow_core.specs.LiveText.{live_text}
+use Rattle.flow_core.specs.Words.{legal, is_complete}
+use Rattle.campaign_report.specs.ToldBooks.{IsRead, read_flow, read_world, flows_of}
+use Rattle.scenario_json.specs.declared.mode.Mode.TheVariants as scene
+use Rattle.scenario_json.specs.ScenePrograms.{forms_of}
+use Rattle.ccp_run.specs.declared.outcome.ModeOutput.{ModeOutput}
+use Rattle.ccp_run.specs.Campaign.{frames_shown}
+use Rattle.ccp_run.specs.Scenes.{IsScenario}
+
+-- the book's word is legal and complete for its case, and the book tells what the word came to, all read over the
+-- sources of these programs
+pub record IsTold (programs : List (ℕ × Built)) (book : Book) : Type 0 where
+  pub legal : legal (read_flow programs book) book.case.link book.word ≡ true
+  pub complete : is_complete (read_flow programs book) (read_world programs book) ≡ true
+  pub told : IsRead programs book
+
+-- the cases that books are of, in order
+abbrev pub book_cases : List Book → List Case
+book_cases books = map (λ (book : Book). book.case) books
+
+-- the live text of books over the sources of these programs, after the programs' frames where they are asked for
+abbrev pub books_written : Bool → List (ℕ × Built) → List Book → List ℕ
+books_written wire programs books = frames_shown wire programs ⧺ live_text (forms_of programs) (flows_of books)
+
+-- there is one book for each of the scenario's cases, in order, which tells of a legal and complete word, and the
+-- output is the live text of these words. Nothing says which words they are.
+pub record IsLiveOutput (wire : Bool) (bytes : List ℕ) (output : ModeOutput) : Type 0 where
+  pub cases : List Case
+  pub scenario : IsScenario scene.Live bytes output.programs cases
+  pub books : book_cases output.books ≡ cases
+  pub told : All (IsTold output.programs) output.books
+  pub written : output.text ≡ books_written wire output.programs output.books
+  pub idle : output.ran ≡ 0

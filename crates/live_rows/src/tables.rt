@@ -1,0 +1,65 @@
+//! Tables of flows.
+ghost use Rattle.std.specs.Prelude.{◌≡◌, ◌<◌};
+
+use flow_core::Cell;
+use flow_table::{Cells, FlowTable};
+use fold_machine::Steps;
+use scenario_json::Mode;
+use scenario_json::calls::scenario;
+use std::alloc::Global;
+use std::marker::Brand;
+use std::sync::ledger::{Blank, Ledger};
+use std::sync::{Mutex, Wait};
+use std::test::Fail;
+
+/// No flow.
+pub(crate) const NONE: &[u8] = b"{\"version\":1,\"traces\":{},\"cases\":[]}";
+
+/// A flow of Reno's with four acknowledgements, over a trace with one chance each 10 ms.
+pub(crate) const ONE: &[u8] = b"{\"version\":1,\"traces\":{\"t\":\"10\\n\"},\"cases\":[{\"name\":\"a\",\"agent\":\"reno\",\"trace\":\"t\",\"mss\":1448,\"queue\":10,\"delay_us\":20000,\"timeout_us\":1000000,\"acks\":4}]}";
+
+/// Two such flows.
+pub(crate) const TWO: &[u8] = b"{\"version\":1,\"traces\":{\"t\":\"10\\n\"},\"cases\":[{\"name\":\"a\",\"agent\":\"reno\",\"trace\":\"t\",\"mss\":1448,\"queue\":10,\"delay_us\":20000,\"timeout_us\":1000000,\"acks\":4},{\"name\":\"a\",\"agent\":\"reno\",\"trace\":\"t\",\"mss\":1448,\"queue\":10,\"delay_us\":20000,\"timeout_us\":1000000,\"acks\":4}]}";
+
+/// A flow with three acknowledgements, each of which shows a loss in a report. Its two programs are one, and two reports
+/// may wait.
+pub(crate) const LOSING: &[u8] = b"{\"version\":1,\"programs\":{\"p\":\"(def (Report (volatile loss 0))) (when true (:= Report.loss 1) (report))\"},\"traces\":{\"t\":\"10\\n\"},\"cases\":[{\"name\":\"a\",\"agent\":\"reno\",\"trace\":\"t\",\"mss\":1448,\"queue\":10,\"delay_us\":20000,\"timeout_us\":1000000,\"acks\":3,\"slots\":2,\"ss\":\"p\",\"ca\":\"p\"}]}";
+
+/// The table of a scenario's flows.
+#[tactic(auto, using(crate::proofs::FlowsNumbered::flows_numbered))]
+pub(crate) fn table(alloc: Global, text: &[u8]) -> Result<FlowTable, Fail> {
+    let scene = scenario(alloc, text, Mode::Live)?;
+    Ok(FlowTable::new(alloc, scene.cases)?)
+}
+
+/// Takes an acknowledgement of a flow under its lock.
+fn hear<L: Ledger>(rt: &impl Wait, cell: &Mutex<Cell>, blank: Blank) -> bool
+    requires name { blank.name ≡ L.name }
+    requires parts { blank.parts ≡ L.parts }
+    requires some { 0 < blank.parts }
+{
+    let mut steps = Steps::<L>::new(blank);
+    let mut cell = cell.lock(rt);
+    let acked = cell.ack(&mut steps);
+    drop(cell);
+    acked.is_ok()
+}
+
+/// The flow of a cell and how many of its acknowledgements are in.
+fn shown(cells: &Cells, place: usize) -> Option<(u32, u32)> {
+    let cell = cells.as_slice().get(place)?;
+    Some((cell.case().flow, cell.acks()))
+}
+
+#[test]
+fn cells_come_back_as_they_were_left(rt: HostRuntime) -> Result<(), Fail> {
+    let table = table(rt.alloc(), TWO)?;
+    let flows = table.flows();
+    assert_eq!(rt; flows, 2);
+    assert!(rt; hear::<Brand>(&rt, table.cell(1), Blank::new(1)));
+    let cells = table.close(rt.alloc())?;
+    assert_eq!(rt; cells.len(), 2);
+    assert_eq!(rt; shown(&cells, 0), Some((0, 0)));
+    assert_eq!(rt; shown(&cells, 1), Some((1, 1)));
+    Ok(())
+}
