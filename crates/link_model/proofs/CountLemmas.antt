@@ -54,7 +54,7 @@ rise_below-sent false marked own sent_at packets order so_far = rise_below-push 
 
 -- ---- packets in flight over an acknowledgement
 
-abbrev CountsAs : ℕ → List Packet → Landing → Type 0
+abbrev pub CountsAs : ℕ → List Packet → Landing → Type 0
 CountsAs n flight (Arrived sent_at chance marked lost) = lost + 1 + length (staying flight) ≡ n + length flight
 CountsAs n flight (AllLost lost) = lost ≡ n + length flight
 
@@ -66,7 +66,7 @@ counts_by : (n sent_at : ℕ) (fate : Fate) (rest : List Packet) (later : Landin
 counts_by n sent_at Lost rest later counts = counts_after n sent_at rest later counts
 counts_by n sent_at (Served chance marked) rest later counts = omega arith
 
-counts_as : (n : ℕ) (flight : List Packet) → CountsAs n flight (landing flight n)
+pub counts_as : (n : ℕ) (flight : List Packet) → CountsAs n flight (landing flight n)
 counts_as n [] = omega arith
 counts_as n (packet ∷ rest) = counts_by n packet.sent_at packet.fate rest (landing rest (n + 1)) (counts_as (n + 1) rest)
 

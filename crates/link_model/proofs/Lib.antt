@@ -1,14 +1,14 @@
 mod TraceTextLemmas
 mod TraceLemmas
-mod ChanceLemmas
-mod Whole
-mod ServedLemmas
-mod FlightLemmas
-mod QueueLemmas
-mod CountLemmas
-mod Refinement
-mod Compact
-mod LossLemmas
-mod HorizonLemmas
-mod SendingLemmas
+pub mod ChanceLemmas
+pub mod Whole
+pub mod ServedLemmas
+pub mod FlightLemmas
+pub mod QueueLemmas
+pub mod CountLemmas
+pub mod Refinement
+pub mod Compact
+pub mod LossLemmas
+pub mod HorizonLemmas
+pub mod SendingLemmas
 mod WorkedRows

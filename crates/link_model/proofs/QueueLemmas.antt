@@ -47,7 +47,8 @@ module _ (times : List ℕ) (trace : IsTrace times) where
       let last : max (own + 1) past ≡ own + 1 = omega arith in
       counted ∙ ap (λ m. m - first_chance times (at + 1) 0) (sym last)
 
-  queued_by : (b marked : Bool) (now own sent_at : ℕ) (packets : List Packet) → own ≡ max (chances_past packets) (first_chance times now 0)
+  -- one more packet, which is lost or gets a chance
+  pub queued_by : (b marked : Bool) (now own sent_at : ℕ) (packets : List Packet) → own ≡ max (chances_past packets) (first_chance times now 0)
       → IsQueued times now packets → IsQueued times now (record { sent_at = sent_at; fate = cond b Lost (Served own marked) } ∷ packets)
   queued_by true marked now own sent_at packets own_is queued = queued
   queued_by false marked now own sent_at packets own_is queued = queued_served now own sent_at marked packets own_is queued

@@ -37,9 +37,12 @@ pub record Numbered : Type 0 where
 
 -- ---- sending
 
--- how many packets a window allows to be in flight
+-- how many packets of this size a window allows to be in flight
+abbrev pub allowance_of : ℕ → ℕ → ℕ
+allowance_of mss window = min most_flight (max 1 (window / mss))
+
 abbrev pub allowance : LinkCase → ℕ → ℕ
-allowance case window = min most_flight (max 1 (window / case.mss))
+allowance case window = allowance_of case.mss window
 
 -- a packet has a chance later than this time
 abbrev pub waits : List ℕ → ℕ → Fate → Bool
@@ -70,11 +73,15 @@ abbrev pub is_marked : Option ℕ → ℕ → Bool
 is_marked None queued = false
 is_marked (Some mark) queued = nat_le mark queued
 
--- the fate of a packet of this number, where so many packets wait: lost, or served at this chance
+-- the fate of a packet of this number, where these are lost, the queue holds so many, packets are marked from so many
+-- on, and so many wait: lost, or served at this chance
+abbrev pub fate_of : List ℕ → ℕ → Option ℕ → ℕ → ℕ → ℕ → Fate
+fate_of losses queue mark number queued chance =
+    if is_listed number losses || nat_le queue queued then Lost
+    else Served chance (is_marked mark queued)
+
 abbrev pub fate_by : LinkCase → ℕ → ℕ → ℕ → Fate
-fate_by case number queued chance =
-    if is_listed number case.losses || nat_le case.queue queued then Lost
-    else Served chance (is_marked case.mark queued)
+fate_by case number queued chance = fate_of case.losses case.queue case.mark number queued chance
 
 -- the packet that is sent at this time after these
 abbrev pub packet_after : LinkCase → ℕ → List Packet → Packet
@@ -136,9 +143,12 @@ abbrev pub acked_of : List Given → ℕ
 acked_of [] = 0
 acked_of (given ∷ earlier) = given.ack.packets_acked + acked_of earlier
 
--- bytes a second up to this time, 0 at time 0
+-- bytes a second up to this time by packets of this size, 0 at time 0
+abbrev pub byte_rate : ℕ → ℕ → ℕ → ℕ
+byte_rate mss packets now = if now == 0 then 0 else mss * packets * 1000000 / now
+
 abbrev pub rate_of : LinkCase → ℕ → ℕ → ℕ
-rate_of case packets now = if now == 0 then 0 else case.mss * packets * 1000000 / now
+rate_of case packets now = byte_rate case.mss packets now
 
 -- a number, or 0 where none were lost
 abbrev pub where_lost : ℕ → ℕ → ℕ
@@ -148,30 +158,34 @@ where_lost lost number = if lost == 0 then 0 else number
 abbrev pub arrival_of : LinkCase → ℕ → ℕ
 arrival_of case chance = chance_time case.trace chance + case.delay_us
 
--- the acknowledgement of a packet with this sending time, arrival and mark, where so many lost packets leave, so
--- many stay in flight, and so many were acknowledged and sent so far
-abbrev pub arrival_ack : LinkCase → ℕ → ℕ → Bool → ℕ → ℕ → ℕ → ℕ → Ack
-arrival_ack case sent_at arrival marked lost stay acked sent = record {
-  bytes_acked = case.mss;
+-- the acknowledgement of a packet of this size with this sending time, arrival and mark, where so many lost packets
+-- leave, so many stay in flight, and so many were acknowledged and sent so far
+abbrev pub arrival_ack_of : ℕ → ℕ → ℕ → Bool → ℕ → ℕ → ℕ → ℕ → Ack
+arrival_ack_of mss sent_at arrival marked lost stay acked sent = record {
+  bytes_acked = mss;
   packets_acked = 1;
-  bytes_misordered = where_lost lost case.mss;
+  bytes_misordered = where_lost lost mss;
   packets_misordered = where_lost lost 1;
-  ecn_bytes = if marked then case.mss else 0;
+  ecn_bytes = if marked then mss else 0;
   ecn_packets = if marked then 1 else 0;
   lost_pkts_sample = lost;
   now = arrival;
-  bytes_in_flight = case.mss * stay;
+  bytes_in_flight = mss * stay;
   packets_in_flight = stay;
   bytes_pending = 0;
-  rate_incoming = rate_of case acked arrival;
-  rate_outgoing = rate_of case sent arrival;
+  rate_incoming = byte_rate mss acked arrival;
+  rate_outgoing = byte_rate mss sent arrival;
   rtt_sample_us = arrival - sent_at;
   was_timeout = false;
 }
 
--- the acknowledgement at a timeout at this time, with the last sample, where so many packets leave
-abbrev pub timeout_ack : LinkCase → ℕ → ℕ → ℕ → ℕ → ℕ → ℕ → Ack
-timeout_ack case now sample lost stay acked sent = record {
+abbrev pub arrival_ack : LinkCase → ℕ → ℕ → Bool → ℕ → ℕ → ℕ → ℕ → Ack
+arrival_ack case sent_at arrival marked lost stay acked sent =
+    arrival_ack_of case.mss sent_at arrival marked lost stay acked sent
+
+-- the acknowledgement at a timeout at this time, with the last sample, where so many packets of this size leave
+abbrev pub timeout_ack_of : ℕ → ℕ → ℕ → ℕ → ℕ → ℕ → ℕ → Ack
+timeout_ack_of mss now sample lost stay acked sent = record {
   bytes_acked = 0;
   packets_acked = 0;
   bytes_misordered = 0;
@@ -180,14 +194,17 @@ timeout_ack case now sample lost stay acked sent = record {
   ecn_packets = 0;
   lost_pkts_sample = lost;
   now = now;
-  bytes_in_flight = case.mss * stay;
+  bytes_in_flight = mss * stay;
   packets_in_flight = stay;
   bytes_pending = 0;
-  rate_incoming = rate_of case acked now;
-  rate_outgoing = rate_of case sent now;
+  rate_incoming = byte_rate mss acked now;
+  rate_outgoing = byte_rate mss sent now;
   rtt_sample_us = sample;
   was_timeout = true;
 }
+
+abbrev pub timeout_ack : LinkCase → ℕ → ℕ → ℕ → ℕ → ℕ → ℕ → Ack
+timeout_ack case now sample lost stay acked sent = timeout_ack_of case.mss now sample lost stay acked sent
 
 -- the lowest packet in flight that isn't lost, or that all are lost
 pub data Next : Type 0 where

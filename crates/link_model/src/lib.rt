@@ -16,6 +16,7 @@ pub use chance::Chance;
 pub use link::Link;
 pub use link_case::LinkCase;
 pub use queue::Queue;
+pub use rules::{allowance, arrival_ack, is_at, is_marked, next_loss, rate, timeout_ack};
 pub use trace::{LONGEST_MS, Trace, TraceFault};
 
 #[cfg(test)]

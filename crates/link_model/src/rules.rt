@@ -1,7 +1,7 @@
 ghost use Rattle.std.specs.Prelude.{◌≡◌, ℕ, ◌^◌, ◌<◌, ◌≤◌, List, length, slice_index, if◌then◌else◌};
 ghost use Rattle.std.specs.List.Sorted.{IsStrictlyIncreasing};
-ghost use Rattle.ccp_base.specs.Limits.{most_flight};
-ghost use Rattle.link_model.specs.Link.{allowance, rate_of, is_marked, is_listed, arrival_ack, timeout_ack, run_of};
+ghost use Rattle.ccp_base.specs.Limits.{most_flight, most_segment_bytes};
+ghost use Rattle.link_model.specs.Link.{allowance_of, allowance, byte_rate, is_marked, is_listed, arrival_ack_of, arrival_ack, timeout_ack_of, timeout_ack, run_of};
 ghost use Rattle.link_model.specs.Counts.{AreOnce, AddUp};
 
 use crate::arrival::Arrival;
@@ -15,28 +15,14 @@ impl LinkCase {
         ensures value { result ≡ allowance self.now window }
         ensures within { result ≤ most_flight }
     {
-        (window / u64::from(self.mss)).max(1).min(PACKETS as u64)
-    }
-
-    /// Bytes a second: that many packets up to now, or 0 at time 0.
-    pub fn rate(&self, packets: u64, now: u64) -> u64
-        requires { packets ≤ 2 ^ 28 }
-        ensures { result ≡ rate_of self.now packets now }
-    {
-        if now == 0 {
-            return 0;
-        }
-        u64::from(self.mss) * packets * 1_000_000 / now
+        allowance(self.mss, window)
     }
 
     /// Whether a packet is marked, where so many packets wait.
     pub fn marks(&self, queued: u128) -> bool
         ensures { result ≡ is_marked self.now.mark queued }
     {
-        match self.mark {
-            Some(mark) => queued >= u128::from(mark),
-            None => false,
-        }
+        is_marked(self.mark, queued)
     }
 
     /// The place of the first listed loss from this number on, where those before a place are below the number.
@@ -66,24 +52,7 @@ impl LinkCase {
         requires sent { sent ≤ 2 ^ 28 }
         ensures { result ≡ arrival_ack self.now arrival.sent_at arrival.at arrival.marked arrival.lost stay acked sent }
     {
-        let mss = u64::from(self.mss);
-        Ack {
-            bytes_acked: mss,
-            packets_acked: 1,
-            bytes_misordered: number_if(arrival.lost != 0, mss),
-            packets_misordered: number_if(arrival.lost != 0, 1),
-            ecn_bytes: number_if(arrival.marked, mss),
-            ecn_packets: number_if(arrival.marked, 1),
-            lost_pkts_sample: arrival.lost,
-            now: arrival.at,
-            bytes_in_flight: mss * stay,
-            packets_in_flight: stay,
-            bytes_pending: 0,
-            rate_incoming: self.rate(acked, arrival.at),
-            rate_outgoing: self.rate(sent, arrival.at),
-            rtt_sample_us: arrival.at - arrival.sent_at,
-            was_timeout: false,
-        }
+        arrival_ack(self.mss, arrival, stay, acked, sent)
     }
 
     /// The acknowledgement at a timeout at this time, with the last round-trip sample, where all of so many packets are
@@ -93,15 +62,7 @@ impl LinkCase {
         requires sent { sent ≤ 2 ^ 28 }
         ensures { result ≡ timeout_ack self.now now sample lost 0 acked sent }
     {
-        Ack {
-            lost_pkts_sample: lost,
-            now,
-            rate_incoming: self.rate(acked, now),
-            rate_outgoing: self.rate(sent, now),
-            rtt_sample_us: sample,
-            was_timeout: true,
-            ..Ack::default()
-        }
+        timeout_ack(self.mss, now, sample, lost, acked, sent)
     }
 
     /// What holds after every list of windows: no chance serves two packets, and each packet that was sent was
@@ -114,8 +75,88 @@ impl LinkCase {
     }
 }
 
+/// How many packets of this size, in bytes, a window allows to be in flight: one at least, and 4,096 at most.
+pub fn allowance(mss: u32, window: u64) -> u64
+    requires { 1 ≤ mss }
+    ensures value { result ≡ allowance_of mss window }
+    ensures within { result ≤ most_flight }
+{
+    (window / u64::from(mss)).max(1).min(PACKETS as u64)
+}
+
+/// Bytes a second: that many packets of this size, in bytes, up to now, or 0 at time 0.
+pub fn rate(mss: u32, packets: u64, now: u64) -> u64
+    requires mss { mss ≤ most_segment_bytes }
+    requires packets { packets ≤ 2 ^ 28 }
+    ensures { result ≡ byte_rate mss packets now }
+{
+    if now == 0 {
+        return 0;
+    }
+    u64::from(mss) * packets * 1_000_000 / now
+}
+
+/// Whether a packet is marked, where so many packets wait and this many or more mean a mark.
+pub fn is_marked(mark: Option<u32>, queued: u128) -> bool
+    ensures { result ≡ is_marked mark queued }
+{
+    match mark {
+        Some(mark) => queued >= u128::from(mark),
+        None => false,
+    }
+}
+
+/// The acknowledgement of a packet of this size, in bytes, where so many packets stay in flight, and so many were
+/// acknowledged and sent, this one counted.
+pub fn arrival_ack(mss: u32, arrival: Arrival, stay: u64, acked: u64, sent: u64) -> Ack
+    requires mss { mss ≤ most_segment_bytes }
+    requires order { arrival.sent_at ≤ arrival.at }
+    requires stay { stay ≤ most_flight }
+    requires acked { acked ≤ 2 ^ 28 }
+    requires sent { sent ≤ 2 ^ 28 }
+    ensures { result ≡ arrival_ack_of mss arrival.sent_at arrival.at arrival.marked arrival.lost stay acked sent }
+{
+    let bytes = u64::from(mss);
+    Ack {
+        bytes_acked: bytes,
+        packets_acked: 1,
+        bytes_misordered: number_if(arrival.lost != 0, bytes),
+        packets_misordered: number_if(arrival.lost != 0, 1),
+        ecn_bytes: number_if(arrival.marked, bytes),
+        ecn_packets: number_if(arrival.marked, 1),
+        lost_pkts_sample: arrival.lost,
+        now: arrival.at,
+        bytes_in_flight: bytes * stay,
+        packets_in_flight: stay,
+        bytes_pending: 0,
+        rate_incoming: rate(mss, acked, arrival.at),
+        rate_outgoing: rate(mss, sent, arrival.at),
+        rtt_sample_us: arrival.at - arrival.sent_at,
+        was_timeout: false,
+    }
+}
+
+/// The acknowledgement at a timeout at this time, with the last round-trip sample, where all of so many packets of this
+/// size, in bytes, are lost, and so many were acknowledged and sent.
+pub fn timeout_ack(mss: u32, now: u64, sample: u64, lost: u64, acked: u64, sent: u64) -> Ack
+    requires mss { mss ≤ most_segment_bytes }
+    requires acked { acked ≤ 2 ^ 28 }
+    requires sent { sent ≤ 2 ^ 28 }
+    ensures { result ≡ timeout_ack_of mss now sample lost 0 acked sent }
+{
+    Ack {
+        lost_pkts_sample: lost,
+        now,
+        rate_incoming: rate(mss, acked, now),
+        rate_outgoing: rate(mss, sent, now),
+        rtt_sample_us: sample,
+        was_timeout: true,
+        ..Ack::default()
+    }
+}
+
 /// The place of the first listed loss from this number on, where those before a place are below the number.
-fn next_loss(losses: &[u32], passed: usize, number: u64) -> usize
+pub fn next_loss(losses: &[u32], passed: usize, number: u64) -> usize
     requires { (i : ℕ) → i < passed → slice_index losses.now i < number }
     ensures before { (i : ℕ) → i < result → slice_index losses.now i < number }
     ensures from { result < length losses.now → number ≤ slice_index losses.now result }
@@ -131,7 +172,7 @@ fn next_loss(losses: &[u32], passed: usize, number: u64) -> usize
 }
 
 /// Whether a number is listed, where the losses before a place are below it, and the one there isn't.
-fn is_at(losses: &[u32], place: usize, number: u64) -> bool
+pub fn is_at(losses: &[u32], place: usize, number: u64) -> bool
     requires rises { IsStrictlyIncreasing losses.now }
     requires before { (i : ℕ) → i < place → slice_index losses.now i < number }
     requires from { place < length losses.now → number ≤ slice_index losses.now place }
