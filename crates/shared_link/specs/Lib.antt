@@ -1,0 +1,4 @@
+pub mod SharedLaws
+pub mod SharedLimits
+pub mod SharedRounds
+pub mod SharedStanding
