@@ -13,23 +13,10 @@ use Rattle.link_model.proofs.ServedLemmas.{IsServedWithin, AllServedWithin, all_
 use Rattle.link_model.proofs.FlightLemmas.{RisesFrom, AllBelow, AllTakeBelow, TakesBelow, RisesFrom-push, AllBelow-push, AllBelow-more, RisesFrom-left_by, AllBelow-left_by, all_take_below-more, in_flight-sent, packets_of-push, left_by-all_below, MatchNext, match_next, IsNextBelow, next_below}
 use Rattle.link_model.proofs.CountLemmas.{CountNext, count_next}
 use Rattle.shared_link.specs.declared.shared_case.FlowLink.{FlowLink}
+use Rattle.shared_link.specs.Reached.{ArrivesFrom, after_arrival, ArriveFrom, FlowSettled}
 use Rattle.shared_link.specs.SharedRounds.{next_by, next_where, next_before, arrival_given, are_lost, timeout_at, timeout_given, timeouts, answers, answers_after, with_givens}
 
 -- ---- arrivals in flight
-
-abbrev pub ArrivesFrom : List ℕ → ℕ → ℕ → Fate → Type 0
-ArrivesFrom times delay from Lost = Unit {0}
-ArrivesFrom times delay from (Served chance marked) = from ≤ chance_time times chance + delay
-
-abbrev pub after_arrival : List ℕ → ℕ → ℕ → Fate → ℕ
-after_arrival times delay from Lost = from
-after_arrival times delay from (Served chance marked) = chance_time times chance + delay
-
--- the packets arrive one after another, from this time on
-abbrev pub ArriveFrom : List ℕ → ℕ → ℕ → List Packet → Type 0
-ArriveFrom times delay from [] = Unit {0}
-ArriveFrom times delay from (packet ∷ rest) =
-    ArrivesFrom times delay from packet.fate × ArriveFrom times delay (after_arrival times delay from packet.fate) rest
 
 -- the lowest packet that isn't lost, where it arrives before a time
 abbrev pub earlier : List ℕ → ℕ → ℕ → Next → Next
@@ -64,9 +51,10 @@ module _ (times : List ℕ) (trace : IsTrace times) (delay : ℕ) where
 
   ArriveFrom-less : (from less : ℕ) (packets : List Packet) → less ≤ from → ArriveFrom times delay from packets → ArriveFrom times delay less packets
   ArriveFrom-less from less [] order before = tt
-  ArriveFrom-less from less (packet ∷ rest) order before =
-      (arrives_less from less packet.fate order before.0,
-      ArriveFrom-less (after_arrival times delay from packet.fate) (after_arrival times delay less packet.fate) rest (after_less from less packet.fate order) before.1)
+  ArriveFrom-less from less (packet ∷ rest) order before = (
+    arrives_less from less packet.fate order before.0,
+    ArriveFrom-less (after_arrival times delay from packet.fate) (after_arrival times delay less packet.fate) rest (after_less from less packet.fate order) before.1,
+  )
 
   -- what stays arrives one after another, too
   staying_from : (from : ℕ) (fate : Fate) (rest later : List Packet) → ArrivesFrom times delay from fate → ArriveFrom times delay (after_arrival times delay from fate) rest
@@ -119,16 +107,6 @@ module _ (times : List ℕ) (trace : IsTrace times) (delay : ℕ) where
       next_where_of end from sent.number sent.packet.sent_at sent.packet.fate (next_before times delay end rest) (next_of rest)
       (next_before_of end (after_arrival times delay from sent.packet.fate) rest before.1)
       (λ order. none_before end (after_arrival times delay from sent.packet.fate) rest order before.1)
-
--- ---- what holds of a flow
-
-pub record FlowSettled (times : List ℕ) (delay past : ℕ) (packets : List Packet) (givens : List Given) : Type 0 where
-  pub takings : AllTakeBelow (length packets) givens
-  pub rises : RisesFrom 0 (in_flight packets givens)
-  pub below : AllBelow (length packets) (in_flight packets givens)
-  pub served : AllServedWithin times past (packets_of (in_flight packets givens))
-  pub arriving : ArriveFrom times delay 0 (packets_of (in_flight packets givens))
-  pub counts : length packets ≡ acked_of givens + lost_of givens + length (in_flight packets givens)
 
 pub flow_settled-first : (times : List ℕ) (delay past : ℕ) → FlowSettled times delay past [] []
 flow_settled-first times delay past = record {

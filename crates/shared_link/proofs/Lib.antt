@@ -1,2 +1,5 @@
 mod FlowLemmas
+mod KeptLemmas
+mod RoundLemmas
+mod TimeLemmas
 mod WorkedRounds

@@ -1,3 +1,5 @@
+pub mod Kept
+pub mod Reached
 pub mod SharedLaws
 pub mod SharedLimits
 pub mod SharedRounds

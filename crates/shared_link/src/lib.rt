@@ -1,7 +1,13 @@
 //! One link of several flows.
 #![tactic(auto)]
 
+mod flow_answering;
+mod flow_sending;
+mod flow_traffic;
+mod flows;
+mod laws;
 mod round;
+mod sending;
 mod shared_case;
 mod shared_link;
 

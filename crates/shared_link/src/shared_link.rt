@@ -5,7 +5,9 @@ ghost use Rattle.shared_link.specs.SharedLimits.{IsWithin};
 ghost use Rattle.shared_link.specs.SharedRounds.{acks_after, counts_of};
 ghost use Rattle.shared_link.specs.SharedStanding.{Stands};
 
+use crate::flows::Flows;
 use crate::round::{Ask, Counts};
+use crate::sending::Sending;
 use crate::shared_case::SharedCase;
 use ccp_base::{Acks, NoMemory, Sequence};
 use link_model::Chance;
@@ -20,21 +22,25 @@ pub type AckLists = Sequence<Acks>;
 #[derive(Drop)]
 pub struct SharedLink {
     case: SharedCase,
-    rounds: u32,
+    flows: Flows,
+    /// The chance after the last one that a packet got.
     next: Chance,
+    rounds: u32,
+    /// The place in the trace of the last chance that was searched.
+    near: usize,
 }
 
 impl Model for SharedLink {
-    ghost use Rattle.std.specs.Prelude.{◌≤◌, []};
+    ghost use Rattle.std.specs.Prelude.{map};
     ghost use Rattle.link_model.specs.Chances.{number_of};
-    ghost use Rattle.shared_link.specs.SharedLimits.{IsWithin};
     ghost use Rattle.shared_link.specs.SharedStanding.{SharedState};
+    ghost use Rattle.shared_link.specs.Kept.{flow_in, IsLinkKept};
 
     ghost Value = { SharedState };
 
-    ghost view = { λ l. record { case = l.case; rounds = l.rounds; chance = number_of l.case.trace l.next; flows = [] } };
+    ghost view = { λ l. record { case = l.case; rounds = l.rounds; chance = number_of l.case.trace l.next; flows = map flow_in l.flows.traffic.items } };
 
-    ghost invariant = { λ l. 1 ≤ 0 };
+    ghost invariant = { λ l. IsLinkKept l.case l.rounds l.next l.flows.traffic.items };
 }
 
 impl SharedLink {
@@ -45,9 +51,15 @@ impl SharedLink {
         ensures stands { IfOk result (λ link. Stands link []) }
         ensures rounds { IfOk result (λ link. link.rounds ≡ 0) }
     {
-        let _ = alloc;
-        let _ = case;
-        Err(NoMemory)
+        let flows = Flows::new(alloc, &case)?;
+        let near = case.trace.as_slice().len() - 1;
+        Ok(SharedLink {
+            case,
+            flows,
+            next: Chance { turn: 0, place: 0 },
+            rounds: 0,
+            near,
+        })
     }
 
     /// One more round, where each flow asks for something, in order: the flows send in turn, then what arrives within
@@ -64,21 +76,24 @@ impl SharedLink {
         ensures rounds { OnOk result (self.new.rounds ≡ self.old.rounds + 1) }
         ensures unchanged { OnErr result (self.new ≡ self.old) }
     {
-        let _ = alloc;
-        let _ = asks;
-        Err(NoMemory)
+        let mut answers = Vec::with_capacity(alloc, asks.len())?;
+        self.flows.make_rooms(alloc, &self.case, asks, self.rounds)?;
+        let now = u64::from(self.rounds) * self.case.quantum_us;
+        let mut sending = Sending::at(&self.case.trace, self.rounds, now, self.next, self.near);
+        self.flows.send_all(&self.case, asks, &mut sending);
+        let end = now + self.case.quantum_us;
+        self.flows
+            .answer_all(alloc, &self.case, asks, self.rounds, end, &mut answers);
+        self.next = sending.next;
+        self.near = sending.queue.near;
+        self.rounds += 1;
+        Ok(Sequence::from_vec(answers))
     }
 
     /// How many packets of all flows were sent, were acknowledged, left as lost and are in flight.
     pub fn counts(&self) -> Counts
         ensures { (rounds : List (List Ask)) → Stands self.now rounds → result ≡ counts_of self.now.case rounds }
     {
-        Counts {
-            rounds: u64::from(self.rounds),
-            sent: 0,
-            acked: 0,
-            lost: 0,
-            inflight: 0,
-        }
+        self.flows.counts(&self.case, self.rounds)
     }
 }
