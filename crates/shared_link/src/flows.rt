@@ -1,5 +1,6 @@
-ghost use Rattle.std.specs.Prelude.{◌≡◌, ◌≢◌, ℕ, ◌+◌, ◌*◌, ◌<◌, ◌≤◌, min, List, [], length, map, get_or, vec_capacity, if◌then◌else◌, IfOk, OnOk};
+ghost use Rattle.std.specs.Prelude.{◌≡◌, ◌≢◌, ℕ, ◌+◌, ◌*◌, ◌<◌, ◌≤◌, min, List, [], length, map, get_or, vec_capacity, if◌then◌else◌, IfOk, OnOk, IsTrue};
 ghost use Rattle.ccp_base.specs.Limits.{most_flight, most_rounds, most_quantum_us};
+ghost use Rattle.link_model.specs.Traces.{IsTrace};
 ghost use Rattle.link_model.specs.Link.{Given};
 ghost use Rattle.shared_link.specs.SharedLimits.{IsWithin};
 ghost use Rattle.shared_link.specs.SharedRounds.{Sent, flow_at, ask_at, allowed, lacks, some_lacks, with_packet, turn_of, turns_of, counts_in};
@@ -59,7 +60,9 @@ impl Flows {
         requires ready { AreReady case.now sending.now.rounds self.now.traffic.items }
         requires asks { length asks.now ≡ length case.now.flows }
         requires flow { flow < length self.now.traffic.items }
-        ensures { (sent : List Sent) (givens : ℕ → List Given) → FlowsFollow case.now self.now.traffic.items sent givens
+        ensures few { IsTrue result
+            → (other : FlowTraffic) → (get_or self.now.traffic.items flow other).in_flight < most_flight }
+        ensures lacks { (sent : List Sent) (givens : ℕ → List Given) → FlowsFollow case.now self.now.traffic.items sent givens
             → result ≡ lacks (allowed case.now asks.now) givens flow sent }
     {
         let _ = sending;
@@ -237,6 +240,7 @@ impl Flows {
         end: u64,
         answers: &mut Vec<Acks>,
     )
+        requires valid { IsTrace case.now.trace }
         requires case { IsWithin case.now }
         requires asks { length asks.now ≡ length case.now.flows }
         requires ready { AreReady case.now rounds self.old.traffic.items }
