@@ -1,0 +1,7 @@
+mod FlowLemmas
+mod FlowsLemmas
+mod KeptLemmas
+mod LinkLemmas
+mod RoundLemmas
+mod TimeLemmas
+mod WorkedRounds

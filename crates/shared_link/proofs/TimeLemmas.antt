@@ -1,0 +1,94 @@
+-- The times of a shared link: the chances that are given come soon enough, since the queue is bounded.
+use Rattle.std.proofs.Common.{◌≡◌, ℕ, zero, suc, ◌+◌, ◌-◌, ◌*◌, ◌<◌, ◌≤◌, Some, None, List, [], ◌∷◌, length, max, cond, eqb, Bool, true, false, slice_get, refl, ap, subst, ◌^◌, arith, inl, inr}
+use Rattle.std.proofs.lemmas.Bool.{cases_lt}
+use Rattle.ccp_base.specs.Limits.{most_queue}
+use Rattle.link_model.specs.declared.arrival.Arrival.{Arrival}
+use Rattle.link_model.specs.declared.chance.Chance.{Chance}
+use Rattle.link_model.specs.Traces.{period, IsTrace}
+use Rattle.link_model.specs.Chances.{number_of, chance_time, first_chance}
+use Rattle.link_model.specs.Steps.{count_of}
+use Rattle.link_model.proofs.ChanceLemmas.{chance_time_rises, chance_time-suc, first_chance_soon, le_first_chance, turn_below}
+use Rattle.link_model.proofs.SendingLemmas.{one_more, no_more}
+use Rattle.shared_link.specs.declared.sending.Sending.{Sending}
+use Rattle.shared_link.specs.Kept.{IsSending, span}
+
+module _ (times : List ℕ) (trace : IsTrace times) where
+  pub hour : 1000 * period times ≤ 3600000000
+  hour = omega (arith, trace.within (length times - 1))
+
+  -- so many chances later, at most so many hours later
+  pub chance_time-more : (n k : ℕ) → chance_time times (k + n) ≤ chance_time times k + n * 3600000000
+  chance_time-more zero k = omega (arith, chance_time_rises times trace (k + 0) k (omega arith))
+  chance_time-more (suc n) k =
+      let step = chance_time-suc times trace (k + n) in
+      let same : k + n + 1 ≡ k + suc n = omega arith in
+      let again : chance_time times (k + n + 1) ≡ chance_time times (k + suc n) = ap (chance_time times) same in
+      omega (arith, chance_time-more n k, hour, step, again)
+
+  pub due_soon : (now : ℕ) → chance_time times (first_chance times now 0) ≤ now + 3600000000
+  due_soon now = omega (arith, first_chance_soon times trace now, hour)
+
+  module _ (sending : Sending) (is : IsSending times sending) (waits : sending.queue.waiting < most_queue) where
+    -- the chance that is given next
+    pub own_soon : chance_time times (number_of times sending.queue.next) ≤ sending.now + 14745600000001
+    own_soon =
+        let next = number_of times sending.next in
+        let own = number_of times sending.queue.next in
+        let due = first_chance times sending.now 0 in
+        let later = first_chance times (sending.now + 1) 0 in
+        elim (cases_lt next due) as (λ _. chance_time times own ≤ sending.now + 14745600000001) [
+          | inl before ↦
+              (let same : own ≡ due = omega (arith, is.next) in
+              let again : chance_time times own ≡ chance_time times due = ap (chance_time times) same in
+              omega (arith, again, due_soon sending.now))
+          | inr not_before ↦
+              (let same : own ≤ later + 4095 = omega (arith, is.next, is.waiting) in
+              let rises = chance_time_rises times trace own (later + 4095) same in
+              omega (arith, rises, chance_time-more 4095 later, due_soon (sending.now + 1)))
+        ]
+
+    pub own_not_before : sending.now ≤ chance_time times (number_of times sending.queue.next)
+    own_not_before = le_first_chance times trace sending.now (number_of times sending.queue.next) (omega (arith, is.next))
+
+    pub next_late : (k : ℕ) → k ≡ number_of times sending.queue.next + 1 → chance_time times k ≤ sending.now + span
+    next_late k same =
+        let own = number_of times sending.queue.next in
+        let again : chance_time times k ≡ chance_time times (own + 1) = ap (chance_time times) same in
+        omega (arith, again, own_soon, chance_time-suc times trace own, hour)
+
+    pub turn_fits : sending.queue.next.turn + 1 < 2 ^ 64
+    turn_fits =
+        let next = sending.queue.next in
+        omega (arith, turn_below times trace next.turn next.place is.place, own_soon, is.now)
+
+    -- after the chance is given
+    pub after_next : (next : Chance) → number_of times next ≡ number_of times sending.queue.next + 1 → number_of times next ≡ max (number_of times next) (first_chance times sending.now 0)
+    after_next next same = omega (arith, same, is.next)
+
+    pub one_waits : (next : Chance) → number_of times next ≡ number_of times sending.queue.next + 1 → sending.now < chance_time times (number_of times sending.queue.next)
+        → sending.queue.waiting + 1 ≡ number_of times next - first_chance times (sending.now + 1) 0
+    one_waits next same late =
+        let past = number_of times sending.next in
+        let late_now = subst (λ k. sending.now < chance_time times k) is.next late in
+        omega (arith, one_more times trace sending.now past late_now, is.waiting, is.next, same)
+
+    pub none_waits : (next : Chance) → number_of times next ≡ number_of times sending.queue.next + 1 → chance_time times (number_of times sending.queue.next) ≤ sending.now
+        → sending.queue.waiting ≡ number_of times next - first_chance times (sending.now + 1) 0
+    none_waits next same early =
+        let past = number_of times sending.next in
+        let early_now = subst (λ k. chance_time times k ≤ sending.now) is.next early in
+        omega (arith, no_more times trace sending.now past early_now, is.waiting, is.next, same)
+
+-- ---- packets in flight
+
+pub no_first : (arrivals : List Arrival) → slice_get arrivals 0 ≡ None → arrivals ≡ []
+no_first [] none = refl
+no_first (arrival ∷ rest) none = absurd (let some : Some arrival ≡ None = none in cc)
+
+pub some_in_flight : (arrivals : List Arrival) (first : Arrival) (lost : ℕ) → slice_get arrivals 0 ≡ Some first → 0 < count_of arrivals lost
+some_in_flight [] first lost is = absurd (let none : None ≡ Some first = is in cc)
+some_in_flight (arrival ∷ rest) first lost is = omega arith
+
+pub since_within : (b : Bool) (now since limit : ℕ) → now ≤ limit → since ≤ limit → cond b now since ≤ limit
+since_within true now since limit first second = first
+since_within false now since limit first second = second

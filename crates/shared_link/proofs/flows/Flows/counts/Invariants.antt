@@ -1,0 +1,25 @@
+use Rattle.std.proofs.Common.{◌≡◌, ℕ, ◌+◌, ◌-◌, ◌*◌, ◌<◌, ◌≤◌, List, [], length, map, get_or, vec_capacity}
+use Rattle.ccp_base.specs.Limits.{most_flight}
+use Rattle.link_model.specs.Link.{Given, in_flight, acked_of}
+use Rattle.link_model.specs.Counts.{lost_of}
+use Rattle.shared_link.specs.declared.flow_traffic.FlowTraffic.{FlowTraffic}
+use Rattle.shared_link.specs.SharedRounds.{Sent, flow_at, own_packets, own_flight, allowed, some_lacks, turn_of, sum_of}
+use Rattle.shared_link.specs.SharedStanding.{flow_standing}
+use Rattle.shared_link.specs.Reached.{Settled}
+use Rattle.shared_link.specs.Kept.{flow_in, IsSending, FlowsFollow, Follows, IsFlowReady, AreReady, HaveRoom, Turned, AnsweredTo}
+use Rattle.shared_link.proofs.flows.Flows.counts.Given as goal
+
+abbrev pub invariant-loop-flow : goal.invariant-loop-flow
+invariant-loop-flow l =
+    (l.flow ≤ length l.self.traffic.items)
+    × (l.sent ≤ 268435456 * l.flow)
+    × (l.acked ≤ 268435456 * l.flow)
+    × (l.lost ≤ 268435456 * l.flow)
+    × (l.inflight ≤ 268435456 * l.flow)
+    × ((sent : List Sent) (givens : ℕ → List Given) → FlowsFollow l.case l.self.traffic.items sent givens → l.sent ≡ sum_of l.flow (λ flow. length (own_packets flow sent)))
+    × ((sent : List Sent) (givens : ℕ → List Given) → FlowsFollow l.case l.self.traffic.items sent givens → l.acked ≡ sum_of l.flow (λ flow. acked_of (givens flow)))
+    × ((sent : List Sent) (givens : ℕ → List Given) → FlowsFollow l.case l.self.traffic.items sent givens → l.lost ≡ sum_of l.flow (λ flow. lost_of (givens flow)))
+    × ((sent : List Sent) (givens : ℕ → List Given) → FlowsFollow l.case l.self.traffic.items sent givens → l.inflight ≡ sum_of l.flow (λ flow. length (own_flight flow sent (givens flow))))
+
+abbrev pub decreases-loop-flow : goal.decreases-loop-flow
+decreases-loop-flow l = length l.self.traffic.items - l.flow

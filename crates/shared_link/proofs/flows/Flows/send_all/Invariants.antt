@@ -1,0 +1,23 @@
+use Rattle.std.proofs.Common.{◌≡◌, ℕ, ◌+◌, ◌-◌, ◌*◌, ◌<◌, ◌≤◌, List, [], length, map, get_or, vec_capacity}
+use Rattle.ccp_base.specs.Limits.{most_flight}
+use Rattle.link_model.specs.Link.{Given, in_flight, acked_of}
+use Rattle.link_model.specs.Counts.{lost_of}
+use Rattle.shared_link.specs.declared.flow_traffic.FlowTraffic.{FlowTraffic}
+use Rattle.shared_link.specs.SharedRounds.{Sent, flow_at, own_packets, own_flight, allowed, some_lacks, turn_of, sum_of}
+use Rattle.shared_link.specs.SharedStanding.{flow_standing}
+use Rattle.shared_link.specs.Reached.{Settled}
+use Rattle.shared_link.specs.Kept.{flow_in, IsSending, FlowsFollow, Follows, IsFlowReady, AreReady, HaveRoom, Turned, AnsweredTo}
+use Rattle.shared_link.proofs.flows.Flows.send_all.Given as goal
+
+abbrev pub invariant-loop-left : goal.invariant-loop-left
+invariant-loop-left l =
+    AreReady l.case l.sending.rounds l.self.traffic.items
+    × HaveRoom l.asks (length l.self.traffic.items) l.self.traffic.items
+    × IsSending l.case.trace l.sending
+    × (l.sending.rounds ≡ l.fn.sending.rounds)
+    × (l.sending.now ≡ l.fn.sending.now)
+    × ((sent : List Sent) (givens : ℕ → List Given) → Follows l.case l.fn.self.traffic.items l.fn.sending sent givens
+    → Turned l.case l.asks l.self.traffic.items l.sending l.left sent givens)
+
+abbrev pub decreases-loop-left : goal.decreases-loop-left
+decreases-loop-left l = l.left

@@ -1,0 +1,62 @@
+use Rattle.std.proofs.Common.{◌≡◌, ◌+◌, ◌*◌, ◌≤◌, true, cond, min, vec_capacity, length, set, subst, ap, sym, ◌∙◌, arith, rules}
+use Rattle.std.proofs.lemmas.List.{length-set}
+use Rattle.ccp_base.specs.Limits.{most_flight}
+use Rattle.shared_link.specs.declared.flow_traffic.FlowTraffic.{FlowTraffic}
+use Rattle.shared_link.specs.declared.shared_case.FlowLink.{FlowLink}
+use Rattle.link_model.specs.Link.{chance_past}
+use Rattle.link_model.specs.Chances.{number_of}
+use Rattle.shared_link.specs.SharedRounds.{flow_at, ask_at, allowed, lacks, with_packet}
+use Rattle.shared_link.specs.Kept.{flow_in, with_one, fate_now, IsFlowKept, IsFlowReady, AreReady, Follows}
+use Rattle.shared_link.proofs.FlowsLemmas.{ready-set, room-set, follows-sent, same_there}
+use Rattle.shared_link.proofs.flows.Flows.send_one.Goals as goal
+
+pub send-requires-clause-room : goal.send-requires-clause-room
+send-requires-clause-room c =
+    let t = c.index_mut.result.now in
+    let same = ap (λ (x : FlowTraffic). x.in_flight) c.index_mut.ensures.value in
+    omega (arith, same, c.lacks.ensures.few (search rules) t)
+
+pub returns-clause-ready : goal.returns-clause-ready
+returns-clause-ready c =
+    let case = c.args.case.now in
+    let f = c.args.flow in
+    let old = c.index_mut.result.now in
+    let new = c.send.new.self in
+    let rounds = c.args.sending.now.rounds in
+    let ready = subst (λ (x : FlowTraffic). IsFlowReady (flow_at case f) rounds x) (sym c.index_mut.ensures.value) (c.requires.ready.each f old c.requires.flow) in
+    let flows = c.args.self.now.traffic.items in
+    subst (λ n. AreReady case n (set flows f new)) (sym c.send.ensures.rounds)
+    (ready-set case rounds flows f new c.requires.flow c.requires.ready
+    (record {
+      kept = subst (λ (l : FlowLink). IsFlowKept l new) c.link_of.ensures c.send.ensures.kept;
+      sent = omega (arith, ready.sent, c.send.ensures.sent, c.send.ensures.in_flight);
+      acks = ap (λ v. v.items) c.send.ensures.acks ∙ ready.acks;
+    }))
+
+pub returns-clause-room : goal.returns-clause-room
+returns-clause-room c =
+    let f = c.args.flow in
+    let flows = c.args.self.now.traffic.items in
+    let old = c.index_mut.result.now in
+    let new = c.send.new.self in
+    let asks = c.args.asks.now in
+    let count = length-set flows f new in
+    let kept = subst (λ (x : FlowTraffic). min (ask_at asks f).left most_flight ≤ vec_capacity x.acks) (sym c.index_mut.ensures.value) (c.requires.room f old c.requires.flow) in
+    let here : min (ask_at asks f).left most_flight ≤ vec_capacity new.acks = omega (arith, kept, ap vec_capacity c.send.ensures.acks) in
+    room-set asks (length flows) (length (set flows f new)) flows f new c.requires.flow (omega (arith, count)) c.requires.room (λ flow under apart. omega (arith, under, count)) here
+
+pub returns-clause-follows : goal.returns-clause-follows
+returns-clause-follows c = λ sent givens follows.
+    let case = c.args.case.now in
+    let f = c.args.flow in
+    let flows = c.args.self.now.traffic.items in
+    let old = c.index_mut.result.now in
+    let new = c.send.new.self in
+    let before = c.args.sending.now in
+    let after = c.send.new.sending in
+    let some : c.lacks.result ≡ true = search rules in
+    let link = c.link_of.ensures in
+    let standing = c.send.ensures.standing ∙ ap (λ (l : FlowLink). with_one case.trace l.delay_us before.now (fate_now case.trace l case.queue old.sent before) (flow_in old)) link in
+    let chance = c.send.ensures.chance ∙ ap (λ (l : FlowLink). chance_past (fate_now case.trace l case.queue old.sent before) (number_of case.trace before.next)) link in
+    subst (λ b. Follows case (set flows f new) after (cond b (with_packet case before.now f sent) sent) givens) (sym some ∙ c.lacks.ensures.lacks sent givens follows.traffic)
+    (follows-sent case c.requires.sending.valid flows before sent givens follows c.requires.sending f c.requires.flow old c.index_mut.ensures.value new after c.send.ensures.now standing chance)

@@ -1,0 +1,208 @@
+-- What a shared link keeps, step by step: one more packet of a flow, and a flow's acknowledgements in a round.
+use Rattle.std.specs.Prelude.{min, vec_capacity, ◌≡◌, ℕ, zero, suc, ◌+◌, ◌-◌, ◌*◌, ◌<◌, ◌≤◌, max, ◌&&◌, nat_lt, Option, Some, None, if◌then◌else◌, List, [], ◌∷◌, ◌++◌, length, drop, get_or, slice_get, slice_index}
+use Rattle.ccp_base.specs.declared.ack.Ack.{Ack}
+use Rattle.ccp_base.specs.Limits.{most_flight, most_rounds, most_quantum_us}
+use Rattle.link_model.specs.declared.arrival.Arrival.{Arrival}
+use Rattle.link_model.specs.declared.chance.Chance.{Chance}
+use Rattle.link_model.specs.Traces.{IsTrace}
+use Rattle.link_model.specs.Chances.{number_of, chance_time, first_chance}
+use Rattle.link_model.specs.Link.{Fate, Given, chances_past, fate_of, arrival_ack_of, timeout_ack_of}
+use Rattle.link_model.specs.Steps.{count_of}
+use Rattle.link_model.specs.Horizon.{ArriveWithin}
+use Rattle.shared_link.specs.declared.shared_case.FlowLink.{FlowLink}
+use Rattle.shared_link.specs.declared.shared_case.SharedCase.{SharedCase}
+use Rattle.shared_link.specs.declared.round.Ask.{Ask}
+use Rattle.shared_link.specs.declared.flow_traffic.FlowTraffic.{FlowTraffic}
+use Rattle.shared_link.specs.declared.sending.Sending.{Sending}
+use Rattle.shared_link.specs.SharedRounds.{Sent, flow_at, ask_at, every_packet, own_packets, allowed, turns_of, answers, with_givens, acks_in, each_flow}
+use Rattle.shared_link.specs.SharedStanding.{Flight, FlowStanding, no_flight, with_fate, flow_standing}
+use Rattle.shared_link.specs.SharedLimits.{IsWithin}
+use Rattle.shared_link.specs.Reached.{Settled}
+
+-- what is under way of a flow
+abbrev pub flow_in : FlowTraffic → FlowStanding
+flow_in flow = record {
+  time = flow.time;
+  sample = flow.sample;
+  flight = record { arrivals = flow.flight.items; lost = flow.lost; since = flow.since };
+  sent = flow.sent;
+  acked = flow.acked;
+  gone = flow.gone;
+}
+
+-- times are below this one, in microseconds
+abbrev pub horizon : ℕ
+horizon = 1000000000000000
+
+-- what holds of the traffic of a flow
+pub record IsFlowKept (link : FlowLink) (flow : FlowTraffic) : Type 0 where
+  pub capacity : flow.flight.capacity ≡ most_flight
+  pub count : flow.in_flight ≡ count_of flow.flight.items flow.lost
+  pub few : flow.in_flight ≤ most_flight
+  pub passed : (i : ℕ) → i < flow.passed → slice_index link.losses i < flow.sent
+  pub arrivals : ArriveWithin horizon flow.flight.items
+  pub time : flow.time ≤ horizon
+  pub since : flow.since ≤ horizon
+  pub sum : flow.acked + flow.gone + flow.in_flight ≡ flow.sent
+
+-- ---- sending
+
+-- a flow with one more packet, which is sent at this time and has this fate
+abbrev pub with_one : List ℕ → ℕ → ℕ → Fate → FlowStanding → FlowStanding
+with_one times delay now fate standing = record {
+  time = standing.time;
+  sample = standing.sample;
+  flight = with_fate times delay now fate standing.flight;
+  sent = standing.sent + 1;
+  acked = standing.acked;
+  gone = standing.gone;
+}
+
+-- the fate of the packet that is sent next, where the queue holds so many and the flow has sent so many
+abbrev pub fate_now : List ℕ → FlowLink → ℕ → ℕ → Sending → Fate
+fate_now times link room sent sending =
+    fate_of link.losses room link.mark sent sending.queue.waiting (number_of times sending.queue.next)
+
+-- how long after now the last chance may be, in microseconds: so many hours as packets may wait, and two more
+abbrev pub span : ℕ
+span = 14752800000001
+
+-- the sending of a round: the queue is that at its time, after the chances that were given
+pub record IsSending (times : List ℕ) (sending : Sending) : Type 0 where
+  pub valid : IsTrace times
+  pub rounds : sending.rounds < most_rounds
+  pub now : sending.now ≤ most_rounds * most_quantum_us
+  pub next_place : sending.next.place < length times
+  pub place : sending.queue.next.place < length times
+  pub next : number_of times sending.queue.next ≡ max (number_of times sending.next) (first_chance times sending.now 0)
+  pub waiting : sending.queue.waiting ≡ number_of times sending.next - first_chance times (sending.now + 1) 0
+  pub late : chance_time times (number_of times sending.next) ≤ sending.now + span
+
+-- ---- acknowledging
+
+-- a flow with its acknowledgements of a round so far
+pub record Answered : Type 0 where
+  pub acks : List Ack
+  pub standing : FlowStanding
+
+abbrev pub answered_in : FlowTraffic → Answered
+answered_in flow = record { acks = flow.acks.items; standing = flow_in flow }
+
+-- the acknowledgement of the first packet in flight that isn't lost
+abbrev pub with_arrival : FlowLink → Arrival → Answered → Answered
+with_arrival link arrival answered = record {
+  acks = answered.acks ++ arrival_ack_of link.mss arrival.sent_at arrival.at arrival.marked arrival.lost
+      (count_of (drop 1 answered.standing.flight.arrivals) answered.standing.flight.lost)
+      (answered.standing.acked + 1) answered.standing.sent ∷ [];
+  standing = record {
+    time = arrival.at;
+    sample = arrival.at - arrival.sent_at;
+    flight = record {
+      arrivals = drop 1 answered.standing.flight.arrivals;
+      lost = answered.standing.flight.lost;
+      since = answered.standing.flight.since;
+    };
+    sent = answered.standing.sent;
+    acked = answered.standing.acked + 1;
+    gone = answered.standing.gone + arrival.lost;
+  };
+}
+
+-- the timeout at this time, where all packets in flight are lost
+abbrev pub with_timeout : FlowLink → ℕ → Answered → Answered
+with_timeout link now answered = record {
+  acks = answered.acks ++ timeout_ack_of link.mss now answered.standing.sample answered.standing.flight.lost 0
+      answered.standing.acked answered.standing.sent ∷ [];
+  standing = record {
+    time = now;
+    sample = answered.standing.sample;
+    flight = no_flight;
+    sent = answered.standing.sent;
+    acked = answered.standing.acked;
+    gone = answered.standing.gone + answered.standing.flight.lost;
+  };
+}
+
+abbrev pub timeout_now : FlowLink → FlowStanding → ℕ
+timeout_now link standing = max standing.time standing.flight.since + link.timeout_us
+
+abbrev pub timed_out : FlowLink → ℕ → Answered → Answered
+timed_out link end answered =
+    if nat_lt 0 answered.standing.flight.lost && nat_lt (timeout_now link answered.standing) end
+    then with_timeout link (timeout_now link answered.standing) answered
+    else answered
+
+abbrev pub answered_by : FlowLink → ℕ → Answered → Option Arrival → (Answered → Answered) → Answered
+answered_by link end answered None then_ = timed_out link end answered
+answered_by link end answered (Some arrival) then_ =
+    if nat_lt arrival.at end then then_ (with_arrival link arrival answered) else answered
+
+-- the acknowledgements before a time, at most so many
+abbrev pub answered_all : FlowLink → ℕ → ℕ → Answered → Answered
+answered_all link end zero answered = answered
+answered_all link end (suc left) answered =
+    answered_by link end answered (slice_get answered.standing.flight.arrivals 0) (answered_all link end left)
+
+-- ---- all flows
+
+-- what is under way of each flow after these packets and acknowledgements
+abbrev pub FlowsFollow : SharedCase → List FlowTraffic → List Sent → (ℕ → List Given) → Type 0
+FlowsFollow case flows sent givens =
+    (flow : ℕ) (other : FlowTraffic) → flow < length flows
+    → flow_in (get_or flows flow other)
+    ≡ flow_standing case.trace (flow_at case flow) (own_packets flow sent) (givens flow)
+
+-- the sending of a round after these packets and acknowledgements
+pub record Follows (case : SharedCase) (flows : List FlowTraffic) (sending : Sending) (sent : List Sent) (givens : ℕ → List Given) : Type 0 where
+  pub settled : Settled case sending.now sent givens
+  pub chance : number_of case.trace sending.next ≡ chances_past (every_packet sent)
+  pub traffic : FlowsFollow case flows sent givens
+
+-- what holds of a flow's traffic after so many rounds
+pub record IsFlowReady (link : FlowLink) (rounds : ℕ) (flow : FlowTraffic) : Type 0 where
+  pub kept : IsFlowKept link flow
+  pub sent : flow.sent ≤ most_flight * rounds + flow.in_flight
+  pub acks : flow.acks.items ≡ []
+
+pub record AreReady (case : SharedCase) (rounds : ℕ) (flows : List FlowTraffic) : Type 0 where
+  pub count : length flows ≡ length case.flows
+  pub each : (flow : ℕ) (other : FlowTraffic) → flow < length flows
+      → IsFlowReady (flow_at case flow) rounds (get_or flows flow other)
+
+-- there is room for each of the first flows' acknowledgements, so many flows
+abbrev pub HaveRoom : List Ask → ℕ → List FlowTraffic → Type 0
+HaveRoom asks first flows =
+    (flow : ℕ) (other : FlowTraffic) → flow < first
+    → min (ask_at asks flow).left most_flight ≤ vec_capacity (get_or flows flow other).acks
+
+-- some turns of a round's sending were made: the packets sent so far, after which so many turns more come to all
+pub record Turned (case : SharedCase) (asks : List Ask) (flows : List FlowTraffic) (sending : Sending) (left : ℕ) (sent : List Sent) (givens : ℕ → List Given) : Type 0 where
+  pub so_far : List Sent
+  pub follows : Follows case flows sending so_far givens
+  pub rest : turns_of case sending.now (allowed case asks) givens left so_far
+      ≡ turns_of case sending.now (allowed case asks) givens most_flight sent
+
+-- the acknowledgements of a flow before a time
+abbrev pub answers_of : SharedCase → List Ask → ℕ → List Sent → (ℕ → List Given) → ℕ → List Given
+answers_of case asks end sent givens flow =
+    answers case.trace (flow_at case flow) end (own_packets flow sent) (ask_at asks flow).left (givens flow)
+
+-- the first flows, so many, were answered
+pub record AnsweredTo (case : SharedCase) (asks : List Ask) (end : ℕ) (flows : List FlowTraffic) (answers : List (List Ack)) (first : ℕ) (sent : List Sent) (givens : ℕ → List Given) : Type 0 where
+  pub acks : answers ≡ each_flow first (λ flow. acks_in (answers_of case asks end sent givens flow))
+  pub done : (flow : ℕ) (other : FlowTraffic) → flow < first
+      → flow_in (get_or flows flow other)
+      ≡ flow_standing case.trace (flow_at case flow) (own_packets flow sent)
+      (with_givens (answers_of case asks end sent givens flow) (givens flow))
+  pub ahead : (flow : ℕ) (other : FlowTraffic) → first ≤ flow → flow < length flows
+      → flow_in (get_or flows flow other)
+      ≡ flow_standing case.trace (flow_at case flow) (own_packets flow sent) (givens flow)
+
+-- what holds of a link
+pub record IsLinkKept (case : SharedCase) (rounds : ℕ) (next : Chance) (flows : List FlowTraffic) : Type 0 where
+  pub within : IsWithin case
+  pub valid : IsTrace case.trace
+  pub few : rounds ≤ most_rounds
+  pub ready : AreReady case rounds flows
+  pub place : next.place < length case.trace
+  pub late : chance_time case.trace (number_of case.trace next) ≤ rounds * case.quantum_us + span

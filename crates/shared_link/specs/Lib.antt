@@ -1,0 +1,6 @@
+pub mod Kept
+pub mod Reached
+pub mod SharedLaws
+pub mod SharedLimits
+pub mod SharedRounds
+pub mod SharedStanding

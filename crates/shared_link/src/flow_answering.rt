@@ -1,0 +1,150 @@
+ghost use Rattle.std.specs.Prelude.{◌≡◌, ℕ, ◌+◌, ◌-◌, ◌*◌, ◌^◌, ◌<◌, ◌≤◌, min, suc, [], ◌∷◌, ◌++◌, length, slice_get, Some, None, vec_capacity, IfOk, OnOk, IsTrue, IsFalse};
+ghost use Rattle.ccp_base.specs.Limits.{most_flight, most_rounds, most_quantum_us};
+ghost use Rattle.shared_link.specs.SharedLimits.{IsFlowWithin};
+ghost use Rattle.shared_link.specs.Kept.{flow_in, answered_in, IsFlowKept, with_arrival, timed_out, answered_all};
+
+use crate::flow_sending::PACKETS;
+use crate::flow_traffic::FlowTraffic;
+use crate::shared_case::FlowLink;
+use ccp_base::{Acks, NoMemory, Sequence};
+use link_model::{Arrival, arrival_ack, timeout_ack};
+use std::alloc::Global;
+
+impl FlowTraffic {
+    /// Keeps room for the acknowledgements of a round, at most so many.
+    pub(crate) fn make_room(
+        &mut self,
+        alloc: Global,
+        link: &FlowLink,
+        left: u32,
+    ) -> Result<(), NoMemory>
+        requires kept { IsFlowKept link.now self.old }
+        requires acks { self.old.acks.items ≡ [] }
+        ensures kept { IsFlowKept link.now self.new }
+        ensures standing { flow_in self.new ≡ flow_in self.old }
+        ensures in_flight { self.new.in_flight ≡ self.old.in_flight }
+        ensures sent { self.new.sent ≡ self.old.sent }
+        ensures acks { self.new.acks.items ≡ [] }
+        ensures room { OnOk result (min left most_flight ≤ vec_capacity self.new.acks) }
+    {
+        let _ = link;
+        self.acks = Vec::with_capacity(alloc, (left as usize).min(PACKETS))?;
+        Ok(())
+    }
+
+    /// The acknowledgements of the round, which leaves none.
+    pub(crate) fn take_acks(&mut self, alloc: Global, link: &FlowLink) -> Acks
+        requires kept { IsFlowKept link.now self.old }
+        ensures kept { IsFlowKept link.now self.new }
+        ensures standing { flow_in self.new ≡ flow_in self.old }
+        ensures in_flight { self.new.in_flight ≡ self.old.in_flight }
+        ensures sent { self.new.sent ≡ self.old.sent }
+        ensures acks { self.new.acks.items ≡ [] }
+        ensures taken { result ≡ self.old.acks.items }
+    {
+        let _ = link;
+        Sequence::from_vec(std::mem::replace(&mut self.acks, Vec::new(alloc)))
+    }
+
+    /// Acknowledges what arrives before a time, at most so many packets; then, where one acknowledgement is left, times
+    /// out before that time where every packet in flight is lost.
+    pub(crate) fn answer(&mut self, link: &FlowLink, end: u64, left: u32)
+        requires link { IsFlowWithin link.now }
+        requires kept { IsFlowKept link.now self.old }
+        requires end { end ≤ most_rounds * most_quantum_us }
+        requires sent { self.old.sent ≤ 2 ^ 28 }
+        requires room { length self.old.acks.items + min left self.old.in_flight ≤ vec_capacity self.old.acks }
+        ensures kept { IsFlowKept link.now self.new }
+        ensures answered { answered_in self.new ≡ answered_all link.now end left (answered_in self.old) }
+        ensures sent { self.new.sent ≡ self.old.sent }
+    {
+        let mut left = left;
+        while left > 0 {
+            if !self.answer_one(link, end, left) {
+                return;
+            }
+            left -= 1;
+        }
+    }
+
+    /// Gives the next acknowledgement before a time, where so many are left. Answers whether a packet arrived; else
+    /// there are no more.
+    fn answer_one(&mut self, link: &FlowLink, end: u64, left: u32) -> bool
+        requires link { IsFlowWithin link.now }
+        requires kept { IsFlowKept link.now self.old }
+        requires end { end ≤ most_rounds * most_quantum_us }
+        requires sent { self.old.sent ≤ 2 ^ 28 }
+        requires some { 0 < left }
+        requires room { length self.old.acks.items + min left self.old.in_flight ≤ vec_capacity self.old.acks }
+        ensures kept { IsFlowKept link.now self.new }
+        ensures on { IsTrue result → (n : ℕ) → answered_all link.now end n (answered_in self.new)
+            ≡ answered_all link.now end (suc n) (answered_in self.old) }
+        ensures over { IsFalse result → (n : ℕ) → answered_in self.new
+            ≡ answered_all link.now end (suc n) (answered_in self.old) }
+        ensures sent { self.new.sent ≡ self.old.sent }
+        ensures room { IsTrue result → length self.new.acks.items + min (left - 1) self.new.in_flight
+            ≤ vec_capacity self.new.acks }
+    {
+        let Some(arrival) = self.flight.front().copied() else {
+            self.time_out(link, end);
+            return false;
+        };
+        if arrival.at >= end {
+            return false;
+        }
+        self.acknowledge(link, arrival);
+        true
+    }
+
+    /// Acknowledges the first packet in flight that isn't lost.
+    fn acknowledge(&mut self, link: &FlowLink, arrival: Arrival)
+        requires link { IsFlowWithin link.now }
+        requires kept { IsFlowKept link.now self.old }
+        requires first { slice_get self.old.flight.items 0 ≡ Some arrival }
+        requires sent { self.old.sent ≤ 2 ^ 28 }
+        requires room { length self.old.acks.items < vec_capacity self.old.acks }
+        ensures kept { IsFlowKept link.now self.new }
+        ensures answered { answered_in self.new ≡ with_arrival link.now arrival (answered_in self.old) }
+        ensures in_flight { self.new.in_flight < self.old.in_flight }
+        ensures sent { self.new.sent ≡ self.old.sent }
+        ensures room { vec_capacity self.new.acks ≡ vec_capacity self.old.acks }
+    {
+        let _ = self.flight.pop_front();
+        self.in_flight -= arrival.lost + 1;
+        self.acked += 1;
+        self.gone += arrival.lost;
+        self.time = arrival.at;
+        self.sample = arrival.at - arrival.sent_at;
+        let ack = arrival_ack(link.mss, arrival, self.in_flight, self.acked, self.sent);
+        self.acks.push_reserved(ack);
+    }
+
+    /// Times out before a time, where there are packets in flight and all are lost.
+    fn time_out(&mut self, link: &FlowLink, end: u64)
+        requires link { IsFlowWithin link.now }
+        requires kept { IsFlowKept link.now self.old }
+        requires none { self.old.flight.items ≡ [] }
+        requires end { end ≤ most_rounds * most_quantum_us }
+        requires sent { self.old.sent ≤ 2 ^ 28 }
+        requires room { 0 < self.old.in_flight → length self.old.acks.items < vec_capacity self.old.acks }
+        ensures kept { IsFlowKept link.now self.new }
+        ensures answered { answered_in self.new ≡ timed_out link.now end (answered_in self.old) }
+        ensures sent { self.new.sent ≡ self.old.sent }
+    {
+        if self.lost == 0 {
+            return;
+        }
+        let now = self.time.max(self.since) + link.timeout_us;
+        if now >= end {
+            return;
+        }
+        let lost = self.lost;
+        self.time = now;
+        self.lost = 0;
+        self.since = 0;
+        self.in_flight = 0;
+        self.gone += lost;
+        let ack = timeout_ack(link.mss, now, self.sample, lost, self.acked, self.sent);
+        self.acks.push_reserved(ack);
+    }
+}

@@ -1,0 +1,147 @@
+ghost use Rattle.std.specs.Prelude.{◌≡◌, ℕ, ◌+◌, ◌^◌, ◌<◌, ◌≤◌, [], ◌∷◌, ◌++◌, length, if◌then◌else◌, ◌==◌, IfOk};
+ghost use Rattle.ccp_base.specs.Limits.{most_flight, most_queue};
+ghost use Rattle.link_model.specs.Chances.{number_of};
+ghost use Rattle.link_model.specs.Link.{Lost, Served, chance_past, is_marked};
+ghost use Rattle.shared_link.specs.SharedLimits.{IsFlowWithin};
+ghost use Rattle.shared_link.specs.SharedStanding.{flow_standing};
+ghost use Rattle.shared_link.specs.Kept.{flow_in, IsFlowKept, with_one, fate_now, IsSending};
+
+use crate::flow_traffic::FlowTraffic;
+use crate::sending::Sending;
+use crate::shared_case::FlowLink;
+use circular_buffer::HeapCircularBuffer;
+use link_model::{Arrival, Trace, is_at, is_marked, next_loss};
+use std::alloc::{AllocError, Global};
+
+/// The most packets in flight.
+pub(crate) const PACKETS: usize = 4096;
+
+impl FlowTraffic {
+    /// Nothing was sent yet. The room for the packets in flight is reserved.
+    pub(crate) fn new(
+        alloc: Global,
+        link: &FlowLink,
+        trace: &Trace,
+    ) -> Result<FlowTraffic, AllocError>
+        ensures kept { IfOk result (λ t. IsFlowKept link.now t) }
+        ensures standing { IfOk result (λ t. flow_in t ≡ flow_standing trace.now link.now [] []) }
+        ensures sent { IfOk result (λ t. t.sent ≡ 0) }
+        ensures acks { IfOk result (λ t. t.acks.items ≡ []) }
+    {
+        let _ = link;
+        let _ = trace;
+        let flight = HeapCircularBuffer::with_capacity(alloc, PACKETS)?;
+        Ok(FlowTraffic {
+            time: 0,
+            sample: 0,
+            flight,
+            lost: 0,
+            since: 0,
+            in_flight: 0,
+            sent: 0,
+            acked: 0,
+            gone: 0,
+            passed: 0,
+            acks: Vec::new(alloc),
+        })
+    }
+
+    /// Sends one packet, where the queue holds so many.
+    pub(crate) fn send(&mut self, link: &FlowLink, trace: &Trace, room: u32, sending: &mut Sending)
+        requires link { IsFlowWithin link.now }
+        requires kept { IsFlowKept link.now self.old }
+        requires sending { IsSending trace.now sending.old }
+        requires queue { room ≤ most_queue }
+        requires room { self.old.in_flight < most_flight }
+        requires sent { self.old.sent < 2 ^ 28 }
+        ensures kept { IsFlowKept link.now self.new }
+        ensures standing { flow_in self.new ≡ with_one trace.now link.now.delay_us sending.old.now
+            (fate_now trace.now link.now room self.old.sent sending.old) (flow_in self.old) }
+        ensures in_flight { self.new.in_flight ≡ self.old.in_flight + 1 }
+        ensures sent { self.new.sent ≡ self.old.sent + 1 }
+        ensures acks { self.new.acks ≡ self.old.acks }
+        ensures sending { IsSending trace.now sending.new }
+        ensures rounds { sending.new.rounds ≡ sending.old.rounds }
+        ensures now { sending.new.now ≡ sending.old.now }
+        ensures chance { number_of trace.now sending.new.next
+            ≡ chance_past (fate_now trace.now link.now room self.old.sent sending.old) (number_of trace.now sending.old.next) }
+    {
+        let losses = link.losses.as_slice();
+        self.passed = next_loss(losses, self.passed, self.sent);
+        if is_at(losses, self.passed, self.sent) || sending.queue.waiting >= u128::from(room) {
+            self.lose(link, sending.now);
+            return;
+        }
+        self.serve(link, trace, sending);
+    }
+
+    /// Sends a packet that is lost.
+    fn lose(&mut self, link: &FlowLink, now: u64)
+        requires kept { IsFlowKept link.now self.old }
+        requires room { self.old.in_flight < most_flight }
+        requires sent { self.old.sent < 2 ^ 28 }
+        requires now { now ≤ 2 ^ 34 }
+        ensures kept { IsFlowKept link.now self.new }
+        ensures standing { flow_in self.new ≡ with_one [] 0 now Lost (flow_in self.old) }
+        ensures in_flight { self.new.in_flight ≡ self.old.in_flight + 1 }
+        ensures sent { self.new.sent ≡ self.old.sent + 1 }
+        ensures acks { self.new.acks ≡ self.old.acks }
+    {
+        let _ = link;
+        self.since = first_since(self.lost, self.since, now);
+        self.lost += 1;
+        self.in_flight += 1;
+        self.sent += 1;
+    }
+
+    /// Sends a packet that gets the queue's next chance.
+    fn serve(&mut self, link: &FlowLink, trace: &Trace, sending: &mut Sending)
+        requires link { IsFlowWithin link.now }
+        requires kept { IsFlowKept link.now self.old }
+        requires sending { IsSending trace.now sending.old }
+        requires waiting { sending.old.queue.waiting < most_queue }
+        requires room { self.old.in_flight < most_flight }
+        requires sent { self.old.sent < 2 ^ 28 }
+        ensures kept { IsFlowKept link.now self.new }
+        ensures standing { flow_in self.new ≡ with_one trace.now link.now.delay_us sending.old.now
+            (Served (number_of trace.now sending.old.queue.next) (is_marked link.now.mark sending.old.queue.waiting)) (flow_in self.old) }
+        ensures in_flight { self.new.in_flight ≡ self.old.in_flight + 1 }
+        ensures sent { self.new.sent ≡ self.old.sent + 1 }
+        ensures acks { self.new.acks ≡ self.old.acks }
+        ensures sending { IsSending trace.now sending.new }
+        ensures rounds { sending.new.rounds ≡ sending.old.rounds }
+        ensures now { sending.new.now ≡ sending.old.now }
+        ensures chance { number_of trace.now sending.new.next ≡ number_of trace.now sending.old.queue.next + 1 }
+    {
+        let own = trace.time_of(sending.queue.next);
+        let arrival = Arrival {
+            lost: self.lost,
+            sent_at: sending.now,
+            at: own + link.delay_us,
+            marked: is_marked(link.mark, sending.queue.waiting),
+        };
+        put(&mut self.flight, arrival);
+        self.lost = 0;
+        self.since = 0;
+        self.in_flight += 1;
+        self.sent += 1;
+        sending.serve(trace, own);
+    }
+}
+
+/// When the first lost packet was sent, where so many were there before one that is sent now.
+fn first_since(lost: u64, since: u64, now: u64) -> u64
+    ensures { result ≡ (if lost == 0 then now else since) }
+{
+    if lost == 0 { now } else { since }
+}
+
+/// Appends a packet to those in flight.
+fn put(flight: &mut HeapCircularBuffer<Arrival>, arrival: Arrival)
+    requires capacity { flight.old.capacity ≡ most_flight }
+    requires room { length flight.old.items < most_flight }
+    ensures items { flight.new.items ≡ flight.old.items ++ arrival ∷ [] }
+    ensures capacity { flight.new.capacity ≡ most_flight }
+{
+    let _ = flight.push_back(arrival);
+}

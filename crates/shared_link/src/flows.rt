@@ -1,0 +1,295 @@
+ghost use Rattle.std.specs.Prelude.{◌≡◌, ◌≢◌, ℕ, ◌+◌, ◌*◌, ◌<◌, ◌≤◌, min, List, [], length, map, get_or, vec_capacity, if◌then◌else◌, IfOk, OnOk, IsTrue};
+ghost use Rattle.ccp_base.specs.Limits.{most_flight, most_rounds, most_quantum_us};
+ghost use Rattle.link_model.specs.Traces.{IsTrace};
+ghost use Rattle.link_model.specs.Link.{Given};
+ghost use Rattle.shared_link.specs.SharedLimits.{IsWithin};
+ghost use Rattle.shared_link.specs.SharedRounds.{Sent, flow_at, ask_at, allowed, lacks, some_lacks, with_packet, turn_of, turns_of, counts_in};
+ghost use Rattle.shared_link.specs.Reached.{Settled};
+ghost use Rattle.shared_link.specs.Kept.{flow_in, answered_all, IsFlowReady, AnsweredTo, IsSending, FlowsFollow, Follows, AreReady, HaveRoom};
+
+use crate::flow_sending::PACKETS;
+use crate::flow_traffic::FlowTraffic;
+use crate::round::{Ask, Counts};
+use crate::sending::Sending;
+use crate::shared_case::{FlowLink, SharedCase};
+use ccp_base::{Acks, NoMemory};
+use link_model::allowance;
+use std::alloc::Global;
+
+/// What a flow has of its own.
+pub(crate) fn link_of(case: &SharedCase, flow: usize) -> &FlowLink
+    requires { flow < length case.now.flows }
+    ensures { result.now ≡ flow_at case.now flow }
+{
+    &case.flows.as_slice()[flow]
+}
+
+/// What a flow asks for.
+pub(crate) fn ask_of(asks: &[Ask], flow: usize) -> Ask
+    requires { flow < length asks.now }
+    ensures { result ≡ ask_at asks.now flow }
+{
+    asks[flow]
+}
+
+/// How many packets a flow may have in flight.
+fn allowed(case: &SharedCase, asks: &[Ask], flow: usize) -> u64
+    requires case { IsWithin case.now }
+    requires flow { flow < length case.now.flows }
+    requires asks { length asks.now ≡ length case.now.flows }
+    ensures value { result ≡ allowed case.now asks.now flow }
+    ensures within { result ≤ most_flight }
+{
+    let ask = ask_of(asks, flow);
+    if ask.left == 0 {
+        return 0;
+    }
+    allowance(link_of(case, flow).mss, ask.window)
+}
+
+/// What is under way of all flows, in order.
+#[derive(Drop)]
+pub(crate) struct Flows {
+    pub(crate) traffic: Vec<FlowTraffic>,
+}
+
+impl Flows {
+    /// Whether a flow has fewer packets in flight than it may have.
+    fn lacks(&self, case: &SharedCase, asks: &[Ask], sending: &Sending, flow: usize) -> bool
+        requires case { IsWithin case.now }
+        requires ready { AreReady case.now sending.now.rounds self.now.traffic.items }
+        requires asks { length asks.now ≡ length case.now.flows }
+        requires flow { flow < length self.now.traffic.items }
+        ensures few { IsTrue result
+            → (other : FlowTraffic) → (get_or self.now.traffic.items flow other).in_flight < most_flight }
+        ensures lacks { (sent : List Sent) (givens : ℕ → List Given) → FlowsFollow case.now self.now.traffic.items sent givens
+            → result ≡ lacks (allowed case.now asks.now) givens flow sent }
+    {
+        let _ = sending;
+        let may = allowed(case, asks, flow);
+        self.traffic[flow].in_flight < may
+    }
+
+    /// Whether some flow has fewer packets in flight than it may have.
+    fn some_lacks(&self, case: &SharedCase, asks: &[Ask], sending: &Sending) -> bool
+        requires case { IsWithin case.now }
+        requires ready { AreReady case.now sending.now.rounds self.now.traffic.items }
+        requires asks { length asks.now ≡ length case.now.flows }
+        ensures { (sent : List Sent) (givens : ℕ → List Given) → FlowsFollow case.now self.now.traffic.items sent givens
+            → result ≡ some_lacks (allowed case.now asks.now) givens (length case.now.flows) sent }
+    {
+        let mut found = false;
+        let mut flow = 0;
+        while flow < self.traffic.len() {
+            found = self.lacks(case, asks, sending, flow) || found;
+            flow += 1;
+        }
+        found
+    }
+
+    /// A flow sends a packet where it has fewer in flight than it may have.
+    fn send_one(&mut self, case: &SharedCase, asks: &[Ask], sending: &mut Sending, flow: usize)
+        requires case { IsWithin case.now }
+        requires ready { AreReady case.now sending.old.rounds self.old.traffic.items }
+        requires room { HaveRoom asks.now (length self.old.traffic.items) self.old.traffic.items }
+        requires asks { length asks.now ≡ length case.now.flows }
+        requires flow { flow < length self.old.traffic.items }
+        requires sending { IsSending case.now.trace sending.old }
+        ensures ready { AreReady case.now sending.new.rounds self.new.traffic.items }
+        ensures room { HaveRoom asks.now (length self.new.traffic.items) self.new.traffic.items }
+        ensures sending { IsSending case.now.trace sending.new }
+        ensures rounds { sending.new.rounds ≡ sending.old.rounds }
+        ensures now { sending.new.now ≡ sending.old.now }
+        ensures follows { (sent : List Sent) (givens : ℕ → List Given) → Follows case.now self.old.traffic.items sending.old sent givens
+            → Follows case.now self.new.traffic.items sending.new (if lacks (allowed case.now asks.now) givens flow sent
+            then with_packet case.now sending.old.now flow sent else sent) givens }
+    {
+        if !self.lacks(case, asks, sending, flow) {
+            return;
+        }
+        self.traffic[flow].send(link_of(case, flow), &case.trace, case.queue, sending);
+    }
+
+    /// Each flow in turn sends a packet where it has fewer in flight than it may have.
+    fn send_turn(&mut self, case: &SharedCase, asks: &[Ask], sending: &mut Sending)
+        requires case { IsWithin case.now }
+        requires ready { AreReady case.now sending.old.rounds self.old.traffic.items }
+        requires room { HaveRoom asks.now (length self.old.traffic.items) self.old.traffic.items }
+        requires asks { length asks.now ≡ length case.now.flows }
+        requires sending { IsSending case.now.trace sending.old }
+        ensures ready { AreReady case.now sending.new.rounds self.new.traffic.items }
+        ensures room { HaveRoom asks.now (length self.new.traffic.items) self.new.traffic.items }
+        ensures sending { IsSending case.now.trace sending.new }
+        ensures rounds { sending.new.rounds ≡ sending.old.rounds }
+        ensures now { sending.new.now ≡ sending.old.now }
+        ensures follows { (sent : List Sent) (givens : ℕ → List Given) → Follows case.now self.old.traffic.items sending.old sent givens
+            → Follows case.now self.new.traffic.items sending.new
+            (turn_of case.now sending.old.now (allowed case.now asks.now) givens (length case.now.flows) sent) givens }
+    {
+        let mut flow = 0;
+        while flow < self.traffic.len() {
+            self.send_one(case, asks, sending, flow);
+            flow += 1;
+        }
+    }
+
+    /// The flows send in turn until none has fewer packets in flight than it may have.
+    pub(crate) fn send_all(&mut self, case: &SharedCase, asks: &[Ask], sending: &mut Sending)
+        requires case { IsWithin case.now }
+        requires ready { AreReady case.now sending.old.rounds self.old.traffic.items }
+        requires room { HaveRoom asks.now (length self.old.traffic.items) self.old.traffic.items }
+        requires asks { length asks.now ≡ length case.now.flows }
+        requires sending { IsSending case.now.trace sending.old }
+        ensures ready { AreReady case.now sending.new.rounds self.new.traffic.items }
+        ensures room { HaveRoom asks.now (length self.new.traffic.items) self.new.traffic.items }
+        ensures sending { IsSending case.now.trace sending.new }
+        ensures rounds { sending.new.rounds ≡ sending.old.rounds }
+        ensures now { sending.new.now ≡ sending.old.now }
+        ensures follows { (sent : List Sent) (givens : ℕ → List Given) → Follows case.now self.old.traffic.items sending.old sent givens
+            → Follows case.now self.new.traffic.items sending.new
+            (turns_of case.now sending.old.now (allowed case.now asks.now) givens most_flight sent) givens }
+    {
+        let mut left = PACKETS;
+        while left > 0 {
+            if !self.some_lacks(case, asks, sending) {
+                return;
+            }
+            self.send_turn(case, asks, sending);
+            left -= 1;
+        }
+    }
+
+    /// Nothing was sent yet.
+    pub(crate) fn new(alloc: Global, case: &SharedCase) -> Result<Flows, NoMemory>
+        ensures ready { IfOk result (λ flows. AreReady case.now 0 flows.traffic.items) }
+        ensures follows { IfOk result (λ flows. FlowsFollow case.now flows.traffic.items [] (λ flow. [])) }
+    {
+        let mut traffic = Vec::new(alloc);
+        let mut flow = 0;
+        while flow < case.flows.len() {
+            traffic.push(FlowTraffic::new(alloc, link_of(case, flow), &case.trace)?)?;
+            flow += 1;
+        }
+        Ok(Flows { traffic })
+    }
+
+    /// Keeps room for each flow's acknowledgements of a round.
+    pub(crate) fn make_rooms(
+        &mut self,
+        alloc: Global,
+        case: &SharedCase,
+        asks: &[Ask],
+        rounds: u32,
+    ) -> Result<(), NoMemory>
+        requires ready { AreReady case.now rounds self.old.traffic.items }
+        requires asks { length asks.now ≡ length case.now.flows }
+        ensures ready { AreReady case.now rounds self.new.traffic.items }
+        ensures room { OnOk result (HaveRoom asks.now (length self.new.traffic.items) self.new.traffic.items) }
+        ensures same { map flow_in self.new.traffic.items ≡ map flow_in self.old.traffic.items }
+    {
+        let _ = rounds;
+        let mut flow = 0;
+        while flow < self.traffic.len() {
+            self.traffic[flow].make_room(alloc, link_of(case, flow), ask_of(asks, flow).left)?;
+            flow += 1;
+        }
+        Ok(())
+    }
+
+    /// The acknowledgements of a flow before a time.
+    fn answer_one(
+        &mut self,
+        alloc: Global,
+        case: &SharedCase,
+        asks: &[Ask],
+        rounds: u32,
+        end: u64,
+        flow: usize,
+    ) -> Acks
+        requires case { IsWithin case.now }
+        requires asks { length asks.now ≡ length case.now.flows }
+        requires count { length self.old.traffic.items ≡ length case.now.flows }
+        requires flow { flow < length self.old.traffic.items }
+        requires end { end ≤ most_rounds * most_quantum_us }
+        requires rounds { rounds < most_rounds }
+        requires ready { (other : FlowTraffic) → IsFlowReady (flow_at case.now flow) rounds (get_or self.old.traffic.items flow other) }
+        requires room { (other : FlowTraffic) → min (ask_at asks.now flow).left most_flight
+            ≤ vec_capacity (get_or self.old.traffic.items flow other).acks }
+        ensures ready { (other : FlowTraffic) → IsFlowReady (flow_at case.now flow) (rounds + 1) (get_or self.new.traffic.items flow other) }
+        ensures count { length self.new.traffic.items ≡ length self.old.traffic.items }
+        ensures others { (at : ℕ) (other : FlowTraffic) → at ≢ flow → get_or self.new.traffic.items at other ≡ get_or self.old.traffic.items at other }
+        ensures answered { (other : FlowTraffic) → record { acks = result; standing = flow_in (get_or self.new.traffic.items flow other) }
+            ≡ answered_all (flow_at case.now flow) end (ask_at asks.now flow).left
+            (record { acks = []; standing = flow_in (get_or self.old.traffic.items flow other) }) }
+    {
+        let _ = rounds;
+        let link = link_of(case, flow);
+        let left = ask_of(asks, flow).left;
+        let traffic = &mut self.traffic[flow];
+        traffic.answer(link, end, left);
+        traffic.take_acks(alloc, link)
+    }
+
+    /// Each flow's acknowledgements before a time, in order.
+    pub(crate) fn answer_all(
+        &mut self,
+        alloc: Global,
+        case: &SharedCase,
+        asks: &[Ask],
+        rounds: u32,
+        end: u64,
+        answers: &mut Vec<Acks>,
+    )
+        requires valid { IsTrace case.now.trace }
+        requires case { IsWithin case.now }
+        requires asks { length asks.now ≡ length case.now.flows }
+        requires ready { AreReady case.now rounds self.old.traffic.items }
+        requires room { HaveRoom asks.now (length self.old.traffic.items) self.old.traffic.items }
+        requires end { end ≤ most_rounds * most_quantum_us }
+        requires rounds { rounds < most_rounds }
+        requires none { answers.old.items ≡ [] }
+        requires space { length asks.now ≤ vec_capacity answers.old }
+        ensures ready { AreReady case.now (rounds + 1) self.new.traffic.items }
+        ensures answered { (now : ℕ) (sent : List Sent) (givens : ℕ → List Given) → Settled case.now now sent givens
+            → FlowsFollow case.now self.old.traffic.items sent givens
+            → AnsweredTo case.now asks.now end self.new.traffic.items answers.new.items (length self.new.traffic.items) sent givens }
+    {
+        let mut flow = 0;
+        while flow < self.traffic.len() {
+            let acks = self.answer_one(alloc, case, asks, rounds, end, flow);
+            answers.push_reserved(acks);
+            flow += 1;
+        }
+    }
+
+    /// The packets of all flows after so many rounds.
+    pub(crate) fn counts(&self, case: &SharedCase, rounds: u32) -> Counts
+        requires case { IsWithin case.now }
+        requires ready { AreReady case.now rounds self.now.traffic.items }
+        requires rounds { rounds ≤ most_rounds }
+        ensures { (sent : List Sent) (givens : ℕ → List Given) → FlowsFollow case.now self.now.traffic.items sent givens
+            → result ≡ counts_in case.now (record { sent = sent; givens = givens; rounds = rounds }) }
+    {
+        let _ = case;
+        let mut sent = 0;
+        let mut acked = 0;
+        let mut lost = 0;
+        let mut inflight = 0;
+        let mut flow = 0;
+        while flow < self.traffic.len() {
+            let traffic = &self.traffic[flow];
+            sent += traffic.sent;
+            acked += traffic.acked;
+            lost += traffic.gone;
+            inflight += traffic.in_flight;
+            flow += 1;
+        }
+        Counts {
+            rounds: u64::from(rounds),
+            sent,
+            acked,
+            lost,
+            inflight,
+        }
+    }
+}

@@ -1,0 +1,60 @@
+ghost use Rattle.std.specs.Prelude.{◌≡◌, ◌+◌, ◌*◌, ◌<◌, ◌≤◌, length};
+ghost use Rattle.ccp_base.specs.Limits.{most_queue, most_rounds, most_quantum_us};
+ghost use Rattle.link_model.specs.Traces.{IsTrace};
+ghost use Rattle.link_model.specs.Chances.{number_of, chance_time};
+ghost use Rattle.shared_link.specs.Kept.{span, IsSending};
+
+use link_model::{Chance, Queue, Trace};
+
+/// The sending of a round.
+#[derive(Clone, Copy, PartialEq, Eq, Debug)]
+pub(crate) struct Sending {
+    /// How many rounds there were before.
+    pub(crate) rounds: u32,
+    /// The round's time, in microseconds.
+    pub(crate) now: u64,
+    /// The chance after the last one that a packet got.
+    pub(crate) next: Chance,
+    /// The queue at the round's time.
+    pub(crate) queue: Queue,
+}
+
+impl Sending {
+    /// The sending at a time, after the chances that were given. A chance is looked for at the place `near` first.
+    pub(crate) fn at(trace: &Trace, rounds: u32, now: u64, next: Chance, near: usize) -> Sending
+        requires valid { IsTrace trace.now }
+        requires rounds { rounds < most_rounds }
+        requires now { now ≤ most_rounds * most_quantum_us }
+        requires place { next.place < length trace.now }
+        requires late { chance_time trace.now (number_of trace.now next) ≤ now + span }
+        ensures sending { IsSending trace.now result }
+        ensures rounds { result.rounds ≡ rounds }
+        ensures now { result.now ≡ now }
+        ensures next { result.next ≡ next }
+    {
+        let queue = trace.queue(next, now, near);
+        Sending {
+            rounds,
+            now,
+            next,
+            queue,
+        }
+    }
+
+    /// Gives the queue's next chance away, which comes at this time.
+    pub(crate) fn serve(&mut self, trace: &Trace, own: u64)
+        requires sending { IsSending trace.now self.old }
+        requires waiting { self.old.queue.waiting < most_queue }
+        requires own { own ≡ chance_time trace.now (number_of trace.now self.old.queue.next) }
+        ensures sending { IsSending trace.now self.new }
+        ensures rounds { self.new.rounds ≡ self.old.rounds }
+        ensures now { self.new.now ≡ self.old.now }
+        ensures chance { number_of trace.now self.new.next ≡ number_of trace.now self.old.queue.next + 1 }
+    {
+        self.next = trace.after(self.queue.next);
+        self.queue.next = self.next;
+        if own > self.now {
+            self.queue.waiting += 1;
+        }
+    }
+}

@@ -1,0 +1,99 @@
+ghost use Rattle.std.specs.Prelude.{◌≡◌, ℕ, ◌+◌, ◌<◌, List, [], ◌∷◌, ◌++◌, length, IfOk, OnOk, OnErr};
+ghost use Rattle.ccp_base.specs.Limits.{most_rounds};
+ghost use Rattle.shared_link.specs.declared.round.Ask.{Ask};
+ghost use Rattle.shared_link.specs.SharedLimits.{IsWithin};
+ghost use Rattle.shared_link.specs.SharedRounds.{acks_after, counts_of};
+ghost use Rattle.shared_link.specs.SharedStanding.{Stands};
+
+use crate::flows::Flows;
+use crate::round::{Ask, Counts};
+use crate::sending::Sending;
+use crate::shared_case::SharedCase;
+use ccp_base::{Acks, NoMemory, Sequence};
+use link_model::Chance;
+use std::alloc::Global;
+use std::marker::Model;
+
+/// Acknowledgements of flows, in the order of the flows.
+pub type AckLists = Sequence<Acks>;
+
+/// A link that several flows share. It keeps no list of the rounds that it was given; contracts say for which lists it
+/// stands.
+#[derive(Drop)]
+pub struct SharedLink {
+    case: SharedCase,
+    flows: Flows,
+    /// The chance after the last one that a packet got.
+    next: Chance,
+    rounds: u32,
+    /// The place in the trace of the last chance that was searched.
+    near: usize,
+}
+
+impl Model for SharedLink {
+    ghost use Rattle.std.specs.Prelude.{map};
+    ghost use Rattle.link_model.specs.Chances.{number_of};
+    ghost use Rattle.shared_link.specs.SharedStanding.{SharedState};
+    ghost use Rattle.shared_link.specs.Kept.{flow_in, IsLinkKept};
+
+    ghost Value = { SharedState };
+
+    ghost view = { λ l. record { case = l.case; rounds = l.rounds; chance = number_of l.case.trace l.next; flows = map flow_in l.flows.traffic.items } };
+
+    ghost invariant = { λ l. IsLinkKept l.case l.rounds l.next l.flows.traffic.items };
+}
+
+impl SharedLink {
+    /// A link without any round yet. The room for the packets in flight is reserved here.
+    pub fn new(alloc: Global, case: SharedCase) -> Result<SharedLink, NoMemory>
+        requires { IsWithin case }
+        ensures case { IfOk result (λ link. link.case ≡ case) }
+        ensures stands { IfOk result (λ link. Stands link []) }
+        ensures rounds { IfOk result (λ link. link.rounds ≡ 0) }
+    {
+        let flows = Flows::new(alloc, &case)?;
+        let near = case.trace.as_slice().len() - 1;
+        Ok(SharedLink {
+            case,
+            flows,
+            next: Chance { turn: 0, place: 0 },
+            rounds: 0,
+            near,
+        })
+    }
+
+    /// One more round, where each flow asks for something, in order: the flows send in turn, then what arrives within
+    /// the round is acknowledged, then flows time out. Answers each flow's acknowledgements, in order. There are at
+    /// most 10,000 rounds. Where memory is short nothing changes.
+    pub fn round(&mut self, alloc: Global, asks: &[Ask]) -> Result<AckLists, NoMemory>
+        requires asks { length asks.now ≡ length self.old.case.flows }
+        requires rounds { self.old.rounds < most_rounds }
+        ensures acks { IfOk result (λ acks. (rounds : List (List Ask)) → Stands self.old rounds
+            → acks ≡ acks_after self.old.case rounds asks.now) }
+        ensures stands { OnOk result ((rounds : List (List Ask)) → Stands self.old rounds
+            → Stands self.new (rounds ++ asks.now ∷ [])) }
+        ensures case { self.new.case ≡ self.old.case }
+        ensures rounds { OnOk result (self.new.rounds ≡ self.old.rounds + 1) }
+        ensures unchanged { OnErr result (self.new ≡ self.old) }
+    {
+        let mut answers = Vec::with_capacity(alloc, asks.len())?;
+        self.flows.make_rooms(alloc, &self.case, asks, self.rounds)?;
+        let now = u64::from(self.rounds) * self.case.quantum_us;
+        let mut sending = Sending::at(&self.case.trace, self.rounds, now, self.next, self.near);
+        self.flows.send_all(&self.case, asks, &mut sending);
+        let end = now + self.case.quantum_us;
+        self.flows
+            .answer_all(alloc, &self.case, asks, self.rounds, end, &mut answers);
+        self.next = sending.next;
+        self.near = sending.queue.near;
+        self.rounds += 1;
+        Ok(Sequence::from_vec(answers))
+    }
+
+    /// How many packets of all flows were sent, were acknowledged, left as lost and are in flight.
+    pub fn counts(&self) -> Counts
+        ensures { (rounds : List (List Ask)) → Stands self.now rounds → result ≡ counts_of self.now.case rounds }
+    {
+        self.flows.counts(&self.case, self.rounds)
+    }
+}
