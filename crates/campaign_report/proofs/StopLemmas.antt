@@ -118,11 +118,11 @@ module _ (case : Case) (ss ca : Form) (link : LinkCase) where
       after-append (by_source form) w.present.events (acknowledged ack room ∷ []) (track_at w.present.at w.present.first) in
       record {
         stopped = ap (λ (t : Track). t.is_stopped) last
-        ∙ stops-met program (length w.past) track.count form track.is_stopped track.env ack room
-        ∙ ap (λ (b : Bool). b || fails_in (length w.past) failures) so_far.stopped
-        ∙ sym (fails_in-append (length w.past) w.faults failures);
+            ∙ stops-met program (length w.past) track.count form track.is_stopped track.env ack room
+            ∙ ap (λ (b : Bool). b || fails_in (length w.past) failures) so_far.stopped
+            ∙ sym (fails_in-append (length w.past) w.faults failures);
         few = AreUpTo-append (length w.past) w.faults failures so_far.few
-        (few-met program (length w.past) track.count form track.is_stopped track.env ack room);
+            (few-met program (length w.past) track.count form track.is_stopped track.env ack room);
       }
 
   -- ---- a taking

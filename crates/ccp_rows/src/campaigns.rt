@@ -1,87 +1,13 @@
-use ccp_base::{Bytes, MemSink, MemSource, OpenGate};
-use ccp_run::run;
-use std::alloc::Global;
-use std::process::Abort;
-use std::sync::Wait;
+use crate::came::{NO_CASES, ONE_CASE, WHOLE, Ways, comes_to};
 use std::test::Fail;
-use std::thread::Threads;
 
-/// A scenario of one flow of Reno's with four acknowledgements.
-const ONE_CASE: &[u8] =
-    b"{\"version\":1,\"traces\":{\"t\":\"10\\n\"},\"cases\":[{\"name\":\"a\",\"agent\":\"reno\",\"trace\":\"t\",\"mss\":1448,\"queue\":10,\"delay_us\":20000,\"timeout_us\":1000000,\"acks\":4}]}";
-
-/// Its table.
+/// The table of one flow.
 const ONE_ROW: &[u8] =
     b"case agent acks reports held faults epochs lost timeouts acked peak cwnd now tail\na reno 4 1 0 0 1 0 0 5792 10136 10136 60000 0\ntotal cases=1 acks=4 reports=1 held=0 faults=0 lost=0 timeouts=0 acked=5792\n";
 
-/// A scenario without cases.
-const NO_CASES: &[u8] = b"{\"version\":1,\"traces\":{},\"cases\":[]}";
-
-/// Its table.
+/// The table without cases.
 const NO_ROWS: &[u8] =
     b"case agent acks reports held faults epochs lost timeouts acked peak cwnd now tail\ntotal cases=0 acks=0 reports=0 held=0 faults=0 lost=0 timeouts=0 acked=0\n";
-
-/// A run on words: which call of the source and of the sink fails, if one does, and how many bytes a call takes.
-#[derive(Clone, Copy)]
-struct Ways<'a> {
-    read: &'a [u64],
-    write: &'a [u64],
-    most: usize,
-}
-
-/// Calls that take what they are given, of which none fails.
-const WHOLE: Ways<'static> = Ways {
-    read: &[],
-    write: &[],
-    most: 4096,
-};
-
-/// What a run came to: its status, what was written, and the error line.
-#[derive(Debug, Drop)]
-struct Came {
-    status: u8,
-    output: Bytes,
-    errors: Bytes,
-}
-
-fn copied(alloc: Global, bytes: &[u8]) -> Result<Bytes, Fail> {
-    let mut copy = Bytes::new(alloc);
-    copy.extend(bytes)?;
-    Ok(copy)
-}
-
-/// What a run on these words comes to.
-fn comes_to<R: Threads + Wait + Sync>(
-    rt: &R,
-    abort: &impl Abort,
-    alloc: Global,
-    given: &[&str],
-    input: &[u8],
-    ways: Ways<'_>,
-) -> Result<Came, Fail> {
-    assert!(abort; ways.most > 0);
-    let mut words = Vec::new(alloc);
-    for word in given {
-        words.push(String::from_str(alloc, word)?)?;
-    }
-    let mut source = MemSource::new(input, ways.most, ways.read);
-    let mut sink = MemSink::new(alloc, ways.most, ways.write);
-    let mut errors = MemSink::new(alloc, 4096, &[]);
-    let outcome = run(
-        rt,
-        alloc,
-        words,
-        &mut source,
-        &mut sink,
-        &mut errors,
-        &OpenGate,
-    );
-    Ok(Came {
-        status: outcome.status,
-        output: copied(alloc, sink.as_slice())?,
-        errors: copied(alloc, errors.as_slice())?,
-    })
-}
 
 #[test]
 fn a_campaign_is_a_table(rt: HostRuntime) -> Result<(), Fail> {

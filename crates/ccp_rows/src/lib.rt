@@ -2,6 +2,8 @@
 #![tactic(auto)]
 
 #[cfg(test)]
+mod came;
+#[cfg(test)]
 mod campaigns;
 #[cfg(test)]
 mod checked_programs;
@@ -9,6 +11,8 @@ mod checked_programs;
 mod feeds;
 #[cfg(test)]
 mod limits;
+#[cfg(test)]
+mod lives;
 #[cfg(test)]
 mod refused_programs;
 #[cfg(test)]

@@ -1,5 +1,5 @@
 -- The codes of a scenario's cases simulate the programs of their numbers.
-use Rattle.std.proofs.Common.{◌≡◌, ◌∙◌, ℕ, zero, suc, ◌+◌, ◌==◌, Bool, true, false, if◌then◌else◌, Option, Some, None, option_map, List, [], ◌∷◌, slice_get, ap, sym, subst, refl, arith}
+use Rattle.std.proofs.Common.{◌≡◌, ◌∙◌, ℕ, zero, suc, ◌+◌, ◌==◌, true, false, if◌then◌else◌, Option, Some, None, option_map, List, [], ◌∷◌, slice_get, ap, sym, subst, refl, arith}
 use Rattle.std.proofs.lemmas.Bool.{eq-eqb, ne_eqb}
 use Rattle.ccp_base.specs.declared.place.Place.{Place}
 use Rattle.portus_core.specs.Programs.{Form}
@@ -13,10 +13,10 @@ use Rattle.campaign_report.specs.BookText.{places_of}
 use Rattle.scenario_json.specs.Cases.{coded_of, coded_at, AreNumberedFrom}
 use Rattle.scenario_json.specs.ScenePrograms.{forms_of}
 
-one_some : {A : Type 0} (left right : A) → Some left ≡ Some right → left ≡ right
+pub one_some : {A : Type 0} (left right : A) → Some left ≡ Some right → left ≡ right
 one_some left right e = cc
 
-no_some : {A : Type 0} (right : A) → None ≡ Some right → ⊥
+pub no_some : {A : Type 0} (right : A) → None ≡ Some right → ⊥
 no_some right e = cc
 
 at_once : (k : ℕ) → k + 0 ≡ k
@@ -28,7 +28,7 @@ later k i e = omega (arith, e)
 shifted : (k i : ℕ) → k + suc i ≡ (k + 1) + i
 shifted k i = omega arith
 
-at_zero : (i : ℕ) → 0 + i ≡ i
+pub at_zero : (i : ℕ) → 0 + i ≡ i
 at_zero i = omega arith
 
 -- the program of this number is this one
@@ -52,9 +52,9 @@ found k (first ∷ rest) numbered (suc i) one is =
     let next = found (k + 1) rest numbered.1 i one is in
     record {
       source = ap (λ b. if b then form_of first.1.program else source_at (forms_of rest) (k + suc i)) past
-      ∙ ap (λ n. source_at (forms_of rest) n) (shifted k i) ∙ next.source;
+          ∙ ap (λ n. source_at (forms_of rest) n) (shifted k i) ∙ next.source;
       places = ap (λ b. if b then first.1.places else places_of rest (k + suc i)) past
-      ∙ ap (λ n. places_of rest n) (shifted k i) ∙ next.places;
+          ∙ ap (λ n. places_of rest n) (shifted k i) ∙ next.places;
     }
 
 found_at : (programs : List (ℕ × Built)) → AreNumberedFrom 0 programs → (i : ℕ) (one : ℕ × Built)

@@ -1,5 +1,5 @@
 -- The books of a live run tell what their words come to over the sources of the programs.
-use Rattle.std.proofs.Common.{◌≡◌, ◌∙◌, ℕ, zero, suc, ◌+◌, Option, Some, None, true, List, [], ◌∷◌, ◌++◌, length, map, slice_get, ap, sym, refl, arith}
+use Rattle.std.proofs.Common.{◌≡◌, ◌∙◌, ℕ, zero, suc, ◌+◌, Some, List, [], ◌∷◌, ◌++◌, map, slice_get, ap, sym, subst, refl, arith}
 use Rattle.std.specs.List.{All}
 use Rattle.std.proofs.lemmas.List.Elements.{All-cons, All-nil}
 use Rattle.ccp_base.specs.declared.exchange.Notice.{Notice}
@@ -19,30 +19,29 @@ use Rattle.flow_core.specs.Words.{world}
 use Rattle.flow_core.specs.World.{Failure, Content, of_report, of_failure, Answered, World, notice_of, told_as, track_of}
 use Rattle.flow_core.proofs.LiftLemmas.{link-lift, legal-lift, complete-lift}
 use Rattle.flow_table.specs.Tables.{AreNumbered}
-use Rattle.agent_loop.specs.LiveBooks.{IsWhole}
+use Rattle.agent_loop.specs.LiveBooks.{IsWhole, AreBooksOf}
 use Rattle.campaign_gate.proofs.LiftedRowLemmas.{track-lifts}
 use Rattle.campaign_report.specs.BookText.{failure_of, places_of}
 use Rattle.campaign_report.specs.ToldBooks.{content_of, answered_of, read_flow, read_world, IsRead}
 use Rattle.scenario_json.specs.Cases.{IsCoded, AreFlowsFrom, AreNumberedFrom}
 use Rattle.scenario_json.specs.ScenePrograms.{forms_of}
 use Rattle.ccp_run.specs.Live.{IsTold, book_cases}
-use Rattle.ccp_run.proofs.CodedLemmas.{simulated}
+use Rattle.ccp_run.proofs.CodedLemmas.{at_zero, one_some, no_some, simulated}
 
 -- ---- cases in order
 
 numbered_from : (flow : ℕ) (cases : List Case) → AreFlowsFrom flow cases
     → (place : ℕ) (case : Case) → slice_get cases place ≡ Some case → case.flow ≡ flow + place
-numbered_from flow [] flows place case is = let bad : ⊥ = cc in absurd bad
+numbered_from flow [] flows place case is = absurd (no_some case is)
 numbered_from flow (first ∷ rest) flows zero case is =
-    let same : first ≡ case = cc in
-    let number : case.flow ≡ flow = ap (λ (c : Case). c.flow) (sym same) ∙ flows.0 in
+    let number : case.flow ≡ flow = ap (λ (c : Case). c.flow) (sym (one_some first case is)) ∙ flows.0 in
     omega (arith, number)
 numbered_from flow (first ∷ rest) flows (suc place) case is =
     let number : case.flow ≡ (flow + 1) + place = numbered_from (flow + 1) rest flows.1 place case is in
     omega (arith, number)
 
 pub flows_numbered : (cases : List Case) → AreFlowsFrom 0 cases → AreNumbered cases
-flows_numbered cases flows place case is = numbered_from 0 cases flows place case is
+flows_numbered cases flows place case is = numbered_from 0 cases flows place case is ∙ at_zero place
 
 -- ---- what a book over codes tells, with the places of instructions
 
@@ -100,10 +99,10 @@ module _ (programs : List (ℕ × Built)) (numbered : AreNumberedFrom 0 programs
   told : IsRead programs book
   told = record {
     tickets = ap (λ (ts : List TicketLine). map (answered_of programs case) ts) whole.told.tickets
-    ∙ tickets-placed programs case by_code.answered ∙ ap (λ (w : World Place). w.answered) worlds;
+        ∙ tickets-placed programs case by_code.answered ∙ ap (λ (w : World Place). w.answered) worlds;
     epochs = whole.told.epochs ∙ ap (λ (w : World Place). map epoch_line (w.past ++ w.present ∷ [])) worlds;
     faults = ap (λ (ns : List Notice). map (failure_of programs case) ns) whole.told.faults
-    ∙ faults-placed programs case by_code.faults ∙ ap (λ (w : World Place). w.faults) worlds;
+        ∙ faults-placed programs case by_code.faults ∙ ap (λ (w : World Place). w.faults) worlds;
     held = whole.told.held ∙ ap (λ (w : World Place). w.held) worlds;
     first = whole.told.first ∙ ap (λ (t : Track). t.first) tracks;
     registers = whole.told.registers ∙ ap (λ (t : Track). t.env) tracks;
@@ -129,3 +128,9 @@ books_told programs numbered (book ∷ rest) whole coded =
 -- what each book tells, without its word's being legal and complete
 pub books_read : (programs : List (ℕ × Built)) (books : List Book) → All (IsTold programs) books → All (IsRead programs) books
 books_read programs books told = λ k d h. (told k d h).told
+
+-- the books of a table of coded cases
+pub books_of : (programs : List (ℕ × Built)) → AreNumberedFrom 0 programs → (cases table : List Case) (books : List Book)
+    → All (IsCoded programs) cases → table ≡ cases → AreBooksOf table books → All (IsTold programs) books
+books_of programs numbered cases table books coded same are =
+    books_told programs numbered books are.1 (subst (λ (cs : List Case). All (IsCoded programs) cs) (sym (are.0 ∙ same)) coded)

@@ -1,5 +1,5 @@
 -- The inputs of the modes that run scenarios, and what a text that is none is refused for.
-use Rattle.std.specs.Prelude.{◌≡◌, ℕ, Result, Ok, Err, List, map}
+use Rattle.std.specs.Prelude.{◌≡◌, ℕ, Ok, Err, List, map}
 use Rattle.std.specs.List.{All}
 use Rattle.flow_core.specs.declared.case.Case.{Case}
 use Rattle.reg_compiler.specs.declared.built.Built.{Built}

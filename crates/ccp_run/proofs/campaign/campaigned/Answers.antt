@@ -1,4 +1,4 @@
-use Rattle.std.proofs.Common.{◌≡◌, ◌∙◌, ◌≤◌, ℕ, List, ◌++◌, map, length, rules, ap, sym, subst}
+use Rattle.std.proofs.Common.{◌≡◌, ◌∙◌, ◌≤◌, ℕ, ◌++◌, map, length, rules, ap, sym, subst}
 use Rattle.std.proofs.lemmas.List.{length-map}
 use Rattle.ccp_base.specs.Limits.{most_cases}
 use Rattle.campaign_gate.specs.CampaignRow.{row_of}

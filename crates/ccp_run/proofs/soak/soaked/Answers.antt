@@ -1,5 +1,4 @@
-use Rattle.std.proofs.Common.{◌≡◌, ◌∙◌, List, ℕ, map, rules, ap, refl}
-use Rattle.campaign_gate.specs.declared.row.Row.{Row}
+use Rattle.std.proofs.Common.{◌≡◌, ◌∙◌, map, rules, ap, refl}
 use Rattle.campaign_gate.specs.CampaignRow.{row_of}
 use Rattle.campaign_report.specs.TableText.{soak_text}
 use Rattle.ccp_run.proofs.CampaignLemmas.{rows_over}
@@ -17,6 +16,6 @@ returns g c =
       coded = scene.coded;
       flows = scene.flows;
       written = text ∙ ap (soak_text c.args.number) (rows ∙ rows_over c.in_ok-scene.scene.programs scene.numbered c.in_ok-rows.ensures.lifted cases scene.coded);
-      no_books = refl;
+      no_books = c.new.ensures;
       idle = refl;
     }
