@@ -1,20 +1,19 @@
 -- One flow of a shared link over what it sends and what is acknowledged: what holds of its packets in flight.
-use Rattle.std.proofs.Common.{◌≡◌, ℕ, zero, suc, ◌+◌, ◌<◌, ◌≤◌, Bool, true, false, cond, ltb, ◌&&◌, List, [], ◌∷◌, ◌++◌, length, max, refl, ap, sym, ◌∙◌, subst, arith, length-append}
+use Rattle.std.proofs.Common.{◌≡◌, ℕ, suc, ◌+◌, ◌<◌, ◌≤◌, Bool, true, false, cond, ltb, List, [], ◌∷◌, ◌++◌, length, max, refl, ap, sym, ◌∙◌, subst, arith, length-append}
 use Rattle.std.proofs.lemmas.Bool.Decides.{nat_tests}
 use Rattle.link_model.specs.Traces.{IsTrace}
 use Rattle.link_model.specs.Chances.{chance_time}
 use Rattle.link_model.specs.Link.{Packet, Fate, Lost, Served, Given, Numbered, packets_to, all_below, chance_past, left_by, lost_by, in_flight, acked_of, Next, arrives, all_lost, next_of}
 use Rattle.link_model.specs.Link as link
-use Rattle.link_model.specs.Counts.{lost_of}
 use Rattle.link_model.specs.Standing.{packets_of}
-use Rattle.link_model.proofs.Whole.{Landing, Arrived, AllLost, landing, landing_by, staying, staying_by}
+use Rattle.link_model.proofs.Whole.{staying, staying_by}
 use Rattle.link_model.proofs.ChanceLemmas.{chance_time_rises}
 use Rattle.link_model.proofs.ServedLemmas.{IsServedWithin, AllServedWithin, all_served_within-more, all_served_within-push, all_served_within-staying}
-use Rattle.link_model.proofs.FlightLemmas.{RisesFrom, AllBelow, AllTakeBelow, TakesBelow, RisesFrom-push, AllBelow-push, AllBelow-more, RisesFrom-left_by, AllBelow-left_by, all_take_below-more, in_flight-sent, packets_of-push, left_by-all_below, MatchNext, match_next, IsNextBelow, next_below}
-use Rattle.link_model.proofs.CountLemmas.{CountNext, count_next}
+use Rattle.link_model.proofs.FlightLemmas.{RisesFrom, AllBelow, RisesFrom-push, AllBelow-push, AllBelow-more, RisesFrom-left_by, AllBelow-left_by, all_take_below-more, in_flight-sent, packets_of-push, left_by-all_below, MatchNext, match_next}
+use Rattle.link_model.proofs.CountLemmas.{count_next}
 use Rattle.shared_link.specs.declared.shared_case.FlowLink.{FlowLink}
 use Rattle.shared_link.specs.Reached.{ArrivesFrom, after_arrival, ArriveFrom, FlowSettled}
-use Rattle.shared_link.specs.SharedRounds.{next_by, next_where, next_before, arrival_given, are_lost, timeout_at, timeout_given, timeouts, answers, answers_after, with_givens}
+use Rattle.shared_link.specs.SharedRounds.{next_where, next_before, arrival_given, timeout_given}
 
 -- ---- arrivals in flight
 

@@ -1,26 +1,24 @@
 -- The flows of a shared link, of which one after the other is changed.
-use Rattle.std.proofs.Common.{◌≡◌, ◌≢◌, ℕ, zero, suc, ◌+◌, ◌-◌, ◌<◌, ◌≤◌, Bool, true, false, cond, eqb, ltb, min, max, List, [], ◌∷◌, ◌++◌, length, map, get_or, set, vec_capacity, refl, ap, sym, ◌∙◌, subst, arith, inl, inr, get_or-set_other, get_or-set_same}
+use Rattle.std.proofs.Common.{◌≡◌, ◌≢◌, ℕ, zero, suc, ◌+◌, ◌-◌, ◌<◌, ◌≤◌, true, false, cond, eqb, min, max, List, [], ◌∷◌, ◌++◌, length, get_or, set, vec_capacity, ap, sym, ◌∙◌, subst, arith, inl, inr, get_or-set_other, get_or-set_same}
 use Rattle.std.proofs.lemmas.Bool.{cases_lt}
 use Rattle.std.proofs.lemmas.Bool.Decides.{nat_tests}
-use Rattle.std.proofs.lemmas.List.{length-set, get_or-map}
+use Rattle.std.proofs.lemmas.List.{length-set}
 use Rattle.ccp_base.specs.declared.ack.Ack.{Ack}
 use Rattle.ccp_base.specs.Limits.{most_flight}
 use Rattle.link_model.specs.Traces.{IsTrace}
 use Rattle.link_model.specs.Chances.{number_of, first_chance}
 use Rattle.link_model.specs.Link.{Fate, Given, chance_past, chances_past, waiting, fate_of}
-use Rattle.link_model.specs.Steps.{count_of}
-use Rattle.link_model.specs.Link as model
 use Rattle.link_model.proofs.ChanceLemmas.{first_chance_max}
 use Rattle.shared_link.specs.declared.flow_traffic.FlowTraffic.{FlowTraffic}
 use Rattle.shared_link.specs.declared.sending.Sending.{Sending}
 use Rattle.shared_link.specs.declared.shared_case.SharedCase.{SharedCase}
 use Rattle.shared_link.specs.declared.round.Ask.{Ask}
 use Rattle.shared_link.specs.declared.round.Counts.{Counts}
-use Rattle.shared_link.specs.SharedRounds.{Sent, flow_at, ask_at, every_packet, own_packets, own_flight, packet_after, with_packet, with_givens, acks_in, each_flow, sum_of}
+use Rattle.shared_link.specs.SharedRounds.{Sent, flow_at, ask_at, every_packet, own_packets, packet_after, with_packet, with_givens, acks_in, each_flow, sum_of}
 use Rattle.shared_link.specs.SharedStanding.{flow_standing}
 use Rattle.shared_link.specs.Reached.{Settled}
-use Rattle.shared_link.specs.Kept.{flow_in, Answered, answered_all, IsFlowKept, with_one, fate_now, IsSending, FlowsFollow, Follows, IsFlowReady, AreReady, HaveRoom, answers_of, AnsweredTo}
-use Rattle.shared_link.proofs.KeptLemmas.{kept-sent, kept-count, kept-answers}
+use Rattle.shared_link.specs.Kept.{flow_in, Answered, answered_all, with_one, fate_now, IsSending, Follows, IsFlowReady, AreReady, HaveRoom, answers_of, AnsweredTo}
+use Rattle.shared_link.proofs.KeptLemmas.{kept-sent, kept-answers}
 use Rattle.shared_link.proofs.RoundLemmas.{settled-packet}
 
 -- what holds of one flow that is changed, and of all others as before

@@ -1,5 +1,5 @@
 -- What is kept of a flow goes on as the definition does.
-use Rattle.std.proofs.Common.{◌≡◌, ℕ, zero, suc, ◌+◌, ◌-◌, ◌<◌, ◌≤◌, Bool, true, false, cond, ltb, eqb, ◌&&◌, Some, None, List, [], ◌∷◌, ◌++◌, length, drop, slice_get, max, refl, ap, sym, ◌∙◌, subst, arith, add_comm, append_assoc}
+use Rattle.std.proofs.Common.{◌≡◌, ℕ, zero, suc, ◌+◌, ◌-◌, ◌<◌, Bool, true, false, cond, ltb, eqb, ◌&&◌, List, [], ◌∷◌, ◌++◌, length, drop, slice_get, max, refl, ap, sym, ◌∙◌, subst, arith, add_comm, append_assoc}
 use Rattle.std.proofs.lemmas.Bool.Decides.{nat_tests}
 use Rattle.ccp_base.specs.declared.ack.Ack.{Ack}
 use Rattle.link_model.specs.declared.arrival.Arrival.{Arrival}
@@ -10,11 +10,11 @@ use Rattle.link_model.specs.Link as model
 use Rattle.link_model.specs.Counts.{lost_of}
 use Rattle.link_model.specs.Standing.{packets_of}
 use Rattle.link_model.specs.Steps.{count_of}
-use Rattle.link_model.proofs.Whole.{Landing, Arrived, AllLost, landing, landing_by, staying, staying_by}
+use Rattle.link_model.proofs.Whole.{Landing, Arrived, AllLost, landing, landing_by, staying}
 use Rattle.link_model.proofs.HorizonLemmas.{count-lost, count-push}
 use Rattle.link_model.proofs.FlightLemmas.{MatchNext, IsNextBelow, next_below, left_by-all_below, length-packets_of}
 use Rattle.shared_link.specs.declared.shared_case.FlowLink.{FlowLink}
-use Rattle.shared_link.specs.SharedRounds.{next_before, arrival_given, are_lost, timeout_at, timeout_given, timeouts, answers, answers_after, with_givens, acks_in}
+use Rattle.shared_link.specs.SharedRounds.{arrival_given, are_lost, timeout_at, timeout_given, timeouts, answers, answers_after, with_givens, acks_in}
 use Rattle.shared_link.specs.SharedStanding.{Flight, FlowStanding, no_flight, with_fate, with_packets, flow_standing}
 use Rattle.shared_link.specs.Reached.{FlowSettled}
 use Rattle.shared_link.specs.Kept.{Answered, with_one, with_arrival, with_timeout, timeout_now, timed_out, answered_by, answered_all}

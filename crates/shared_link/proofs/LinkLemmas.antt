@@ -1,21 +1,21 @@
 -- A round of a shared link, from the list of rounds that it stands for to that list and the round.
-use Rattle.std.proofs.Common.{◌≡◌, ℕ, ◌+◌, ◌*◌, ◌<◌, ◌≤◌, List, [], ◌∷◌, ◌++◌, length, map, get_or, refl, ap, sym, ◌∙◌, subst, arith}
+use Rattle.std.proofs.Common.{◌≡◌, ℕ, ◌+◌, ◌*◌, ◌<◌, List, [], ◌∷◌, ◌++◌, length, map, get_or, ap, sym, ◌∙◌, subst, arith}
 use Rattle.std.proofs.lemmas.List.{get_or-map}
 use Rattle.ccp_base.specs.declared.ack.Ack.{Ack}
 use Rattle.ccp_base.specs.Limits.{most_flight}
 use Rattle.link_model.specs.declared.chance.Chance.{Chance}
 use Rattle.link_model.specs.Traces.{IsTrace}
 use Rattle.link_model.specs.Chances.{number_of}
-use Rattle.link_model.specs.Link.{Given, chances_past}
+use Rattle.link_model.specs.Link.{Given}
 use Rattle.shared_link.specs.declared.flow_traffic.FlowTraffic.{FlowTraffic}
 use Rattle.shared_link.specs.declared.sending.Sending.{Sending}
 use Rattle.shared_link.specs.declared.shared_case.SharedCase.{SharedCase}
 use Rattle.shared_link.specs.declared.round.Ask.{Ask}
-use Rattle.shared_link.specs.SharedRounds.{Sent, SharedRun, every_packet, allowed, turns_of, round_time, sent_by, acks_in, each_flow, with_round, shared_run_of, acks_after}
+use Rattle.shared_link.specs.SharedRounds.{Sent, SharedRun, allowed, turns_of, round_time, sent_by, shared_run_of, acks_after}
 use Rattle.shared_link.specs.SharedLaws.{shared_run_of-push}
 use Rattle.shared_link.specs.SharedStanding.{SharedState, StandsAt, Stands}
 use Rattle.shared_link.specs.Reached.{Settled}
-use Rattle.shared_link.specs.Kept.{flow_in, FlowsFollow, Follows, answers_of, AnsweredTo}
+use Rattle.shared_link.specs.Kept.{flow_in, FlowsFollow, Follows, AnsweredTo}
 use Rattle.shared_link.proofs.RoundLemmas.{settled-run}
 use Rattle.shared_link.proofs.FlowsLemmas.{some_of}
 

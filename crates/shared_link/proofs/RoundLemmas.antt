@@ -1,20 +1,19 @@
 -- What holds of a shared link after every list of rounds.
-use Rattle.std.proofs.Common.{◌≡◌, ℕ, zero, suc, ◌+◌, ◌*◌, ◌<◌, ◌≤◌, Bool, true, false, cond, eqb, ltb, leb, ◌||◌, ◌&&◌, List, [], ◌∷◌, ◌++◌, length, max, refl, ap, sym, ◌∙◌, subst, arith}
+use Rattle.std.proofs.Common.{◌≡◌, ℕ, zero, suc, ◌+◌, ◌<◌, ◌≤◌, Bool, true, false, cond, eqb, ltb, leb, ◌||◌, ◌&&◌, List, [], ◌∷◌, length, refl, sym, subst, arith}
 use Rattle.std.proofs.lemmas.Bool.Decides.{nat_tests}
 use Rattle.ccp_base.specs.Limits.{most_flight}
 use Rattle.link_model.specs.Traces.{IsTrace}
 use Rattle.link_model.specs.Chances.{chance_time, first_chance}
 use Rattle.link_model.specs.Link.{Packet, Lost, Served, Given, Numbered, chance_past, chances_past, waiting, is_listed, is_marked, in_flight, Next, arrives, all_lost, next_of}
-use Rattle.link_model.specs.Counts.{served_chances}
 use Rattle.link_model.proofs.ChanceLemmas.{first_chance_from, first_chance_at, first_chance_max}
 use Rattle.link_model.proofs.FlightLemmas.{MatchNext, IsNextBelow, next_below}
-use Rattle.link_model.proofs.CountLemmas.{RiseBelow, rise_below-none, rise_below-sent}
-use Rattle.link_model.proofs.QueueLemmas.{IsQueued, IsQueued-later, queued_by}
+use Rattle.link_model.proofs.CountLemmas.{rise_below-none, rise_below-sent}
+use Rattle.link_model.proofs.QueueLemmas.{IsQueued-later, queued_by}
 use Rattle.shared_link.specs.declared.shared_case.FlowLink.{FlowLink}
 use Rattle.shared_link.specs.declared.shared_case.SharedCase.{SharedCase}
 use Rattle.shared_link.specs.declared.round.Ask.{Ask}
 use Rattle.shared_link.specs.Reached.{FlowSettled, Settled}
-use Rattle.shared_link.specs.SharedRounds.{Sent, SharedRun, flow_at, ask_at, every_packet, own_packets, allowed, packet_after, with_packet, lacks, some_lacks, turn_of, turns_of, round_time, sent_by, next_before, arrival_given, are_lost, timeout_at, timeout_given, timeouts, answers, answers_after, with_givens, round_givens, with_round, shared_run_from, shared_run_of, first_run}
+use Rattle.shared_link.specs.SharedRounds.{Sent, SharedRun, flow_at, ask_at, every_packet, own_packets, allowed, with_packet, lacks, some_lacks, turn_of, turns_of, round_time, sent_by, arrival_given, are_lost, timeout_at, timeout_given, timeouts, answers, answers_after, with_givens, with_round, shared_run_from, shared_run_of, first_run}
 use Rattle.shared_link.proofs.FlowLemmas.{earlier, next_before_of, flow_settled-first, flow_settled-more, flow_settled-sent, flow_settled-arrived, flow_settled-timed_out, matches}
 
 -- ---- a flow's acknowledgements in a round

@@ -1,5 +1,5 @@
 -- The times of a shared link: the chances that are given come soon enough, since the queue is bounded.
-use Rattle.std.proofs.Common.{◌≡◌, ℕ, zero, suc, ◌+◌, ◌-◌, ◌*◌, ◌<◌, ◌≤◌, Some, None, List, [], ◌∷◌, length, max, cond, eqb, Bool, true, false, slice_get, refl, ap, subst, ◌^◌, arith, inl, inr}
+use Rattle.std.proofs.Common.{◌≡◌, ℕ, zero, suc, ◌+◌, ◌-◌, ◌*◌, ◌<◌, ◌≤◌, Some, None, List, [], ◌∷◌, length, max, cond, Bool, true, false, slice_get, refl, ap, subst, ◌^◌, arith, inl, inr}
 use Rattle.std.proofs.lemmas.Bool.{cases_lt}
 use Rattle.ccp_base.specs.Limits.{most_queue}
 use Rattle.link_model.specs.declared.arrival.Arrival.{Arrival}

@@ -3,7 +3,6 @@ use Rattle.std.proofs.Common.{◌≡◌, List, ℕ, [], ◌∷◌, None, refl}
 use Rattle.shared_link.specs.declared.shared_case.FlowLink.{FlowLink}
 use Rattle.shared_link.specs.declared.shared_case.SharedCase.{SharedCase}
 use Rattle.shared_link.specs.declared.round.Ask.{Ask}
-use Rattle.shared_link.specs.declared.round.Counts.{Counts}
 use Rattle.shared_link.specs.SharedRounds.{counts_of}
 
 abbrev flow : FlowLink

@@ -15,7 +15,7 @@ use Rattle.shared_link.specs.declared.round.Ask.{Ask}
 use Rattle.shared_link.specs.declared.flow_traffic.FlowTraffic.{FlowTraffic}
 use Rattle.shared_link.specs.declared.sending.Sending.{Sending}
 use Rattle.shared_link.specs.SharedRounds.{Sent, flow_at, ask_at, every_packet, own_packets, allowed, turns_of, answers, with_givens, acks_in, each_flow}
-use Rattle.shared_link.specs.SharedStanding.{Flight, FlowStanding, no_flight, with_fate, flow_standing}
+use Rattle.shared_link.specs.SharedStanding.{FlowStanding, no_flight, with_fate, flow_standing}
 use Rattle.shared_link.specs.SharedLimits.{IsWithin}
 use Rattle.shared_link.specs.Reached.{Settled}
 

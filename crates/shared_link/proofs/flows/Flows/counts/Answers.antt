@@ -1,4 +1,4 @@
-use Rattle.std.proofs.Common.{◌≡◌, ◌+◌, ◌*◌, ◌≤◌, ◌<◌, length, subst, ap, sym, ◌∙◌, arith}
+use Rattle.std.proofs.Common.{◌≡◌, ◌≤◌, ◌<◌, length, subst, ap, sym, ◌∙◌, arith}
 use Rattle.link_model.specs.Link.{acked_of}
 use Rattle.link_model.specs.Counts.{lost_of}
 use Rattle.link_model.specs.Steps.{count_of}

@@ -1,12 +1,8 @@
-use Rattle.std.proofs.Common.{◌≡◌, ℕ, ◌+◌, ◌-◌, ◌*◌, ◌<◌, ◌≤◌, List, [], length, map, get_or, vec_capacity}
-use Rattle.ccp_base.specs.Limits.{most_flight}
-use Rattle.link_model.specs.Link.{Given, in_flight, acked_of}
+use Rattle.std.proofs.Common.{◌≡◌, ℕ, ◌-◌, ◌*◌, ◌≤◌, List, length}
+use Rattle.link_model.specs.Link.{Given, acked_of}
 use Rattle.link_model.specs.Counts.{lost_of}
-use Rattle.shared_link.specs.declared.flow_traffic.FlowTraffic.{FlowTraffic}
-use Rattle.shared_link.specs.SharedRounds.{Sent, flow_at, own_packets, own_flight, allowed, some_lacks, turn_of, sum_of}
-use Rattle.shared_link.specs.SharedStanding.{flow_standing}
-use Rattle.shared_link.specs.Reached.{Settled}
-use Rattle.shared_link.specs.Kept.{flow_in, IsSending, FlowsFollow, Follows, IsFlowReady, AreReady, HaveRoom, Turned, AnsweredTo}
+use Rattle.shared_link.specs.SharedRounds.{Sent, own_packets, own_flight, sum_of}
+use Rattle.shared_link.specs.Kept.{FlowsFollow}
 use Rattle.shared_link.proofs.flows.Flows.counts.Given as goal
 
 abbrev pub invariant-loop-flow : goal.invariant-loop-flow

@@ -1,8 +1,7 @@
 use Rattle.std.proofs.Common.{◌≡◌, ◌<◌, ltb, length, subst, ap, sym, ◌∙◌, arith, ltb-true, rules}
-use Rattle.ccp_base.specs.Limits.{most_flight}
 use Rattle.link_model.specs.Steps.{count_of}
 use Rattle.shared_link.specs.declared.flow_traffic.FlowTraffic.{FlowTraffic}
-use Rattle.shared_link.specs.SharedRounds.{flow_at, own_packets, own_flight, allowed}
+use Rattle.shared_link.specs.SharedRounds.{flow_at, own_packets, own_flight}
 use Rattle.shared_link.specs.Kept.{flow_in, IsFlowReady}
 use Rattle.shared_link.proofs.KeptLemmas.{kept-count}
 use Rattle.shared_link.proofs.FlowsLemmas.{same_there}

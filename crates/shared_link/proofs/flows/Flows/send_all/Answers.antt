@@ -1,6 +1,6 @@
-use Rattle.std.proofs.Common.{◌≡◌, ◌-◌, suc, zero, true, false, cond, length, subst, ap, sym, ◌∙◌, arith, rules}
+use Rattle.std.proofs.Common.{◌≡◌, ◌-◌, suc, true, false, cond, length, subst, ap, sym, ◌∙◌, arith, rules}
 use Rattle.ccp_base.specs.Limits.{most_flight}
-use Rattle.shared_link.specs.SharedRounds.{allowed, some_lacks, turn_of, turns_of}
+use Rattle.shared_link.specs.SharedRounds.{allowed, turn_of, turns_of}
 use Rattle.shared_link.specs.Kept.{Follows}
 use Rattle.shared_link.proofs.flows.Flows.send_all.Goals as goal
 

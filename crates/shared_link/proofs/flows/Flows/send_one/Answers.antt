@@ -1,13 +1,13 @@
-use Rattle.std.proofs.Common.{◌≡◌, ◌+◌, ◌*◌, ◌≤◌, true, cond, min, vec_capacity, length, set, subst, ap, sym, ◌∙◌, arith, rules}
+use Rattle.std.proofs.Common.{◌≡◌, ◌≤◌, true, cond, min, vec_capacity, length, set, subst, ap, sym, ◌∙◌, arith, rules}
 use Rattle.std.proofs.lemmas.List.{length-set}
 use Rattle.ccp_base.specs.Limits.{most_flight}
 use Rattle.shared_link.specs.declared.flow_traffic.FlowTraffic.{FlowTraffic}
 use Rattle.shared_link.specs.declared.shared_case.FlowLink.{FlowLink}
 use Rattle.link_model.specs.Link.{chance_past}
 use Rattle.link_model.specs.Chances.{number_of}
-use Rattle.shared_link.specs.SharedRounds.{flow_at, ask_at, allowed, lacks, with_packet}
+use Rattle.shared_link.specs.SharedRounds.{flow_at, ask_at, with_packet}
 use Rattle.shared_link.specs.Kept.{flow_in, with_one, fate_now, IsFlowKept, IsFlowReady, AreReady, Follows}
-use Rattle.shared_link.proofs.FlowsLemmas.{ready-set, room-set, follows-sent, same_there}
+use Rattle.shared_link.proofs.FlowsLemmas.{ready-set, room-set, follows-sent}
 use Rattle.shared_link.proofs.flows.Flows.send_one.Goals as goal
 
 pub send-requires-clause-room : goal.send-requires-clause-room

@@ -1,4 +1,4 @@
-use Rattle.std.proofs.Common.{◌≡◌, ◌+◌, ◌≤◌, suc, cond, length, subst, ap, sym, ◌∙◌, arith}
+use Rattle.std.proofs.Common.{◌≡◌, ◌+◌, suc, cond, length, subst, ◌∙◌, arith}
 use Rattle.shared_link.specs.SharedRounds.{allowed, lacks, turn_of, with_packet}
 use Rattle.shared_link.specs.Kept.{Follows}
 use Rattle.shared_link.proofs.flows.Flows.send_turn.Goals as goal
