@@ -6,7 +6,7 @@ ghost use Rattle.scenario_json.specs.Scene.{scene_with, scene_of, most_cases_of}
 ghost use Rattle.scenario_json.specs.Soak.{gen};
 ghost use Rattle.scenario_json.specs.Rollout.{rollout_of};
 ghost use Rattle.scenario_json.specs.OpenCases.{open_plan_of, AreOpenFlowsFrom};
-ghost use Rattle.scenario_json.specs.SharedScenes.{shared_with, shared_scene_of};
+ghost use Rattle.scenario_json.specs.SharedScenes.{flow_link_of, shared_with, shared_scene_of};
 ghost use Rattle.scenario_json.specs.Cases.{plan_of, case_names, IsCoded, AreFlowsFrom, AreNumberedFrom};
 ghost use Rattle.scenario_json.specs.declared.fault.SceneFault.TheVariants as fault;
 
@@ -95,13 +95,17 @@ pub fn shared_scene(alloc: Global, text: &[u8]) -> Result<SharedScene, SceneFaul
     ensures refused { (read : Reading) → IsReading read
         → IfErr result (λ e. e ≢ fault.NoMemory → shared_scene_of read text.now ≡ Err e) }
 
+    // The programs' numbers are their places, from 0 on.
+    ensures numbered { IfOk result (λ s. AreNumberedFrom 0 s.scene.programs) }
+
     // Each case has the codes of its programs, and an agent that was told nothing yet; case i is flow i.
     ensures coded { IfOk result (λ s. All (IsCoded s.scene.programs) s.scene.cases) }
     ensures flows { IfOk result (λ s. AreFlowsFrom 0 s.scene.cases) }
     ensures names { IfOk result (λ s. s.scene.names ≡ case_names s.scene.cases) }
     ensures few { IfOk result (λ s. length s.scene.cases ≤ most_flows) }
 
-    // The link is within its limits.
+    // The link has what each case has of its own, in order, and is within its limits.
+    ensures links { IfOk result (λ s. s.link.flows ≡ map flow_link_of (map plan_of s.scene.cases)) }
     ensures queue { IfOk result (λ s. (1 ≤ s.link.queue) × (s.link.queue ≤ most_queue)) }
     ensures quantum_us { IfOk result (λ s. (1 ≤ s.link.quantum_us) × (s.link.quantum_us ≤ most_quantum_us)) }
     ensures rounds { IfOk result (λ s. (1 ≤ s.rounds) × (s.rounds ≤ most_rounds)) }
