@@ -1,0 +1,4 @@
+pub mod Audit
+pub mod Fronts
+pub mod Marks
+pub mod ForcedWord
