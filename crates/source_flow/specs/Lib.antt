@@ -1,0 +1,2 @@
+pub mod SourceAccounts
+pub mod Sourced

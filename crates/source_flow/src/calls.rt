@@ -1,0 +1,24 @@
+ghost use Rattle.std.specs.Prelude.{◌≡◌, option_map, IfOk};
+ghost use Rattle.source_flow.specs.SourceAccounts.{flow_by, account_after, account_in};
+ghost use Rattle.source_flow.specs.Sourced.{IsSourced};
+
+use crate::flow_account::FlowAccount;
+use ccp_base::NoMemory;
+use flow_core::{Case, Letter};
+use reg_compiler::Builts;
+use std::alloc::Global;
+
+/// What the flow of a case comes to after a word, by the meaning of the sources of its programs, and no code: its
+/// account exactly where the word is legal and complete, None exactly where it isn't. The programs that the case's roles
+/// name must be among these. Each letter takes a bounded number of steps beside those of its source.
+pub fn account(
+    alloc: Global,
+    case: &Case,
+    programs: &Builts,
+    word: &[Letter],
+) -> Result<Option<FlowAccount>, NoMemory>
+    requires { IsSourced programs.now case.now }
+    ensures { IfOk result (λ found. option_map account_in found ≡ account_after (flow_by programs.now case.now) case.now.link word.now) }
+{
+    Err(NoMemory)
+}

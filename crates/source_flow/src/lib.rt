@@ -1,0 +1,7 @@
+//! One flow by the meaning of its programs' sources, without machine and code: its account after a word of letters.
+#![tactic(auto)]
+
+pub mod calls;
+mod flow_account;
+
+pub use flow_account::{FlowAccount, SourceFault};
