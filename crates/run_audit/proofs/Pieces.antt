@@ -3,7 +3,7 @@ use Rattle.std.proofs.Common.{◌≡◌, ℕ, ◌+◌, ◌<◌, ◌≤◌, ◌/�
 use Rattle.std.specs.List.{list_all, starts_with}
 use Rattle.std.specs.Bool.{⊤}
 use Rattle.std.specs.Fmt.{decimal, digits, digits_onto, digit_glyph}
-use Rattle.std.proofs.lemmas.Bool.{and_parts, and_from, lt-ltb, le-leb, eqb-true}
+use Rattle.std.proofs.lemmas.Bool.{and_parts, and_from, lt-ltb, le-leb, eqb-true, false≢true}
 use Rattle.std.proofs.lemmas.Bool.Decides.{nat_tests}
 use Rattle.ccp_base.specs.declared.parts.Separator.{Separator}
 use Rattle.ccp_base.specs.declared.parts.Separator.TheVariants.{LineFeed, Blank}
@@ -68,17 +68,14 @@ digit_byte n =
 
 onto-digits : (k n : ℕ) (more : List ℕ) → list_all is_digit more ≡ true → list_all is_digit (digits_onto k 10 false n more) ≡ true
 onto-digits zero n more is = is
-onto-digits (suc k) n more is = go (n / 10 == 0)
+onto-digits (suc k) n more is =
+    let next = digit_glyph false (n % 10) ∷ more in
+    let these : list_all is_digit next ≡ true = and_from (is_digit (digit_glyph false (n % 10))) (list_all is_digit more) (digit_byte n) is in
+    either (n / 10 == 0) next (digits_onto k 10 false (n / 10) next) these (onto-digits k (n / 10) next these)
   where
-    next : List ℕ
-    next = digit_glyph false (n % 10) ∷ more
-
-    these : list_all is_digit next ≡ true
-    these = and_from (is_digit (digit_glyph false (n % 10))) (list_all is_digit more) (digit_byte n) is
-
-    go : (b : Bool) → list_all is_digit (cond b next (digits_onto k 10 false (n / 10) next)) ≡ true
-    go true = these
-    go false = onto-digits k (n / 10) next these
+    either : (b : Bool) (xs ys : List ℕ) → list_all is_digit xs ≡ true → list_all is_digit ys ≡ true → list_all is_digit (cond b xs ys) ≡ true
+    either true xs ys these those = these
+    either false xs ys these those = those
 
 pub decimal-digits : (n : ℕ) → list_all is_digit (decimal n) ≡ true
 unfolding digits
@@ -107,15 +104,12 @@ passes-digits first name (d ∷ ds) other is rest =
     ap (λ b. cond (b && starts_with nat_eq (ds ++ rest) name) (Some (drop (length name) (ds ++ rest))) (past (first ∷ name) (ds ++ rest))) (differ parts.0)
     ∙ passes-digits first name ds other parts.1 rest
   where
-    differ : is_digit d ≡ true → nat_eq first d ≡ false
-    differ is = go (nat_eq first d) refl
-      where
-        go : (b : Bool) → nat_eq first d ≡ b → b ≡ false
-        go true same = let e : first ≡ d = eqb-true first d same in absurd (false_true (sym other ∙ ap is_digit e ∙ is))
-        go false same = refl
+    go : is_digit d ≡ true → (b : Bool) → nat_eq first d ≡ b → b ≡ false
+    go digit true same = let e : first ≡ d = eqb-true first d same in absurd (false≢true (sym other ∙ ap is_digit e ∙ digit))
+    go digit false same = refl
 
-        false_true : false ≡ true → ⊥
-        false_true e = cc
+    differ : is_digit d ≡ true → nat_eq first d ≡ false
+    differ digit = go digit (nat_eq first d) refl
 
 -- neither a line's end nor the name of a count
 pub record IsQuiet (text : List ℕ) : Type 0 where

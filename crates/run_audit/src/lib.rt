@@ -1,7 +1,16 @@
-//! A judge of printed live runs: whether a text is what flows of a scenario come to by the meaning of their sources.
+//! A judge of printed live runs: whether a text is what the flows of a scenario come to by the meaning of their
+//! programs' sources.
 #![tactic(auto)]
 
+mod account_lines;
+mod body;
+mod forced_word;
+mod fronts;
+mod judge;
 mod mark;
+mod part;
+mod put_lines;
+mod read_marks;
 mod verdict;
 
 pub use verdict::Verdict;
