@@ -6,3 +6,5 @@ pub mod LineReadings
 pub mod FrontLemmas
 pub mod PartLemmas
 pub mod VerdictLemmas
+pub mod LineSteps
+pub mod JudgeSteps

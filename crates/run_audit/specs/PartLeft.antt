@@ -11,13 +11,17 @@ use Rattle.run_audit.specs.Fronts.{after}
 use Rattle.run_audit.specs.Marks.{text_marks}
 use Rattle.run_audit.specs.ForcedWord.{forced_word}
 
--- an account's lines after its flow's first line
+-- an account's lines after its faults
+abbrev pub answered_lines : Sources → Account → List ℕ
+answered_lines sources account = ticket_lines sources 0 account.tickets ⧺ end_line sources account
+
+-- those after its epochs
+abbrev pub told_lines : Sources → Account → List ℕ
+told_lines sources account = fault_lines account.faults ⧺ answered_lines sources account
+
+-- those after its flow's first line
 abbrev pub body_text : Sources → Account → List ℕ
-body_text sources account =
-    epoch_lines 0 account.epochs
-    ⧺ fault_lines account.faults
-    ⧺ ticket_lines sources 0 account.tickets
-    ⧺ end_line sources account
+body_text sources account = epoch_lines 0 account.epochs ⧺ told_lines sources account
 
 -- what of this is left after an account's lines
 abbrev pub account_left : Sources → List ℕ → Option Account → Option (List ℕ)

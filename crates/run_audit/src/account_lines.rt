@@ -33,13 +33,19 @@ pub fn after_epochs<'a>(
 ) -> Result<Option<&'a [u8]>, NoMemory>
     ensures { IfOk result (λ left. bytes_found left ≡ after (epoch_lines 0 epochs.now) text.now) }
 {
+    let most = epochs.len();
+    let mut number = 0;
     let mut left = text;
-    for (number, epoch) in epochs.iter().enumerate() {
-        let Some(rest) = after_epoch(alloc, left, number, epoch)? else {
-            return Ok(None);
-        };
-        left = rest;
+    let mut todo = epochs;
+    while let Some((epoch, later)) = todo.split_first() {
+        match after_epoch(alloc, left, number, epoch)? {
+            None => return Ok(None),
+            Some(rest) => left = rest,
+        }
+        number += 1;
+        todo = later;
     }
+    prove!(number <= most);
     Ok(Some(left))
 }
 
@@ -67,10 +73,10 @@ pub fn after_faults<'a>(
     let mut left = text;
     let mut todo = faults;
     while let Some((fault, later)) = todo.split_first() {
-        let Some(rest) = after_fault(alloc, left, fault)? else {
-            return Ok(None);
-        };
-        left = rest;
+        match after_fault(alloc, left, fault)? {
+            None => return Ok(None),
+            Some(rest) => left = rest,
+        }
         todo = later;
     }
     Ok(Some(left))
@@ -97,13 +103,19 @@ pub fn after_tickets<'a>(
 ) -> Result<Option<&'a [u8]>, NoMemory>
     ensures { IfOk result (λ left. bytes_found left ≡ after (ticket_lines (sources_of programs.now) 0 tickets.now) text.now) }
 {
+    let most = tickets.len();
+    let mut number = 0;
     let mut left = text;
-    for (number, ticket) in tickets.iter().enumerate() {
-        let Some(rest) = after_ticket(alloc, left, programs, number, ticket)? else {
-            return Ok(None);
-        };
-        left = rest;
+    let mut todo = tickets;
+    while let Some((ticket, later)) = todo.split_first() {
+        match after_ticket(alloc, left, programs, number, ticket)? {
+            None => return Ok(None),
+            Some(rest) => left = rest,
+        }
+        number += 1;
+        todo = later;
     }
+    prove!(number <= most);
     Ok(Some(left))
 }
 

@@ -27,10 +27,10 @@ pub fn judge(
     let mut todo = cases;
     let mut flow = 0;
     while let Some((case, later)) = todo.split_first() {
-        let Some(rest) = part_left(alloc, programs, case, left)? else {
-            return Ok(Verdict::No(flow));
-        };
-        left = rest;
+        match part_left(alloc, programs, case, left)? {
+            None => return Ok(Verdict::No(flow)),
+            Some(rest) => left = rest,
+        }
         todo = later;
         flow += 1;
     }
