@@ -1,5 +1,5 @@
 -- The marks along a word force that word.
-use Rattle.std.proofs.Common.{◌≡◌, ℕ, ◌+◌, ◌-◌, ◌<◌, ◌≤◌, Bool, true, false, ◌&&◌, nat_le, Option, Some, None, List, [], ◌∷◌, ◌++◌, replicate, refl, ap, sym, subst, ◌∙◌, arith, cond, append_assoc, append-nil, add-one}
+use Rattle.std.proofs.Common.{◌≡◌, ℕ, ◌+◌, ◌-◌, ◌<◌, ◌≤◌, Bool, true, false, ◌&&◌, nat_le, Option, Some, None, List, [], ◌∷◌, ◌++◌, replicate, refl, ap, sym, ◌∙◌, arith, cond, append_assoc, append-nil, add-one}
 use Rattle.std.specs.Bool.{⊤}
 use Rattle.std.proofs.lemmas.Bool.{le-leb, leb-true}
 use Rattle.flow_core.specs.declared.letter.Letter.{Letter}
@@ -74,13 +74,13 @@ along : (acks : ℕ) (letters : List Letter) (at : ℕ) (word : List Letter) →
 along acks letters at [] all = let none : acks - at ≡ 0 = omega (arith, all) in ap (λ n. Some (with_acks letters n)) none
 along acks letters at (A ∷ rest) all =
     early acks letters at (marks_along (at + 1) rest) (letters ++ A ∷ rest) (omega (arith, all))
-      (along acks (letters ++ A ∷ []) (at + 1) rest (omega (arith, all)) ∙ ap (λ w. Some w) (append_assoc letters (A ∷ []) rest))
+    (along acks (letters ++ A ∷ []) (at + 1) rest (omega (arith, all)) ∙ ap (λ w. Some w) (append_assoc letters (A ∷ []) rest))
 along acks letters at (T ∷ rest) all =
     at_once acks letters at T (marks_along at rest) (letters ++ T ∷ rest) (omega (arith, all))
-      (along acks (letters ++ T ∷ []) at rest all ∙ ap (λ w. Some w) (append_assoc letters (T ∷ []) rest))
+    (along acks (letters ++ T ∷ []) at rest all ∙ ap (λ w. Some w) (append_assoc letters (T ∷ []) rest))
 along acks letters at (C ∷ rest) all =
     at_once acks letters at C (marks_along at rest) (letters ++ C ∷ rest) (omega (arith, all))
-      (along acks (letters ++ C ∷ []) at rest all ∙ ap (λ w. Some w) (append_assoc letters (C ∷ []) rest))
+    (along acks (letters ++ C ∷ []) at rest all ∙ ap (λ w. Some w) (append_assoc letters (C ∷ []) rest))
 
 pub forced : (acks : ℕ) (word : List Letter) → acks_in word ≡ acks → forced_word acks (marks_along 0 word) ≡ Some word
 forced acks word all = along acks [] 0 word (omega (arith, all))

@@ -8,3 +8,5 @@ pub mod PartLemmas
 pub mod VerdictLemmas
 pub mod LineSteps
 pub mod JudgeSteps
+pub mod NameLemmas
+pub mod WordsLemmas

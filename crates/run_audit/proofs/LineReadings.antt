@@ -1,8 +1,7 @@
 -- What is read off the lines of an account.
-use Rattle.std.proofs.Common.{◌≡◌, not, ℕ, ◌+◌, ◌^◌, ◌<◌, ◌≤◌, Bool, true, false, Option, Some, None, List, [], ◌∷◌, ◌++◌, length, drop, codes, decimal, nat_eq, refl, ap, sym, subst, ◌∙◌, arith, cond, append_assoc, append-nil}
+use Rattle.std.proofs.Common.{◌≡◌, not, ℕ, ◌+◌, ◌^◌, ◌<◌, true, false, Option, Some, List, [], ◌∷◌, ◌++◌, drop, codes, decimal, nat_eq, refl, ap, ◌∙◌, arith, cond, append_assoc, append-nil}
 use Rattle.std.specs.Bool.{⊤}
 use Rattle.std.specs.List.{list_all, starts_with}
-use Rattle.std.proofs.lemmas.Bool.{and_parts}
 use Rattle.ccp_base.specs.declared.arithmetic.FaultKind.{FaultKind}
 use Rattle.ccp_base.specs.declared.arithmetic.FaultKind.TheVariants.{Overflow, Underflow, ZeroDivisor}
 use Rattle.ccp_base.specs.declared.exchange.Reply.{Reply}
@@ -13,21 +12,19 @@ use Rattle.ccp_base.specs.declared.exchange.Told.TheVariants.{Report, Fault}
 use Rattle.ccp_base.specs.declared.parts.Separator.TheVariants.{LineFeed, Blank}
 use Rattle.ccp_base.specs.declared.place.Place.{Place}
 use Rattle.ccp_base.specs.Parts.{separates, parts_of, with_first}
-use Rattle.ccp_base.specs.Numerals.{numeral_of}
 use Rattle.portus_core.specs.declared.program.Decl.{Decl}
 use Rattle.report_lines.specs.FieldsText.{window_text, field_text, fields_text}
-use Rattle.report_lines.specs.ReportLine.{report_head, report_tail}
-use Rattle.report_lines.specs.FaultLine.{kind_text, fault_head, place_tail, fault_line}
+use Rattle.report_lines.specs.ReportLine.{report_head}
+use Rattle.report_lines.specs.FaultLine.{kind_text, fault_head}
 use Rattle.flow_core.specs.declared.book.EpochLine.{EpochLine}
 use Rattle.flow_core.specs.declared.book.TicketLine.{TicketLine}
 use Rattle.flow_core.specs.World.{Failure}
 use Rattle.flow_core.specs.LiveText.{Sources, fields_at, Account, epoch_lines, fault_lines, reply_text, answer_text, told_text, ticket_lines, end_line}
-use Rattle.run_audit.specs.declared.mark.Mark.{Mark}
 use Rattle.run_audit.specs.PartLeft.{body_text}
 use Rattle.run_audit.specs.Marks.{marks_at, ticket_marks, past, first_number, number_at, number_by, marks_if, marks_in, marks_of, text_marks}
 use Rattle.run_audit.proofs.ForcedLemmas.{AreWithin}
 use Rattle.run_audit.proofs.NumeralLemmas.{numeral_of-decimal}
-use Rattle.run_audit.proofs.Pieces.{joined, joined-append, IsPlain, plain-append, plain-of, ended-part, decimal-plain, IsQuiet, quiet-append, quiet-decimal, ArePlain, AreQuiet, quiet-plain, joined-plain, first_line, taken-past, answered-past}
+use Rattle.run_audit.proofs.Pieces.{joined, joined-append, IsPlain, plain-append, ended-part, decimal-plain, IsQuiet, quiet-append, quiet-decimal, ArePlain, AreQuiet, quiet-plain, first_line, taken-past, answered-past}
 
 -- a line is the first of a text
 line-marks : (pieces : List (List ℕ)) (rest : List ℕ) → ArePlain pieces → starts_with nat_eq (joined pieces []) (codes "end ") ≡ false
@@ -56,16 +53,31 @@ epochs-marks number (epoch ∷ rest) more =
     pieces = codes "epoch " ∷ decimal number ∷ codes " program=" ∷ decimal epoch.program ∷ codes " at=" ∷ decimal epoch.at ∷ codes " cwnd=" ∷ decimal epoch.cwnd ∷ []
 
     are : AreQuiet pieces
-    are =
-      (record { plain = record { plain = refl }; taken = λ rest. refl; answered = λ rest. refl },
-      (quiet-decimal number,
-      (record { plain = record { plain = refl }; taken = λ rest. refl; answered = λ rest. refl },
-      (quiet-decimal epoch.program,
-      (record { plain = record { plain = refl }; taken = λ rest. refl; answered = λ rest. refl },
-      (quiet-decimal epoch.at,
-      (record { plain = record { plain = refl }; taken = λ rest. refl; answered = λ rest. refl },
-      (quiet-decimal epoch.cwnd,
-      tt))))))))
+    are = (
+      record { plain = record { plain = refl }; taken = λ rest. refl; answered = λ rest. refl },
+      (
+        quiet-decimal number,
+        (
+          record { plain = record { plain = refl }; taken = λ rest. refl; answered = λ rest. refl },
+          (
+            quiet-decimal epoch.program,
+            (
+              record { plain = record { plain = refl }; taken = λ rest. refl; answered = λ rest. refl },
+              (
+                quiet-decimal epoch.at,
+                (
+                  record { plain = record { plain = refl }; taken = λ rest. refl; answered = λ rest. refl },
+                  (
+                    quiet-decimal epoch.cwnd,
+                    tt,
+                  ),
+                ),
+              ),
+            ),
+          ),
+        ),
+      ),
+    )
 
 quiet-kind : (kind : FaultKind) → IsQuiet (kind_text kind)
 quiet-kind Overflow = record { plain = record { plain = refl }; taken = λ rest. refl; answered = λ rest. refl }
@@ -75,9 +87,9 @@ quiet-kind ZeroDivisor = record { plain = record { plain = refl }; taken = λ re
 quiet-fault_head : (epoch at : ℕ) → IsQuiet (fault_head epoch at)
 quiet-fault_head epoch at =
     quiet-append {x = codes "fault epoch="} {y = decimal epoch ++ (codes " ack=" ++ decimal at)}
-      (record { plain = record { plain = refl }; taken = λ rest. refl; answered = λ rest. refl })
-      (quiet-append {x = decimal epoch} {y = codes " ack=" ++ decimal at} (quiet-decimal epoch)
-        (quiet-append {x = codes " ack="} {y = decimal at} (record { plain = record { plain = refl }; taken = λ rest. refl; answered = λ rest. refl }) (quiet-decimal at)))
+    (record { plain = record { plain = refl }; taken = λ rest. refl; answered = λ rest. refl })
+    (quiet-append {x = decimal epoch} {y = codes " ack=" ++ decimal at} (quiet-decimal epoch)
+    (quiet-append {x = codes " ack="} {y = decimal at} (record { plain = record { plain = refl }; taken = λ rest. refl; answered = λ rest. refl }) (quiet-decimal at)))
 
 pub faults-marks : (faults : List (Failure Place)) (more : List ℕ) → text_marks (fault_lines faults ++ more) ≡ text_marks more
 faults-marks [] more = refl
@@ -90,15 +102,28 @@ faults-marks (failure ∷ rest) more =
     pieces = fault_head failure.epoch failure.at ∷ codes " kind=" ∷ kind_text failure.kind ∷ codes " at=" ∷ decimal failure.site.line ∷ codes ":" ∷ decimal failure.site.column ∷ []
 
     are : AreQuiet pieces
-    are =
-      (quiet-fault_head failure.epoch failure.at,
-      (record { plain = record { plain = refl }; taken = λ rest. refl; answered = λ rest. refl },
-      (quiet-kind failure.kind,
-      (record { plain = record { plain = refl }; taken = λ rest. refl; answered = λ rest. refl },
-      (quiet-decimal failure.site.line,
-      (record { plain = record { plain = refl }; taken = λ rest. refl; answered = λ rest. refl },
-      (quiet-decimal failure.site.column,
-      tt)))))))
+    are = (
+      quiet-fault_head failure.epoch failure.at,
+      (
+        record { plain = record { plain = refl }; taken = λ rest. refl; answered = λ rest. refl },
+        (
+          quiet-kind failure.kind,
+          (
+            record { plain = record { plain = refl }; taken = λ rest. refl; answered = λ rest. refl },
+            (
+              quiet-decimal failure.site.line,
+              (
+                record { plain = record { plain = refl }; taken = λ rest. refl; answered = λ rest. refl },
+                (
+                  quiet-decimal failure.site.column,
+                  tt,
+                ),
+              ),
+            ),
+          ),
+        ),
+      ),
+    )
 
 -- ---- tickets
 
@@ -132,12 +157,12 @@ literal_dots = record { plain = record { plain = refl }; taken = λ rest. refl; 
 quiet-report_head : (report : report_type.Report) → IsQuiet (report_head report)
 quiet-report_head report =
     quiet-append {x = codes "report program="} {y = from_program} (record { plain = record { plain = refl }; taken = λ rest. refl; answered = λ rest. refl })
-      (quiet-append {x = decimal report.program} {y = codes " epoch=" ++ from_epoch} (quiet-decimal report.program)
-        (quiet-append {x = codes " epoch="} {y = from_epoch} (record { plain = record { plain = refl }; taken = λ rest. refl; answered = λ rest. refl })
-          (quiet-append {x = decimal report.epoch} {y = codes " span=" ++ from_first} (quiet-decimal report.epoch)
-            (quiet-append {x = codes " span="} {y = from_first} (record { plain = record { plain = refl }; taken = λ rest. refl; answered = λ rest. refl })
-              (quiet-append {x = decimal report.first} {y = codes ".." ++ decimal report.end} (quiet-decimal report.first)
-                (quiet-append {x = codes ".."} {y = decimal report.end} literal_dots (quiet-decimal report.end)))))))
+    (quiet-append {x = decimal report.program} {y = codes " epoch=" ++ from_epoch} (quiet-decimal report.program)
+    (quiet-append {x = codes " epoch="} {y = from_epoch} (record { plain = record { plain = refl }; taken = λ rest. refl; answered = λ rest. refl })
+    (quiet-append {x = decimal report.epoch} {y = codes " span=" ++ from_first} (quiet-decimal report.epoch)
+    (quiet-append {x = codes " span="} {y = from_first} (record { plain = record { plain = refl }; taken = λ rest. refl; answered = λ rest. refl })
+    (quiet-append {x = decimal report.first} {y = codes ".." ++ decimal report.end} (quiet-decimal report.first)
+    (quiet-append {x = codes ".."} {y = decimal report.end} literal_dots (quiet-decimal report.end)))))))
   where
     from_first : List ℕ
     from_first = decimal report.first ++ (codes ".." ++ decimal report.end)
@@ -171,26 +196,26 @@ plain-fields [] values are = literal [] refl
 plain-fields (decl ∷ decls) [] are = literal [] refl
 plain-fields (decl ∷ decls) (value ∷ values) are =
     plain-append {x = field_text decl value} {y = fields_text decls values}
-      (plain-append {x = codes " "} {y = decl.name ++ (codes "=" ++ decimal value)} (literal (codes " ") refl)
-        (plain-append {x = decl.name} {y = codes "=" ++ decimal value} are.0
-          (plain-append {x = codes "="} {y = decimal value} (literal (codes "=") refl) (decimal-plain LineFeed value))))
-      (plain-fields decls values are.1)
+    (plain-append {x = codes " "} {y = decl.name ++ (codes "=" ++ decimal value)} (literal (codes " ") refl)
+    (plain-append {x = decl.name} {y = codes "=" ++ decimal value} are.0
+    (plain-append {x = codes "="} {y = decimal value} (literal (codes "=") refl) (decimal-plain LineFeed value))))
+    (plain-fields decls values are.1)
 
 plain-window : (cwnd rate : ℕ) → IsPlain LineFeed (window_text cwnd rate)
 plain-window cwnd rate =
     plain-append {x = codes " cwnd="} {y = decimal cwnd ++ (codes " rate=" ++ decimal rate)} (literal (codes " cwnd=") refl)
-      (plain-append {x = decimal cwnd} {y = codes " rate=" ++ decimal rate} (decimal-plain LineFeed cwnd)
-        (plain-append {x = codes " rate="} {y = decimal rate} (literal (codes " rate=") refl) (decimal-plain LineFeed rate)))
+    (plain-append {x = decimal cwnd} {y = codes " rate=" ++ decimal rate} (decimal-plain LineFeed cwnd)
+    (plain-append {x = codes " rate="} {y = decimal rate} (literal (codes " rate=") refl) (decimal-plain LineFeed rate)))
 
 plain-reply : (reply : Reply) → IsPlain LineFeed (reply_text reply)
 plain-reply Nothing = literal (codes "none") refl
 plain-reply (Update cwnd) = plain-append {x = codes "update:"} {y = decimal cwnd} (literal (codes "update:") refl) (decimal-plain LineFeed cwnd)
 plain-reply (Change program cwnd cap) =
     plain-append {x = codes "change:"} {y = decimal program ++ (codes ":" ++ (decimal cwnd ++ (codes ":" ++ decimal cap)))} (literal (codes "change:") refl)
-      (plain-append {x = decimal program} {y = codes ":" ++ (decimal cwnd ++ (codes ":" ++ decimal cap))} (decimal-plain LineFeed program)
-        (plain-append {x = codes ":"} {y = decimal cwnd ++ (codes ":" ++ decimal cap)} (literal (codes ":") refl)
-          (plain-append {x = decimal cwnd} {y = codes ":" ++ decimal cap} (decimal-plain LineFeed cwnd)
-            (plain-append {x = codes ":"} {y = decimal cap} (literal (codes ":") refl) (decimal-plain LineFeed cap)))))
+    (plain-append {x = decimal program} {y = codes ":" ++ (decimal cwnd ++ (codes ":" ++ decimal cap))} (decimal-plain LineFeed program)
+    (plain-append {x = codes ":"} {y = decimal cwnd ++ (codes ":" ++ decimal cap)} (literal (codes ":") refl)
+    (plain-append {x = decimal cwnd} {y = codes ":" ++ decimal cap} (decimal-plain LineFeed cwnd)
+    (plain-append {x = codes ":"} {y = decimal cap} (literal (codes ":") refl) (decimal-plain LineFeed cap)))))
 
 -- what follows the number of an answer's first count, and of its second one
 abbrev after_answered : TicketLine → List ℕ
@@ -202,18 +227,25 @@ after_taken ticket = codes " answered=" ++ (decimal ticket.answered ++ after_ans
 plain-answer : (ticket : TicketLine) → IsPlain LineFeed (answer_text ticket)
 plain-answer ticket =
     plain-append {x = codes " taken="} {y = decimal ticket.taken ++ after_taken ticket} (literal (codes " taken=") refl)
-      (plain-append {x = decimal ticket.taken} {y = after_taken ticket} (decimal-plain LineFeed ticket.taken)
-        (plain-append {x = codes " answered="} {y = decimal ticket.answered ++ after_answered ticket} (literal (codes " answered=") refl)
-          (plain-append {x = decimal ticket.answered} {y = after_answered ticket} (decimal-plain LineFeed ticket.answered)
-            (plain-append {x = codes " reply="} {y = reply_text ticket.reply} (literal (codes " reply=") refl) (plain-reply ticket.reply)))))
+    (plain-append {x = decimal ticket.taken} {y = after_taken ticket} (decimal-plain LineFeed ticket.taken)
+    (plain-append {x = codes " answered="} {y = decimal ticket.answered ++ after_answered ticket} (literal (codes " answered=") refl)
+    (plain-append {x = decimal ticket.answered} {y = after_answered ticket} (decimal-plain LineFeed ticket.answered)
+    (plain-append {x = codes " reply="} {y = reply_text ticket.reply} (literal (codes " reply=") refl) (plain-reply ticket.reply)))))
 
 plain-back : (sources : Sources) (told : Told) → HasPlainNames sources → ArePlain (told_back sources told)
-plain-back sources (Report report) named =
-    (literal (codes " now=") refl,
-    (decimal-plain LineFeed report.now,
-    (plain-window report.cwnd report.rate,
-    (plain-fields (fields_at sources report.program) report.fields (named.at report.program),
-    tt))))
+plain-back sources (Report report) named = (
+  literal (codes " now=") refl,
+  (
+    decimal-plain LineFeed report.now,
+    (
+      plain-window report.cwnd report.rate,
+      (
+        plain-fields (fields_at sources report.program) report.fields (named.at report.program),
+        tt,
+      ),
+    ),
+  ),
+)
 plain-back sources (Fault notice) named = tt
 
 -- ---- the counts of an answer
@@ -244,12 +276,19 @@ ticket_pieces sources number ticket =
     codes "ticket " ∷ decimal number ∷ codes " " ∷ told_front ticket.told ∷ answer_text ticket ∷ told_back sources ticket.told
 
 quiet-ticket_front : (number : ℕ) (told : Told) → AreQuiet (ticket_front number told)
-quiet-ticket_front number told =
-    (record { plain = record { plain = refl }; taken = λ rest. refl; answered = λ rest. refl },
-    (quiet-decimal number,
-    (record { plain = record { plain = refl }; taken = λ rest. refl; answered = λ rest. refl },
-    (quiet-front told,
-    tt))))
+quiet-ticket_front number told = (
+  record { plain = record { plain = refl }; taken = λ rest. refl; answered = λ rest. refl },
+  (
+    quiet-decimal number,
+    (
+      record { plain = record { plain = refl }; taken = λ rest. refl; answered = λ rest. refl },
+      (
+        quiet-front told,
+        tt,
+      ),
+    ),
+  ),
+)
 
 plain-ticket : (sources : Sources) (number : ℕ) (ticket : TicketLine) → HasPlainNames sources → ArePlain (ticket_pieces sources number ticket)
 plain-ticket sources number ticket named =
@@ -262,9 +301,9 @@ ticket-marks sources number ticket taken answered =
     let back = joined (told_back sources ticket.told) [] in
     let front = quiet-ticket_front number ticket.told in
     let t : number_by (codes "taken=") (joined (ticket_pieces sources number ticket) []) ≡ Some ticket.taken =
-        ap number_at (taken-past (ticket_front number ticket.told) (answer_text ticket ++ back) front) ∙ taken-read ticket back taken in
+    ap number_at (taken-past (ticket_front number ticket.told) (answer_text ticket ++ back) front) ∙ taken-read ticket back taken in
     let a : number_by (codes "answered=") (joined (ticket_pieces sources number ticket) []) ≡ Some ticket.answered =
-        ap number_at (answered-past (ticket_front number ticket.told) (answer_text ticket ++ back) front) ∙ answered-read ticket back answered in
+    ap number_at (answered-past (ticket_front number ticket.told) (answer_text ticket ++ back) front) ∙ answered-read ticket back answered in
     λ i. marks_if (t i) (a i)
 
 pub tickets-marks : (sources : Sources) → HasPlainNames sources → (most : ℕ) → most < 2 ^ 64 → (number : ℕ) (tickets : List TicketLine) (more : List ℕ) → AreWithin most (ticket_marks tickets)
@@ -283,9 +322,9 @@ tickets-marks sources named most fits number (ticket ∷ rest) more within =
     text =
         joined-append (codes "ticket " ∷ decimal number ∷ codes " " ∷ []) (told_text sources ticket.told (answer_text ticket) ++ later) more
         ∙ ap (joined (codes "ticket " ∷ decimal number ∷ codes " " ∷ [])) (
-            append_assoc (told_text sources ticket.told (answer_text ticket)) later more
-            ∙ told-pieces sources ticket.told (answer_text ticket) (later ++ more)
-            ∙ ap (λ pieces. joined pieces (codes "\n" ++ (later ++ more))) (told-split sources ticket.told (answer_text ticket)))
+        append_assoc (told_text sources ticket.told (answer_text ticket)) later more
+        ∙ told-pieces sources ticket.told (answer_text ticket) (later ++ more)
+        ∙ ap (λ pieces. joined pieces (codes "\n" ++ (later ++ more))) (told-split sources ticket.told (answer_text ticket)))
 
 -- ---- the end
 

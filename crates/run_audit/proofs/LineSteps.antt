@@ -1,16 +1,15 @@
 -- The lines of an account, one after another.
-use Rattle.std.proofs.Common.{◌≡◌, ℕ, ◌+◌, Option, Some, None, List, [], ◌∷◌, ◌++◌, map, codes, decimal, refl, ap, sym, ◌∙◌, append_assoc}
+use Rattle.std.proofs.Common.{◌≡◌, ℕ, ◌+◌, Option, Some, None, List, [], ◌∷◌, ◌++◌, map, codes, decimal, refl, ap, sym, ◌∙◌}
 use Rattle.std.specs.Option.{option_and_then}
 use Rattle.flow_core.specs.declared.book.EpochLine.{EpochLine}
 use Rattle.flow_core.specs.declared.book.TicketLine.{TicketLine}
-use Rattle.flow_core.specs.LiveText.{Sources, Account, epoch_lines, fault_lines, told_text, answer_text, ticket_lines, end_line}
+use Rattle.flow_core.specs.LiveText.{Sources, epoch_lines, fault_lines, told_text, answer_text, ticket_lines}
 use Rattle.source_flow.specs.declared.flow_account.SourceFault.{SourceFault}
 use Rattle.source_flow.specs.SourceAccounts.{failure_of}
 use Rattle.run_audit.specs.Fronts.{after}
 use Rattle.run_audit.specs.LineTexts.{epoch_text, fault_text, ticket_text}
-use Rattle.run_audit.specs.PartLeft.{body_text}
 use Rattle.run_audit.proofs.FrontLemmas.{after-both}
-use Rattle.run_audit.proofs.Pieces.{joined, joined-append}
+use Rattle.run_audit.proofs.Pieces.{joined-append}
 
 -- the first line is there, and what follows the rest follows it; or it isn't
 record IsFront (front later whole text : List ℕ) : Type 0 where

@@ -1,5 +1,5 @@
 -- The decimal digits of a number are its numeral.
-use Rattle.std.proofs.Common.{◌≡◌, ℕ, ◌+◌, ◌-◌, ◌*◌, ◌^◌, ◌<◌, ◌≤◌, Bool, true, false, ◌&&◌, nat_le, nat_lt, Option, Some, None, List, [], ◌∷◌, length, refl, ap, sym, ◌∙◌, arith, cond}
+use Rattle.std.proofs.Common.{◌≡◌, ℕ, ◌+◌, ◌-◌, ◌*◌, ◌^◌, ◌<◌, ◌≤◌, true, ◌&&◌, nat_le, nat_lt, Some, None, List, [], ◌∷◌, length, refl, ap, ◌∙◌, arith, cond}
 use Rattle.std.specs.List.{list_all}
 use Rattle.std.specs.Fmt.{decimal}
 use Rattle.std.specs.Int.{IsInRange}
@@ -24,7 +24,7 @@ digit_by_digit value (b ∷ rest) are below =
     let next : ℕ = value * 10 + (b - 48) in
     let fits : next < 2 ^ 64 = omega (arith, below, grows next rest) in
     let taken : digit_after value b ≡ Some next =
-        ap (λ t. cond (t && nat_lt next (2 ^ 64)) (Some next) None) parts.0 ∙ ap (λ t. cond t (Some next) None) (lt-ltb next (2 ^ 64) fits) in
+    ap (λ t. cond (t && nat_lt next (2 ^ 64)) (Some next) None) parts.0 ∙ ap (λ t. cond t (Some next) None) (lt-ltb next (2 ^ 64) fits) in
     ap (λ o. value_after o rest) taken ∙ digit_by_digit next rest parts.1 below
 
 abbrev AreDigits : List ℕ → Type 0

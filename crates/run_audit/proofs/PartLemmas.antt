@@ -1,7 +1,5 @@
 -- What is left after a part is so exactly where the text begins with the part of a legal and complete word.
-use Rattle.std.proofs.Common.{◌≡◌, ℕ, ◌^◌, ◌<◌, ◌≤◌, Bool, true, false, ◌&&◌, Option, Some, None, List, [], ◌∷◌, ◌++◌, refl, ap, sym, ◌∙◌, arith, cond, append_assoc}
-use Rattle.std.proofs.lemmas.Bool.{and_parts}
-use Rattle.ccp_base.specs.Limits.{most_acks}
+use Rattle.std.proofs.Common.{◌≡◌, ℕ, ◌^◌, ◌<◌, Bool, true, false, ◌&&◌, Option, Some, None, List, ◌++◌, refl, ap, sym, ◌∙◌, arith, cond, append_assoc}
 use Rattle.flow_core.specs.declared.case.Case.{Case}
 use Rattle.flow_core.specs.declared.letter.Letter.{Letter}
 use Rattle.flow_core.specs.Words.{world, legal, is_complete}
@@ -9,7 +7,7 @@ use Rattle.flow_core.specs.LiveText.{Sources, Account, account_of, flow_from, fl
 use Rattle.source_flow.specs.SourceAccounts.{account_after}
 use Rattle.run_audit.specs.Audit.{IsWordOf}
 use Rattle.run_audit.specs.Fronts.{after}
-use Rattle.run_audit.specs.Marks.{text_marks, ticket_marks}
+use Rattle.run_audit.specs.Marks.{text_marks}
 use Rattle.run_audit.specs.ForcedWord.{forced_word}
 use Rattle.run_audit.specs.PartLeft.{body_text, account_left, word_left, body_left, part_left}
 use Rattle.run_audit.proofs.FrontLemmas.{after-front, after-is}

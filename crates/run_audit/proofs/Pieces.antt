@@ -1,5 +1,5 @@
 -- A text of pieces, and the pieces in which no line ends and no count of a ticket has its name.
-use Rattle.std.proofs.Common.{◌≡◌, ℕ, ◌+◌, ◌<◌, ◌≤◌, ◌/◌, ◌%◌, zero, suc, Bool, true, false, not, ◌&&◌, ◌==◌, nat_le, nat_lt, nat_eq, Option, Some, None, List, [], ◌∷◌, ◌++◌, length, drop, codes, refl, ap, sym, subst, ◌∙◌, arith, cond, append_assoc, append-nil}
+use Rattle.std.proofs.Common.{◌≡◌, ℕ, ◌+◌, ◌<◌, ◌/◌, ◌%◌, zero, suc, Bool, true, false, not, ◌&&◌, ◌==◌, nat_le, nat_eq, Some, List, [], ◌∷◌, ◌++◌, length, drop, codes, refl, ap, sym, ◌∙◌, arith, cond, append_assoc}
 use Rattle.std.specs.List.{list_all, starts_with}
 use Rattle.std.specs.Bool.{⊤}
 use Rattle.std.specs.Fmt.{decimal, digits, digits_onto, digit_glyph}

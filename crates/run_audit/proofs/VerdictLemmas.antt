@@ -1,5 +1,5 @@
 -- The verdict case by case is the verdict on the text.
-use Rattle.std.proofs.Common.{◌≡◌, ℕ, zero, suc, ◌+◌, ◌<◌, ◌≤◌, Option, Some, None, option_map, unwrap_or, List, [], ◌∷◌, ◌++◌, length, take, refl, ap, sym, subst, ◌∙◌, arith, append_assoc, append-nil}
+use Rattle.std.proofs.Common.{◌≡◌, ℕ, zero, suc, ◌+◌, ◌≤◌, Option, Some, None, option_map, unwrap_or, List, [], ◌∷◌, ◌++◌, length, take, refl, ap, sym, subst, ◌∙◌, arith, append_assoc}
 use Rattle.flow_core.specs.declared.case.Case.{Case}
 use Rattle.flow_core.specs.declared.letter.Letter.{Letter}
 use Rattle.flow_core.specs.LiveText.{Sources, live_text}
@@ -121,12 +121,16 @@ module _ (sources : Sources) (named : HasPlainNames sources) where
 
   judged-said : (cases : List Case) (count : ℕ) (text : List ℕ) → IsSaid cases count text (judged sources cases count text)
   judged-said [] count [] = record { words = []; are = tt; whole = refl }
-  judged-said [] count (byte ∷ rest) = (0, omega arith, record {
-    other = more_left byte rest;
-    within = omega arith;
-    begins = no_front (byte ∷ rest);
-    greatest = λ more within begins. within;
-  })
+  judged-said [] count (byte ∷ rest) = (
+    0,
+    omega arith,
+    record {
+      other = more_left byte rest;
+      within = omega arith;
+      begins = no_front (byte ∷ rest);
+      greatest = λ more within begins. within;
+    },
+  )
   judged-said (case ∷ cases) count text = go (λ left. judged-said cases (count + 1) left) (part_left sources case text) refl
     where
       go : ((left : List ℕ) → IsSaid cases (count + 1) left (judged sources cases (count + 1) left)) → (o : Option (List ℕ)) → part_left sources case text ≡ o

@@ -1,7 +1,6 @@
 -- The marks of a flow's tickets are those along its word.
-use Rattle.std.proofs.Common.{◌≡◌, ℕ, ◌+◌, ◌<◌, ◌≤◌, Bool, true, false, not, ◌&&◌, nat_lt, is_none, is_some, Option, Some, None, List, [], ◌∷◌, ◌++◌, length, map, refl, ap, sym, subst, ◌∙◌, arith, append_assoc, append-nil, length-append}
+use Rattle.std.proofs.Common.{◌≡◌, ℕ, ◌+◌, ◌<◌, ◌≤◌, Bool, true, false, not, nat_lt, is_none, is_some, Option, Some, None, List, [], ◌∷◌, ◌++◌, length, map, refl, ap, sym, subst, ◌∙◌, arith, append_assoc, append-nil, length-append}
 use Rattle.std.proofs.lemmas.Bool.{and_parts, ltb-true, ltb-false}
-use Rattle.ccp_base.specs.declared.ack.Ack.{Ack}
 use Rattle.link_model.specs.declared.link_case.LinkCase.{LinkCase}
 use Rattle.ccp_base.specs.declared.exchange.Reply.{Reply}
 use Rattle.ccp_base.specs.declared.exchange.Reply.TheVariants.{Nothing, Update, Change}
@@ -11,7 +10,7 @@ use Rattle.agent_core.specs.Agents.{replied}
 use Rattle.flow_core.specs.declared.letter.Letter.{Letter}
 use Rattle.flow_core.specs.declared.letter.Letter.TheVariants.{A, T, C}
 use Rattle.flow_core.specs.Readings.{Flow}
-use Rattle.flow_core.specs.World.{World, Content, Failure, Taken, Answered, taking, with_reply, with_taken, answer_applied, after_take, after_answer, opening, told_as}
+use Rattle.flow_core.specs.World.{World, Content, Failure, Taken, Answered, taking, with_reply, with_taken, answer_applied, after_answer, opening, told_as}
 use Rattle.flow_core.specs.Words.{from_link, after_letter, world_from, world, legal_from, legal, is_legal, can_take, is_complete, is_still}
 use Rattle.flow_core.specs.Books.{ticket_line}
 use Rattle.run_audit.specs.declared.mark.Mark.{Mark}
@@ -90,7 +89,7 @@ module _ {X : Type 0} (flow : Flow X) (link : LinkCase) where
   taken-marks w None some none = absurd (cc)
   taken-marks w (Some taken) some none =
       sym (ap (λ (ms : List Mark). ms ++ record { at = length w.acks; letter = T } ∷ [])
-        (ap (λ (o : Option (Taken X)). answered_marks w.answered ++ out_marks o) none ∙ append-nil (answered_marks w.answered)))
+      (ap (λ (o : Option (Taken X)). answered_marks w.answered ++ out_marks o) none ∙ append-nil (answered_marks w.answered)))
 
   taken-acks : (w : World X) (o : Option (Content X × (List Report × Option (Failure X)))) → (with_taken o w).acks ≡ w.acks
   taken-acks w None = refl
@@ -101,14 +100,13 @@ module _ {X : Type 0} (flow : Flow X) (link : LinkCase) where
   answer-marks w None is some = absurd (cc)
   answer-marks w (Some ticket) is some =
       let (acks, answered, out) = turn ticket w is in
-      let line : Answered X = record { told = ticket.told; taken = ticket.taken; answered = length w.acks; reply = (replied w.agent (told_as flow ticket.told)).1 } in
-      (
+      let line : Answered X = record { told = ticket.told; taken = ticket.taken; answered = length w.acks; reply = (replied w.agent (told_as flow ticket.told)).1 } in (
         ap (λ (o : Option (Taken X)). answered_marks (after_answer flow w).answered ++ out_marks o) out
-        ∙ append-nil (answered_marks (after_answer flow w).answered)
-        ∙ ap answered_marks answered
-        ∙ answered-more w.answered (line ∷ [])
-        ∙ sym (append_assoc (answered_marks w.answered) (record { at = ticket.taken; letter = T } ∷ []) (record { at = length w.acks; letter = C } ∷ []))
-        ∙ sym (ap (λ (o : Option (Taken X)). (answered_marks w.answered ++ out_marks o) ++ record { at = length w.acks; letter = C } ∷ []) is),
+            ∙ append-nil (answered_marks (after_answer flow w).answered)
+            ∙ ap answered_marks answered
+            ∙ answered-more w.answered (line ∷ [])
+            ∙ sym (append_assoc (answered_marks w.answered) (record { at = ticket.taken; letter = T } ∷ []) (record { at = length w.acks; letter = C } ∷ []))
+            ∙ sym (ap (λ (o : Option (Taken X)). (answered_marks w.answered ++ out_marks o) ++ record { at = length w.acks; letter = C } ∷ []) is),
         acks,
       )
 

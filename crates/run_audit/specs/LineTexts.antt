@@ -1,7 +1,6 @@
 -- The lines of one epoch and of one ticket.
 use Rattle.std.specs.Prelude.{ℕ, List, codes, decimal}
 use Rattle.ccp_base.specs.Text.{◌⧺◌}
-use Rattle.ccp_base.specs.declared.place.Place.{Place}
 use Rattle.report_lines.specs.FaultLine.{fault_line}
 use Rattle.flow_core.specs.declared.book.EpochLine.{EpochLine}
 use Rattle.flow_core.specs.declared.book.TicketLine.{TicketLine}

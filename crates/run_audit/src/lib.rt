@@ -7,10 +7,13 @@ mod body;
 mod forced_word;
 mod fronts;
 mod judge;
+mod laws;
 mod mark;
 mod part;
 mod put_lines;
 mod read_marks;
 mod verdict;
 
+pub use judge::audit;
+pub use laws::words_law;
 pub use verdict::Verdict;

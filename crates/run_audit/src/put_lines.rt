@@ -165,9 +165,13 @@ pub fn put_last(
     ensures { OnOk result (text.new ≡ text.old ++ end_line (sources_of programs.now) (account_in account.now)) }
 {
     let fields = fields_of(programs, account.program);
-    put_end_head(alloc, text, report_count(account.tickets.as_slice()), &account.end)?;
-    let counts =
-        format!(in alloc; " held={} faults={}", account.held, account.faults.len())?;
+    put_end_head(
+        alloc,
+        text,
+        report_count(account.tickets.as_slice()),
+        &account.end,
+    )?;
+    let counts = format!(in alloc; " held={} faults={}", account.held, account.faults.len())?;
     text.extend(counts.as_bytes())?;
     put_end_tail(alloc, text, fields, &account.end)
 }

@@ -1,4 +1,4 @@
-use Rattle.std.proofs.Common.{rules, ◌≡◌, ◌∷◌, Some, None, arith, sym, ◌∙◌}
+use Rattle.std.proofs.Common.{rules, ◌≡◌, ◌∷◌, Some, None, sym, ◌∙◌}
 use Rattle.run_audit.specs.Fronts.{after}
 use Rattle.run_audit.specs.LineTexts.{fault_text}
 use Rattle.run_audit.proofs.LineSteps.{fault_there, fault_missing}

@@ -1,4 +1,4 @@
-use Rattle.std.proofs.Common.{rules, ◌≡◌, ◌∷◌, Some, None, arith, sym, ◌∙◌}
+use Rattle.std.proofs.Common.{rules, ◌≡◌, ◌∷◌, Some, None, sym, ◌∙◌}
 use Rattle.source_flow.specs.SourceAccounts.{sources_of}
 use Rattle.run_audit.specs.Fronts.{after}
 use Rattle.run_audit.specs.LineTexts.{ticket_text}

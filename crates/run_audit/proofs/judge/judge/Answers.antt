@@ -1,5 +1,4 @@
-use Rattle.std.proofs.Common.{rules, ◌≡◌, ◌+◌, ◌≤◌, ◌∷◌, Some, List, length, arith, sym, ◌∙◌}
-use Rattle.flow_core.specs.declared.case.Case.{Case}
+use Rattle.std.proofs.Common.{rules, ◌≡◌, ◌∷◌, Some, sym, ◌∙◌}
 use Rattle.source_flow.specs.SourceAccounts.{sources_of}
 use Rattle.source_flow.specs.Sourced.{IsSourced}
 use Rattle.run_audit.specs.PartLeft.{part_left}
@@ -14,8 +13,7 @@ part_left-requires c =
 pub loop-case-preserved : goal.loop-case-preserved
 loop-case-preserved c =
     let split : c.loop-case.todo.now ≡ c.in-Some.case.now ∷ c.in-Some.later.now = search rules in
-    let there : Some c.in-Some-2.rest.now ≡ part_left (sources_of c.args.programs.now) c.in-Some.case.now c.loop-case.left.now = search rules in
-    (
+    let there : Some c.in-Some-2.rest.now ≡ part_left (sources_of c.args.programs.now) c.in-Some.case.now c.loop-case.left.now = search rules in (
       sym (judged_there (sources_of c.args.programs.now) c.loop-case.todo.now c.in-Some.case.now c.in-Some.later.now c.loop-case.flow c.loop-case.left.now c.in-Some-2.rest.now split there) ∙ c.loop-case.invariant.0,
       all_later (IsSourced c.args.programs.now) c.loop-case.todo.now c.in-Some.case.now c.in-Some.later.now split c.loop-case.invariant.1,
       search rules,
