@@ -3,6 +3,8 @@ ghost use Rattle.source_flow.specs.SourceAccounts.{flow_by, account_after, accou
 ghost use Rattle.source_flow.specs.Sourced.{IsSourced};
 
 use crate::flow_account::FlowAccount;
+use crate::source_case::{SourceCase, built_at};
+use crate::walk::account_over;
 use ccp_base::NoMemory;
 use flow_core::{Case, Letter};
 use reg_compiler::Builts;
@@ -20,5 +22,17 @@ pub fn account(
     requires { IsSourced programs.now case.now }
     ensures { IfOk result (λ found. option_map account_in found ≡ account_after (flow_by programs.now case.now) case.now.link word.now) }
 {
-    Err(NoMemory)
+    let Some(ss) = built_at(programs.as_slice(), case.ss.role.number) else {
+        unreachable!()
+    };
+    let Some(ca) = built_at(programs.as_slice(), case.ca.role.number) else {
+        unreachable!()
+    };
+    let source = SourceCase {
+        case,
+        ss: &ss.program,
+        ca: &ca.program,
+    };
+    let found = account_over(alloc, &source, word)?;
+    Ok(found)
 }

@@ -3,5 +3,12 @@
 
 pub mod calls;
 mod flow_account;
+mod hearing;
+mod opening;
+mod settling;
+mod source_case;
+mod state;
+mod taking;
+mod walk;
 
 pub use flow_account::{FlowAccount, SourceFault};
