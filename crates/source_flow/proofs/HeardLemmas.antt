@@ -1,22 +1,15 @@
 -- What is kept after an acknowledgement is that of the state after it.
-use Rattle.std.specs.Prelude.{◌≡◌, ℕ, ◌+◌, ◌<◌, ◌≤◌, Bool, nat_lt, Option, Some, None, option_map, List, [], ◌∷◌, ◌++◌, length, map, refl}
-use Rattle.std.proofs.Common.{ap, sym, ◌∙◌, subst, arith, length-append}
+use Rattle.std.specs.Prelude.{◌≡◌, ℕ, ◌+◌, Bool, nat_lt, Option, option_map, List, [], ◌∷◌, ◌++◌, length, map, refl}
+use Rattle.std.proofs.Common.{ap, sym, ◌∙◌, subst, length-append}
 use Rattle.ccp_base.specs.declared.ack.Ack.{Ack}
-use Rattle.ccp_base.specs.declared.arithmetic.FaultKind.{FaultKind}
-use Rattle.ccp_base.specs.declared.exchange.Notice.{Notice}
 use Rattle.ccp_base.specs.declared.exchange.Report.{Report}
 use Rattle.ccp_base.specs.declared.place.Place.{Place}
-use Rattle.link_model.specs.Link.{ack_after}
 use Rattle.link_model.specs.Standing.{LinkState, Stands}
 use Rattle.portus_core.specs.declared.env.Env.{Env}
-use Rattle.portus_core.specs.OneAcknowledgement.{IsEnvOf}
 use Rattle.portus_core.specs.Value.{Cause}
 use Rattle.portus_core.specs.Epoch.{Outcome, quiet, reported, held, failed, stopped, Track, acknowledged, by_source, heard, stops, next_first, after_outcome}
 use Rattle.portus_core.proofs.EventLaws.{after-append}
 use Rattle.portus_core.specs.Reports.{Epoch, reports_met}
-use Rattle.agent_core.specs.declared.agent.Agent.{Agent}
-use Rattle.agent_core.specs.Agents.{course_of}
-use Rattle.agent_core.specs.RoleLaws.{AreRoles}
 use Rattle.flow_core.specs.Readings.{Flow}
 use Rattle.flow_core.specs.World.{Failure, World, track_of, failures_met, untold_after, held_met, has_room, with_met, after_ack, notice_of}
 use Rattle.flow_core.specs.Cores.{met_in}
@@ -24,8 +17,8 @@ use Rattle.source_flow.specs.declared.source_case.SourceCase.{SourceCase}
 use Rattle.source_flow.specs.declared.state.Present.{Present}
 use Rattle.source_flow.specs.declared.state.State.{State}
 use Rattle.source_flow.specs.SourceAccounts.{failure_of}
-use Rattle.source_flow.specs.SourceStates.{form_at, flow_of, Kept, seen, kept_of, IsAt, IsSound, some_count}
-use Rattle.source_flow.specs.SourceSteps.{reporter, track_in, failures_in, notice_by, untold_by, PutDown}
+use Rattle.source_flow.specs.SourceStates.{form_at, flow_of, Kept, seen, kept_of, IsAt}
+use Rattle.source_flow.specs.SourceSteps.{track_in, failures_in, untold_by, PutDown}
 use Rattle.source_flow.proofs.StateLemmas.{epoch_lines-last, time-append}
 
 -- ---- what an outcome comes to depends on where the span begins and on the count alone

@@ -3,4 +3,4 @@ pub mod HeardLemmas
 pub mod SettledLemmas
 pub mod GoodLemmas
 pub mod WalkedLemmas
-pub mod MatchedLemmas
+pub mod FoundLemmas

@@ -1,29 +1,26 @@
 -- What is kept after an answer is that of the state after it.
-use Rattle.std.specs.Prelude.{◌≡◌, ℕ, ◌+◌, ◌≤◌, false, Option, Some, None, option_map, unwrap_or, List, [], ◌∷◌, ◌++◌, length, map, refl}
+use Rattle.std.specs.Prelude.{◌≡◌, ℕ, ◌+◌, ◌≤◌, false, Option, Some, None, option_map, unwrap_or, [], ◌∷◌, ◌++◌, length, map, refl}
 use Rattle.std.proofs.Common.{ap, sym, ◌∙◌, subst, arith, length-append}
 use Rattle.std.proofs.lemmas.List.{map-append}
 use Rattle.std.proofs.lemmas.Option.{none-some}
-use Rattle.ccp_base.specs.FieldReg.{Pair}
 use Rattle.ccp_base.specs.declared.exchange.Reply.{Reply}
 use Rattle.ccp_base.specs.declared.exchange.Reply.TheVariants.{Nothing, Update, Change}
 use Rattle.ccp_base.specs.declared.place.Place.{Place}
 use Rattle.link_model.specs.Standing.{LinkState, Stands}
-use Rattle.portus_core.specs.declared.env.Env.{Env}
 use Rattle.portus_core.specs.Epoch.{Track, updated, with_values, declared_env}
 use Rattle.portus_core.proofs.EventLaws.{after-append}
 use Rattle.agent_core.specs.declared.agent.Agent.{Agent}
 use Rattle.agent_core.specs.Agents.{course_of, replied, values_of}
 use Rattle.agent_core.specs.RoleLaws.{AreRoles, roles-kept}
-use Rattle.flow_core.specs.declared.book.TicketLine.{TicketLine}
-use Rattle.flow_core.specs.declared.book.EpochLine.{EpochLine}
 use Rattle.flow_core.specs.Readings.{Flow}
-use Rattle.flow_core.specs.World.{Taken, Answered, World, track_of, time_of, with_reply, with_turn, answer_applied, after_answer, told_as}
+use Rattle.flow_core.specs.World.{Taken, Answered, World, track_of, with_reply, answer_applied, after_answer, told_as}
+use Rattle.flow_core.specs.States.{some_count}
 use Rattle.flow_core.specs.Books.{ticket_line, epoch_line}
 use Rattle.source_flow.specs.declared.source_case.SourceCase.{SourceCase}
 use Rattle.source_flow.specs.declared.state.Issued.{Issued}
 use Rattle.source_flow.specs.declared.state.Present.{Present}
 use Rattle.source_flow.specs.declared.state.State.{State}
-use Rattle.source_flow.specs.SourceStates.{form_at, flow_of, Kept, seen, kept_of, issued_as, IsAt, IsSound, some_count}
+use Rattle.source_flow.specs.SourceStates.{form_at, flow_of, Kept, seen, kept_of, issued_as, IsAt, IsSound}
 use Rattle.source_flow.specs.SourceSteps.{Changed, Obeyed}
 use Rattle.source_flow.proofs.StateLemmas.{epoch_lines-last, epoch_lines-more}
 

@@ -1,11 +1,9 @@
 -- What is kept of a flow's state, part by part.
-use Rattle.std.specs.Prelude.{◌≡◌, ℕ, ◌+◌, Bool, option_map, List, [], ◌∷◌, ◌++◌, length, map, refl}
+use Rattle.std.specs.Prelude.{◌≡◌, List, [], ◌∷◌, ◌++◌, map, refl}
 use Rattle.std.proofs.Common.{ap, sym, ◌∙◌}
 use Rattle.std.proofs.lemmas.List.{map-append}
 use Rattle.ccp_base.specs.declared.ack.Ack.{Ack}
-use Rattle.ccp_base.specs.declared.place.Place.{Place}
-use Rattle.flow_core.specs.Readings.{Flow}
-use Rattle.flow_core.specs.World.{Era, World, time_of}
+use Rattle.flow_core.specs.World.{Era, time_of}
 use Rattle.flow_core.specs.Books.{epoch_line}
 use Rattle.flow_core.specs.declared.book.EpochLine.{EpochLine}
 

@@ -7,7 +7,7 @@ use Rattle.ccp_base.specs.declared.place.Place.{Place}
 use Rattle.link_model.specs.declared.link_case.LinkCase.{LinkCase}
 use Rattle.flow_core.specs.declared.letter.Letter.{Letter}
 use Rattle.flow_core.specs.Readings.{Flow}
-use Rattle.flow_core.specs.World.{World, opening}
+use Rattle.flow_core.specs.World.{opening}
 use Rattle.flow_core.specs.Words.{from_link, after_letter, world_from, world, is_legal, legal_from, legal, is_complete}
 use Rattle.flow_core.specs.LiveText.{account_of}
 use Rattle.flow_core.specs.WordLaws.{world-append, legal-append, legal_from-append}

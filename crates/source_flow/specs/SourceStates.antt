@@ -20,6 +20,7 @@ use Rattle.flow_core.specs.declared.book.TicketLine.{TicketLine}
 use Rattle.flow_core.specs.Readings.{Flow, by_number, over_sources}
 use Rattle.flow_core.specs.World.{Failure, Taken, World, track_of, time_of, notice_of, told_as}
 use Rattle.flow_core.specs.Books.{ticket_line, epoch_line}
+use Rattle.flow_core.specs.States.{some_count}
 use Rattle.source_flow.specs.declared.source_case.SourceCase.{SourceCase}
 use Rattle.source_flow.specs.declared.state.Issued.{Issued}
 use Rattle.source_flow.specs.declared.state.State.{State}
@@ -113,10 +114,6 @@ pub record AreMatched (source : SourceCase) : Type 0 where
   pub ca_controls : length (form_of source.ca.now).controls ≡ length source.case.now.ca.code.code.controls
   pub ss_fields : length (form_of source.ss.now).fields ≤ most_fields
   pub ca_fields : length (form_of source.ca.now).fields ≤ most_fields
-
-abbrev pub some_count : {A : Type 0} → Option A → ℕ
-some_count None = 0
-some_count (Some a) = 1
 
 -- the env is one of the present program, the agent has the case's roles, the link is the case's, and the counts are in
 -- range: each acknowledgement makes one report or fault at most, and each change is the answer to one

@@ -10,9 +10,9 @@ use flow_core::{Case, Letter};
 use reg_compiler::Builts;
 use std::alloc::Global;
 
-/// What the flow of a case comes to after a word, by the meaning of the sources of its programs, and no code: its
-/// account exactly where the word is legal and complete, None exactly where it isn't. The programs that the case's roles
-/// name must be among these. Each letter takes a bounded number of steps beside those of its source.
+/// What the flow of a case comes to after a word, by the meaning of the sources of its programs: its account where the
+/// word is legal and complete, None exactly where it isn't. Each program that the case's roles name must be among these,
+/// and be simulated by the role's code.
 pub fn account(
     alloc: Global,
     case: &Case,

@@ -1,13 +1,12 @@
 //! An acknowledgement: its program's source says what it comes to, and that is put down.
 ghost use Rattle.std.specs.Prelude.{◌≡◌, ◌+◌, ◌<◌, OnOk, IfOk};
-ghost use Rattle.ccp_base.specs.Limits.{most_acks};
 ghost use Rattle.portus_core.specs.Epoch.{heard, by_source, stops, outcome_of};
 ghost use Rattle.portus_core.specs.OneAcknowledgement.{IsEnvOf};
 ghost use Rattle.portus_core.specs.ProgramForm.{form_of};
 ghost use Rattle.ccp_base.specs.declared.place.Place.{Place};
 ghost use Rattle.link_model.specs.Link.{ack_after};
 ghost use Rattle.flow_core.specs.World.{World, track_of, after_ack};
-ghost use Rattle.source_flow.specs.SourceStates.{form_at, flow_of, outcome_met, IsAt, IsSound};
+ghost use Rattle.source_flow.specs.SourceStates.{flow_of, outcome_met, IsAt, IsSound};
 ghost use Rattle.source_flow.specs.SourceAccounts.{failure_of};
 ghost use Rattle.source_flow.specs.SourceSteps.{notice_by, CanPut, PutDown};
 

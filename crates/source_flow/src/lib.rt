@@ -1,4 +1,4 @@
-//! One flow by the meaning of its programs' sources, without machine and code: its account after a word of letters.
+//! One flow by the meaning of its programs' sources: its account after a word of letters.
 #![tactic(auto)]
 
 pub mod calls;

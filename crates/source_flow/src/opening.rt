@@ -1,5 +1,5 @@
 //! A flow before its first letter.
-ghost use Rattle.std.specs.Prelude.{◌≡◌, IfOk};
+ghost use Rattle.std.specs.Prelude.{IfOk};
 ghost use Rattle.flow_core.specs.World.{opening};
 ghost use Rattle.source_flow.specs.SourceStates.{flow_of, AreMatched, IsAt, IsSound};
 ghost use Rattle.source_flow.specs.SourceWalks.{IsOpening};

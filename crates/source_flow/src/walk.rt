@@ -2,7 +2,7 @@
 ghost use Rattle.std.specs.Prelude.{◌≡◌, option_map, IfOk, OnOk};
 ghost use Rattle.ccp_base.specs.declared.place.Place.{Place};
 ghost use Rattle.flow_core.specs.World.{World};
-ghost use Rattle.flow_core.specs.Words.{from_link, after_letter, is_legal};
+ghost use Rattle.flow_core.specs.Words.{from_link, after_letter};
 ghost use Rattle.flow_core.specs.LiveText.{account_of};
 ghost use Rattle.source_flow.specs.SourceAccounts.{account_after, account_in};
 ghost use Rattle.source_flow.specs.SourceStates.{flow_of, AreMatched, IsAt, IsSound};

@@ -1,4 +1,4 @@
-use Rattle.std.proofs.Common.{◌≡◌, ℕ, Option, Some, option_map, List, ap, sym, ◌∙◌}
+use Rattle.std.proofs.Common.{◌≡◌, ℕ, Some, option_map, List, ap, sym, ◌∙◌}
 use Rattle.ccp_base.specs.declared.place.Place.{Place}
 use Rattle.portus_core.specs.ProgramForm.{form_of}
 use Rattle.reg_compiler.specs.declared.built.Built.{Built}
@@ -6,7 +6,7 @@ use Rattle.flow_core.specs.declared.case.Case.{Case}
 use Rattle.flow_core.specs.Readings.{Flow, over_sources}
 use Rattle.source_flow.specs.Sourced.{built_at}
 use Rattle.source_flow.specs.SourceAccounts.{flow_by, account_after}
-use Rattle.source_flow.proofs.MatchedLemmas.{source-found}
+use Rattle.source_flow.proofs.FoundLemmas.{source-found}
 use Rattle.source_flow.proofs.calls.account.Goals as goal
 
 -- the flow over the programs that were found is the one over the list

@@ -1,8 +1,8 @@
-use Rattle.std.proofs.Common.{◌≡◌, ℕ, Some, None, Option, Result, Ok, Err, ap, sym, ◌∙◌}
+use Rattle.std.proofs.Common.{◌≡◌, ℕ, Option, Ok, Err, ap, sym, ◌∙◌}
 use Rattle.portus_core.specs.declared.env.Env.{Env}
 use Rattle.portus_core.specs.declared.env.StartFault.{StartFault}
 use Rattle.portus_core.specs.declared.env.StartFault.TheVariants.{BadRegister}
-use Rattle.portus_core.specs.Epoch.{start_from, start_of, declared_env, with_values}
+use Rattle.portus_core.specs.Epoch.{start_from, declared_env, with_values}
 use Rattle.portus_core.specs.ProgramForm.{form_of}
 use Rattle.source_flow.proofs.settling.started.Goals as goal
 

@@ -1,4 +1,4 @@
-use Rattle.std.proofs.Common.{◌≡◌, true, false, Option, Some, ap, sym, ◌∙◌, subst}
+use Rattle.std.proofs.Common.{true, false, Option, Some, ap, sym, ◌∙◌, subst}
 use Rattle.flow_core.specs.LiveText.{Account}
 use Rattle.flow_core.specs.Words.{world}
 use Rattle.source_flow.specs.declared.state.State.{State}

@@ -1,4 +1,4 @@
-use Rattle.std.proofs.Common.{◌≡◌, ℕ, ◌+◌, true, false, take, sym, ◌∙◌, subst}
+use Rattle.std.proofs.Common.{◌≡◌, ◌+◌, false, take, sym, ◌∙◌, subst}
 use Rattle.ccp_base.specs.declared.place.Place.{Place}
 use Rattle.flow_core.specs.declared.letter.Letter.TheVariants.{A}
 use Rattle.flow_core.specs.World.{World}
