@@ -3,14 +3,16 @@ ghost use Rattle.source_flow.specs.SourceAccounts.{flow_by, account_after, accou
 ghost use Rattle.source_flow.specs.Sourced.{IsSourced};
 
 use crate::flow_account::FlowAccount;
+use crate::source_case::{SourceCase, built_at};
+use crate::walk::account_over;
 use ccp_base::NoMemory;
 use flow_core::{Case, Letter};
 use reg_compiler::Builts;
 use std::alloc::Global;
 
-/// What the flow of a case comes to after a word, by the meaning of the sources of its programs, and no code: its
-/// account exactly where the word is legal and complete, None exactly where it isn't. The programs that the case's roles
-/// name must be among these. Each letter takes a bounded number of steps beside those of its source.
+/// What the flow of a case comes to after a word, by the meaning of the sources of its programs: its account where the
+/// word is legal and complete, None exactly where it isn't. Each program that the case's roles name must be among these,
+/// and be simulated by the role's code.
 pub fn account(
     alloc: Global,
     case: &Case,
@@ -20,5 +22,17 @@ pub fn account(
     requires { IsSourced programs.now case.now }
     ensures { IfOk result (λ found. option_map account_in found ≡ account_after (flow_by programs.now case.now) case.now.link word.now) }
 {
-    Err(NoMemory)
+    let Some(ss) = built_at(programs.as_slice(), case.ss.role.number) else {
+        unreachable!()
+    };
+    let Some(ca) = built_at(programs.as_slice(), case.ca.role.number) else {
+        unreachable!()
+    };
+    let source = SourceCase {
+        case,
+        ss: &ss.program,
+        ca: &ca.program,
+    };
+    let found = account_over(alloc, &source, word)?;
+    Ok(found)
 }
