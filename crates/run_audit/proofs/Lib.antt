@@ -1,0 +1,12 @@
+pub mod ForcedLemmas
+pub mod WorldMarks
+pub mod Pieces
+pub mod NumeralLemmas
+pub mod LineReadings
+pub mod FrontLemmas
+pub mod PartLemmas
+pub mod VerdictLemmas
+pub mod LineSteps
+pub mod JudgeSteps
+pub mod NameLemmas
+pub mod WordsLemmas

@@ -1,0 +1,53 @@
+-- When a text is the live text of flows, and else with how many flows it begins.
+use Rattle.std.specs.Prelude.{◌≡◌, ◌≤◌, ℕ, true, List, [], ◌∷◌, length, take, ⊤}
+use Rattle.ccp_base.specs.Text.{◌⧺◌}
+use Rattle.flow_core.specs.declared.case.Case.{Case}
+use Rattle.flow_core.specs.declared.letter.Letter.{Letter}
+use Rattle.flow_core.specs.Words.{world, legal, is_complete}
+use Rattle.flow_core.specs.LiveText.{Sources, flow_from, live_text}
+use Rattle.run_audit.specs.declared.verdict.Verdict.{Verdict}
+use Rattle.run_audit.specs.declared.verdict.Verdict.TheVariants.{Yes, No}
+
+-- the word is legal and complete for the case, read over the sources of its programs
+pub record IsWordOf (sources : Sources) (case : Case) (word : List Letter) : Type 0 where
+  pub legal : legal (flow_from sources case) case.link word ≡ true
+  pub complete : is_complete (flow_from sources case) (world (flow_from sources case) case.link word) ≡ true
+
+-- one such word a case, in order
+abbrev pub AreWordsOf : Sources → List Case → List (List Letter) → Type 0
+AreWordsOf sources [] [] = ⊤
+AreWordsOf sources [] (word ∷ words) = ⊥
+AreWordsOf sources (case ∷ cases) [] = ⊥
+AreWordsOf sources (case ∷ cases) (word ∷ words) = IsWordOf sources case word × AreWordsOf sources cases words
+
+-- each case with its word
+abbrev pub with_words : List Case → List (List Letter) → List (Case × List Letter)
+with_words [] words = []
+with_words (case ∷ cases) [] = []
+with_words (case ∷ cases) (word ∷ words) = (case, word) ∷ with_words cases words
+
+-- the text is the live text of the cases for some legal and complete words
+pub record IsLiveText (sources : Sources) (cases : List Case) (text : List ℕ) : Type 0 where
+  pub words : List (List Letter)
+  pub are : AreWordsOf sources cases words
+  pub whole : text ≡ live_text sources (with_words cases words)
+
+-- the text begins with the live text of the cases for some legal and complete words
+pub record BeginsWith (sources : Sources) (cases : List Case) (text : List ℕ) : Type 0 where
+  pub words : List (List Letter)
+  pub are : AreWordsOf sources cases words
+  pub rest : List ℕ
+  pub whole : text ≡ live_text sources (with_words cases words) ⧺ rest
+
+-- the text isn't the live text of the cases, and this is the greatest number of them, from the first one on, with whose
+-- parts it begins
+pub record IsNot (sources : Sources) (cases : List Case) (text : List ℕ) (count : ℕ) : Type 0 where
+  pub other : IsLiveText sources cases text → ⊥
+  pub within : count ≤ length cases
+  pub begins : BeginsWith sources (take count cases) text
+  pub greatest : (more : ℕ) → more ≤ length cases → BeginsWith sources (take more cases) text → more ≤ count
+
+-- what is said of a text as the live text of cases
+abbrev pub IsVerdict : Sources → List Case → List ℕ → Verdict → Type 0
+IsVerdict sources cases text Yes = IsLiveText sources cases text
+IsVerdict sources cases text (No flow) = IsNot sources cases text flow

@@ -1,0 +1,12 @@
+use ccp_base::Sequence;
+use flow_core::Letter;
+
+/// A letter of a ticket, and at how many acknowledgements it stands.
+#[derive(Clone, Copy, PartialEq, Eq, Debug)]
+pub struct Mark {
+    pub at: u64,
+    pub letter: Letter,
+}
+
+/// Letters of tickets in order.
+pub type Marks = Sequence<Mark>;

@@ -1,0 +1,6 @@
+pub mod StateLemmas
+pub mod HeardLemmas
+pub mod SettledLemmas
+pub mod GoodLemmas
+pub mod WalkedLemmas
+pub mod FoundLemmas

@@ -1,0 +1,34 @@
+use Rattle.std.proofs.Common.{◌≡◌, ℕ, ◌+◌, nat_lt, [], ◌∷◌, ◌++◌, ap, sym, ◌∙◌, subst}
+use Rattle.ccp_base.specs.declared.ack.Ack.{Ack}
+use Rattle.link_model.specs.Link.{ack_after}
+use Rattle.link_model.specs.Standing.{Stands}
+use Rattle.portus_core.specs.Epoch.{by_source, heard, stops}
+use Rattle.flow_core.specs.World.{after_ack}
+use Rattle.source_flow.specs.declared.state.Present.{Present}
+use Rattle.source_flow.specs.SourceStates.{flow_of, outcome_met, Kept, IsAt}
+use Rattle.source_flow.specs.SourceSteps.{PutDown}
+use Rattle.source_flow.proofs.HeardLemmas.{at-heard}
+use Rattle.source_flow.proofs.state.State.hear.Goals as goal
+
+pub returns-clause-at : goal.returns-clause-at
+returns-clause-at c = λ w at.
+    let source = c.args.source.now in
+    let s = c.args.self.now in
+    let link = c.next-ack.new.self in
+    let ack : Ack = c.next-ack.result in
+    let outcome = outcome_met c.in_ok-mean.mean in
+    let env = c.run.new.self.env in
+    let put = c.put_down.new.self in
+    let room = nat_lt c.len.result source.case.now.slots in
+    let is_room = ap (λ (n : ℕ). nat_lt n source.case.now.slots) (c.len.ensures ∙ s.waiting.ok.0) in
+    let met =
+    (λ i. heard (by_source (sym c.program-program.ensures i)) s.present.is_stopped s.present.env ack room) ∙ c.in_ok-mean.ensures.met in
+    let present : c.run.new.self ≡ record s.present { env = env; is_stopped = stops outcome } =
+    c.in_ok-mean.ensures.frame ∙ (λ i. record s.present { env = env; is_stopped = c.in_ok-mean.ensures.stopped i }) in
+    let down =
+    subst (λ (p : Present). PutDown source.case.now.flow (record s { link = link; present = p }) put ack outcome) present c.in_ok-put_down.ensures in
+    let stands = subst (λ (n : ℕ). Stands link (w.windows ++ n ∷ [])) (ap (λ (k : Kept). k.env.cwnd) at.kept) (c.next-ack.ensures.stands w.windows at.stands) in
+    let is_ack =
+    c.next-ack.ensures.ack w.windows at.stands ∙ (λ i. ack_after (c.requires.sound.link i) w.windows (at.kept i).env.cwnd) in
+    subst (λ (a : Ack). IsAt (flow_of source) (record put { acks = put.acks + 1; time = ack.now }) (after_ack (flow_of source) a w)) is_ack
+    (at-heard source s w at link room ack outcome env put is_room met down stands)

@@ -1,0 +1,40 @@
+use Rattle.std.proofs.Common.{◌≡◌, ◌+◌, false, take, sym, ◌∙◌, subst}
+use Rattle.ccp_base.specs.declared.place.Place.{Place}
+use Rattle.flow_core.specs.declared.letter.Letter.TheVariants.{A}
+use Rattle.flow_core.specs.World.{World}
+use Rattle.flow_core.specs.Words.{world, legal}
+use Rattle.source_flow.specs.SourceStates.{flow_of, IsAt}
+use Rattle.source_flow.proofs.WalkedLemmas.{world-next, legal-next, illegal-front}
+use Rattle.source_flow.proofs.walk.walk.Goals as goal
+
+pub returns-then-not-may : goal.returns-then-not-may
+returns-then-not-may c =
+    let source = c.args.source.now in
+    let flow = flow_of source in
+    let link = source.case.now.link in
+    let word = c.args.word.now in
+    let i = c.loop-letter.letter-index in
+    let invariant = c.loop-letter.invariant in
+    let next : legal flow link (take (i + 1) word) ≡ false =
+    legal-next flow link word i A c.loop-letter-test.true invariant.legal
+    ∙ sym (c.may.ensures.legal (world flow link (take i word)) invariant.at)
+    ∙ c.if-not-may.true in
+    illegal-front flow link word (i + 1) next
+
+pub loop-letter-preserved : goal.loop-letter-preserved
+loop-letter-preserved c =
+    let source = c.args.source.now in
+    let flow = flow_of source in
+    let link = source.case.now.link in
+    let word = c.args.word.now in
+    let i = c.loop-letter.letter-index in
+    let invariant = c.loop-letter.invariant in
+    let before : World Place = world flow link (take i word) in
+    record {
+      legal =
+          legal-next flow link word i A c.loop-letter-test.true invariant.legal
+          ∙ sym (c.may.ensures.legal before invariant.at)
+          ∙ c.if-not-may.false;
+      sound = c.in_ok-make.ensures.sound;
+      at = subst (λ (w : World Place). IsAt flow c.make.new.self w) (sym (world-next flow link word i A c.loop-letter-test.true)) (c.in_ok-make.ensures.at before invariant.at);
+    }

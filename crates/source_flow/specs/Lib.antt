@@ -1,0 +1,5 @@
+pub mod SourceAccounts
+pub mod Sourced
+pub mod SourceStates
+pub mod SourceSteps
+pub mod SourceWalks

@@ -1,0 +1,102 @@
+-- What the steps of a flow over its sources change of what is kept.
+use Rattle.std.specs.Prelude.{◌≡◌, ℕ, ◌+◌, ◌<◌, false, Option, Some, None, option_map, List, [], ◌∷◌, ◌++◌, length, map}
+use Rattle.ccp_base.specs.Limits.{most_acks}
+use Rattle.ccp_base.specs.declared.ack.Ack.{Ack}
+use Rattle.ccp_base.specs.declared.exchange.Notice.{Notice}
+use Rattle.ccp_base.specs.declared.exchange.Reply.{Reply}
+use Rattle.ccp_base.specs.declared.exchange.Reply.TheVariants.{Nothing, Update, Change}
+use Rattle.ccp_base.specs.FieldReg.{Pair, first_bad}
+use Rattle.ccp_base.specs.declared.exchange.Told.{Told}
+use Rattle.ccp_base.specs.declared.exchange.Told.TheVariants as told
+use Rattle.ccp_base.specs.declared.exchange.Report.{Report}
+use Rattle.ccp_base.specs.declared.place.Place.{Place}
+use Rattle.portus_core.specs.Value.{Cause}
+use Rattle.portus_core.specs.OneAcknowledgement.{IsEnvOf}
+use Rattle.portus_core.specs.Epoch.{Outcome, Track, next_first, with_values, declared_env}
+use Rattle.portus_core.specs.Reports.{Epoch, reports_met}
+use Rattle.agent_core.specs.declared.agent.Agent.{Agent}
+use Rattle.agent_core.specs.Agents.{values_of}
+use Rattle.flow_core.specs.World.{Failure, failures_met, held_met}
+use Rattle.source_flow.specs.declared.state.State.{State}
+use Rattle.source_flow.specs.declared.source_case.SourceCase.{SourceCase}
+use Rattle.source_flow.specs.SourceAccounts.{failure_of}
+use Rattle.source_flow.specs.SourceStates.{form_at}
+
+-- whose reports the present epoch's are
+abbrev pub reporter : ℕ → State → Epoch
+reporter flow s = record { flow = flow; program = s.present.program; number = s.present.number }
+
+-- how the present epoch stands
+abbrev pub track_in : State → Track
+track_in s = record { env = s.present.env; is_stopped = s.present.is_stopped; first = s.present.first; count = s.acks }
+
+-- the fault that an outcome tells of, or none
+abbrev pub failures_in : State → Ack → Outcome Cause → List (Failure Place)
+failures_in s ack outcome = failures_met s.present.program s.present.number s.acks ack (outcome, s.present.env)
+
+-- what the notice of a fault of a flow says; a place has no index
+abbrev pub notice_by : ℕ → Failure Place → Notice
+notice_by flow failure = record {
+  flow = flow;
+  program = failure.program;
+  epoch = failure.epoch;
+  at = failure.at;
+  kind = failure.kind;
+  index = 0;
+  now = failure.now;
+  cwnd = failure.cwnd;
+}
+
+-- a fault leaves its notice untold
+abbrev pub untold_by : ℕ → List (Failure Place) → Option Notice → Option Notice
+untold_by flow [] untold = untold
+untold_by flow (failure ∷ rest) untold = Some (notice_by flow failure)
+
+-- the counts are in range
+pub record CanPut (s : State) : Type 0 where
+  pub acks : s.acks < most_acks
+  pub held : s.held < most_acks
+
+-- what an outcome changes
+pub record PutDown (flow : ℕ) (old new : State) (ack : Ack) (outcome : Outcome Cause) : Type 0 where
+  pub frame : new ≡ record old { present = new.present; waiting = new.waiting; untold = new.untold; faults = new.faults; held = new.held }
+  pub present : new.present ≡ record old.present { first = next_first outcome (track_in old) }
+  pub waiting : new.waiting.items ≡ old.waiting.items ++ reports_met (reporter flow old) (track_in old) ack outcome old.present.env
+  pub untold : new.untold ≡ untold_by flow (failures_in old ack outcome) old.untold
+  pub faults : map failure_of new.faults ≡ map failure_of old.faults ++ failures_in old ack outcome
+  pub held : new.held ≡ old.held + held_met outcome
+
+-- the oldest report is told, or else the notice
+abbrev pub told_next : List Report → Option Notice → Option Told
+told_next (report ∷ rest) untold = Some (told.Report report)
+told_next [] untold = option_map told.Fault untold
+
+-- the notice that is left then
+abbrev pub untold_left : List Report → Option Notice → Option Notice
+untold_left (report ∷ rest) untold = untold
+untold_left [] untold = None
+
+-- ---- a reply is obeyed
+
+-- the program of a change has each control variable that the agent's values name
+abbrev pub AreGood : SourceCase → Agent → Reply → Type 0
+AreGood source agent Nothing = Unit {0}
+AreGood source agent (Update cwnd) = Unit {0}
+AreGood source agent (Change program cwnd cap) =
+    first_bad (length (form_at source program).controls) (values_of agent (Change program cwnd cap)) ≡ None
+
+-- a change starts the program and an epoch, and makes an untold notice void
+pub record Changed (source : SourceCase) (program : ℕ) (values : List Pair) (old new : State) : Type 0 where
+  pub env : new.present.env ≡ with_values values (declared_env (form_at source program) old.present.env.cwnd old.present.env.rate old.time)
+  pub shape : IsEnvOf (form_at source program) new.present.env
+  pub present : new.present ≡ record { program = program; number = old.present.number + 1; env = new.present.env; is_stopped = false; first = old.acks }
+  pub epochs : new.epochs ≡ old.epochs ++ record { program = program; at = old.acks; cwnd = new.present.env.cwnd } ∷ []
+  pub frame : new ≡ record old { present = new.present; untold = None; epochs = new.epochs }
+
+-- an update writes the window
+abbrev pub Obeyed : SourceCase → Agent → Reply → State → State → Type 0
+Obeyed source agent Nothing old new = new ≡ old
+Obeyed source agent (Update cwnd) old new =
+    new ≡ record old { present = record old.present { env = record old.present.env { cwnd = cwnd } } }
+Obeyed source agent (Change program cwnd cap) old new =
+    Changed source program (values_of agent (Change program cwnd cap)) old new

@@ -1,0 +1,38 @@
+-- What a walk along a word comes to.
+use Rattle.std.specs.Prelude.{◌≡◌, ◌<◌, true, false, Option, Some, None, List}
+use Rattle.flow_core.specs.declared.letter.Letter.{Letter}
+use Rattle.flow_core.specs.declared.letter.Letter.TheVariants.{A, T, C}
+use Rattle.flow_core.specs.Words.{world, legal}
+use Rattle.agent_core.specs.Agents.{begun, course_of, values_of}
+use Rattle.portus_core.specs.Epoch.{with_values, declared_env}
+use Rattle.portus_core.specs.OneAcknowledgement.{IsEnvOf}
+use Rattle.source_flow.specs.declared.source_case.SourceCase.{SourceCase}
+use Rattle.source_flow.specs.declared.state.Present.{Present}
+use Rattle.source_flow.specs.declared.state.State.{State}
+use Rattle.source_flow.specs.SourceStates.{form_at, flow_of, IsAt, IsSound}
+
+-- the letter's step may be made: an acknowledgement is left, or no ticket is out
+abbrev pub IsPermitted : SourceCase → Letter → State → Type 0
+IsPermitted source A s = s.acks < source.case.now.acks
+IsPermitted source T s = s.out ≡ None
+IsPermitted source C s = Unit {0}
+
+-- the epoch that the agent's opening change starts
+pub record IsOpening (source : SourceCase) (present : Present) : Type 0 where
+  pub program : present.program ≡ (course_of source.case.now.agent).ss.number
+  pub env : present.env ≡ with_values (values_of source.case.now.agent (begun source.case.now.agent)) (declared_env (form_at source present.program) 0 0 0)
+  pub shape : IsEnvOf (form_at source present.program) present.env
+  pub number : present.number ≡ 0
+  pub running : present.is_stopped ≡ false
+  pub first : present.first ≡ 0
+
+-- the state after a legal word
+pub record IsAfter (source : SourceCase) (word : List Letter) (s : State) : Type 0 where
+  pub legal : legal (flow_of source) source.case.now.link word ≡ true
+  pub sound : IsSound source s
+  pub at : IsAt (flow_of source) s (world (flow_of source) source.case.now.link word)
+
+-- the state after the word, or that some letter isn't legal at its point
+abbrev pub IsWalked : SourceCase → List Letter → Option State → Type 0
+IsWalked source word None = legal (flow_of source) source.case.now.link word ≡ false
+IsWalked source word (Some s) = IsAfter source word s

@@ -1,0 +1,142 @@
+//! The answer to the ticket that is out is applied.
+ghost use Rattle.std.specs.Prelude.{◌≡◌, ◌+◌, ◌<◌, ◌∷◌, [], ◌++◌, Some, None, IfOk, OnOk, length};
+ghost use Rattle.ccp_base.specs.Limits.{most_acks};
+ghost use Rattle.ccp_base.specs.FieldReg.{first_bad};
+ghost use Rattle.ccp_base.specs.declared.place.Place.{Place};
+ghost use Rattle.portus_core.specs.Epoch.{with_values, declared_env};
+ghost use Rattle.portus_core.specs.OneAcknowledgement.{IsEnvOf};
+ghost use Rattle.portus_core.specs.ProgramForm.{form_of};
+ghost use Rattle.flow_core.specs.World.{World, after_answer};
+ghost use Rattle.source_flow.specs.SourceStates.{form_at, flow_of, IsAt, IsSound};
+ghost use Rattle.source_flow.specs.SourceSteps.{AreGood, Changed, Obeyed};
+
+use crate::source_case::SourceCase;
+use crate::state::{Issued, Present, State};
+use agent_core::Agent;
+use ccp_base::{Fields, NoMemory, Reply};
+use flow_core::{EpochLine, TicketLine};
+use portus_core::{Env, Program, StartFault};
+use std::alloc::Global;
+
+/// The env that an epoch starts with. The program has each control variable that the values name.
+pub(crate) fn started(
+    alloc: Global,
+    program: &Program,
+    values: &Fields,
+    cwnd: u64,
+    rate: u64,
+    now: u64,
+) -> Result<Env, NoMemory>
+    requires good { first_bad (length (form_of program.now).controls) values.now ≡ None }
+    ensures env { IfOk result (λ env. env ≡ with_values values.now (declared_env (form_of program.now) cwnd rate now)) }
+    ensures shape { IfOk result (λ env. IsEnvOf (form_of program.now) env) }
+{
+    match program.start(alloc, values, cwnd, rate, now) {
+        Ok(env) => Ok(env),
+        Err(StartFault::NoMemory) => Err(NoMemory),
+        Err(StartFault::BadRegister(_)) => unreachable!(),
+    }
+}
+
+impl State {
+    /// Applies the agent's answer to the ticket that is out.
+    pub(crate) fn answer(&mut self, alloc: Global, source: &SourceCase<'_>) -> Result<(), NoMemory>
+        requires sound { IsSound source.now self.old }
+        ensures sound { OnOk result (IsSound source.now self.new) }
+        ensures at { OnOk result ((w : World Place) → IsAt (flow_of source.now) self.old w → IsAt (flow_of source.now) self.new (after_answer (flow_of source.now) w)) }
+    {
+        match self.out {
+            Some(issued) => self.settle(alloc, source, &issued),
+            None => Ok(()),
+        }
+    }
+
+    /// Applies the agent's answer to this ticket, which is out.
+    fn settle(
+        &mut self,
+        alloc: Global,
+        source: &SourceCase<'_>,
+        issued: &Issued,
+    ) -> Result<(), NoMemory>
+        requires sound { IsSound source.now self.old }
+        requires out { self.old.out ≡ Some issued.now }
+        ensures sound { OnOk result (IsSound source.now self.new) }
+        ensures at { OnOk result ((w : World Place) → IsAt (flow_of source.now) self.old w → IsAt (flow_of source.now) self.new (after_answer (flow_of source.now) w)) }
+    {
+        let before = self.agent;
+        let reply = self.agent.reply(&issued.told);
+        self.close(issued, reply)?;
+        self.obey(alloc, source, &before, &reply)?;
+        Ok(())
+    }
+
+    /// Puts down that the ticket that is out was answered so.
+    fn close(&mut self, issued: &Issued, reply: Reply) -> Result<(), NoMemory>
+        ensures tickets { OnOk result (self.new.tickets ≡ self.old.tickets ++ record { told = issued.now.told; taken = issued.now.taken; answered = self.old.acks; reply = reply } ∷ []) }
+        ensures frame { OnOk result (self.new ≡ record self.old { out = None; tickets = self.new.tickets }) }
+    {
+        self.tickets.push(TicketLine {
+            told: issued.told,
+            taken: issued.taken,
+            answered: self.acks,
+            reply,
+        })?;
+        self.out = None;
+        Ok(())
+    }
+
+    /// Does what a reply of this agent says.
+    fn obey(
+        &mut self,
+        alloc: Global,
+        source: &SourceCase<'_>,
+        agent: &Agent,
+        reply: &Reply,
+    ) -> Result<(), NoMemory>
+        requires good { AreGood source.now agent.now reply.now }
+        requires number { self.old.present.number < most_acks }
+        ensures { OnOk result (Obeyed source.now agent.now reply.now self.old self.new) }
+    {
+        match *reply {
+            Reply::Nothing => Ok(()),
+            Reply::Update(cwnd) => {
+                self.present.env.cwnd = cwnd;
+                Ok(())
+            }
+            Reply::Change { program, .. } => {
+                self.change(alloc, source, program, &agent.values(reply))
+            }
+        }
+    }
+
+    /// Starts the program with this number, and with it an epoch. An untold notice is void then.
+    fn change(
+        &mut self,
+        alloc: Global,
+        source: &SourceCase<'_>,
+        program: u32,
+        values: &Fields,
+    ) -> Result<(), NoMemory>
+        requires good { first_bad (length (form_at source.now program).controls) values.now ≡ None }
+        requires number { self.old.present.number < most_acks }
+        ensures { OnOk result (Changed source.now program values.now self.old self.new) }
+    {
+        let form = source.program(program);
+        let cwnd = self.present.env.cwnd;
+        let env = started(alloc, form, values, cwnd, self.present.env.rate, self.time)?;
+        self.epochs.push(EpochLine {
+            program,
+            at: self.acks,
+            cwnd: env.cwnd,
+        })?;
+        self.present = Present {
+            program,
+            number: self.present.number + 1,
+            env,
+            is_stopped: false,
+            first: u64::from(self.acks),
+        };
+        self.untold = None;
+        Ok(())
+    }
+}

@@ -1,0 +1,51 @@
+use crate::flow_account::SourceFault;
+use agent_core::Agent;
+use ccp_base::{Notice, Report, Sequence, Told};
+use flow_core::{EpochLine, TicketLine};
+use link_model::Link;
+use portus_core::Env;
+use std::collections::VecDeque;
+
+/// The epoch that runs.
+#[derive(Drop)]
+pub(crate) struct Present {
+    pub(crate) program: u32,
+    /// How many epochs ended before it.
+    pub(crate) number: u32,
+    pub(crate) env: Env,
+    /// Whether a fault stopped it.
+    pub(crate) is_stopped: bool,
+    /// The number of acknowledgements at which the unreported span begins.
+    pub(crate) first: u64,
+}
+
+/// What the ticket that is out tells, and at how many acknowledgements it was taken.
+#[derive(Clone, Copy, Drop)]
+pub(crate) struct Issued {
+    pub(crate) told: Told,
+    pub(crate) taken: u32,
+}
+
+/// All that is kept of a flow.
+#[derive(Drop)]
+pub(crate) struct State {
+    pub(crate) link: Link,
+    pub(crate) present: Present,
+    /// How many acknowledgements are in.
+    pub(crate) acks: u32,
+    /// The time of the last acknowledgement, in microseconds, 0 where there is none.
+    pub(crate) time: u64,
+    /// The reports that wait, the oldest first.
+    pub(crate) waiting: VecDeque<Report>,
+    /// The fault notice that is untold.
+    pub(crate) untold: Option<Notice>,
+    pub(crate) agent: Agent,
+    pub(crate) out: Option<Issued>,
+    /// The tickets that were answered.
+    pub(crate) tickets: Sequence<TicketLine>,
+    /// The epochs, the present one last.
+    pub(crate) epochs: Sequence<EpochLine>,
+    pub(crate) faults: Sequence<SourceFault>,
+    /// How many reports were asked for while there was no room.
+    pub(crate) held: u32,
+}

@@ -1,0 +1,69 @@
+//! A report or a fault notice is taken as a ticket, and whether a letter may come.
+ghost use Rattle.std.specs.Prelude.{◌≡◌, None, is_some, drop};
+ghost use Rattle.std.specs.Bool.{OnTrue};
+ghost use Rattle.ccp_base.specs.declared.place.Place.{Place};
+ghost use Rattle.flow_core.specs.World.{World, after_take};
+ghost use Rattle.flow_core.specs.Words.{can_take, is_legal, is_complete};
+ghost use Rattle.source_flow.specs.SourceStates.{flow_of, IsAt, IsSound};
+ghost use Rattle.source_flow.specs.SourceWalks.{IsPermitted};
+ghost use Rattle.source_flow.specs.SourceSteps.{told_next, untold_left};
+
+use crate::source_case::SourceCase;
+use crate::state::{Issued, State};
+use ccp_base::Told;
+use flow_core::Letter;
+
+impl State {
+    /// Whether a report waits or a notice is untold.
+    fn can_take(&self) -> bool
+        ensures { result ≡ is_some (told_next self.now.waiting.items self.now.untold) }
+    {
+        !self.waiting.is_empty() || self.untold.is_some()
+    }
+
+    /// Whether a letter is legal now.
+    pub(crate) fn may(&self, source: &SourceCase<'_>, letter: Letter) -> bool
+        ensures legal { (w : World Place) → IsAt (flow_of source.now) self.now w → result ≡ is_legal (flow_of source.now) w letter }
+        ensures permitted { OnTrue result (IsPermitted source.now letter self.now) }
+    {
+        match letter {
+            Letter::A => self.acks < source.case.acks,
+            Letter::T => self.out.is_none() && self.can_take(),
+            Letter::C => self.out.is_some(),
+        }
+    }
+
+    /// Whether all acknowledgements are in, nothing can be taken and no ticket is out.
+    pub(crate) fn is_complete(&self, source: &SourceCase<'_>) -> bool
+        ensures { (w : World Place) → IsAt (flow_of source.now) self.now w → result ≡ is_complete (flow_of source.now) w }
+    {
+        self.acks >= source.case.acks && self.out.is_none() && !self.can_take()
+    }
+
+    /// Takes out what is told next.
+    fn pop(&mut self) -> Option<Told>
+        ensures told { result ≡ told_next self.old.waiting.items self.old.untold }
+        ensures waiting { self.new.waiting.items ≡ drop 1 self.old.waiting.items }
+        ensures untold { self.new.untold ≡ untold_left self.old.waiting.items self.old.untold }
+        ensures frame { self.new ≡ record self.old { waiting = self.new.waiting; untold = self.new.untold } }
+    {
+        if let Some(report) = self.waiting.pop_front() {
+            return Some(Told::Report(report));
+        }
+        let notice = self.untold.take()?;
+        Some(Told::Fault(notice))
+    }
+
+    /// Takes the oldest report, or else the notice, as a ticket. No ticket may be out.
+    pub(crate) fn take(&mut self, source: &SourceCase<'_>)
+        requires sound { IsSound source.now self.old }
+        requires none_out { self.old.out ≡ None }
+        ensures sound { IsSound source.now self.new }
+        ensures at { (w : World Place) → IsAt (flow_of source.now) self.old w → IsAt (flow_of source.now) self.new (after_take w) }
+    {
+        let taken = self.acks;
+        if let Some(told) = self.pop() {
+            self.out = Some(Issued { told, taken });
+        }
+    }
+}

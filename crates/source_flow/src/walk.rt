@@ -1,0 +1,97 @@
+//! A word, letter by letter, as long as each is legal.
+ghost use Rattle.std.specs.Prelude.{◌≡◌, option_map, IfOk, OnOk};
+ghost use Rattle.ccp_base.specs.declared.place.Place.{Place};
+ghost use Rattle.flow_core.specs.World.{World};
+ghost use Rattle.flow_core.specs.Words.{from_link, after_letter};
+ghost use Rattle.flow_core.specs.LiveText.{account_of};
+ghost use Rattle.source_flow.specs.SourceAccounts.{account_after, account_in};
+ghost use Rattle.source_flow.specs.SourceStates.{flow_of, AreMatched, IsAt, IsSound};
+ghost use Rattle.source_flow.specs.SourceWalks.{IsPermitted, IsWalked};
+
+use crate::flow_account::FlowAccount;
+use crate::source_case::SourceCase;
+use crate::state::State;
+use ccp_base::{NoMemory, Values};
+use flow_core::Letter;
+use report_lines::End;
+use std::alloc::Global;
+
+impl State {
+    /// Makes a letter, which must be legal.
+    fn make(
+        &mut self,
+        alloc: Global,
+        source: &SourceCase<'_>,
+        letter: Letter,
+    ) -> Result<(), NoMemory>
+        requires sound { IsSound source.now self.old }
+        requires legal { IsPermitted source.now letter self.old }
+        ensures sound { OnOk result (IsSound source.now self.new) }
+        ensures at { OnOk result ((w : World Place) → IsAt (flow_of source.now) self.old w → IsAt (flow_of source.now) self.new (after_letter (flow_of source.now) (from_link (flow_of source.now) source.now.case.now.link) w letter)) }
+    {
+        match letter {
+            Letter::A => self.hear(alloc, source),
+            Letter::T => {
+                self.take(source);
+                Ok(())
+            }
+            Letter::C => self.answer(alloc, source),
+        }
+    }
+
+    /// What the flow comes to.
+    fn into_account(self, source: &SourceCase<'_>) -> FlowAccount
+        requires { IsSound source.now self }
+        ensures { (w : World Place) → IsAt (flow_of source.now) self w → account_in result ≡ account_of (flow_of source.now) w }
+    {
+        let end = End {
+            acks: u64::from(self.acks),
+            first: self.present.first,
+            stopped: self.present.is_stopped,
+            cwnd: self.present.env.cwnd,
+            rate: self.present.env.rate,
+            fields: Values::from_slice(self.present.env.fields.as_slice()),
+        };
+        FlowAccount {
+            epochs: self.epochs,
+            faults: self.faults,
+            tickets: self.tickets,
+            held: self.held,
+            program: self.present.program,
+            end,
+        }
+    }
+}
+
+/// The state after a word, None exactly where some letter isn't legal at its point.
+fn walk(alloc: Global, source: &SourceCase<'_>, word: &[Letter]) -> Result<Option<State>, NoMemory>
+    requires { AreMatched source.now }
+    ensures { IfOk result (λ state. IsWalked source.now word.now state) }
+{
+    let mut state = State::open(alloc, source)?;
+    for letter in word {
+        if !state.may(source, *letter) {
+            return Ok(None);
+        }
+        state.make(alloc, source, *letter)?;
+    }
+    Ok(Some(state))
+}
+
+/// The account of a word, None exactly where it isn't legal or not complete.
+pub(crate) fn account_over(
+    alloc: Global,
+    source: &SourceCase<'_>,
+    word: &[Letter],
+) -> Result<Option<FlowAccount>, NoMemory>
+    requires { AreMatched source.now }
+    ensures { IfOk result (λ found. option_map account_in found ≡ account_after (flow_of source.now) source.now.case.now.link word.now) }
+{
+    let Some(state) = walk(alloc, source, word)? else {
+        return Ok(None);
+    };
+    if !state.is_complete(source) {
+        return Ok(None);
+    }
+    Ok(Some(state.into_account(source)))
+}
