@@ -1,11 +1,12 @@
 -- Two slots of a pool are kept aside: what a change of one of them, or of another slot, leaves.
-use Rattle.std.proofs.Common.{◌≡◌, ◌≢◌, ℕ, ◌+◌, ◌-◌, true, List, [], Option, Some, None, Result, Ok, Err, IfOk, OnOk, is_some, unwrap_or, option_map, slice_set, replicate, refl, sym, ap, ◌∙◌, inl, inr, arith}
+use Rattle.std.proofs.Common.{◌≡◌, ◌≢◌, ℕ, ◌+◌, ◌-◌, true, List, [], ◌∷◌, ◌++◌, length, take, drop, Option, Some, None, Result, Ok, Err, IfOk, OnOk, is_some, unwrap_or, option_map, slice_set, replicate, refl, sym, ap, ◌∙◌, inl, inr, arith}
 use Rattle.std.proofs.lemmas.Bool.{cases_eq}
+use Rattle.std.proofs.lemmas.List.{take-append-drop}
 use Rattle.std.specs.Ordering.{nat_cmp}
 use Rattle.std.specs.Cmp.{nat_cmp_total}
 use Rattle.std.specs.FinMap as map
 use Rattle.std.specs.FinMap.{nat_cmp-IsAntisymmetric}
-use Rattle.slot_pool.specs.Pool.{PoolState, words_at, IsOut, free_of, unused, with_word, ChangesSlot}
+use Rattle.slot_pool.specs.Pool.{PoolState, words_at, IsOut, free_of, unused, with_word, with_run, ChangesSlot}
 use Rattle.slot_pool.specs.PoolLaws.{IsOut-kept, free_apart}
 use Rattle.slot_pool.specs.Without.{without, words_at-without_same, words_at-without, without_apart, IsOut-from_without, IsOut-without, free_of-without, ChangesSlot-without, without-changed}
 use Rattle.fold_machine.specs.Store.{StoreState, words_in, further_of, store_of, fresh_store, IsOwned}
@@ -29,6 +30,11 @@ further-first p q a b held ch = ap (λ r. without r b) (without-changed p q a he
 
 further-second : (p q : PoolState) (a b : ℕ) (held : Option (List ℕ)) → b ≢ a → ChangesSlot p q b held → further_of q a b ≡ further_of p a b
 further-second p q a b held apart ch = without-changed (without p a) (without q a) b held (ChangesSlot-without p q a b held apart ch)
+
+-- a run of no words changes nothing
+pub run-nothing : (words : List ℕ) (at : ℕ) (run : List ℕ) → length run ≡ 0 → with_run words at run ≡ words
+run-nothing words at [] none = ap (λ n. take at words ++ drop n words) (let e : at + 0 ≡ at = omega arith in e) ∙ take-append-drop at words
+run-nothing words at (word ∷ run) none = absurd (omega arith)
 
 pub registers-written : (p q : PoolState) (a b : ℕ) (f : List ℕ → List ℕ) (old : StoreState) → IsOwned p a b → store_of p a b ≡ old → ChangesSlot p q a (option_map f (words_at p a)) → store_of q a b ≡ record old { registers = f old.registers }
 registers-written p q a b f old owned seen ch =

@@ -76,7 +76,9 @@ impl Store {
         requires { at + length run.now ≤ slot_words }
         ensures { self.new ≡ record self.old { registers = with_run self.old.registers at run.now } }
     {
-        self.pool.write_run(&self.registers, at, run);
+        if !run.is_empty() {
+            self.pool.write_run(&self.registers, at, run);
+        }
     }
 
     /// Writes the first words of the last report.
