@@ -30,11 +30,12 @@ fn read_digits(text: &[u8]) -> Option<(u64, &[u8])>
     let mut number: u64 = 0;
     let mut left = text;
     while let Some((byte, rest)) = left.split_first() {
-        if Separator::Blank.is(*byte) {
-            return Some((number, rest));
-        }
         if !byte.is_ascii_digit() {
-            return None;
+            return if Separator::Blank.is(*byte) {
+                Some((number, rest))
+            } else {
+                None
+            };
         }
         if number >= PLAIN {
             return read_last_digits(number, left);
