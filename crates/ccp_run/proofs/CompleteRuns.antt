@@ -51,7 +51,7 @@ by_input : (task : Task) (bytes : List ℕ) → IsInput task bytes → is_there 
 by_input (Alone Check) bytes input = refl
 by_input (Alone Fold) bytes input = refl
 by_input (Alone Feed) bytes input = refl
-by_input (Alone Audit) bytes input = absurd input
+by_input (Alone Audit) bytes input = refl
 by_input (Live wire) bytes input = refl
 by_input (Campaign wire) bytes input = refl
 by_input (Soak number) bytes input = refl
@@ -62,7 +62,7 @@ by_output : (task : Task) (bytes : List ℕ) (output : ModeOutput) → IsMade ta
 by_output (Alone Check) bytes output made = refl
 by_output (Alone Fold) bytes output made = refl
 by_output (Alone Feed) bytes output made = refl
-by_output (Alone Audit) bytes output made = absurd made
+by_output (Alone Audit) bytes output made = refl
 by_output (Live wire) bytes output made = refl
 by_output (Campaign wire) bytes output made = refl
 by_output (Soak number) bytes output made = refl

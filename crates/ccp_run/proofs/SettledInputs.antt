@@ -29,6 +29,7 @@ use Rattle.ccp_run.specs.Check.{IsNoCheck}
 use Rattle.ccp_run.specs.FeedRuns.{IsNoFeed}
 use Rattle.ccp_run.specs.Fold.{acks_below, IsFold, HasNoProgram, HasBadLines, IsNoFold}
 use Rattle.ccp_run.specs.Settled.{is_there, IsInput, IsSettled}
+use Rattle.ccp_run.proofs.SettledAudits.{settled_audit}
 use Rattle.ccp_run.proofs.SettledScenes.{settled_live, settled_campaign, settled_soak}
 
 -- ---- check
@@ -209,7 +210,7 @@ pub settled_input : (task : Task) (bytes : List ℕ) → is_there task ≡ true 
 settled_input (Alone Check) bytes there = settled_check bytes
 settled_input (Alone Fold) bytes there = settled_fold bytes
 settled_input (Alone Feed) bytes there = settled_feed bytes
-settled_input (Alone Audit) bytes there = let bad : ⊥ = cc in absurd bad
+settled_input (Alone Audit) bytes there = settled_audit bytes
 settled_input (Live wire) bytes there = settled_live wire bytes
 settled_input (Campaign wire) bytes there = settled_campaign wire bytes
 settled_input (Soak number) bytes there = settled_soak number bytes

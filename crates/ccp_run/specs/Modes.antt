@@ -10,6 +10,7 @@ use Rattle.ccp_run.specs.ErrorLine.{most_bytes}
 use Rattle.feed_core.specs.FeedEnds.{IsOpen, answers_of, end_of}
 use Rattle.scenario_json.specs.declared.mode.Mode.TheVariants as scene
 use Rattle.ccp_run.specs.Scenes.{IsNoScenario}
+use Rattle.ccp_run.specs.AuditRuns.{IsAuditOutput, IsNoAudit}
 use Rattle.ccp_run.specs.Campaign.{IsCampaignOutput, IsSoakOutput}
 use Rattle.ccp_run.specs.Check.{IsCheckOutput, IsNoCheck}
 use Rattle.ccp_run.specs.FeedRuns.{IsFeedOutput, IsNoFeed}
@@ -57,7 +58,7 @@ abbrev pub IsMade : Task → List ℕ → ModeOutput → Type 0
 IsMade (Alone Check) bytes output = IsCheckOutput bytes output
 IsMade (Alone Fold) bytes output = IsFoldOutput bytes output
 IsMade (Alone Feed) bytes output = IsFeedOutput bytes output
-IsMade (Alone Audit) bytes output = ⊥
+IsMade (Alone Audit) bytes output = IsAuditOutput bytes output
 IsMade (Live wire) bytes output = IsLiveOutput wire bytes output
 IsMade (Campaign wire) bytes output = IsCampaignOutput wire bytes output
 IsMade (Soak number) bytes output = IsSoakOutput number output
@@ -69,7 +70,7 @@ abbrev pub IsRefused : Task → List ℕ → Refusal → Type 0
 IsRefused (Alone Check) bytes refusal = IsNoCheck bytes refusal
 IsRefused (Alone Fold) bytes refusal = IsNoFold bytes refusal
 IsRefused (Alone Feed) bytes refusal = IsNoFeed bytes refusal
-IsRefused (Alone Audit) bytes refusal = ⊥
+IsRefused (Alone Audit) bytes refusal = IsNoAudit bytes refusal
 IsRefused (Live wire) bytes refusal = IsNoScenario scene.Live bytes refusal
 IsRefused (Campaign wire) bytes refusal = IsNoScenario scene.Campaign bytes refusal
 IsRefused (Soak number) bytes refusal = ⊥

@@ -5,10 +5,11 @@ use Rattle.portus_core.specs.Programs.{Form}
 use Rattle.portus_build.specs.Texts.{IsBuiltFrom}
 use Rattle.feed_core.specs.declared.ending.FeedEnd.TheVariants.{Whole}
 use Rattle.feed_core.specs.FeedEnds.{end_of}
-use Rattle.ccp_words.specs.declared.mode.Alone.TheVariants.{Check, Fold, Feed}
+use Rattle.ccp_words.specs.declared.mode.Alone.TheVariants.{Check, Fold, Feed, Audit}
 use Rattle.ccp_run.specs.Tasks.{Task, Alone, Live, Campaign, Soak}
 use Rattle.ccp_run.specs.declared.outcome.ModeOutput.{ModeOutput}
 use Rattle.ccp_run.specs.declared.refusal.Refusal.{Refusal}
+use Rattle.ccp_run.specs.AuditRuns.{IsAudit}
 use Rattle.ccp_run.specs.Fold.{IsFold}
 use Rattle.scenario_json.specs.declared.mode.Mode.TheVariants as scene
 use Rattle.scenario_json.specs.Scene.{Scene}
@@ -20,6 +21,7 @@ abbrev pub is_there : Task → Bool
 is_there (Alone Check) = true
 is_there (Alone Fold) = true
 is_there (Alone Feed) = true
+is_there (Alone Audit) = true
 is_there (Live wire) = true
 is_there (Campaign wire) = true
 is_there (Soak number) = true
@@ -30,6 +32,7 @@ abbrev pub IsInput : Task → List ℕ → Type 0
 IsInput (Alone Check) bytes = (form : Form) × IsBuiltFrom bytes form
 IsInput (Alone Fold) bytes = (form : Form) × (acks : List Ack) × IsFold bytes form acks
 IsInput (Alone Feed) bytes = end_of bytes ≡ Whole
+IsInput (Alone Audit) bytes = (said : Scene) × IsAudit bytes said
 IsInput (Live wire) bytes = (said : Scene) × Says scene.Live bytes said
 IsInput (Campaign wire) bytes = (said : Scene) × Says scene.Campaign bytes said
 -- a generated campaign doesn't look at its source

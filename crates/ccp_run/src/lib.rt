@@ -1,6 +1,7 @@
 //! The whole tool as one call: words and bytes in, text and a status out.
 #![tactic(auto)]
 
+mod audit;
 pub mod calls;
 mod campaign;
 mod check;

@@ -4,6 +4,7 @@ ghost use Rattle.ccp_run.specs.Modes.{limit_in};
 ghost use Rattle.ccp_run.specs.Streams.{stream};
 ghost use Rattle.ccp_run.specs.Tasks.{alone_task};
 
+use crate::audit::audit_output;
 use crate::check::check_output;
 use crate::fold::fold_output;
 use crate::outcome::ModeOutput;
@@ -50,13 +51,14 @@ fn limit(mode: Alone) -> Limit
     }
 }
 
-/// The output of a mode for an input that was read to its end. The words never ask for a mode that isn't there yet.
+/// The output of a mode for an input that was read to its end. `feed` doesn't read its input so.
 fn output(alloc: Global, mode: Alone, bytes: &[u8]) -> Result<ModeOutput, Stop>
     ensures { IsAnswer (alone_task mode) bytes.now result }
 {
     match mode {
         Alone::Check => check_output(alloc, bytes),
         Alone::Fold => fold_output(alloc, bytes),
-        Alone::Feed | Alone::Audit => Err(Stop::NoMemory),
+        Alone::Audit => audit_output(alloc, bytes),
+        Alone::Feed => Err(Stop::NoMemory),
     }
 }

@@ -1,13 +1,14 @@
 -- The names of the modes that the tool has.
 use Rattle.std.specs.Prelude.{ℕ, Option, option_map, List, [], ◌∷◌, map, find, codes}
 use Rattle.std.specs.Str.{bytes_eq}
-use Rattle.ccp_words.specs.declared.mode.Alone.TheVariants.{Check, Fold, Feed}
+use Rattle.ccp_words.specs.declared.mode.Alone.TheVariants.{Check, Fold, Feed, Audit}
 use Rattle.ccp_words.specs.declared.mode.Mode.{Mode}
 use Rattle.ccp_words.specs.declared.mode.Mode.TheVariants.{Alone, Live, Campaign, Soak}
 
 -- each mode that is there, after its name
 abbrev pub modes : List (List ℕ × Mode)
 modes = (codes "check", Alone Check) ∷ (codes "fold", Alone Fold) ∷ (codes "feed", Alone Feed)
+    ∷ (codes "audit", Alone Audit)
     ∷ (codes "live", Live) ∷ (codes "campaign", Campaign) ∷ (codes "soak", Soak) ∷ []
 
 abbrev pub mode_names : List (List ℕ)

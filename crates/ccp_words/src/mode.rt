@@ -40,7 +40,7 @@ pub struct NoMode;
 pub(crate) fn names<'a>() -> &'a [&'a str]
     ensures { map (λ name. name.now) result.now ≡ mode_names }
 {
-    &["check", "fold", "feed", "live", "campaign", "soak"]
+    &["check", "fold", "feed", "audit", "live", "campaign", "soak"]
 }
 
 /// The mode of a name.
@@ -51,6 +51,7 @@ fn named(name: &str) -> Option<Mode>
         "check" => Some(Mode::Alone(Alone::Check)),
         "fold" => Some(Mode::Alone(Alone::Fold)),
         "feed" => Some(Mode::Alone(Alone::Feed)),
+        "audit" => Some(Mode::Alone(Alone::Audit)),
         "live" => Some(Mode::Live),
         "campaign" => Some(Mode::Campaign),
         "soak" => Some(Mode::Soak),

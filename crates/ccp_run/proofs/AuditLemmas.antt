@@ -1,0 +1,92 @@
+-- The programs of a scenario's cases are among its programs; why there is no scenario is why there is no audit.
+use Rattle.std.proofs.Common.{◌≡◌, ◌∙◌, ℕ, zero, suc, ◌+◌, ◌<◌, ◌==◌, Bool, true, false, if◌then◌else◌, Option, Some, None, option_map, Err, List, [], ◌∷◌, slice_get, length, ap, sym, subst, refl, arith}
+use Rattle.std.specs.List.{All}
+use Rattle.std.proofs.lemmas.Bool.{eq-eqb, ne_eqb}
+use Rattle.portus_core.specs.ProgramForm.{form_of}
+use Rattle.reg_code.specs.declared.code.Code.{Code}
+use Rattle.reg_compiler.specs.declared.built.Built.{Built}
+use Rattle.reg_compiler.specs.Simulation.{Simulates}
+use Rattle.flow_core.specs.declared.case.Case.{Case}
+use Rattle.flow_core.specs.declared.case.Coded.{Coded}
+use Rattle.scenario_json.specs.Cases.{coded_of, coded_at, IsCoded, AreNumberedFrom}
+use Rattle.scenario_json.specs.declared.mode.Mode.TheVariants as scene
+use Rattle.ccp_words.specs.declared.mode.Alone.TheVariants as mode
+use Rattle.fold_run.specs.Separated.{Cut}
+use Rattle.ccp_run.specs.declared.refusal.Refusal.{Refusal}
+use Rattle.ccp_run.specs.declared.refusal.Refusal.TheVariants.{TooLong, NoSeparator, Program, Line, TooManyAcks, Scene, Frame, FrameCut}
+use Rattle.ccp_run.specs.declared.stop.Stop.{Stop}
+use Rattle.ccp_run.specs.declared.stop.Stop.TheVariants as stop
+use Rattle.ccp_run.specs.Attempts.{IsAnswer}
+use Rattle.ccp_run.specs.AuditRuns.{IsCutAt, IsNoAudit}
+use Rattle.ccp_run.specs.Scenes.{IsNoScenario, StopsScene}
+use Rattle.ccp_run.specs.Tasks.{Alone}
+use Rattle.source_flow.specs.Sourced.{built_at, SimulatedBy, IsSourced}
+
+one_some : {A : Type 0} (left right : A) → Some left ≡ Some right → left ≡ right
+one_some left right e = cc
+
+no_some : {A : Type 0} (right : A) → None ≡ Some right → ⊥
+no_some right e = cc
+
+at_once : (k : ℕ) → k + 0 ≡ k
+at_once k = omega arith
+
+later : (k i : ℕ) → k ≡ k + suc i → ⊥
+later k i e = omega (arith, e)
+
+shifted : (k i : ℕ) → k + suc i ≡ (k + 1) + i
+shifted k i = omega arith
+
+-- the program at a place is the one with the number of the place
+found : (k : ℕ) (programs : List (ℕ × Built)) → AreNumberedFrom k programs → (i : ℕ) (one : ℕ × Built)
+    → slice_get programs i ≡ Some one → built_at programs (k + i) ≡ Some one.1
+found k [] numbered i one is = absurd (no_some one is)
+found k (first ∷ rest) numbered zero one is =
+    let same : first ≡ one = one_some first one is in
+    let here : (first.0 == (k + 0)) ≡ true = eq-eqb first.0 (k + 0) (numbered.0 ∙ sym (at_once k)) in
+    ap (λ b. if b then Some first.1 else built_at rest (k + 0)) here ∙ ap (λ o. Some o.1) same
+found k (first ∷ rest) numbered (suc i) one is =
+    let past : (first.0 == (k + suc i)) ≡ false = ne_eqb first.0 (k + suc i) (λ e. later k i (sym numbered.0 ∙ e)) in
+    let next : built_at rest ((k + 1) + i) ≡ Some one.1 = found (k + 1) rest numbered.1 i one is in
+    ap (λ b. if b then Some first.1 else built_at rest (k + suc i)) past
+    ∙ (ap (λ n. built_at rest n) (shifted k i) ∙ next)
+
+at_zero : (i : ℕ) → 0 + i ≡ i
+at_zero i = omega arith
+
+module _ (programs : List (ℕ × Built)) (numbered : AreNumberedFrom 0 programs) where
+  simulated_by : (number : ℕ) (coded : Coded) → coded_at programs number ≡ Some coded → (at : Option (ℕ × Built)) → slice_get programs number ≡ at → SimulatedBy coded (built_at programs number)
+  simulated_by number coded is None none =
+      let bad : None ≡ Some coded = sym (ap (λ o. option_map (coded_of number) o) none) ∙ is in absurd (no_some coded bad)
+  simulated_by number coded is (Some one) some =
+      let both : Some (coded_of number one) ≡ Some coded = sym (ap (λ o. option_map (coded_of number) o) some) ∙ is in
+      let same : coded_of number one ≡ coded = one_some (coded_of number one) coded both in
+      let at : built_at programs number ≡ Some one.1 = ap (λ n. built_at programs n) (sym (at_zero number)) ∙ found 0 programs numbered number one some in
+      subst (λ (o : Option Built). SimulatedBy coded o) (sym at)
+      (subst (λ (code : Code). Simulates (form_of one.1.program) code one.1.places) (ap (λ c. c.code.code) same) one.1.simulates)
+
+  sourced_case : (case : Case) → IsCoded programs case → IsSourced programs case
+  sourced_case case coded = record {
+    ss = simulated_by case.ss.role.number case.ss coded.ss (slice_get programs case.ss.role.number) refl;
+    ca = simulated_by case.ca.role.number case.ca coded.ca (slice_get programs case.ca.role.number) refl;
+  }
+
+pub sourced : (programs : List (ℕ × Built)) → AreNumberedFrom 0 programs → (cases : List Case) → All (IsCoded programs) cases → All (IsSourced programs) cases
+sourced programs numbered cases coded = λ k d below. sourced_case programs numbered _ (coded k d below)
+
+-- ---- no scenario
+
+refused_scene : (bytes : List ℕ) (cut : Cut) → IsCutAt bytes cut → (refusal : Refusal) → IsNoScenario scene.Live cut.program refusal → IsNoAudit bytes refusal
+refused_scene bytes cut at (Scene fault) bad = record { cut = cut; at = at; refused = bad }
+refused_scene bytes cut at (TooLong limit) bad = absurd bad
+refused_scene bytes cut at NoSeparator bad = absurd bad
+refused_scene bytes cut at (Program fault) bad = absurd bad
+refused_scene bytes cut at (Line n) bad = absurd bad
+refused_scene bytes cut at TooManyAcks bad = absurd bad
+refused_scene bytes cut at (Frame field place) bad = absurd bad
+refused_scene bytes cut at (FrameCut place) bad = absurd bad
+
+pub stopped : (bytes : List ℕ) (cut : Cut) → IsCutAt bytes cut → (why : Stop) → StopsScene scene.Live cut.program why → IsAnswer (Alone mode.Audit) bytes (Err why)
+stopped bytes cut at (stop.Refused refusal) bad = refused_scene bytes cut at refusal bad
+stopped bytes cut at stop.ReadFailed bad = bad
+stopped bytes cut at stop.NoMemory bad = tt
