@@ -7,8 +7,7 @@ use Rattle.ccp_words.specs.declared.mode.Mode.TheVariants.{Alone, Live, Campaign
 
 -- each mode that is there, after its name
 abbrev pub modes : List (List ℕ × Mode)
-modes = (codes "check", Alone Check) ∷ (codes "fold", Alone Fold) ∷ (codes "feed", Alone Feed)
-    ∷ (codes "audit", Alone Audit)
+modes = (codes "check", Alone Check) ∷ (codes "fold", Alone Fold) ∷ (codes "feed", Alone Feed) ∷ (codes "audit", Alone Audit)
     ∷ (codes "live", Live) ∷ (codes "campaign", Campaign) ∷ (codes "soak", Soak) ∷ []
 
 abbrev pub mode_names : List (List ℕ)
