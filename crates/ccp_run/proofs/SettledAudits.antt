@@ -82,32 +82,32 @@ module _ (bytes : List ℕ) where
       (subst (λ (c : Cut). IsNoScenario scene.Live c.program (SceneRefused left)) (one_cut l.cut r.cut l.at.at_separator r.at.at_separator) l.refused) r.refused
 
   -- the three kinds of refusals
-  data Kind : Refusal → Type 0 where
-    parted : cut_of bytes ≡ None → Kind NoSeparator
-    long : HasLongScenario bytes → Kind (TooLong Input)
-    told : (fault : SceneFault) → HasNoScenario bytes fault → Kind (SceneRefused fault)
+  data Kind (refusal : Refusal) : Type 0 where
+    parted : refusal ≡ NoSeparator → cut_of bytes ≡ None → Kind refusal
+    long : refusal ≡ TooLong Input → HasLongScenario bytes → Kind refusal
+    told : (fault : SceneFault) → refusal ≡ SceneRefused fault → HasNoScenario bytes fault → Kind refusal
 
   kind_of : (refusal : Refusal) → IsNoAudit bytes refusal → Kind refusal
-  kind_of (TooLong Input) bad = long bad
+  kind_of (TooLong Input) bad = long refl bad
   kind_of (TooLong Audit) bad = absurd bad
-  kind_of NoSeparator bad = parted bad
+  kind_of NoSeparator bad = parted refl bad
   kind_of (Program fault) bad = absurd bad
   kind_of (Line n) bad = absurd bad
   kind_of TooManyAcks bad = absurd bad
-  kind_of (SceneRefused fault) bad = told fault bad
+  kind_of (SceneRefused fault) bad = told fault refl bad
   kind_of (Frame field place) bad = absurd bad
   kind_of (FrameCut place) bad = absurd bad
 
   one_kind : (left right : Refusal) → Kind left → Kind right → left ≡ right
-  one_kind NoSeparator NoSeparator (parted l) (parted r) = refl
-  one_kind NoSeparator (TooLong Input) (parted l) (long r) = absurd (no_cut r.cut l r.at_separator)
-  one_kind NoSeparator (SceneRefused fault) (parted l) (told fault r) = absurd (no_cut r.cut l r.at.at_separator)
-  one_kind (TooLong Input) NoSeparator (long l) (parted r) = absurd (no_cut l.cut r l.at_separator)
-  one_kind (TooLong Input) (TooLong Input) (long l) (long r) = refl
-  one_kind (TooLong Input) (SceneRefused fault) (long l) (told fault r) = absurd (short_long r.cut l.cut r.at.at_separator l.at_separator r.at.short l.long)
-  one_kind (SceneRefused fault) NoSeparator (told fault l) (parted r) = absurd (no_cut l.cut r l.at.at_separator)
-  one_kind (SceneRefused fault) (TooLong Input) (told fault l) (long r) = absurd (short_long l.cut r.cut l.at.at_separator r.at_separator l.at.short r.long)
-  one_kind (SceneRefused left) (SceneRefused right) (told left l) (told right r) = ap SceneRefused (one_fault left right l r)
+  one_kind left right (parted e l) (parted f r) = e ∙ sym f
+  one_kind left right (parted e l) (long f r) = absurd (no_cut r.cut l r.at_separator)
+  one_kind left right (parted e l) (told fault f r) = absurd (no_cut r.cut l r.at.at_separator)
+  one_kind left right (long e l) (parted f r) = absurd (no_cut l.cut r l.at_separator)
+  one_kind left right (long e l) (long f r) = e ∙ sym f
+  one_kind left right (long e l) (told fault f r) = absurd (short_long r.cut l.cut r.at.at_separator l.at_separator r.at.short l.long)
+  one_kind left right (told fault e l) (parted f r) = absurd (no_cut l.cut r l.at.at_separator)
+  one_kind left right (told fault e l) (long f r) = absurd (short_long l.cut r.cut l.at.at_separator r.at_separator l.at.short r.long)
+  one_kind left right (told fault e l) (told other f r) = e ∙ ap SceneRefused (one_fault fault other l r) ∙ sym f
 
 pub settled_audit : (bytes : List ℕ) → IsSettled (Alone mode.Audit) bytes
 settled_audit bytes = record {

@@ -38,7 +38,6 @@ pub fn audit_output(alloc: Global, bytes: &[u8]) -> Result<ModeOutput, Stop>
 }
 
 /// What is said of a text as the live text of a scenario.
-#[tactic(auto, using(crate::proofs::AuditLemmas::sourced))]
 fn judged(alloc: Global, scene: &Scenario, text: &[u8]) -> Result<Verdict, NoMemory>
     requires few { length scene.now.cases ≤ most_flows }
     requires numbered { AreNumberedFrom 0 scene.now.programs }

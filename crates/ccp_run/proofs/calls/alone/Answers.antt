@@ -30,3 +30,11 @@ returns-in-Feed-clause-complete g c =
     let errors : Stream = stream (g.E.Sink.written c.args.errors.now) (g.E.Sink.written c.feed_run.new.errors) (g.E.Sink.faults c.args.errors.now) (g.E.Sink.faults c.feed_run.new.errors) in
     subst (λ (m : AloneMode). IsComplete (Alone m) source sink c.feed_run.result) (sym c.in-Feed.is)
     (complete (Alone Feed) source sink errors (g.K.Sink.is_finished c.feed_run.new.sink) c.feed_run.result c.feed_run.ensures)
+
+pub returns-in-Audit-clause-complete : goal.returns-in-Audit-clause-complete
+returns-in-Audit-clause-complete g c =
+    complete (Alone c.args.mode)
+    (stream (g.S.Source.remaining c.args.source.now) (g.S.Source.remaining c.whole-in-Audit.new.source) (g.S.Source.faults c.args.source.now) (g.S.Source.faults c.whole-in-Audit.new.source))
+    (stream (g.K.Sink.written c.args.sink.now) (g.K.Sink.written c.whole-in-Audit.new.sink) (g.K.Sink.faults c.args.sink.now) (g.K.Sink.faults c.whole-in-Audit.new.sink))
+    (stream (g.E.Sink.written c.args.errors.now) (g.E.Sink.written c.whole-in-Audit.new.errors) (g.E.Sink.faults c.args.errors.now) (g.E.Sink.faults c.whole-in-Audit.new.errors))
+    (g.K.Sink.is_finished c.whole-in-Audit.new.sink) c.whole-in-Audit.result c.whole-in-Audit.ensures
