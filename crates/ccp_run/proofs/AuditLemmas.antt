@@ -1,5 +1,5 @@
--- The programs of a scenario's cases are among its programs; why there is no scenario is why there is no audit.
-use Rattle.std.proofs.Common.{◌≡◌, ◌∙◌, ℕ, zero, suc, ◌+◌, ◌<◌, ◌==◌, Bool, true, false, if◌then◌else◌, Option, Some, None, option_map, Err, List, [], ◌∷◌, slice_get, length, ap, sym, subst, refl, arith}
+-- The programs of a scenario's cases are among its programs.
+use Rattle.std.proofs.Common.{◌≡◌, ◌∙◌, ℕ, zero, suc, ◌+◌, ◌==◌, true, false, if◌then◌else◌, Option, Some, None, option_map, List, [], ◌∷◌, slice_get, ap, sym, subst, refl, arith}
 use Rattle.std.specs.List.{All}
 use Rattle.std.proofs.lemmas.Bool.{eq-eqb, ne_eqb}
 use Rattle.portus_core.specs.ProgramForm.{form_of}
@@ -9,17 +9,6 @@ use Rattle.reg_compiler.specs.Simulation.{Simulates}
 use Rattle.flow_core.specs.declared.case.Case.{Case}
 use Rattle.flow_core.specs.declared.case.Coded.{Coded}
 use Rattle.scenario_json.specs.Cases.{coded_of, coded_at, IsCoded, AreNumberedFrom}
-use Rattle.scenario_json.specs.declared.mode.Mode.TheVariants as scene
-use Rattle.ccp_words.specs.declared.mode.Alone.TheVariants as mode
-use Rattle.fold_run.specs.Separated.{Cut}
-use Rattle.ccp_run.specs.declared.refusal.Refusal.{Refusal}
-use Rattle.ccp_run.specs.declared.refusal.Refusal.TheVariants.{TooLong, NoSeparator, Program, Line, TooManyAcks, Scene, Frame, FrameCut}
-use Rattle.ccp_run.specs.declared.stop.Stop.{Stop}
-use Rattle.ccp_run.specs.declared.stop.Stop.TheVariants as stop
-use Rattle.ccp_run.specs.Attempts.{IsAnswer}
-use Rattle.ccp_run.specs.AuditRuns.{IsCutAt, IsNoAudit}
-use Rattle.ccp_run.specs.Scenes.{IsNoScenario, StopsScene}
-use Rattle.ccp_run.specs.Tasks.{Alone}
 use Rattle.source_flow.specs.Sourced.{built_at, SimulatedBy, IsSourced}
 
 one_some : {A : Type 0} (left right : A) → Some left ≡ Some right → left ≡ right
@@ -73,20 +62,3 @@ module _ (programs : List (ℕ × Built)) (numbered : AreNumberedFrom 0 programs
 
 pub sourced : (programs : List (ℕ × Built)) → AreNumberedFrom 0 programs → (cases : List Case) → All (IsCoded programs) cases → All (IsSourced programs) cases
 sourced programs numbered cases coded = λ k d below. sourced_case programs numbered _ (coded k d below)
-
--- ---- no scenario
-
-refused_scene : (bytes : List ℕ) (cut : Cut) → IsCutAt bytes cut → (refusal : Refusal) → IsNoScenario scene.Live cut.program refusal → IsNoAudit bytes refusal
-refused_scene bytes cut at (Scene fault) bad = record { cut = cut; at = at; refused = bad }
-refused_scene bytes cut at (TooLong limit) bad = absurd bad
-refused_scene bytes cut at NoSeparator bad = absurd bad
-refused_scene bytes cut at (Program fault) bad = absurd bad
-refused_scene bytes cut at (Line n) bad = absurd bad
-refused_scene bytes cut at TooManyAcks bad = absurd bad
-refused_scene bytes cut at (Frame field place) bad = absurd bad
-refused_scene bytes cut at (FrameCut place) bad = absurd bad
-
-pub stopped : (bytes : List ℕ) (cut : Cut) → IsCutAt bytes cut → (why : Stop) → StopsScene scene.Live cut.program why → IsAnswer (Alone mode.Audit) bytes (Err why)
-stopped bytes cut at (stop.Refused refusal) bad = refused_scene bytes cut at refusal bad
-stopped bytes cut at stop.ReadFailed bad = bad
-stopped bytes cut at stop.NoMemory bad = tt

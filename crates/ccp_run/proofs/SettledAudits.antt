@@ -9,7 +9,7 @@ use Rattle.scenario_json.specs.Scene.{Scene}
 use Rattle.ccp_run.specs.declared.refusal.Limit.TheVariants.{Input, Audit}
 use Rattle.ccp_run.specs.declared.refusal.Refusal.{Refusal}
 use Rattle.ccp_run.specs.declared.refusal.Refusal.TheVariants.{TooLong, NoSeparator, Program, Line, TooManyAcks, Scene as SceneRefused, Frame, FrameCut}
-use Rattle.ccp_run.specs.AuditRuns.{IsCutAt, IsAudit, HasLongScenario, HasNoScenario, IsNoAudit}
+use Rattle.ccp_run.specs.AuditRuns.{IsAudit, HasLongScenario, HasNoScenario, IsNoAudit}
 use Rattle.ccp_run.specs.ErrorLine.{most_bytes}
 use Rattle.ccp_run.specs.Scenes.{Says, IsNoScenario}
 use Rattle.ccp_run.specs.Settled.{IsSettled}

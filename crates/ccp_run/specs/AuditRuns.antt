@@ -1,5 +1,5 @@
 -- What `audit` makes of its input, and the inputs that it refuses.
-use Rattle.std.specs.Prelude.{◌≡◌, ◌≤◌, ◌<◌, ℕ, Option, Some, None, List, [], length, codes, decimal}
+use Rattle.std.specs.Prelude.{◌≡◌, ◌≤◌, ◌<◌, ℕ, Some, None, List, [], length, codes, decimal}
 use Rattle.ccp_base.specs.Text.{◌⧺◌}
 use Rattle.reg_compiler.specs.declared.built.Built.{Built}
 use Rattle.flow_core.specs.declared.case.Case.{Case}
