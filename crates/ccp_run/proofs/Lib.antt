@@ -8,3 +8,5 @@ mod CodedLemmas
 pub mod CampaignLemmas
 pub mod LiveLemmas
 mod SettledScenes
+mod SettledShared
+pub mod SharedLemmas

@@ -7,6 +7,7 @@ pub mod FeedRuns
 pub mod Scenes
 pub mod Campaign
 pub mod Live
+pub mod Shared
 pub mod Tasks
 pub mod Modes
 pub mod Attempts

@@ -14,6 +14,7 @@ mod program;
 mod reading;
 mod refusal;
 mod scene;
+mod shared;
 mod soak;
 mod status;
 mod stop;
