@@ -1,0 +1,7 @@
+pub mod LiftedRunLemmas
+pub mod LaneLemmas
+pub mod AnswerLemmas
+pub mod RoomyLemmas
+pub mod RoundLemmas
+pub mod BookLemmas
+pub mod RunLemmas

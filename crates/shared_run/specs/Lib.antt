@@ -1,0 +1,5 @@
+pub mod SharedHistory
+pub mod SharedBooks
+pub mod LiftedRun
+pub mod Lanes
+pub mod Rounds
