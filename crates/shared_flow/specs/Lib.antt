@@ -1,0 +1,4 @@
+pub mod RoundLetters
+pub mod FlowRow
+pub mod OnWay
+pub mod LiftedFlow

@@ -1,0 +1,74 @@
+-- The letters of a flow's part of a round: its acknowledgements, each with what is taken and answered after it.
+use Rattle.std.specs.Prelude.{ℕ, zero, suc, Bool, false, Option, Some, None, List, [], ◌∷◌, ◌++◌, length}
+use Rattle.ccp_base.specs.declared.ack.Ack.{Ack}
+use Rattle.flow_core.specs.declared.case.Case.{Case}
+use Rattle.flow_core.specs.declared.letter.Letter.{Letter}
+use Rattle.flow_core.specs.declared.letter.Letter.TheVariants.{A, T, C}
+use Rattle.flow_core.specs.Readings.{Flow}
+use Rattle.flow_core.specs.World.{World}
+use Rattle.flow_core.specs.Words.{world_over, is_legal}
+use Rattle.flow_core.specs.Cores.{CoreState}
+use Rattle.campaign_gate.specs.CampaignWord.{is_due, first_letter}
+use Rattle.campaign_gate.specs.Walks.{letters_left}
+
+-- a reading of cases: over their codes, or over the sources of programs
+abbrev pub Read : Type 0 → Type 0
+Read X = Case → Flow X
+
+-- the state of a flow after its word, over its own acknowledgements
+abbrev pub state_of : {X : Type 0} → Read X → CoreState → World X
+state_of read core = world_over (read core.case) core.acks core.word
+
+-- a flow without a letter
+abbrev pub opened : Case → CoreState
+opened case = record { case = case; acks = []; word = [] }
+
+-- the flow with one more acknowledgement
+abbrev pub with_ack : Ack → CoreState → CoreState
+with_ack ack core = record { case = core.case; acks = core.acks ++ ack ∷ []; word = core.word ++ A ∷ [] }
+
+-- the flow with one more letter that takes no acknowledgement
+abbrev pub with_letter : Letter → CoreState → CoreState
+with_letter letter core = record { case = core.case; acks = core.acks; word = core.word ++ letter ∷ [] }
+
+-- ---- taking and answering
+
+-- whether an answer comes next: on the way where it is due, as in the campaign word, and at the run's end where a ticket
+-- is out
+abbrev pub is_answered : {X : Type 0} → Bool → Read X → CoreState → Bool
+is_answered false read core = is_due (read core.case) core.case.lag (state_of read core)
+is_answered true read core = is_legal (read core.case) (state_of read core) C
+
+-- the next letter without an acknowledgement: C where an answer comes next, else T where it is legal
+abbrev pub next_letter : {X : Type 0} → Bool → Read X → CoreState → Option Letter
+next_letter at_end read core =
+    first_letter (is_answered at_end read core) (is_legal (read core.case) (state_of read core) T) false
+
+abbrev pub with_next : Option Letter → (CoreState → CoreState) → CoreState → CoreState
+with_next None rest core = core
+with_next (Some letter) rest core = rest (with_letter letter core)
+
+-- such letters again and again, at most so many
+abbrev pub settled_in : {X : Type 0} → Bool → Read X → ℕ → CoreState → CoreState
+settled_in at_end read zero core = core
+settled_in at_end read (suc more) core =
+    with_next (next_letter at_end read core) (settled_in at_end read more) core
+
+-- such letters until none comes
+abbrev pub settled : {X : Type 0} → Bool → Read X → CoreState → CoreState
+settled at_end read core = settled_in at_end read (letters_left (read core.case) (state_of read core)) core
+
+-- ---- a part
+
+-- an acknowledgement, and what is taken and answered after it
+abbrev pub heard : {X : Type 0} → Read X → Ack → CoreState → CoreState
+heard read ack core = settled false read (with_ack ack core)
+
+-- a flow's part of a round, in which it has these acknowledgements
+abbrev pub part : {X : Type 0} → Read X → List Ack → CoreState → CoreState
+part read [] core = core
+part read (ack ∷ rest) core = part read rest (heard read ack core)
+
+-- the run's end: nothing is out, and nothing is left to take
+abbrev pub closed : {X : Type 0} → Read X → CoreState → CoreState
+closed read core = settled true read core
