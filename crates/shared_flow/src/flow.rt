@@ -5,6 +5,7 @@ ghost use Rattle.flow_core.specs.Books.{IsBookOf};
 ghost use Rattle.campaign_gate.specs.CampaignRow.{window_of};
 ghost use Rattle.shared_flow.specs.RoundLetters.{state_of, opened, with_ack, with_letter, is_answered, settled, part, closed};
 ghost use Rattle.shared_flow.specs.FlowRow.{flow_row, AreRoomy};
+ghost use Rattle.shared_flow.specs.LiftedFlow.{IsLifted};
 ghost use Rattle.shared_flow.specs.OnWay.{Turned, Took};
 
 use crate::sums::{acked_in, lost_in, reports_in, timeouts_in};
@@ -194,7 +195,8 @@ impl SharedFlow {
         }
     }
 
-    /// What the flow's history came to, and its row. No ticket may be out, and nothing may be left to take.
+    /// What the flow's history came to, and its row. No ticket may be out, and nothing may be left to take. For all programs
+    /// that the case's codes simulate, the flow does the same over these sources.
     pub fn finish(self) -> (Given, Row)
         requires still { is_still (state_of over_codes self) ≡ true }
         requires roomy { AreRoomy self.acks }
@@ -204,6 +206,7 @@ impl SharedFlow {
         ensures legal { legal_over (over_codes self.case) self.acks self.word ≡ true }
         ensures book { IsBookOf (over_codes self.case) (state_of over_codes self) result.0.book }
         ensures row { result.1 ≡ flow_row over_codes self }
+        ensures lifted { IsLifted self.case }
     {
         let cwnd = self.core.cwnd();
         let acks = u64::from(self.core.acks());

@@ -1,0 +1,5 @@
+pub mod PeakLemmas
+pub mod TurnLemmas
+pub mod OnWayLemmas
+pub mod LikeFlows
+pub mod LiftedFlowLemmas

@@ -1,0 +1,4 @@
+pub mod RoundLetters
+pub mod SharedRun
+pub mod SharedRows
+pub mod Lanes
