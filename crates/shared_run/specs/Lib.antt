@@ -1,4 +1,5 @@
-pub mod RoundLetters
-pub mod SharedRun
-pub mod SharedRows
+pub mod SharedHistory
+pub mod SharedBooks
+pub mod LiftedRun
 pub mod Lanes
+pub mod Rounds

@@ -3,16 +3,24 @@ use Rattle.std.specs.Prelude.{ℕ, zero, suc, ◌-◌, Bool, true, ◌&&◌, nat
 use Rattle.ccp_base.specs.declared.ack.Ack.{Ack}
 use Rattle.flow_core.specs.declared.case.Case.{Case}
 use Rattle.flow_core.specs.Cores.{CoreState}
+use Rattle.campaign_gate.specs.declared.row.Row.{Row}
 use Rattle.campaign_gate.specs.CampaignRow.{window_of}
+use Rattle.shared_flow.specs.RoundLetters.{Read, state_of, opened, part, closed}
+use Rattle.shared_flow.specs.FlowRow.{flow_row}
+use Rattle.shared_link.specs.declared.round.Ask.{Ask}
+use Rattle.shared_link.specs.declared.round.Counts.{Counts}
 use Rattle.shared_link.specs.declared.shared_case.SharedCase.{SharedCase}
-use Rattle.shared_link.specs.declared.ask.Ask.{Ask}
-use Rattle.shared_link.specs.SharedLinks.{round_acks}
-use Rattle.shared_run.specs.RoundLetters.{Read, state_of, opened, part, closed}
+use Rattle.shared_link.specs.SharedRounds.{acks_after, counts_of}
 
 -- a run so far: its rounds, each with its asks, and its flows
 pub record Progress : Type 0 where
   pub history : List (List Ask)
   pub flows : List CoreState
+
+abbrev pub progress : List (List Ask) → List CoreState → Progress
+progress history flows = record { history = history; flows = flows }
+
+-- ---- a round
 
 -- what a flow asks the link for: its window, and for how many acknowledgements
 abbrev pub ask_of : {X : Type 0} → Read X → CoreState → Ask
@@ -20,6 +28,9 @@ ask_of read core = record {
   window = window_of (read core.case) (state_of read core);
   left = core.case.acks - length core.acks;
 }
+
+abbrev pub asks_of : {X : Type 0} → Read X → List CoreState → List Ask
+asks_of read flows = map (ask_of read) flows
 
 -- each flow's part of a round, in which the flows have these acknowledgements
 abbrev pub parts : {X : Type 0} → Read X → List (List Ack) → List CoreState → List CoreState
@@ -29,41 +40,47 @@ parts read (acks ∷ others) (core ∷ rest) = part read acks core ∷ parts rea
 
 -- the run after one more round with these asks
 abbrev pub after_asks : {X : Type 0} → SharedCase → Read X → List Ask → Progress → Progress
-after_asks link read asks run = record {
-  history = run.history ++ asks ∷ [];
-  flows = parts read (round_acks link run.history asks) run.flows;
-}
+after_asks link read asks run =
+    progress (run.history ++ asks ∷ []) (parts read (acks_after link run.history asks) run.flows)
 
 abbrev pub after_round : {X : Type 0} → SharedCase → Read X → Progress → Progress
-after_round link read run = after_asks link read (map (ask_of read) run.flows) run
+after_round link read run = after_asks link read (asks_of read run.flows) run
+
+-- ---- the run
 
 -- all flows have all acknowledgements
 abbrev pub have_all : List CoreState → Bool
 have_all [] = true
 have_all (core ∷ rest) = nat_le core.case.acks (length core.acks) && have_all rest
 
-abbrev pub go_on : Progress → (Progress → Progress) → Progress
-go_on run rest = if have_all run.flows then run else rest run
+-- the run ends where all flows have all acknowledgements, and else it goes on
+abbrev pub ends_or : (Progress → Progress) → Progress → Progress
+ends_or rest run = if have_all run.flows then run else rest run
 
 -- rounds until all flows have all acknowledgements, at most so many
 abbrev pub rounds_from : {X : Type 0} → SharedCase → Read X → ℕ → Progress → Progress
 rounds_from link read zero run = run
-rounds_from link read (suc more) run = go_on (after_round link read run) (rounds_from link read more)
+rounds_from link read (suc more) run = ends_or (rounds_from link read more) (after_round link read run)
 
 -- where there are no flows no round is run
-abbrev pub most_rounds_of : List Case → ℕ → ℕ
-most_rounds_of [] rounds = 0
-most_rounds_of (case ∷ rest) rounds = rounds
+abbrev pub most_of : List Case → ℕ → ℕ
+most_of [] rounds = 0
+most_of (case ∷ rest) rounds = rounds
 
 -- the run of cases over a link, of at most so many rounds
 abbrev pub run_of : {X : Type 0} → SharedCase → Read X → List Case → ℕ → Progress
-run_of link read cases rounds =
-    rounds_from link read (most_rounds_of cases rounds) (record { history = []; flows = map opened cases })
+run_of link read cases rounds = rounds_from link read (most_of cases rounds) (progress [] (map opened cases))
 
--- its rounds, each with its asks
-abbrev pub history_of : {X : Type 0} → SharedCase → Read X → List Case → ℕ → List (List Ask)
-history_of link read cases rounds = (run_of link read cases rounds).history
+-- ---- what comes of it
 
--- its flows at the end, with their acknowledgements and words
+-- the flows at the end, with their acknowledgements and words
 abbrev pub flows_of : {X : Type 0} → SharedCase → Read X → List Case → ℕ → List CoreState
 flows_of link read cases rounds = map (closed read) (run_of link read cases rounds).flows
+
+-- the rows of the flows, in their order
+abbrev pub shared_rows : {X : Type 0} → SharedCase → Read X → List Case → ℕ → List Row
+shared_rows link read cases rounds = map (flow_row read) (flows_of link read cases rounds)
+
+-- the link's packets
+abbrev pub shared_counts : {X : Type 0} → SharedCase → Read X → List Case → ℕ → Counts
+shared_counts link read cases rounds = counts_of link (run_of link read cases rounds).history

@@ -1,0 +1,63 @@
+//! The run of a scenario's cases over one link.
+ghost use Rattle.std.specs.Prelude.{◌≡◌, ◌≤◌, length, map, IfOk};
+ghost use Rattle.ccp_base.specs.Limits.{most_flows, most_rounds, most_workers};
+ghost use Rattle.flow_core.specs.Readings.{over_codes};
+ghost use Rattle.scenario_json.specs.Cases.{plan_of, AreFlowsFrom};
+ghost use Rattle.scenario_json.specs.SharedScenes.{flow_link_of};
+ghost use Rattle.shared_link.specs.SharedLimits.{IsWithin};
+ghost use Rattle.shared_run.specs.SharedHistory.{flows_of, shared_rows, shared_counts};
+ghost use Rattle.shared_run.specs.SharedBooks.{AreGivensOf};
+ghost use Rattle.shared_run.specs.LiftedRun.{IsLifted};
+
+use crate::books::{SharedRun, finished};
+use crate::lane::opened;
+use crate::rounds::rounds;
+use ccp_base::{Gate, NoMemory};
+use scenario_json::SharedScene;
+use shared_link::SharedLink;
+use std::alloc::Global;
+use std::thread::Threads;
+
+/// Runs the flows of a scenario over its link, whatever the number of workers, which is 1 to 32. In each round the flows
+/// ask for acknowledgements, the link answers, and each flow's part is done by a worker: worker `w` does those of the flows
+/// whose number leaves `w` when it is divided by the number of workers, in order. As many flows as there are workers do
+/// their parts at once, and then the next ones. A worker passes the gate at `InCase` before a part and at `AfterCase` after
+/// it. Where a thread can't be started the caller does its work. The run ends after the round in which all flows have all
+/// acknowledgements, and at the latest after `rounds` rounds, where 0 flows run none; then each flow takes and answers until
+/// nothing is left.
+pub fn shared<R: Threads + Sync, G: Gate + Sync>(
+    rt: &R,
+    alloc: Global,
+    scene: SharedScene,
+    workers: u32,
+    gate: &G,
+) -> Result<SharedRun, NoMemory>
+    requires workers { (1 ≤ workers) × (workers ≤ most_workers) }
+    requires few { length scene.scene.cases ≤ most_flows }
+    requires flows { AreFlowsFrom 0 scene.scene.cases }
+    requires link { IsWithin scene.link }
+    requires links { scene.link.flows ≡ map flow_link_of (map plan_of scene.scene.cases) }
+    requires rounds { scene.rounds ≤ most_rounds }
+    ensures givens { IfOk result (λ run. AreGivensOf (flows_of scene.link over_codes scene.scene.cases scene.rounds) run.givens) }
+    ensures rows { IfOk result (λ run. run.rows ≡ shared_rows scene.link over_codes scene.scene.cases scene.rounds) }
+    ensures counts { IfOk result (λ run. run.counts ≡ shared_counts scene.link over_codes scene.scene.cases scene.rounds) }
+    // For all programs that the cases' codes simulate, the run is that of these sources.
+    ensures lifted { IsLifted scene.link scene.scene.cases scene.rounds }
+{
+    let SharedScene {
+        scene,
+        link,
+        rounds: most,
+    } = scene;
+    let most = if scene.cases.is_empty() { 0 } else { most };
+    let mut link = SharedLink::new(alloc, link)?;
+    let mut lanes = opened(alloc, scene.cases)?;
+    rounds(rt, alloc, &mut link, &mut lanes, most, workers as usize, gate)?;
+    let counts = link.counts();
+    let (givens, rows) = finished(alloc, lanes)?;
+    Ok(SharedRun {
+        givens,
+        rows,
+        counts,
+    })
+}
