@@ -1,5 +1,5 @@
 -- One more letter keeps what stands beside a flow.
-use Rattle.std.specs.Prelude.{◌≡◌, ℕ, ◌+◌, max, nat_le, nat_lt, Bool, true, false, ◌&&◌, is_some, is_none, Option, Some, None, List, [], ◌∷◌, ◌++◌, length, refl}
+use Rattle.std.specs.Prelude.{◌≡◌, ℕ, ◌+◌, max, nat_le, nat_lt, Bool, true, false, ◌&&◌, is_some, is_none, Option, Some, None, List, [], ◌∷◌, length, refl}
 use Rattle.std.specs.Option.{ForSome}
 use Rattle.std.proofs.Common.{arith, ap, sym, ◌∙◌, subst, length-append}
 use Rattle.std.proofs.lemmas.Bool.{leb-true, leb-false, le-ltb, lt-ltb}
@@ -10,18 +10,16 @@ use Rattle.ccp_base.specs.declared.exchange.Reply.TheVariants.{Nothing, Update, 
 use Rattle.agent_core.specs.declared.agent.Agent.{Agent}
 use Rattle.agent_core.specs.Agents.{replied}
 use Rattle.flow_core.specs.declared.case.Case.{Case}
-use Rattle.flow_core.specs.declared.letter.Letter.{Letter}
 use Rattle.flow_core.specs.declared.letter.Letter.TheVariants.{A, T, C}
 use Rattle.flow_core.specs.Readings.{Flow, over_codes}
 use Rattle.flow_core.specs.World.{Failure, Content, Taken, World, opening, taking, after_ack, with_taken, after_take, told_as, with_turn, answer_applied, after_answer}
-use Rattle.flow_core.specs.Words.{from_list, world_over, can_take, is_legal}
-use Rattle.flow_core.specs.WordLaws.{acks_in, acks_in-A, acks_in-T, acks_in-C, world_over-append}
+use Rattle.flow_core.specs.Words.{from_list, can_take, is_legal}
+use Rattle.flow_core.specs.WordLaws.{acks_in-A, acks_in-T, acks_in-C, world_over-append}
 use Rattle.flow_core.specs.Cores.{CoreState}
 use Rattle.flow_core.proofs.WordLemmas.{world_over-A, acks-of-world_over}
 use Rattle.campaign_gate.specs.CampaignRow.{window_of}
 use Rattle.campaign_gate.proofs.DueLemmas.{due-ended, due-open}
 use Rattle.shared_flow.specs.RoundLetters.{state_of, opened, with_ack, with_letter, is_answered}
-use Rattle.shared_flow.specs.FlowRow.{peak_of, peak_from}
 use Rattle.shared_flow.specs.OnWay.{IsOnWay}
 use Rattle.shared_flow.proofs.PeakLemmas.{peak-append, peak-more}
 

@@ -1,19 +1,17 @@
 -- Letters without an acknowledgement: each leaves fewer to come, and at last none comes.
 use Rattle.std.specs.Prelude.{◌≡◌, ◌<◌, ◌≤◌, ℕ, zero, suc, Bool, true, false, not, ◌&&◌, is_some, is_none, if◌then◌else◌, Option, Some, None, List, [], ◌∷◌, ◌++◌, length, refl}
-use Rattle.std.proofs.Common.{arith, ap, sym, ◌∙◌, subst}
+use Rattle.std.proofs.Common.{arith, ap, sym, ◌∙◌, subst, append_assoc, append-nil}
 use Rattle.ccp_base.specs.declared.ack.Ack.{Ack}
-use Rattle.flow_core.specs.declared.case.Case.{Case}
 use Rattle.flow_core.specs.declared.letter.Letter.{Letter}
 use Rattle.flow_core.specs.declared.letter.Letter.TheVariants.{A, T, C}
-use Rattle.flow_core.specs.Readings.{Flow}
-use Rattle.flow_core.specs.World.{Taken, World, after_take, after_answer}
-use Rattle.flow_core.specs.Words.{from_list, from_link, after_letter, world_over, can_take, is_legal, is_still}
+use Rattle.flow_core.specs.World.{Taken, World}
+use Rattle.flow_core.specs.Words.{from_list, after_letter, can_take, is_legal, is_still}
 use Rattle.flow_core.specs.WordLaws.{world_over-append}
 use Rattle.flow_core.specs.Cores.{CoreState}
-use Rattle.campaign_gate.specs.CampaignWord.{is_late, is_due, first_letter}
+use Rattle.campaign_gate.specs.CampaignWord.{is_late, first_letter}
 use Rattle.campaign_gate.specs.Walks.{letters_left}
 use Rattle.campaign_gate.proofs.LeftLemmas.{left-letter}
-use Rattle.shared_flow.specs.RoundLetters.{Read, state_of, with_ack, with_letter, is_answered, next_letter, with_next, settled_in, settled}
+use Rattle.shared_flow.specs.RoundLetters.{Read, state_of, with_ack, with_letter, is_answered, next_letter, with_next, settled_in, settled, heard, part}
 
 -- ---- which letter is next
 
@@ -197,3 +195,15 @@ module _ {X : Type 0} (read : Read X) where
 
   pub closed-still : (core : CoreState) → is_still (state_of read (settled true read core)) ≡ true
   closed-still core = still-ended (settled true read core) (settled-ends true core)
+
+  -- a part of a round leaves the case, and adds the acknowledgements
+  pub part-case : (acks : List Ack) (core : CoreState) → (part read acks core).case ≡ core.case
+  part-case [] core = refl
+  part-case (ack ∷ rest) core = part-case rest (heard read ack core) ∙ settled-case false (with_ack ack core)
+
+  pub part-acks : (acks : List Ack) (core : CoreState) → (part read acks core).acks ≡ core.acks ++ acks
+  part-acks [] core = sym (append-nil core.acks)
+  part-acks (ack ∷ rest) core =
+      part-acks rest (heard read ack core)
+      ∙ ap (λ (xs : List Ack). xs ++ rest) (settled-acks false (with_ack ack core))
+      ∙ append_assoc core.acks (ack ∷ []) rest

@@ -1,5 +1,5 @@
 -- A flow of programs does the same as a flow of codes that simulate them: its letters, its windows and its row.
-use Rattle.std.specs.Prelude.{◌≡◌, Bool, List}
+use Rattle.std.specs.Prelude.{◌≡◌, List}
 use Rattle.ccp_base.specs.declared.ack.Ack.{Ack}
 use Rattle.ccp_base.specs.declared.place.Place.{Place}
 use Rattle.portus_core.specs.Programs.{Form}
@@ -9,7 +9,7 @@ use Rattle.flow_core.specs.declared.letter.Letter.{Letter}
 use Rattle.flow_core.specs.Readings.{over_codes, over_sources}
 use Rattle.flow_core.specs.Cores.{CoreState}
 use Rattle.campaign_gate.specs.CampaignRow.{window_of}
-use Rattle.shared_flow.specs.RoundLetters.{Read, state_of, next_letter, part, closed}
+use Rattle.shared_flow.specs.RoundLetters.{Read, state_of, part, closed}
 use Rattle.shared_flow.specs.FlowRow.{flow_row}
 
 -- two readings of a case are alike: whatever acknowledgements its flow has, it has one window, does one part of a round,

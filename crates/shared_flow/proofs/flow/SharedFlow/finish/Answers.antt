@@ -7,9 +7,8 @@ use Rattle.flow_core.specs.Readings.{over_codes}
 use Rattle.flow_core.specs.World.{track_of, time_of, notice_of}
 use Rattle.flow_core.specs.Books.{epoch_line}
 use Rattle.flow_core.specs.LiveText.{report_count}
-use Rattle.flow_core.specs.Cores.{CoreState}
 use Rattle.flow_core.proofs.TimeLemmas.{time_in, time-last}
-use Rattle.campaign_gate.specs.CampaignRow.{row_over, lost_in, timeouts_in, acked_in}
+use Rattle.campaign_gate.specs.CampaignRow.{lost_in, timeouts_in, acked_in}
 use Rattle.shared_flow.specs.RoundLetters.{state_of}
 use Rattle.shared_flow.specs.FlowRow.{flow_row}
 use Rattle.shared_flow.proofs.OnWayLemmas.{acks-of}

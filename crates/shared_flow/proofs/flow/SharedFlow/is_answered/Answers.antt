@@ -1,4 +1,4 @@
-use Rattle.std.proofs.Common.{◌≡◌, ◌+◌, ◌&&◌, Bool, true, false, nat_le, length, is_some, option_map, sym, ap, ◌∙◌}
+use Rattle.std.proofs.Common.{◌≡◌, ◌+◌, ◌&&◌, Bool, false, nat_le, length, is_some, sym, ap, ◌∙◌}
 use Rattle.flow_core.specs.Readings.{over_codes}
 use Rattle.flow_core.specs.World.{Taken}
 use Rattle.flow_core.specs.Books.{ticket_of}
@@ -18,7 +18,7 @@ returns-then-at_end c =
     let on = c.self.invariant in
     let same = ap (λ (s : CoreState). is_answered c.args.at_end over_codes s) c.self.view_is in
     elim c.then-at_end.branch [
-      then-at_end-via-then-at_end b ↦
+      | then-at_end-via-then-at_end b ↦
           answered-ended core c.self.inside.taken c.self.inside.peak on c.args.at_end c.is_some-is_out.result b.if-at_end.true out ∙ same
       | then-at_end-via-else-at_end+then-has_all b ↦
           answered-all core c.self.inside.taken c.self.inside.peak on c.is_some-is_out.result

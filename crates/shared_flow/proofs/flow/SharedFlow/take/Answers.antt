@@ -61,6 +61,6 @@ returns-in-Err-Out c =
     let n = c.in-Err-Out.field-0-0 in
     let refused : c.take.result ≡ Err (fault.Out n) = c.in-Err-Out.is ∙ ap Err c.in-Err-Out.field-0-is in (
       ap (λ (s : CoreState). is_legal (over_codes s.case) (state_of over_codes s) T) (sym c.self.view_is)
-      ∙ one-out number (λ (ticket : Taken ℕ). ticket_of (over_codes core.case) w ticket.told) w.out (can_take w) n ((c.take.ensures.out n).0 refused),
+          ∙ one-out number (λ (ticket : Taken ℕ). ticket_of (over_codes core.case) w ticket.told) w.out (can_take w) n ((c.take.ensures.out n).0 refused),
       c.in-Err-Out.ensures.unchanged ∙ c.self.view_is,
     )

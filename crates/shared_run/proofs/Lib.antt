@@ -1,0 +1,5 @@
+pub mod LiftedRunLemmas
+pub mod LaneLemmas
+pub mod AnswerLemmas
+pub mod RoomyLemmas
+pub mod RoundLemmas
