@@ -1,5 +1,5 @@
 -- One more letter keeps what stands beside a flow.
-use Rattle.std.specs.Prelude.{◌≡◌, ℕ, ◌+◌, max, nat_le, nat_lt, Bool, true, false, ◌&&◌, is_some, is_none, Option, Some, None, List, [], ◌∷◌, length, refl}
+use Rattle.std.specs.Prelude.{◌≡◌, ◌<◌, ◌≤◌, ℕ, ◌+◌, max, nat_le, nat_lt, Bool, true, false, ◌&&◌, is_some, is_none, Option, Some, None, List, [], ◌∷◌, length, refl}
 use Rattle.std.specs.Option.{ForSome}
 use Rattle.std.proofs.Common.{arith, ap, sym, ◌∙◌, subst, length-append}
 use Rattle.std.proofs.lemmas.Bool.{leb-true, leb-false, le-ltb, lt-ltb}
@@ -55,6 +55,7 @@ TakenAt count w = ForSome w.out (λ (ticket : Taken ℕ). ticket.taken ≡ count
 pub on-opened : (case : Case) (peak : ℕ) → peak ≡ window_of (over_codes case) (opening (over_codes case)) → IsOnWay (opened case) 0 peak
 on-opened case peak is = record {
   all = refl;
+  within = omega arith;
   taken = nothing-out None (λ (ticket : Taken ℕ). ticket.taken ≡ 0) refl;
   peak = is;
 }
@@ -66,13 +67,14 @@ module _ (core : CoreState) (count greatest : ℕ) (on : IsOnWay core count grea
   abbrev before : World ℕ
   before = state_of over_codes core
 
-  pub on-ack : (ack : Ack) (peak : ℕ) → peak ≡ max greatest (window_of flow (state_of over_codes (with_ack ack core)))
+  pub on-ack : (ack : Ack) (peak : ℕ) → length core.acks < core.case.acks → peak ≡ max greatest (window_of flow (state_of over_codes (with_ack ack core)))
       → IsOnWay (with_ack ack core) count peak
-  on-ack ack peak is =
+  on-ack ack peak more is =
       let heard = with_ack ack core in
       let world : state_of over_codes heard ≡ after_ack flow ack before = world_over-A flow core.acks ack core.word on.all in
       record {
         all = acks_in-A core.word ∙ ap (λ (n : ℕ). n + 1) on.all ∙ sym (length-append core.acks (ack ∷ []));
+        within = omega (arith, more, length-append core.acks (ack ∷ []));
         taken = subst (TakenAt count) (sym world) on.taken;
         peak =
             is ∙ ap (λ (n : ℕ). max n (window_of flow (state_of over_codes heard)))
@@ -86,6 +88,7 @@ module _ (core : CoreState) (count greatest : ℕ) (on : IsOnWay core count grea
       let world : state_of over_codes (with_letter T core) ≡ after_take before = world_over-append flow core.acks core.word T in
       record {
         all = acks_in-T core.word ∙ on.all;
+        within = on.within;
         taken =
             subst (TakenAt (length before.acks)) (sym world)
             (taken-takes (taking before.waiting before.untold) before (can-take before.out (can_take before) may));
@@ -100,6 +103,7 @@ module _ (core : CoreState) (count greatest : ℕ) (on : IsOnWay core count grea
       let world : state_of over_codes (with_letter C core) ≡ after_answer flow before = world_over-append flow core.acks core.word C in
       record {
         all = acks_in-C core.word ∙ on.all;
+        within = on.within;
         taken =
             subst (TakenAt count) (sym world)
             (nothing-out (after_answer flow before).out (λ (ticket : Taken ℕ). ticket.taken ≡ count) (applied-out flow before.out before may));

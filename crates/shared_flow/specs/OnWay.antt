@@ -1,5 +1,5 @@
 -- A flow between two letters: what is kept beside it, and what a turn changes of it.
-use Rattle.std.specs.Prelude.{◌≡◌, ℕ, Bool, true, false, Some, None, length}
+use Rattle.std.specs.Prelude.{◌≡◌, ◌≤◌, ℕ, Bool, true, false, Some, None, length}
 use Rattle.std.specs.Option.{ForSome}
 use Rattle.flow_core.specs.declared.letter.Letter.{Letter}
 use Rattle.flow_core.specs.declared.letter.Letter.TheVariants.{T}
@@ -11,10 +11,11 @@ use Rattle.flow_core.specs.Cores.{CoreState}
 use Rattle.shared_flow.specs.RoundLetters.{state_of, with_letter, next_letter}
 use Rattle.shared_flow.specs.FlowRow.{peak_of}
 
--- the word has all acknowledgements; where a ticket is out it was taken at so many of them; and this was the greatest
--- window
+-- the word has all acknowledgements, which are no more than the case's; where a ticket is out it was taken at so many of
+-- them; and this was the greatest window
 pub record IsOnWay (core : CoreState) (count greatest : ℕ) : Type 0 where
   pub all : acks_in core.word ≡ length core.acks
+  pub within : length core.acks ≤ core.case.acks
   pub taken : ForSome (state_of over_codes core).out (λ (ticket : Taken ℕ). ticket.taken ≡ count)
   pub peak : greatest ≡ peak_of over_codes core
 

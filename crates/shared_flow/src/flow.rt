@@ -71,9 +71,10 @@ impl SharedFlow {
 
     /// How many acknowledgements of the case are left.
     pub fn left(&self) -> u32
-        ensures { result ≡ self.now.case.acks - length self.now.acks }
+        ensures within { length self.now.acks ≤ self.now.case.acks }
+        ensures left { result ≡ self.now.case.acks - length self.now.acks }
     {
-        self.core.case().acks.saturating_sub(self.core.acks())
+        self.core.case().acks - self.core.acks()
     }
 
     /// Whether all acknowledgements of the case are in.

@@ -10,7 +10,7 @@ use Rattle.shared_link.specs.SharedRounds.{ask_at, sent_by, round_givens, shared
 use Rattle.shared_flow.specs.RoundLetters.{part}
 use Rattle.shared_run.specs.declared.lane.Lane.{Lane}
 use Rattle.shared_run.specs.SharedHistory.{ask_of, asks_of, parts}
-use Rattle.shared_run.specs.Lanes.{flows_in, some_short, KeepsCount, MayHaveEach, DoesEach}
+use Rattle.shared_run.specs.Lanes.{flows_in, some_short, KeepCounts, MayHaveEach, DoesEach}
 use Rattle.shared_run.proofs.AnswerLemmas.{round-few, each-length, each-get}
 
 -- ---- what the flows may have
@@ -20,10 +20,6 @@ abbrev pub Within : List (List Ack) → List CoreState → Type 0
 Within [] flows = Unit {0}
 Within (acks ∷ others) [] = Unit {0}
 Within (acks ∷ others) (core ∷ rest) = (length core.acks + length acks ≤ core.case.acks) × Within others rest
-
-abbrev pub KeepCounts : List CoreState → Type 0
-KeepCounts [] = Unit {0}
-KeepCounts (core ∷ rest) = KeepsCount core × KeepCounts rest
 
 within-from : (lists : List (List Ack)) (flows : List CoreState)
     → ((i : ℕ) (acks : List Ack) (core : CoreState) → slice_get lists i ≡ Some acks → slice_get flows i ≡ Some core

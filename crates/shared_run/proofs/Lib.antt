@@ -3,3 +3,4 @@ pub mod LaneLemmas
 pub mod AnswerLemmas
 pub mod RoomyLemmas
 pub mod RoundLemmas
+pub mod BookLemmas

@@ -15,8 +15,9 @@ use Rattle.shared_flow.specs.RoundLetters.{opened, part}
 use Rattle.shared_flow.specs.FlowRow.{AreRoomy}
 use Rattle.shared_flow.proofs.TurnLemmas.{part-case, part-acks}
 use Rattle.shared_run.specs.SharedHistory.{Progress, progress, asks_of, parts, after_round, have_all, ends_or, rounds_from, most_of, run_of}
+use Rattle.shared_run.specs.Lanes.{KeepCounts}
 use Rattle.shared_run.proofs.AnswerLemmas.{AreSmall, AreAllSmall, after-all-small}
-use Rattle.shared_run.proofs.LaneLemmas.{Within, KeepCounts, within-after}
+use Rattle.shared_run.proofs.LaneLemmas.{Within, within-after}
 
 abbrev pub SmallFlows : List CoreState → Type 0
 SmallFlows [] = Unit {0}

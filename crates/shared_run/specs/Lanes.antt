@@ -21,6 +21,10 @@ some_short (lane ∷ rest) = lane.is_short || some_short rest
 abbrev pub KeepsCount : CoreState → Type 0
 KeepsCount core = length core.acks ≤ core.case.acks
 
+abbrev pub KeepCounts : List CoreState → Type 0
+KeepCounts [] = Unit {0}
+KeepCounts (core ∷ rest) = KeepsCount core × KeepCounts rest
+
 -- a flow has so many acknowledgements left
 abbrev pub MayHave : List Ack → Lane → Type 0
 MayHave acks lane = length lane.flow.acks + length acks ≤ lane.flow.case.acks

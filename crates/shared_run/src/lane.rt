@@ -1,10 +1,8 @@
-ghost use Rattle.std.specs.Prelude.{◌≡◌, List, IfOk, length, map};
-ghost use Rattle.std.specs.List.{All};
-ghost use Rattle.flow_core.specs.declared.case.Case.{Case};
+ghost use Rattle.std.specs.Prelude.{◌≡◌, false, OnOk, IfOk, map};
 ghost use Rattle.flow_core.specs.Readings.{over_codes};
 ghost use Rattle.shared_flow.specs.RoundLetters.{opened};
 ghost use Rattle.shared_run.specs.SharedHistory.{asks_of, have_all};
-ghost use Rattle.shared_run.specs.Lanes.{flows_in, some_short, KeepsCount, MayHave, Does};
+ghost use Rattle.shared_run.specs.Lanes.{flows_in, some_short, KeepCounts, MayHave, Does};
 
 use campaign_gate::Cases;
 use ccp_base::{Ack, Gate, NoMemory, Point, Sequence};
@@ -53,7 +51,7 @@ pub(crate) fn opened(alloc: Global, cases: Cases) -> Result<Vec<Lane>, NoMemory>
 /// What the flows ask the link for, in order.
 pub(crate) fn asks(alloc: Global, lanes: &[Lane]) -> Result<Sequence<Ask>, NoMemory>
     ensures asks { IfOk result (λ asks. asks ≡ asks_of over_codes (flows_in lanes.now)) }
-    ensures counts { All KeepsCount (flows_in lanes.now) }
+    ensures counts { OnOk result (KeepCounts (flows_in lanes.now)) }
 {
     let mut asks = Sequence::new(alloc);
     let mut rest = lanes;

@@ -1,0 +1,57 @@
+-- The books of flows, one after another.
+use Rattle.std.specs.Prelude.{◌≡◌, ◌<◌, ℕ, zero, suc, List, [], ◌∷◌, ◌++◌, length, map, refl}
+use Rattle.std.specs.List.{All}
+use Rattle.std.proofs.Common.{arith, ap, sym, ◌∙◌, subst, append_assoc, append-nil}
+use Rattle.std.proofs.lemmas.List.{map-append}
+use Rattle.flow_core.specs.declared.book.Given.{Given}
+use Rattle.flow_core.specs.Readings.{over_codes}
+use Rattle.flow_core.specs.Cores.{CoreState}
+use Rattle.campaign_gate.specs.declared.row.Row.{Row}
+use Rattle.shared_flow.specs.RoundLetters.{closed}
+use Rattle.shared_flow.specs.FlowRow.{flow_row, AreRoomy}
+use Rattle.shared_run.specs.SharedBooks.{IsGivenOf, AreGivensOf}
+
+givens-last : (cores : List CoreState) (givens : List Given) (core : CoreState) (given : Given) → AreGivensOf cores givens → IsGivenOf core given
+    → AreGivensOf (cores ++ core ∷ []) (givens ++ given ∷ [])
+givens-last [] [] core given are is = (is, tt)
+givens-last [] (one ∷ givens) core given are is = absurd are
+givens-last (first ∷ cores) [] core given are is = absurd are
+givens-last (first ∷ cores) (one ∷ givens) core given are is = (are.0, givens-last cores givens core given are.1 is)
+
+-- of all flows those before the rest were closed, and told what they came to
+pub record AreDone (all rest : List CoreState) (givens : List Given) (rows : List Row) : Type 0 where
+  pub done : List CoreState
+  pub split : done ++ map (closed over_codes) rest ≡ map (closed over_codes) all
+  pub givens : AreGivensOf done givens
+  pub rows : rows ≡ map (flow_row over_codes) done
+  pub roomy : All (λ (core : CoreState). AreRoomy core.acks) rest
+
+pub done-none : (all : List CoreState) → All (λ (core : CoreState). AreRoomy core.acks) all → AreDone all all [] []
+done-none all roomy = record { done = []; split = refl; givens = tt; rows = refl; roomy = roomy }
+
+pub done-one : (all rest later : List CoreState) (core : CoreState) (givens : List Given) (rows : List Row) (given : Given) (row : Row)
+    → AreDone all rest givens rows → rest ≡ core ∷ later → IsGivenOf (closed over_codes core) given → row ≡ flow_row over_codes (closed over_codes core)
+    → AreDone all later (givens ++ given ∷ []) (rows ++ row ∷ [])
+done-one all rest later core givens rows given row are is told same =
+    let end = closed over_codes core in
+    record {
+      done = are.done ++ end ∷ [];
+      split =
+          append_assoc are.done (end ∷ []) (map (closed over_codes) later)
+          ∙ ap (λ (xs : List CoreState). are.done ++ map (closed over_codes) xs) (sym is) ∙ are.split;
+      givens = givens-last are.done givens end given are.givens told;
+      rows =
+          (λ i. are.rows i ++ same i ∷ [])
+          ∙ sym (map-append (flow_row over_codes) are.done (end ∷ []));
+      roomy =
+          (λ k d less.
+              subst (λ (xs : List CoreState). All (λ (one : CoreState). AreRoomy one.acks) xs) is are.roomy (suc k) d (omega (arith, less)));
+    }
+
+pub done-all : (all : List CoreState) (givens : List Given) (rows : List Row) → AreDone all [] givens rows
+    → AreGivensOf (map (closed over_codes) all) givens × (rows ≡ map (flow_row over_codes) (map (closed over_codes) all))
+done-all all givens rows are =
+    let whole : are.done ≡ map (closed over_codes) all = sym (append-nil are.done) ∙ are.split in (
+      subst (λ (xs : List CoreState). AreGivensOf xs givens) whole are.givens,
+      are.rows ∙ ap (map (flow_row over_codes)) whole,
+    )
