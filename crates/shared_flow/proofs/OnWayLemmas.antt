@@ -1,5 +1,5 @@
 -- One more letter keeps what stands beside a flow.
-use Rattle.std.specs.Prelude.{◌≡◌, ◌<◌, ◌≤◌, ℕ, ◌+◌, max, nat_le, nat_lt, Bool, true, false, ◌&&◌, is_some, is_none, Option, Some, None, List, [], ◌∷◌, length, refl}
+use Rattle.std.specs.Prelude.{◌≡◌, ◌<◌, ℕ, ◌+◌, max, nat_le, nat_lt, Bool, true, false, ◌&&◌, is_some, is_none, Option, Some, None, List, [], ◌∷◌, length, refl}
 use Rattle.std.specs.Option.{ForSome}
 use Rattle.std.proofs.Common.{arith, ap, sym, ◌∙◌, subst, length-append}
 use Rattle.std.proofs.lemmas.Bool.{leb-true, leb-false, le-ltb, lt-ltb}

@@ -4,3 +4,4 @@ pub mod AnswerLemmas
 pub mod RoomyLemmas
 pub mod RoundLemmas
 pub mod BookLemmas
+pub mod RunLemmas

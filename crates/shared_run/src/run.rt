@@ -5,7 +5,7 @@ ghost use Rattle.flow_core.specs.Readings.{over_codes};
 ghost use Rattle.scenario_json.specs.Cases.{plan_of, AreFlowsFrom};
 ghost use Rattle.scenario_json.specs.SharedScenes.{flow_link_of};
 ghost use Rattle.shared_link.specs.SharedLimits.{IsWithin};
-ghost use Rattle.shared_run.specs.SharedHistory.{flows_of, shared_rows, shared_counts};
+ghost use Rattle.shared_run.specs.SharedHistory.{most_of, flows_of, shared_rows, shared_counts};
 ghost use Rattle.shared_run.specs.SharedBooks.{AreGivensOf};
 ghost use Rattle.shared_run.specs.LiftedRun.{IsLifted};
 
@@ -13,6 +13,7 @@ use crate::books::{SharedRun, finished};
 use crate::lane::opened;
 use crate::rounds::rounds;
 use ccp_base::{Gate, NoMemory};
+use flow_core::Case;
 use scenario_json::SharedScene;
 use shared_link::SharedLink;
 use std::alloc::Global;
@@ -49,7 +50,7 @@ pub fn shared<R: Threads + Sync, G: Gate + Sync>(
         link,
         rounds: most,
     } = scene;
-    let most = if scene.cases.is_empty() { 0 } else { most };
+    let most = most_of(scene.cases.as_slice(), most);
     let mut link = SharedLink::new(alloc, link)?;
     let mut lanes = opened(alloc, scene.cases)?;
     rounds(rt, alloc, &mut link, &mut lanes, most, workers as usize, gate)?;
@@ -60,4 +61,11 @@ pub fn shared<R: Threads + Sync, G: Gate + Sync>(
         rows,
         counts,
     })
+}
+
+/// How many rounds these cases are run for at most.
+fn most_of(cases: &[Case], rounds: u32) -> u32
+    ensures { result ≡ most_of cases.now rounds }
+{
+    if cases.is_empty() { 0 } else { rounds }
 }
