@@ -11,9 +11,9 @@ abbrev pub HasStood : SharedState → Type 0
 HasStood link = (history : List (List Ask)) × Stands link history
 
 -- link and flows stand as a run does
-pub record StandAs (link : SharedState) (flows : List CoreState) (run : Progress) : Type 0 where
+pub record StandAs (link : SharedState) (now : List CoreState) (run : Progress) : Type 0 where
   pub stands : Stands link run.history
-  pub flows : flows ≡ run.flows
+  pub flows : now ≡ run.flows
 
 -- one more round was run
 abbrev pub Rounded : SharedState → List CoreState → SharedState → List CoreState → Type 0
