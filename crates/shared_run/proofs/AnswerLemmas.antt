@@ -1,5 +1,5 @@
 -- What a round of the link answers: no more acknowledgements than were asked for, and each of them with small numbers.
-use Rattle.std.specs.Prelude.{◌≡◌, ◌≢◌, ◌<◌, ◌≤◌, ℕ, zero, suc, ◌+◌, ◌-◌, ◌*◌, Bool, true, false, ◌&&◌, nat_lt, if◌then◌else◌, Option, Some, None, unwrap_or, List, [], ◌∷◌, ◌++◌, length, map, slice_get, refl}
+use Rattle.std.specs.Prelude.{◌≡◌, ◌≢◌, ◌<◌, ◌≤◌, ℕ, zero, suc, ◌+◌, ◌-◌, ◌*◌, ◌==◌, Bool, true, false, ◌&&◌, nat_lt, if◌then◌else◌, Option, Some, None, unwrap_or, List, [], ◌∷◌, ◌++◌, length, map, slice_get, refl}
 use Rattle.std.specs.List.{All}
 use Rattle.std.proofs.Common.{arith, ap, sym, ◌∙◌, length-append}
 use Rattle.ccp_base.specs.declared.ack.Ack.{Ack}

@@ -19,11 +19,11 @@ givens-last (first ∷ cores) [] core given are is = absurd are
 givens-last (first ∷ cores) (one ∷ givens) core given are is = (are.0, givens-last cores givens core given are.1 is)
 
 -- of all flows those before the rest were closed, and told what they came to
-pub record AreDone (all rest : List CoreState) (givens : List Given) (rows : List Row) : Type 0 where
+pub record AreDone (all rest : List CoreState) (told : List Given) (made : List Row) : Type 0 where
   pub done : List CoreState
   pub split : done ++ map (closed over_codes) rest ≡ map (closed over_codes) all
-  pub givens : AreGivensOf done givens
-  pub rows : rows ≡ map (flow_row over_codes) done
+  pub givens : AreGivensOf done told
+  pub rows : made ≡ map (flow_row over_codes) done
   pub roomy : All (λ (core : CoreState). AreRoomy core.acks) rest
 
 pub done-none : (all : List CoreState) → All (λ (core : CoreState). AreRoomy core.acks) all → AreDone all all [] []

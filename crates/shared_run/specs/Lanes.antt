@@ -33,6 +33,14 @@ MayHave acks lane = length lane.flow.acks + length acks ≤ lane.flow.case.acks
 abbrev pub Does : List Ack → Lane → Lane → Type 0
 Does acks old new = new.is_short ≡ false → (old.is_short ≡ false) × (new.flow ≡ part over_codes acks old.flow)
 
+-- a flow has as many left as the list at a place has
+abbrev pub MayHaveAt : List (List Ack) → ℕ → Lane → Type 0
+MayHaveAt lists place lane = (acks : List Ack) → MayHave (slice_index_or lists place acks) lane
+
+-- the part of a flow with the list at a place was done
+abbrev pub DoesAt : List (List Ack) → ℕ → Lane → Lane → Type 0
+DoesAt lists place old new = (acks : List Ack) → Does (slice_index_or lists place acks) old new
+
 -- each flow has as many left as its list has
 abbrev pub MayHaveEach : List (List Ack) → List Lane → Type 0
 MayHaveEach lists lanes =

@@ -53,7 +53,15 @@ pub fn shared<R: Threads + Sync, G: Gate + Sync>(
     let most = most_of(scene.cases.as_slice(), most);
     let mut link = SharedLink::new(alloc, link)?;
     let mut lanes = opened(alloc, scene.cases)?;
-    rounds(rt, alloc, &mut link, &mut lanes, most, workers as usize, gate)?;
+    rounds(
+        rt,
+        alloc,
+        &mut link,
+        lanes.as_mut_slice(),
+        most,
+        workers as usize,
+        gate,
+    )?;
     let counts = link.counts();
     let (givens, rows) = finished(alloc, lanes)?;
     Ok(SharedRun {

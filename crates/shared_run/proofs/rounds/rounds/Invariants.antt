@@ -5,13 +5,13 @@ use Rattle.shared_run.specs.Rounds.{HasStood}
 use Rattle.shared_run.proofs.RoundLemmas.{Goes}
 use Rattle.shared_run.proofs.rounds.rounds.Given as goal
 
-abbrev pub invariant-loop : goal.invariant-loop
-invariant-loop g l =
-    Goes l.rounds l.fn.link (flows_in l.fn.lanes.items) l.left l.link (flows_in l.lanes.items)
+abbrev pub invariant-loop-left : goal.invariant-loop-left
+invariant-loop-left g l =
+    Goes l.rounds l.fn.link (flows_in l.fn.lanes) l.left l.link (flows_in l.lanes)
     × HasStood l.link
-    × (length l.lanes.items ≡ length l.link.case.flows)
+    × (length l.lanes ≡ length l.link.case.flows)
     × (l.link.case ≡ l.fn.link.case)
     × (l.link.rounds + l.left ≤ most_rounds)
 
-abbrev pub decreases-loop : goal.decreases-loop
-decreases-loop g l = l.left
+abbrev pub decreases-loop-left : goal.decreases-loop-left
+decreases-loop-left g l = l.left
