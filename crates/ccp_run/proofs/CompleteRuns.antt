@@ -44,7 +44,7 @@ no_refusal (Live wire) bytes refusal reads refused = let bad : ⊥ = cc in absur
 no_refusal (Campaign wire) bytes refusal reads refused = let bad : ⊥ = cc in absurd bad
 no_refusal (Soak number) bytes refusal reads refused = refused
 no_refusal Rollout bytes refusal reads refused = refused
-no_refusal Shared bytes refusal reads refused = refused
+no_refusal Shared bytes refusal reads refused = let bad : ⊥ = cc in absurd bad
 
 -- a task with an input or an output is there
 by_input : (task : Task) (bytes : List ℕ) → IsInput task bytes → is_there task ≡ true
@@ -56,7 +56,7 @@ by_input (Live wire) bytes input = refl
 by_input (Campaign wire) bytes input = refl
 by_input (Soak number) bytes input = refl
 by_input Rollout bytes input = absurd input
-by_input Shared bytes input = absurd input
+by_input Shared bytes input = refl
 
 by_output : (task : Task) (bytes : List ℕ) (output : ModeOutput) → IsMade task bytes output → is_there task ≡ true
 by_output (Alone Check) bytes output made = refl
@@ -67,7 +67,7 @@ by_output (Live wire) bytes output made = refl
 by_output (Campaign wire) bytes output made = refl
 by_output (Soak number) bytes output made = refl
 by_output Rollout bytes output made = absurd made
-by_output Shared bytes output made = absurd made
+by_output Shared bytes output made = refl
 
 module _ (task : Task) (source : Stream) (bytes : List ℕ) (is : source.old ≡ Some bytes) where
   same_bytes : (taken : List ℕ) → HasInput true source taken → bytes ≡ taken

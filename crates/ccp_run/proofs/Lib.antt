@@ -10,3 +10,5 @@ pub mod LiveLemmas
 mod SettledScenes
 pub mod AuditLemmas
 mod SettledAudits
+mod SettledShared
+pub mod SharedLemmas

@@ -30,6 +30,7 @@ use Rattle.ccp_run.specs.FeedRuns.{IsNoFeed}
 use Rattle.ccp_run.specs.Fold.{acks_below, IsFold, HasNoProgram, HasBadLines, IsNoFold}
 use Rattle.ccp_run.specs.Settled.{is_there, IsInput, IsSettled}
 use Rattle.ccp_run.proofs.SettledAudits.{settled_audit}
+use Rattle.ccp_run.proofs.SettledShared.{settled_shared}
 use Rattle.ccp_run.proofs.SettledScenes.{settled_live, settled_campaign, settled_soak}
 
 -- ---- check
@@ -215,4 +216,4 @@ settled_input (Live wire) bytes there = settled_live wire bytes
 settled_input (Campaign wire) bytes there = settled_campaign wire bytes
 settled_input (Soak number) bytes there = settled_soak number bytes
 settled_input Rollout bytes there = let bad : ⊥ = cc in absurd bad
-settled_input Shared bytes there = let bad : ⊥ = cc in absurd bad
+settled_input Shared bytes there = settled_shared bytes

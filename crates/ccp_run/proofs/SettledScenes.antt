@@ -23,7 +23,7 @@ one_outcome text (Err e) (Ok f) p q = absurd ((settled_text text).apart f e q p)
 one_outcome text (Err d) (Err e) p q = ap Err ((settled_text text).one_refusal d e p q)
 
 -- there is one reading
-one_reading : (left right : Reading) → IsReading left → IsReading right → left ≡ right
+pub one_reading : (left right : Reading) → IsReading left → IsReading right → left ≡ right
 one_reading left right l r = λ i text. one_outcome text (left text) (right text) (l.at text) (r.at text) i
 
 module _ (mode : SceneMode) (bytes : List ℕ) where

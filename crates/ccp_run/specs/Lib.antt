@@ -8,6 +8,7 @@ pub mod Scenes
 pub mod Campaign
 pub mod Live
 pub mod AuditRuns
+pub mod Shared
 pub mod Tasks
 pub mod Modes
 pub mod Attempts

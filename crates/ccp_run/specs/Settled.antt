@@ -6,14 +6,16 @@ use Rattle.portus_build.specs.Texts.{IsBuiltFrom}
 use Rattle.feed_core.specs.declared.ending.FeedEnd.TheVariants.{Whole}
 use Rattle.feed_core.specs.FeedEnds.{end_of}
 use Rattle.ccp_words.specs.declared.mode.Alone.TheVariants.{Check, Fold, Feed, Audit}
-use Rattle.ccp_run.specs.Tasks.{Task, Alone, Live, Campaign, Soak}
+use Rattle.ccp_run.specs.Tasks.{Task, Alone, Live, Campaign, Soak, Shared}
 use Rattle.ccp_run.specs.declared.outcome.ModeOutput.{ModeOutput}
 use Rattle.ccp_run.specs.declared.refusal.Refusal.{Refusal}
 use Rattle.ccp_run.specs.AuditRuns.{IsAudit}
 use Rattle.ccp_run.specs.Fold.{IsFold}
 use Rattle.scenario_json.specs.declared.mode.Mode.TheVariants as scene
 use Rattle.scenario_json.specs.Scene.{Scene}
+use Rattle.scenario_json.specs.SharedScenes.{SharedParts}
 use Rattle.ccp_run.specs.Scenes.{Says}
+use Rattle.ccp_run.specs.Shared.{SaysShared}
 use Rattle.ccp_run.specs.Modes.{IsMade, IsRefused}
 
 -- the modes that are there
@@ -25,6 +27,7 @@ is_there (Alone Audit) = true
 is_there (Live wire) = true
 is_there (Campaign wire) = true
 is_there (Soak number) = true
+is_there Shared = true
 is_there _ = false
 
 -- bytes are an input of the mode
@@ -37,6 +40,7 @@ IsInput (Live wire) bytes = (said : Scene) × Says scene.Live bytes said
 IsInput (Campaign wire) bytes = (said : Scene) × Says scene.Campaign bytes said
 -- a generated campaign doesn't look at its source
 IsInput (Soak number) bytes = Unit {0}
+IsInput Shared bytes = (said : SharedParts) × SaysShared bytes said
 IsInput _ bytes = ⊥
 
 pub record IsSettled (task : Task) (bytes : List ℕ) : Type 0 where

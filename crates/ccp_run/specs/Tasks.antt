@@ -40,3 +40,6 @@ campaign_task wire = Campaign wire
 
 abbrev pub soak_task : ℕ → Task
 soak_task number = Soak number
+
+abbrev pub shared_task : Task
+shared_task = Shared

@@ -103,7 +103,7 @@ pub fn frames(alloc: Global, wire: bool, programs: &Builts) -> Result<Bytes, NoM
 }
 
 /// The agents of cases, in order.
-fn agents(alloc: Global, cases: &[Case]) -> Result<Agents, NoMemory>
+pub fn agents(alloc: Global, cases: &[Case]) -> Result<Agents, NoMemory>
     ensures { IfOk result (λ agents. agents ≡ case_agents cases.now) }
 {
     let mut agents = Agents::new(alloc);

@@ -15,6 +15,7 @@ mod program;
 mod reading;
 mod refusal;
 mod scene;
+mod shared;
 mod soak;
 mod status;
 mod stop;

@@ -11,6 +11,7 @@ use crate::campaign::read_campaign;
 use crate::ending::{end, end_without};
 use crate::live::read_live;
 use crate::outcome::Outcome;
+use crate::shared::read_shared;
 use crate::soak::soak_output;
 use crate::status::{MEMORY_LINE, Status, WORDS_LINE};
 use crate::stop::Stop;
@@ -82,6 +83,10 @@ fn asked_run<R: Threads + Wait + Sync, S: Source, K: Sink, E: Sink, G: Gate + Sy
             );
             end(alloc, made, sink, errors)
         }
-        Mode::Rollout | Mode::Shared => end(alloc, Err(Stop::NoMemory), sink, errors),
+        Mode::Shared => {
+            let made = read_shared(rt, alloc, asked.workers, source, gate);
+            end(alloc, made, sink, errors)
+        }
+        Mode::Rollout => end(alloc, Err(Stop::NoMemory), sink, errors),
     }
 }

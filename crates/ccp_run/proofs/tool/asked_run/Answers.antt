@@ -1,7 +1,7 @@
 use Rattle.std.proofs.Common.{ap, refl, subst, sym}
 use Rattle.ccp_run.specs.Run.{IsRun}
 use Rattle.ccp_run.specs.Streams.{Stream, stream}
-use Rattle.ccp_run.specs.Tasks.{Task, Live, Campaign, Soak, task_in, task_of}
+use Rattle.ccp_run.specs.Tasks.{Task, Live, Campaign, Soak, Shared, task_in, task_of}
 use Rattle.ccp_run.proofs.RunLemmas.{run_of, wants_at_once}
 use Rattle.ccp_run.proofs.tool.asked_run.Goals as goal
 
@@ -31,6 +31,15 @@ returns-in-Live g c =
     subst (λ (task : Task). IsRun task source sink errors (g.K.Sink.is_finished c.end-in-Live.new.sink) c.end-in-Live.result)
     (sym (ap (λ mode. task_in mode c.args.asked) c.in-Live.is))
     (run_of (Live c.args.asked.wire) refl source sink errors (g.K.Sink.is_finished c.end-in-Live.new.sink) c.end-in-Live.result c.read_live-made.result c.read_live-made.ensures c.end-in-Live.ensures)
+
+pub returns-in-Shared : goal.returns-in-Shared
+returns-in-Shared g c =
+    let source : Stream = stream (g.S.Source.remaining c.args.source.now) (g.S.Source.remaining c.read_shared-made.new.source) (g.S.Source.faults c.args.source.now) (g.S.Source.faults c.read_shared-made.new.source) in
+    let sink : Stream = stream (g.K.Sink.written c.args.sink.now) (g.K.Sink.written c.end-in-Shared.new.sink) (g.K.Sink.faults c.args.sink.now) (g.K.Sink.faults c.end-in-Shared.new.sink) in
+    let errors : Stream = stream (g.E.Sink.written c.args.errors.now) (g.E.Sink.written c.end-in-Shared.new.errors) (g.E.Sink.faults c.args.errors.now) (g.E.Sink.faults c.end-in-Shared.new.errors) in
+    subst (λ (task : Task). IsRun task source sink errors (g.K.Sink.is_finished c.end-in-Shared.new.sink) c.end-in-Shared.result)
+    (sym (ap (λ mode. task_in mode c.args.asked) c.in-Shared.is))
+    (run_of Shared refl source sink errors (g.K.Sink.is_finished c.end-in-Shared.new.sink) c.end-in-Shared.result c.read_shared-made.result c.read_shared-made.ensures c.end-in-Shared.ensures)
 
 pub returns-in-Rollout : goal.returns-in-Rollout
 returns-in-Rollout g c =

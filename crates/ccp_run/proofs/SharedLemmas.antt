@@ -1,0 +1,105 @@
+-- A scenario's codes simulate its programs in each of its cases, and its link is within the limits.
+use Rattle.std.proofs.Common.{◌≡◌, ◌∙◌, ◌≤◌, sym, ℕ, zero, suc, Bool, true, false, if◌then◌else◌, Some, None, List, [], ◌∷◌, length, map, slice_get, ap, subst, refl, arith}
+use Rattle.std.proofs.lemmas.List.{length-map}
+use Rattle.std.specs.List.{All}
+use Rattle.ccp_base.specs.declared.ack.Ack.{Ack}
+use Rattle.ccp_base.specs.Limits.{most_flows, most_queue, most_quantum_us}
+use Rattle.reg_compiler.specs.declared.built.Built.{Built}
+use Rattle.flow_core.specs.declared.case.Case.{Case}
+use Rattle.flow_core.specs.Cores.{CoreState}
+use Rattle.flow_core.specs.LiveText.{source_at, flow_from}
+use Rattle.flow_core.specs.Readings.{over_codes}
+use Rattle.campaign_report.specs.BookText.{places_of}
+use Rattle.scenario_json.specs.Cases.{plan_of, IsCoded, AreNumberedFrom}
+use Rattle.scenario_json.specs.ScenePrograms.{forms_of}
+use Rattle.scenario_json.specs.SharedScenes.{flow_link_of}
+use Rattle.shared_link.specs.declared.shared_case.SharedCase.{SharedCase}
+use Rattle.shared_link.specs.SharedLimits.{IsFlowWithin, IsWithin}
+use Rattle.shared_link.specs.SharedRounds.{acks_after}
+use Rattle.shared_flow.specs.RoundLetters.{Read, opened, closed}
+use Rattle.shared_flow.specs.FlowRow.{flow_row}
+use Rattle.shared_run.specs.LiftedRun.{AreSimulated}
+use Rattle.shared_run.specs.SharedHistory.{Progress, progress, asks_of, parts, after_round, have_all, rounds_from, most_of, run_of, flows_of, shared_rows}
+use Rattle.ccp_run.proofs.CodedLemmas.{simulated}
+
+one_some : {A : Type 0} (left right : A) → Some left ≡ Some right → left ≡ right
+one_some left right e = cc
+
+no_some : {A : Type 0} (right : A) → None ≡ Some right → ⊥
+no_some right e = cc
+
+module _ (programs : List (ℕ × Built)) (numbered : AreNumberedFrom 0 programs) where
+  case_simulated : (case : Case) → IsCoded programs case → AreSimulated (flow_from (forms_of programs)) case
+  case_simulated case coded =
+      let ss = case.ss.role.number in
+      let ca = case.ca.role.number in
+      record {
+        ss = source_at (forms_of programs) ss;
+        ca = source_at (forms_of programs) ca;
+        ss_places = places_of programs ss;
+        ca_places = places_of programs ca;
+        read = refl;
+        ss_simulates = simulated programs numbered ss case.ss coded.ss;
+        ca_simulates = simulated programs numbered ca case.ca coded.ca;
+      }
+
+  pub all_simulated : (cases : List Case) → All (IsCoded programs) cases → (k : ℕ) (case : Case) → slice_get cases k ≡ Some case
+      → AreSimulated (flow_from (forms_of programs)) case
+  all_simulated [] coded k case is = absurd (no_some case is)
+  all_simulated (first ∷ rest) coded zero case is =
+      subst (λ (c : Case). AreSimulated (flow_from (forms_of programs)) c) (one_some first case is) (case_simulated first (coded 0 first (omega arith)))
+  all_simulated (first ∷ rest) coded (suc k) case is =
+      all_simulated rest (λ j d h. coded (suc j) d (omega (arith, h))) k case is
+
+-- what a case has of its own on the link is within the limits
+flow_within : (case : Case) → IsFlowWithin (flow_link_of (plan_of case))
+flow_within case = record {
+  mss = case.link.mss_within;
+  delay_us = case.link.delay_within;
+  timeout_us = case.link.timeout_within;
+  losses = case.link.losses_rise;
+  mark = case.link.mark_within;
+}
+
+pub flows_within : (cases : List Case) → All IsFlowWithin (map flow_link_of (map plan_of cases))
+flows_within [] k d less = absurd (omega (arith, less))
+flows_within (case ∷ rest) zero d less = flow_within case
+flows_within (case ∷ rest) (suc k) d less = flows_within rest k d (omega (arith, less))
+
+-- ---- how many rows
+
+parts-count : {X : Type 0} (read : Read X) (lists : List (List Ack)) (flows : List CoreState) → length (parts read lists flows) ≡ length flows
+parts-count read [] flows = refl
+parts-count read (acks ∷ others) [] = refl
+parts-count read (acks ∷ others) (core ∷ rest) = ap suc (parts-count read others rest)
+
+either-count : (ends : Bool) (now later : Progress) (n : ℕ) → length now.flows ≡ n → length later.flows ≡ n → length (if ends then now else later).flows ≡ n
+either-count true now later n here there = here
+either-count false now later n here there = there
+
+module _ {X : Type 0} (link : SharedCase) (read : Read X) where
+  rounds-count : (n : ℕ) (run : Progress) → length (rounds_from link read n run).flows ≡ length run.flows
+  rounds-count zero run = refl
+  rounds-count (suc more) run =
+      let next = after_round link read run in
+      let here = parts-count read (acks_after link run.history (asks_of read run.flows)) run.flows in
+      either-count (have_all next.flows) next (rounds_from link read more next) (length run.flows) here (rounds-count more next ∙ here)
+
+-- one row a case
+pub rows-count : (link : SharedCase) (cases : List Case) (rounds : ℕ) → length (shared_rows link over_codes cases rounds) ≡ length cases
+rows-count link cases rounds =
+    length-map (flows_of link over_codes cases rounds) (flow_row over_codes)
+    ∙ length-map (run_of link over_codes cases rounds).flows (closed over_codes)
+    ∙ rounds-count link over_codes (most_of cases rounds) (progress [] (map opened cases))
+    ∙ length-map cases opened
+
+-- ---- the link
+
+pub link_within : (link : SharedCase) (cases : List Case) → link.flows ≡ map flow_link_of (map plan_of cases) → length cases ≤ most_flows
+    → (1 ≤ link.queue) × (link.queue ≤ most_queue) → (1 ≤ link.quantum_us) × (link.quantum_us ≤ most_quantum_us) → IsWithin link
+link_within link cases links few queue quantum_us = record {
+  few = subst (λ (n : ℕ). n ≤ most_flows) (sym (ap length links ∙ length-map (map plan_of cases) flow_link_of ∙ length-map cases plan_of)) few;
+  flows = subst (λ flows. All IsFlowWithin flows) (sym links) (flows_within cases);
+  queue = queue;
+  quantum_us = quantum_us;
+}

@@ -1,0 +1,70 @@
+-- What `shared` makes of its cases: the table of their rows, and the numbers of the link's packets.
+use Rattle.std.specs.Prelude.{◌≡◌, ℕ, Result, Ok, Err, List, [], map}
+use Rattle.std.specs.List.{All}
+use Rattle.ccp_base.specs.Text.{codes, decimal, ◌⧺◌}
+use Rattle.campaign_report.specs.TableText.{table_text}
+use Rattle.flow_core.specs.declared.case.Case.{Case}
+use Rattle.flow_core.specs.LiveText.{flow_from}
+use Rattle.reg_compiler.specs.declared.built.Built.{Built}
+use Rattle.scenario_json.specs.Cases.{plan_of, case_names, IsCoded, AreFlowsFrom}
+use Rattle.scenario_json.specs.Scene.{scene_with}
+use Rattle.scenario_json.specs.ScenePrograms.{Reading, IsReading, forms_of}
+use Rattle.scenario_json.specs.SharedScenes.{SharedParts, shared_with, shared_scene_of}
+use Rattle.shared_link.specs.declared.round.Counts.{Counts}
+use Rattle.shared_link.specs.declared.shared_case.SharedCase.{SharedCase}
+use Rattle.shared_run.specs.SharedHistory.{shared_rows, shared_counts}
+use Rattle.ccp_run.specs.declared.outcome.ModeOutput.{ModeOutput}
+use Rattle.ccp_run.specs.declared.refusal.Refusal.{Refusal}
+use Rattle.ccp_run.specs.declared.refusal.Refusal.TheVariants as refusal
+use Rattle.ccp_run.specs.declared.stop.Stop.{Stop}
+use Rattle.ccp_run.specs.declared.stop.Stop.TheVariants as stop
+use Rattle.ccp_run.specs.Campaign.{case_agents}
+
+-- ---- the input
+
+-- bytes are the text of a scenario of flows on one link, which says this
+abbrev pub SaysShared : List ℕ → SharedParts → Type 0
+SaysShared bytes parts = (read : Reading) → IsReading read → shared_scene_of read bytes ≡ Ok parts
+
+-- bytes are such a text, and these are its programs and cases, its link, and the most rounds
+pub record IsSharedScenario (bytes : List ℕ) (programs : List (ℕ × Built)) (cases : List Case) (link : SharedCase) (rounds : ℕ) : Type 0 where
+  pub text : SaysShared bytes (shared_with (scene_with (forms_of programs) (map plan_of cases)) link rounds)
+  pub coded : All (IsCoded programs) cases
+  pub flows : AreFlowsFrom 0 cases
+
+-- bytes are no such text, and this is their first refusal
+abbrev pub IsNoSharedScenario : List ℕ → Refusal → Type 0
+IsNoSharedScenario bytes (refusal.Scene fault) = (read : Reading) → IsReading read → shared_scene_of read bytes ≡ Err fault
+IsNoSharedScenario bytes _ = ⊥
+
+-- why there is no such scenario, but for want of memory
+abbrev pub StopsShared : List ℕ → Stop → Type 0
+StopsShared bytes (stop.Refused refusal) = IsNoSharedScenario bytes refusal
+StopsShared bytes stop.ReadFailed = ⊥
+StopsShared bytes stop.NoMemory = Unit {0}
+
+-- ---- the output
+
+-- the rounds and the packets of a link
+abbrev pub link_line : Counts → List ℕ
+link_line counts =
+    codes "link rounds=" ⧺ decimal counts.rounds ⧺ codes " sent=" ⧺ decimal counts.sent ⧺ codes " acked=" ⧺ decimal counts.acked
+    ⧺ codes " lost=" ⧺ decimal counts.lost ⧺ codes " inflight=" ⧺ decimal counts.inflight ⧺ codes "\n"
+
+-- the table of cases of these programs over their link, read over the programs' sources, and the link's line
+abbrev pub shared_text : List (ℕ × Built) → List Case → SharedCase → ℕ → List ℕ
+shared_text programs cases link rounds =
+    table_text (case_names cases) (case_agents cases) (shared_rows link (flow_from (forms_of programs)) cases rounds)
+    ⧺ link_line (shared_counts link (flow_from (forms_of programs)) cases rounds)
+
+-- the output is that text of the scenario's cases
+pub record IsSharedOutput (bytes : List ℕ) (output : ModeOutput) : Type 0 where
+  pub programs : List (ℕ × Built)
+  pub cases : List Case
+  pub link : SharedCase
+  pub rounds : ℕ
+  pub scenario : IsSharedScenario bytes programs cases link rounds
+  pub written : output.text ≡ shared_text programs cases link rounds
+  pub no_books : output.books ≡ []
+  pub no_programs : output.programs ≡ []
+  pub idle : output.ran ≡ 0
