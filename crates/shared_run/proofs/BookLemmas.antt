@@ -1,14 +1,18 @@
 -- The books of flows, one after another.
-use Rattle.std.specs.Prelude.{◌≡◌, ◌<◌, ℕ, zero, suc, List, [], ◌∷◌, ◌++◌, length, map, refl}
+use Rattle.std.specs.Prelude.{◌≡◌, suc, true, List, [], ◌∷◌, ◌++◌, length, map, refl}
 use Rattle.std.specs.List.{All}
 use Rattle.std.proofs.Common.{arith, ap, sym, ◌∙◌, subst, append_assoc, append-nil}
 use Rattle.std.proofs.lemmas.List.{map-append}
+use Rattle.ccp_base.specs.declared.ack.Ack.{Ack}
 use Rattle.flow_core.specs.declared.book.Given.{Given}
 use Rattle.flow_core.specs.Readings.{over_codes}
+use Rattle.flow_core.specs.Words.{legal_over, is_still}
+use Rattle.flow_core.specs.Books.{IsBookOf}
 use Rattle.flow_core.specs.Cores.{CoreState}
 use Rattle.campaign_gate.specs.declared.row.Row.{Row}
-use Rattle.shared_flow.specs.RoundLetters.{closed}
+use Rattle.shared_flow.specs.RoundLetters.{state_of, closed}
 use Rattle.shared_flow.specs.FlowRow.{flow_row, AreRoomy}
+use Rattle.shared_flow.proofs.TurnLemmas.{settled-acks}
 use Rattle.shared_run.specs.SharedBooks.{IsGivenOf, AreGivensOf}
 
 givens-last : (cores : List CoreState) (givens : List Given) (core : CoreState) (given : Given) → AreGivensOf cores givens → IsGivenOf core given
@@ -26,8 +30,15 @@ pub record AreDone (all rest : List CoreState) (told : List Given) (made : List 
   pub rows : made ≡ map (flow_row over_codes) done
   pub roomy : All (λ (core : CoreState). AreRoomy core.acks) rest
 
-pub done-none : (all : List CoreState) → All (λ (core : CoreState). AreRoomy core.acks) all → AreDone all all [] []
-done-none all roomy = record { done = []; split = refl; givens = tt; rows = refl; roomy = roomy }
+pub done-none : (all rest : List CoreState) (givens : List Given) (rows : List Row) → rest ≡ all → givens ≡ [] → rows ≡ []
+    → All (λ (core : CoreState). AreRoomy core.acks) all → AreDone all rest givens rows
+done-none all rest givens rows is none empty roomy = record {
+  done = [];
+  split = ap (map (closed over_codes)) is;
+  givens = subst (λ (gs : List Given). AreGivensOf [] gs) (sym none) tt;
+  rows = empty;
+  roomy = subst (λ (xs : List CoreState). All (λ (core : CoreState). AreRoomy core.acks) xs) (sym is) roomy;
+}
 
 pub done-one : (all rest later : List CoreState) (core : CoreState) (givens : List Given) (rows : List Row) (given : Given) (row : Row)
     → AreDone all rest givens rows → rest ≡ core ∷ later → IsGivenOf (closed over_codes core) given → row ≡ flow_row over_codes (closed over_codes core)
@@ -55,3 +66,21 @@ done-all all givens rows are =
       subst (λ (xs : List CoreState). AreGivensOf xs givens) whole are.givens,
       are.rows ∙ ap (map (flow_row over_codes)) whole,
     )
+
+-- the next flow's sums are numbers of 64 bits, at its end too
+pub roomy-next : (all rest later : List CoreState) (core end : CoreState) (givens : List Given) (rows : List Row) → AreDone all rest givens rows → rest ≡ core ∷ later
+    → end ≡ closed over_codes core → AreRoomy end.acks
+roomy-next all rest later core end givens rows are is closes =
+    let front : All (λ (one : CoreState). AreRoomy one.acks) (core ∷ later) =
+    subst (λ (xs : List CoreState). All (λ (one : CoreState). AreRoomy one.acks) xs) is are.roomy in
+    let here : AreRoomy core.acks = front 0 core (omega arith) in
+    subst (λ (acks : List Ack). AreRoomy acks) (sym (ap (λ (c : CoreState). c.acks) closes ∙ settled-acks over_codes true core)) here
+
+pub given-of : (core end : CoreState) (given : Given) → end ≡ closed over_codes core
+    → given.book.case ≡ end.case → given.acks ≡ end.acks → given.book.word ≡ end.word
+    → legal_over (over_codes end.case) end.acks end.word ≡ true → is_still (state_of over_codes end) ≡ true
+    → IsBookOf (over_codes end.case) (state_of over_codes end) given.book
+    → IsGivenOf (closed over_codes core) given
+given-of core end given closes case acks word legal still told =
+    let of_end : IsGivenOf end given = record { case = case; acks = acks; word = word; legal = legal; still = still; told = told } in
+    subst (λ (one : CoreState). IsGivenOf one given) closes of_end

@@ -109,11 +109,11 @@ lists-length case rounds asks =
 -- the parts of the first flows and those of the rest are those of all
 pub does-both : (front back : List (List Ack)) (first later now then_ : List Lane) → length front ≡ length first → length now ≡ length first
     → DoesEach front first now → DoesEach back later then_ → DoesEach (front ++ back) (first ++ later) (now ++ then_)
-does-both [] back [] later [] then_ long same does rest = rest
-does-both [] back [] later (n ∷ ns) then_ long same does rest = absurd (omega (arith, same))
-does-both [] back (o ∷ os) later now then_ long same does rest = absurd (omega (arith, long))
-does-both (acks ∷ front) back [] later now then_ long same does rest = absurd (omega (arith, long))
-does-both (acks ∷ front) back (o ∷ os) later [] then_ long same does rest = absurd (omega (arith, same))
+does-both [] back [] later [] then_ long same does rest i list lane less = rest i list lane less
+does-both [] back [] later (n ∷ ns) then_ long same does rest i list lane less = absurd (omega (arith, same))
+does-both [] back (o ∷ os) later now then_ long same does rest i list lane less = absurd (omega (arith, long))
+does-both (acks ∷ front) back [] later now then_ long same does rest i list lane less = absurd (omega (arith, long))
+does-both (acks ∷ front) back (o ∷ os) later [] then_ long same does rest i list lane less = absurd (omega (arith, same))
 does-both (acks ∷ front) back (o ∷ os) later (n ∷ ns) then_ long same does rest zero list lane less = does 0 list lane (omega arith)
 does-both (acks ∷ front) back (o ∷ os) later (n ∷ ns) then_ long same does rest (suc i) list lane less =
     does-both front back os later ns then_ (omega (arith, long)) (omega (arith, same))
