@@ -40,7 +40,9 @@ pub struct NoMode;
 pub(crate) fn names<'a>() -> &'a [&'a str]
     ensures { map (λ name. name.now) result.now ≡ mode_names }
 {
-    &["check", "fold", "feed", "audit", "live", "campaign", "soak"]
+    &[
+        "check", "fold", "feed", "audit", "live", "campaign", "soak", "shared",
+    ]
 }
 
 /// The mode of a name.
@@ -55,6 +57,7 @@ fn named(name: &str) -> Option<Mode>
         "live" => Some(Mode::Live),
         "campaign" => Some(Mode::Campaign),
         "soak" => Some(Mode::Soak),
+        "shared" => Some(Mode::Shared),
         _ => None,
     }
 }

@@ -45,6 +45,26 @@ pub fn shared<R: Threads + Sync, G: Gate + Sync>(
     // For all programs that the cases' codes simulate, the run is that of these sources.
     ensures lifted { IsLifted scene.link scene.scene.cases scene.rounds }
 {
+    run(rt, alloc, scene, workers, gate)
+}
+
+/// The run, over the codes of the cases.
+fn run<R: Threads + Sync, G: Gate + Sync>(
+    rt: &R,
+    alloc: Global,
+    scene: SharedScene,
+    workers: u32,
+    gate: &G,
+) -> Result<SharedRun, NoMemory>
+    requires workers { 1 ≤ workers }
+    requires few { length scene.scene.cases ≤ most_flows }
+    requires link { IsWithin scene.link }
+    requires links { scene.link.flows ≡ map flow_link_of (map plan_of scene.scene.cases) }
+    requires rounds { scene.rounds ≤ most_rounds }
+    ensures givens { IfOk result (λ run. AreGivensOf (flows_of scene.link over_codes scene.scene.cases scene.rounds) run.givens) }
+    ensures rows { IfOk result (λ run. run.rows ≡ shared_rows scene.link over_codes scene.scene.cases scene.rounds) }
+    ensures counts { IfOk result (λ run. run.counts ≡ shared_counts scene.link over_codes scene.scene.cases scene.rounds) }
+{
     let SharedScene {
         scene,
         link,
