@@ -48,7 +48,7 @@ all-roomy-now link within cases rounds few new now stand =
 -- what was written into the whole of a list is the list
 pub written-whole : {A : Type 0} (len : ℕ) (new items : List A) → length new ≡ len → length items ≡ len
     → take len (new ++ drop (length new) items) ≡ new
-written-whole len new items of_new of_items =
+written-whole {A = A} len new items of_new of_items =
     ap (λ (n : ℕ). take n (new ++ drop (length new) items)) (sym of_new)
     ∙ ap (λ (rest : List A). take (length new) (new ++ rest)) (drop_all (length new) items (omega (arith, of_new, of_items)))
     ∙ take-append_seam new []
