@@ -1,16 +1,14 @@
 -- What a round of the link answers: no more acknowledgements than were asked for, and each of them with small numbers.
-use Rattle.std.specs.Prelude.{◌≡◌, ◌≢◌, ◌<◌, ◌≤◌, ℕ, zero, suc, ◌+◌, ◌-◌, ◌*◌, ◌==◌, Bool, true, false, ◌&&◌, nat_lt, if◌then◌else◌, Option, Some, None, unwrap_or, List, [], ◌∷◌, ◌++◌, length, map, slice_get, refl}
+use Rattle.std.specs.Prelude.{◌≡◌, ◌<◌, ◌≤◌, ℕ, zero, suc, ◌+◌, ◌*◌, ◌==◌, Bool, true, false, ◌&&◌, nat_lt, if◌then◌else◌, Some, None, unwrap_or, List, [], ◌∷◌, ◌++◌, length, slice_get, refl}
 use Rattle.std.specs.List.{All}
 use Rattle.std.proofs.Common.{arith, ap, sym, ◌∙◌, length-append}
 use Rattle.ccp_base.specs.declared.ack.Ack.{Ack}
-use Rattle.ccp_base.specs.Limits.{most_segment_bytes}
-use Rattle.flow_core.specs.Cores.{CoreState}
-use Rattle.link_model.specs.Link.{Packet, Fate, Given, Taking, packets_to, all_below, Numbered, Next, arrives, all_lost, is_lost, takes, left_by, lost_by, numbered, in_flight}
+use Rattle.link_model.specs.Link.{Packet, Given, Taking, packets_to, Numbered, Next, arrives, all_lost, is_lost, takes, left_by, lost_by, numbered, in_flight}
 use Rattle.shared_link.specs.declared.round.Ask.{Ask}
 use Rattle.shared_link.specs.declared.shared_case.FlowLink.{FlowLink}
 use Rattle.shared_link.specs.declared.shared_case.SharedCase.{SharedCase}
 use Rattle.shared_link.specs.SharedLimits.{IsFlowWithin, IsWithin}
-use Rattle.shared_link.specs.SharedRounds.{Sent, SharedRun, flow_at, no_flow, ask_at, every_packet, own_packets, own_flight, allowed, with_packet, packet_after, lacks, some_lacks, turn_of, turns_of, round_time, sent_by, next_before, arrival_given, are_lost, timeout_given, timeout_at, timeouts, answers_after, answers, round_givens, with_round, shared_run_from, shared_run_of, acks_in, each_flow, acks_after}
+use Rattle.shared_link.specs.SharedRounds.{Sent, SharedRun, flow_at, no_flow, ask_at, own_packets, allowed, packet_after, lacks, some_lacks, turn_of, turns_of, round_time, sent_by, next_before, arrival_given, are_lost, timeout_given, timeout_at, timeouts, answers_after, answers, round_givens, with_round, shared_run_from, shared_run_of, acks_in, each_flow, acks_after}
 
 -- ---- how many
 

@@ -1,5 +1,5 @@
 -- The books of flows, one after another.
-use Rattle.std.specs.Prelude.{◌≡◌, suc, true, List, [], ◌∷◌, ◌++◌, length, map, refl}
+use Rattle.std.specs.Prelude.{◌≡◌, suc, true, List, [], ◌∷◌, ◌++◌, map}
 use Rattle.std.specs.List.{All}
 use Rattle.std.proofs.Common.{arith, ap, sym, ◌∙◌, subst, append_assoc, append-nil}
 use Rattle.std.proofs.lemmas.List.{map-append}
@@ -56,7 +56,7 @@ done-one all rest later core givens rows given row are is told same =
           ∙ sym (map-append (flow_row over_codes) are.done (end ∷ []));
       roomy =
           (λ k d less.
-              subst (λ (xs : List CoreState). All (λ (one : CoreState). AreRoomy one.acks) xs) is are.roomy (suc k) d (omega (arith, less)));
+          subst (λ (xs : List CoreState). All (λ (one : CoreState). AreRoomy one.acks) xs) is are.roomy (suc k) d (omega (arith, less)));
     }
 
 pub done-all : (all : List CoreState) (givens : List Given) (rows : List Row) → AreDone all [] givens rows

@@ -1,5 +1,5 @@
 -- The flows side by side: each has as many acknowledgements left as it is given, and their parts are those of the round.
-use Rattle.std.specs.Prelude.{◌≡◌, ◌<◌, ◌≤◌, ℕ, zero, suc, ◌+◌, ◌-◌, Bool, true, false, ◌||◌, Some, None, List, [], ◌∷◌, ◌++◌, length, map, slice_get, refl}
+use Rattle.std.specs.Prelude.{◌≡◌, ◌≤◌, ℕ, zero, suc, ◌+◌, ◌-◌, Bool, true, false, ◌||◌, Some, None, List, [], ◌∷◌, ◌++◌, length, map, slice_get, refl}
 use Rattle.std.proofs.Common.{arith, ap, sym, ◌∙◌, subst, append_assoc}
 use Rattle.std.proofs.lemmas.List.{map-append}
 use Rattle.ccp_base.specs.declared.ack.Ack.{Ack}
@@ -8,10 +8,10 @@ use Rattle.flow_core.specs.Readings.{over_codes}
 use Rattle.flow_core.specs.Cores.{CoreState}
 use Rattle.shared_link.specs.declared.round.Ask.{Ask}
 use Rattle.shared_link.specs.declared.shared_case.SharedCase.{SharedCase}
-use Rattle.shared_link.specs.SharedRounds.{ask_at, sent_by, round_givens, shared_run_of, acks_in, each_flow, acks_after}
+use Rattle.shared_link.specs.SharedRounds.{ask_at, sent_by, round_givens, shared_run_of, acks_in, acks_after}
 use Rattle.shared_flow.specs.RoundLetters.{opened, part}
 use Rattle.shared_run.specs.declared.lane.Lane.{Lane}
-use Rattle.shared_run.specs.SharedHistory.{ask_of, asks_of, parts}
+use Rattle.shared_run.specs.SharedHistory.{asks_of, parts}
 use Rattle.shared_run.specs.Lanes.{flow_in, flows_in, some_short, KeepCounts, MayHaveEach, DoesEach}
 use Rattle.shared_run.proofs.AnswerLemmas.{round-few, each-length, each-get}
 
@@ -63,11 +63,11 @@ within-after case rounds flows keep =
     let sent = sent_by case asks run in
     within-from (acks_after case rounds asks) flows
     (λ i acks core at there.
-        let same = ap (λ (xs : List Ack). length xs) (each-get (length case.flows) (λ flow. acks_in (round_givens case asks run sent flow)) i acks at) in
-        let few = round-few case asks run sent i in
-        let left = ask-left flows i core there in
-        let most = keeps-at flows keep i core there in
-        omega (arith, same, few, left, most))
+    let same = ap (λ (xs : List Ack). length xs) (each-get (length case.flows) (λ flow. acks_in (round_givens case asks run sent flow)) i acks at) in
+    let few = round-few case asks run sent i in
+    let left = ask-left flows i core there in
+    let most = keeps-at flows keep i core there in
+    omega (arith, same, few, left, most))
 
 pub may-each : (lists : List (List Ack)) (lanes : List Lane) → length lists ≡ length lanes → Within lists (flows_in lanes) → MayHaveEach lists lanes
 may-each [] lanes long within i acks lane less = absurd (omega (arith, long, less))

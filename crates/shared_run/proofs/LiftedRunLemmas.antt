@@ -6,7 +6,6 @@ use Rattle.ccp_base.specs.declared.place.Place.{Place}
 use Rattle.flow_core.specs.declared.case.Case.{Case}
 use Rattle.flow_core.specs.Readings.{over_codes}
 use Rattle.flow_core.specs.Cores.{CoreState}
-use Rattle.campaign_gate.specs.declared.row.Row.{Row}
 use Rattle.shared_link.specs.declared.round.Ask.{Ask}
 use Rattle.shared_link.specs.declared.shared_case.SharedCase.{SharedCase}
 use Rattle.shared_link.specs.SharedRounds.{acks_after}
@@ -15,7 +14,7 @@ use Rattle.shared_flow.specs.FlowRow.{flow_row}
 use Rattle.shared_flow.specs.LiftedFlow.{AreAlike}
 use Rattle.shared_flow.proofs.TurnLemmas.{part-case, settled-case}
 use Rattle.shared_flow.proofs.LiftedFlowLemmas.{lifted as flow-lifted}
-use Rattle.shared_run.specs.SharedHistory.{Progress, progress, ask_of, asks_of, parts, after_asks, after_round, have_all, ends_or, rounds_from, most_of, run_of, flows_of, shared_rows}
+use Rattle.shared_run.specs.SharedHistory.{Progress, progress, asks_of, parts, after_asks, after_round, have_all, ends_or, rounds_from, most_of, run_of, flows_of}
 use Rattle.shared_run.specs.LiftedRun.{AreSimulated, HaveOneRun, IsLifted}
 
 module _ (sources : Read Place) (link : SharedCase) where

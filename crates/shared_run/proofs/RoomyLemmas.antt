@@ -1,20 +1,19 @@
 -- What a row sums over a flow's acknowledgements are numbers of 64 bits.
-use Rattle.std.specs.Prelude.{◌≡◌, ◌<◌, ◌≤◌, ℕ, zero, suc, ◌+◌, ◌*◌, Bool, true, false, if◌then◌else◌, List, [], ◌∷◌, ◌++◌, length, map, refl}
+use Rattle.std.specs.Prelude.{◌≡◌, ◌<◌, ◌≤◌, ℕ, zero, suc, ◌+◌, ◌*◌, Bool, true, false, if◌then◌else◌, List, [], ◌∷◌, ◌++◌, length, map}
 use Rattle.std.specs.List.{All}
-use Rattle.std.proofs.Common.{arith, ap, sym, ◌∙◌, subst, length-append}
+use Rattle.std.proofs.Common.{arith, ap, sym, subst, length-append}
 use Rattle.ccp_base.specs.declared.ack.Ack.{Ack}
 use Rattle.flow_core.specs.declared.case.Case.{Case}
 use Rattle.flow_core.specs.Readings.{over_codes}
 use Rattle.flow_core.specs.Cores.{CoreState}
 use Rattle.campaign_gate.specs.CampaignRow.{lost_in, acked_in}
-use Rattle.shared_link.specs.declared.round.Ask.{Ask}
 use Rattle.shared_link.specs.declared.shared_case.SharedCase.{SharedCase}
 use Rattle.shared_link.specs.SharedLimits.{IsWithin}
 use Rattle.shared_link.specs.SharedRounds.{acks_after}
-use Rattle.shared_flow.specs.RoundLetters.{opened, part}
+use Rattle.shared_flow.specs.RoundLetters.{opened}
 use Rattle.shared_flow.specs.FlowRow.{AreRoomy}
 use Rattle.shared_flow.proofs.TurnLemmas.{part-case, part-acks}
-use Rattle.shared_run.specs.SharedHistory.{Progress, progress, asks_of, parts, after_round, have_all, ends_or, rounds_from, most_of, run_of}
+use Rattle.shared_run.specs.SharedHistory.{Progress, progress, asks_of, parts, after_round, have_all, rounds_from, most_of, run_of}
 use Rattle.shared_run.specs.Lanes.{KeepCounts}
 use Rattle.shared_run.proofs.AnswerLemmas.{AreSmall, AreAllSmall, after-all-small}
 use Rattle.shared_run.proofs.LaneLemmas.{Within, within-after}

@@ -1,14 +1,13 @@
 -- Rounds one after another.
-use Rattle.std.specs.Prelude.{◌≡◌, ◌≤◌, ℕ, zero, suc, ◌-◌, ◌<◌, Bool, true, false, if◌then◌else◌, List, [], ◌∷◌, ◌++◌, length, map, refl}
-use Rattle.std.proofs.Common.{arith, ap, sym, ◌∙◌, subst}
-use Rattle.ccp_base.specs.declared.ack.Ack.{Ack}
+use Rattle.std.specs.Prelude.{◌≡◌, ℕ, suc, Bool, true, false, if◌then◌else◌, List, refl}
+use Rattle.std.proofs.Common.{ap, sym, ◌∙◌, subst}
 use Rattle.flow_core.specs.Readings.{over_codes}
 use Rattle.flow_core.specs.Cores.{CoreState}
 use Rattle.shared_link.specs.declared.round.Ask.{Ask}
 use Rattle.shared_link.specs.declared.shared_case.SharedCase.{SharedCase}
 use Rattle.shared_link.specs.SharedStanding.{SharedState, Stands}
-use Rattle.shared_run.specs.SharedHistory.{Progress, progress, after_round, have_all, ends_or, rounds_from}
-use Rattle.shared_run.specs.Rounds.{HasStood, StandAs, Rounded, Ran}
+use Rattle.shared_run.specs.SharedHistory.{Progress, progress, after_round, have_all, rounds_from}
+use Rattle.shared_run.specs.Rounds.{HasStood, Rounded, Ran}
 
 -- the run from some state on, of at most so many rounds
 abbrev pub rest_of : SharedCase → ℕ → Progress → Progress

@@ -1,7 +1,5 @@
 -- A run of programs is the run of the codes that simulate them.
 use Rattle.std.specs.Prelude.{◌≡◌, ℕ, Some, List, slice_get}
-use Rattle.std.specs.List.{All}
-use Rattle.ccp_base.specs.declared.ack.Ack.{Ack}
 use Rattle.ccp_base.specs.declared.place.Place.{Place}
 use Rattle.portus_core.specs.Programs.{Form}
 use Rattle.reg_compiler.specs.Simulation.{Simulates}
@@ -9,7 +7,7 @@ use Rattle.flow_core.specs.declared.case.Case.{Case}
 use Rattle.flow_core.specs.Readings.{over_codes, over_sources}
 use Rattle.shared_link.specs.declared.shared_case.SharedCase.{SharedCase}
 use Rattle.shared_flow.specs.RoundLetters.{Read}
-use Rattle.shared_run.specs.SharedHistory.{Progress, run_of, flows_of, shared_rows}
+use Rattle.shared_run.specs.SharedHistory.{run_of, flows_of, shared_rows}
 
 -- a case's codes simulate the two programs that a reading has for it
 pub record AreSimulated (sources : Read Place) (case : Case) : Type 0 where

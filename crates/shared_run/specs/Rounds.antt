@@ -1,5 +1,5 @@
 -- A link and flows in the middle of a run.
-use Rattle.std.specs.Prelude.{◌≡◌, ℕ, List, []}
+use Rattle.std.specs.Prelude.{◌≡◌, ℕ, List}
 use Rattle.flow_core.specs.Readings.{over_codes}
 use Rattle.flow_core.specs.Cores.{CoreState}
 use Rattle.shared_link.specs.declared.round.Ask.{Ask}

@@ -1,5 +1,5 @@
-use Rattle.std.proofs.Common.{◌≡◌, ◌+◌, ◌∷◌, [], ◌++◌, List, false, length, arith, rules, ap, refl}
-use Rattle.std.specs.Vec.Iter.{into_iter_items, into_iter_len}
+use Rattle.std.proofs.Common.{◌≡◌, ◌∷◌, [], ◌++◌, List, false, length, arith, rules, ap, refl}
+use Rattle.std.specs.Vec.Iter.{into_iter_items}
 use Rattle.flow_core.specs.declared.case.Case.{Case}
 use Rattle.shared_run.specs.declared.lane.Lane.{Lane}
 use Rattle.shared_run.proofs.LaneLemmas.{opened-next, opened-well}

@@ -1,14 +1,11 @@
 use Rattle.std.proofs.Common.{◌≡◌, List, [], ◌∷◌, ◌++◌, length, sym, ap, ◌∙◌, subst}
-use Rattle.std.proofs.lemmas.List.{length-map}
-use Rattle.std.proofs.lemmas.Result.{on_ok_weaker}
 use Rattle.ccp_base.specs.declared.ack.Ack.{Ack}
 use Rattle.flow_core.specs.Readings.{over_codes}
-use Rattle.flow_core.specs.Cores.{CoreState}
 use Rattle.shared_link.specs.declared.round.Ask.{Ask}
 use Rattle.shared_link.specs.SharedRounds.{acks_after}
 use Rattle.shared_link.specs.SharedStanding.{Stands}
 use Rattle.shared_run.specs.SharedHistory.{asks_of, parts}
-use Rattle.shared_run.specs.Lanes.{flows_in, MayHaveEach}
+use Rattle.shared_run.specs.Lanes.{flows_in}
 use Rattle.shared_run.proofs.LaneLemmas.{Within, within-after, may-each, lists-length, parts-done}
 use Rattle.shared_run.proofs.rounds.round.Goals as goal
 

@@ -1,6 +1,5 @@
-use Rattle.std.proofs.Common.{◌≡◌, ◌-◌, ◌<◌, ℕ, suc, length, true, false, arith, sym, ap, ◌∙◌, subst}
+use Rattle.std.proofs.Common.{◌≡◌, ◌-◌, ◌<◌, ℕ, suc, length, arith, sym, ap, ◌∙◌, subst}
 use Rattle.shared_link.specs.declared.shared_case.SharedCase.{SharedCase}
-use Rattle.shared_run.specs.SharedHistory.{have_all}
 use Rattle.shared_run.specs.Lanes.{flows_in}
 use Rattle.shared_run.proofs.RoundLemmas.{Goes, stood-round, goes-round, ran-ended, ran-all}
 use Rattle.shared_run.proofs.rounds.rounds.Goals as goal

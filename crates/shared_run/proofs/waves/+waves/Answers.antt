@@ -1,4 +1,4 @@
-use Rattle.std.proofs.Common.{◌≡◌, length, sym, ◌∙◌}
+use Rattle.std.proofs.Common.{sym, ◌∙◌}
 use Rattle.shared_run.proofs.LaneLemmas.{does-waves}
 use Rattle.shared_run.proofs.waves.+waves.Goals as goal
 
