@@ -1,7 +1,7 @@
 -- What `shared` makes of its cases: the table of their rows, and the numbers of the link's packets.
-use Rattle.std.specs.Prelude.{◌≡◌, ℕ, Result, Ok, Err, List, [], map}
+use Rattle.std.specs.Prelude.{◌≡◌, ℕ, Result, Ok, Err, List, [], map, codes, decimal}
 use Rattle.std.specs.List.{All}
-use Rattle.ccp_base.specs.Text.{codes, decimal, ◌⧺◌}
+use Rattle.ccp_base.specs.Text.{◌⧺◌}
 use Rattle.campaign_report.specs.TableText.{table_text}
 use Rattle.flow_core.specs.declared.case.Case.{Case}
 use Rattle.flow_core.specs.LiveText.{flow_from}
