@@ -102,9 +102,9 @@ fn run_together<R: Threads + Wait + Sync, G: Gate + Sync>(
 {
     let names = copied(alloc, &scene.scene.names)?;
     let agents = agents(alloc, scene.scene.cases.as_slice())?;
-    let run = shared(rt, alloc, scene, workers, gate)?;
-    let mut text = table_text(alloc, &names, &agents, &run.rows)?;
-    put_line(alloc, &mut text, &run.counts)?;
+    let made = shared(rt, alloc, scene, workers, gate)?;
+    let mut text = table_text(alloc, &names, &agents, &made.rows)?;
+    put_line(alloc, &mut text, &made.counts)?;
     Ok(ModeOutput {
         text,
         books: Books::new(alloc),
