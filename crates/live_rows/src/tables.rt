@@ -29,7 +29,6 @@ pub(crate) const LOSING: &[u8] =
     b"{\"version\":1,\"programs\":{\"p\":\"(def (Report (volatile loss 0))) (when true (:= Report.loss 1) (report))\"},\"traces\":{\"t\":\"10\\n\"},\"cases\":[{\"name\":\"a\",\"agent\":\"reno\",\"trace\":\"t\",\"mss\":1448,\"queue\":10,\"delay_us\":20000,\"timeout_us\":1000000,\"acks\":3,\"slots\":2,\"ss\":\"p\",\"ca\":\"p\"}]}";
 
 /// The table of a scenario's flows.
-#[tactic(auto, using(crate::proofs::FlowsNumbered::flows_numbered))]
 pub(crate) fn table(alloc: Global, text: &[u8]) -> Result<FlowTable, Fail> {
     let scene = scenario(alloc, text, Mode::Live)?;
     Ok(FlowTable::new(alloc, scene.cases)?)
