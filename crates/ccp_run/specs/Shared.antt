@@ -1,5 +1,5 @@
 -- What `shared` makes of its cases: the table of their rows, and the numbers of the link's packets.
-use Rattle.std.specs.Prelude.{◌≡◌, ℕ, Result, Ok, Err, List, [], map, codes, decimal}
+use Rattle.std.specs.Prelude.{◌≡◌, ℕ, Ok, Err, List, [], map, codes, decimal}
 use Rattle.std.specs.List.{All}
 use Rattle.ccp_base.specs.Text.{◌⧺◌}
 use Rattle.campaign_report.specs.TableText.{table_text}

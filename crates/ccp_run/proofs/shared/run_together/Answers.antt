@@ -1,6 +1,5 @@
-use Rattle.std.proofs.Common.{◌≡◌, ◌∙◌, ◌≤◌, ℕ, List, ◌++◌, map, length, rules, ap, sym, subst, arith}
+use Rattle.std.proofs.Common.{◌≡◌, ◌∙◌, ◌++◌, length, rules, ap, sym, arith}
 use Rattle.std.proofs.lemmas.List.{length-map}
-use Rattle.ccp_base.specs.Limits.{most_cases}
 use Rattle.flow_core.specs.LiveText.{flow_from}
 use Rattle.flow_core.specs.Readings.{over_codes}
 use Rattle.campaign_report.specs.TableText.{table_text}
@@ -10,7 +9,7 @@ use Rattle.shared_link.specs.SharedRounds.{counts_of}
 use Rattle.shared_run.specs.LiftedRun.{HaveOneRun}
 use Rattle.shared_run.specs.SharedHistory.{shared_rows, shared_counts}
 use Rattle.ccp_run.specs.Campaign.{case_agents}
-use Rattle.ccp_run.specs.Shared.{link_line, shared_text}
+use Rattle.ccp_run.specs.Shared.{link_line}
 use Rattle.ccp_run.proofs.SharedLemmas.{all_simulated, rows-count}
 use Rattle.ccp_run.proofs.shared.run_together.Goals as goal
 
