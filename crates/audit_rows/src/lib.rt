@@ -3,3 +3,5 @@
 
 #[cfg(test)]
 mod judged_texts;
+#[cfg(test)]
+mod live_texts;
