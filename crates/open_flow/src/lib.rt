@@ -1,0 +1,14 @@
+//! A flow of a rollout: programs are built from texts, installed in the flow's library and started, while
+//! acknowledgements come.
+#![tactic(auto)]
+
+mod book;
+mod cell;
+mod entry;
+mod letter;
+mod state;
+
+pub use book::OpenBook;
+pub use cell::{Late, Nothing, OpenCell};
+pub use entry::{Entries, Entry};
+pub use letter::{OpenLetter, OpenWord};
