@@ -1,1 +1,10 @@
 pub mod EntryLemmas
+pub mod ListLemmas
+pub mod SeenLemmas
+pub mod NextLemmas
+pub mod LetterLemmas
+pub mod HearingLemmas
+pub mod KeepsLemmas
+pub mod OpenLemmas
+pub mod OpeningLemmas
+pub mod RunLemmas

@@ -4,3 +4,5 @@ pub mod BuiltTexts
 pub mod Entries
 pub mod OpenBooks
 pub mod OpenCells
+pub mod Accounts
+pub mod States

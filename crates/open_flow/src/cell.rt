@@ -1,4 +1,4 @@
-ghost use Rattle.std.specs.Prelude.{◌≡◌, ◌+◌, ◌≤◌, ◌↔◌, ◌∷◌, [], ◌++◌, true, Some, None, length, map, IsOk, IsErr, IfOk, IfErr, OnOk, OnErr};
+ghost use Rattle.std.specs.Prelude.{◌≡◌, ◌+◌, ◌≤◌, ◌↔◌, ◌∷◌, [], ◌++◌, true, Some, None, slice_get, length, map, IsTrue, IsOk, IsErr, IfOk, IfErr, OnOk, OnErr};
 ghost use Rattle.scenario_json.specs.ScenePrograms.{Reading, IsReading};
 ghost use Rattle.open_flow.specs.OpenWorld.{after_ack, after_install, after_change};
 ghost use Rattle.open_flow.specs.OpenWords.{is_legal, legal, is_complete};
@@ -10,7 +10,7 @@ use crate::book::OpenBook;
 use crate::entry::Entry;
 use crate::letter::OpenLetter;
 use crate::state::State;
-use ccp_base::NoMemory;
+use ccp_base::{Bytes, NoMemory};
 use flow_core::Ended;
 use fold_machine::{Acked, Steps};
 use scenario_json::OpenCase;
@@ -46,7 +46,25 @@ impl Model for OpenCell {
 
     ghost view = { λ c. record { case = c.state.case; entries = c.state.entries.items; word = c.state.word.items } };
 
-    ghost invariant = { λ c. ⊥ };
+    ghost use Rattle.open_flow.specs.States.{IsOpen};
+
+    ghost invariant = { λ c. IsOpen c.state };
+}
+
+/// Whether this is the text of the step with this number.
+fn is_text_of(steps: &[Bytes], step: usize, text: &[u8]) -> bool
+    ensures { IsTrue result ↔ (slice_get steps.now step ≡ Some text.now) }
+{
+    match steps.get(step) {
+        Some(expected) => same_bytes(expected.as_slice(), text),
+        None => false,
+    }
+}
+
+fn same_bytes(these: &[u8], others: &[u8]) -> bool
+    ensures { IsTrue result ↔ (these.now ≡ others.now) }
+{
+    these == others
 }
 
 impl OpenCell {
@@ -57,7 +75,8 @@ impl OpenCell {
         ensures readable { (read : Reading) × IsReading read }
         ensures opened { IfOk result (λ cell. cell ≡ record { case = case; entries = []; word = [] }) }
     {
-        Err(NoMemory)
+        let state = State::open(alloc, case)?;
+        Ok(OpenCell { state })
     }
 
     /// Takes the link's next acknowledgement, which is only counted before the first change, and then run. Ended exactly
@@ -73,8 +92,10 @@ impl OpenCell {
         ensures unchanged { OnErr result (self.new ≡ self.old) }
         ensures idle { OnErr result (steps.new ≡ steps.old) }
     {
-        let _acks = self.state.acks;
-        unreachable!()
+        if self.state.acks >= self.state.case.acks {
+            return Err(Ended);
+        }
+        Ok(self.state.advance(steps))
     }
 
     /// Installs an entry. Late exactly where its step isn't the number of entries so far or its text isn't the case's of
@@ -87,8 +108,13 @@ impl OpenCell {
         ensures late { IfErr result (λ late. (late.entry ≡ entry) × (late.want ≡ length self.old.entries)) }
         ensures unchanged { OnErr result (self.new ≡ self.old) }
     {
-        let _acks = self.state.acks;
-        unreachable!()
+        let want = self.state.entries.len();
+        if entry.step() as usize != want || !is_text_of(self.state.case.steps.as_slice(), want, entry.text()) {
+            let want = want as u32;
+            return Err(Late { entry, want });
+        }
+        self.state.put(entry);
+        Ok(())
     }
 
     /// Changes the flow to the first accepted entry that it wasn't changed to, and answers its step. Nothing exactly where
@@ -101,32 +127,35 @@ impl OpenCell {
         ensures step { (read : Reading) → IsReading read → IfOk result (λ step. next_at read self.old ≡ Some step) }
         ensures unchanged { OnErr result (self.new ≡ self.old) }
     {
-        let _acks = self.state.acks;
-        unreachable!()
+        let Some(step) = self.state.next() else {
+            return Err(Nothing);
+        };
+        self.state.start(step);
+        Ok(step)
     }
 
     /// Whether all acknowledgements are in, all steps have entries, and no accepted entry is left that wasn't changed to.
     pub fn is_complete(&self) -> bool
         ensures { (read : Reading) → IsReading read → result ≡ is_complete self.now.case (world_at read self.now) }
     {
-        let _acks = self.state.acks;
-        unreachable!()
+        if self.state.acks < self.state.case.acks || self.state.entries.len() < self.state.case.steps.len() {
+            return false;
+        }
+        !self.can_change()
     }
 
     /// Whether an accepted entry is left that wasn't changed to.
     pub fn can_change(&self) -> bool
         ensures { (read : Reading) → IsReading read → result ≡ is_legal self.now.case (world_at read self.now) OpenLetter.G }
     {
-        let _acks = self.state.acks;
-        unreachable!()
+        self.state.next().is_some()
     }
 
     /// How many acknowledgements are in.
     pub fn acks(&self) -> u32
         ensures { (read : Reading) → IsReading read → result ≡ length (world_at read self.now).acks }
     {
-        let _acks = self.state.acks;
-        unreachable!()
+        self.state.acks
     }
 
     /// The flow's library: the entries in the order of the steps. Each is what its step's text stands for.
@@ -134,8 +163,7 @@ impl OpenCell {
         ensures entries { result.now ≡ self.now.entries }
         ensures world { (read : Reading) → IsReading read → map installed_of self.now.entries ≡ (world_at read self.now).entries }
     {
-        let _acks = self.state.acks;
-        unreachable!()
+        self.state.entries.as_slice()
     }
 
     /// The flow's case, for which each letter of the word is legal at its point. The word has at most one letter for each
@@ -145,8 +173,7 @@ impl OpenCell {
         ensures legal { (read : Reading) → IsReading read → legal read self.now.case self.now.word ≡ true }
         ensures within { length self.now.word ≤ most_letters self.now.case }
     {
-        let _acks = self.state.acks;
-        unreachable!()
+        &self.state.case
     }
 
     /// What the history came to. The word must be complete.
@@ -158,7 +185,18 @@ impl OpenCell {
         ensures legal { (read : Reading) → IsReading read → legal read self.case self.word ≡ true }
         ensures book { (read : Reading) → IsReading read → IsOpenBookOf (world_at read self) result }
     {
-        let _acks = self.state.acks;
-        unreachable!()
+        let state = self.state;
+        OpenBook {
+            case: state.case,
+            word: state.word.into_sequence(),
+            entries: state.entries.into_sequence(),
+            installed: state.installed.into_sequence(),
+            epochs: state.epochs.into_sequence(),
+            reports: state.account.reports.into_sequence(),
+            faults: state.account.faults.into_sequence(),
+            acks: state.acks,
+            first: state.account.first,
+            machine: state.machine,
+        }
     }
 }

@@ -1,6 +1,6 @@
-ghost use Rattle.std.specs.Prelude.{◌≡◌, false, IfOk};
+ghost use Rattle.std.specs.Prelude.{◌≡◌, false, IfOk, option_copied};
 ghost use Rattle.scenario_json.specs.ScenePrograms.{Reading, IsReading};
-ghost use Rattle.open_flow.specs.BuiltTexts.{is_accepted, is_wanting, Answers, IsEntry};
+ghost use Rattle.open_flow.specs.BuiltTexts.{is_accepted, is_wanting, Answers, IsEntry, built_of};
 
 use ccp_base::{Bytes, NoMemory, Sequence};
 use portus_build::{BuildFault, build};
@@ -68,9 +68,10 @@ impl Entry {
         self.step
     }
 
-    /// The text that was built.
+    /// The text that was built. In every reading of program texts it comes to the answer.
     pub fn text(&self) -> &[u8]
-        ensures { result.now ≡ self.now.text }
+        ensures text { result.now ≡ self.now.text }
+        ensures answers { Answers self.now.text self.now.answer }
     {
         self.text.as_slice()
     }
@@ -83,6 +84,13 @@ impl Entry {
         ensures ruled { is_wanting self.now.answer ≡ false }
     {
         &self.answer
+    }
+
+    /// The program with its code, None exactly where the text was refused.
+    pub fn built(&self) -> Option<&Built>
+        ensures { option_copied result ≡ built_of self.now.answer }
+    {
+        self.answer.as_ref().ok()
     }
 
     /// Whether the text is that of a program.

@@ -2,10 +2,14 @@
 //! acknowledgements come.
 #![tactic(auto)]
 
+mod account;
 mod book;
 mod cell;
 mod entry;
+mod hearing;
 mod letter;
+mod opening;
+mod starting;
 mod state;
 
 pub use book::OpenBook;

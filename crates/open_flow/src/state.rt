@@ -1,6 +1,6 @@
+use crate::account::Account;
 use crate::entry::Entry;
 use crate::letter::OpenLetter;
-use ccp_base::{Notice, Report};
 use flow_core::{EpochLine, Roomy};
 use fold_machine::Machine;
 use link_model::Link;
@@ -19,13 +19,10 @@ pub(crate) struct State {
     pub(crate) acks: u32,
     /// The time of the last acknowledgement, in microseconds; 0 where there is none.
     pub(crate) time: u64,
-    /// The number of acknowledgements at which the unreported span begins.
-    pub(crate) first: u64,
+    pub(crate) account: Account,
     pub(crate) entries: Roomy<Entry>,
     /// For each entry, how many acknowledgements were in as it was installed.
     pub(crate) installed: Roomy<u32>,
     pub(crate) epochs: Roomy<EpochLine>,
-    pub(crate) reports: Roomy<Report>,
-    pub(crate) faults: Roomy<Notice>,
     pub(crate) word: Roomy<OpenLetter>,
 }
