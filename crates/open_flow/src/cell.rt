@@ -6,6 +6,7 @@ ghost use Rattle.open_flow.specs.Entries.{installed_of};
 ghost use Rattle.open_flow.specs.OpenBooks.{IsOpenBookOf};
 ghost use Rattle.open_flow.specs.OpenCells.{world_at, ack_at, IsComplete, most_letters, Answered, ran_at, IsNextEntry, next_at};
 
+use crate::account::Account;
 use crate::book::OpenBook;
 use crate::entry::Entry;
 use crate::letter::OpenLetter;
@@ -185,18 +186,33 @@ impl OpenCell {
         ensures legal { (read : Reading) → IsReading read → legal read self.case self.word ≡ true }
         ensures book { (read : Reading) → IsReading read → IsOpenBookOf (world_at read self) result }
     {
-        let state = self.state;
+        let State {
+            case,
+            machine,
+            acks,
+            account,
+            entries,
+            installed,
+            epochs,
+            word,
+            ..
+        } = self.state;
+        let Account {
+            first,
+            reports,
+            faults,
+        } = account;
         OpenBook {
-            case: state.case,
-            word: state.word.into_sequence(),
-            entries: state.entries.into_sequence(),
-            installed: state.installed.into_sequence(),
-            epochs: state.epochs.into_sequence(),
-            reports: state.account.reports.into_sequence(),
-            faults: state.account.faults.into_sequence(),
-            acks: state.acks,
-            first: state.account.first,
-            machine: state.machine,
+            case,
+            word: word.into_sequence(),
+            entries: entries.into_sequence(),
+            installed: installed.into_sequence(),
+            epochs: epochs.into_sequence(),
+            reports: reports.into_sequence(),
+            faults: faults.into_sequence(),
+            acks,
+            first,
+            machine,
         }
     }
 }
