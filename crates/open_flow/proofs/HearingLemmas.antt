@@ -52,12 +52,12 @@ faults-count step number at ack reading true old outcome env after met is =
     (λ now. subst (λ (b : Bool). 0 + faults_of b ≤ 0) (sym now) (omega arith)) is
 faults-count step number at ack reading false old outcome env after met is =
     subst (λ (b : Bool). length (failures_met step number at ack (outcome, env)) + faults_of b ≤ 1) (sym is) (by outcome) where
-  by : (o : Outcome (FaultKind × ℕ)) → length (failures_met step number at ack (o, env)) + faults_of (stops o) ≤ 1
-  by quiet = omega arith
-  by (reported fields) = omega arith
-  by held = omega arith
-  by (failed fault) = omega arith
-  by stopped = omega arith
+      by : (o : Outcome (FaultKind × ℕ)) → length (failures_met step number at ack (o, env)) + faults_of (stops o) ≤ 1
+      by quiet = omega arith
+      by (reported fields) = omega arith
+      by held = omega arith
+      by (failed fault) = omega arith
+      by stopped = omega arith
 
 -- where an answer tells of a fault, the program wasn't stopped
 pub faulted-left : (step : ℕ) (reading : _) (is_stopped : Bool) (old : Env) (ack : Ack) (answer : Acked) (report : List ℕ) (env : Env)
@@ -66,12 +66,12 @@ pub faulted-left : (step : ℕ) (reading : _) (is_stopped : Bool) (old : Env) (a
 faulted-left step reading false old ack answer report env met kind index is = refl
 faulted-left step reading true old ack answer report env met kind index is =
     absurd (subst by (ap (λ (m : Outcome (FaultKind × ℕ) × Env). m.0) met ∙ ap (λ (a : Acked). outcome_by a report) is) tt) where
-  by : Outcome (FaultKind × ℕ) → Type 0
-  by stopped = Unit {0}
-  by quiet = ⊥
-  by (reported fields) = ⊥
-  by held = ⊥
-  by (failed fault) = ⊥
+      by : Outcome (FaultKind × ℕ) → Type 0
+      by stopped = Unit {0}
+      by quiet = ⊥
+      by (reported fields) = ⊥
+      by held = ⊥
+      by (failed fault) = ⊥
 
 -- ---- what is put down
 

@@ -160,12 +160,13 @@ seen-more entries more flow (notice ∷ rest) (failure ∷ failures) same =
     let head : seen_of entries notice ≡ seen_as flow failure = ap (first_of (seen_as flow failure)) same in
     let tail : map (seen_of entries) rest ≡ map (seen_as flow) failures = ap rest_of same in
     λ i. seen-front entries more notice (flow, None) failure head i ∷ seen-more entries more flow rest failures tail i where
-  first_of : Seen → List Seen → Seen
-  first_of default [] = default
-  first_of default (x ∷ xs) = x
-  rest_of : List Seen → List Seen
-  rest_of [] = []
-  rest_of (x ∷ xs) = xs
+      first_of : Seen → List Seen → Seen
+      first_of default [] = default
+      first_of default (x ∷ xs) = x
+
+      rest_of : List Seen → List Seen
+      rest_of [] = []
+      rest_of (x ∷ xs) = xs
 
 runs-more : (entries more : List Entry) (running : Option ℕ) (present : Option Running) → next_from running ≤ length entries
     → RunsAs entries running present → RunsAs (entries ++ more) running present

@@ -57,12 +57,12 @@ before-left eras step next (suc count) [] sum all none = refl
 before-left eras step next (suc count) (entry ∷ rest) sum all none =
     passed-first eras step entry.answer rest (accepted_from next (drop count rest))
     (λ form is.
-        let zero_on : step ≡ step + 0 = omega arith in
-        ap (λ (n : ℕ). was_started n eras) zero_on ∙ all 0 form (omega arith) (ap Some is))
+    let zero_on : step ≡ step + 0 = omega arith in
+    ap (λ (n : ℕ). was_started n eras) zero_on ∙ all 0 form (omega arith) (ap Some is))
     (before-left eras (step + 1) next count rest (omega (arith, sum))
     (λ i form below is.
-        let shift : step + 1 + i ≡ step + suc i = omega arith in
-        ap (λ (n : ℕ). was_started n eras) shift ∙ all (suc i) form (omega (arith, below)) is)
+    let shift : step + 1 + i ≡ step + suc i = omega arith in
+    ap (λ (n : ℕ). was_started n eras) shift ∙ all (suc i) form (omega (arith, below)) is)
     none)
 
 pub next-step : (next : ℕ) (eras : List Era) (entries : List Entry) → ArePassed next eras (map installed_of entries)
@@ -70,8 +70,8 @@ pub next-step : (next : ℕ) (eras : List Era) (entries : List Entry) → ArePas
 next-step next eras entries passed =
     before-left eras 0 next next entries (omega arith)
     (λ i form below is.
-        let zero_on : 0 + i ≡ i = omega arith in
-        ap (λ (n : ℕ). was_started n eras) zero_on ∙ passed.before i form below is)
+    let zero_on : 0 + i ≡ i = omega arith in
+    ap (λ (n : ℕ). was_started n eras) zero_on ∙ passed.before i form below is)
     passed.after
 
 -- ---- what it is
@@ -147,9 +147,9 @@ was_started-push i [] era = or-false (era.program == i) where
 was_started-push i (first ∷ rest) era =
     ap (λ (b : Bool). (first.program == i) || b) (was_started-push i rest era)
     ∙ or_assoc (first.program == i) (was_started i rest) (era.program == i) where
-  or_assoc : (a b c : Bool) → (a || (b || c)) ≡ ((a || b) || c)
-  or_assoc true b c = refl
-  or_assoc false b c = refl
+      or_assoc : (a b c : Bool) → (a || (b || c)) ≡ ((a || b) || c)
+      or_assoc true b c = refl
+      or_assoc false b c = refl
 
 -- an epoch that goes on is of the same program
 pub was_started-same : (i : ℕ) (past : List Era) (one other : Era) → one.program ≡ other.program
@@ -169,11 +169,11 @@ pub next-late : (next step : ℕ) (form : Form) (eras : List Era) (entries : Lis
     → ArePassed next eras entries → first_left eras 0 entries ≡ Some (step, form) → next ≤ step
 next-late next step form eras entries passed left = late_by next (λ early.
     true≢false (sym (passed.before step form early (next-entry eras entries step form left)) ∙ found.fresh)) where
-  found : IsFound eras 0 entries step form
-  found = found-from eras 0 entries step form left
+      found : IsFound eras 0 entries step form
+      found = found-from eras 0 entries step form left
 
-  late_by : (n : ℕ) → (step < n → ⊥) → n ≤ step
-  late_by n not = grind (arith, not)
+      late_by : (n : ℕ) → (step < n → ⊥) → n ≤ step
+      late_by n not = grind (arith, not)
 
 -- an accepted entry has what was built
 pub none-built : (entries : List Entry) (step : ℕ) (form : Form) → slice_get (map installed_of entries) step ≡ Some (Ok form)
@@ -216,8 +216,8 @@ passed-push next step form eras era entries is passed left = record {
       let zero_on : 0 + i ≡ i = omega arith in
       ap (λ (n : ℕ). was_started n eras || (era.program == i)) (sym zero_on)
       ∙ (λ k. found.passed i other (not_same i apart below) ok k || (era.program == i)) where
-    not_same : (i : ℕ) → (step ≡ i → ⊥) → i < step + 1 → i < found.index
-    not_same i apart below = let place = found.place in grind (arith, apart, below, place)
+        not_same : (i : ℕ) → (step ≡ i → ⊥) → i < step + 1 → i < found.index
+        not_same i apart below = let place = found.place in grind (arith, apart, below, place)
 
 -- ---- entries go on
 

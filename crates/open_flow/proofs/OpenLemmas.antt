@@ -123,13 +123,13 @@ module _ (s : State) (opens : IsOpen s) (left : s.acks < s.case.acks) (window : 
   pub open-counted : s.running ≡ None → IsOpen (counted_state s link ack word)
   open-counted none = open-letter s (counted_state s link ack word) A opens refl pushed fit-counted
       (λ read reading.
-          let w = world_of read s in
-          let is_none = present-none none read reading in
-          let whole = keeps-counted s w link ack word s.running refl
-          (subst (λ (p : Option Running). Keeps s (record w { present = p })) is_none (opens.keeps read reading))
-          (subst (λ (p : Option Running). Stands link (w.windows ++ cwnd_of s.case (record w { present = p }) ∷ [])) is_none (stands-same read reading)) in
-          subst (λ (k : Ack). Keeps (counted_state s link ack word) (after_ack s.case k w)) (ack-same read reading)
-          (subst (λ (p : Option Running). Keeps (counted_state s link ack word) (after_ack s.case ack (record w { present = p }))) (sym is_none) whole))
+      let w = world_of read s in
+      let is_none = present-none none read reading in
+      let whole = keeps-counted s w link ack word s.running refl
+      (subst (λ (p : Option Running). Keeps s (record w { present = p })) is_none (opens.keeps read reading))
+      (subst (λ (p : Option Running). Stands link (w.windows ++ cwnd_of s.case (record w { present = p }) ∷ [])) is_none (stands-same read reading)) in
+      subst (λ (k : Ack). Keeps (counted_state s link ack word) (after_ack s.case k w)) (ack-same read reading)
+      (subst (λ (p : Option Running). Keeps (counted_state s link ack word) (after_ack s.case ack (record w { present = p }))) (sym is_none) whole))
       legal-now
 
   -- and then
@@ -146,9 +146,9 @@ module _ (s : State) (opens : IsOpen s) (left : s.acks < s.case.acks) (window : 
       (is_built : built_at s.entries.items step ≡ Some built)
       (fits : FitsBuilt machine (built_at s.entries.items step))
       (heard : (form : Form) → form_at s.entries.items step ≡ Some form → IsEnvOf form (kept_track s).env
-          → Heard s.entries.items form (turn_of s step) s.machine machine s.account account ack)
+      → Heard s.entries.items form (turn_of s step) s.machine machine s.account account ack)
       (told : (form : Form) → form_at s.entries.items step ≡ Some form → IsEnvOf form (kept_track s).env
-          → Tells (built_at s.entries.items step) answer (met_in form (kept_track s) ack).0) where
+      → Tells (built_at s.entries.items step) answer (met_in form (kept_track s) ack).0) where
     running-at : (read : Reading) → IsReading read → (r : Running) × (((world_of read s).present ≡ Some r) × Runs s.entries.items step r)
     running-at read reading = some-runs s.running step some (world_of read s).present (opens.keeps read reading).runs
 
@@ -274,11 +274,11 @@ open-put s entry entries installed word opens is_step is_text answers pushed roo
     } in
     open-letter s (put_state s entry entries installed word) I opens refl spelled fit
     (λ read reading.
-        keeps-put read s (world_of read s) entry entries installed word (opens.keeps read reading) f.running_most pushed counted text (answers read reading))
+    keeps-put read s (world_of read s) entry entries installed word (opens.keeps read reading) f.running_most pushed counted text (answers read reading))
     (λ read reading.
-        let keeps = (opens.keeps read reading).entries in
-        let count : length s.entries.items ≡ length (world_of read s).entries = sym (length-map s.entries.items installed_of) ∙ ap length keeps in
-        lt-ltb (length (world_of read s).entries) (length s.case.steps) (omega (arith, below, count)))
+    let keeps = (opens.keeps read reading).entries in
+    let count : length s.entries.items ≡ length (world_of read s).entries = sym (length-map s.entries.items installed_of) ∙ ap length keeps in
+    lt-ltb (length (world_of read s).entries) (length s.case.steps) (omega (arith, below, count)))
 
 -- ---- a change
 
@@ -351,6 +351,6 @@ module _ (s : State) (opens : IsOpen s) (step : ℕ)
     pub open-started : IsOpen (started_state s step machine epochs word)
     open-started = open-letter s (started_state s step machine epochs word) G opens refl spelled fit-started
         (λ read reading.
-            let found = found-at read reading in
-            keeps-started s (world_of read s) step found.0 built machine epochs word (opens.keeps read reading) found.1 is_built started pushed)
+        let found = found-at read reading in
+        keeps-started s (world_of read s) step found.0 built machine epochs word (opens.keeps read reading) found.1 is_built started pushed)
         (λ read reading. ap is_some (found-at read reading).1)

@@ -83,7 +83,14 @@ impl Account {
     }
 
     /// Puts down a fault of this kind at the instruction with this index.
-    fn put_down_fault(&mut self, turn: Turn, machine: &Machine, ack: &Ack, kind: FaultKind, index: u16)
+    fn put_down_fault(
+        &mut self,
+        turn: Turn,
+        machine: &Machine,
+        ack: &Ack,
+        kind: FaultKind,
+        index: u16,
+    )
         requires { length self.old.faults.items < self.old.faults.room }
         ensures { PutDown turn self.old self.new ack.entry.now (failed (kind, index), env_of machine.now.kept) }
     {

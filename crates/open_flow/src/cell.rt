@@ -110,7 +110,9 @@ impl OpenCell {
         ensures unchanged { OnErr result (self.new ≡ self.old) }
     {
         let want = self.state.entries.len();
-        if entry.step() as usize != want || !is_text_of(self.state.case.steps.as_slice(), want, entry.text()) {
+        if entry.step() as usize != want
+            || !is_text_of(self.state.case.steps.as_slice(), want, entry.text())
+        {
             let want = want as u32;
             return Err(Late { entry, want });
         }
@@ -139,7 +141,9 @@ impl OpenCell {
     pub fn is_complete(&self) -> bool
         ensures { (read : Reading) → IsReading read → result ≡ is_complete self.now.case (world_at read self.now) }
     {
-        if self.state.acks < self.state.case.acks || self.state.entries.len() < self.state.case.steps.len() {
+        if self.state.acks < self.state.case.acks
+            || self.state.entries.len() < self.state.case.steps.len()
+        {
             return false;
         }
         !self.can_change()
