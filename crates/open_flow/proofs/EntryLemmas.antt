@@ -1,5 +1,5 @@
 -- What is built of a text is what the text comes to in every reading.
-use Rattle.std.specs.Prelude.{◌≡◌, ◌≢◌, ℕ, false, Result, Ok, Err, IfOk, IfErr, List, refl}
+use Rattle.std.specs.Prelude.{◌≢◌, ℕ, Result, Ok, Err, IfOk, IfErr, List, refl}
 use Rattle.portus_core.specs.ProgramForm.{form_of}
 use Rattle.reg_compiler.specs.declared.built.Built.{Built}
 use Rattle.portus_build.specs.Settled.{IsSettled}

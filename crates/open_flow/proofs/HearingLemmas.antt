@@ -1,32 +1,27 @@
 -- What an acknowledgement changes of what is kept is what it changes of the state.
-use Rattle.std.specs.Prelude.{◌≡◌, ℕ, ◌+◌, ◌<◌, ◌≤◌, Bool, true, false, Option, Some, None, option_map, List, [], ◌∷◌, ◌++◌, length, map, slice_get, refl}
+use Rattle.std.specs.Prelude.{◌≡◌, ℕ, ◌+◌, ◌≤◌, Bool, true, false, Option, Some, None, option_map, List, ◌++◌, length, map, refl}
 use Rattle.std.proofs.Common.{ap, sym, ◌∙◌, subst, arith, length-append}
 use Rattle.std.proofs.lemmas.List.{map-append, length-map}
-use Rattle.std.proofs.lemmas.Bool.{true≢false}
-use Rattle.std.proofs.lemmas.Option.{none-some}
 use Rattle.ccp_base.specs.declared.ack.Ack.{Ack}
 use Rattle.ccp_base.specs.declared.arithmetic.FaultKind.{FaultKind}
-use Rattle.ccp_base.specs.declared.exchange.Notice.{Notice}
-use Rattle.ccp_base.specs.declared.exchange.Report.{Report}
 use Rattle.portus_core.specs.declared.env.Env.{Env}
 use Rattle.portus_core.specs.Programs.{Form}
 use Rattle.portus_core.specs.ProgramForm.{form_of}
 use Rattle.portus_core.specs.OneAcknowledgement.{IsEnvOf}
 use Rattle.portus_core.specs.Value.{Cause}
-use Rattle.portus_core.specs.Epoch.{Outcome, quiet, reported, held, failed, stopped, Track, heard, stops, next_first, after_outcome}
+use Rattle.portus_core.specs.Epoch.{Outcome, quiet, reported, held, failed, stopped, Track, heard, stops}
 use Rattle.portus_core.specs.Reports.{Epoch, reports_met}
 use Rattle.reg_compiler.specs.declared.built.Built.{Built}
 use Rattle.fold_machine.specs.declared.acked.Acked.{Acked}
-use Rattle.fold_machine.specs.declared.acked.Acked.TheVariants as acked
 use Rattle.fold_machine.specs.MachineState.{MachineState}
 use Rattle.flow_core.specs.Readings.{env_of, by_code}
 use Rattle.flow_core.specs.States.{outcome_by}
-use Rattle.flow_core.specs.World.{Failure, failures_met}
+use Rattle.flow_core.specs.World.{failures_met}
 use Rattle.open_flow.specs.declared.account.Account.{Account}
 use Rattle.open_flow.specs.declared.account.Turn.{Turn}
 use Rattle.open_flow.specs.declared.entry.Entry.{Entry}
 use Rattle.open_flow.specs.Entries.{built_at}
-use Rattle.open_flow.specs.OpenBooks.{Seen, seen_of, seen_as}
+use Rattle.open_flow.specs.OpenBooks.{seen_of, seen_as}
 use Rattle.open_flow.specs.OpenCells.{Tells}
 use Rattle.open_flow.specs.Accounts.{reporter, notice_by, faults_of, track_by, PutDown, met_in, Heard}
 use Rattle.open_flow.specs.States.{form_at}
@@ -58,20 +53,6 @@ faults-count step number at ack reading false old outcome env after met is =
       by held = omega arith
       by (failed fault) = omega arith
       by stopped = omega arith
-
--- where an answer tells of a fault, the program wasn't stopped
-pub faulted-left : (step : ℕ) (reading : _) (is_stopped : Bool) (old : Env) (ack : Ack) (answer : Acked) (report : List ℕ) (env : Env)
-    → heard {F = FaultKind × ℕ} reading is_stopped old ack true ≡ (outcome_by answer report, env)
-    → (kind : FaultKind) (index : ℕ) → answer ≡ acked.Faulted kind index → faults_of is_stopped ≡ 1
-faulted-left step reading false old ack answer report env met kind index is = refl
-faulted-left step reading true old ack answer report env met kind index is =
-    absurd (subst by (ap (λ (m : Outcome (FaultKind × ℕ) × Env). m.0) met ∙ ap (λ (a : Acked). outcome_by a report) is) tt) where
-      by : Outcome (FaultKind × ℕ) → Type 0
-      by stopped = Unit {0}
-      by quiet = ⊥
-      by (reported fields) = ⊥
-      by held = ⊥
-      by (failed fault) = ⊥
 
 -- ---- what is put down
 

@@ -1,45 +1,41 @@
 -- Each letter keeps what holds of what is kept.
-use Rattle.std.specs.Prelude.{◌≡◌, ℕ, ◌+◌, ◌-◌, ◌<◌, ◌≤◌, Bool, true, false, Option, Some, None, option_map, Result, Ok, Err, List, [], ◌∷◌, ◌++◌, length, map, slice_get, refl}
+use Rattle.std.specs.Prelude.{◌≡◌, ℕ, ◌+◌, ◌-◌, ◌<◌, ◌≤◌, true, Option, Some, None, option_map, Result, Ok, Err, List, [], ◌∷◌, ◌++◌, length, map, slice_get, refl}
 use Rattle.std.proofs.Common.{ap, sym, ◌∙◌, subst, arith, length-append}
 use Rattle.std.proofs.lemmas.List.{map-append, length-map}
 use Rattle.std.proofs.lemmas.Option.{none-some, slice_get_within, slice_get-map}
 use Rattle.ccp_base.specs.declared.ack.Ack.{Ack}
 use Rattle.ccp_base.specs.declared.place.Place.{Place}
 use Rattle.ccp_base.specs.declared.exchange.Notice.{Notice}
-use Rattle.ccp_base.specs.declared.exchange.Report.{Report}
-use Rattle.portus_core.specs.declared.env.Env.{Env}
 use Rattle.portus_core.specs.Programs.{Form}
 use Rattle.portus_core.specs.ProgramForm.{form_of}
 use Rattle.portus_core.specs.OneAcknowledgement.{IsEnvOf}
-use Rattle.portus_core.specs.Value.{Cause}
-use Rattle.portus_core.specs.Epoch.{Event, acknowledged, Outcome, Track, track_at, by_source, declared_env, after, after_event, after_outcome}
-use Rattle.portus_core.specs.Reports.{Epoch, reports_met}
+use Rattle.portus_core.specs.Epoch.{acknowledged, Track, track_at, by_source, declared_env, after, after_outcome}
+use Rattle.portus_core.specs.Reports.{reports_met}
 use Rattle.portus_core.proofs.EventLaws.{after-append}
 use Rattle.portus_core.proofs.EnvShapes.{IsEnvOf-declared_env}
 use Rattle.portus_build.specs.declared.fault.BuildFault.{BuildFault}
 use Rattle.reg_compiler.specs.declared.built.Built.{Built}
 use Rattle.reg_compiler.specs.Simulation.{Simulates}
-use Rattle.fold_machine.specs.MachineState.{MachineState, Fits}
+use Rattle.fold_machine.specs.MachineState.{MachineState}
 use Rattle.fold_machine.specs.Heard.{started_by}
 use Rattle.link_model.specs.Standing.{LinkState, Stands}
 use Rattle.flow_core.specs.declared.book.EpochLine.{EpochLine}
 use Rattle.flow_core.specs.Readings.{env_of}
 use Rattle.flow_core.specs.Roomy.{RoomyState}
-use Rattle.flow_core.specs.World.{Failure, Era, with_event, failures_met, time_of}
+use Rattle.flow_core.specs.World.{Failure, with_event, failures_met}
 use Rattle.flow_core.specs.Books.{epoch_line}
 use Rattle.flow_core.proofs.SimulatedEpochs.{IsEnvOf-after, declared-simulated}
 use Rattle.scenario_json.specs.ScenePrograms.{Reading}
-use Rattle.scenario_json.specs.declared.open_case.OpenCase.{OpenCase}
 use Rattle.open_flow.specs.declared.account.Account.{Account}
 use Rattle.open_flow.specs.declared.entry.Entry.{Entry}
 use Rattle.open_flow.specs.Accounts.{reporter, met_in, Heard}
 use Rattle.open_flow.specs.declared.letter.OpenLetter.{OpenLetter}
 use Rattle.open_flow.specs.declared.state.State.{State}
-use Rattle.open_flow.specs.OpenWorld.{Installed, Running, OpenWorld, track_of, track_in, track_now, cwnd_of, bare, met_by, run_in, with_run, after_ack, eras_in, eras_of, with_entry, after_install, next_of, running_of, with_next, after_change}
+use Rattle.open_flow.specs.OpenWorld.{Installed, Running, OpenWorld, track_of, cwnd_of, bare, met_by, after_ack, eras_of, with_entry, after_install, next_of, running_of, with_next, after_change}
 use Rattle.open_flow.specs.BuiltTexts.{came_of, built_of}
 use Rattle.open_flow.specs.Entries.{installed_of, built_in, built_at, place_of}
 use Rattle.open_flow.specs.OpenBooks.{Seen, failure_at, seen_of, seen_as}
-use Rattle.open_flow.specs.States.{kept_track, next_from, ArePassed, form_at, Runs, RunsAs, FitsBuilt, FitsAt, epoch_of, turn_of, world_of, Keeps}
+use Rattle.open_flow.specs.States.{kept_track, next_from, Runs, RunsAs, FitsBuilt, FitsAt, epoch_of, turn_of, Keeps}
 use Rattle.open_flow.proofs.ListLemmas.{slice_get-front, time-push}
 use Rattle.open_flow.proofs.NextLemmas.{was_started-same, passed-more, passed-push, next-entry}
 

@@ -7,4 +7,3 @@ pub mod HearingLemmas
 pub mod KeepsLemmas
 pub mod OpenLemmas
 pub mod OpeningLemmas
-pub mod RunLemmas

@@ -1,6 +1,6 @@
 -- Lists that go on.
-use Rattle.std.specs.Prelude.{◌≡◌, ℕ, ◌+◌, ◌<◌, zero, suc, Option, Some, None, List, [], ◌∷◌, ◌++◌, length, slice_get, refl}
-use Rattle.std.proofs.Common.{ap, sym, ◌∙◌, arith}
+use Rattle.std.specs.Prelude.{◌≡◌, ℕ, ◌+◌, ◌<◌, zero, suc, Some, List, [], ◌∷◌, ◌++◌, length, slice_get, refl}
+use Rattle.std.proofs.Common.{◌∙◌, arith}
 use Rattle.ccp_base.specs.declared.ack.Ack.{Ack}
 use Rattle.flow_core.specs.World.{time_of}
 use Rattle.open_flow.specs.declared.entry.Entry.{Entry}

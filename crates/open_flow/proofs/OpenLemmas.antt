@@ -1,5 +1,5 @@
 -- Each letter leads from a flow of its case and its word to the one of the longer word.
-use Rattle.std.specs.Prelude.{◌≡◌, ℕ, ◌+◌, ◌*◌, ◌<◌, ◌≤◌, Bool, true, ◌&&◌, nat_lt, is_some, Option, Some, None, option_map, Ok, List, [], ◌∷◌, ◌++◌, length, map, slice_get, refl}
+use Rattle.std.specs.Prelude.{◌≡◌, ℕ, ◌+◌, ◌<◌, ◌≤◌, true, ◌&&◌, is_some, Option, Some, None, option_map, Ok, List, [], ◌∷◌, ◌++◌, length, slice_get, refl}
 use Rattle.std.proofs.Common.{ap, sym, ◌∙◌, subst, arith, length-append}
 use Rattle.std.proofs.lemmas.List.{length-map}
 use Rattle.std.proofs.lemmas.Bool.{lt-ltb}
@@ -19,21 +19,20 @@ use Rattle.flow_core.specs.Roomy.{RoomyState}
 use Rattle.flow_core.specs.Cores.{ran_by}
 use Rattle.scenario_json.specs.ScenePrograms.{Reading, IsReading}
 use Rattle.scenario_json.proofs.ReadingLemmas.{some_reading}
-use Rattle.scenario_json.specs.declared.open_case.OpenCase.{OpenCase}
 use Rattle.open_flow.specs.declared.account.Account.{Account}
 use Rattle.open_flow.specs.declared.entry.Entry.{Entry}
 use Rattle.open_flow.specs.declared.letter.OpenLetter.{OpenLetter}
 use Rattle.open_flow.specs.declared.letter.OpenLetter.TheVariants.{A, I, G}
 use Rattle.open_flow.specs.declared.state.State.{State}
 use Rattle.open_flow.specs.Accounts.{Heard, met_in, faults_of}
-use Rattle.open_flow.specs.OpenWorld.{Running, OpenWorld, track_of, cwnd_of, track_now, after_ack, eras_of, next_of, met_by}
+use Rattle.open_flow.specs.OpenWorld.{Running, OpenWorld, track_of, cwnd_of, after_ack, eras_of, next_of, met_by}
 use Rattle.open_flow.specs.OpenWords.{after_letter, install_world, next_ack, is_legal, legal}
 use Rattle.open_flow.specs.BuiltTexts.{Answers}
 use Rattle.open_flow.specs.Entries.{installed_of, built_at, AreStepsFrom}
 use Rattle.open_flow.specs.OpenCells.{Tells, AnswersTo, ran_of, ran_in}
 use Rattle.open_flow.specs.States.{world_of, kept_track, step_of, next_from, RunsAs, Runs, FitsAt, FitsBuilt, faults_left, turn_of, form_at, Keeps, IsFit, IsOpen}
 use Rattle.open_flow.proofs.LetterLemmas.{world-append, legal-append}
-use Rattle.open_flow.proofs.KeepsLemmas.{counted_state, keeps-counted, heard_state, keeps-heard, put_state, keeps-put, fits-more, started_state, keeps-started}
+use Rattle.open_flow.proofs.KeepsLemmas.{counted_state, keeps-counted, keeps-heard, put_state, keeps-put, fits-more, started_state, keeps-started}
 use Rattle.open_flow.proofs.ListLemmas.{steps-push}
 use Rattle.open_flow.proofs.NextLemmas.{left-found, next-entry, next-late, none-built}
 

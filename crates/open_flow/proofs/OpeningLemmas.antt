@@ -1,6 +1,6 @@
 -- What is kept before the first letter is what the flow before its first letter has.
-use Rattle.std.specs.Prelude.{◌≡◌, ℕ, ◌+◌, ◌*◌, ◌≤◌, None, Ok, List, [], length, map, slice_get, refl}
-use Rattle.std.proofs.Common.{ap, sym, ◌∙◌, subst, arith}
+use Rattle.std.specs.Prelude.{◌≡◌, ℕ, ◌+◌, ◌*◌, ◌≤◌, None, Ok, [], length, map, refl}
+use Rattle.std.proofs.Common.{ap, sym, subst, arith}
 use Rattle.std.proofs.lemmas.Option.{none-some}
 use Rattle.ccp_base.specs.declared.exchange.Notice.{Notice}
 use Rattle.ccp_base.specs.declared.exchange.Report.{Report}
@@ -9,7 +9,6 @@ use Rattle.link_model.specs.Standing.{LinkState, Stands}
 use Rattle.flow_core.specs.declared.book.EpochLine.{EpochLine}
 use Rattle.flow_core.specs.Readings.{env_of}
 use Rattle.flow_core.specs.Roomy.{RoomyState}
-use Rattle.scenario_json.specs.ScenePrograms.{Reading, IsReading}
 use Rattle.scenario_json.specs.declared.open_case.OpenCase.{OpenCase}
 use Rattle.open_flow.specs.declared.entry.Entry.{Entry}
 use Rattle.open_flow.specs.declared.letter.OpenLetter.{OpenLetter}
@@ -18,8 +17,7 @@ use Rattle.open_flow.specs.OpenWorld.{opening}
 use Rattle.open_flow.specs.OpenWords.{install_world, legal}
 use Rattle.open_flow.specs.Entries.{installed_of, AreStepsFrom}
 use Rattle.open_flow.specs.OpenBooks.{seen_of}
-use Rattle.open_flow.specs.OpenCells.{most_letters}
-use Rattle.open_flow.specs.States.{world_of, Keeps, IsFit, IsOpen}
+use Rattle.open_flow.specs.States.{Keeps, IsOpen}
 
 module _ (case : OpenCase) (link : LinkState) (machine : MachineState) (entries : RoomyState Entry) (installed : RoomyState ℕ)
     (epochs : RoomyState EpochLine) (reports : RoomyState Report) (faults : RoomyState Notice) (word : RoomyState OpenLetter) where

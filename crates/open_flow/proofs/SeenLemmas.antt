@@ -1,6 +1,6 @@
 -- What the machine makes of an acknowledgement is what the source makes of it, where an instruction stands for its place.
-use Rattle.std.specs.Prelude.{◌≡◌, ℕ, ◌+◌, Bool, true, false, Option, Some, None, option_map, List, [], ◌∷◌, map, slice_get, refl}
-use Rattle.std.proofs.Common.{ap, sym, ◌∙◌, subst}
+use Rattle.std.specs.Prelude.{◌≡◌, ℕ, Bool, true, false, Option, Some, None, option_map, List, [], ◌∷◌, map, slice_get, refl}
+use Rattle.std.proofs.Common.{ap, ◌∙◌, subst}
 use Rattle.std.proofs.lemmas.Option.{none-some}
 use Rattle.ccp_base.specs.declared.ack.Ack.{Ack}
 use Rattle.ccp_base.specs.declared.arithmetic.FaultKind.{FaultKind}
@@ -23,11 +23,11 @@ use Rattle.fold_machine.specs.declared.acked.Acked.{Acked}
 use Rattle.fold_machine.specs.declared.acked.Acked.TheVariants as acked
 use Rattle.flow_core.specs.Readings.{env_of, outcome_of, by_code}
 use Rattle.flow_core.specs.States.{outcome_by}
-use Rattle.flow_core.specs.World.{Failure, failures_met}
+use Rattle.flow_core.specs.World.{failures_met}
 use Rattle.open_flow.specs.declared.entry.Entry.{Entry}
 use Rattle.open_flow.specs.Entries.{built_at, place_of}
 use Rattle.open_flow.specs.OpenBooks.{Seen, seen_of, seen_as}
-use Rattle.open_flow.specs.OpenCells.{outcome_seen, Tells}
+use Rattle.open_flow.specs.OpenCells.{Tells}
 use Rattle.open_flow.specs.Accounts.{notice_by}
 
 -- an outcome of the code with the place of a fault, None where there is none

@@ -1,5 +1,5 @@
 -- The history of a flow of a rollout as a word, and the states that words come to.
-use Rattle.std.specs.Prelude.{ℕ, Bool, true, not, ◌&&◌, nat_lt, is_some, List, [], ◌∷◌, length}
+use Rattle.std.specs.Prelude.{Bool, true, not, ◌&&◌, nat_lt, is_some, List, [], ◌∷◌, length}
 use Rattle.link_model.specs.Link.{ack_after}
 use Rattle.scenario_json.specs.ScenePrograms.{Reading}
 use Rattle.scenario_json.specs.declared.open_case.OpenCase.{OpenCase}

@@ -1,6 +1,6 @@
 use Rattle.std.proofs.Common.{ap, ◌∙◌}
 use Rattle.open_flow.specs.declared.letter.OpenLetter.TheVariants.{A}
-use Rattle.open_flow.specs.OpenWorld.{after_ack, after_install, after_change}
+use Rattle.open_flow.specs.OpenWorld.{after_ack}
 use Rattle.open_flow.specs.OpenCells.{OpenState, world_at, ack_at}
 use Rattle.open_flow.proofs.LetterLemmas.{grown}
 use Rattle.open_flow.proofs.cell.OpenCell.ack.Goals as goal

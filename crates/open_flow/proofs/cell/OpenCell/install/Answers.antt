@@ -1,7 +1,7 @@
 use Rattle.std.proofs.Common.{ap, ◌∙◌}
 use Rattle.open_flow.specs.declared.letter.OpenLetter.TheVariants.{I}
-use Rattle.open_flow.specs.OpenWorld.{after_ack, after_install, after_change}
-use Rattle.open_flow.specs.OpenCells.{OpenState, world_at, ack_at}
+use Rattle.open_flow.specs.OpenWorld.{after_install}
+use Rattle.open_flow.specs.OpenCells.{OpenState, world_at}
 use Rattle.open_flow.proofs.LetterLemmas.{grown}
 use Rattle.open_flow.proofs.cell.OpenCell.install.Goals as goal
 

@@ -1,4 +1,3 @@
-use Rattle.std.proofs.Common.{rules, refl}
 use Rattle.open_flow.proofs.OpenLemmas.{open-counted, present-none}
 use Rattle.open_flow.proofs.state.State.count_next.Goals as goal
 

@@ -1,7 +1,6 @@
-use Rattle.std.proofs.Common.{rules, refl, ap, sym, ◌∙◌, subst, ◌+◌, ◌-◌, ℕ, ◌≡◌, List, length, drop, take}
+use Rattle.std.proofs.Common.{ap, ◌∙◌, ◌-◌, ℕ, ◌≡◌, List, length, drop, take}
 use Rattle.std.proofs.lemmas.List.{take_rest}
 use Rattle.open_flow.specs.declared.entry.Entry.{Entry}
-use Rattle.open_flow.specs.OpenWorld.{Installed, eras_of}
 use Rattle.open_flow.specs.States.{world_of, next_from, accepted_from}
 use Rattle.open_flow.proofs.NextLemmas.{next-found}
 use Rattle.open_flow.proofs.state.State.next.Goals as goal

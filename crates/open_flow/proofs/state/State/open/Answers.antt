@@ -1,5 +1,4 @@
-use Rattle.std.proofs.Common.{rules, refl, ap, ◌∙◌, arith}
-use Rattle.scenario_json.specs.declared.open_case.OpenCase.{OpenCase}
+use Rattle.std.proofs.Common.{refl, ◌∙◌, arith}
 use Rattle.open_flow.proofs.OpeningLemmas.{open-at}
 use Rattle.open_flow.proofs.state.State.open.Goals as goal
 

@@ -1,4 +1,3 @@
-use Rattle.std.proofs.Common.{rules, refl}
 use Rattle.open_flow.proofs.OpenLemmas.{open-put}
 use Rattle.open_flow.proofs.state.State.put.Goals as goal
 

@@ -1,5 +1,4 @@
-use Rattle.std.proofs.Common.{rules, refl, ap, sym, ◌∙◌, subst, ◌+◌, ◌-◌, ◌≡◌, ℕ, Some, Option, List}
-use Rattle.reg_compiler.specs.declared.built.Built.{Built}
+use Rattle.std.proofs.Common.{ap, sym, ◌∙◌, subst, ◌+◌, ◌-◌, ◌≡◌, ℕ, Some, List}
 use Rattle.open_flow.specs.declared.entry.Entry.{Entry}
 use Rattle.open_flow.specs.declared.account.Turn.{Turn}
 use Rattle.flow_core.specs.Readings.{env_of}
@@ -7,8 +6,7 @@ use Rattle.flow_core.specs.States.{outcome_by}
 use Rattle.open_flow.specs.Accounts.{PutDown}
 use Rattle.open_flow.specs.Entries.{built_at}
 use Rattle.open_flow.specs.States.{FitsBuilt, turn_of}
-use Rattle.open_flow.proofs.HearingLemmas.{heard-by, told, faulted-left}
-use Rattle.open_flow.proofs.RunLemmas.{counts, never-none, fits-some}
+use Rattle.open_flow.proofs.HearingLemmas.{heard-by, told}
 use Rattle.open_flow.proofs.OpenLemmas.{open-run, told-run, ran-run}
 use Rattle.open_flow.proofs.state.State.run_next.Goals as goal
 
