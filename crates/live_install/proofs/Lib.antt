@@ -1,0 +1,9 @@
+pub mod StopLemmas
+pub mod BookLemmas
+pub mod LeftLemmas
+pub mod TurnLemmas
+pub mod TableLemmas
+pub mod WholeLemmas
+pub mod SendA
+pub mod SendB
+pub mod SendC
