@@ -41,7 +41,6 @@ seen-placed notice (Some place) failure is =
     (ap (λ (f : Failure Place). f ∷ []) same, ap (λ (f : Failure Place). f.epoch) same)
 
 module _ (entries : List EntryState) (flow : ℕ) where
-
   pub seen-failures : (faults : List Notice) (failures : List (Failure Place)) → map (seen_of entries) faults ≡ map (seen_as flow) failures
       → failures_in entries faults ≡ failures
   seen-failures [] [] same = refl

@@ -4,6 +4,4 @@ pub mod LeftLemmas
 pub mod TurnLemmas
 pub mod TableLemmas
 pub mod WholeLemmas
-pub mod SendA
-pub mod SendB
-pub mod SendC
+pub mod SendLemmas

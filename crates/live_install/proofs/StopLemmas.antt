@@ -108,11 +108,11 @@ module _ (read : Reading) (case : OpenCase) where
       let failures = failures_met program (length w.past) track.count ack (met form track.is_stopped track.env ack) in
       let last = after-append (by_source form) running.era.events (acknowledged ack true ∷ []) (track_at running.era.at running.era.first) in (
         ap (λ (t : Track). t.is_stopped) last
-        ∙ (stops-met program (length w.past) track.count form track.is_stopped track.env ack
-        ∙ (ap (λ (b : Bool). b || fails_in (length w.past) failures) so_far.0
-        ∙ sym (fails_in-append (length w.past) w.faults failures))),
+            ∙ (stops-met program (length w.past) track.count form track.is_stopped track.env ack
+            ∙ (ap (λ (b : Bool). b || fails_in (length w.past) failures) so_far.0
+            ∙ sym (fails_in-append (length w.past) w.faults failures))),
         AreUpTo-append (length w.past) w.faults failures so_far.1
-        (few-met program (length w.past) track.count form track.is_stopped track.env ack),
+            (few-met program (length w.past) track.count form track.is_stopped track.env ack),
       )
 
   -- ---- an entry

@@ -11,12 +11,7 @@ use std::sync::ledger::{Blank, Ledger};
 
 /// The work of a datapath worker: the acknowledgements of the flows of its share, one of each
 /// in turn, until all of them are in.
-pub(crate) fn serve<R: Wait, G: Gate>(
-    rt: &R,
-    table: &OpenTable,
-    share: Share,
-    gate: &G,
-) {
+pub(crate) fn serve<R: Wait, G: Gate>(rt: &R, table: &OpenTable, share: Share, gate: &G) {
     counted::<Brand, R, G>(rt, table, share, gate, Blank::new(1));
 }
 
@@ -49,8 +44,7 @@ fn turn<L: Ledger, R: Wait, G: Gate>(
     gate: &G,
     steps: &mut Steps<L>,
     done: &mut [bool; 64],
-) -> bool
-{
+) -> bool {
     let mut goes_on = false;
     let mut flow = share.first;
     while flow < table.flows() {

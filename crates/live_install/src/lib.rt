@@ -13,9 +13,7 @@ mod turn;
 mod workers;
 
 use ccp_base::Sequence;
-pub use open_flow::{
-    Entries, Entry, Late, Nothing, OpenBook, OpenCell, OpenLetter, OpenWord,
-};
+pub use open_flow::{Entries, Entry, Late, Nothing, OpenBook, OpenCell, OpenLetter, OpenWord};
 pub use run::rollout;
 pub use text::rollout_text;
 

@@ -94,7 +94,11 @@ impl OpenTable {
     pub(crate) fn text(&self, flow: u32, step: u32) -> Option<&[u8]>
         requires { flow < length self.now }
     {
-        let text = self.flows[flow as usize].case.steps.as_slice().get(step as usize)?;
+        let text = self.flows[flow as usize]
+            .case
+            .steps
+            .as_slice()
+            .get(step as usize)?;
         Some(text.as_slice())
     }
 

@@ -180,10 +180,7 @@ fn end_in(book: &OpenBook) -> End
     End {
         acks: u64::from(book.acks),
         first: book.first,
-        stopped: is_faulted(
-            book.epochs.len().saturating_sub(1),
-            book.faults.as_slice(),
-        ),
+        stopped: is_faulted(book.epochs.len().saturating_sub(1), book.faults.as_slice()),
         cwnd: book.machine.cwnd(),
         rate: book.machine.rate(),
         fields: book.machine.fields(),
