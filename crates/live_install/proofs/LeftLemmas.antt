@@ -1,10 +1,10 @@
 -- Each legal letter leaves fewer letters than could come before it.
 use Rattle.std.specs.Prelude.{◌≡◌, ◌≢◌, ℕ, ◌+◌, ◌-◌, ◌*◌, ◌<◌, ◌≤◌, ◌==◌, Bool, true, false, ◌||◌, if◌then◌else◌, Option, Some, None, Ok, Err, List, [], ◌∷◌, ◌++◌, length, slice_get, refl}
-use Rattle.std.proofs.Common.{arith, ap, sym, ◌∙◌, subst, length-append}
+use Rattle.std.proofs.Common.{arith, ap, sym, ◌∙◌, length-append}
 use Rattle.std.proofs.lemmas.Bool.{eq-eqb}
 use Rattle.ccp_base.specs.declared.ack.Ack.{Ack}
 use Rattle.portus_core.specs.Programs.{Form}
-use Rattle.portus_core.specs.Epoch.{Event, acknowledged}
+use Rattle.portus_core.specs.Epoch.{acknowledged}
 use Rattle.flow_core.specs.World.{Era, with_event}
 use Rattle.scenario_json.specs.ScenePrograms.{Reading}
 use Rattle.scenario_json.specs.declared.open_case.OpenCase.{OpenCase}

@@ -2,7 +2,6 @@
 use denote.Struct.Declared.{shape}
 use denote.Param.Send.{IsSend, IsSync, recorded_send, struct_send, sendable}
 use Rattle.std.proofs.Crossing.{crosses}
-use Rattle.std.proofs.sync.Mutex.TheSendSync as mutex
 use Rattle.portus_core.proofs.program.Expr.TheLaws.TheKnot as knot
 use Rattle.portus_core.specs.contracts.program.Cmd as Cmd
 use Rattle.portus_core.specs.contracts.program.Block as Block

@@ -7,7 +7,7 @@ use Rattle.ccp_base.specs.declared.place.Place.{Place}
 use Rattle.portus_core.specs.declared.env.Env.{Env}
 use Rattle.portus_core.specs.declared.env.Mean.{Mean}
 use Rattle.portus_core.specs.declared.env.Mean.TheVariants as means
-use Rattle.portus_core.specs.Epoch.{acknowledged, Outcome, Track, track_at, heard, stops, outcome_of, by_source, after_event}
+use Rattle.portus_core.specs.Epoch.{acknowledged, Outcome, Track, track_at, heard, stops, outcome_of, by_source}
 use Rattle.portus_core.specs.OneAcknowledgement.{one_of}
 use Rattle.portus_core.specs.Programs.{Form}
 use Rattle.portus_core.specs.Value.{Cause}
@@ -17,7 +17,7 @@ use Rattle.scenario_json.specs.declared.open_case.OpenCase.{OpenCase}
 use Rattle.scenario_json.specs.ScenePrograms.{Reading}
 use Rattle.open_flow.specs.declared.letter.OpenLetter.{OpenLetter}
 use Rattle.open_flow.specs.declared.letter.OpenLetter.TheVariants.{A, I, G}
-use Rattle.open_flow.specs.OpenWorld.{Running, OpenWorld, opening, track_of, track_in, track_now, run_in, after_ack, with_entry, eras_in, eras_of, next_of, with_next, running_of, cwnd_of}
+use Rattle.open_flow.specs.OpenWorld.{Running, OpenWorld, opening, track_of, track_in, track_now, run_in, with_entry, eras_in, eras_of, next_of, with_next, cwnd_of}
 use Rattle.open_flow.specs.OpenWords.{next_ack, after_letter, world_from, install_world}
 
 -- one of the failures is of the epoch with this number

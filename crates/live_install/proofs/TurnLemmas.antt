@@ -1,13 +1,9 @@
 -- Which letter may come, by what a cell answers, and that it brings the flow nearer to the end of its word.
-use Rattle.std.specs.Prelude.{◌≡◌, ◌≢◌, ◌<◌, ◌≤◌, Bool, true, false, not, nat_lt, is_some, ◌&&◌, Option, Some, None, option_map, List, ℕ, [], ◌∷◌, ◌++◌, length, map, slice_get, refl}
-use Rattle.std.proofs.Common.{arith, ap, sym, ◌∙◌, subst}
-use Rattle.std.proofs.lemmas.Bool.{ltb-true}
-use Rattle.std.proofs.lemmas.List.{length-map}
+use Rattle.std.specs.Prelude.{◌≡◌, ◌≢◌, ◌<◌, Bool, true, false, not, is_some, ◌&&◌, Option, Some, None, option_map, List, ℕ, length, slice_get, refl}
+use Rattle.std.proofs.Common.{arith}
 use Rattle.portus_core.specs.Programs.{Form}
 use Rattle.scenario_json.specs.ScenePrograms.{Reading}
-use Rattle.scenario_json.specs.declared.open_case.OpenCase.{OpenCase}
 use Rattle.open_flow.specs.OpenWorld.{OpenWorld, after_ack, after_install, after_change, next_of}
-use Rattle.open_flow.specs.OpenWords.{is_legal, is_complete}
 use Rattle.open_flow.specs.OpenCells.{OpenState, world_at, ack_at, next_at}
 use Rattle.live_install.specs.LettersLeft.{letters_left, left_at, IsNearer}
 use Rattle.live_install.proofs.LeftLemmas.{left-ack, left-install, left-change}

@@ -5,14 +5,14 @@ use Rattle.std.proofs.Common.{arith, ap, sym, ◌∙◌, subst, append_assoc}
 use Rattle.std.proofs.lemmas.List.{map-append}
 use Rattle.std.proofs.lemmas.List.Elements.{All-push}
 use Rattle.scenario_json.specs.declared.open_case.OpenCase.{OpenCase}
-use Rattle.scenario_json.specs.ScenePrograms.{Reading, IsReading}
+use Rattle.scenario_json.specs.ScenePrograms.{Reading}
 use Rattle.open_flow.specs.declared.book.OpenBook.{OpenBook}
 use Rattle.open_flow.specs.declared.letter.OpenLetter.{OpenLetter}
 use Rattle.open_flow.specs.OpenWords.{install_world, legal, is_complete}
 use Rattle.open_flow.specs.OpenBooks.{IsOpenBookOf}
 use Rattle.open_flow.specs.OpenCells.{OpenState, world_at, IsComplete}
 use Rattle.live_install.specs.Tables.{case_of}
-use Rattle.live_install.specs.WholeBooks.{IsHistory, flow_of, IsTold, IsWhole, case_in}
+use Rattle.live_install.specs.WholeBooks.{flow_of, IsWhole, case_in}
 
 pub whole : (read : Reading) (cell : OpenState) (book : OpenBook) → book.case ≡ cell.case → book.word ≡ cell.word → IsComplete read cell
     → legal read cell.case cell.word ≡ true → IsOpenBookOf (world_at read cell) book → IsWhole read book

@@ -1,4 +1,4 @@
-use Rattle.std.proofs.Common.{◌≡◌, ◌∙◌, true, false}
+use Rattle.std.proofs.Common.{◌∙◌}
 use Rattle.live_install.proofs.TableLemmas.{case-of-new}
 use Rattle.live_install.proofs.table.kept.Goals as goal
 

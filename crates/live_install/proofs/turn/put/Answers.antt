@@ -1,4 +1,4 @@
-use Rattle.std.proofs.Common.{◌≡◌, ◌<◌, ◌∙◌, ℕ, Some, ap, arith, length, slice_get, subst, sym}
+use Rattle.std.proofs.Common.{◌≡◌, ◌<◌, ℕ, Some, ap, arith, length, slice_get, subst, sym}
 use Rattle.scenario_json.specs.declared.open_case.OpenCase.{OpenCase}
 use Rattle.open_flow.specs.OpenCells.{OpenState, world_at}
 use Rattle.live_install.proofs.TurnLemmas.{nearer-I}
