@@ -11,7 +11,7 @@ use Rattle.ccp_run.specs.Attempts.{MakesOutput, RefusesBytes, RefusesAny}
 use Rattle.ccp_run.specs.Complete.{EndsAs, IsNoInput, IsComplete}
 use Rattle.ccp_run.specs.Modes.{limit_of, is_read, is_stream, IsMade, IsRefused}
 use Rattle.ccp_run.specs.Run.{IsRun, WritesAnyFront}
-use Rattle.ccp_run.specs.Settled.{is_there, IsInput}
+use Rattle.ccp_run.specs.Settled.{IsInput}
 use Rattle.ccp_run.specs.Streams.{Stream, HasInput}
 use Rattle.ccp_run.proofs.SettledInputs.{settled_input}
 
@@ -43,31 +43,8 @@ no_refusal (Alone alone) bytes refusal reads refused = cc
 no_refusal (Live wire) bytes refusal reads refused = let bad : ⊥ = cc in absurd bad
 no_refusal (Campaign wire) bytes refusal reads refused = let bad : ⊥ = cc in absurd bad
 no_refusal (Soak number) bytes refusal reads refused = refused
-no_refusal Rollout bytes refusal reads refused = refused
+no_refusal Rollout bytes refusal reads refused = let bad : ⊥ = cc in absurd bad
 no_refusal Shared bytes refusal reads refused = let bad : ⊥ = cc in absurd bad
-
--- a task with an input or an output is there
-by_input : (task : Task) (bytes : List ℕ) → IsInput task bytes → is_there task ≡ true
-by_input (Alone Check) bytes input = refl
-by_input (Alone Fold) bytes input = refl
-by_input (Alone Feed) bytes input = refl
-by_input (Alone Audit) bytes input = refl
-by_input (Live wire) bytes input = refl
-by_input (Campaign wire) bytes input = refl
-by_input (Soak number) bytes input = refl
-by_input Rollout bytes input = absurd input
-by_input Shared bytes input = refl
-
-by_output : (task : Task) (bytes : List ℕ) (output : ModeOutput) → IsMade task bytes output → is_there task ≡ true
-by_output (Alone Check) bytes output made = refl
-by_output (Alone Fold) bytes output made = refl
-by_output (Alone Feed) bytes output made = refl
-by_output (Alone Audit) bytes output made = refl
-by_output (Live wire) bytes output made = refl
-by_output (Campaign wire) bytes output made = refl
-by_output (Soak number) bytes output made = refl
-by_output Rollout bytes output made = absurd made
-by_output Shared bytes output made = refl
 
 module _ (task : Task) (source : Stream) (bytes : List ℕ) (is : source.old ≡ Some bytes) where
   same_bytes : (taken : List ℕ) → HasInput true source taken → bytes ≡ taken
@@ -75,14 +52,14 @@ module _ (task : Task) (source : Stream) (bytes : List ℕ) (is : source.old ≡
 
   not_refused_bytes : (refusal : Refusal) → IsInput task bytes → (r : RefusesBytes task source refusal) → (reads : Bool) → is_read task ≡ reads → HasInput reads source r.bytes → ⊥
   not_refused_bytes refusal input r true reads has =
-      (settled_input task bytes (by_input task bytes input)).apart refusal input
+      (settled_input task bytes).apart refusal input
       (subst (λ (b : List ℕ). IsRefused task b refusal) (sym (same_bytes r.bytes has)) r.cause)
   not_refused_bytes refusal input r false reads has = no_refusal task r.bytes refusal reads r.cause
 
   not_refused : (refusal : Refusal) → length bytes ≤ limit_of task → IsInput task bytes → (answers_early : Bool) → RefusesAny answers_early task source refusal → ⊥
   not_refused refusal short input true (inl early) =
       let parts = split bytes early.bytes source.old source.new is early.taken in
-      (settled_input task bytes (by_input task bytes input)).apart refusal input
+      (settled_input task bytes).apart refusal input
       (subst (λ (b : List ℕ). IsRefused task b refusal) (sym parts.1) (early.cause parts.0))
   not_refused refusal short input true (inr r) = not_refused_bytes refusal input r (is_read task) refl r.read
   not_refused refusal short input false (inl long) = not_over (limit_of task) bytes source.old source.new is short long.over
@@ -95,7 +72,7 @@ module _ (task : Task) (source : Stream) (bytes : List ℕ) (is : source.old ≡
       let over : limit_of task < length bytes = long.1 in
       absurd (omega (arith, short, over, ap length (same_bytes m.bytes has)))
   not_made_of output (inr refused) m true reads has =
-      let settled = settled_input task bytes (by_output task m.bytes output m.made) in
+      let settled = settled_input task bytes in
       settled.apart refused.0 (settled.made output (subst (λ (b : List ℕ). IsMade task b output) (sym (same_bytes m.bytes has)) m.made)) refused.1
   not_made_of output (inl long) m false reads has = let bad : ⊥ = let is_true : is_read task ≡ true = long.0 in cc in absurd bad
   not_made_of output (inr refused) m false reads has = no_refusal task bytes refused.0 reads refused.1

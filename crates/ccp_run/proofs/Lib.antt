@@ -12,3 +12,5 @@ pub mod AuditLemmas
 mod SettledAudits
 mod SettledShared
 pub mod SharedLemmas
+mod SettledRollouts
+pub mod RolloutLemmas

@@ -28,8 +28,9 @@ use Rattle.ccp_run.specs.declared.refusal.Refusal.TheVariants.{TooLong, NoSepara
 use Rattle.ccp_run.specs.Check.{IsNoCheck}
 use Rattle.ccp_run.specs.FeedRuns.{IsNoFeed}
 use Rattle.ccp_run.specs.Fold.{acks_below, IsFold, HasNoProgram, HasBadLines, IsNoFold}
-use Rattle.ccp_run.specs.Settled.{is_there, IsInput, IsSettled}
+use Rattle.ccp_run.specs.Settled.{IsInput, IsSettled}
 use Rattle.ccp_run.proofs.SettledAudits.{settled_audit}
+use Rattle.ccp_run.proofs.SettledRollouts.{settled_rollout}
 use Rattle.ccp_run.proofs.SettledShared.{settled_shared}
 use Rattle.ccp_run.proofs.SettledScenes.{settled_live, settled_campaign, settled_soak}
 
@@ -207,13 +208,13 @@ settled_feed bytes = record {
 }
 
 -- every input is settled
-pub settled_input : (task : Task) (bytes : List ℕ) → is_there task ≡ true → IsSettled task bytes
-settled_input (Alone Check) bytes there = settled_check bytes
-settled_input (Alone Fold) bytes there = settled_fold bytes
-settled_input (Alone Feed) bytes there = settled_feed bytes
-settled_input (Alone Audit) bytes there = settled_audit bytes
-settled_input (Live wire) bytes there = settled_live wire bytes
-settled_input (Campaign wire) bytes there = settled_campaign wire bytes
-settled_input (Soak number) bytes there = settled_soak number bytes
-settled_input Rollout bytes there = let bad : ⊥ = cc in absurd bad
-settled_input Shared bytes there = settled_shared bytes
+pub settled_input : (task : Task) (bytes : List ℕ) → IsSettled task bytes
+settled_input (Alone Check) bytes = settled_check bytes
+settled_input (Alone Fold) bytes = settled_fold bytes
+settled_input (Alone Feed) bytes = settled_feed bytes
+settled_input (Alone Audit) bytes = settled_audit bytes
+settled_input (Live wire) bytes = settled_live wire bytes
+settled_input (Campaign wire) bytes = settled_campaign wire bytes
+settled_input (Soak number) bytes = settled_soak number bytes
+settled_input Rollout bytes = settled_rollout bytes
+settled_input Shared bytes = settled_shared bytes

@@ -9,6 +9,7 @@ pub mod Campaign
 pub mod Live
 pub mod AuditRuns
 pub mod Shared
+pub mod Rollout
 pub mod Tasks
 pub mod Modes
 pub mod Attempts

@@ -16,6 +16,7 @@ use Rattle.ccp_run.specs.Check.{IsCheckOutput, IsNoCheck}
 use Rattle.ccp_run.specs.FeedRuns.{IsFeedOutput, IsNoFeed}
 use Rattle.ccp_run.specs.Fold.{IsFoldOutput, IsNoFold}
 use Rattle.ccp_run.specs.Live.{IsLiveOutput}
+use Rattle.ccp_run.specs.Rollout.{IsRolloutOutput, IsNoRollout}
 use Rattle.ccp_run.specs.Shared.{IsSharedOutput, IsNoSharedScenario}
 
 -- how long an input may be
@@ -63,7 +64,7 @@ IsMade (Alone Audit) bytes output = IsAuditOutput bytes output
 IsMade (Live wire) bytes output = IsLiveOutput wire bytes output
 IsMade (Campaign wire) bytes output = IsCampaignOutput wire bytes output
 IsMade (Soak number) bytes output = IsSoakOutput number output
-IsMade Rollout bytes output = ⊥
+IsMade Rollout bytes output = IsRolloutOutput bytes output
 IsMade Shared bytes output = IsSharedOutput bytes output
 
 -- bytes are no input of the mode, and this is their first refusal
@@ -75,5 +76,5 @@ IsRefused (Alone Audit) bytes refusal = IsNoAudit bytes refusal
 IsRefused (Live wire) bytes refusal = IsNoScenario scene.Live bytes refusal
 IsRefused (Campaign wire) bytes refusal = IsNoScenario scene.Campaign bytes refusal
 IsRefused (Soak number) bytes refusal = ⊥
-IsRefused Rollout bytes refusal = ⊥
+IsRefused Rollout bytes refusal = IsNoRollout bytes refusal
 IsRefused Shared bytes refusal = IsNoSharedScenario bytes refusal

@@ -1,34 +1,23 @@
 -- Each input is one of its mode's, or has one first refusal, and not both.
-use Rattle.std.specs.Prelude.{◌≡◌, ◌⊎◌, List, ℕ, Bool, true, false}
+use Rattle.std.specs.Prelude.{◌≡◌, ◌⊎◌, List, ℕ, Ok}
 use Rattle.ccp_base.specs.declared.ack.Ack.{Ack}
 use Rattle.portus_core.specs.Programs.{Form}
 use Rattle.portus_build.specs.Texts.{IsBuiltFrom}
 use Rattle.feed_core.specs.declared.ending.FeedEnd.TheVariants.{Whole}
 use Rattle.feed_core.specs.FeedEnds.{end_of}
 use Rattle.ccp_words.specs.declared.mode.Alone.TheVariants.{Check, Fold, Feed, Audit}
-use Rattle.ccp_run.specs.Tasks.{Task, Alone, Live, Campaign, Soak, Shared}
+use Rattle.ccp_run.specs.Tasks.{Task, Alone, Live, Campaign, Soak, Rollout, Shared}
 use Rattle.ccp_run.specs.declared.outcome.ModeOutput.{ModeOutput}
 use Rattle.ccp_run.specs.declared.refusal.Refusal.{Refusal}
 use Rattle.ccp_run.specs.AuditRuns.{IsAudit}
 use Rattle.ccp_run.specs.Fold.{IsFold}
 use Rattle.scenario_json.specs.declared.mode.Mode.TheVariants as scene
+use Rattle.scenario_json.specs.Rollout.{OpenPlan, rollout_of}
 use Rattle.scenario_json.specs.Scene.{Scene}
 use Rattle.scenario_json.specs.SharedScenes.{SharedParts}
 use Rattle.ccp_run.specs.Scenes.{Says}
 use Rattle.ccp_run.specs.Shared.{SaysShared}
 use Rattle.ccp_run.specs.Modes.{IsMade, IsRefused}
-
--- the modes that are there
-abbrev pub is_there : Task → Bool
-is_there (Alone Check) = true
-is_there (Alone Fold) = true
-is_there (Alone Feed) = true
-is_there (Alone Audit) = true
-is_there (Live wire) = true
-is_there (Campaign wire) = true
-is_there (Soak number) = true
-is_there Shared = true
-is_there _ = false
 
 -- bytes are an input of the mode
 abbrev pub IsInput : Task → List ℕ → Type 0
@@ -40,8 +29,8 @@ IsInput (Live wire) bytes = (said : Scene) × Says scene.Live bytes said
 IsInput (Campaign wire) bytes = (said : Scene) × Says scene.Campaign bytes said
 -- a generated campaign doesn't look at its source
 IsInput (Soak number) bytes = Unit {0}
+IsInput Rollout bytes = (plans : List OpenPlan) × (rollout_of bytes ≡ Ok plans)
 IsInput Shared bytes = (said : SharedParts) × SaysShared bytes said
-IsInput _ bytes = ⊥
 
 pub record IsSettled (task : Task) (bytes : List ℕ) : Type 0 where
   pub some : IsInput task bytes ⊎ ((refusal : Refusal) × IsRefused task bytes refusal)
@@ -50,6 +39,6 @@ pub record IsSettled (task : Task) (bytes : List ℕ) : Type 0 where
   -- what is made of bytes is made of an input
   pub made : (output : ModeOutput) → IsMade task bytes output → IsInput task bytes
 
--- every input of every mode that is there
+-- every input of every mode
 abbrev pub AreSettled : Type 0
-AreSettled = (task : Task) (bytes : List ℕ) → is_there task ≡ true → IsSettled task bytes
+AreSettled = (task : Task) (bytes : List ℕ) → IsSettled task bytes

@@ -41,5 +41,8 @@ campaign_task wire = Campaign wire
 abbrev pub soak_task : ℕ → Task
 soak_task number = Soak number
 
+abbrev pub rollout_task : Task
+rollout_task = Rollout
+
 abbrev pub shared_task : Task
 shared_task = Shared

@@ -14,6 +14,7 @@ mod outcome;
 mod program;
 mod reading;
 mod refusal;
+mod rollout;
 mod scene;
 mod shared;
 mod soak;

@@ -11,10 +11,10 @@ use crate::campaign::read_campaign;
 use crate::ending::{end, end_without};
 use crate::live::read_live;
 use crate::outcome::Outcome;
+use crate::rollout::read_rollout;
 use crate::shared::read_shared;
 use crate::soak::soak_output;
 use crate::status::{MEMORY_LINE, Status, WORDS_LINE};
-use crate::stop::Stop;
 use ccp_base::{Gate, Sink, Source};
 use ccp_words::{Asked, Mode, Unasked, read_words};
 use std::alloc::Global;
@@ -48,7 +48,7 @@ pub fn run<R: Threads + Wait + Sync, S: Source, K: Sink, E: Sink, G: Gate + Sync
     }
 }
 
-/// Does what is asked for. The words never ask for a mode that isn't there yet.
+/// Does what is asked for.
 fn asked_run<R: Threads + Wait + Sync, S: Source, K: Sink, E: Sink, G: Gate + Sync>(
     rt: &R,
     alloc: Global,
@@ -87,6 +87,9 @@ fn asked_run<R: Threads + Wait + Sync, S: Source, K: Sink, E: Sink, G: Gate + Sy
             let made = read_shared(rt, alloc, asked.workers, source, gate);
             end(alloc, made, sink, errors)
         }
-        Mode::Rollout => end(alloc, Err(Stop::NoMemory), sink, errors),
+        Mode::Rollout => {
+            let made = read_rollout(rt, alloc, asked.datapaths, asked.agents, source, gate);
+            end(alloc, made, sink, errors)
+        }
     }
 }

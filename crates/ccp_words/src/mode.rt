@@ -41,7 +41,7 @@ pub(crate) fn names<'a>() -> &'a [&'a str]
     ensures { map (λ name. name.now) result.now ≡ mode_names }
 {
     &[
-        "check", "fold", "feed", "audit", "live", "campaign", "soak", "shared",
+        "check", "fold", "feed", "audit", "live", "campaign", "soak", "rollout", "shared",
     ]
 }
 
@@ -57,6 +57,7 @@ fn named(name: &str) -> Option<Mode>
         "live" => Some(Mode::Live),
         "campaign" => Some(Mode::Campaign),
         "soak" => Some(Mode::Soak),
+        "rollout" => Some(Mode::Rollout),
         "shared" => Some(Mode::Shared),
         _ => None,
     }

@@ -1,8 +1,8 @@
 use Rattle.std.proofs.Common.{ap, refl, subst, sym}
 use Rattle.ccp_run.specs.Run.{IsRun}
 use Rattle.ccp_run.specs.Streams.{Stream, stream}
-use Rattle.ccp_run.specs.Tasks.{Task, Live, Campaign, Soak, Shared, task_in, task_of}
-use Rattle.ccp_run.proofs.RunLemmas.{run_of, wants_at_once}
+use Rattle.ccp_run.specs.Tasks.{Task, Live, Campaign, Soak, Rollout, Shared, task_in}
+use Rattle.ccp_run.proofs.RunLemmas.{run_of}
 use Rattle.ccp_run.proofs.tool.asked_run.Goals as goal
 
 pub returns-in-Campaign : goal.returns-in-Campaign
@@ -43,8 +43,9 @@ returns-in-Shared g c =
 
 pub returns-in-Rollout : goal.returns-in-Rollout
 returns-in-Rollout g c =
-    wants_at_once (task_of c.args.asked)
-    (stream (g.S.Source.remaining c.args.source.now) (g.S.Source.remaining c.args.source.now) (g.S.Source.faults c.args.source.now) (g.S.Source.faults c.args.source.now))
-    (stream (g.K.Sink.written c.args.sink.now) (g.K.Sink.written c.end-in-Rollout.new.sink) (g.K.Sink.faults c.args.sink.now) (g.K.Sink.faults c.end-in-Rollout.new.sink))
-    (stream (g.E.Sink.written c.args.errors.now) (g.E.Sink.written c.end-in-Rollout.new.errors) (g.E.Sink.faults c.args.errors.now) (g.E.Sink.faults c.end-in-Rollout.new.errors))
-    (g.K.Sink.is_finished c.end-in-Rollout.new.sink) c.end-in-Rollout.result refl c.end-in-Rollout.ensures.0 c.end-in-Rollout.ensures.1
+    let source : Stream = stream (g.S.Source.remaining c.args.source.now) (g.S.Source.remaining c.read_rollout-made.new.source) (g.S.Source.faults c.args.source.now) (g.S.Source.faults c.read_rollout-made.new.source) in
+    let sink : Stream = stream (g.K.Sink.written c.args.sink.now) (g.K.Sink.written c.end-in-Rollout.new.sink) (g.K.Sink.faults c.args.sink.now) (g.K.Sink.faults c.end-in-Rollout.new.sink) in
+    let errors : Stream = stream (g.E.Sink.written c.args.errors.now) (g.E.Sink.written c.end-in-Rollout.new.errors) (g.E.Sink.faults c.args.errors.now) (g.E.Sink.faults c.end-in-Rollout.new.errors) in
+    subst (λ (task : Task). IsRun task source sink errors (g.K.Sink.is_finished c.end-in-Rollout.new.sink) c.end-in-Rollout.result)
+    (sym (ap (λ mode. task_in mode c.args.asked) c.in-Rollout.is))
+    (run_of Rollout refl source sink errors (g.K.Sink.is_finished c.end-in-Rollout.new.sink) c.end-in-Rollout.result c.read_rollout-made.result c.read_rollout-made.ensures c.end-in-Rollout.ensures)

@@ -1,0 +1,19 @@
+-- What the books of a rollout tell of its cases.
+use Rattle.std.proofs.Common.{◌≡◌, ℕ, suc, List, [], ◌∷◌, map, ap, refl, arith}
+use Rattle.std.specs.List.{All}
+use Rattle.std.proofs.lemmas.List.Elements.{All-map}
+use Rattle.scenario_json.specs.declared.open_case.OpenCase.{OpenCase}
+use Rattle.scenario_json.specs.ScenePrograms.{Reading}
+use Rattle.open_flow.specs.declared.letter.OpenLetter.{OpenLetter}
+use Rattle.open_flow.specs.declared.book.OpenBook.{OpenBook}
+use Rattle.live_install.specs.WholeBooks.{IsHistory, flow_of, flows_of, case_in, IsTold, IsWhole}
+
+pub flow_cases : (books : List OpenBook) → map (λ (flow : OpenCase × List OpenLetter). flow.0) (flows_of books) ≡ map case_in books
+flow_cases [] = refl
+flow_cases (book ∷ rest) = ap (λ (cases : List OpenCase). book.case ∷ cases) (flow_cases rest)
+
+pub all_told : (read : Reading) (books : List OpenBook) → All (IsWhole read) books → All (IsTold read) books
+all_told read books whole = λ k book h. (whole k book h).told
+
+pub all_histories : (read : Reading) (books : List OpenBook) → All (IsWhole read) books → All (IsHistory read) (flows_of books)
+all_histories read books whole = All-map (IsHistory read) flow_of books (λ k book h. (whole k book h).history)

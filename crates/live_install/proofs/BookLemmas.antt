@@ -1,0 +1,111 @@
+-- The text of a book that tells what its word came to is its flow's part of the rollout text.
+use Rattle.std.specs.Prelude.{◌≡◌, ℕ, suc, ◌-◌, ◌==◌, ◌||◌, Option, Some, None, option_map, List, [], ◌∷◌, ◌++◌, length, map, refl}
+use Rattle.std.specs.List.{All}
+use Rattle.std.proofs.Common.{ap, sym, ◌∙◌, arith}
+use Rattle.std.proofs.lemmas.List.{length-map}
+use Rattle.ccp_base.specs.declared.exchange.Notice.{Notice}
+use Rattle.ccp_base.specs.declared.place.Place.{Place}
+use Rattle.ccp_base.specs.Text.{◌⧺◌}
+use Rattle.flow_core.specs.declared.book.EpochLine.{EpochLine}
+use Rattle.flow_core.specs.Books.{epoch_line}
+use Rattle.flow_core.specs.World.{Failure}
+use Rattle.scenario_json.specs.ScenePrograms.{Reading}
+use Rattle.open_flow.specs.declared.book.OpenBook.{OpenBook}
+use Rattle.open_flow.specs.BuiltTexts.{EntryState}
+use Rattle.open_flow.specs.Entries.{place_at}
+use Rattle.open_flow.specs.OpenBooks.{failure_at, seen_of, seen_as}
+use Rattle.open_flow.specs.OpenWorld.{OpenWorld, eras_of, track_now}
+use Rattle.open_flow.specs.OpenWords.{install_world}
+use Rattle.live_install.specs.RolloutText.{OpenAccount, account_of, account_text, end_of, fault_lines, open_part, rollout_text}
+use Rattle.live_install.specs.BookText.{account_in, book_text, books_text, end_in, failures_in, is_faulted, notice_lines, placed, placed_line}
+use Rattle.live_install.specs.WholeBooks.{IsTold, flows_of}
+use Rattle.live_install.proofs.StopLemmas.{fails_in, stopped-where}
+
+-- ---- faults and their places
+
+placed-line : (notice : Notice) (place : Option Place) (more : List ℕ) (rest : List (Failure Place)) → more ≡ fault_lines rest
+    → placed_line notice place ⧺ more ≡ fault_lines (placed notice place ++ rest)
+placed-line notice None more rest same = same
+placed-line notice (Some place) more rest same = ap (λ (t : List ℕ). placed_line notice (Some place) ⧺ t) same
+
+pub notice_lines-faults : (entries : List EntryState) (faults : List Notice) → notice_lines entries faults ≡ fault_lines (failures_in entries faults)
+notice_lines-faults entries [] = refl
+notice_lines-faults entries (notice ∷ rest) =
+    placed-line notice (place_at entries notice.program notice.index) (notice_lines entries rest) (failures_in entries rest) (notice_lines-faults entries rest)
+
+seen-placed : (notice : Notice) (place : Option Place) (failure : Failure Place) → option_map (failure_at notice) place ≡ Some failure
+    → (placed notice place ≡ failure ∷ []) × (notice.epoch ≡ failure.epoch)
+seen-placed notice None failure is = absurd (let wrong : None ≡ Some failure = is in (cc))
+seen-placed notice (Some place) failure is =
+    let same : failure_at notice place ≡ failure = cc in
+    (ap (λ (f : Failure Place). f ∷ []) same, ap (λ (f : Failure Place). f.epoch) same)
+
+module _ (entries : List EntryState) (flow : ℕ) where
+  pub seen-failures : (faults : List Notice) (failures : List (Failure Place)) → map (seen_of entries) faults ≡ map (seen_as flow) failures
+      → failures_in entries faults ≡ failures
+  seen-failures [] [] same = refl
+  seen-failures [] (failure ∷ more) same = absurd (let wrong : [] ≡ seen_as flow failure ∷ map (seen_as flow) more = same in (cc))
+  seen-failures (notice ∷ rest) [] same = absurd (let wrong : seen_of entries notice ∷ map (seen_of entries) rest ≡ [] = same in (cc))
+  seen-failures (notice ∷ rest) (failure ∷ more) same =
+      let heads : seen_of entries notice ≡ seen_as flow failure = cc in
+      let tails : map (seen_of entries) rest ≡ map (seen_as flow) more = cc in
+      let here = seen-placed notice (place_at entries notice.program notice.index) failure (ap (λ (s : ℕ × Option (Failure Place)). s.1) heads) in
+      λ i. here.0 i ++ seen-failures rest more tails i
+
+  pub seen-faulted : (number : ℕ) (faults : List Notice) (failures : List (Failure Place)) → map (seen_of entries) faults ≡ map (seen_as flow) failures
+      → is_faulted number faults ≡ fails_in number failures
+  seen-faulted number [] [] same = refl
+  seen-faulted number [] (failure ∷ more) same = absurd (let wrong : [] ≡ seen_as flow failure ∷ map (seen_as flow) more = same in (cc))
+  seen-faulted number (notice ∷ rest) [] same = absurd (let wrong : seen_of entries notice ∷ map (seen_of entries) rest ≡ [] = same in (cc))
+  seen-faulted number (notice ∷ rest) (failure ∷ more) same =
+      let heads : seen_of entries notice ≡ seen_as flow failure = cc in
+      let tails : map (seen_of entries) rest ≡ map (seen_as flow) more = cc in
+      let here = seen-placed notice (place_at entries notice.program notice.index) failure (ap (λ (s : ℕ × Option (Failure Place)). s.1) heads) in
+      λ i. (here.1 i == number) || seen-faulted number rest more tails i
+
+-- ---- a book
+
+module _ (read : Reading) (book : OpenBook) (told : IsTold read book) where
+  abbrev w : OpenWorld
+  w = install_world read book.case book.word
+
+  stopped : is_faulted (length book.epochs - 1) book.faults ≡ (track_now book.case w).is_stopped
+  stopped =
+      let count : length book.epochs - 1 ≡ length (eras_of w) - 1 =
+      ap (λ (es : List EpochLine). length es - 1) told.epochs ∙ ap (λ (n : ℕ). n - 1) (length-map (eras_of w) epoch_line) in
+      ap (λ (n : ℕ). is_faulted n book.faults) count
+      ∙ (seen-faulted book.entries book.case.flow (length (eras_of w) - 1) book.faults w.faults told.faults
+      ∙ sym (stopped-where read book.case book.word))
+
+  ends : end_in book ≡ end_of (length w.acks) (track_now book.case w)
+  ends = λ i. record {
+    acks = told.acks i;
+    first = told.first i;
+    stopped = stopped i;
+    cwnd = (told.registers i).cwnd;
+    rate = (told.registers i).rate;
+    fields = (told.registers i).fields;
+  }
+
+  accounts : account_in book ≡ account_of book.case w
+  accounts =
+      let faults = seen-failures book.entries book.case.flow book.faults w.faults told.faults in
+      λ i. record {
+        entries = told.entries i;
+        installed = told.installed i;
+        epochs = told.epochs i;
+        faults = faults i;
+        reports = told.reports i;
+        end = ends i;
+      }
+
+  pub book-part : book_text book ≡ open_part book.case w
+  book-part = ap (λ (account : OpenAccount). account_text book.case account) accounts
+
+-- the text of books that tell what their words came to
+pub books-rollout : (read : Reading) (books : List OpenBook) → All (IsTold read) books → books_text books ≡ rollout_text read (flows_of books)
+books-rollout read [] told = refl
+books-rollout read (book ∷ rest) told =
+    let first = book-part read book (told 0 book (omega arith)) in
+    let later = books-rollout read rest (λ k d h. told (suc k) d (omega (arith, h))) in
+    λ i. first i ⧺ later i

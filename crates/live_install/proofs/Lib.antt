@@ -1,0 +1,7 @@
+pub mod StopLemmas
+pub mod BookLemmas
+pub mod LeftLemmas
+pub mod TurnLemmas
+pub mod TableLemmas
+pub mod WholeLemmas
+pub mod SendLemmas

@@ -1,0 +1,67 @@
+-- The text of books: of each the account that it tells, with the places of its entries.
+use Rattle.std.specs.Prelude.{ℕ, ◌-◌, ◌==◌, ◌||◌, Bool, false, Option, Some, None, List, [], ◌∷◌, ◌++◌, length, map}
+use Rattle.ccp_base.specs.declared.exchange.Notice.{Notice}
+use Rattle.ccp_base.specs.declared.place.Place.{Place}
+use Rattle.ccp_base.specs.Text.{◌⧺◌}
+use Rattle.report_lines.specs.declared.end_line.End.{End}
+use Rattle.report_lines.specs.FaultLine.{fault_line}
+use Rattle.flow_core.specs.World.{Failure}
+use Rattle.open_flow.specs.declared.book.OpenBook.{OpenBook}
+use Rattle.open_flow.specs.BuiltTexts.{EntryState}
+use Rattle.open_flow.specs.Entries.{installed_of, place_at}
+use Rattle.open_flow.specs.OpenBooks.{failure_at}
+use Rattle.live_install.specs.RolloutText.{OpenAccount, account_text}
+
+-- a fault where its instruction has a place
+abbrev pub placed : Notice → Option Place → List (Failure Place)
+placed notice None = []
+placed notice (Some place) = failure_at notice place ∷ []
+
+-- the faults with the places of their instructions
+abbrev pub failures_in : List EntryState → List Notice → List (Failure Place)
+failures_in entries [] = []
+failures_in entries (notice ∷ rest) = placed notice (place_at entries notice.program notice.index) ++ failures_in entries rest
+
+-- one of the faults is of the epoch with this number
+abbrev pub is_faulted : ℕ → List Notice → Bool
+is_faulted number [] = false
+is_faulted number (notice ∷ rest) = (notice.epoch == number) || is_faulted number rest
+
+-- how the flow stands; a fault stops its epoch
+abbrev pub end_in : OpenBook → End
+end_in book = record {
+  acks = book.acks;
+  first = book.first;
+  stopped = is_faulted (length book.epochs - 1) book.faults;
+  cwnd = book.machine.kept.cwnd;
+  rate = book.machine.kept.rate;
+  fields = book.machine.kept.reports;
+}
+
+abbrev pub account_in : OpenBook → OpenAccount
+account_in book = record {
+  entries = map installed_of book.entries;
+  installed = book.installed;
+  epochs = book.epochs;
+  faults = failures_in book.entries book.faults;
+  reports = book.reports;
+  end = end_in book;
+}
+
+abbrev pub book_text : OpenBook → List ℕ
+book_text book = account_text book.case (account_in book)
+
+abbrev pub books_text : List OpenBook → List ℕ
+books_text [] = []
+books_text (book ∷ rest) = book_text book ⧺ books_text rest
+
+-- ---- lines of it
+
+-- the line of a fault, where its instruction has a place
+abbrev pub placed_line : Notice → Option Place → List ℕ
+placed_line notice None = []
+placed_line notice (Some place) = fault_line notice.epoch notice.at notice.kind place
+
+abbrev pub notice_lines : List EntryState → List Notice → List ℕ
+notice_lines entries [] = []
+notice_lines entries (notice ∷ rest) = placed_line notice (place_at entries notice.program notice.index) ⧺ notice_lines entries rest

@@ -1,0 +1,31 @@
+-- What a book of a rollout is: it tells what a legal and complete word of its case came to.
+use Rattle.std.specs.Prelude.{◌≡◌, true, List, map}
+use Rattle.scenario_json.specs.declared.open_case.OpenCase.{OpenCase}
+use Rattle.scenario_json.specs.ScenePrograms.{Reading}
+use Rattle.open_flow.specs.declared.book.OpenBook.{OpenBook}
+use Rattle.open_flow.specs.declared.letter.OpenLetter.{OpenLetter}
+use Rattle.open_flow.specs.OpenWords.{install_world, legal, is_complete}
+use Rattle.open_flow.specs.OpenBooks.{IsOpenBookOf}
+
+-- the word is legal and complete for the case
+pub record IsHistory (read : Reading) (flow : OpenCase × List OpenLetter) : Type 0 where
+  pub legal : legal read flow.0 flow.1 ≡ true
+  pub complete : is_complete flow.0 (install_world read flow.0 flow.1) ≡ true
+
+-- the flow that a book is of: its case and its word
+abbrev pub flow_of : OpenBook → OpenCase × List OpenLetter
+flow_of book = (book.case, book.word)
+
+abbrev pub flows_of : List OpenBook → List (OpenCase × List OpenLetter)
+flows_of books = map flow_of books
+
+-- the book tells what its word came to
+abbrev pub IsTold : Reading → OpenBook → Type 0
+IsTold read book = IsOpenBookOf (install_world read book.case book.word) book
+
+pub record IsWhole (read : Reading) (book : OpenBook) : Type 0 where
+  pub history : IsHistory read (flow_of book)
+  pub told : IsTold read book
+
+abbrev pub case_in : OpenBook → OpenCase
+case_in book = book.case

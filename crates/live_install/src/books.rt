@@ -1,0 +1,66 @@
+ghost use Rattle.std.specs.Prelude.{◌≡◌, ◌<◌, map, IfOk};
+ghost use Rattle.std.specs.List.{All};
+ghost use Rattle.scenario_json.specs.ScenePrograms.{Reading, IsReading};
+ghost use Rattle.open_flow.specs.OpenCells.{IsComplete};
+ghost use Rattle.live_install.specs.Tables.{case_of};
+ghost use Rattle.live_install.specs.WholeBooks.{IsWhole, case_in};
+
+use crate::turn::next;
+use crate::{OpenBooks, OpenCells};
+use ccp_base::NoMemory;
+use fold_machine::Steps;
+use open_flow::{OpenBook, OpenCell};
+use std::alloc::Global;
+use std::marker::Brand;
+use std::sync::ledger::{Blank, Ledger};
+
+/// The books of flows, in order.
+pub(crate) fn books(alloc: Global, cells: OpenCells) -> Result<OpenBooks, NoMemory>
+    ensures cases { IfOk result (λ books. map case_in books ≡ map case_of cells) }
+    ensures whole { (read : Reading) → IsReading read → IfOk result (λ books. All (IsWhole read) books) }
+{
+    counted::<Brand>(alloc, cells, Blank::new(1))
+}
+
+/// The same, where a ledger of one part counts the steps.
+fn counted<L: Ledger>(alloc: Global, cells: OpenCells, blank: Blank) -> Result<OpenBooks, NoMemory>
+    requires name { blank.name ≡ L.name }
+    requires parts { blank.parts ≡ L.parts }
+    requires some { 0 < blank.parts }
+    ensures cases { IfOk result (λ books. map case_in books ≡ map case_of cells) }
+    ensures whole { (read : Reading) → IsReading read → IfOk result (λ books. All (IsWhole read) books) }
+{
+    let mut steps = Steps::<L>::new(blank);
+    let mut left = cells.into_vec();
+    let mut books = OpenBooks::new(alloc);
+    while !left.is_empty() {
+        let cell = left.remove(0);
+        books.push(finished(alloc, cell, &mut steps)?)?;
+    }
+    Ok(books)
+}
+
+/// The book of a flow, after every letter that is left.
+fn finished<L: Ledger>(
+    alloc: Global,
+    cell: OpenCell,
+    steps: &mut Steps<L>,
+) -> Result<OpenBook, NoMemory>
+    ensures case { IfOk result (λ book. book.case ≡ cell.case) }
+    ensures whole { (read : Reading) → IsReading read → IfOk result (λ book. IsWhole read book) }
+{
+    let mut cell = cell;
+    while !cell.is_complete() {
+        next(alloc, &mut cell, steps)?;
+    }
+    Ok(closed(cell))
+}
+
+/// The book of a flow whose word is complete.
+fn closed(cell: OpenCell) -> OpenBook
+    requires { (read : Reading) → IsReading read → IsComplete read cell }
+    ensures case { result.case ≡ cell.case }
+    ensures whole { (read : Reading) → IsReading read → IsWhole read result }
+{
+    cell.finish()
+}

@@ -1,0 +1,50 @@
+ghost use Rattle.std.specs.Prelude.{◌≡◌, ◌≤◌, IfOk, length, map};
+ghost use Rattle.std.specs.List.{All};
+ghost use Rattle.ccp_base.specs.Limits.{most_flows, most_workers};
+ghost use Rattle.scenario_json.specs.OpenCases.{AreOpenFlowsFrom};
+ghost use Rattle.scenario_json.specs.ScenePrograms.{Reading, IsReading};
+ghost use Rattle.live_install.specs.WholeBooks.{IsWhole, case_in};
+
+use crate::OpenBooks;
+use crate::books::books;
+use crate::table::OpenTable;
+use crate::workers::work;
+use ccp_base::{Gate, NoMemory};
+use scenario_json::OpenCases;
+use std::alloc::Global;
+use std::sync::Wait;
+use std::thread::Threads;
+
+/// One book a case, in order, whatever the numbers of workers, which are 1 to 32, and in whatever order threads take
+/// the flows' locks: each book has its case, a word that is legal and complete for it, and what that word comes to,
+/// read over the sources of the texts. Which such word it is nobody says. There are at most 64 cases, and the case at
+/// place `i`, counted from 0, has flow `i`.
+///
+/// Datapath worker `d` takes the acknowledgements of the flows `f` with `f mod datapaths = d`, one of each in turn. It
+/// passes the gate at `BeforeAck` and `AfterAck` without a lock and at `InAck` with the flow's. Installer `a`, whose
+/// worker number is `datapaths + a`, builds the texts of the flows `f` with `f mod agents = a`, without a lock, installs
+/// each in the flow's library and passes `AfterTake`, and changes the flow to it, where it is a program, and passes
+/// `AfterSettle`. What they leave is done by the caller at the end, and so is the work of a worker whose thread can't be
+/// started.
+pub fn rollout<R: Threads + Wait + Sync, G: Gate + Sync>(
+    rt: &R,
+    alloc: Global,
+    cases: OpenCases,
+    datapaths: u32,
+    agents: u32,
+    gate: &G,
+) -> Result<OpenBooks, NoMemory>
+    requires datapaths { (1 ≤ datapaths) × (datapaths ≤ most_workers) }
+    requires agents { (1 ≤ agents) × (agents ≤ most_workers) }
+    requires few { length cases ≤ most_flows }
+    requires numbered { AreOpenFlowsFrom 0 cases }
+    // There is a reading of program texts: each text comes to a program, or to its first refusal.
+    ensures readable { (read : Reading) × IsReading read }
+    // The books are those of the cases, and over every reading each tells of a legal and complete word.
+    ensures cases { IfOk result (λ books. map case_in books ≡ cases) }
+    ensures whole { (read : Reading) → IsReading read → IfOk result (λ books. All (IsWhole read) books) }
+{
+    let table = OpenTable::new(alloc, cases)?;
+    work(rt, alloc, &table, datapaths, agents, gate);
+    books(alloc, table.close(alloc)?)
+}

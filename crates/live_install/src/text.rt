@@ -1,0 +1,202 @@
+ghost use Rattle.std.specs.Prelude.{◌≡◌, ◌≤◌, ◌++◌, IfOk, OnOk, [], map};
+ghost use Rattle.std.specs.List.{All};
+ghost use Rattle.scenario_json.specs.ScenePrograms.{Reading, IsReading};
+ghost use Rattle.open_flow.specs.Entries.{installed_of, place_at};
+ghost use Rattle.live_install.specs.RolloutText.{fault_lines, fields_at, fields_of, flow_line, last_fields, last_line, rollout_text, shown_lines};
+ghost use Rattle.live_install.specs.BookText.{account_in, book_text, books_text, end_in, failures_in, is_faulted, notice_lines, placed_line};
+ghost use Rattle.live_install.specs.WholeBooks.{IsTold, flows_of};
+
+use crate::OpenBooks;
+use crate::entry_lines::{put_changes, put_entries};
+use ccp_base::{Bytes, NoMemory, Notice, Place, Report};
+use flow_core::EpochLine;
+use open_flow::{Entry, OpenBook};
+use portus_core::Decl;
+use report_lines::{End, put_end, put_fault, put_flow_head, put_report};
+use std::alloc::Global;
+
+/// The text of a rollout: of each book its flow, its entries, its changes, its faults with their places, its reports,
+/// and how the flow stands at the end. The fields and places are those of the entries. Where each book tells what its
+/// word came to, it is the rollout text of these words.
+pub fn rollout_text(alloc: Global, books: &OpenBooks) -> Result<Bytes, NoMemory>
+    ensures text { IfOk result (λ text. text ≡ books_text books.now) }
+    ensures rollout { (read : Reading) → All (IsTold read) books.now
+        → IfOk result (λ text. text ≡ rollout_text read (flows_of books.now)) }
+{
+    books_text(alloc, books)
+}
+
+fn books_text(alloc: Global, books: &OpenBooks) -> Result<Bytes, NoMemory>
+    ensures { IfOk result (λ text. text ≡ books_text books.now) }
+{
+    let mut text = Bytes::new(alloc);
+    put_books(alloc, &mut text, books.as_slice())?;
+    Ok(text)
+}
+
+fn put_books(alloc: Global, text: &mut Bytes, books: &[OpenBook]) -> Result<(), NoMemory>
+    ensures { OnOk result (text.new ≡ text.old ++ books_text books.now) }
+{
+    let mut left = books;
+    while let Some((book, rest)) = left.split_first() {
+        put_book(alloc, text, book)?;
+        left = rest;
+    }
+    Ok(())
+}
+
+fn put_book(alloc: Global, text: &mut Bytes, book: &OpenBook) -> Result<(), NoMemory>
+    ensures { OnOk result (text.new ≡ text.old ++ book_text book.now) }
+{
+    let entries = book.entries.as_slice();
+    put_flow(alloc, text, book.case.flow, book.case.name.as_slice())?;
+    put_entries(alloc, text, book.installed.as_slice(), entries)?;
+    put_changes(alloc, text, book.epochs.as_slice())?;
+    put_faults(alloc, text, entries, book.faults.as_slice())?;
+    put_reports(alloc, text, entries, book.reports.as_slice())?;
+    put_last(alloc, text, book)
+}
+
+fn put_flow(alloc: Global, text: &mut Bytes, flow: u32, name: &[u8]) -> Result<(), NoMemory>
+    ensures { OnOk result (text.new ≡ text.old ++ flow_line flow name.now) }
+{
+    put_flow_head(alloc, text, flow, name)?;
+    text.push(b'\n')?;
+    Ok(())
+}
+
+fn put_faults(
+    alloc: Global,
+    text: &mut Bytes,
+    entries: &[Entry],
+    faults: &[Notice],
+) -> Result<(), NoMemory>
+    ensures { OnOk result (text.new ≡ text.old ++ fault_lines (failures_in entries.now faults.now)) }
+{
+    put_notices(alloc, text, entries, faults)
+}
+
+fn put_notices(
+    alloc: Global,
+    text: &mut Bytes,
+    entries: &[Entry],
+    faults: &[Notice],
+) -> Result<(), NoMemory>
+    ensures { OnOk result (text.new ≡ text.old ++ notice_lines entries.now faults.now) }
+{
+    let mut left = faults;
+    while let Some((notice, rest)) = left.split_first() {
+        put_notice(alloc, text, entries, notice)?;
+        left = rest;
+    }
+    Ok(())
+}
+
+fn put_notice(
+    alloc: Global,
+    text: &mut Bytes,
+    entries: &[Entry],
+    notice: &Notice,
+) -> Result<(), NoMemory>
+    ensures { OnOk result (text.new ≡ text.old ++ placed_line notice.entry.now (place_at entries.now notice.entry.now.program notice.entry.now.index)) }
+{
+    match place_at(entries, notice.program, notice.index) {
+        None => Ok(()),
+        Some(place) => put_fault(alloc, text, notice, place),
+    }
+}
+
+/// The place of an instruction of a step's code; None where the step has no code, or that no such instruction.
+fn place_at(entries: &[Entry], step: u32, index: u16) -> Option<Place>
+    ensures { result ≡ place_at entries.now step index }
+{
+    let entry = entries.get(step as usize)?;
+    let Ok(built) = entry.answer() else {
+        return None;
+    };
+    let place = built.places.as_slice().get(usize::from(index))?;
+    Some(*place)
+}
+
+fn put_reports(
+    alloc: Global,
+    text: &mut Bytes,
+    entries: &[Entry],
+    reports: &[Report],
+) -> Result<(), NoMemory>
+    ensures { OnOk result (text.new ≡ text.old ++ shown_lines (map installed_of entries.now) reports.now) }
+{
+    let mut left = reports;
+    while let Some((report, rest)) = left.split_first() {
+        put_report(alloc, text, fields_at(entries, report.program), report)?;
+        left = rest;
+    }
+    Ok(())
+}
+
+/// The fields of a step's program; none where the step has no program.
+fn fields_at<'a>(entries: &'a [Entry], step: u32) -> &'a [Decl]
+    ensures { result.now ≡ fields_at (map installed_of entries.now) step }
+{
+    match entries.get(step as usize) {
+        None => &[],
+        Some(entry) => fields_of(entry),
+    }
+}
+
+fn fields_of<'a>(entry: &'a Entry) -> &'a [Decl]
+    ensures { result.now ≡ fields_of (installed_of entry.now) }
+{
+    match entry.answer() {
+        Ok(built) => built.program.fields.as_slice(),
+        Err(_) => &[],
+    }
+}
+
+/// Puts the last line of a flow at the end of a text.
+fn put_last(alloc: Global, text: &mut Bytes, book: &OpenBook) -> Result<(), NoMemory>
+    ensures { OnOk result (text.new ≡ text.old ++ last_line (account_in book.now)) }
+{
+    let end = end_in(book);
+    let fields = last_fields(book.entries.as_slice(), book.epochs.as_slice());
+    put_end(alloc, text, fields, book.reports.len() as u64, &end)
+}
+
+/// The fields of the last epoch's program; none where there is no epoch.
+fn last_fields<'a>(entries: &'a [Entry], epochs: &[EpochLine]) -> &'a [Decl]
+    ensures { result.now ≡ last_fields (map installed_of entries.now) [] epochs.now }
+{
+    let mut fields: &'a [Decl] = &[];
+    for epoch in epochs {
+        fields = fields_at(entries, epoch.program);
+    }
+    fields
+}
+
+/// How a book's flow stands at the end. A fault stops its epoch, so the last epoch is stopped where a fault is of it.
+fn end_in(book: &OpenBook) -> End
+    ensures { result ≡ end_in book.now }
+{
+    End {
+        acks: u64::from(book.acks),
+        first: book.first,
+        stopped: is_faulted(book.epochs.len().saturating_sub(1), book.faults.as_slice()),
+        cwnd: book.machine.cwnd(),
+        rate: book.machine.rate(),
+        fields: book.machine.fields(),
+    }
+}
+
+/// Whether one of the faults is of the epoch with this number.
+fn is_faulted(number: usize, faults: &[Notice]) -> bool
+    ensures { result ≡ is_faulted number faults.now }
+{
+    let mut left = faults;
+    while let Some((notice, rest)) = left.split_first() {
+        if notice.epoch as usize == number {
+            return true;
+        }
+        left = rest;
+    }
+    false
+}

@@ -1,0 +1,91 @@
+ghost use Rattle.std.specs.Prelude.{◌≡◌, ◌<◌, Ok, Some, true, false, length, slice_get, IfOk, OnOk};
+ghost use Rattle.scenario_json.specs.ScenePrograms.{Reading, IsReading};
+ghost use Rattle.open_flow.specs.declared.letter.OpenLetter.TheVariants as letters;
+ghost use Rattle.open_flow.specs.OpenWords.{is_complete, is_legal};
+ghost use Rattle.open_flow.specs.OpenCells.{world_at};
+ghost use Rattle.live_install.specs.LettersLeft.{IsNearer};
+
+use ccp_base::NoMemory;
+use fold_machine::Steps;
+use open_flow::{Entry, OpenCell};
+use scenario_json::OpenCase;
+use std::alloc::Global;
+use std::sync::ledger::Ledger;
+
+/// Makes one letter of a word that isn't complete: a change, or else the next entry, or else an acknowledgement.
+pub(crate) fn next<L: Ledger>(
+    alloc: Global,
+    cell: &mut OpenCell,
+    steps: &mut Steps<L>,
+) -> Result<(), NoMemory>
+    requires { (read : Reading) → IsReading read → is_complete cell.old.case (world_at read cell.old) ≡ false }
+    ensures { (read : Reading) → IsReading read → OnOk result (IsNearer read cell.old cell.new) }
+{
+    if change(cell) {
+        return Ok(());
+    }
+    if install(alloc, cell)? {
+        return Ok(());
+    }
+    hear(cell, steps);
+    Ok(())
+}
+
+/// Changes the flow where an accepted entry is left, and says whether it did.
+fn change(cell: &mut OpenCell) -> bool
+    ensures made { result ≡ true → (read : Reading) → IsReading read → IsNearer read cell.old cell.new }
+    ensures not { result ≡ false → cell.new ≡ cell.old }
+    ensures none { result ≡ false → (read : Reading) → IsReading read → is_legal cell.old.case (world_at read cell.old) letters.G ≡ false }
+{
+    match cell.change() {
+        Ok(_) => true,
+        Err(_) => false,
+    }
+}
+
+/// Installs the entry of the next step where one is left, and says whether it did.
+fn install(alloc: Global, cell: &mut OpenCell) -> Result<bool, NoMemory>
+    ensures made { result ≡ Ok true → (read : Reading) → IsReading read → IsNearer read cell.old cell.new }
+    ensures not { result ≡ Ok false → cell.new ≡ cell.old }
+    ensures none { result ≡ Ok false → (read : Reading) → IsReading read → is_legal cell.old.case (world_at read cell.old) letters.I ≡ false }
+{
+    let step = cell.entries().len();
+    if step >= cell.case().steps.len() {
+        return Ok(false);
+    }
+    put(alloc, cell, step as u32)?;
+    Ok(true)
+}
+
+/// Installs the entry of this step, which is the next one.
+fn put(alloc: Global, cell: &mut OpenCell, step: u32) -> Result<(), NoMemory>
+    requires next { step ≡ length cell.old.entries }
+    requires more { step < length cell.old.case.steps }
+    requires world { (read : Reading) → IsReading read → length (world_at read cell.old).entries ≡ step }
+    ensures { (read : Reading) → IsReading read → OnOk result (IsNearer read cell.old cell.new) }
+{
+    let entry = entry_of(alloc, cell.case(), step)?;
+    let Ok(()) = cell.install(entry) else {
+        unreachable!()
+    };
+    Ok(())
+}
+
+/// The entry of a case's step.
+fn entry_of(alloc: Global, case: &OpenCase, step: u32) -> Result<Entry, NoMemory>
+    requires { step < length case.now.steps }
+    ensures step { IfOk result (λ entry. entry.step ≡ step) }
+    ensures text { IfOk result (λ entry. slice_get case.now.steps step ≡ Some entry.text) }
+{
+    Entry::make(alloc, step, case.steps.as_slice()[step as usize].as_slice())
+}
+
+/// Takes the next acknowledgement.
+fn hear<L: Ledger>(cell: &mut OpenCell, steps: &mut Steps<L>)
+    requires { (read : Reading) → IsReading read → length (world_at read cell.old).acks < cell.old.case.acks }
+    ensures { (read : Reading) → IsReading read → IsNearer read cell.old cell.new }
+{
+    let Ok(_) = cell.ack(steps) else {
+        unreachable!()
+    };
+}

@@ -1,0 +1,9 @@
+pub mod EntryLemmas
+pub mod ListLemmas
+pub mod SeenLemmas
+pub mod NextLemmas
+pub mod LetterLemmas
+pub mod HearingLemmas
+pub mod KeepsLemmas
+pub mod OpenLemmas
+pub mod OpeningLemmas

@@ -1,0 +1,8 @@
+pub mod OpenWorld
+pub mod OpenWords
+pub mod BuiltTexts
+pub mod Entries
+pub mod OpenBooks
+pub mod OpenCells
+pub mod Accounts
+pub mod States

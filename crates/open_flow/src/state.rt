@@ -1,0 +1,28 @@
+use crate::account::Account;
+use crate::entry::Entry;
+use crate::letter::OpenLetter;
+use flow_core::{EpochLine, Roomy};
+use fold_machine::Machine;
+use link_model::Link;
+use scenario_json::OpenCase;
+
+/// All that a flow of a rollout keeps.
+#[derive(Drop)]
+pub(crate) struct State {
+    pub(crate) case: OpenCase,
+    pub(crate) link: Link,
+    /// It runs the program that was changed to last.
+    pub(crate) machine: Machine,
+    /// The step of that program, None before the first change.
+    pub(crate) running: Option<u32>,
+    /// How many acknowledgements are in.
+    pub(crate) acks: u32,
+    /// The time of the last acknowledgement, in microseconds; 0 where there is none.
+    pub(crate) time: u64,
+    pub(crate) account: Account,
+    pub(crate) entries: Roomy<Entry>,
+    /// For each entry, how many acknowledgements were in as it was installed.
+    pub(crate) installed: Roomy<u32>,
+    pub(crate) epochs: Roomy<EpochLine>,
+    pub(crate) word: Roomy<OpenLetter>,
+}
