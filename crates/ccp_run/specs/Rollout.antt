@@ -1,5 +1,5 @@
 -- What `rollout` makes of its cases, and the inputs that it refuses.
-use Rattle.std.specs.Prelude.{◌≡◌, ℕ, Result, Ok, Err, List, [], map}
+use Rattle.std.specs.Prelude.{◌≡◌, ℕ, Ok, Err, List, [], map}
 use Rattle.std.specs.List.{All}
 use Rattle.scenario_json.specs.declared.open_case.OpenCase.{OpenCase}
 use Rattle.scenario_json.specs.OpenCases.{open_plan_of, AreOpenFlowsFrom}

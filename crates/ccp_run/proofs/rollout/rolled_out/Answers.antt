@@ -1,4 +1,4 @@
-use Rattle.std.proofs.Common.{◌≡◌, ◌∙◌, rules, refl}
+use Rattle.std.proofs.Common.{◌∙◌, rules, refl}
 use Rattle.live_install.specs.WholeBooks.{flows_of}
 use Rattle.ccp_run.proofs.RolloutLemmas.{flow_cases, all_told, all_histories}
 use Rattle.ccp_run.proofs.rollout.rolled_out.Goals as goal
@@ -11,7 +11,7 @@ returns g c =
       each = flow_cases books ∙ c.in_ok-books.ensures.cases;
       whole = λ read is. all_histories read books (c.in_ok-books.ensures.whole read is);
       written = λ read is. c.in_ok-rollout_text.ensures.rollout read (all_told read books (c.in_ok-books.ensures.whole read is));
-      no_books = refl;
-      no_programs = refl;
+      no_books = search rules;
+      no_programs = search rules;
       idle = refl;
     }
