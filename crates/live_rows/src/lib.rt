@@ -6,6 +6,8 @@ mod gates;
 #[cfg(test)]
 mod hold_gate;
 #[cfg(test)]
+mod rollouts;
+#[cfg(test)]
 mod rows;
 #[cfg(test)]
 mod tables;
