@@ -11,8 +11,6 @@ mod letter;
 mod opening;
 mod starting;
 mod state;
-#[cfg(test)]
-mod tests;
 
 pub use book::OpenBook;
 pub use cell::{Late, Nothing, OpenCell};

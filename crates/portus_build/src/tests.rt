@@ -3,8 +3,8 @@ ghost use Rattle.std.specs.Option.{ForSome};
 
 use crate::calls::look;
 use crate::{BuildFault, build, builtin, put_refusal};
-use ccp_base::{Ack, Bytes, FaultKind, Fields, Look, Place, Values};
-use portus_core::{Mean, Program, print_tree};
+use ccp_base::{Ack, Bytes, FaultKind, FieldReg, Fields, Look, Place, Values};
+use portus_core::{Mean, Program, StartFault, print_tree};
 use portus_parser::{ParseFault, parse};
 use reg_compiler::CompileFault;
 use scope_types::{ScopeFault, What, scope};
@@ -243,6 +243,34 @@ fn a_measurement_is_held_and_reported(rt: HostRuntime) -> Result<(), Fail> {
 }
 
 #[test]
+fn a_word_without_a_meaning_becomes_a_local(rt: HostRuntime) -> Result<(), Fail> {
+    let program = program(rt.alloc(), b"(def) (when true (:= d 1))")?;
+    assert_eq!(rt; program.blocks.len(), 1);
+    for block in program.blocks.as_slice() {
+        assert_eq!(rt; block.locals, 1);
+    }
+    Ok(())
+}
+
+#[test]
+fn values_are_written_at_the_start(rt: HostRuntime) -> Result<(), Fail> {
+    let alloc = rt.alloc();
+    let program = program(
+        alloc,
+        b"(def (Report (volatile x 5)) (y 5)) (when true (report))",
+    )?;
+    let mut values = Fields::new();
+    values.push(FieldReg::Control(0), 6);
+    let start = program.start(alloc, &values, 10, 20, 30)?;
+    assert_eq!(rt; start.fields.as_slice(), [5].as_slice());
+    assert_eq!(rt; start.controls.as_slice(), [6].as_slice());
+    values.push(FieldReg::Control(1), 6);
+    let refused = program.start(alloc, &values, 10, 20, 30).err();
+    assert_eq!(rt; refused, Some(StartFault::BadRegister(1)));
+    Ok(())
+}
+
+#[test]
 fn a_fault_has_its_place_and_leaves_all(rt: HostRuntime) -> Result<(), Fail> {
     let alloc = rt.alloc();
     let text = b"(def) (when true (:= Rate 1) (:= Cwnd (- 0 1)))";
@@ -256,8 +284,10 @@ fn a_fault_has_its_place_and_leaves_all(rt: HostRuntime) -> Result<(), Fail> {
 
 #[test]
 fn a_text_is_printed_without_its_spaces_and_comments(rt: HostRuntime) -> Result<(), Fail> {
-    let source = parse(rt.alloc(), b" ( def )  # x").ok().ok_or("not read")?;
+    let source = parse(rt.alloc(), b" ( def (  ) 070 )  # x")
+        .ok()
+        .ok_or("not read")?;
     let text = print_tree(rt.alloc(), &source)?;
-    assert_eq!(rt; text.as_slice(), b"(def)\n".as_slice());
+    assert_eq!(rt; text.as_slice(), b"(def () 70)\n".as_slice());
     Ok(())
 }

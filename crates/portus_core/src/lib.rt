@@ -17,6 +17,3 @@ pub use printing::print_tree;
 pub use program::{Block, Cmd, Decl, Expr, Op2, Program, Var};
 pub use tree::{Parts, Source, Tree, take_apart};
 pub use value::applied;
-
-#[cfg(test)]
-mod tests;
