@@ -3,8 +3,8 @@ use Rattle.std.specs.Prelude.{◌≡◌, ◌-◌, ◌/◌, ◌==◌, ◌||◌, m
 use Rattle.ccp_base.specs.Saturating.{◌+ˢ◌, muldiv}
 use Rattle.ccp_base.specs.declared.look.Role.{Role}
 use Rattle.ccp_base.specs.declared.course.Course.{Course}
-use Rattle.ccp_base.specs.declared.course.Mode.{Mode}
-use Rattle.ccp_base.specs.declared.course.Mode.TheVariants.{SlowStart, Avoidance}
+use Rattle.ccp_base.specs.declared.course.Phase.{Phase}
+use Rattle.ccp_base.specs.declared.course.Phase.TheVariants.{SlowStart, Avoidance}
 use Rattle.ccp_base.specs.declared.reading.Reading.{Reading}
 use Rattle.ccp_base.specs.declared.exchange.Reply.{Reply}
 use Rattle.ccp_base.specs.declared.exchange.Reply.TheVariants.{Nothing, Update}
@@ -26,7 +26,7 @@ pub record AreRoles (ss ca : Role) (course : Course) : Type 0 where
   pub ca_same : course.ca ≡ ca
 
 module _ (ss ca : Role) where
-  changed : (mode : Mode) (course : Course) → AreRoles ss ca course → AreRoles ss ca (course_after mode course)
+  changed : (mode : Phase) (course : Course) → AreRoles ss ca course → AreRoles ss ca (course_after mode course)
   changed mode course roles = record { ss_same = roles.ss_same; ca_same = roles.ca_same }
 
   -- ---- Reno
@@ -48,7 +48,7 @@ module _ (ss ca : Role) where
       (record s { course = course_after Avoidance s.course; window = cut; ssthresh = cut; calm = reading.now +ˢ reading.rtt }, change_to Avoidance s.course cut cut)
       roles (changed Avoidance s.course roles)
 
-  reno-mode : (mode : Mode) (reading : Reading) (s : r.RenoState) → AreRoles ss ca s.course → RenoKeeps (r.in_mode mode reading s)
+  reno-mode : (mode : Phase) (reading : Reading) (s : r.RenoState) → AreRoles ss ca s.course → RenoKeeps (r.in_phase mode reading s)
   reno-mode SlowStart reading s roles =
       reno-choice (nat_le s.ssthresh reading.cwnd)
       (record s { course = course_after Avoidance s.course }, change_to Avoidance s.course s.window s.ssthresh) (s, Nothing)
@@ -60,11 +60,11 @@ module _ (ss ca : Role) where
   reno-reading : (reading : Reading) (s : r.RenoState) → AreRoles ss ca s.course → RenoKeeps (r.after_reading reading s)
   reno-reading reading s roles =
       let lost = nat_lt 0 reading.loss || nat_lt 0 reading.ecn in
-      let later = if lost then r.after_loss reading s else r.in_mode s.course.mode reading s in
+      let later = if lost then r.after_loss reading s else r.in_phase s.course.mode reading s in
       reno-choice (nat_lt 0 reading.timeout) (r.after_timeout reading s) later (reno-timeout reading s roles)
-      (reno-choice lost (r.after_loss reading s) (r.in_mode s.course.mode reading s) (reno-loss reading s roles) (reno-mode s.course.mode reading s roles))
+      (reno-choice lost (r.after_loss reading s) (r.in_phase s.course.mode reading s) (reno-loss reading s roles) (reno-mode s.course.mode reading s roles))
 
-  reno-window : (mode : Mode) (reading : Reading) (s : r.RenoState) → AreRoles ss ca s.course → AreRoles ss ca (r.window_told mode reading s).course
+  reno-window : (mode : Phase) (reading : Reading) (s : r.RenoState) → AreRoles ss ca s.course → AreRoles ss ca (r.window_told mode reading s).course
   reno-window SlowStart reading s roles = roles
   reno-window Avoidance reading s roles = roles
 
@@ -104,7 +104,7 @@ module _ (ss ca : Role) where
       )
       roles (changed Avoidance s.course roles)
 
-  cubic-mode : (mode : Mode) (reading : Reading) (s : c.CubicState) → AreRoles ss ca s.course → CubicKeeps (c.in_mode mode reading s)
+  cubic-mode : (mode : Phase) (reading : Reading) (s : c.CubicState) → AreRoles ss ca s.course → CubicKeeps (c.in_phase mode reading s)
   cubic-mode SlowStart reading s roles =
       cubic-choice (nat_le s.ssthresh reading.cwnd)
       (record s { course = course_after Avoidance s.course; w_max = s.window; w_est = s.window; k = 0; start = reading.now }, change_to Avoidance s.course (bytes_of s.mss s.window) s.ssthresh) (s, Nothing)
@@ -118,11 +118,11 @@ module _ (ss ca : Role) where
   cubic-reading : (reading : Reading) (s : c.CubicState) → AreRoles ss ca s.course → CubicKeeps (c.after_reading reading s)
   cubic-reading reading s roles =
       let lost = nat_lt 0 reading.loss || nat_lt 0 reading.ecn in
-      let later = if lost then c.after_loss reading s else c.in_mode s.course.mode reading s in
+      let later = if lost then c.after_loss reading s else c.in_phase s.course.mode reading s in
       cubic-choice (nat_lt 0 reading.timeout) (c.after_timeout s) later (changed SlowStart s.course roles)
-      (cubic-choice lost (c.after_loss reading s) (c.in_mode s.course.mode reading s) (cubic-loss reading s roles) (cubic-mode s.course.mode reading s roles))
+      (cubic-choice lost (c.after_loss reading s) (c.in_phase s.course.mode reading s) (cubic-loss reading s roles) (cubic-mode s.course.mode reading s roles))
 
-  cubic-window : (mode : Mode) (reading : Reading) (s : c.CubicState) → AreRoles ss ca s.course → AreRoles ss ca (c.window_told mode reading s).course
+  cubic-window : (mode : Phase) (reading : Reading) (s : c.CubicState) → AreRoles ss ca s.course → AreRoles ss ca (c.window_told mode reading s).course
   cubic-window SlowStart reading s roles = roles
   cubic-window Avoidance reading s roles = roles
 

@@ -1,7 +1,7 @@
 ghost use Rattle.std.specs.Prelude.{◌≡◌, ◌↔◌, IsTrue};
 
 use crate::agent::Agent;
-use ccp_base::{Course, FaultKind, Look, Mode, Notice, Report, Role, Told, Values};
+use ccp_base::{Course, FaultKind, Look, Phase, Notice, Report, Role, Told, Values};
 use cubic_agent::{Cubic, Growth};
 use reno_agent::Reno;
 
@@ -39,7 +39,7 @@ pub fn same_role(this: &Role, other: &Role) -> bool
     same_look(&this.look, &other.look)
 }
 
-fn same_mode(this: Mode, other: Mode) -> bool
+fn same_mode(this: Phase, other: Phase) -> bool
     ensures { IsTrue result ↔ (this ≡ other) }
 {
     this == other

@@ -19,9 +19,13 @@ primitives a =
 abbrev pub prim : ℕ → Ack → ℕ
 prim n a = slice_index (primitives a) n
 
--- the n-th of them is a Bool: the last one is
+-- the number of the one that is a Bool, the last one: so many plain numbers come before it
+abbrev pub flag_number : ℕ
+flag_number = 14
+
+-- the n-th of them is a Bool
 abbrev pub is_flag : ℕ → Bool
-is_flag n = n == 14
+is_flag n = n == flag_number
 
 -- the acknowledgement with these values, the Bool true where its number isn't 0
 abbrev pub ack_of : List ℕ → Ack
@@ -40,5 +44,5 @@ ack_of n = record {
   rate_incoming = slice_index n 11;
   rate_outgoing = slice_index n 12;
   rtt_sample_us = slice_index n 13;
-  was_timeout = is_true (slice_index n 14);
+  was_timeout = is_true (slice_index n flag_number);
 }

@@ -7,8 +7,8 @@ use Rattle.ccp_base.specs.declared.exchange.Reply.TheVariants.{Change}
 use Rattle.ccp_base.specs.declared.exchange.Told.{Told}
 use Rattle.ccp_base.specs.declared.exchange.Told.TheVariants.{Report, Fault}
 use Rattle.ccp_base.specs.declared.course.Course.{Course}
-use Rattle.ccp_base.specs.declared.course.Mode.{Mode}
-use Rattle.ccp_base.specs.declared.course.Mode.TheVariants.{SlowStart, Avoidance}
+use Rattle.ccp_base.specs.declared.course.Phase.{Phase}
+use Rattle.ccp_base.specs.declared.course.Phase.TheVariants.{SlowStart, Avoidance}
 
 -- the epoch that an agent is told of
 abbrev pub epoch_of : Told → ℕ
@@ -20,16 +20,16 @@ abbrev pub first_course : Role → Role → Course
 first_course ss ca = record { ss = ss; ca = ca; mode = SlowStart; epoch = 0 }
 
 -- the program of a mode
-abbrev pub role_of : Mode → Course → Role
+abbrev pub role_of : Phase → Course → Role
 role_of SlowStart course = course.ss
 role_of Avoidance course = course.ca
 
 -- the course after a change to the program of a mode
-abbrev pub course_after : Mode → Course → Course
+abbrev pub course_after : Phase → Course → Course
 course_after mode course = record course { mode = mode; epoch = course.epoch +ˢ 1 }
 
 -- the change to the program of a mode, with its window and cap in bytes
-abbrev pub change_to : Mode → Course → ℕ → ℕ → Reply
+abbrev pub change_to : Phase → Course → ℕ → ℕ → Reply
 change_to mode course cwnd cap = Change (role_of mode course).number cwnd cap
 
 -- the segments of the initial window, by the segment's size in bytes (RFC 5681, section 3.1)

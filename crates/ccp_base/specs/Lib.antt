@@ -6,12 +6,14 @@ pub mod Course
 pub mod FieldReg
 pub mod InPlace
 pub mod Limits
+pub mod Measurement
 pub mod Named
 pub mod Numerals
+pub mod OperationLaws
+pub mod Operations
 pub mod Outside
 pub mod Parts
 pub mod PrimitiveNames
-pub mod Reading
 pub mod Saturating
 pub mod SystemAnswers
 pub mod Text

@@ -154,6 +154,10 @@ most_soak_number = 4294967295
 
 -- ---- frames
 
+-- the number of an instruction's operation
+abbrev pub most_operation : ℕ
+most_operation = 14
+
 -- the bytes of a frame in an answer
 abbrev pub most_answer_bytes : ℕ
 most_answer_bytes = 64

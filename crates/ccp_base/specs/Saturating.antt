@@ -15,6 +15,6 @@ a *ˢ b = min (a * b) (2 ^ 64 - 1)
 abbrev pub muldiv : ℕ → ℕ → ℕ → ℕ
 muldiv a b c = min (a * b / c) (2 ^ 64 - 1)
 
--- n held from `least` to `most`
-abbrev pub held : ℕ → ℕ → ℕ → ℕ
-held least most n = max least (min n most)
+-- n clamped from `least` to `most`
+abbrev pub clamped : ℕ → ℕ → ℕ → ℕ
+clamped least most n = max least (min n most)

@@ -1,5 +1,5 @@
 ghost use Rattle.std.specs.Prelude.{◌≡◌, ◌<◌, length, slice_index};
-ghost use Rattle.ccp_base.specs.Acknowledgement.{number_of, primitives, prim, is_flag, ack_of};
+ghost use Rattle.ccp_base.specs.Acknowledgement.{number_of, primitives, prim, flag_number, is_flag, ack_of};
 ghost use Rattle.ccp_base.specs.Limits.{primitive_count};
 ghost use Rattle.ccp_base.specs.Truth.{is_true};
 
@@ -89,7 +89,7 @@ pub fn primitives(ack: &Ack) -> [u64; 15]
 pub fn ack_of(numbers: &[u64]) -> Ack
     requires { length numbers.now ≡ primitive_count }
     ensures ack { result ≡ ack_of numbers.now }
-    ensures back { slice_index numbers.now 14 < 2 → primitives (ack_of numbers.now) ≡ numbers.now }
+    ensures back { slice_index numbers.now flag_number < 2 → primitives (ack_of numbers.now) ≡ numbers.now }
 {
     Ack {
         bytes_acked: numbers[0],

@@ -6,7 +6,7 @@ use crate::look::Role;
 
 /// Which of its two programs an agent has started last.
 #[derive(Clone, Copy, PartialEq, Eq, Debug)]
-pub enum Mode {
+pub enum Phase {
     SlowStart,
     /// Congestion avoidance.
     Avoidance,
@@ -19,7 +19,7 @@ pub struct Course {
     pub ss: Role,
     /// The program of congestion avoidance.
     pub ca: Role,
-    pub mode: Mode,
+    pub mode: Phase,
     /// How many changes of program the agent has sent after the opening one; it stops at 2^64-1.
     pub epoch: u64,
 }
@@ -32,18 +32,18 @@ impl Course {
         Course {
             ss,
             ca,
-            mode: Mode::SlowStart,
+            mode: Phase::SlowStart,
             epoch: 0,
         }
     }
 
     /// The program of a mode.
-    pub fn role(&self, mode: Mode) -> Role
+    pub fn role(&self, mode: Phase) -> Role
         ensures { result ≡ role_of mode self.now }
     {
         match mode {
-            Mode::SlowStart => self.ss,
-            Mode::Avoidance => self.ca,
+            Phase::SlowStart => self.ss,
+            Phase::Avoidance => self.ca,
         }
     }
 
@@ -61,7 +61,7 @@ impl Course {
     }
 
     /// Changes to the program of a mode, with its window and cap in bytes.
-    pub fn change(&mut self, mode: Mode, cwnd: u64, cap: u64) -> Reply
+    pub fn change(&mut self, mode: Phase, cwnd: u64, cap: u64) -> Reply
         ensures course { self.new ≡ course_after mode self.old }
         ensures reply { result ≡ change_to mode self.old cwnd cap }
     {

@@ -15,7 +15,7 @@ use Rattle.clap.specs.declared.error.kind.ErrorKind.{ErrorKind}
 use Rattle.clap.specs.declared.parser.matches.ArgMatches.{ArgMatches}
 use Rattle.clap.proofs.WalkLemmas.{one_text-rows}
 use Rattle.ccp_words.specs.Modes.{modes, mode_named, mode_names}
-use Rattle.ccp_words.specs.Words.{HasWorkers, IsCommandLine, are_accepted, asked_in, ccp, held, said}
+use Rattle.ccp_words.specs.Words.{HasWorkers, IsCommandLine, are_accepted, asked_in, ccp, unplaced, said}
 use Rattle.ccp_words.specs.Matches.{HasOptions, ReadsNumber, is_flag_text, number_of}
 use Rattle.ccp_words.specs.declared.words.Asked.{Asked}
 use Rattle.ccp_words.proofs.OptionsGiven.{datapaths_given, agents_given, workers_given, number_given}
@@ -53,7 +53,7 @@ reads text (Some mode) e = e
 
 module _ (command : Command) (line : IsCommandLine command) (words : List Text) where
   faults : fault_of (app_of command) words ≡ fault_of ccp words
-  faults = ap (λ a. fault_of a words) line.app ∙ same_faults (held (map held mode_names)) line.names line.modes words
+  faults = ap (λ a. fault_of a words) line.app ∙ same_faults (unplaced (map unplaced mode_names)) line.names line.modes words
 
   pub is_free : is_simple_and_free (app_of command) ≡ true
   is_free = ap is_simple_and_free line.app
@@ -74,7 +74,7 @@ module _ (command : Command) (line : IsCommandLine command) (words : List Text) 
   said_is : (m : ArgMatches) → HasMatchesOf (app_of command) words m → (name : Text) → one_text (found_of m) name ≡ said name words
   said_is m has name =
       one_text-rows (found_of m) name
-      ∙ ap (one_of name) ((has (ap is_simple line.app)).0 ∙ ap (λ a. matches_of a words) line.app ∙ same_matches (held (map held mode_names)) line.names line.modes words)
+      ∙ ap (one_of name) ((has (ap is_simple line.app)).0 ∙ ap (λ a. matches_of a words) line.app ∙ same_matches (unplaced (map unplaced mode_names)) line.names line.modes words)
 
   -- a number that is read of the matches is the one that the words say, and in its range
   number_is : (m : ArgMatches) → HasMatchesOf (app_of command) words m → (name : Text) (least most : ℕ) → most < 2 ^ 32

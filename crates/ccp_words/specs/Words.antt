@@ -47,13 +47,13 @@ command_of names = record {
   subs = [];
 }
 
--- something that is held at no place, since the place decides nothing
-abbrev pub held : {X : Type 0} → X → Bor X
-held x = record { ref_ptr = (0, 0); now = x }
+-- something at no place, since the place decides nothing
+abbrev pub unplaced : {X : Type 0} → X → Bor X
+unplaced x = record { ref_ptr = (0, 0); now = x }
 
 -- the tool's command line
 abbrev pub ccp : App
-ccp = command_of (held (map held mode_names))
+ccp = command_of (unplaced (map unplaced mode_names))
 
 -- words are accepted where the command line names no fault in them; the first is the program's name
 unfoldable pub are_accepted : List Text → Bool

@@ -22,19 +22,19 @@
 -- - a fault of that program is answered by starting it anew with the agent's window, and what is told of another
 --   epoch is passed over.
 use Rattle.std.specs.Prelude.{ℕ, ◌-◌, ◌/◌, ◌^◌, ◌≤◌, ◌==◌, ◌||◌, nat_lt, nat_le, min, max, if◌then◌else◌}
-use Rattle.ccp_base.specs.Saturating.{◌+ˢ◌, ◌*ˢ◌, muldiv, held}
-use Rattle.ccp_base.specs.Reading.{reading_of}
+use Rattle.ccp_base.specs.Saturating.{◌+ˢ◌, ◌*ˢ◌, muldiv, clamped}
+use Rattle.ccp_base.specs.Measurement.{measurement_of}
 use Rattle.ccp_base.specs.Course.{epoch_of, first_course, role_of, course_after, change_to, initial_segments}
 use Rattle.ccp_base.specs.declared.look.Role.{Role}
-use Rattle.ccp_base.specs.declared.reading.Reading.{Reading}
+use Rattle.ccp_base.specs.declared.measurement.Measurement.{Measurement}
 use Rattle.ccp_base.specs.declared.course.Course.{Course}
-use Rattle.ccp_base.specs.declared.course.Mode.{Mode}
-use Rattle.ccp_base.specs.declared.course.Mode.TheVariants.{SlowStart, Avoidance}
+use Rattle.ccp_base.specs.declared.course.Phase.{Phase}
+use Rattle.ccp_base.specs.declared.course.Phase.TheVariants.{SlowStart, Avoidance}
 use Rattle.ccp_base.specs.declared.exchange.Reply.{Reply}
 use Rattle.ccp_base.specs.declared.exchange.Reply.TheVariants.{Nothing, Update}
 use Rattle.ccp_base.specs.declared.exchange.Told.{Told}
 use Rattle.ccp_base.specs.declared.exchange.Told.TheVariants.{Report, Fault}
-use Rattle.cubic_agent.specs.Window.{bytes_of, held_window, decreased, converged}
+use Rattle.cubic_agent.specs.Window.{bytes_of, clamped_window, decreased, converged}
 use Rattle.cubic_agent.specs.Curve.{w_cubic, k_of}
 
 pub record CubicState : Type 0 where
@@ -97,7 +97,7 @@ after_timeout s =
 
 -- packets were lost or marked: the window decreases, once in a round-trip time, and a new epoch of congestion
 -- avoidance starts (RFC 9438, sections 4.6 and 4.7)
-abbrev pub after_loss : Reading → CubicState → Turn
+abbrev pub after_loss : Measurement → CubicState → Turn
 after_loss r s =
     let w_max = converged s.w_max s.window in
     let window = decreased s.window in
@@ -119,7 +119,7 @@ after_loss r s =
 
 -- slow start ends where the window has reached the threshold; the curve then starts at its middle
 -- (RFC 9438, section 4.8)
-abbrev pub in_slow_start : Reading → CubicState → Turn
+abbrev pub in_slow_start : Measurement → CubicState → Turn
 in_slow_start r s =
     if nat_le s.ssthresh r.cwnd then (
       record s { course = course_after Avoidance s.course; w_max = s.window; w_est = s.window; k = 0; start = r.now },
@@ -128,7 +128,7 @@ in_slow_start r s =
     else (s, Nothing)
 
 -- what was acknowledged, in thousandths of a segment, at most the greatest window
-abbrev pub acked_of : ℕ → Reading → ℕ
+abbrev pub acked_of : ℕ → Measurement → ℕ
 acked_of mss r = min 4096000 (muldiv r.acked 1000 mss)
 
 -- W_est after these acknowledgements: it grows by alpha segments in a round-trip time until it has reached
@@ -141,7 +141,7 @@ estimate_of acked s =
 
 -- the window one round-trip time from now, from the window to half as much again (RFC 9438, section 4.2)
 abbrev pub target_of : ℕ → CubicState → ℕ
-target_of t s = held s.window (s.window +ˢ s.window / 2) (w_cubic s.w_max s.k t)
+target_of t s = clamped s.window (s.window +ˢ s.window / 2) (w_cubic s.w_max s.k t)
 
 -- the window after these acknowledgements, t milliseconds into the epoch, with a round-trip time in milliseconds
 abbrev pub grown : ℕ → ℕ → ℕ → CubicState → ℕ
@@ -150,10 +150,10 @@ grown acked t rtt s =
     -- the Reno-friendly region (RFC 9438, section 4.3)
     if nat_lt (w_cubic s.w_max s.k t) s.w_est then max s.window s.w_est
     -- the concave and the convex region (RFC 9438, sections 4.4 and 4.5)
-    else held_window (s.window +ˢ min gap ((gap *ˢ acked) / s.window))
+    else clamped_window (s.window +ˢ min gap ((gap *ˢ acked) / s.window))
 
 -- congestion avoidance: W_est first, then the window
-abbrev pub in_avoidance : Reading → CubicState → Turn
+abbrev pub in_avoidance : Measurement → CubicState → Turn
 in_avoidance r s =
     let acked = acked_of s.mss r in
     let estimated = record s { w_est = estimate_of acked s } in
@@ -161,20 +161,20 @@ in_avoidance r s =
     if r.acked == 0 then (s, Nothing) else (record estimated { window = window }, Update (bytes_of s.mss window))
 
 -- a report without a timeout, a loss or a mark
-abbrev pub in_mode : Mode → Reading → CubicState → Turn
-in_mode SlowStart r s = in_slow_start r s
-in_mode Avoidance r s = in_avoidance r s
+abbrev pub in_phase : Phase → Measurement → CubicState → Turn
+in_phase SlowStart r s = in_slow_start r s
+in_phase Avoidance r s = in_avoidance r s
 
 -- a report is treated by the first case that holds
-abbrev pub after_reading : Reading → CubicState → Turn
-after_reading r s =
+abbrev pub after_measurement : Measurement → CubicState → Turn
+after_measurement r s =
     if nat_lt 0 r.timeout then after_timeout s
     else if nat_lt 0 r.loss || nat_lt 0 r.ecn then after_loss r s
-    else in_mode s.course.mode r s
+    else in_phase s.course.mode r s
 
 -- in slow start the datapath moves the window, and the agent takes it from the report
-abbrev pub window_told : Mode → Reading → CubicState → CubicState
-window_told SlowStart r s = record s { window = held_window (muldiv r.cwnd 1000 s.mss) }
+abbrev pub window_told : Phase → Measurement → CubicState → CubicState
+window_told SlowStart r s = record s { window = clamped_window (muldiv r.cwnd 1000 s.mss) }
 window_told Avoidance r s = s
 
 -- the program stopped by a fault is started again where the agent stands
@@ -186,8 +186,8 @@ after_fault s =
 -- what is told of the agent's epoch
 abbrev pub after_told : Told → CubicState → Turn
 after_told (Report report) s =
-    let r = reading_of (role_of s.course.mode s.course).look report in
-    after_reading r (window_told s.course.mode r s)
+    let r = measurement_of (role_of s.course.mode s.course).look report in
+    after_measurement r (window_told s.course.mode r s)
 after_told (Fault notice) s = after_fault s
 
 -- CUBIC: what is told of another epoch is passed over

@@ -1,8 +1,8 @@
 ghost use Rattle.std.specs.Prelude.{◌≡◌, ◌≤◌};
 
 use crate::curve::{time_to_maximum, w_cubic};
-use crate::window::{SEGMENT, WINDOW_MOST, bytes, converged, decreased, held_window};
-use ccp_base::{Course, Mode, Reading, Reply, Role, Told, initial_segments};
+use crate::window::{SEGMENT, WINDOW_MOST, bytes, converged, decreased, clamped_window};
+use ccp_base::{Course, Phase, Measurement, Reply, Role, Told, initial_segments};
 use int_roots::muldiv;
 use std::marker::Model;
 
@@ -58,7 +58,7 @@ impl Model for Cubic {
 }
 
 impl Cubic {
-    ghost use Rattle.cubic_agent.specs.Cubic.{cubic, first_cubic, window_told, after_timeout, after_loss, in_slow_start, in_avoidance, after_reading, after_fault, acked_of, estimate_of, target_of, grown};
+    ghost use Rattle.cubic_agent.specs.Cubic.{cubic, first_cubic, window_told, after_timeout, after_loss, in_slow_start, in_avoidance, after_measurement, after_fault, acked_of, estimate_of, target_of, grown};
     ghost use Rattle.ccp_base.specs.Course.{opening_of};
 
     /// An agent that was told nothing yet, of a flow whose segments have `mss` bytes, with its programs of slow
@@ -136,43 +136,43 @@ impl Cubic {
         match told {
             Told::Report(report) => {
                 let role = self.course.role(self.course.mode);
-                let reading = Reading::new(&role.look, report);
-                self.take_window(reading);
-                self.on_reading(reading)
+                let measurement = Measurement::new(&role.look, report);
+                self.take_window(measurement);
+                self.on_measurement(measurement)
             }
             Told::Fault(_) => self.on_fault(),
         }
     }
 
     /// In slow start the datapath moves the window, and the agent takes it from the report.
-    fn take_window(&mut self, reading: Reading)
-        ensures { self.new ≡ window_told self.old.course.mode reading self.old }
+    fn take_window(&mut self, measurement: Measurement)
+        ensures { self.new ≡ window_told self.old.course.mode measurement self.old }
     {
         match self.course.mode {
-            Mode::SlowStart => {
-                self.growth.window = held_window(muldiv(
-                    reading.cwnd,
+            Phase::SlowStart => {
+                self.growth.window = clamped_window(muldiv(
+                    measurement.cwnd,
                     SEGMENT,
                     u64::from(self.mss),
                 ));
             }
-            Mode::Avoidance => {}
+            Phase::Avoidance => {}
         }
     }
 
     /// Treats a report by the first case that holds.
-    fn on_reading(&mut self, reading: Reading) -> Reply
-        ensures { (self.new, result) ≡ after_reading reading self.old }
+    fn on_measurement(&mut self, measurement: Measurement) -> Reply
+        ensures { (self.new, result) ≡ after_measurement measurement self.old }
     {
-        if reading.timeout > 0 {
+        if measurement.timeout > 0 {
             return self.on_timeout();
         }
-        if reading.loss > 0 || reading.ecn > 0 {
-            return self.on_loss(reading);
+        if measurement.loss > 0 || measurement.ecn > 0 {
+            return self.on_loss(measurement);
         }
         match self.course.mode {
-            Mode::SlowStart => self.in_slow_start(reading),
-            Mode::Avoidance => self.in_avoidance(reading),
+            Phase::SlowStart => self.in_slow_start(measurement),
+            Phase::Avoidance => self.in_avoidance(measurement),
         }
     }
 
@@ -186,15 +186,15 @@ impl Cubic {
         self.ssthresh = ssthresh;
         self.growth.window = SEGMENT;
         self.calm = 0;
-        self.course.change(Mode::SlowStart, least, ssthresh)
+        self.course.change(Phase::SlowStart, least, ssthresh)
     }
 
     /// Packets were lost or marked: the window decreases, once in a round-trip time, and a new epoch of
     /// congestion avoidance starts (RFC 9438, sections 4.6 and 4.7).
-    fn on_loss(&mut self, reading: Reading) -> Reply
-        ensures { (self.new, result) ≡ after_loss reading self.old }
+    fn on_loss(&mut self, measurement: Measurement) -> Reply
+        ensures { (self.new, result) ≡ after_loss measurement self.old }
     {
-        if reading.now < self.calm {
+        if measurement.now < self.calm {
             return Reply::Nothing;
         }
         let w_max = converged(self.growth.w_max, self.growth.window);
@@ -206,39 +206,39 @@ impl Cubic {
             w_prior: self.growth.window,
             w_est: window,
             k: time_to_maximum(w_max, window),
-            start: reading.now,
+            start: measurement.now,
         };
         self.ssthresh = ssthresh;
-        self.calm = reading.now.saturating_add(reading.rtt);
-        self.course.change(Mode::Avoidance, ssthresh, ssthresh)
+        self.calm = measurement.now.saturating_add(measurement.rtt);
+        self.course.change(Phase::Avoidance, ssthresh, ssthresh)
     }
 
     /// Slow start ends where the window has reached the threshold; the curve then starts at its middle
     /// (RFC 9438, section 4.8).
-    fn in_slow_start(&mut self, reading: Reading) -> Reply
-        ensures { (self.new, result) ≡ in_slow_start reading self.old }
+    fn in_slow_start(&mut self, measurement: Measurement) -> Reply
+        ensures { (self.new, result) ≡ in_slow_start measurement self.old }
     {
-        if reading.cwnd < self.ssthresh {
+        if measurement.cwnd < self.ssthresh {
             return Reply::Nothing;
         }
         let cwnd = bytes(self.mss, self.growth.window);
         self.growth.w_max = self.growth.window;
         self.growth.w_est = self.growth.window;
         self.growth.k = 0;
-        self.growth.start = reading.now;
-        self.course.change(Mode::Avoidance, cwnd, self.ssthresh)
+        self.growth.start = measurement.now;
+        self.course.change(Phase::Avoidance, cwnd, self.ssthresh)
     }
 
     /// Congestion avoidance: W_est first, then the window.
-    fn in_avoidance(&mut self, reading: Reading) -> Reply
-        ensures { (self.new, result) ≡ in_avoidance reading self.old }
+    fn in_avoidance(&mut self, measurement: Measurement) -> Reply
+        ensures { (self.new, result) ≡ in_avoidance measurement self.old }
     {
-        if reading.acked == 0 {
+        if measurement.acked == 0 {
             return Reply::Nothing;
         }
-        let acked = self.acked(reading);
-        let t = reading.now.saturating_sub(self.growth.start) / MILLISECOND;
-        let rtt = reading.rtt / MILLISECOND;
+        let acked = self.acked(measurement);
+        let t = measurement.now.saturating_sub(self.growth.start) / MILLISECOND;
+        let rtt = measurement.rtt / MILLISECOND;
         self.growth.w_est = self.estimate(acked);
         let window = self.grown(acked, t, rtt);
         self.growth.window = window;
@@ -246,10 +246,10 @@ impl Cubic {
     }
 
     /// What was acknowledged, in thousandths of a segment, at most the greatest window.
-    fn acked(&self, reading: Reading) -> u64
-        ensures { result ≡ acked_of self.now.mss reading }
+    fn acked(&self, measurement: Measurement) -> u64
+        ensures { result ≡ acked_of self.now.mss measurement }
     {
-        muldiv(reading.acked, SEGMENT, u64::from(self.mss)).min(WINDOW_MOST)
+        muldiv(measurement.acked, SEGMENT, u64::from(self.mss)).min(WINDOW_MOST)
     }
 
     /// W_est after these acknowledgements: it grows by alpha segments in a round-trip time until it has reached
@@ -292,7 +292,7 @@ impl Cubic {
             .target(t.saturating_add(rtt))
             .saturating_sub(self.growth.window);
         let growth = gap.min(gap.saturating_mul(acked) / self.growth.window);
-        held_window(self.growth.window.saturating_add(growth))
+        clamped_window(self.growth.window.saturating_add(growth))
     }
 
     /// The program that a fault stopped is started again where the agent stands.

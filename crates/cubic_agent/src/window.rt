@@ -1,5 +1,5 @@
 ghost use Rattle.std.specs.Prelude.{◌≡◌};
-ghost use Rattle.cubic_agent.specs.Window.{bytes_of, held_window, decreased, converged};
+ghost use Rattle.cubic_agent.specs.Window.{bytes_of, clamped_window, decreased, converged};
 
 /// One segment, and the least window, in thousandths of a segment.
 pub(crate) const SEGMENT: u64 = 1000;
@@ -28,8 +28,8 @@ pub(crate) fn bytes(mss: u32, window: u64) -> u64
 }
 
 /// A window held from one segment to 4,096 segments.
-pub(crate) fn held_window(window: u64) -> u64
-    ensures { result ≡ held_window window }
+pub(crate) fn clamped_window(window: u64) -> u64
+    ensures { result ≡ clamped_window window }
 {
     window.min(WINDOW_MOST).max(SEGMENT)
 }

@@ -12,7 +12,7 @@ use Rattle.ccp_base.specs.Truth.{is_true}
 use Rattle.reg_code.specs.declared.code.Code.{Code}
 use Rattle.reg_code.specs.AcceptedCode.{◌or_else◌, Refusal, rejected, IsAccepted, sizes_of, counts_refusal, events_refusal}
 use Rattle.reg_code.specs.CodeStart.{with_value, with_values, declared_kept}
-use Rattle.reg_code.specs.CodeStep.{Kept, IsKeptOf, Work, done, failed, stuck, events_of, begun, settled, mone, made_of}
+use Rattle.reg_code.specs.CodeStep.{Kept, IsKeptOf, Work, done, failed, stuck, events_of, begun, settled, one_by_code, made_of}
 use Rattle.reg_code.specs.CodeStep as steps
 use Rattle.reg_code.specs.SoundLaws.{WorkSized, events-sized, none-next, IsSound-accepted}
 use Rattle.reply_frames.specs.declared.outline.Version.{Version}

@@ -46,7 +46,7 @@ fault-seen : (kind : FaultKind) (place : Option Place) (mean : Mean)
 fault-seen kind (Some place) mean same = ap outcome_by same
 fault-seen kind None mean same = absurd (none-some mean same)
 
-outcome-seen : (places : List Place) (outcome : steps.Outcome) (mean : Mean)
+outcome-seen : (places : List Place) (outcome : steps.CodeOutcome) (mean : Mean)
     → seen places outcome ≡ Some mean
     → outcome_placed (place_at places) (outcome_of outcome) ≡ epoch.outcome_of mean
 outcome-seen places steps.quiet mean same = ap outcome_by same

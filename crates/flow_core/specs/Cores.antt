@@ -5,7 +5,7 @@ use Rattle.ccp_base.specs.declared.arithmetic.FaultKind.{FaultKind}
 use Rattle.portus_core.specs.declared.env.Env.{Env}
 use Rattle.portus_core.specs.Epoch.{Outcome, quiet, reported, held, failed, stopped, heard}
 use Rattle.reg_code.specs.declared.code.Code.{Code}
-use Rattle.reg_code.specs.CodeStep.{mone}
+use Rattle.reg_code.specs.CodeStep.{one_by_code}
 use Rattle.reg_compiler.specs.Simulation.{kept_of}
 use Rattle.agent_core.specs.declared.ticket.Ticket.{Ticket}
 use Rattle.fold_machine.specs.declared.acked.Acked.{Acked}
@@ -51,7 +51,7 @@ acked_in core ack = acked_as (met_in (flow_in core) (world_in core) ack).0
 -- how many instructions an acknowledgement runs; none where the program is stopped
 abbrev pub ran_by : Bool → Code → Env → Ack → Bool → ℕ
 ran_by true code env ack room = 0
-ran_by false code env ack room = (mone code (kept_of env) ack room).ran
+ran_by false code env ack room = (one_by_code code (kept_of env) ack room).ran
 
 -- how many an acknowledgement runs in a state of a case
 abbrev pub ran_met : Case → World ℕ → Ack → ℕ

@@ -17,7 +17,7 @@ abbrev pub env_of : steps.Kept → Env
 env_of kept = record { fields = kept.reports; controls = kept.controls; cwnd = kept.cwnd; rate = kept.rate; zero = kept.zero }
 
 -- an outcome of the code in an epoch, a fault with its instruction's index; accepted code is never lost
-abbrev pub outcome_of : steps.Outcome → Outcome (FaultKind × ℕ)
+abbrev pub outcome_of : steps.CodeOutcome → Outcome (FaultKind × ℕ)
 outcome_of steps.quiet = quiet
 outcome_of (steps.reported fields) = reported fields
 outcome_of steps.held = held
@@ -29,7 +29,7 @@ met_of made = (outcome_of made.outcome, env_of made.kept)
 
 -- the reading of a program by its code
 abbrev pub by_code : Code → Reading (FaultKind × ℕ)
-by_code code env ack room = met_of (steps.mone code (kept_of env) ack room)
+by_code code env ack room = met_of (steps.one_by_code code (kept_of env) ack room)
 
 -- a flow as it is read, where a fault has a site X: its number, its agent, how many acknowledgements come and how many
 -- reports may wait; by a program's number, what an acknowledgement comes to and the env that it starts with where

@@ -3,7 +3,7 @@ use Rattle.std.specs.Prelude.{ℕ, Bool, true, false, Option, Some, None, List}
 use Rattle.ccp_base.specs.declared.ack.Ack.{Ack}
 use Rattle.ccp_base.specs.FieldReg.{Pair}
 use Rattle.reg_code.specs.declared.code.Code.{Code}
-use Rattle.reg_code.specs.CodeStep.{Outcome, quiet, reported, held, faulted, lost, Made, mone}
+use Rattle.reg_code.specs.CodeStep.{CodeOutcome, quiet, reported, held, faulted, lost, Made, one_by_code}
 use Rattle.reg_code.specs.CodeStart.{with_values, started}
 use Rattle.fold_machine.specs.declared.acked.Acked.{Acked}
 use Rattle.fold_machine.specs.declared.acked.Acked.TheVariants as acked
@@ -24,7 +24,7 @@ abbrev pub updated_by : List Pair → MachineState → MachineState
 updated_by values state = record state { kept = with_values values state.kept }
 
 -- the answer for an outcome; accepted code is never lost
-abbrev pub acked_of : Outcome → Option Acked
+abbrev pub acked_of : CodeOutcome → Option Acked
 acked_of quiet = Some acked.Quiet
 acked_of (reported fields) = Some acked.Reported
 acked_of held = Some acked.Held
@@ -32,14 +32,14 @@ acked_of (faulted kind index) = Some (acked.Faulted kind index)
 acked_of lost = None
 
 -- a fault stops the program
-abbrev pub stops : Outcome → Bool
+abbrev pub stops : CodeOutcome → Bool
 stops (faulted kind index) = true
 stops quiet = false
 stops (reported fields) = false
 stops held = false
 stops lost = false
 
-abbrev pub report_after : Outcome → List ℕ → List ℕ
+abbrev pub report_after : CodeOutcome → List ℕ → List ℕ
 report_after (reported fields) report = fields
 report_after quiet report = report
 report_after held report = report
@@ -53,7 +53,7 @@ after_made made state =
 -- acknowledgements of a stopped program aren't run
 abbrev pub heard_where : Bool → Code → Ack → Bool → MachineState → Option Acked × MachineState
 heard_where true code ack room state = (Some acked.Stopped, record state { ran = 0 })
-heard_where false code ack room state = after_made (mone code state.kept ack room) state
+heard_where false code ack room state = after_made (one_by_code code state.kept ack room) state
 
 -- the answer to an acknowledgement, and the machine after it
 abbrev pub heard : Code → Ack → Bool → MachineState → Option Acked × MachineState

@@ -14,7 +14,7 @@ use Rattle.reg_code.specs.declared.code.Start.{Start}
 use Rattle.std.proofs.lemmas.Option.{slice_get_within, get_or_from_slice_get}
 use Rattle.portus_core.specs.OneAcknowledgement.{IsEnvOf, one_of}
 use Rattle.reg_code.specs.declared.code.Code.{Code}
-use Rattle.reg_code.specs.CodeStep.{IsKeptOf, Kept, Outcome, quiet, reported, held, faulted, lost, mone}
+use Rattle.reg_code.specs.CodeStep.{IsKeptOf, Kept, CodeOutcome, quiet, reported, held, faulted, lost, one_by_code}
 use Rattle.fold_machine.specs.declared.acked.Acked.{Acked}
 use Rattle.fold_machine.specs.declared.acked.Acked.TheVariants as acked
 use Rattle.fold_machine.specs.Heard.{acked_of, after_made, heard, heard_where, report_after}
@@ -39,7 +39,7 @@ there places kind index m e = go (slice_get places index) refl e
 abbrev pub Tells : List Place → List ℕ → Mean → Acked → Type 0
 Tells places report m a = (m ≡ mean_of places report a) × IsPlaced places a
 
-tells : (places : List Place) (o : Outcome) (report : List ℕ) (m : Mean) (a : Acked) → Some a ≡ acked_of o → seen places o ≡ Some m → Tells places (report_after o report) m a
+tells : (places : List Place) (o : CodeOutcome) (report : List ℕ) (m : Mean) (a : Acked) → Some a ≡ acked_of o → seen places o ≡ Some m → Tells places (report_after o report) m a
 tells places quiet report m a is e =
     let same : a ≡ acked.Quiet = cc in
     subst (λ (x : Acked). Tells places report m x) (sym same) (let mean_is : m ≡ mean.Quiet = cc in (mean_is, tt))
@@ -77,7 +77,7 @@ module _ (form : Form) (code : Code) (places : List Place) (s : Simulates form c
   }
 
   module _ (m : MachineState) (fits : Fits m code) (going : m.is_stopped ≡ false) (ack : Ack) where
-    made : heard code ack true m ≡ after_made (mone code m.kept ack true) m
+    made : heard code ack true m ≡ after_made (one_by_code code m.kept ack true) m
     made = ap (λ stopped. heard_where stopped code ack true m) going
 
     -- a machine that isn't stopped answers what the program means
@@ -86,7 +86,7 @@ module _ (form : Form) (code : Code) (places : List Place) (s : Simulates form c
     told a is new after =
         subst (λ (report : List ℕ). Tells places report (one_of form (env_of m.kept) ack true).0 a)
         (sym (ap (λ (x : MachineState). x.report) (after ∙ ap (λ (p : Option Acked × MachineState). p.1) made)))
-        (tells places (mone code m.kept ack true).outcome m.report (one_of form (env_of m.kept) ack true).0 a
+        (tells places (one_by_code code m.kept ack true).outcome m.report (one_of form (env_of m.kept) ack true).0 a
         (is ∙ ap (λ (p : Option Acked × MachineState). p.0) made) (s.3 (env_of m.kept) ack true (env_shape m.kept fits.kept)).0)
 
     pub env_after : (new : MachineState) → new ≡ (heard code ack true m).1 → env_of new.kept ≡ (one_of form (env_of m.kept) ack true).1

@@ -2,7 +2,7 @@
 use Rattle.std.specs.Prelude.{ℕ, ◌+◌, Bool, true, false, List, [], fold}
 use Rattle.ccp_base.specs.declared.ack.Ack.{Ack}
 use Rattle.reg_code.specs.declared.code.Code.{Code}
-use Rattle.reg_code.specs.CodeStep.{Kept, Made, mone}
+use Rattle.reg_code.specs.CodeStep.{Kept, Made, one_by_code}
 use Rattle.reg_code.specs.CodeStart.{started}
 use Rattle.fold_machine.specs.Heard.{stops}
 
@@ -20,7 +20,7 @@ after_made made running = record { kept = made.kept; is_stopped = stops made.out
 -- a stopped code runs no acknowledgement
 abbrev pub running_where : Bool → Code → Running → Ack → Running
 running_where true code running ack = running
-running_where false code running ack = after_made (mone code running.kept ack true) running
+running_where false code running ack = after_made (one_by_code code running.kept ack true) running
 
 abbrev pub running_after : Code → Running → Ack → Running
 running_after code running ack = running_where running.is_stopped code running ack

@@ -7,7 +7,7 @@ ghost use Rattle.portus_core.specs.OneAcknowledgement.{one_of};
 ghost use Rattle.portus_core.specs.Epoch.{by_source, outcome_of, after_event};
 ghost use Rattle.portus_core.specs.Epoch.{stops as stops_epoch};
 ghost use Rattle.portus_core.specs.Reports.{reports_at, fault_at};
-ghost use Rattle.reg_code.specs.CodeStep.{mone};
+ghost use Rattle.reg_code.specs.CodeStep.{one_by_code};
 ghost use Rattle.fold_machine.specs.MachineState.{Fits};
 ghost use Rattle.fold_machine.specs.Heard.{is_fault, stops};
 ghost use Rattle.fold_run.specs.Fold.{fold_epoch, with_room, fold_start, told_fault};
@@ -44,9 +44,9 @@ fn meant<L: Ledger>(machine: &mut Machine, built: &Built, ack: &Ack, steps: &mut
     ensures mean { (one_of (form_of built.now.program) (env_of machine.old.kept) ack.entry.now true).0 ≡ mean_of built.now.places machine.new.report result }
     ensures placed { IsPlaced built.now.places result }
     ensures env { env_of machine.new.kept ≡ (one_of (form_of built.now.program) (env_of machine.old.kept) ack.entry.now true).1 }
-    ensures kept { machine.new.kept ≡ (mone built.now.code.code machine.old.kept ack.entry.now true).kept }
-    ensures ran { machine.new.ran ≡ (mone built.now.code.code machine.old.kept ack.entry.now true).ran }
-    ensures stopped { machine.new.is_stopped ≡ stops (mone built.now.code.code machine.old.kept ack.entry.now true).outcome }
+    ensures kept { machine.new.kept ≡ (one_by_code built.now.code.code machine.old.kept ack.entry.now true).kept }
+    ensures ran { machine.new.ran ≡ (one_by_code built.now.code.code machine.old.kept ack.entry.now true).ran }
+    ensures stopped { machine.new.is_stopped ≡ stops (one_by_code built.now.code.code machine.old.kept ack.entry.now true).outcome }
     ensures stops { machine.new.is_stopped ≡ is_fault result }
     ensures fits { Fits machine.new built.now.code.code }
 {

@@ -46,7 +46,7 @@ fault-placed : (kind : FaultKind) (place : Option Place) (mean : Mean)
 fault-placed kind (Some place) mean same = ap (option_map epoch.outcome_of) same
 fault-placed kind None mean same = absurd (none-some mean same)
 
-mean-placed : (places : List Place) (outcome : steps.Outcome) (mean : Mean) → seen places outcome ≡ Some mean
+mean-placed : (places : List Place) (outcome : steps.CodeOutcome) (mean : Mean) → seen places outcome ≡ Some mean
     → placed places (outcome_of outcome) ≡ Some (epoch.outcome_of mean)
 mean-placed places steps.quiet mean same = ap (option_map epoch.outcome_of) same
 mean-placed places (steps.reported fields) mean same = ap (option_map epoch.outcome_of) same

@@ -8,7 +8,7 @@ use Rattle.ccp_base.specs.declared.fields.FieldReg.TheVariants as reg
 use Rattle.ccp_base.specs.declared.place.Place.{Place}
 use Rattle.portus_core.specs.declared.env.StartFault.TheVariants.{BadRegister}
 use Rattle.portus_core.specs.declared.program.Decl.{Decl}
-use Rattle.portus_core.specs.declared.program.Op2.TheVariants as op
+use Rattle.ccp_base.specs.declared.operation.Op2.TheVariants as op
 use Rattle.portus_core.specs.declared.program.Var.TheVariants as var
 use Rattle.portus_core.specs.Programs.{Term, number, truth, name, pair, Action, set, ewma, zero_micros, report, fall, Part, Form}
 use Rattle.portus_core.specs.Epoch.{start_of, declared_env, Event, acknowledged, updated, Track, track_at, by_source, after}

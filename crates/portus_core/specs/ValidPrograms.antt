@@ -1,9 +1,8 @@
 -- Which programs are well scoped, typed and within the limits.
 use Rattle.std.specs.Prelude.{ℕ, ◌^◌, Bool, true, false, not, ◌&&◌, ◌||◌, ◌==◌, nat_lt, nat_le, Option, Some, None, List, [], ◌∷◌, ◌++◌, length, slice_get, bytes_eq}
 use Rattle.ccp_base.specs.Acknowledgement.{is_flag}
+use Rattle.ccp_base.specs.Operations.{gives_truth}
 use Rattle.ccp_base.specs.Limits.{most_fields, most_controls, most_blocks, most_locals, most_tenths, primitive_count}
-use Rattle.portus_core.specs.declared.program.Op2.{Op2}
-use Rattle.portus_core.specs.declared.program.Op2.TheVariants as op
 use Rattle.portus_core.specs.declared.program.Var.{Var}
 use Rattle.portus_core.specs.declared.program.Var.TheVariants as var
 use Rattle.portus_core.specs.declared.program.Decl.{Decl}
@@ -53,20 +52,6 @@ is_writable (var.Control i) = true
 is_writable (var.Local i) = true
 is_writable var.Cwnd = true
 is_writable var.Rate = true
-
--- whether the operation gives a Bool
-abbrev pub gives_truth : Op2 → Bool
-gives_truth op.Gt = true
-gives_truth op.Lt = true
-gives_truth op.Eq = true
-gives_truth op.And = true
-gives_truth op.Or = true
-gives_truth op.Add = false
-gives_truth op.Sub = false
-gives_truth op.Mul = false
-gives_truth op.Div = false
-gives_truth op.Max = false
-gives_truth op.Min = false
 
 -- whether the expression is a Bool
 abbrev pub term_is_truth : Known → Term → Bool

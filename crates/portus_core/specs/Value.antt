@@ -1,15 +1,12 @@
 -- The value of an expression.
-use Rattle.std.specs.Prelude.{ℕ, ◌-◌, Bool, not, ◌&&◌, ◌||◌, ◌==◌, nat_lt, max, min, Option, None, unwrap_or, Result, Ok, Err, slice_index}
+use Rattle.std.specs.Prelude.{ℕ, ◌-◌, Option, None, unwrap_or, Result, Ok, Err, slice_index}
 use Rattle.ccp_base.specs.declared.arithmetic.FaultKind.{FaultKind}
 use Rattle.ccp_base.specs.declared.place.Place.{Place}
 use Rattle.ccp_base.specs.declared.ack.Ack.{Ack}
 use Rattle.ccp_base.specs.Acknowledgement.{number_of, prim}
 use Rattle.ccp_base.specs.Chaining.{then_do}
-use Rattle.ccp_base.specs.Truth.{is_true}
-use Rattle.ccp_base.specs.CheckedNumbers.{sum_of, difference_of, product_of, quotient_of}
+use Rattle.ccp_base.specs.Operations.{applied}
 use Rattle.portus_core.specs.declared.env.Env.{Env}
-use Rattle.portus_core.specs.declared.program.Op2.{Op2}
-use Rattle.portus_core.specs.declared.program.Op2.TheVariants as op
 use Rattle.portus_core.specs.declared.program.Var.{Var}
 use Rattle.portus_core.specs.declared.program.Var.TheVariants as var
 use Rattle.portus_core.specs.Programs.{Term, number, truth, name, pair}
@@ -24,20 +21,6 @@ Locals = ℕ → Option ℕ
 
 abbrev pub no_locals : Locals
 no_locals i = None
-
--- the operation on two values
-abbrev pub applied : Op2 → ℕ → ℕ → Result ℕ FaultKind
-applied op.Add a b = sum_of a b
-applied op.Sub a b = difference_of a b
-applied op.Mul a b = product_of a b
-applied op.Div a b = quotient_of a b
-applied op.Max a b = Ok (max a b)
-applied op.Min a b = Ok (min a b)
-applied op.Gt a b = Ok (number_of (nat_lt b a))
-applied op.Lt a b = Ok (number_of (nat_lt a b))
-applied op.Eq a b = Ok (number_of (a == b))
-applied op.And a b = Ok (number_of (is_true a && is_true b))
-applied op.Or a b = Ok (number_of (is_true a || is_true b))
 
 -- a fault of an operation, with its place
 abbrev pub at_place : Place → Result ℕ FaultKind → Result ℕ Cause

@@ -2,26 +2,9 @@
 use Rattle.std.specs.Prelude.{ℕ, Bool, false, ◌&&◌, ◌||◌, not, ◌==◌, List, [], ◌∷◌, Option, Some, None, is_some, codes, if◌then◌else◌, bytes_eq, nat_eq}
 use Rattle.std.specs.List.{starts_with, list_all, list_any}
 use Rattle.std.specs.Char.{is_ascii_alphabetic, is_ascii_alphanumeric}
-use Rattle.portus_core.specs.declared.program.Op2.{Op2}
-use Rattle.portus_core.specs.declared.program.Op2.TheVariants as op
+use Rattle.ccp_base.specs.Operations.{operator_of}
 use Rattle.portus_core.specs.declared.program.Var.{Var}
 use Rattle.portus_core.specs.declared.program.Var.TheVariants as var
-
--- the operation that an operator's spelling stands for
-abbrev pub operator_of : List ℕ → Option Op2
-operator_of w =
-    if bytes_eq w (codes "+") || bytes_eq w (codes "add") then Some op.Add
-    else if bytes_eq w (codes "-") || bytes_eq w (codes "sub") then Some op.Sub
-    else if bytes_eq w (codes "*") || bytes_eq w (codes "mul") then Some op.Mul
-    else if bytes_eq w (codes "/") || bytes_eq w (codes "div") then Some op.Div
-    else if bytes_eq w (codes ">") || bytes_eq w (codes "gt") then Some op.Gt
-    else if bytes_eq w (codes "<") || bytes_eq w (codes "lt") then Some op.Lt
-    else if bytes_eq w (codes "==") || bytes_eq w (codes "eq") then Some op.Eq
-    else if bytes_eq w (codes "&&") || bytes_eq w (codes "and") then Some op.And
-    else if bytes_eq w (codes "||") || bytes_eq w (codes "or") then Some op.Or
-    else if bytes_eq w (codes "max") then Some op.Max
-    else if bytes_eq w (codes "min") then Some op.Min
-    else None
 
 -- the variable of the language that a word stands for
 abbrev pub variable_of : List ℕ → Option Var

@@ -14,6 +14,6 @@ mod value;
 
 pub use env::{Env, Mean, StartFault};
 pub use printing::print_tree;
-pub use program::{Block, Cmd, Decl, Expr, Op2, Program, Var};
+pub use ccp_base::Op2;
+pub use program::{Block, Cmd, Decl, Expr, Program, Var};
 pub use tree::{Parts, Source, Tree, take_apart};
-pub use value::applied;

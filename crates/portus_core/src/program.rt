@@ -2,23 +2,7 @@ ghost use Rattle.std.specs.Prelude.{IsTrue};
 ghost use Rattle.portus_core.specs.Programs.{form_over};
 ghost use Rattle.portus_core.specs.ValidPrograms.{is_declared, is_valid};
 
-use ccp_base::{Name, Place};
-
-/// An operation on two numbers.
-#[derive(Clone, Copy, PartialEq, Eq, Debug)]
-pub enum Op2 {
-    Add,
-    Sub,
-    Mul,
-    Div,
-    Max,
-    Min,
-    Gt,
-    Lt,
-    Eq,
-    And,
-    Or,
-}
+use ccp_base::{Name, Op2, Place};
 
 /// What a name of a program stands for, each kind by its number in order of declaration.
 #[derive(Clone, Copy, PartialEq, Eq, Debug)]

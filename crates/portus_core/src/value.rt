@@ -1,12 +1,12 @@
 ghost use Rattle.std.specs.Prelude.{◌≡◌, slice_index, unwrap_or};
 ghost use Rattle.ccp_base.specs.Acknowledgement.{prim};
 ghost use Rattle.portus_core.specs.Programs.{term_of};
-ghost use Rattle.portus_core.specs.Value.{applied, read_of, value_of};
+ghost use Rattle.portus_core.specs.Value.{read_of, value_of};
 ghost use Rattle.portus_core.specs.Progress.{locals_of};
 
 use crate::env::Env;
-use crate::program::{Expr, Op2, Var};
-use ccp_base::{Ack, FaultKind, PRIMITIVES, Place, add, bool_number, div, is_true, mul, prim, sub};
+use crate::program::{Expr, Var};
+use ccp_base::{Ack, FaultKind, PRIMITIVES, Place, bool_number, prim};
 
 /// An operation that has no result, with the place of its head atom.
 pub type Fault = (FaultKind, Place);
@@ -27,7 +27,7 @@ pub fn value(expr: &Expr, env: &Env, locals: &Locals, ack: &Ack) -> Result<u64, 
         Expr::Pair(op, place, left, right) => {
             let a = value(left, env, locals, ack)?;
             let b = value(right, env, locals, ack)?;
-            applied(*op, a, b).map_err(|kind| (kind, *place))
+            op.applied(a, b).map_err(|kind| (kind, *place))
         }
     }
 }
@@ -71,23 +71,4 @@ fn prim_at(ack: &Ack, n: u32) -> u64
     ensures { result ≡ prim n ack.entry.now }
 {
     if n < PRIMITIVES { prim(ack, n) } else { 0 }
-}
-
-/// The operation on two values, or why it has no result.
-pub fn applied(op: Op2, a: u64, b: u64) -> Result<u64, FaultKind>
-    ensures { result ≡ applied op a b }
-{
-    match op {
-        Op2::Add => add(a, b),
-        Op2::Sub => sub(a, b),
-        Op2::Mul => mul(a, b),
-        Op2::Div => div(a, b),
-        Op2::Max => Ok(a.max(b)),
-        Op2::Min => Ok(a.min(b)),
-        Op2::Gt => Ok(bool_number(a > b)),
-        Op2::Lt => Ok(bool_number(a < b)),
-        Op2::Eq => Ok(bool_number(a == b)),
-        Op2::And => Ok(bool_number(is_true(a) && is_true(b))),
-        Op2::Or => Ok(bool_number(is_true(a) || is_true(b))),
-    }
 }

@@ -4,6 +4,7 @@ use Rattle.std.specs.List.{list_all}
 use Rattle.std.specs.Str.{bytes_eq}
 use Rattle.ccp_base.specs.Limits.{most_name_bytes}
 use Rattle.ccp_base.specs.Numerals.{is_digit, numeral_of}
+use Rattle.ccp_base.specs.Operations.{is_operation_mark}
 use Rattle.ccp_base.specs.declared.place.Place.{Place}
 use Rattle.portus_core.specs.Trees.{Node, number, word}
 use Rattle.portus_parser.specs.declared.fault.ParseFault.{ParseFault}
@@ -28,9 +29,8 @@ is_named text = begins_as_name text && list_all is_name_byte text
 -- whether the text is one of the words that aren't shaped as a name
 abbrev pub is_mark : List ℕ → Bool
 is_mark text =
-    bytes_eq text (codes "+") || bytes_eq text (codes "-") || bytes_eq text (codes "*") || bytes_eq text (codes "/")
-    || bytes_eq text (codes ">") || bytes_eq text (codes "<") || bytes_eq text (codes "==") || bytes_eq text (codes "&&")
-    || bytes_eq text (codes "||") || bytes_eq text (codes ":=") || bytes_eq text (codes "!if") || bytes_eq text (codes "+infinity")
+    is_operation_mark text || bytes_eq text (codes ":=") || bytes_eq text (codes "!if")
+    || bytes_eq text (codes "+infinity")
 
 -- whether the text is a word
 abbrev pub is_word : List ℕ → Bool

@@ -6,7 +6,7 @@ ghost use Rattle.ccp_base.specs.Numerals.{is_digit};
 ghost use Rattle.portus_parser.specs.Atoms.{is_initial, is_name_byte, is_named, is_mark, is_word, begins_with_digit, begins_as_name, atom_of};
 
 use crate::fault::ParseFault;
-use ccp_base::{Name, Place, numeral};
+use ccp_base::{Name, Place, is_operation_mark, numeral};
 use portus_core::Tree;
 
 /// Whether the byte is a decimal digit.
@@ -75,15 +75,7 @@ pub fn same(left: &[u8], right: &[u8]) -> bool
 fn is_mark(text: &[u8]) -> bool
     ensures { result ≡ is_mark text.now }
 {
-    same(text, b"+")
-        || same(text, b"-")
-        || same(text, b"*")
-        || same(text, b"/")
-        || same(text, b">")
-        || same(text, b"<")
-        || same(text, b"==")
-        || same(text, b"&&")
-        || same(text, b"||")
+    is_operation_mark(text)
         || same(text, b":=")
         || same(text, b"!if")
         || same(text, b"+infinity")

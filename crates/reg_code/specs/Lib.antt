@@ -7,3 +7,5 @@ pub mod SoundLaws
 pub mod RanLaws
 pub mod Places
 pub mod PackedCode
+pub mod OperationNumbers
+pub mod OperationNumberLaws

@@ -1,5 +1,6 @@
 -- The listing of a code, line by line.
 use Rattle.std.specs.Prelude.{ℕ, ◌+◌, Bool, true, false, List, [], ◌∷◌, codes, decimal}
+use Rattle.ccp_base.specs.Operations.{written_as}
 use Rattle.ccp_base.specs.Text.{◌⧺◌}
 use Rattle.reg_code.specs.declared.code.Code.{Code}
 use Rattle.reg_code.specs.declared.code.Event.{Event}
@@ -13,17 +14,7 @@ use Rattle.reg_code.specs.declared.code.Reg.TheVariants as reg
 use Rattle.reg_code.specs.declared.code.Start.{Start}
 
 abbrev pub op_text : Op → List ℕ
-op_text op.Add = codes "add"
-op_text op.Sub = codes "sub"
-op_text op.Mul = codes "mul"
-op_text op.Div = codes "div"
-op_text op.Max = codes "max"
-op_text op.Min = codes "min"
-op_text op.Gt = codes "gt"
-op_text op.Lt = codes "lt"
-op_text op.Eq = codes "eq"
-op_text op.And = codes "and"
-op_text op.Or = codes "or"
+op_text (op.Pair operation) = (written_as operation).word
 op_text op.Bind = codes "bind"
 op_text op.If = codes "if"
 op_text op.NotIf = codes "notif"

@@ -5,15 +5,17 @@
 mod checked;
 mod code;
 mod limits;
+mod op_number;
 mod packed;
 pub mod places;
 mod rule;
 mod text;
 
-pub use ccp_base::{FIELDS, PRIMITIVES, Sequence};
+pub use ccp_base::{FIELDS, Op2, PRIMITIVES, Sequence};
 pub use checked::Checked;
 pub use code::{Code, Event, Implicit, Instr, Op, Reg, Start};
 pub use limits::{CONTROLS, EVENTS, INSTRS, LOCALS, TEMPS, TENTHS, limits_hold};
+pub use op_number::op_numbered;
 pub use packed::{Packed, pack_all};
 pub use rule::{Part, Rule, Sizes};
 pub use text::listing;

@@ -199,17 +199,7 @@ fn op_text(op: Op) -> &'static str
     ensures { result.now ≡ op_text op }
 {
     match op {
-        Op::Add => "add",
-        Op::Sub => "sub",
-        Op::Mul => "mul",
-        Op::Div => "div",
-        Op::Max => "max",
-        Op::Min => "min",
-        Op::Gt => "gt",
-        Op::Lt => "lt",
-        Op::Eq => "eq",
-        Op::And => "and",
-        Op::Or => "or",
+        Op::Pair(operation) => operation.word(),
         Op::Bind => "bind",
         Op::If => "if",
         Op::NotIf => "notif",
@@ -222,7 +212,7 @@ mod tests {
     use super::*;
     use crate::code::Start;
     use crate::packed::pack_all;
-    use ccp_base::Sequence;
+    use ccp_base::{Op2, Sequence};
     use std::test::Fail;
 
     fn instr(op: Op, to: Reg, left: Reg, right: Reg) -> Instr {
@@ -318,7 +308,7 @@ mod tests {
                 implicit(Implicit::Rate),
             ),
             instr(
-                Op::Max,
+                Op::Pair(Op2::Max),
                 implicit(Implicit::Flag),
                 implicit(Implicit::Cwnd),
                 Reg::Imm(15),

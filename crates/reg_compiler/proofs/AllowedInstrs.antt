@@ -1,8 +1,8 @@
 -- Instructions that fail no rule.
 use Rattle.std.proofs.Common.{◌≡◌, refl, ℕ, ◌<◌, Bool, true, false, not, ◌&&◌, ◌||◌, nat_le, if◌then◌else◌, Option, None, lt-ltb}
 use Rattle.std.proofs.lemmas.Bool.{and_from, and_left, or_from, not_from_true}
-use Rattle.portus_core.specs.declared.program.Op2.{Op2}
-use Rattle.portus_core.specs.declared.program.Op2.TheVariants as source
+use Rattle.ccp_base.specs.declared.operation.Op2.{Op2}
+use Rattle.ccp_base.specs.declared.operation.Op2.TheVariants as source
 use Rattle.reg_code.specs.declared.code.Implicit.TheVariants.{Flag}
 use Rattle.reg_code.specs.declared.code.Instr.{Instr}
 use Rattle.reg_code.specs.declared.code.Op.{Op}

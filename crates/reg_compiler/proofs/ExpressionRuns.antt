@@ -6,11 +6,12 @@ use Rattle.ccp_base.specs.declared.arithmetic.FaultKind.{FaultKind}
 use Rattle.ccp_base.specs.declared.place.Place.{Place}
 use Rattle.ccp_base.specs.Acknowledgement.{number_of}
 use Rattle.portus_core.specs.declared.env.Env.{Env}
-use Rattle.portus_core.specs.declared.program.Op2.{Op2}
-use Rattle.portus_core.specs.declared.program.Op2.TheVariants as source
+use Rattle.ccp_base.specs.declared.operation.Op2.{Op2}
+use Rattle.ccp_base.specs.declared.operation.Op2.TheVariants as source
 use Rattle.portus_core.specs.Programs.{Term, number, truth, name, pair}
 use Rattle.ccp_base.specs.Chaining.{then_do as then_value}
-use Rattle.portus_core.specs.Value.{Cause, Locals, applied, at_place, value_of}
+use Rattle.portus_core.specs.Value.{Cause, Locals, at_place, value_of}
+use Rattle.ccp_base.specs.Operations.{applied}
 use Rattle.portus_core.specs.ValidPrograms.{Known, is_term}
 use Rattle.reg_code.specs.declared.code.Reg.{Reg}
 use Rattle.reg_code.specs.declared.code.Reg.TheVariants as reg

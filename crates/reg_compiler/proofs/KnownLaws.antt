@@ -6,10 +6,11 @@ use Rattle.ccp_base.specs.declared.ack.Ack.{Ack}
 use Rattle.ccp_base.specs.declared.arithmetic.FaultKind.{FaultKind}
 use Rattle.ccp_base.specs.declared.place.Place.{Place}
 use Rattle.portus_core.specs.declared.env.Env.{Env}
-use Rattle.portus_core.specs.declared.program.Op2.{Op2}
+use Rattle.ccp_base.specs.declared.operation.Op2.{Op2}
 use Rattle.portus_core.specs.Programs.{Term, number, truth, name, pair}
 use Rattle.ccp_base.specs.Chaining.{then_do}
-use Rattle.portus_core.specs.Value.{Cause, Locals, applied, at_place, value_of}
+use Rattle.portus_core.specs.Value.{Cause, Locals, at_place, value_of}
+use Rattle.ccp_base.specs.Operations.{applied}
 use Rattle.reg_compiler.specs.Known.{known_result, known_pair, known_value, is_nameless, KnownExactly}
 
 known_result-value : (result : Result ℕ FaultKind) (place : Place) (value : ℕ) → known_result result ≡ Some value → at_place place result ≡ Ok value

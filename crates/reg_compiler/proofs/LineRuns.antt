@@ -4,7 +4,7 @@ use Rattle.ccp_base.specs.declared.ack.Ack.{Ack}
 use Rattle.ccp_base.specs.declared.place.Place.{Place}
 use Rattle.portus_core.specs.Value.{Cause}
 use Rattle.ccp_base.specs.Chaining.{then_do}
-use Rattle.reg_code.specs.CodeStep.{Variables, Regs, Stop, fault, unset, step}
+use Rattle.reg_code.specs.CodeStep.{Variables, Regs, Undone, fault, unset, step}
 use Rattle.reg_compiler.specs.declared.line.Line.{Line}
 
 -- why lines come to no registers: a fault with its place, or a register without a value
@@ -12,7 +12,7 @@ pub data Halt : Type 0 where
   halted : Cause → Halt
   lacking : Halt
 
-abbrev pub placed : Place → Result Regs Stop → Result Regs Halt
+abbrev pub placed : Place → Result Regs Undone → Result Regs Halt
 placed place (Ok regs) = Ok regs
 placed place (Err (fault kind)) = Err (halted (kind, place))
 placed place (Err unset) = Err lacking

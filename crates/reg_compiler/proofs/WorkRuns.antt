@@ -8,7 +8,7 @@ use Rattle.ccp_base.specs.Chaining.{then_do as then_value}
 use Rattle.portus_core.specs.Value.{Cause}
 use Rattle.portus_core.specs.Command.{Going}
 use Rattle.ccp_base.specs.Chaining.{then_do}
-use Rattle.reg_code.specs.CodeStep.{Regs, Stop, fault, unset, step, Work, done, failed, stuck, then_run, after_step, run}
+use Rattle.reg_code.specs.CodeStep.{Regs, Undone, fault, unset, step, Work, done, failed, stuck, then_run, after_step, run}
 use Rattle.reg_compiler.specs.declared.line.Line.{Line}
 use Rattle.reg_compiler.specs.CompiledCode.{instr_of, place_of}
 use Rattle.reg_compiler.specs.Simulation.{kept_of}
@@ -56,7 +56,7 @@ drop-lines places rest index [] is = ap (λ n. drop n places) (omega arith) ∙ 
 drop-lines places rest index (line ∷ lines) is =
     ap (λ n. drop n places) (omega arith) ∙ drop-lines places rest (suc index) lines (drop-next places (map place_of lines ++ rest) index line.place is)
 
-RunsAs-step : (result : Result Regs Stop) (place : Place) (places : List Place) (index ran : ℕ) (rest : ℕ → Regs → Work) (lines : Regs → Result Regs Halt)
+RunsAs-step : (result : Result Regs Undone) (place : Place) (places : List Place) (index ran : ℕ) (rest : ℕ → Regs → Work) (lines : Regs → Result Regs Halt)
     → slice_get places index ≡ Some place → ((ran : ℕ) (regs : Regs) → RunsAs places (rest ran regs) (lines regs))
     → RunsAs places (after_step result index rest ran) (then_do (placed place result) lines)
 RunsAs-step (Ok regs) place places index ran rest lines here next = next (ran + 1) regs

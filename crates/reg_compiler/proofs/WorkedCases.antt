@@ -1,7 +1,7 @@
 -- Programs whose code was worked out by hand.
 use Rattle.std.specs.Prelude.{◌≡◌, true, Some, None, [], ◌∷◌, refl}
 use Rattle.ccp_base.specs.declared.place.Place.{Place}
-use Rattle.portus_core.specs.declared.program.Op2.TheVariants as source
+use Rattle.ccp_base.specs.declared.operation.Op2.TheVariants as source
 use Rattle.portus_core.specs.declared.program.Program.{Program}
 use Rattle.portus_core.specs.declared.program.Var.TheVariants as var
 use Rattle.portus_core.specs.Programs.{Term, truth, name, pair, set, Form}

@@ -2,8 +2,8 @@
 use Rattle.std.specs.Prelude.{ℕ, ◌+◌, Option, Some, None, option_map, unwrap_or, List, [], ◌∷◌, ◌++◌, length, map}
 use Rattle.ccp_base.specs.declared.place.Place.{Place}
 use Rattle.ccp_base.specs.Acknowledgement.{number_of}
-use Rattle.portus_core.specs.declared.program.Op2.{Op2}
-use Rattle.portus_core.specs.declared.program.Op2.TheVariants as source
+use Rattle.ccp_base.specs.declared.operation.Op2.{Op2}
+use Rattle.ccp_base.specs.declared.operation.Op2.TheVariants as source
 use Rattle.portus_core.specs.declared.program.Var.{Var}
 use Rattle.portus_core.specs.declared.program.Var.TheVariants as var
 use Rattle.portus_core.specs.Programs.{Term, number, truth, name, pair, Action, set, set_if, set_unless, ewma, zero_micros, report, fall, Part, Form}

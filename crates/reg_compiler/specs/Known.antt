@@ -4,9 +4,10 @@ use Rattle.ccp_base.specs.declared.arithmetic.FaultKind.{FaultKind}
 use Rattle.ccp_base.specs.Acknowledgement.{number_of}
 use Rattle.ccp_base.specs.declared.ack.Ack.{Ack}
 use Rattle.portus_core.specs.declared.env.Env.{Env}
-use Rattle.portus_core.specs.declared.program.Op2.{Op2}
+use Rattle.ccp_base.specs.declared.operation.Op2.{Op2}
 use Rattle.portus_core.specs.Programs.{Term, number, truth, name, pair}
-use Rattle.portus_core.specs.Value.{Locals, applied, value_of}
+use Rattle.portus_core.specs.Value.{Locals, value_of}
+use Rattle.ccp_base.specs.Operations.{applied}
 
 abbrev pub known_result : Result ℕ FaultKind → Option ℕ
 known_result (Ok value) = Some value

@@ -11,7 +11,7 @@ use Rattle.portus_core.specs.OneAcknowledgement.{IsEnvOf, one_of}
 use Rattle.reg_code.specs.declared.code.Code.{Code}
 use Rattle.reg_code.specs.declared.code.Start.{Start}
 use Rattle.reg_code.specs.AcceptedCode.{IsAccepted}
-use Rattle.reg_code.specs.CodeStep.{Kept, Outcome, quiet, reported, held, faulted, lost, mone}
+use Rattle.reg_code.specs.CodeStep.{Kept, CodeOutcome, quiet, reported, held, faulted, lost, one_by_code}
 
 -- the registers that hold an env: fields are reports, control variables are controls, number by number
 abbrev pub kept_of : Env → Kept
@@ -22,7 +22,7 @@ abbrev pub start_of : Decl → Start
 start_of decl = record { volatile = decl.volatile; value = decl.start }
 
 -- what an outcome of the code means, where each instruction has a place
-abbrev pub seen : List Place → Outcome → Option Mean
+abbrev pub seen : List Place → CodeOutcome → Option Mean
 seen places quiet = Some Quiet
 seen places (reported fields) = Some (Reported fields)
 seen places held = Some Held
@@ -38,8 +38,8 @@ StartsAlike form code = (code.reports ≡ map start_of form.fields) × (code.con
 abbrev pub MeansAlike : Form → Code → List Place → Type 0
 MeansAlike form code places =
     (env : Env) (ack : Ack) (room : Bool) → IsEnvOf form env
-    → (seen places (mone code (kept_of env) ack room).outcome ≡ Some (one_of form env ack room).0)
-    × ((mone code (kept_of env) ack room).kept ≡ kept_of (one_of form env ack room).1)
+    → (seen places (one_by_code code (kept_of env) ack room).outcome ≡ Some (one_of form env ack room).0)
+    × ((one_by_code code (kept_of env) ack room).kept ≡ kept_of (one_of form env ack room).1)
 
 -- the code simulates the program: it is accepted, has one place per instruction, starts alike, and means alike for
 -- every env, every acknowledgement and either room

@@ -3,7 +3,7 @@ ghost use Rattle.portus_core.specs.Programs.{term_of};
 ghost use Rattle.reg_compiler.specs.Known.{known_value};
 
 use ccp_base::bool_number;
-use portus_core::{Expr, applied};
+use portus_core::Expr;
 
 /// The value of an expression that has no name and doesn't fault: it is the same for every state and every
 /// acknowledgement.
@@ -15,6 +15,6 @@ pub fn known(expr: &Expr) -> Option<u64>
         Expr::Num(number) => Some(*number),
         Expr::Truth(truth) => Some(bool_number(*truth)),
         Expr::Var(_) => None,
-        Expr::Pair(op, _, left, right) => applied(*op, known(left)?, known(right)?).ok(),
+        Expr::Pair(op, _, left, right) => op.applied(known(left)?, known(right)?).ok(),
     }
 }

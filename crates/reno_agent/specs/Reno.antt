@@ -22,14 +22,14 @@
 -- - a fault of that program is answered by starting it anew with the agent's window, and what is told of another
 --   epoch is passed over.
 use Rattle.std.specs.Prelude.{ℕ, ◌-◌, ◌*◌, ◌/◌, ◌^◌, ◌≤◌, ◌==◌, ◌||◌, nat_lt, nat_le, min, max, if◌then◌else◌}
-use Rattle.ccp_base.specs.Saturating.{◌+ˢ◌, ◌*ˢ◌, muldiv, held}
-use Rattle.ccp_base.specs.Reading.{reading_of}
+use Rattle.ccp_base.specs.Saturating.{◌+ˢ◌, ◌*ˢ◌, muldiv, clamped}
+use Rattle.ccp_base.specs.Measurement.{measurement_of}
 use Rattle.ccp_base.specs.Course.{epoch_of, first_course, role_of, course_after, change_to, initial_segments}
 use Rattle.ccp_base.specs.declared.look.Role.{Role}
-use Rattle.ccp_base.specs.declared.reading.Reading.{Reading}
+use Rattle.ccp_base.specs.declared.measurement.Measurement.{Measurement}
 use Rattle.ccp_base.specs.declared.course.Course.{Course}
-use Rattle.ccp_base.specs.declared.course.Mode.{Mode}
-use Rattle.ccp_base.specs.declared.course.Mode.TheVariants.{SlowStart, Avoidance}
+use Rattle.ccp_base.specs.declared.course.Phase.{Phase}
+use Rattle.ccp_base.specs.declared.course.Phase.TheVariants.{SlowStart, Avoidance}
 use Rattle.ccp_base.specs.declared.exchange.Reply.{Reply}
 use Rattle.ccp_base.specs.declared.exchange.Reply.TheVariants.{Nothing, Update}
 use Rattle.ccp_base.specs.declared.exchange.Told.{Told}
@@ -68,15 +68,15 @@ first_reno mss ss ca = record {
 }
 
 -- a window held from one segment to 4,096 segments
-abbrev pub held_window : ℕ → ℕ → ℕ
-held_window mss window = held mss (4096 *ˢ mss) window
+abbrev pub clamped_window : ℕ → ℕ → ℕ
+clamped_window mss window = clamped mss (4096 *ˢ mss) window
 
 -- half of the flight before the losses were noticed, at least 2 segments (RFC 5681, equation 4) and at most 4,096
-abbrev pub cut_of : ℕ → Reading → ℕ
+abbrev pub cut_of : ℕ → Measurement → ℕ
 cut_of mss r = min (max ((r.inflight +ˢ r.loss *ˢ mss) / 2) (2 *ˢ mss)) (4096 *ˢ mss)
 
 -- the retransmission timer ran out: the window is one segment (RFC 5681, section 3.1)
-abbrev pub after_timeout : Reading → RenoState → Turn
+abbrev pub after_timeout : Measurement → RenoState → Turn
 after_timeout r s =
     let cut = cut_of s.mss r in (
       record s { course = course_after SlowStart s.course; window = s.mss; ssthresh = cut; calm = 0 },
@@ -84,7 +84,7 @@ after_timeout r s =
     )
 
 -- packets were lost or marked: the window is the threshold, once in a round-trip time (RFC 5681, section 3.2)
-abbrev pub after_loss : Reading → RenoState → Turn
+abbrev pub after_loss : Measurement → RenoState → Turn
 after_loss r s =
     let cut = cut_of s.mss r in
     if nat_lt r.now s.calm then (s, Nothing) else (
@@ -93,33 +93,33 @@ after_loss r s =
     )
 
 -- slow start ends where the window has reached the threshold (RFC 5681, section 3.1)
-abbrev pub in_slow_start : Reading → RenoState → Turn
+abbrev pub in_slow_start : Measurement → RenoState → Turn
 in_slow_start r s =
     if nat_le s.ssthresh r.cwnd then (record s { course = course_after Avoidance s.course }, change_to Avoidance s.course s.window s.ssthresh)
     else (s, Nothing)
 
 -- congestion avoidance: the window grows by about one segment in a round-trip time, and by at least one byte
 -- (RFC 5681, equation 3, with the bytes of the whole report)
-abbrev pub in_avoidance : Reading → RenoState → Turn
+abbrev pub in_avoidance : Measurement → RenoState → Turn
 in_avoidance r s =
-    let window = held_window s.mss (s.window +ˢ max 1 (muldiv s.mss r.acked s.window)) in
+    let window = clamped_window s.mss (s.window +ˢ max 1 (muldiv s.mss r.acked s.window)) in
     if r.acked == 0 then (s, Nothing) else (record s { window = window }, Update window)
 
 -- a report without a timeout, a loss or a mark
-abbrev pub in_mode : Mode → Reading → RenoState → Turn
-in_mode SlowStart r s = in_slow_start r s
-in_mode Avoidance r s = in_avoidance r s
+abbrev pub in_phase : Phase → Measurement → RenoState → Turn
+in_phase SlowStart r s = in_slow_start r s
+in_phase Avoidance r s = in_avoidance r s
 
 -- a report is treated by the first case that holds
-abbrev pub after_reading : Reading → RenoState → Turn
-after_reading r s =
+abbrev pub after_measurement : Measurement → RenoState → Turn
+after_measurement r s =
     if nat_lt 0 r.timeout then after_timeout r s
     else if nat_lt 0 r.loss || nat_lt 0 r.ecn then after_loss r s
-    else in_mode s.course.mode r s
+    else in_phase s.course.mode r s
 
 -- in slow start the datapath moves the window, and the agent takes it from the report
-abbrev pub window_told : Mode → Reading → RenoState → RenoState
-window_told SlowStart r s = record s { window = held_window s.mss r.cwnd }
+abbrev pub window_told : Phase → Measurement → RenoState → RenoState
+window_told SlowStart r s = record s { window = clamped_window s.mss r.cwnd }
 window_told Avoidance r s = s
 
 -- the program stopped by a fault is started again where the agent stands
@@ -131,8 +131,8 @@ after_fault s =
 -- what is told of the agent's epoch
 abbrev pub after_told : Told → RenoState → Turn
 after_told (Report report) s =
-    let r = reading_of (role_of s.course.mode s.course).look report in
-    after_reading r (window_told s.course.mode r s)
+    let r = measurement_of (role_of s.course.mode s.course).look report in
+    after_measurement r (window_told s.course.mode r s)
 after_told (Fault notice) s = after_fault s
 
 -- Reno: what is told of another epoch is passed over

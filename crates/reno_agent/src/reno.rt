@@ -1,6 +1,6 @@
 ghost use Rattle.std.specs.Prelude.{◌≡◌, ◌≤◌};
 
-use ccp_base::{Course, Mode, Reading, Reply, Role, Told, initial_segments};
+use ccp_base::{Course, Phase, Measurement, Reply, Role, Told, initial_segments};
 use int_roots::muldiv;
 use std::marker::Model;
 
@@ -37,9 +37,9 @@ impl Model for Reno {
 }
 
 impl Reno {
-    ghost use Rattle.reno_agent.specs.Reno.{reno, first_reno, held_window, cut_of, window_told, after_timeout, after_loss, in_slow_start, in_avoidance, after_reading, after_fault};
+    ghost use Rattle.reno_agent.specs.Reno.{reno, first_reno, clamped_window, cut_of, window_told, after_timeout, after_loss, in_slow_start, in_avoidance, after_measurement, after_fault};
     ghost use Rattle.ccp_base.specs.Course.{opening_of};
-    ghost use Rattle.ccp_base.specs.Reading.{reading_of};
+    ghost use Rattle.ccp_base.specs.Measurement.{measurement_of};
 
     /// An agent that was told nothing yet, of a flow whose segments have `mss` bytes, with its programs of slow
     /// start and of congestion avoidance.
@@ -109,17 +109,17 @@ impl Reno {
         match told {
             Told::Report(report) => {
                 let role = self.course.role(self.course.mode);
-                let reading = Reading::new(&role.look, report);
-                self.take_window(reading);
-                self.on_reading(reading)
+                let measurement = Measurement::new(&role.look, report);
+                self.take_window(measurement);
+                self.on_measurement(measurement)
             }
             Told::Fault(_) => self.on_fault(),
         }
     }
 
     /// A window in bytes, held from one segment to 4,096 segments.
-    fn held_window(&self, window: u64) -> u64
-        ensures value { result ≡ held_window self.now.mss window }
+    fn clamped_window(&self, window: u64) -> u64
+        ensures value { result ≡ clamped_window self.now.mss window }
     {
         let mss = u64::from(self.mss);
         window.min(WINDOW_SEGMENTS.saturating_mul(mss)).max(mss)
@@ -127,89 +127,89 @@ impl Reno {
 
     /// The threshold after a loss, in bytes: half of the flight before the losses were noticed, within bounds
     /// (RFC 5681, equation 4).
-    fn cut(&self, reading: Reading) -> u64
-        ensures { result ≡ cut_of self.now.mss reading }
+    fn cut(&self, measurement: Measurement) -> u64
+        ensures { result ≡ cut_of self.now.mss measurement }
     {
         let mss = u64::from(self.mss);
-        let flight = reading
+        let flight = measurement
             .inflight
-            .saturating_add(reading.loss.saturating_mul(mss));
+            .saturating_add(measurement.loss.saturating_mul(mss));
         let half = (flight / 2).max(THRESHOLD_SEGMENTS.saturating_mul(mss));
         half.min(WINDOW_SEGMENTS.saturating_mul(mss))
     }
 
     /// In slow start the datapath moves the window, and the agent takes it from the report.
-    fn take_window(&mut self, reading: Reading)
-        ensures { self.new ≡ window_told self.old.course.mode reading self.old }
+    fn take_window(&mut self, measurement: Measurement)
+        ensures { self.new ≡ window_told self.old.course.mode measurement self.old }
     {
         match self.course.mode {
-            Mode::SlowStart => self.window = self.held_window(reading.cwnd),
-            Mode::Avoidance => {}
+            Phase::SlowStart => self.window = self.clamped_window(measurement.cwnd),
+            Phase::Avoidance => {}
         }
     }
 
     /// Treats a report by the first case that holds.
-    fn on_reading(&mut self, reading: Reading) -> Reply
-        ensures { (self.new, result) ≡ after_reading reading self.old }
+    fn on_measurement(&mut self, measurement: Measurement) -> Reply
+        ensures { (self.new, result) ≡ after_measurement measurement self.old }
     {
-        if reading.timeout > 0 {
-            return self.on_timeout(reading);
+        if measurement.timeout > 0 {
+            return self.on_timeout(measurement);
         }
-        if reading.loss > 0 || reading.ecn > 0 {
-            return self.on_loss(reading);
+        if measurement.loss > 0 || measurement.ecn > 0 {
+            return self.on_loss(measurement);
         }
         match self.course.mode {
-            Mode::SlowStart => self.in_slow_start(reading),
-            Mode::Avoidance => self.in_avoidance(reading),
+            Phase::SlowStart => self.in_slow_start(measurement),
+            Phase::Avoidance => self.in_avoidance(measurement),
         }
     }
 
     /// The retransmission timer ran out: slow start again, from one segment (RFC 5681, section 3.1).
-    fn on_timeout(&mut self, reading: Reading) -> Reply
-        ensures { (self.new, result) ≡ after_timeout reading self.old }
+    fn on_timeout(&mut self, measurement: Measurement) -> Reply
+        ensures { (self.new, result) ≡ after_timeout measurement self.old }
     {
-        self.ssthresh = self.cut(reading);
+        self.ssthresh = self.cut(measurement);
         self.window = u64::from(self.mss);
         self.calm = 0;
         self.course
-            .change(Mode::SlowStart, self.window, self.ssthresh)
+            .change(Phase::SlowStart, self.window, self.ssthresh)
     }
 
     /// Packets were lost or marked: the window falls to the threshold, once in a round-trip time (RFC 5681,
     /// section 3.2).
-    fn on_loss(&mut self, reading: Reading) -> Reply
-        ensures { (self.new, result) ≡ after_loss reading self.old }
+    fn on_loss(&mut self, measurement: Measurement) -> Reply
+        ensures { (self.new, result) ≡ after_loss measurement self.old }
     {
-        if reading.now < self.calm {
+        if measurement.now < self.calm {
             return Reply::Nothing;
         }
-        self.ssthresh = self.cut(reading);
+        self.ssthresh = self.cut(measurement);
         self.window = self.ssthresh;
-        self.calm = reading.now.saturating_add(reading.rtt);
+        self.calm = measurement.now.saturating_add(measurement.rtt);
         self.course
-            .change(Mode::Avoidance, self.window, self.ssthresh)
+            .change(Phase::Avoidance, self.window, self.ssthresh)
     }
 
     /// Slow start ends where the window has reached the threshold (RFC 5681, section 3.1).
-    fn in_slow_start(&mut self, reading: Reading) -> Reply
-        ensures { (self.new, result) ≡ in_slow_start reading self.old }
+    fn in_slow_start(&mut self, measurement: Measurement) -> Reply
+        ensures { (self.new, result) ≡ in_slow_start measurement self.old }
     {
-        if reading.cwnd < self.ssthresh {
+        if measurement.cwnd < self.ssthresh {
             return Reply::Nothing;
         }
         self.course
-            .change(Mode::Avoidance, self.window, self.ssthresh)
+            .change(Phase::Avoidance, self.window, self.ssthresh)
     }
 
     /// Congestion avoidance: the window grows by about one segment in a round-trip time (RFC 5681, equation 3).
-    fn in_avoidance(&mut self, reading: Reading) -> Reply
-        ensures { (self.new, result) ≡ in_avoidance reading self.old }
+    fn in_avoidance(&mut self, measurement: Measurement) -> Reply
+        ensures { (self.new, result) ≡ in_avoidance measurement self.old }
     {
-        if reading.acked == 0 {
+        if measurement.acked == 0 {
             return Reply::Nothing;
         }
-        let growth = muldiv(u64::from(self.mss), reading.acked, self.window).max(1);
-        self.window = self.held_window(self.window.saturating_add(growth));
+        let growth = muldiv(u64::from(self.mss), measurement.acked, self.window).max(1);
+        self.window = self.clamped_window(self.window.saturating_add(growth));
         Reply::Update(self.window)
     }
 

@@ -12,10 +12,10 @@ use Rattle.reg_compiler.specs.declared.built.Built.{Built}
 use Rattle.ccp_base.specs.Chaining.{then_do}
 use Rattle.scenario_json.specs.Cases.{AreNumberedFrom}
 use Rattle.scenario_json.proofs.TableLemmas.{Entry}
-use Rattle.scenario_json.specs.ScenePrograms.{Reading, Forms, named_program, programs_from, forms_of}
+use Rattle.scenario_json.specs.ScenePrograms.{TextReading, Forms, named_program, programs_from, forms_of}
 
 -- a program that is built goes to the end, with the number of those before it
-pub forms_pushed : (read : Reading) (builts : List (ℕ × Built)) (built : Built) (name : List ℕ) (value : Data) (rest : Members)
+pub forms_pushed : (read : TextReading) (builts : List (ℕ × Built)) (built : Built) (name : List ℕ) (value : Data) (rest : Members)
     → named_program read name value ≡ Ok (form_of built.program)
     → programs_from read (forms_of builts) (member name value rest) ≡ programs_from read (forms_of (builts ++ (length builts, built) ∷ [])) rest
 forms_pushed read builts built name value rest is =

@@ -17,7 +17,7 @@ use Rattle.scenario_json.specs.Paths.{path_of}
 use Rattle.scenario_json.specs.Values.{member_of, needed, list_in, object_in, needed_number}
 use Rattle.scenario_json.specs.CaseWalk.{Table, cases_from}
 use Rattle.scenario_json.specs.Traces.{traces_in}
-use Rattle.scenario_json.specs.ScenePrograms.{Reading, Forms, programs_object, programs_in, names_of}
+use Rattle.scenario_json.specs.ScenePrograms.{TextReading, Forms, programs_object, programs_in, names_of}
 
 -- what a scenario says: its programs with their numbers, its traces by name, and its cases; case i is flow i
 pub record Parts : Type 0 where
@@ -36,7 +36,7 @@ pub record Scene : Type 0 where
 -- ---- programs
 
 -- all programs with their numbers, and the names of those that the scenario names
-abbrev pub all_programs : Reading → Option Data → Result (Forms × List (List ℕ)) SceneFault
+abbrev pub all_programs : TextReading → Option Data → Result (Forms × List (List ℕ)) SceneFault
 all_programs reading member =
     then_do (programs_object member) (λ named.
     then_do (programs_in reading named) (λ forms. Ok (forms, names_of named)))
@@ -74,7 +74,7 @@ opening_in whole =
     then_do (object_in Whole whole) (λ members. needed_number (Top key.Version) key.Version whole)
 
 -- what a value says, over what each program text comes to
-abbrev pub parts_in : Reading → Mode → Data → Result Parts SceneFault
+abbrev pub parts_in : TextReading → Mode → Data → Result Parts SceneFault
 parts_in reading mode whole =
     then_do (opening_in whole) (λ version.
     then_do (all_programs reading (member_of key.Programs whole)) (λ programs.
@@ -94,7 +94,7 @@ abbrev pub scene_with : Forms → List Plan → Scene
 scene_with programs cases = record { programs = programs; cases = cases }
 
 -- the scene of a text
-abbrev pub scene_of : Reading → Mode → List ℕ → Result Scene SceneFault
+abbrev pub scene_of : TextReading → Mode → List ℕ → Result Scene SceneFault
 scene_of reading mode text =
     then_do (value_in text) (λ whole.
     then_do (parts_in reading mode whole) (λ parts. Ok (scene_with parts.programs parts.cases)))

@@ -20,15 +20,15 @@ use Rattle.scenario_json.specs.Values.{object_in}
 use Rattle.scenario_json.specs.Traces.{named_text}
 
 -- what each program text comes to: the program that is built, or the first refusal
-abbrev pub Reading : Type 0
-Reading = List ℕ → Result Form BuildFault
+abbrev pub TextReading : Type 0
+TextReading = List ℕ → Result Form BuildFault
 
 abbrev pub ComesTo : List ℕ → Result Form BuildFault → Type 0
 ComesTo text (Ok form) = IsBuiltFrom text form
 ComesTo text (Err fault) = IsNoProgram text fault
 
 -- a reading gives for each text what the text comes to
-pub record IsReading (read : Reading) : Type 0 where
+pub record IsReading (read : TextReading) : Type 0 where
   pub at : (text : List ℕ) → ComesTo text (read text)
 
 -- programs with their numbers
@@ -40,12 +40,12 @@ abbrev pub under_name : List ℕ → Result Form BuildFault → Result Form Scen
 under_name name (Ok form) = Ok form
 under_name name (Err fault) = Err (Program name fault)
 
-abbrev pub named_program : Reading → List ℕ → Data → Result Form SceneFault
+abbrev pub named_program : TextReading → List ℕ → Data → Result Form SceneFault
 named_program read name value =
     then_do (named_text key.Programs name value) (λ text. under_name name (read text))
 
 -- the programs, after those that are done
-abbrev pub programs_from : Reading → Forms → Members → Result Forms SceneFault
+abbrev pub programs_from : TextReading → Forms → Members → Result Forms SceneFault
 programs_from read done no_members = Ok done
 programs_from read done (member name value rest) =
     then_do (named_program read name value) (λ form. programs_from read (done ++ (length done, form) ∷ []) rest)
@@ -55,7 +55,7 @@ abbrev pub built_in : ℕ → Result Form BuildFault → Forms
 built_in number (Ok form) = (number, form) ∷ []
 built_in number (Err fault) = []
 
-abbrev pub built_ins : Reading → Forms
+abbrev pub built_ins : TextReading → Forms
 built_ins read = built_in 0 (read (builtin_text 0)) ++ built_in 1 (read (builtin_text 1)) ++ built_in 2 (read (builtin_text 2))
 
 -- an object that doesn't have more members than a scenario names programs
@@ -69,7 +69,7 @@ programs_object None = Ok no_members
 programs_object (Some value) = then_do (object_in (Top key.Programs) value) (λ members. few_members members)
 
 -- all programs of a scenario
-abbrev pub programs_in : Reading → Members → Result Forms SceneFault
+abbrev pub programs_in : TextReading → Members → Result Forms SceneFault
 programs_in read members = programs_from read (built_ins read) members
 
 -- the names of members, in order

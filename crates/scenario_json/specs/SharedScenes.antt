@@ -13,7 +13,7 @@ use Rattle.scenario_json.specs.declared.plan.Plan.{Plan}
 use Rattle.scenario_json.specs.declared.shares.Shares.{Shares}
 use Rattle.scenario_json.specs.Values.{member_of, needed, object_in, needed_number}
 use Rattle.scenario_json.specs.CaseWalk.{Table, trace_in}
-use Rattle.scenario_json.specs.ScenePrograms.{Reading}
+use Rattle.scenario_json.specs.ScenePrograms.{TextReading}
 use Rattle.scenario_json.specs.Scene.{Scene, Parts, scene_with, parts_in, value_in}
 
 -- the scene of a live run, the link that its flows share, and the most rounds
@@ -75,7 +75,7 @@ shared_of parts shares =
     shared_with (scene_with parts.programs parts.cases) (shared_case shares parts.cases) shares.rounds
 
 -- the refusals of a live run's scenario come first, then those of the link
-abbrev pub shared_scene_of : Reading → List ℕ → Result SharedParts SceneFault
+abbrev pub shared_scene_of : TextReading → List ℕ → Result SharedParts SceneFault
 shared_scene_of reading text =
     then_do (value_in text) (λ whole.
     then_do (parts_in reading Live whole) (λ parts.

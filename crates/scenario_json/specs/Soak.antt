@@ -8,7 +8,7 @@ use Rattle.scenario_json.specs.declared.plan.Measures.{Measures}
 use Rattle.scenario_json.specs.declared.plan.Waits.{Waits}
 use Rattle.scenario_json.specs.declared.plan.Plan.{Plan}
 use Rattle.scenario_json.specs.CaseWalk.{avoidance_of}
-use Rattle.scenario_json.specs.ScenePrograms.{Reading, built_ins}
+use Rattle.scenario_json.specs.ScenePrograms.{TextReading, built_ins}
 use Rattle.scenario_json.specs.Scene.{Scene, scene_with}
 
 -- the number that is drawn from, after a draw
@@ -103,5 +103,5 @@ drawn_plans (suc left) done x =
     let next = drawn_plan (length done) x in drawn_plans left (done ++ next.0 ∷ []) next.1
 
 -- the generated scene of a number
-abbrev pub gen : Reading → ℕ → Scene
+abbrev pub gen : TextReading → ℕ → Scene
 gen reading number = scene_with (built_ins reading) (drawn_plans most_flows [] number)

@@ -1,7 +1,7 @@
 use Rattle.std.proofs.Common.{◌≡◌, inl, inr, ℕ, ◌<◌, ◌≤◌, ◌==◌, Bool, true, false, not, ◌&&◌, ◌||◌, refl, List, [], ◌∷◌, ◌++◌, length, Option, Some, None, IfSome, is_some, Result, Ok, IsTrue, nat_le, if◌then◌else◌, bytes_eq, codes, arith, ap, ◌∙◌, sym, subst, append-nil, append_assoc}
 use Rattle.std.proofs.lemmas.Bool.Decides.{nat_tests, Decides-eqb}
 use Rattle.ccp_base.specs.declared.place.Place.{Place}
-use Rattle.portus_core.specs.declared.program.Op2.{Op2}
+use Rattle.ccp_base.specs.declared.operation.Op2.{Op2}
 use Rattle.portus_core.specs.declared.program.Var.{Var}
 use Rattle.portus_core.specs.declared.program.Var.TheVariants as var
 use Rattle.portus_core.specs.Programs.{Term, Action, set, zero_micros}
@@ -10,7 +10,8 @@ use Rattle.portus_core.specs.ValidPrograms.{is_writable, term_is_truth}
 use Rattle.scope_types.specs.declared.fault.ScopeFault.{ScopeFault}
 use Rattle.scope_types.specs.declared.target.Target.{Target}
 use Rattle.scope_types.specs.declared.target.Target.TheVariants.{Known as Meant, Fresh}
-use Rattle.portus_core.specs.Words.{operator_of, variable_of, is_name_shaped, is_heading, is_constant, is_reserved, is_field_use, is_primitive_use}
+use Rattle.portus_core.specs.Words.{variable_of, is_name_shaped, is_heading, is_constant, is_reserved, is_field_use, is_primitive_use}
+use Rattle.ccp_base.specs.Operations.{operator_of}
 use Rattle.scope_types.specs.Scope.{Scope, known_in, with_local}
 use Rattle.scope_types.specs.Names.{decl_from, local_from, named, meaning_of}
 use Rattle.scope_types.specs.Walk.{place_of, and_then}

@@ -2,7 +2,7 @@
 use Rattle.std.proofs.Common.{◌≡◌, ◌≢◌, ℕ, ◌==◌, Bool, true, false, not, ◌&&◌, ◌||◌, List, [], ◌∷◌, ◌++◌, length, Option, Some, None, is_some, Result, Ok, Err, IfErr, nat_lt, nat_le, bytes_eq, codes, subst, if◌then◌else◌}
 use Rattle.std.specs.Prelude.{◌^◌}
 use Rattle.ccp_base.specs.declared.place.Place.{Place}
-use Rattle.portus_core.specs.declared.program.Op2.{Op2}
+use Rattle.ccp_base.specs.declared.operation.Op2.{Op2}
 use Rattle.portus_core.specs.declared.program.Var.{Var}
 use Rattle.portus_core.specs.declared.program.Var.TheVariants as var
 use Rattle.portus_core.specs.Programs.{Term, Action, Part, Form}
@@ -16,7 +16,8 @@ use Rattle.scope_types.specs.declared.target.Target.TheVariants.{Known, Fresh}
 use Rattle.scope_types.specs.Names.{meaning_of, decl_from}
 use Rattle.scope_types.specs.Scope.{Scope}
 use Rattle.scope_types.specs.Walk.{place_of, and_then}
-use Rattle.portus_core.specs.Words.{operator_of, variable_of, is_reserved, is_field_use, is_primitive_use, is_field_name, is_control_name}
+use Rattle.portus_core.specs.Words.{variable_of, is_reserved, is_field_use, is_primitive_use, is_field_name, is_control_name}
+use Rattle.ccp_base.specs.Operations.{operator_of}
 use Rattle.scope_types.specs.ValueWords.{constant_of}
 use Rattle.scope_types.specs.ExpressionWalk.{or_refused, name_walk, variable_walk, word_walk, pair_walk, expression_walk}
 use Rattle.scope_types.specs.CommandWalk as cmd

@@ -5,7 +5,7 @@ use Rattle.std.proofs.lemmas.Bool.Decides.{nat_tests, Decides-eqb}
 use Rattle.std.proofs.lemmas.Slice.Eq.{bytes_eq-Decides, starts_is}
 use Rattle.ccp_base.specs.declared.place.Place.{Place}
 use Rattle.portus_core.specs.declared.program.Decl.{Decl}
-use Rattle.portus_core.specs.declared.program.Op2.{Op2}
+use Rattle.ccp_base.specs.declared.operation.Op2.{Op2}
 use Rattle.portus_core.specs.declared.program.Var.{Var}
 use Rattle.portus_core.specs.declared.program.Var.TheVariants as var
 use Rattle.portus_core.specs.Programs.{Term}
@@ -14,7 +14,8 @@ use Rattle.portus_core.specs.ValidPrograms.{is_truth, term_is_truth, declares_tr
 use Rattle.scope_types.specs.declared.names.Local.{Local}
 use Rattle.scope_types.specs.declared.fault.ScopeFault.{ScopeFault}
 use Rattle.scope_types.specs.declared.fault.ScopeFault.TheVariants.{Unknown}
-use Rattle.portus_core.specs.Words.{operator_of, variable_of, is_reserved, is_field_use, is_primitive_use}
+use Rattle.portus_core.specs.Words.{variable_of, is_reserved, is_field_use, is_primitive_use}
+use Rattle.ccp_base.specs.Operations.{operator_of}
 use Rattle.ccp_base.specs.Acknowledgement.{is_flag}
 use Rattle.ccp_base.specs.PrimitiveNames.{PrimitiveName, primitive_names, word_of, primitive_named}
 use Rattle.scope_types.specs.ValueWords.{constant_of, constant_truth}

@@ -3,7 +3,7 @@ use Rattle.std.proofs.lemmas.List.{length-map}
 use Rattle.std.proofs.lemmas.Bool.Decides.{nat_tests}
 use Rattle.ccp_base.specs.declared.place.Place.{Place}
 use Rattle.portus_core.specs.declared.program.Decl.{Decl}
-use Rattle.portus_core.specs.declared.program.Op2.{Op2}
+use Rattle.ccp_base.specs.declared.operation.Op2.{Op2}
 use Rattle.portus_core.specs.declared.program.Var.{Var}
 use Rattle.portus_core.specs.declared.program.Var.TheVariants as var
 use Rattle.portus_core.specs.Programs.{Term}
@@ -12,7 +12,8 @@ use Rattle.portus_core.specs.ValidPrograms.{Known, is_known, is_term}
 use Rattle.scope_types.specs.declared.names.Local.{Local}
 use Rattle.scope_types.specs.declared.fault.ScopeFault.{ScopeFault}
 use Rattle.scope_types.specs.declared.fault.ScopeFault.TheVariants.{Unknown}
-use Rattle.portus_core.specs.Words.{operator_of, variable_of, is_reserved, is_field_use}
+use Rattle.portus_core.specs.Words.{variable_of, is_reserved, is_field_use}
+use Rattle.ccp_base.specs.Operations.{operator_of}
 use Rattle.ccp_base.specs.PrimitiveNames.{primitive_named}
 use Rattle.scope_types.specs.ValueWords.{constant_of}
 use Rattle.scope_types.specs.Names.{decl_from, local_from, named, meaning_of}

@@ -1,14 +1,15 @@
 -- The walk over an expression, in the order of its checks.
 use Rattle.std.specs.Prelude.{ℕ, ◌^◌, List, Option, Some, None, Result, Ok, Err, if◌then◌else◌, nat_lt}
 use Rattle.ccp_base.specs.declared.place.Place.{Place}
-use Rattle.portus_core.specs.declared.program.Op2.{Op2}
+use Rattle.ccp_base.specs.declared.operation.Op2.{Op2}
 use Rattle.portus_core.specs.declared.program.Var.{Var}
 use Rattle.portus_core.specs.Programs.{Term, number, name, pair}
 use Rattle.portus_core.specs.Trees.{Node, Nodes, none, more}
 use Rattle.portus_core.specs.Trees as node
 use Rattle.scope_types.specs.declared.fault.ScopeFault.{ScopeFault}
 use Rattle.scope_types.specs.declared.fault.ScopeFault.TheVariants.{Unknown, Misplaced}
-use Rattle.portus_core.specs.Words.{operator_of, variable_of, is_reserved}
+use Rattle.portus_core.specs.Words.{variable_of, is_reserved}
+use Rattle.ccp_base.specs.Operations.{operator_of}
 use Rattle.scope_types.specs.ValueWords.{constant_of}
 use Rattle.scope_types.specs.Names.{meaning_of}
 use Rattle.scope_types.specs.Scope.{Scope}

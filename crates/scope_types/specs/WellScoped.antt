@@ -3,17 +3,19 @@ use Rattle.std.specs.Prelude.{◌≡◌, ◌⊎◌, ℕ, ◌<◌, ◌≤◌, ◌
 use Rattle.ccp_base.specs.Acknowledgement.{is_flag}
 use Rattle.ccp_base.specs.Limits.{most_fields, most_controls, most_blocks, most_locals, most_tenths}
 use Rattle.portus_core.specs.declared.program.Decl.{Decl}
-use Rattle.portus_core.specs.declared.program.Op2.{Op2}
+use Rattle.ccp_base.specs.declared.operation.Op2.{Op2}
 use Rattle.portus_core.specs.declared.program.Var.{Var}
 use Rattle.portus_core.specs.declared.program.Var.TheVariants as var
 use Rattle.portus_core.specs.Programs.{Term, name, pair, Action, set, set_if, set_unless, ewma, zero_micros, report, fall, Part, Form}
 use Rattle.portus_core.specs.Programs as term
 use Rattle.portus_core.specs.Trees.{Node, Nodes, number, word, list, none, more}
-use Rattle.portus_core.specs.ValidPrograms.{gives_truth, is_writable}
+use Rattle.portus_core.specs.ValidPrograms.{is_writable}
+use Rattle.ccp_base.specs.Operations.{gives_truth}
 use Rattle.ccp_base.specs.declared.place.Place.{Place}
 use Rattle.scope_types.specs.declared.names.Local.{Local}
 use Rattle.scope_types.specs.Scope.{Scope, with_local}
-use Rattle.portus_core.specs.Words.{operator_of, variable_of, is_reserved, is_field_use, is_primitive_use, is_field_name, is_control_name}
+use Rattle.portus_core.specs.Words.{variable_of, is_reserved, is_field_use, is_primitive_use, is_field_name, is_control_name}
+use Rattle.ccp_base.specs.Operations.{operator_of}
 use Rattle.ccp_base.specs.PrimitiveNames.{primitive_named}
 use Rattle.scope_types.specs.ValueWords.{constant_of, constant_truth}
 

@@ -9,8 +9,8 @@ ghost use Rattle.scope_types.specs.Scope.{scope_of};
 use crate::fault::ScopeFault;
 use crate::meaning::meaning_of;
 use crate::names::Names;
-use crate::words::{is_reserved, operator_of, same, variable_of};
-use ccp_base::Place;
+use crate::words::{is_reserved, same, variable_of};
+use ccp_base::{Place, operator_of};
 use portus_core::{Expr, Op2, Parts, Tree, Var, take_apart};
 use std::alloc::Global;
 

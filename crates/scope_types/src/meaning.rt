@@ -1,6 +1,6 @@
 ghost use Rattle.std.specs.Prelude.{◌≡◌, ◌≤◌, length, map, slice_get};
 ghost use Rattle.portus_core.specs.Programs.{term_of};
-ghost use Rattle.portus_core.specs.ValidPrograms.{declares_truth, is_told, gives_truth};
+ghost use Rattle.portus_core.specs.ValidPrograms.{declares_truth, is_told};
 ghost use Rattle.scope_types.specs.declared.names.Local.{Local};
 ghost use Rattle.scope_types.specs.CommandWalk.{is_bool, wants_bool};
 ghost use Rattle.scope_types.specs.Names.{local_from, meaning_of};
@@ -10,7 +10,7 @@ use crate::declarations::Declarations;
 use crate::names::{Local, Names};
 use crate::words::{is_field_use, same};
 use ccp_base::{is_flag, primitive_named};
-use portus_core::{Expr, Op2, Var};
+use portus_core::{Expr, Var};
 
 /// The number of the local that has this name.
 fn find_local(locals: &[Local], name: &[u8]) -> Option<u32>
@@ -78,16 +78,6 @@ pub(crate) fn is_bool_variable(names: &Names, var: Var) -> bool
     }
 }
 
-/// Whether an operation gives a Bool.
-fn gives_bool(op: Op2) -> bool
-    ensures { result ≡ gives_truth op }
-{
-    match op {
-        Op2::Gt | Op2::Lt | Op2::Eq | Op2::And | Op2::Or => true,
-        Op2::Add | Op2::Sub | Op2::Mul | Op2::Div | Op2::Max | Op2::Min => false,
-    }
-}
-
 /// Whether an expression is a Bool.
 pub(crate) fn is_bool(names: &Names, expr: &Expr) -> bool
     ensures { result ≡ is_bool (scope_of names.now) (term_of expr.now) }
@@ -96,6 +86,6 @@ pub(crate) fn is_bool(names: &Names, expr: &Expr) -> bool
         Expr::Num(_) => false,
         Expr::Truth(_) => true,
         Expr::Var(var) => is_bool_variable(names, *var),
-        Expr::Pair(op, _, _, _) => gives_bool(*op),
+        Expr::Pair(op, _, _, _) => op.gives_truth(),
     }
 }

@@ -1,45 +1,15 @@
 ghost use Rattle.std.specs.Prelude.{◌≡◌, bytes_eq};
 ghost use Rattle.std.specs.List.{list_all};
-ghost use Rattle.portus_core.specs.Words.{operator_of, is_constant, variable_of, is_first, is_later, is_name_shaped, is_heading, is_reserved, is_field_use, is_primitive_use};
+ghost use Rattle.portus_core.specs.Words.{is_constant, variable_of, is_first, is_later, is_name_shaped, is_heading, is_reserved, is_field_use, is_primitive_use};
 
-use portus_core::{Op2, Var};
+use ccp_base::operator_of;
+use portus_core::Var;
 
 /// Whether two texts are equal.
 pub(crate) fn same(a: &[u8], b: &[u8]) -> bool
     ensures { result ≡ bytes_eq a.now b.now }
 {
     a == b
-}
-
-/// The operation that an operator's spelling stands for.
-pub(crate) fn operator_of(w: &[u8]) -> Option<Op2>
-    ensures { result ≡ operator_of w.now }
-{
-    if same(w, b"+") || same(w, b"add") {
-        Some(Op2::Add)
-    } else if same(w, b"-") || same(w, b"sub") {
-        Some(Op2::Sub)
-    } else if same(w, b"*") || same(w, b"mul") {
-        Some(Op2::Mul)
-    } else if same(w, b"/") || same(w, b"div") {
-        Some(Op2::Div)
-    } else if same(w, b">") || same(w, b"gt") {
-        Some(Op2::Gt)
-    } else if same(w, b"<") || same(w, b"lt") {
-        Some(Op2::Lt)
-    } else if same(w, b"==") || same(w, b"eq") {
-        Some(Op2::Eq)
-    } else if same(w, b"&&") || same(w, b"and") {
-        Some(Op2::And)
-    } else if same(w, b"||") || same(w, b"or") {
-        Some(Op2::Or)
-    } else if same(w, b"max") {
-        Some(Op2::Max)
-    } else if same(w, b"min") {
-        Some(Op2::Min)
-    } else {
-        None
-    }
 }
 
 /// The variable of the language that a word stands for.

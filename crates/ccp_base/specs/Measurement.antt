@@ -2,7 +2,7 @@
 use Rattle.std.specs.Prelude.{ℕ, Option, Some, None, List, slice_get, unwrap_or}
 use Rattle.ccp_base.specs.declared.look.Look.{Look}
 use Rattle.ccp_base.specs.declared.exchange.Report.{Report}
-use Rattle.ccp_base.specs.declared.reading.Reading.{Reading}
+use Rattle.ccp_base.specs.declared.measurement.Measurement.{Measurement}
 
 -- the field at a place; 0 where there is no place, or it isn't below the number of fields
 abbrev pub field_at : Option ℕ → List ℕ → ℕ
@@ -10,8 +10,8 @@ field_at None fields = 0
 field_at (Some place) fields = unwrap_or (slice_get fields place) 0
 
 -- a report as its program's look has it
-abbrev pub reading_of : Look → Report → Reading
-reading_of look report = record {
+abbrev pub measurement_of : Look → Report → Measurement
+measurement_of look report = record {
   now = report.now;
   cwnd = report.cwnd;
   acked = field_at look.acked report.fields;

@@ -1,5 +1,5 @@
 ghost use Rattle.std.specs.Prelude.{◌≡◌};
-ghost use Rattle.ccp_base.specs.Reading.{field_at, reading_of};
+ghost use Rattle.ccp_base.specs.Measurement.{field_at, measurement_of};
 
 use crate::exchange::Report;
 use crate::look::Look;
@@ -7,7 +7,7 @@ use crate::values::Values;
 
 /// What an agent reads of a report. A field that the report's program doesn't have reads as 0.
 #[derive(Clone, Copy, PartialEq, Eq, Debug)]
-pub struct Reading {
+pub struct Measurement {
     /// The time of the reporting acknowledgement, in microseconds.
     pub now: u64,
     /// The congestion window after it, in bytes.
@@ -26,13 +26,13 @@ pub struct Reading {
     pub ecn: u64,
 }
 
-impl Reading {
+impl Measurement {
     /// A report as its program's look has it.
     pub fn new(look: &Look, report: &Report) -> Self
-        ensures { result ≡ reading_of look.now report.entry.now }
+        ensures { result ≡ measurement_of look.now report.entry.now }
     {
         let fields = &report.fields;
-        Reading {
+        Measurement {
             now: report.now,
             cwnd: report.cwnd,
             acked: field_at(look.acked, fields),

@@ -1,0 +1,18 @@
+-- An operation's number is its own.
+use Rattle.std.proofs.Common.{◌≡◌, refl, Some}
+use Rattle.ccp_base.specs.declared.operation.Op2.{Op2}
+use Rattle.ccp_base.specs.declared.operation.Op2.TheVariants.{Add, Sub, Mul, Div, Max, Min, Gt, Lt, Eq, And, Or}
+use Rattle.ccp_base.specs.Operations.{written_as, operation_numbered}
+
+pub operation-back : (o : Op2) → operation_numbered (written_as o).number ≡ Some o
+operation-back Add = refl
+operation-back Sub = refl
+operation-back Mul = refl
+operation-back Div = refl
+operation-back Max = refl
+operation-back Min = refl
+operation-back Gt = refl
+operation-back Lt = refl
+operation-back Eq = refl
+operation-back And = refl
+operation-back Or = refl
