@@ -166,7 +166,7 @@ fn part_refusal(
 #[cfg(test)]
 mod tests {
     use super::*;
-    use reg_code::{Implicit, Instr, Op, Reg, Sequence, Start, pack_all};
+    use reg_code::{Implicit, Instr, Op, Op2, Reg, Sequence, Start, pack_all};
     use std::alloc::{AllocError, Global};
     use std::test::Fail;
 
@@ -343,7 +343,7 @@ mod tests {
             (bind(ONE, ONE), Rule::Writable),
             (bind(Reg::Prim(14), ONE), Rule::Writable),
             (bind(MICROS, ONE), Rule::Writable),
-            (instr(Op::Add, MICROS, ZERO, ZERO), Rule::Writable),
+            (instr(Op::Pair(Op2::Add), MICROS, ZERO, ZERO), Rule::Writable),
             (bind(FLAG, ONE), Rule::Writable),
             (instr(Op::Ewma, FALL, ONE, ONE), Rule::Writable),
         ] {

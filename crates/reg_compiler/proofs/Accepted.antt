@@ -7,6 +7,7 @@ use Rattle.portus_core.specs.ValidPrograms.{is_condition, is_term, term_is_truth
 use Rattle.reg_code.specs.declared.code.Event.{Event}
 use Rattle.reg_code.specs.declared.code.Implicit.TheVariants.{Flag}
 use Rattle.reg_code.specs.declared.code.Instr.{Instr}
+use Rattle.reg_code.specs.declared.code.Op.TheVariants as op
 use Rattle.reg_code.specs.declared.code.Reg.{Reg}
 use Rattle.reg_code.specs.declared.code.Reg.TheVariants as reg
 use Rattle.reg_code.specs.declared.rule.Part.TheVariants.{Condition, Body}
@@ -21,7 +22,7 @@ use Rattle.reg_compiler.specs.Known.{known_value}
 use Rattle.reg_compiler.specs.Needs.{deep_term, deep_body, deep_parts, deep_form}
 use Rattle.reg_compiler.specs.Counts.{form_count}
 use Rattle.reg_compiler.specs.Simulation.{start_of}
-use Rattle.reg_compiler.specs.CompiledCode.{op_of, line_of, direct, operand, free_after, unless_direct, unless_known, into, body_lines, condition_lines, lines_of, event_of, instr_of, code_of}
+use Rattle.reg_compiler.specs.CompiledCode.{line_of, direct, operand, free_after, unless_direct, unless_known, into, body_lines, condition_lines, lines_of, event_of, instr_of, code_of}
 use Rattle.reg_compiler.proofs.Sizes.{length-lines, lean-count}
 use Rattle.reg_compiler.proofs.AllowedLines.{after, or_else-none, condition-none, body-none}
 use Rattle.reg_compiler.proofs.AllowedInstrs.{IsTarget-flag}
@@ -102,7 +103,7 @@ into-some (name v) to free = omega arith
 into-some (pair o place left right) to free =
     let first = unless_direct (direct left) (into (reg.Temp free) left free) in
     let second = unless_direct (direct right) (into (reg.Temp (free_after left free)) right (free_after left free)) in
-    let last : List Line = line_of (op_of o) to (operand left free) (operand right (free_after left free)) place ∷ [] in
+    let last : List Line = line_of (op.Pair o) to (operand left free) (operand right (free_after left free)) place ∷ [] in
     unless_known-some (known_value (pair o place left right)) to (first ++ (second ++ last)) (omega (arith, length-append first (second ++ last), length-append second last))
 
 events-none : (parts : List Part) (index : ℕ) → events_refusal (map event_of parts) index (length (lines_of parts)) ≡ None

@@ -8,6 +8,7 @@ use Rattle.portus_core.specs.declared.program.Var.TheVariants as var
 use Rattle.portus_core.specs.Programs.{Term, number, truth, name, pair}
 use Rattle.portus_core.specs.ValidPrograms.{Known, is_known, is_term}
 use Rattle.reg_code.specs.declared.code.Op.{Op}
+use Rattle.reg_code.specs.declared.code.Op.TheVariants as op
 use Rattle.reg_code.specs.declared.code.Reg.{Reg}
 use Rattle.reg_code.specs.declared.code.Reg.TheVariants as reg
 use Rattle.reg_code.specs.declared.rule.Part.{Part}
@@ -17,9 +18,9 @@ use Rattle.reg_code.specs.AcceptedCode.{Marks, unwritten, rule_failed}
 use Rattle.reg_compiler.specs.declared.line.Line.{Line}
 use Rattle.reg_compiler.specs.Known.{known_value}
 use Rattle.reg_compiler.specs.Needs.{beside, need_of}
-use Rattle.reg_compiler.specs.CompiledCode.{reg_of, op_of, line_of, bind_line, direct, operand, next_free, free_after, unless_direct, joined, unless_known, into}
+use Rattle.reg_compiler.specs.CompiledCode.{reg_of, line_of, bind_line, direct, operand, next_free, free_after, unless_direct, joined, unless_known, into}
 use Rattle.reg_compiler.proofs.AllowedLines.{after, AreAllowed, after-append, is_end-append, AreAllowed-append, Grows, Grows-trans, after-grows, mark-none, with_target-written, last-written}
-use Rattle.reg_compiler.proofs.AllowedInstrs.{IsOperand, IsOperand-grows, IsOperand-imm, IsTarget, IsTarget-temp, IsPlain-op_of, bind-none, op_of-none}
+use Rattle.reg_compiler.proofs.AllowedInstrs.{IsOperand, IsOperand-grows, IsOperand-imm, IsTarget, IsTarget-temp, bind-none, pair-none}
 
 -- each name that may be read is a register, and has a value
 pub record IsScope (known : Known) (sizes : Sizes) (marks : Marks) : Type 0 where
@@ -60,9 +61,9 @@ into-written (name v) to free marks = with_target-written to marks
 into-written (pair o place left right) to free marks =
     let first = unless_direct (direct left) (into (reg.Temp free) left free) in
     let second = unless_direct (direct right) (into (reg.Temp (free_after left free)) right (free_after left free)) in
-    let line : Line = line_of (op_of o) to (operand left free) (operand right (free_after left free)) place in
+    let line : Line = line_of (op.Pair o) to (operand left free) (operand right (free_after left free)) place in
     unless_known-written (known_value (pair o place left right)) to (first ++ (second ++ line ∷ [])) marks
-    (ap (λ marks. unwritten marks to) (after-append first (second ++ line ∷ []) marks) ∙ last-written second line (after first marks) (IsPlain-op_of o).writes)
+    (ap (λ marks. unwritten marks to) (after-append first (second ++ line ∷ []) marks) ∙ last-written second line (after first marks) refl)
 
 -- operands
 
@@ -154,7 +155,7 @@ into-allowed (pair o place left right) to free known sizes part ends marks scope
     let right_fits : need_of right + next ≤ 8 = omega (arith, fits, free_after-le left free) in
     let between = after (operand_lines left free) marks in
     unless_known-allowed (known_value (pair o place left right)) to sizes part ends marks _ target
-    (joined-allowed (op_of o) to place left right known sizes part ends marks free scope parts.0 parts.1 left_fits right_fits
+    (joined-allowed (op.Pair o) to place left right known sizes part ends marks free scope parts.0 parts.1 left_fits right_fits
     (operand_lines-allowed left sizes part marks free left_fits (λ below. into-allowed left (reg.Temp free) free known sizes part false marks scope parts.0 left_fits (IsTarget-temp sizes part free below)))
     (operand_lines-allowed right sizes part between next right_fits (λ below. into-allowed right (reg.Temp next) next known sizes part false between (IsScope-grows known sizes marks between (after-grows (operand_lines left free) marks) scope) parts.1 right_fits (IsTarget-temp sizes part next below)))
-    (λ later grows first second. op_of-none o to (operand left free) (operand right next) sizes part ends later target first second))
+    (λ later grows first second. pair-none o to (operand left free) (operand right next) sizes part ends later target first second))

@@ -2,7 +2,6 @@
 use Rattle.std.proofs.Common.{◌≡◌, refl, ℕ, ◌<◌, Bool, true, false, not, ◌&&◌, ◌||◌, nat_le, if◌then◌else◌, Option, None, lt-ltb}
 use Rattle.std.proofs.lemmas.Bool.{and_from, and_left, or_from, not_from_true}
 use Rattle.ccp_base.specs.declared.operation.Op2.{Op2}
-use Rattle.ccp_base.specs.declared.operation.Op2.TheVariants as source
 use Rattle.reg_code.specs.declared.code.Implicit.TheVariants.{Flag}
 use Rattle.reg_code.specs.declared.code.Instr.{Instr}
 use Rattle.reg_code.specs.declared.code.Op.{Op}
@@ -16,7 +15,6 @@ use Rattle.reg_code.specs.declared.rule.Rule.TheVariants as rule
 use Rattle.reg_code.specs.declared.rule.Sizes.{Sizes}
 use Rattle.reg_code.specs.AcceptedCode.{rule_where, Marks, writes, is_there, is_readable, unwritten, is_bind, is_ewma, is_zero, is_weight, is_fixed, is_micros, is_flag, is_temp, is_in_condition, rule_failed}
 use Rattle.reg_code.specs.SoundLaws.{IsAllowed}
-use Rattle.reg_compiler.specs.CompiledCode.{op_of}
 use Rattle.reg_compiler.proofs.AllowedLines.{Grows, or_else-none, written-grows}
 
 rule_where-none : (fails : Bool) (which : Rule) → fails ≡ false → rule_where fails which ≡ None
@@ -109,37 +107,11 @@ pub bind-none : (to from : Reg) (sizes : Sizes) (part : Part) (ends : Bool) (mar
 bind-none to from sizes part ends marks target is =
     plain-none op.Bind to from (reg.Imm 0) sizes part ends marks (record { writes = refl; no_ewma = refl }) refl target is (IsOperand-imm sizes marks 0)
 
-pub IsPlain-op_of : (o : Op2) → IsPlain (op_of o)
-IsPlain-op_of source.Add = record { writes = refl; no_ewma = refl }
-IsPlain-op_of source.Sub = record { writes = refl; no_ewma = refl }
-IsPlain-op_of source.Mul = record { writes = refl; no_ewma = refl }
-IsPlain-op_of source.Div = record { writes = refl; no_ewma = refl }
-IsPlain-op_of source.Max = record { writes = refl; no_ewma = refl }
-IsPlain-op_of source.Min = record { writes = refl; no_ewma = refl }
-IsPlain-op_of source.Gt = record { writes = refl; no_ewma = refl }
-IsPlain-op_of source.Lt = record { writes = refl; no_ewma = refl }
-IsPlain-op_of source.Eq = record { writes = refl; no_ewma = refl }
-IsPlain-op_of source.And = record { writes = refl; no_ewma = refl }
-IsPlain-op_of source.Or = record { writes = refl; no_ewma = refl }
-
-unbound-op_of : (o : Op2) → is_bind (op_of o) ≡ false
-unbound-op_of source.Add = refl
-unbound-op_of source.Sub = refl
-unbound-op_of source.Mul = refl
-unbound-op_of source.Div = refl
-unbound-op_of source.Max = refl
-unbound-op_of source.Min = refl
-unbound-op_of source.Gt = refl
-unbound-op_of source.Lt = refl
-unbound-op_of source.Eq = refl
-unbound-op_of source.And = refl
-unbound-op_of source.Or = refl
-
 -- an operation that the source has
-pub op_of-none : (o : Op2) (to left right : Reg) (sizes : Sizes) (part : Part) (ends : Bool) (marks : Marks) → IsTarget sizes part ends to → IsOperand sizes marks left → IsOperand sizes marks right
-    → rule_failed sizes part ends marks (record { op = op_of o; to = to; left = left; right = right }) ≡ None
-op_of-none o to left right sizes part ends marks target first second =
-    plain-none (op_of o) to left right sizes part ends marks (IsPlain-op_of o) (and_left (is_bind (op_of o)) (not (is_zero right)) (unbound-op_of o)) target first second
+pub pair-none : (o : Op2) (to left right : Reg) (sizes : Sizes) (part : Part) (ends : Bool) (marks : Marks) → IsTarget sizes part ends to → IsOperand sizes marks left → IsOperand sizes marks right
+    → rule_failed sizes part ends marks (record { op = op.Pair o; to = to; left = left; right = right }) ≡ None
+pair-none o to left right sizes part ends marks target first second =
+    plain-none (op.Pair o) to left right sizes part ends marks (record { writes = refl; no_ewma = refl }) refl target first second
 
 -- `if` and `notif`, in a body
 pub conditional-none : (o : Op) (to left right : Reg) (sizes : Sizes) (marks : Marks) → is_bind o ≡ false → is_ewma o ≡ false → IsTarget sizes Body false to → IsOperand sizes marks left → IsOperand sizes marks right

@@ -7,7 +7,6 @@ use Rattle.ccp_base.specs.declared.place.Place.{Place}
 use Rattle.ccp_base.specs.Acknowledgement.{number_of}
 use Rattle.portus_core.specs.declared.env.Env.{Env}
 use Rattle.ccp_base.specs.declared.operation.Op2.{Op2}
-use Rattle.ccp_base.specs.declared.operation.Op2.TheVariants as source
 use Rattle.portus_core.specs.Programs.{Term, number, truth, name, pair}
 use Rattle.ccp_base.specs.Chaining.{then_do as then_value}
 use Rattle.portus_core.specs.Value.{Cause, Locals, at_place, value_of}
@@ -21,7 +20,7 @@ use Rattle.reg_code.specs.declared.code.Op.{Op}
 use Rattle.reg_code.specs.declared.code.Op.TheVariants as op
 use Rattle.reg_compiler.specs.declared.line.Line.{Line}
 use Rattle.reg_compiler.specs.Known.{known_value}
-use Rattle.reg_compiler.specs.CompiledCode.{op_of, no_place, direct, operand, next_free, free_after, unless_direct, joined, unless_known, into}
+use Rattle.reg_compiler.specs.CompiledCode.{no_place, direct, operand, next_free, free_after, unless_direct, joined, unless_known, into}
 use Rattle.reg_compiler.proofs.LineRuns.{Halt, placed, run_lines, halting, with_temps, Comes}
 use Rattle.reg_compiler.proofs.OperandRuns.{Reads, Reads-with_temps, Works, Works-direct, Works-name, Works-pair, operated, Comes-joined}
 use Rattle.reg_compiler.proofs.KnownLaws.{known_value-value}
@@ -31,25 +30,15 @@ placed-put place to (Ok value) ack regs = refl
 placed-put place to (Err kind) ack regs = refl
 
 -- the code's operation is the source's
-placed-effect : (o : Op2) (to : Reg) (place : Place) (a b : ℕ) (ack : Ack) (regs : Regs) → placed place (effect (op_of o) to a b ack regs) ≡ halting (at_place place (applied o a b)) (λ value. Ok (written to value ack regs))
-placed-effect source.Add to place a b ack regs = placed-put place to (applied source.Add a b) ack regs
-placed-effect source.Sub to place a b ack regs = placed-put place to (applied source.Sub a b) ack regs
-placed-effect source.Mul to place a b ack regs = placed-put place to (applied source.Mul a b) ack regs
-placed-effect source.Div to place a b ack regs = placed-put place to (applied source.Div a b) ack regs
-placed-effect source.Max to place a b ack regs = refl
-placed-effect source.Min to place a b ack regs = refl
-placed-effect source.Gt to place a b ack regs = refl
-placed-effect source.Lt to place a b ack regs = refl
-placed-effect source.Eq to place a b ack regs = refl
-placed-effect source.And to place a b ack regs = refl
-placed-effect source.Or to place a b ack regs = refl
+placed-effect : (o : Op2) (to : Reg) (place : Place) (a b : ℕ) (ack : Ack) (regs : Regs) → placed place (effect (op.Pair o) to a b ack regs) ≡ halting (at_place place (applied o a b)) (λ value. Ok (written to value ack regs))
+placed-effect o to place a b ack regs = placed-put place to (applied o a b) ack regs
 
 -- an expression's value in a register
 abbrev pub told : Result ℕ Cause → Reg → Ack → Regs → Variables → Result Regs Halt
 told result to ack regs temps = halting result (λ value. Ok (written to value ack (with_temps regs temps)))
 
 operated-told : (o : Op2) (to : Reg) (place : Place) (left right : Result ℕ Cause) (ack : Ack) (regs : Regs) (temps : Variables)
-    → operated (op_of o) to place left right ack regs temps ≡ told (then_value left (λ a. then_value right (λ b. at_place place (applied o a b)))) to ack regs temps
+    → operated (op.Pair o) to place left right ack regs temps ≡ told (then_value left (λ a. then_value right (λ b. at_place place (applied o a b)))) to ack regs temps
 operated-told o to place (Ok a) (Ok b) ack regs temps = placed-effect o to place a b ack (with_temps regs temps)
 operated-told o to place (Ok a) (Err cause) ack regs temps = refl
 operated-told o to place (Err cause) right ack regs temps = refl
@@ -114,12 +103,12 @@ Comes-into known env locals to (pair o place left right) free ack regs reads is 
     let is_left = (and_parts (is_term known left) (is_term known right) is).0 in
     let is_right = (and_parts (is_term known left) (is_term known right) is).1 in
     Comes-known (known_value (pair o place left right)) (value_of (pair o place left right) env locals ack) to
-    (joined (op_of o) to place left (into (reg.Temp free) left free) right (into (reg.Temp later) right later) free) free ack regs
+    (joined (op.Pair o) to place left (into (reg.Temp free) left free) right (into (reg.Temp later) right later) free) free ack regs
     (λ value known. known_value-value (pair o place left right) value env locals ack known)
-    (Comes-as (joined (op_of o) to place left (into (reg.Temp free) left free) right (into (reg.Temp later) right later) free) free ack regs
-    (operated (op_of o) to place (value_of left env locals ack) (value_of right env locals ack) ack regs)
+    (Comes-as (joined (op.Pair o) to place left (into (reg.Temp free) left free) right (into (reg.Temp later) right later) free) free ack regs
+    (operated (op.Pair o) to place (value_of left env locals ack) (value_of right env locals ack) ack regs)
     (told (value_of (pair o place left right) env locals ack) to ack regs)
     (operated-told o to place (value_of left env locals ack) (value_of right env locals ack) ack regs)
-    (Comes-both known env locals (op_of o) to place left right free ack regs reads is_left is_right
+    (Comes-both known env locals (op.Pair o) to place left right free ack regs reads is_left is_right
     (Comes-into known env locals (reg.Temp free) left free ack regs reads is_left)
     (λ temps. Comes-into known env locals (reg.Temp later) right later ack (with_temps regs temps) (Reads-with_temps known env locals ack regs temps reads) is_right)))

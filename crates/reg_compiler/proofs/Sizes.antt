@@ -10,7 +10,7 @@ use Rattle.reg_code.specs.declared.code.Reg.TheVariants as reg
 use Rattle.reg_compiler.specs.declared.line.Line.{Line}
 use Rattle.reg_compiler.specs.Known.{known_value}
 use Rattle.reg_compiler.specs.Counts.{count_of, action_count, body_count, parts_count, form_count, lean_where, lean_of, action_lean, body_lean, parts_lean, lean}
-use Rattle.reg_compiler.specs.CompiledCode.{reg_of, op_of, line_of, direct, operand, free_after, unless_direct, joined, unless_known, into, both_into, action_lines, body_lines, condition_lines, lines_of}
+use Rattle.reg_compiler.specs.CompiledCode.{reg_of, line_of, direct, operand, free_after, unless_direct, joined, unless_known, into, both_into, action_lines, body_lines, condition_lines, lines_of}
 
 unless_known-length : (known : Option ℕ) (to : Reg) (lines : List Line) (few : ℕ) → length lines ≤ few → length (unless_known known to lines) ≤ max 1 (lean_where known few)
 unless_known-length (Some value) to lines few within = omega arith
@@ -40,7 +40,7 @@ into-length (truth b) to free = omega arith
 into-length (name v) to free = omega arith
 into-length (pair o place left right) to free =
     unless_known-length (known_value (pair o place left right)) to _ (1 + (lean_of left + lean_of right))
-    (joined-length (op_of o) to place left (into (reg.Temp free) left free) right (into (reg.Temp (free_after left free)) right (free_after left free)) free (into-length left (reg.Temp free) free) (into-length right (reg.Temp (free_after left free)) (free_after left free)))
+    (joined-length (op.Pair o) to place left (into (reg.Temp free) left free) right (into (reg.Temp (free_after left free)) right (free_after left free)) free (into-length left (reg.Temp free) free) (into-length right (reg.Temp (free_after left free)) (free_after left free)))
 
 both_into-length : (o : Op) (to : Reg) (place : Place) (left right : Term) → length (both_into o to place left right) ≤ 1 + (lean_of left + lean_of right)
 both_into-length o to place left right =

@@ -2,8 +2,6 @@
 use Rattle.std.specs.Prelude.{ℕ, ◌+◌, Option, Some, None, option_map, unwrap_or, List, [], ◌∷◌, ◌++◌, length, map}
 use Rattle.ccp_base.specs.declared.place.Place.{Place}
 use Rattle.ccp_base.specs.Acknowledgement.{number_of}
-use Rattle.ccp_base.specs.declared.operation.Op2.{Op2}
-use Rattle.ccp_base.specs.declared.operation.Op2.TheVariants as source
 use Rattle.portus_core.specs.declared.program.Var.{Var}
 use Rattle.portus_core.specs.declared.program.Var.TheVariants as var
 use Rattle.portus_core.specs.Programs.{Term, number, truth, name, pair, Action, set, set_if, set_unless, ewma, zero_micros, report, fall, Part, Form}
@@ -28,19 +26,6 @@ reg_of var.Cwnd = reg.Implicit Cwnd
 reg_of var.Rate = reg.Implicit Rate
 reg_of var.Micros = reg.Implicit Micros
 reg_of (var.Prim n) = reg.Prim n
-
-abbrev pub op_of : Op2 → Op
-op_of source.Add = op.Add
-op_of source.Sub = op.Sub
-op_of source.Mul = op.Mul
-op_of source.Div = op.Div
-op_of source.Max = op.Max
-op_of source.Min = op.Min
-op_of source.Gt = op.Gt
-op_of source.Lt = op.Lt
-op_of source.Eq = op.Eq
-op_of source.And = op.And
-op_of source.Or = op.Or
 
 -- the place of an instruction that can't fault
 abbrev pub no_place : Place
@@ -96,7 +81,7 @@ into to (truth b) free = bind_line to (reg.Imm (number_of b)) ∷ []
 into to (name v) free = bind_line to (reg_of v) ∷ []
 into to (pair o place left right) free =
     unless_known (known_value (pair o place left right)) to
-    (joined (op_of o) to place left (into (reg.Temp free) left free) right (into (reg.Temp (free_after left free)) right (free_after left free)) free)
+    (joined (op.Pair o) to place left (into (reg.Temp free) left free) right (into (reg.Temp (free_after left free)) right (free_after left free)) free)
 
 -- the lines of an operation on two expressions, into a register
 abbrev pub both_into : Op → Reg → Place → Term → Term → List Line

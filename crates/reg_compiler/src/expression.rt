@@ -6,7 +6,7 @@ ghost use Rattle.reg_compiler.specs.CompiledCode.{direct, operand, free_after, u
 
 use crate::known::known;
 use crate::line::{Lines, bind_line, operation_line};
-use crate::registers::{op_of, reg_of};
+use crate::registers::reg_of;
 use ccp_base::{Place, bool_number};
 use portus_core::Expr;
 use reg_code::{Op, Reg};
@@ -27,7 +27,7 @@ pub fn into(expr: &Expr, to: Reg, free: u8, lines: &mut Lines) -> Result<(), All
         Expr::Var(var) => lines.push(bind_line(to, reg_of(*var))),
         Expr::Pair(op, place, left, right) => match known(expr) {
             Some(value) => lines.push(bind_line(to, Reg::Imm(value))),
-            None => joined(op_of(*op), to, *place, left, right, free, lines),
+            None => joined(Op::Pair(*op), to, *place, left, right, free, lines),
         },
     }
 }
