@@ -23,8 +23,6 @@ mod sequence;
 mod sink;
 mod source;
 mod stream;
-#[cfg(test)]
-mod tests;
 mod values;
 
 pub use ack::{Ack, Acks, PRIMITIVES, ack_of, bool_number, is_flag, is_true, prim, primitives};

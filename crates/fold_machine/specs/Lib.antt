@@ -8,3 +8,4 @@ pub mod MachineState
 pub mod Heard
 pub mod RestLaws
 pub mod Held
+pub mod Works

@@ -6,6 +6,7 @@ ghost use Rattle.reg_code.specs.CodeStart.{with_value, with_values, declared_kep
 ghost use Rattle.reg_code.specs.Places.{all_places, reports_at};
 ghost use Rattle.fold_machine.specs.Layout.{slot_words, HasRoom, KeepsOthers, words_from, kept_in};
 ghost use Rattle.fold_machine.specs.KeptWords.{declared_words, reset_words};
+ghost use Rattle.fold_machine.specs.Works.{IsDeclared, IsReset};
 
 use crate::places::{CWND, RATE, REPORTS, ZERO};
 use crate::store::Store;
@@ -57,7 +58,7 @@ fn reset_from(store: &mut Store, starts: &[Start], first: u32)
 /// Writes every register's start value, and makes `now` the time zero.
 pub(crate) fn declare(store: &mut Store, code: &Code, now: u64)
     requires { HasRoom (sizes_of code.now) store.old.registers }
-    ensures declared { kept_in (sizes_of code.now) store.new.registers ≡ declared_kept code.now (slice_index store.old.registers 0) (slice_index store.old.registers 1) now }
+    ensures declared { IsDeclared code.now now store.old.registers store.new.registers }
     ensures others { KeepsOthers store.old store.new }
 {
     store.set_register(ZERO, now);
@@ -72,7 +73,7 @@ pub(crate) fn declare(store: &mut Store, code: &Code, now: u64)
 /// Writes the start value of each volatile register.
 pub(crate) fn reset(store: &mut Store, code: &Code)
     requires { HasRoom (sizes_of code.now) store.old.registers }
-    ensures reset { kept_in (sizes_of code.now) store.new.registers ≡ reset_of code.now (kept_in (sizes_of code.now) store.old.registers) }
+    ensures reset { IsReset code.now store.old.registers store.new.registers }
     ensures others { KeepsOthers store.old store.new }
 {
     reset_from(store, code.reports.as_slice(), REPORTS);

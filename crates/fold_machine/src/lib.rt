@@ -12,8 +12,6 @@ mod run;
 mod step;
 mod steps;
 mod store;
-#[cfg(test)]
-mod tests;
 mod work;
 
 pub use acked::{Acked, BadRegister};

@@ -2,6 +2,7 @@ ghost use Rattle.std.specs.Prelude.{◌≡◌, ℕ, ◌+◌, ◌<◌, ◌≤◌,
 ghost use Rattle.slot_pool.specs.Pool.{PoolState, words_at, IsOut, free_of, unused, ChangesSlot, with_word, with_run};
 ghost use Rattle.fold_machine.specs.Layout.{slot_words};
 ghost use Rattle.fold_machine.specs.Store.{StoreState, fresh_store};
+ghost use Rattle.fold_machine.specs.Works.{TakesZeros, WritesWord};
 
 use crate::places::{OWN_SLOTS, WORDS};
 use slot_pool::{Full, Pool, Slot};
@@ -93,7 +94,7 @@ impl Store {
     pub(crate) fn take_further(&mut self) -> Result<Slot, Full>
         ensures full { IsErr result ↔ (free_of self.old.further ≡ 0) }
         ensures was_free { IfOk result (λ slot. words_at self.old.further slot ≡ None) }
-        ensures zeros { IfOk result (λ slot. ChangesSlot self.old.further self.new.further slot (Some (replicate self.old.further.words 0))) }
+        ensures zeros { IfOk result (λ slot. TakesZeros self.old.further self.new.further slot) }
         ensures counted { OnOk result (free_of self.new.further + 1 ≡ free_of self.old.further) }
         ensures unchanged { OnErr result (self.new.further ≡ self.old.further) }
         ensures own { self.new ≡ record self.old { further = self.new.further } }
@@ -124,7 +125,7 @@ impl Store {
     pub(crate) fn set_further(&mut self, slot: &Slot, at: u32, word: u64)
         requires out { IsOut self.old.further slot.now }
         requires within { at < self.old.further.words }
-        ensures written { ChangesSlot self.old.further self.new.further slot.now (with_word self.old.further slot.now at word) }
+        ensures written { WritesWord self.old.further self.new.further slot.now at word }
         ensures out { IsOut self.new.further slot.now }
         ensures counted { free_of self.new.further ≡ free_of self.old.further }
         ensures own { self.new ≡ record self.old { further = self.new.further } }

@@ -22,5 +22,3 @@ pub use fault::CompileFault;
 pub use laws::known_law;
 pub use need::greatest_need;
 
-#[cfg(test)]
-mod tests;

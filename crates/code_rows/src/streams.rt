@@ -1,4 +1,5 @@
-use crate::{
+//! Streams in memory and those of the process.
+use ccp_base::{
     Bytes, Failed, MemSink, MemSource, Numbers, ReadFault, Sink, Source, StdErr, StdIn, StdOut,
     read_all, write_all,
 };

@@ -1,7 +1,8 @@
+//! Codes that the machine runs.
 ghost use Rattle.std.specs.Prelude.{◌≡◌, ◌<◌};
 
-use super::*;
 use ccp_base::{Ack, FieldReg, Fields};
+use fold_machine::{Acked, BadRegister, Machine, Steps};
 use reg_code::{Checked, Code, Event, Implicit, Instr, Op, Reg, Sequence, pack_all};
 use slot_pool::Slots;
 use std::alloc::{AllocError, Global};

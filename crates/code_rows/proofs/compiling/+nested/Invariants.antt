@@ -1,4 +1,4 @@
-use Rattle.reg_compiler.proofs.tests.+nested.Given as goal
+use Rattle.code_rows.proofs.compiling.+nested.Given as goal
 
 abbrev pub decreases-nested : goal.decreases-nested
 decreases-nested l = l.levels

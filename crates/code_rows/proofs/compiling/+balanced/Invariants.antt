@@ -1,4 +1,4 @@
-use Rattle.reg_compiler.proofs.tests.+balanced.Given as goal
+use Rattle.code_rows.proofs.compiling.+balanced.Given as goal
 
 abbrev pub decreases-balanced : goal.decreases-balanced
 decreases-balanced l = l.levels

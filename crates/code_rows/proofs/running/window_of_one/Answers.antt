@@ -7,7 +7,7 @@ use Rattle.reg_code.specs.declared.code.Op.TheVariants as op
 use Rattle.reg_code.specs.declared.code.Reg.{Reg}
 use Rattle.reg_code.specs.declared.code.Reg.TheVariants as reg
 use Rattle.reg_code.specs.AcceptedCode.{rejected}
-use Rattle.fold_machine.proofs.tests.window_of_one.Goals as goal
+use Rattle.code_rows.proofs.running.window_of_one.Goals as goal
 
 abbrev bound : Reg → Reg → Instr
 bound to left = record { op = op.Bind; to = to; left = left; right = reg.Imm 0 }

@@ -1,11 +1,12 @@
+//! Code of small programs, and refusals by need and count.
 ghost use Rattle.std.specs.Prelude.{◌≡◌, ◌≤◌, IsTrue, IfOk, length};
 ghost use Rattle.portus_core.specs.Programs.{term_of};
 ghost use Rattle.portus_core.specs.ValidPrograms.{Known, is_term};
 
-use crate::{CompileFault, compile, greatest_need, instruction_count};
 use ccp_base::{Name, Place};
 use portus_core::{Block, Cmd, Decl, Expr, Op2, Program, Var};
 use reg_code::listing;
+use reg_compiler::{CompileFault, compile, greatest_need, instruction_count};
 use std::alloc::{AllocError, Global};
 use std::process::Abort;
 use std::test::Fail;
