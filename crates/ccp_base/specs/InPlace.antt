@@ -1,3 +1,4 @@
+-- Lists that are held in an array of a fixed size beside their length.
 use Rattle.std.specs.Prelude.{◌≡◌, ℕ, ◌+◌, ◌-◌, ◌<◌, ◌≤◌, List, ◌++◌, length, take, drop, replicate, slice_set}
 use Rattle.std.proofs.Common.{ap, ◌∙◌, sym, arith, length-append, length-set}
 use Rattle.std.proofs.Math.Seq.{drop-append_seam}

@@ -1,3 +1,4 @@
+-- Numerals: texts of decimal digits, and the number that each stands for.
 use Rattle.std.specs.Prelude.{ℕ, ◌+◌, ◌-◌, ◌*◌, ◌^◌, Bool, ◌&&◌, nat_lt, nat_le, Option, Some, None, if◌then◌else◌, List, [], ◌∷◌}
 
 -- an ASCII digit

@@ -1,3 +1,4 @@
+-- What calls of streams do to the bytes that are left or written, and to their counts of faults.
 use Rattle.std.specs.Prelude.{◌≡◌, ℕ, ◌-◌, ◌^◌, ◌<◌, ◌≤◌, Option, Some, None, option_map, List, [], ◌++◌, length, take}
 use Rattle.std.proofs.Common.{ap, ◌∙◌, sym, arith, append_assoc, length-append}
 

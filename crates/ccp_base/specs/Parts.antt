@@ -1,3 +1,4 @@
+-- The parts of a text between separators.
 use Rattle.std.specs.Prelude.{◌≡◌, ℕ, Bool, true, ◌||◌, ◌==◌, if◌then◌else◌, List, [], ◌∷◌, ◌++◌}
 use Rattle.ccp_base.specs.declared.parts.Separator.{Separator}
 use Rattle.ccp_base.specs.declared.parts.Separator.TheVariants.{LineFeed, Blank}

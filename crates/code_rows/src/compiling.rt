@@ -1,7 +1,7 @@
 //! Code of small programs, and refusals by need and count.
-ghost use Rattle.std.specs.Prelude.{◌≡◌, ◌≤◌, IsTrue, IfOk, length};
+ghost use Rattle.std.specs.Prelude.{IfOk};
 ghost use Rattle.portus_core.specs.Programs.{term_of};
-ghost use Rattle.portus_core.specs.ValidPrograms.{Known, is_term};
+ghost use Rattle.code_rows.specs.FieldTerms.{IsFieldTerm};
 
 use ccp_base::{Name, Place};
 use portus_core::{Block, Cmd, Decl, Expr, Op2, Program, Var};
@@ -19,7 +19,7 @@ enum Leaf {
 }
 
 fn expr_of(leaf: Leaf) -> Expr
-    ensures { (known : Known) → 1 ≤ length known.fields → IsTrue (is_term known (term_of result)) }
+    ensures { IsFieldTerm (term_of result) }
 {
     match leaf {
         Leaf::Number(number) => Expr::Num(number),
@@ -29,9 +29,9 @@ fn expr_of(leaf: Leaf) -> Expr
 
 /// An operation at this line.
 fn operation(alloc: Global, op: Op2, line: u32, left: Expr, right: Expr) -> Result<Expr, AllocError>
-    requires left { (known : Known) → 1 ≤ length known.fields → IsTrue (is_term known (term_of left)) }
-    requires right { (known : Known) → 1 ≤ length known.fields → IsTrue (is_term known (term_of right)) }
-    ensures { IfOk result (λ expr. (known : Known) → 1 ≤ length known.fields → IsTrue (is_term known (term_of expr))) }
+    requires left { IsFieldTerm (term_of left) }
+    requires right { IsFieldTerm (term_of right) }
+    ensures { IfOk result (λ expr. IsFieldTerm (term_of expr)) }
 {
     let place = Place { line, column: 1 };
     let left = Box::new(alloc, left)?;
@@ -41,7 +41,7 @@ fn operation(alloc: Global, op: Op2, line: u32, left: Expr, right: Expr) -> Resu
 
 /// A program with one field, which gets this value at each acknowledgement.
 fn assigning(alloc: Global, value: Expr) -> Result<Program, Fail>
-    requires { (known : Known) → 1 ≤ length known.fields → IsTrue (is_term known (term_of value)) }
+    requires { IsFieldTerm (term_of value) }
 {
     let field = Decl {
         name: Name::new(b"x").ok_or("a name")?,
@@ -114,7 +114,7 @@ fn the_last_line_writes_the_target(rt: HostRuntime) -> Result<(), Fail> {
 
 /// Operations inside one another, each the right part of the next one, at the lines from 1 on.
 fn nested(alloc: Global, levels: u32) -> Result<Expr, AllocError>
-    ensures { IfOk result (λ expr. (known : Known) → 1 ≤ length known.fields → IsTrue (is_term known (term_of expr))) }
+    ensures { IfOk result (λ expr. IsFieldTerm (term_of expr)) }
 {
     let pair = operation(
         alloc,
@@ -132,7 +132,7 @@ fn nested(alloc: Global, levels: u32) -> Result<Expr, AllocError>
 
 /// A full tree of operations.
 fn balanced(alloc: Global, levels: u32) -> Result<Expr, AllocError>
-    ensures { IfOk result (λ expr. (known : Known) → 1 ≤ length known.fields → IsTrue (is_term known (term_of expr))) }
+    ensures { IfOk result (λ expr. IsFieldTerm (term_of expr)) }
 {
     if levels == 0 {
         return Ok(expr_of(Leaf::Field));

@@ -3,6 +3,7 @@ ghost use Rattle.std.specs.Option.{option_or};
 ghost use Rattle.ccp_base.specs.Limits.{most_blocks, most_instrs};
 ghost use Rattle.reg_code.specs.CodeStep.{condition_of, body_of, rest_of};
 ghost use Rattle.reg_code.specs.AcceptedCode.{IsAccepted, refusal_where, no_marks, marks_after, part_refusal, instrs_refusal, events_refusal, counts_refusal, sizes_of, rejected};
+ghost use Rattle.code_verifier.specs.PartRefusals.{parts_refusal};
 ghost use Rattle.code_verifier.specs.Marked.{marks_of};
 
 use crate::instruction::rule_failed;
@@ -128,7 +129,7 @@ fn event_refusal(
 ) -> Option<(Rule, u32)>
     requires condition { index + length condition.now < 2 ^ 32 }
     requires body { body_index + length body.now < 2 ^ 32 }
-    ensures { result ≡ option_or (part_refusal sizes Part.Condition index no_marks condition.now) (part_refusal sizes Part.Body body_index (marks_after condition.now no_marks) body.now) }
+    ensures { result ≡ parts_refusal sizes index body_index condition.now body.now }
 {
     let mut tables = no_tables();
     if let Some(refusal) = part_refusal(sizes, Part::Condition, index, &mut tables, condition) {

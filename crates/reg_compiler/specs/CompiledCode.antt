@@ -83,6 +83,10 @@ into to (pair o place left right) free =
     unless_known (known_value (pair o place left right)) to
     (joined (op.Pair o) to place left (into (reg.Temp free) left free) right (into (reg.Temp (free_after left free)) right (free_after left free)) free)
 
+-- the lines that put an expression that is no operand yet into a temporary
+abbrev pub operand_lines : Term → ℕ → List Line
+operand_lines term free = unless_direct (direct term) (into (reg.Temp free) term free)
+
 -- the lines of an operation on two expressions, into a register
 abbrev pub both_into : Op → Reg → Place → Term → Term → List Line
 both_into o to place left right =
@@ -103,6 +107,14 @@ body_lines (action ∷ rest) = action_lines action ++ body_lines rest
 
 abbrev pub condition_lines : Term → List Line
 condition_lines condition = into (reg.Implicit Flag) condition 0
+
+-- the lines of a block
+abbrev pub block_lines : Term → List Action → List Line
+block_lines condition body = condition_lines condition ++ body_lines body
+
+-- how many lines a block has
+abbrev pub block_size : Term → List Action → ℕ
+block_size condition body = length (condition_lines condition) + length (body_lines body)
 
 abbrev pub lines_of : List Part → List Line
 lines_of [] = []

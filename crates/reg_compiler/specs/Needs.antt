@@ -17,11 +17,15 @@ need_of (truth b) = 0
 need_of (name v) = 0
 need_of (pair op place left right) = max 1 (max (need_of left) (need_of right + beside left))
 
+-- what two expressions need of which the first one's value is kept beside the second
+abbrev pub need_of_both : Term → Term → ℕ
+need_of_both left right = max (need_of left) (need_of right + beside left)
+
 -- what an assigned value needs
 abbrev pub action_need : Action → ℕ
 action_need (set v term) = need_of term
-action_need (set_if place v condition term) = max (need_of condition) (need_of term + beside condition)
-action_need (set_unless place v condition term) = max (need_of condition) (need_of term + beside condition)
+action_need (set_if place v condition term) = need_of_both condition term
+action_need (set_unless place v condition term) = need_of_both condition term
 action_need (ewma place v weight term) = need_of term
 action_need zero_micros = 0
 action_need report = 0
@@ -62,6 +66,9 @@ deep_action fall = None
 abbrev pub deep_body : List Action → Option Place
 deep_body [] = None
 deep_body (action ∷ rest) = option_or (deep_action action) (deep_body rest)
+
+abbrev pub deep_block : Term → List Action → Option Place
+deep_block condition body = option_or (deep_term condition) (deep_body body)
 
 abbrev pub deep_parts : List Part → Option Place
 deep_parts [] = None

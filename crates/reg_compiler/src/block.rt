@@ -1,8 +1,9 @@
 ghost use Rattle.std.specs.Prelude.{◌≡◌, ◌+◌, ◌++◌, ◌≤◌, IsTrue, IfOk, OnOk, length, map};
 ghost use Rattle.portus_core.specs.Programs.{term_of, action_of, part_of};
+ghost use Rattle.ccp_base.specs.Limits.{most_instrs};
 ghost use Rattle.reg_compiler.specs.Needs.{need_of, body_need, parts_need};
 ghost use Rattle.reg_compiler.specs.Numbered.{is_numbered_term, is_numbered_body, are_numbered};
-ghost use Rattle.reg_compiler.specs.CompiledCode.{condition_lines, body_lines, lines_of, event_of};
+ghost use Rattle.reg_compiler.specs.CompiledCode.{condition_lines, body_lines, block_lines, block_size, lines_of, event_of};
 
 use crate::command::body;
 use crate::expression::into;
@@ -36,10 +37,10 @@ fn block(condition: &Expr, cmds: &[Cmd], lines: &mut Lines) -> Result<Event, All
     requires body_names { IsTrue (is_numbered_body (map action_of cmds.now)) }
     requires condition_fits { need_of (term_of condition.now) ≤ 8 }
     requires body_fits { body_need (map action_of cmds.now) ≤ 8 }
-    requires size { length (condition_lines (term_of condition.now)) + length (body_lines (map action_of cmds.now)) ≤ 256 }
+    requires size { block_size (term_of condition.now) (map action_of cmds.now) ≤ most_instrs }
     ensures condition { IfOk result (λ event. event.condition ≡ length (condition_lines (term_of condition.now))) }
     ensures body { IfOk result (λ event. event.body ≡ length (body_lines (map action_of cmds.now))) }
-    ensures lines { OnOk result (lines.new ≡ lines.old ++ (condition_lines (term_of condition.now) ++ body_lines (map action_of cmds.now))) }
+    ensures lines { OnOk result (lines.new ≡ lines.old ++ block_lines (term_of condition.now) (map action_of cmds.now)) }
 {
     let start = lines.len();
     into(condition, Reg::Implicit(Implicit::Flag), 0, lines)?;

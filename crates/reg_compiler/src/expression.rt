@@ -2,7 +2,7 @@ ghost use Rattle.std.specs.Prelude.{◌≡◌, ◌+◌, ◌++◌, ◌∷◌, [],
 ghost use Rattle.portus_core.specs.Programs.{term_of};
 ghost use Rattle.reg_compiler.specs.Needs.{beside, need_of};
 ghost use Rattle.reg_compiler.specs.Numbered.{is_numbered_term};
-ghost use Rattle.reg_compiler.specs.CompiledCode.{direct, operand, free_after, unless_direct, joined, into};
+ghost use Rattle.reg_compiler.specs.CompiledCode.{direct, operand, free_after, operand_lines, joined, into};
 
 use crate::known::known;
 use crate::line::{Lines, bind_line, operation_line};
@@ -63,7 +63,7 @@ pub fn operand(expr: &Expr, free: u8, lines: &mut Lines) -> Result<Reg, AllocErr
     requires names { IsTrue (is_numbered_term (term_of expr.now)) }
     requires fits { need_of (term_of expr.now) + free ≤ 8 }
     ensures operand { IfOk result (λ register. register ≡ operand (term_of expr.now) free) }
-    ensures lines { OnOk result (lines.new ≡ lines.old ++ unless_direct (direct (term_of expr.now)) (into (Reg.Temp free) (term_of expr.now) free)) }
+    ensures lines { OnOk result (lines.new ≡ lines.old ++ operand_lines (term_of expr.now) free) }
 {
     match direct(expr) {
         Some(register) => Ok(register),

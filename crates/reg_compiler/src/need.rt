@@ -2,7 +2,7 @@ ghost use Rattle.std.specs.Prelude.{◌≡◌, ◌+◌, max, min, map};
 ghost use Rattle.std.specs.Option.{option_or};
 ghost use Rattle.portus_core.specs.Programs.{term_of, action_of, part_of};
 ghost use Rattle.portus_core.specs.ProgramForm.{form_of};
-ghost use Rattle.reg_compiler.specs.Needs.{beside, need_of, action_need, body_need, parts_need, form_need, deep_at, deep_term, deep_action, deep_body, deep_parts, deep_form};
+ghost use Rattle.reg_compiler.specs.Needs.{beside, need_of, need_of_both, action_need, body_need, parts_need, form_need, deep_at, deep_term, deep_action, deep_body, deep_block, deep_parts, deep_form};
 
 use ccp_base::Place;
 use portus_core::{Block, Cmd, Expr, Program};
@@ -70,7 +70,7 @@ fn need(expr: &Expr) -> u32
 
 /// The need of two expressions of which the first one's value is kept beside the second.
 fn need_of_both(left: &Expr, right: &Expr) -> u32
-    ensures { result ≡ min (max (need_of (term_of left.now)) (need_of (term_of right.now) + beside (term_of left.now))) 9 }
+    ensures { result ≡ min (need_of_both (term_of left.now) (term_of right.now)) 9 }
 {
     need(left).max(need(right) + beside(left)).min(TOO_MANY)
 }
@@ -99,7 +99,7 @@ pub fn too_deep(program: &Program) -> Option<Place>
 }
 
 fn deep_block(block: &Block) -> Option<Place>
-    ensures { result ≡ option_or (deep_term (term_of block.now.condition)) (deep_body (map action_of block.now.body.items)) }
+    ensures { result ≡ deep_block (term_of block.now.condition) (map action_of block.now.body.items) }
 {
     deep_expr(&block.condition).or(deep_body(&block.body))
 }
