@@ -1,9 +1,5 @@
 ghost use Rattle.std.specs.Prelude.{◌≡◌};
-ghost use Rattle.ccp_base.specs.Limits.{most_controls, most_blocks, most_instrs, most_locals, most_temps, most_tenths, most_operation};
-ghost use Rattle.reg_code.specs.OperationNumbers.{op_number};
-
-use crate::code::Op;
-
+ghost use Rattle.ccp_base.specs.Limits.{most_controls, most_blocks, most_instrs, most_locals, most_temps, most_tenths};
 /// The most control variables of a code.
 pub const CONTROLS: usize = 64;
 
@@ -30,5 +26,4 @@ pub fn limits_hold()
     ensures locals { LOCALS ≡ most_locals }
     ensures temps { TEMPS ≡ most_temps }
     ensures tenths { TENTHS ≡ most_tenths }
-    ensures operations { op_number Op.Ewma ≡ most_operation }
 {}
