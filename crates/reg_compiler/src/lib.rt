@@ -21,4 +21,3 @@ pub use count::instruction_count;
 pub use fault::CompileFault;
 pub use laws::known_law;
 pub use need::greatest_need;
-
