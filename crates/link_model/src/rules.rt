@@ -1,7 +1,8 @@
 ghost use Rattle.std.specs.Prelude.{◌≡◌, ℕ, ◌^◌, ◌<◌, ◌≤◌, List, length, slice_index, if◌then◌else◌};
 ghost use Rattle.std.specs.List.Sorted.{IsStrictlyIncreasing};
 ghost use Rattle.ccp_base.specs.Limits.{most_flight, most_segment_bytes};
-ghost use Rattle.link_model.specs.Link.{allowance_of, allowance, byte_rate, is_marked, is_listed, arrival_ack_of, arrival_ack, timeout_ack_of, timeout_ack, run_of};
+ghost use Rattle.link_model.specs.Link.{allowance_of, allowance, byte_rate, is_marked, is_listed, arrival_ack_of, timeout_ack_of, timeout_ack, run_of};
+ghost use Rattle.link_model.specs.Standing.{ack_at};
 ghost use Rattle.link_model.specs.Counts.{AreOnce, AddUp};
 
 use crate::arrival::Arrival;
@@ -50,7 +51,7 @@ impl LinkCase {
         requires stay { stay ≤ most_flight }
         requires acked { acked ≤ 2 ^ 28 }
         requires sent { sent ≤ 2 ^ 28 }
-        ensures { result ≡ arrival_ack self.now arrival.sent_at arrival.at arrival.marked arrival.lost stay acked sent }
+        ensures { result ≡ ack_at self.now arrival stay acked sent }
     {
         arrival_ack(self.mss, arrival, stay, acked, sent)
     }

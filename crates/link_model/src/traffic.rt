@@ -1,8 +1,7 @@
 ghost use Rattle.std.specs.Prelude.{◌≡◌, ℕ, ◌+◌, ◌-◌, ◌*◌, ◌^◌, ◌<◌, ◌≤◌, [], ◌∷◌, ◌++◌, length, IfOk};
 ghost use Rattle.ccp_base.specs.Limits.{most_flight, most_acks};
-ghost use Rattle.link_model.specs.Link.{run_of};
-ghost use Rattle.link_model.specs.Standing.{standing_of};
-ghost use Rattle.link_model.specs.Steps.{standing_in, with_lost, served_now, sending, IsQueue, ack_of, after_ack};
+ghost use Rattle.link_model.specs.Standing.{first_standing};
+ghost use Rattle.link_model.specs.Steps.{standing_in, TakesStep, SendsOn, with_lost, served_now, sending, IsQueue, ack_of, after_ack};
 ghost use Rattle.link_model.specs.Horizon.{IsKept, IsCounted};
 
 use crate::arrival::Arrival;
@@ -48,7 +47,7 @@ impl Traffic {
     pub(crate) fn new(alloc: Global, case: &LinkCase) -> Result<Traffic, AllocError>
         ensures kept { IfOk result (λ t. IsKept case.now t) }
         ensures counted { IfOk result (λ t. IsCounted t) }
-        ensures standing { IfOk result (λ t. standing_in case.now.trace t ≡ standing_of case.now (run_of case.now [])) }
+        ensures standing { IfOk result (λ t. standing_in case.now.trace t ≡ first_standing case.now) }
         ensures calls { IfOk result (λ t. t.calls ≡ 0) }
     {
         let times = case.trace.as_slice();
@@ -74,7 +73,7 @@ impl Traffic {
         requires room { self.old.in_flight + more ≤ most_flight }
         requires sent { self.old.sent + more ≤ 2 ^ 28 }
         requires calls { self.old.calls ≤ most_acks }
-        ensures sending { standing_in case.now.trace self.new ≡ sending case.now more (standing_in case.now.trace self.old) }
+        ensures sending { TakesStep case.now (sending case.now more) self.old self.new }
         ensures kept { IsKept case.now self.new }
         ensures in_flight { self.new.in_flight ≡ self.old.in_flight + more }
         ensures sent { self.new.sent ≡ self.old.sent + more }
@@ -100,7 +99,7 @@ impl Traffic {
         requires room { self.old.in_flight + left ≤ most_flight }
         requires sent { self.old.sent + left ≤ 2 ^ 28 }
         requires calls { self.old.calls ≤ most_acks }
-        ensures sending { sending case.now result (standing_in case.now.trace self.new) ≡ sending case.now left (standing_in case.now.trace self.old) }
+        ensures sending { SendsOn case.now left self.old result self.new }
         ensures kept { IsKept case.now self.new }
         ensures queue { IsQueue case.now (standing_in case.now.trace self.new) queue.new }
         ensures fewer { result < left }
@@ -127,7 +126,7 @@ impl Traffic {
         requires kept { IsKept case.now self.old }
         requires room { self.old.in_flight + more ≤ most_flight }
         requires sent { self.old.sent + more ≤ 2 ^ 28 }
-        ensures standing { standing_in case.now.trace self.new ≡ with_lost more (standing_in case.now.trace self.old) }
+        ensures standing { TakesStep case.now (with_lost more) self.old self.new }
         ensures kept { IsKept case.now self.new }
         ensures in_flight { self.new.in_flight ≡ self.old.in_flight + more }
         ensures sent { self.new.sent ≡ self.old.sent + more }
@@ -148,7 +147,7 @@ impl Traffic {
         requires room { self.old.in_flight + 1 ≤ most_flight }
         requires sent { self.old.sent + 1 ≤ 2 ^ 28 }
         requires calls { self.old.calls ≤ most_acks }
-        ensures standing { standing_in case.now.trace self.new ≡ served_now case.now (standing_in case.now.trace self.old) }
+        ensures standing { TakesStep case.now (served_now case.now) self.old self.new }
         ensures kept { IsKept case.now self.new }
         ensures queue { IsQueue case.now (standing_in case.now.trace self.new) queue.new }
         ensures in_flight { self.new.in_flight ≡ self.old.in_flight + 1 }
@@ -181,7 +180,7 @@ impl Traffic {
         requires acked { self.old.acked ≤ self.old.calls }
         requires calls { self.old.calls < most_acks }
         ensures ack { result ≡ ack_of case.now (standing_in case.now.trace self.old) }
-        ensures standing { standing_in case.now.trace self.new ≡ after_ack case.now (standing_in case.now.trace self.old) }
+        ensures standing { TakesStep case.now (after_ack case.now) self.old self.new }
         ensures kept { IsKept case.now self.new }
         ensures sent { self.new.sent ≡ self.old.sent }
         ensures acked { self.new.acked ≤ self.new.calls }
@@ -206,7 +205,7 @@ impl Traffic {
         requires acked { self.old.acked ≤ self.old.calls }
         requires calls { self.old.calls < most_acks }
         ensures ack { result ≡ ack_of case.now (standing_in case.now.trace self.old) }
-        ensures standing { standing_in case.now.trace self.new ≡ after_ack case.now (standing_in case.now.trace self.old) }
+        ensures standing { TakesStep case.now (after_ack case.now) self.old self.new }
         ensures kept { IsKept case.now self.new }
         ensures sent { self.new.sent ≡ self.old.sent }
         ensures acked { self.new.acked ≡ self.old.acked }
