@@ -50,6 +50,7 @@ impl Link {
     /// Gives the link a window, in bytes, and answers the acknowledgement. At most 65,536 windows are given. A
     /// call takes a step for each packet that it serves and one for all further ones where the queue is full; a packet
     /// that is listed as lost takes a step, too. A chance is found by at most one search in the trace.
+    #[inline(always)]
     pub fn next(&mut self, window: u64) -> Ack
         requires { self.old.standing.calls < most_acks }
         ensures ack { IsAnswer self.old window result }
@@ -60,6 +61,7 @@ impl Link {
         self.step(window)
     }
 
+    #[inline(always)]
     fn step(&mut self, window: u64) -> Ack
         requires { self.old.standing.calls < most_acks }
         ensures valid { IsTrace self.old.case.trace }

@@ -68,6 +68,7 @@ impl Traffic {
     }
 
     /// Sends so many packets now.
+    #[inline(always)]
     pub(crate) fn send(&mut self, case: &LinkCase, more: u64)
         requires kept { IsKept case.now self.old }
         requires room { self.old.in_flight + more ≤ most_flight }
@@ -92,6 +93,7 @@ impl Traffic {
     }
 
     /// Sends one packet of so many, or all of them where the queue is full. Answers how many are left to be sent.
+    #[inline(always)]
     fn send_some(&mut self, case: &LinkCase, queue: &mut Queue, left: u64) -> u64
         requires kept { IsKept case.now self.old }
         requires queue { IsQueue case.now (standing_in case.now.trace self.old) queue.old }
@@ -122,6 +124,7 @@ impl Traffic {
     }
 
     /// Sends so many packets that are lost.
+    #[inline]
     fn lose(&mut self, case: &LinkCase, more: u64)
         requires kept { IsKept case.now self.old }
         requires room { self.old.in_flight + more ≤ most_flight }
@@ -140,6 +143,7 @@ impl Traffic {
     }
 
     /// Sends a packet that gets the queue's next chance.
+    #[inline(always)]
     fn serve(&mut self, case: &LinkCase, queue: &mut Queue)
         requires kept { IsKept case.now self.old }
         requires queue { IsQueue case.now (standing_in case.now.trace self.old) queue.old }
@@ -174,6 +178,7 @@ impl Traffic {
     }
 
     /// Acknowledges the first packet in flight that isn't lost, or times out where there is none.
+    #[inline(always)]
     pub(crate) fn acknowledge(&mut self, case: &LinkCase) -> Ack
         requires kept { IsKept case.now self.old }
         requires sent { self.old.sent ≤ 2 ^ 28 }
@@ -198,6 +203,7 @@ impl Traffic {
     }
 
     /// Times out: all packets in flight are lost.
+    #[inline]
     fn time_out(&mut self, case: &LinkCase) -> Ack
         requires kept { IsKept case.now self.old }
         requires none { self.old.flight.items ≡ [] }
@@ -222,6 +228,7 @@ impl Traffic {
 }
 
 /// Appends a packet to those in flight.
+#[inline]
 fn put(flight: &mut HeapCircularBuffer<Arrival>, arrival: Arrival)
     requires capacity { flight.old.capacity ≡ most_flight }
     requires room { length flight.old.items < most_flight }
