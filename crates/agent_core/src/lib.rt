@@ -6,8 +6,6 @@ mod answer;
 pub mod calls;
 mod frame;
 mod same;
-#[cfg(test)]
-mod tests;
 mod ticket;
 
 pub use agent::Agent;

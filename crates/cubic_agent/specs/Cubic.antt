@@ -34,6 +34,7 @@ use Rattle.ccp_base.specs.declared.exchange.Reply.{Reply}
 use Rattle.ccp_base.specs.declared.exchange.Reply.TheVariants.{Nothing, Update}
 use Rattle.ccp_base.specs.declared.exchange.Told.{Told}
 use Rattle.ccp_base.specs.declared.exchange.Told.TheVariants.{Report, Fault}
+use Rattle.cubic_agent.specs.declared.cubic.Growth.{Growth}
 use Rattle.cubic_agent.specs.Window.{bytes_of, clamped_window, decreased, converged}
 use Rattle.cubic_agent.specs.Curve.{w_cubic, k_of}
 
@@ -57,6 +58,11 @@ pub record CubicState : Type 0 where
   pub ssthresh : ℕ
   -- a loss or a mark before this time, in microseconds, belongs to the loss event that was answered last
   pub calm : ℕ
+
+-- the window and what is kept of the last loss event
+abbrev pub growth_of : CubicState → Growth
+growth_of s =
+    record { window = s.window; w_max = s.w_max; w_prior = s.w_prior; w_est = s.w_est; k = s.k; start = s.start }
 
 -- the ranges of a state
 pub record IsInRange (mss window w_max w_prior w_est : ℕ) : Type 0 where

@@ -58,7 +58,7 @@ impl Model for Cubic {
 }
 
 impl Cubic {
-    ghost use Rattle.cubic_agent.specs.Cubic.{cubic, first_cubic, window_told, after_timeout, after_loss, in_slow_start, in_avoidance, after_measurement, after_fault, acked_of, estimate_of, target_of, grown};
+    ghost use Rattle.cubic_agent.specs.Cubic.{cubic, first_cubic, growth_of, window_told, after_timeout, after_loss, in_slow_start, in_avoidance, after_measurement, after_fault, acked_of, estimate_of, target_of, grown};
     ghost use Rattle.ccp_base.specs.Course.{opening_of};
 
     /// An agent that was told nothing yet, of a flow whose segments have `mss` bytes, with its programs of slow
@@ -100,7 +100,7 @@ impl Cubic {
 
     /// The window and what is kept of the last loss event.
     pub fn growth(&self) -> Growth
-        ensures { result ≡ record { window = self.now.window; w_max = self.now.w_max; w_prior = self.now.w_prior; w_est = self.now.w_est; k = self.now.k; start = self.now.start } }
+        ensures { result ≡ growth_of self.now }
     {
         self.growth
     }

@@ -3,8 +3,6 @@
 
 mod cubic;
 mod curve;
-#[cfg(test)]
-mod tests;
 mod window;
 
 pub use cubic::{Cubic, Growth};

@@ -42,35 +42,3 @@ pub fn muldiv(a: u64, b: u64, c: u64) -> u64
     let quotient = u128::from(a) * u128::from(b) / u128::from(c);
     quotient.min(u128::from(u64::MAX)) as u64
 }
-
-#[cfg(test)]
-mod tests {
-    use super::*;
-
-    #[test]
-    fn cube_roots_are_cut(rt: HostRuntime) {
-        for (n, root) in [
-            (0, 0),
-            (7, 1),
-            (8, 2),
-            (999_999_999, 999),
-            (1_000_000_000, 1000),
-            ((1 << 96) - 1, 4_294_967_295),
-        ] {
-            assert_eq!(rt; cbrt(n), root, "at {n}");
-        }
-    }
-
-    #[test]
-    fn quotients_are_cut_and_bounded(rt: HostRuntime) {
-        for (a, b, c, quotient) in [
-            (u64::MAX, 2, 1, u64::MAX),
-            (u64::MAX, 2, 4, 9_223_372_036_854_775_807),
-            (u64::MAX, u64::MAX, u64::MAX, u64::MAX),
-            (1448, 1448, 4344, 482),
-            (0, 5, 7, 0),
-        ] {
-            assert_eq!(rt; muldiv(a, b, c), quotient, "at {a} * {b} / {c}");
-        }
-    }
-}

@@ -1,3 +1,4 @@
+-- The first chance at or after a time: what the definition's search finds is it, and how chances and turns are ordered.
 use Rattle.std.proofs.Common.{◌≡◌, ℕ, zero, suc, ◌+◌, ◌-◌, ◌*◌, ◌/◌, ◌%◌, ◌<◌, ◌≤◌, Bool, true, false, leb, ltb, List, length, get_or, refl, ap, sym, ◌∙◌, arith, inl, inr, max}
 use Rattle.std.proofs.Math.Nat.{mul-le-mul_left, div-add-mod, mod-lt, div-mul-le_self, div-le_of_le-mul, mul-div-le, lt-div-mul-add}
 use Rattle.std.proofs.lemmas.Nat.{le-div, div-mul-add, mod-mul-add, mul-le}

@@ -1,3 +1,4 @@
+-- The blanks at the end of a line, and a text that is read line by line.
 use Rattle.std.proofs.Common.{◌≡◌, ℕ, ◌+◌, Bool, true, false, cond, List, [], ◌∷◌, ◌++◌, Option, Some, None, refl, ap, sym, ◌∙◌, append_assoc}
 use Rattle.std.specs.Option.{option_or}
 use Rattle.ccp_base.specs.Parts.{separates}

@@ -1,8 +1,9 @@
 -- How a link stands after a list of windows: what it keeps of all the packets and acknowledgements.
-use Rattle.std.specs.Prelude.{◌≡◌, ℕ, ◌+◌, Bool, List, [], ◌∷◌, length}
+use Rattle.std.specs.Prelude.{◌≡◌, ℕ, ◌+◌, Bool, List, [], ◌∷◌, ◌++◌, length}
+use Rattle.ccp_base.specs.declared.ack.Ack.{Ack}
 use Rattle.link_model.specs.declared.link_case.LinkCase.{LinkCase}
 use Rattle.link_model.specs.declared.arrival.Arrival.{Arrival}
-use Rattle.link_model.specs.Link.{Run, Packet, Fate, Lost, Served, Numbered, chances_past, in_flight, time_of, sample_of, acked_of, arrival_of, run_of}
+use Rattle.link_model.specs.Link.{Run, Packet, Fate, Lost, Served, Numbered, chances_past, in_flight, time_of, sample_of, acked_of, arrival_of, arrival_ack, run_of, ack_after}
 
 -- what a link keeps: its time, the last round-trip sample, the packets in flight that aren't lost, how many lost ones
 -- lie after them, the first chance after all that were given, and how many packets were sent, how many acknowledged
@@ -71,3 +72,20 @@ pub record LinkState : Type 0 where
 -- the link stands for a list of windows
 abbrev pub Stands : LinkState → List ℕ → Type 0
 Stands link windows = link.standing ≡ standing_of link.case (run_of link.case windows)
+
+-- how a link stands before its first call
+abbrev pub first_standing : LinkCase → Standing
+first_standing case = standing_of case (run_of case [])
+
+-- the acknowledgement answers this window, whatever list of windows the link stands for
+abbrev pub IsAnswer : LinkState → ℕ → Ack → Type 0
+IsAnswer link window ack = (windows : List ℕ) → Stands link windows → ack ≡ ack_after link.case windows window
+
+-- whatever list of windows the old link stands for, the new one stands for it with this window after it
+abbrev pub StandsOn : LinkState → ℕ → LinkState → Type 0
+StandsOn old window new = (windows : List ℕ) → Stands old windows → Stands new (windows ++ window ∷ [])
+
+-- the acknowledgement of a packet, where so many stay in flight, and so many were acknowledged and sent so far
+abbrev pub ack_at : LinkCase → Arrival → ℕ → ℕ → ℕ → Ack
+ack_at case arrival stay acked sent =
+    arrival_ack case arrival.sent_at arrival.at arrival.marked arrival.lost stay acked sent

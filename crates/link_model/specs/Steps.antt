@@ -6,8 +6,8 @@ use Rattle.link_model.specs.declared.arrival.Arrival.{Arrival}
 use Rattle.link_model.specs.declared.traffic.Traffic.{Traffic}
 use Rattle.link_model.specs.declared.queue.Queue.{Queue}
 use Rattle.link_model.specs.Chances.{first_chance, number_of}
-use Rattle.link_model.specs.Link.{Fate, Lost, Served, allowance, is_marked, fate_by, arrival_ack, timeout_ack}
-use Rattle.link_model.specs.Standing.{Standing, arrival_by}
+use Rattle.link_model.specs.Link.{Fate, Lost, Served, allowance, is_marked, fate_by, timeout_ack}
+use Rattle.link_model.specs.Standing.{Standing, arrival_by, ack_at}
 
 -- how many packets are in flight
 abbrev pub count_of : List Arrival → ℕ → ℕ
@@ -95,8 +95,7 @@ abbrev pub ack_by : LinkCase → Standing → Option Arrival → Ack
 ack_by case standing None =
     timeout_ack case (standing.time + case.timeout_us) standing.sample standing.lost 0 standing.acked standing.sent
 ack_by case standing (Some arrival) =
-    arrival_ack case arrival.sent_at arrival.at arrival.marked arrival.lost
-    (count_of (drop 1 standing.arrivals) standing.lost) (standing.acked + 1) standing.sent
+    ack_at case arrival (count_of (drop 1 standing.arrivals) standing.lost) (standing.acked + 1) standing.sent
 
 -- the standing after it
 abbrev pub acked_by : LinkCase → Standing → Option Arrival → Standing
@@ -126,6 +125,17 @@ ack_of case standing = ack_by case standing (slice_get standing.arrivals 0)
 
 abbrev pub after_ack : LinkCase → Standing → Standing
 after_ack case standing = acked_by case standing (slice_get standing.arrivals 0)
+
+-- ---- what is under way
+
+-- what is under way now stands as this step leaves what was
+abbrev pub TakesStep : LinkCase → (Standing → Standing) → Traffic → Traffic → Type 0
+TakesStep case step old new = standing_in case.trace new ≡ step (standing_in case.trace old)
+
+-- to send so many packets now leaves the same as to send so many more before
+abbrev pub SendsOn : LinkCase → ℕ → Traffic → ℕ → Traffic → Type 0
+SendsOn case more old left new =
+    sending case left (standing_in case.trace new) ≡ sending case more (standing_in case.trace old)
 
 -- ---- one call
 

@@ -1,5 +1,6 @@
 -- The trace of a text: one time a line, and the first refusal.
-use Rattle.std.specs.Prelude.{ℕ, ◌+◌, Bool, true, false, ◌==◌, nat_lt, nat_le, Option, Some, None, Result, Ok, Err, if◌then◌else◌, List, [], ◌∷◌}
+use Rattle.std.specs.Prelude.{◌≡◌, ℕ, ◌+◌, Bool, true, false, ◌==◌, nat_lt, nat_le, Option, Some, None, Result, Ok, Err, if◌then◌else◌, List, [], ◌∷◌}
+use Rattle.std.specs.Option.{option_or}
 use Rattle.ccp_base.specs.Limits.{most_trace_ms}
 use Rattle.ccp_base.specs.Numerals.{numeral_of}
 use Rattle.ccp_base.specs.Parts.{separates, parts_of, without_last}
@@ -77,6 +78,10 @@ first_fall number before (line ∷ rest) =
     if is_below (line_of line) before then Some number
     else first_fall (number + 1) (time_after (line_of line) before) rest
 
+-- the first line that falls, with one more line after those before
+abbrev pub fall_after : Option ℕ → TraceLine → ℕ → ℕ → Option ℕ
+fall_after fall line before number = option_or fall (if is_below line before then Some number else None)
+
 -- refused at a line where there is one
 abbrev pub unless_at : Option ℕ → (ℕ → TraceFault) → Result (List ℕ) TraceFault → Result (List ℕ) TraceFault
 unless_at (Some number) fault other = Err (fault number)
@@ -93,6 +98,14 @@ checked (time ∷ later) fall = unless_at fall NotRising (with_period (time ∷ 
 abbrev pub trace_of_lines : List (List ℕ) → Result (List ℕ) TraceFault
 trace_of_lines lines = unless_at (first_bad 1 lines) BadLine (checked (times_of lines) (first_fall 1 0 lines))
 
+-- the lines of a text
+abbrev pub lines_of : List ℕ → List (List ℕ)
+lines_of text = parts_of LineFeed text
+
+-- the fault has the number of the first bad line, if there is one
+abbrev pub IsAtFirstBad : List ℕ → TraceFault → Type 0
+IsAtFirstBad text fault = (number : ℕ) → first_bad 1 (lines_of text) ≡ Some number → fault ≡ BadLine number
+
 -- a trace text: its times, or the first of its refusals
 abbrev pub trace_of : List ℕ → Result (List ℕ) TraceFault
-trace_of text = trace_of_lines (parts_of LineFeed text)
+trace_of text = trace_of_lines (lines_of text)

@@ -13,6 +13,7 @@ pub struct Chance {
 
 impl Trace {
     /// When a chance comes, in microseconds.
+    #[inline]
     pub fn time_of(&self, chance: Chance) -> u64
         requires place { chance.place < length self.now }
         requires fits { chance_time self.now (number_of self.now chance) < 2 ^ 64 }
@@ -23,6 +24,7 @@ impl Trace {
     }
 
     /// The chance after this one.
+    #[inline]
     pub fn after(&self, chance: Chance) -> Chance
         requires place { chance.place < length self.now }
         requires fits { chance.turn + 1 < 2 ^ 64 }
@@ -33,6 +35,7 @@ impl Trace {
     }
 
     /// How many chances there are from one on, up to another one that isn't before it.
+    #[inline]
     pub fn between(&self, from: Chance, to: Chance) -> u128
         requires from { from.place < length self.now }
         requires to { to.place < length self.now }
@@ -44,6 +47,7 @@ impl Trace {
 
     /// The first chance that comes at or after a time in microseconds. It goes straight to the turn of the trace in
     /// which that chance comes, and there looks at the place `near` first, whatever that is.
+    #[inline(always)]
     pub fn first_chance(&self, at: u64, near: usize) -> Chance
         requires { at + 1000 < 2 ^ 64 }
         ensures number { number_of self.now result ≡ first_chance self.now at 0 }
@@ -63,6 +67,7 @@ impl Trace {
 }
 
 /// The last time of a trace, in milliseconds.
+#[inline]
 fn period(times: &[u32]) -> u64
     requires { IsTrace times.now }
     ensures { result ≡ period times.now }
@@ -71,6 +76,7 @@ fn period(times: &[u32]) -> u64
 }
 
 /// When a chance of a trace comes, in microseconds.
+#[inline]
 fn time_of(times: &[u32], chance: Chance) -> u64
     requires valid { IsTrace times.now }
     requires place { chance.place < length times.now }
@@ -81,6 +87,7 @@ fn time_of(times: &[u32], chance: Chance) -> u64
 }
 
 /// The chance after this one.
+#[inline]
 fn after(times: &[u32], chance: Chance) -> Chance
     requires place { chance.place < length times.now }
     requires fits { chance.turn + 1 < 2 ^ 64 }
@@ -100,6 +107,7 @@ fn after(times: &[u32], chance: Chance) -> Chance
 }
 
 /// How many chances there are from one on, up to another one that isn't before it.
+#[inline]
 fn between(times: &[u32], from: Chance, to: Chance) -> u128
     requires from { from.place < length times.now }
     requires to { to.place < length times.now }
@@ -111,6 +119,7 @@ fn between(times: &[u32], from: Chance, to: Chance) -> u128
 
 /// The first chance of a trace that comes at or after a time in microseconds. It goes straight to the turn of the
 /// trace in which that chance comes, and there looks at the place `near` first, whatever that is.
+#[inline(always)]
 fn first_chance(times: &[u32], at: u64, near: usize) -> Chance
     requires valid { IsTrace times.now }
     requires fits { at + 1000 < 2 ^ 64 }
@@ -128,6 +137,7 @@ fn first_chance(times: &[u32], at: u64, near: usize) -> Chance
 
 /// The place of the first time that is at least so many milliseconds, or the number of times. It is found without
 /// a search where it is the place `near` or the one after that.
+#[inline]
 fn place_from(times: &[u32], millis: u64, near: usize) -> usize
     requires { IsTrace times.now }
     ensures within { result ≤ length times.now }
@@ -145,6 +155,7 @@ fn place_from(times: &[u32], millis: u64, near: usize) -> usize
 }
 
 /// Whether the place is that of the first time that is at least so many milliseconds.
+#[inline]
 fn is_place(times: &[u32], millis: u64, place: usize) -> bool
     requires { IsTrace times.now }
     ensures within { IsTrue result → place ≤ length times.now }
@@ -161,6 +172,7 @@ fn is_place(times: &[u32], millis: u64, place: usize) -> bool
 }
 
 /// The place of the first time that is at least so many milliseconds, or the number of times.
+#[inline(never)]
 fn searched_place(times: &[u32], millis: u64) -> usize
     requires { IsTrace times.now }
     ensures within { result ≤ length times.now }

@@ -18,6 +18,3 @@ pub use link_case::LinkCase;
 pub use queue::Queue;
 pub use rules::{allowance, arrival_ack, is_at, is_marked, next_loss, rate, timeout_ack};
 pub use trace::{LONGEST_MS, Trace, TraceFault};
-
-#[cfg(test)]
-mod tests;

@@ -1,8 +1,7 @@
-ghost use Rattle.std.specs.Prelude.{◌≡◌, ℕ, ◌+◌, ◌<◌, ◌≤◌, List, [], ◌∷◌, ◌++◌, IfOk};
+ghost use Rattle.std.specs.Prelude.{◌≡◌, ◌+◌, ◌<◌, ◌≤◌, [], IfOk};
 ghost use Rattle.ccp_base.specs.Limits.{most_acks};
 ghost use Rattle.link_model.specs.Traces.{IsTrace};
-ghost use Rattle.link_model.specs.Link.{ack_after};
-ghost use Rattle.link_model.specs.Standing.{Stands};
+ghost use Rattle.link_model.specs.Standing.{Stands, IsAnswer, StandsOn};
 ghost use Rattle.link_model.specs.Steps.{next_ack, next_standing};
 
 use crate::link_case::LinkCase;
@@ -51,16 +50,18 @@ impl Link {
     /// Gives the link a window, in bytes, and answers the acknowledgement. At most 65,536 windows are given. A
     /// call takes a step for each packet that it serves and one for all further ones where the queue is full; a packet
     /// that is listed as lost takes a step, too. A chance is found by at most one search in the trace.
+    #[inline(always)]
     pub fn next(&mut self, window: u64) -> Ack
         requires { self.old.standing.calls < most_acks }
-        ensures ack { (windows : List ℕ) → Stands self.old windows → result ≡ ack_after self.old.case windows window }
-        ensures stands { (windows : List ℕ) → Stands self.old windows → Stands self.new (windows ++ window ∷ []) }
+        ensures ack { IsAnswer self.old window result }
+        ensures stands { StandsOn self.old window self.new }
         ensures case { self.new.case ≡ self.old.case }
         ensures calls { self.new.standing.calls ≡ self.old.standing.calls + 1 }
     {
         self.step(window)
     }
 
+    #[inline(always)]
     fn step(&mut self, window: u64) -> Ack
         requires { self.old.standing.calls < most_acks }
         ensures valid { IsTrace self.old.case.trace }

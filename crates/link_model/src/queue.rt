@@ -18,6 +18,7 @@ pub struct Queue {
 impl Trace {
     /// The queue at a time, where `next` is the chance after the last one that a packet got. A chance is looked for at
     /// the place `near` first, whatever that is.
+    #[inline(always)]
     pub fn queue(&self, next: Chance, now: u64, near: usize) -> Queue
         requires place { next.place < length self.now }
         requires fits { chance_time self.now (number_of self.now next) < 2 ^ 64 }

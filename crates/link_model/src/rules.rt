@@ -1,7 +1,8 @@
 ghost use Rattle.std.specs.Prelude.{◌≡◌, ℕ, ◌^◌, ◌<◌, ◌≤◌, List, length, slice_index, if◌then◌else◌};
 ghost use Rattle.std.specs.List.Sorted.{IsStrictlyIncreasing};
 ghost use Rattle.ccp_base.specs.Limits.{most_flight, most_segment_bytes};
-ghost use Rattle.link_model.specs.Link.{allowance_of, allowance, byte_rate, is_marked, is_listed, arrival_ack_of, arrival_ack, timeout_ack_of, timeout_ack, run_of};
+ghost use Rattle.link_model.specs.Link.{allowance_of, allowance, byte_rate, is_marked, is_listed, arrival_ack_of, timeout_ack_of, timeout_ack, run_of};
+ghost use Rattle.link_model.specs.Standing.{ack_at};
 ghost use Rattle.link_model.specs.Counts.{AreOnce, AddUp};
 
 use crate::arrival::Arrival;
@@ -11,6 +12,7 @@ use ccp_base::Ack;
 
 impl LinkCase {
     /// How many packets a window allows to be in flight: one at least, and 4,096 at most.
+    #[inline]
     pub fn allowance(&self, window: u64) -> u64
         ensures value { result ≡ allowance self.now window }
         ensures within { result ≤ most_flight }
@@ -19,6 +21,7 @@ impl LinkCase {
     }
 
     /// Whether a packet is marked, where so many packets wait.
+    #[inline]
     pub fn marks(&self, queued: u128) -> bool
         ensures { result ≡ is_marked self.now.mark queued }
     {
@@ -26,6 +29,7 @@ impl LinkCase {
     }
 
     /// The place of the first listed loss from this number on, where those before a place are below the number.
+    #[inline]
     pub fn next_loss(&self, passed: usize, number: u64) -> usize
         requires { (i : ℕ) → i < passed → slice_index self.now.losses i < number }
         ensures before { (i : ℕ) → i < result → slice_index self.now.losses i < number }
@@ -35,6 +39,7 @@ impl LinkCase {
     }
 
     /// Whether a number is listed, where the losses before a place are below it, and the one there isn't.
+    #[inline]
     pub fn loses(&self, place: usize, number: u64) -> bool
         requires before { (i : ℕ) → i < place → slice_index self.now.losses i < number }
         requires from { place < length self.now.losses → number ≤ slice_index self.now.losses place }
@@ -45,12 +50,13 @@ impl LinkCase {
 
     /// The acknowledgement of a packet, where so many packets stay in flight, and so many were acknowledged and sent,
     /// this one counted.
+    #[inline]
     pub fn arrival_ack(&self, arrival: Arrival, stay: u64, acked: u64, sent: u64) -> Ack
         requires order { arrival.sent_at ≤ arrival.at }
         requires stay { stay ≤ most_flight }
         requires acked { acked ≤ 2 ^ 28 }
         requires sent { sent ≤ 2 ^ 28 }
-        ensures { result ≡ arrival_ack self.now arrival.sent_at arrival.at arrival.marked arrival.lost stay acked sent }
+        ensures { result ≡ ack_at self.now arrival stay acked sent }
     {
         arrival_ack(self.mss, arrival, stay, acked, sent)
     }
@@ -76,6 +82,7 @@ impl LinkCase {
 }
 
 /// How many packets of this size, in bytes, a window allows to be in flight: one at least, and 4,096 at most.
+#[inline]
 pub fn allowance(mss: u32, window: u64) -> u64
     requires { 1 ≤ mss }
     ensures value { result ≡ allowance_of mss window }
@@ -85,6 +92,7 @@ pub fn allowance(mss: u32, window: u64) -> u64
 }
 
 /// Bytes a second: that many packets of this size, in bytes, up to now, or 0 at time 0.
+#[inline]
 pub fn rate(mss: u32, packets: u64, now: u64) -> u64
     requires mss { mss ≤ most_segment_bytes }
     requires packets { packets ≤ 2 ^ 28 }
@@ -97,6 +105,7 @@ pub fn rate(mss: u32, packets: u64, now: u64) -> u64
 }
 
 /// Whether a packet is marked, where so many packets wait and this many or more mean a mark.
+#[inline]
 pub fn is_marked(mark: Option<u32>, queued: u128) -> bool
     ensures { result ≡ is_marked mark queued }
 {
@@ -108,6 +117,7 @@ pub fn is_marked(mark: Option<u32>, queued: u128) -> bool
 
 /// The acknowledgement of a packet of this size, in bytes, where so many packets stay in flight, and so many were
 /// acknowledged and sent, this one counted.
+#[inline]
 pub fn arrival_ack(mss: u32, arrival: Arrival, stay: u64, acked: u64, sent: u64) -> Ack
     requires mss { mss ≤ most_segment_bytes }
     requires order { arrival.sent_at ≤ arrival.at }
@@ -156,6 +166,7 @@ pub fn timeout_ack(mss: u32, now: u64, sample: u64, lost: u64, acked: u64, sent:
 }
 
 /// The place of the first listed loss from this number on, where those before a place are below the number.
+#[inline]
 pub fn next_loss(losses: &[u32], passed: usize, number: u64) -> usize
     requires { (i : ℕ) → i < passed → slice_index losses.now i < number }
     ensures before { (i : ℕ) → i < result → slice_index losses.now i < number }
@@ -172,6 +183,7 @@ pub fn next_loss(losses: &[u32], passed: usize, number: u64) -> usize
 }
 
 /// Whether a number is listed, where the losses before a place are below it, and the one there isn't.
+#[inline]
 pub fn is_at(losses: &[u32], place: usize, number: u64) -> bool
     requires rises { IsStrictlyIncreasing losses.now }
     requires before { (i : ℕ) → i < place → slice_index losses.now i < number }
@@ -185,6 +197,7 @@ pub fn is_at(losses: &[u32], place: usize, number: u64) -> bool
 }
 
 /// A number, or 0.
+#[inline]
 fn number_if(truth: bool, number: u64) -> u64
     ensures { result ≡ (if truth then number else 0) }
 {

@@ -1,8 +1,5 @@
-ghost use Rattle.std.specs.Prelude.{◌≡◌, ℕ, ◌+◌, ◌^◌, ◌<◌, ◌≤◌, Some, None, IfOk, IfErr, OnOk, ◌≢◌, [], ◌++◌, true, false, length, if◌then◌else◌};
-ghost use Rattle.std.specs.Option.{option_or};
-ghost use Rattle.ccp_base.specs.Parts.{parts_of};
-ghost use Rattle.link_model.specs.TraceText.{without_first_blanks, without_last_blanks, word_line, line_of, is_bad, with_time, is_below, time_after, times_of, first_bad, first_fall};
-ghost use Rattle.ccp_base.specs.declared.parts.Separator.TheVariants as separator;
+ghost use Rattle.std.specs.Prelude.{◌≡◌, ℕ, ◌+◌, ◌^◌, ◌<◌, ◌≤◌, None, IfOk, IfErr, OnOk, ◌≢◌, [], ◌++◌, true, false, length};
+ghost use Rattle.link_model.specs.TraceText.{without_first_blanks, without_last_blanks, word_line, line_of, is_bad, with_time, time_after, times_of, first_bad, first_fall, fall_after, lines_of, IsAtFirstBad};
 ghost use Rattle.link_model.specs.declared.trace.TraceFault.TheVariants as fault;
 
 use crate::trace::{LONGEST_MS, TraceFault};
@@ -22,7 +19,7 @@ pub(crate) enum TraceLine {
 
 /// What was read of a trace text so far.
 #[derive(Drop)]
-pub(crate) struct Reading {
+pub(crate) struct TraceReading {
     /// The times, in milliseconds.
     pub times: Vec<u32>,
     /// The last of them, or 0.
@@ -33,7 +30,7 @@ pub(crate) struct Reading {
     pub fall: Option<u64>,
 }
 
-impl Reading {
+impl TraceReading {
     /// Takes the next line in.
     fn take(&mut self, line: TraceLine) -> Result<(), TraceFault>
         requires { self.old.line + 1 < 2 ^ 64 }
@@ -41,7 +38,7 @@ impl Reading {
         ensures line { OnOk result (self.new.line ≡ self.old.line + 1) }
         ensures times { OnOk result (self.new.times.items ≡ self.old.times.items ++ with_time line []) }
         ensures before { OnOk result (self.new.before ≡ time_after line self.old.before) }
-        ensures fall { OnOk result (self.new.fall ≡ option_or self.old.fall (if is_below line self.old.before then Some self.old.line else None)) }
+        ensures fall { OnOk result (self.new.fall ≡ fall_after self.old.fall line self.old.before self.old.line) }
         ensures bad { IfErr result (λ e. e ≢ fault.NoMemory → is_bad line ≡ true) }
         ensures at { IfErr result (λ e. e ≢ fault.NoMemory → e ≡ fault.BadLine self.old.line) }
     {
@@ -62,15 +59,15 @@ impl Reading {
 }
 
 /// Reads every line of a trace text, up to the first bad one.
-pub(crate) fn read_lines(alloc: Global, text: &[u8]) -> Result<Reading, TraceFault>
-    ensures good { OnOk result (first_bad 1 (parts_of separator.LineFeed text.now) ≡ None) }
-    ensures times { IfOk result (λ r. r.times.items ≡ times_of (parts_of separator.LineFeed text.now)) }
-    ensures fall { IfOk result (λ r. r.fall ≡ first_fall 1 0 (parts_of separator.LineFeed text.now)) }
-    ensures bad { IfErr result (λ e. e ≢ fault.NoMemory → first_bad 1 (parts_of separator.LineFeed text.now) ≢ None) }
-    ensures at { IfErr result (λ e. e ≢ fault.NoMemory → (number : ℕ) → first_bad 1 (parts_of separator.LineFeed text.now) ≡ Some number → e ≡ fault.BadLine number) }
+pub(crate) fn read_lines(alloc: Global, text: &[u8]) -> Result<TraceReading, TraceFault>
+    ensures good { OnOk result (first_bad 1 (lines_of text.now) ≡ None) }
+    ensures times { IfOk result (λ r. r.times.items ≡ times_of (lines_of text.now)) }
+    ensures fall { IfOk result (λ r. r.fall ≡ first_fall 1 0 (lines_of text.now)) }
+    ensures bad { IfErr result (λ e. e ≢ fault.NoMemory → first_bad 1 (lines_of text.now) ≢ None) }
+    ensures at { IfErr result (λ e. e ≢ fault.NoMemory → IsAtFirstBad text.now e) }
 {
     let mut rest = text;
-    let mut reading = Reading {
+    let mut reading = TraceReading {
         times: Vec::new(alloc),
         before: 0,
         line: 1,

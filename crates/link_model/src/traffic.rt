@@ -1,8 +1,7 @@
 ghost use Rattle.std.specs.Prelude.{◌≡◌, ℕ, ◌+◌, ◌-◌, ◌*◌, ◌^◌, ◌<◌, ◌≤◌, [], ◌∷◌, ◌++◌, length, IfOk};
 ghost use Rattle.ccp_base.specs.Limits.{most_flight, most_acks};
-ghost use Rattle.link_model.specs.Link.{run_of};
-ghost use Rattle.link_model.specs.Standing.{standing_of};
-ghost use Rattle.link_model.specs.Steps.{standing_in, with_lost, served_now, sending, IsQueue, ack_of, after_ack};
+ghost use Rattle.link_model.specs.Standing.{first_standing};
+ghost use Rattle.link_model.specs.Steps.{standing_in, TakesStep, SendsOn, with_lost, served_now, sending, IsQueue, ack_of, after_ack};
 ghost use Rattle.link_model.specs.Horizon.{IsKept, IsCounted};
 
 use crate::arrival::Arrival;
@@ -48,7 +47,7 @@ impl Traffic {
     pub(crate) fn new(alloc: Global, case: &LinkCase) -> Result<Traffic, AllocError>
         ensures kept { IfOk result (λ t. IsKept case.now t) }
         ensures counted { IfOk result (λ t. IsCounted t) }
-        ensures standing { IfOk result (λ t. standing_in case.now.trace t ≡ standing_of case.now (run_of case.now [])) }
+        ensures standing { IfOk result (λ t. standing_in case.now.trace t ≡ first_standing case.now) }
         ensures calls { IfOk result (λ t. t.calls ≡ 0) }
     {
         let times = case.trace.as_slice();
@@ -69,12 +68,13 @@ impl Traffic {
     }
 
     /// Sends so many packets now.
+    #[inline(always)]
     pub(crate) fn send(&mut self, case: &LinkCase, more: u64)
         requires kept { IsKept case.now self.old }
         requires room { self.old.in_flight + more ≤ most_flight }
         requires sent { self.old.sent + more ≤ 2 ^ 28 }
         requires calls { self.old.calls ≤ most_acks }
-        ensures sending { standing_in case.now.trace self.new ≡ sending case.now more (standing_in case.now.trace self.old) }
+        ensures sending { TakesStep case.now (sending case.now more) self.old self.new }
         ensures kept { IsKept case.now self.new }
         ensures in_flight { self.new.in_flight ≡ self.old.in_flight + more }
         ensures sent { self.new.sent ≡ self.old.sent + more }
@@ -93,6 +93,7 @@ impl Traffic {
     }
 
     /// Sends one packet of so many, or all of them where the queue is full. Answers how many are left to be sent.
+    #[inline(always)]
     fn send_some(&mut self, case: &LinkCase, queue: &mut Queue, left: u64) -> u64
         requires kept { IsKept case.now self.old }
         requires queue { IsQueue case.now (standing_in case.now.trace self.old) queue.old }
@@ -100,7 +101,7 @@ impl Traffic {
         requires room { self.old.in_flight + left ≤ most_flight }
         requires sent { self.old.sent + left ≤ 2 ^ 28 }
         requires calls { self.old.calls ≤ most_acks }
-        ensures sending { sending case.now result (standing_in case.now.trace self.new) ≡ sending case.now left (standing_in case.now.trace self.old) }
+        ensures sending { SendsOn case.now left self.old result self.new }
         ensures kept { IsKept case.now self.new }
         ensures queue { IsQueue case.now (standing_in case.now.trace self.new) queue.new }
         ensures fewer { result < left }
@@ -123,11 +124,12 @@ impl Traffic {
     }
 
     /// Sends so many packets that are lost.
+    #[inline]
     fn lose(&mut self, case: &LinkCase, more: u64)
         requires kept { IsKept case.now self.old }
         requires room { self.old.in_flight + more ≤ most_flight }
         requires sent { self.old.sent + more ≤ 2 ^ 28 }
-        ensures standing { standing_in case.now.trace self.new ≡ with_lost more (standing_in case.now.trace self.old) }
+        ensures standing { TakesStep case.now (with_lost more) self.old self.new }
         ensures kept { IsKept case.now self.new }
         ensures in_flight { self.new.in_flight ≡ self.old.in_flight + more }
         ensures sent { self.new.sent ≡ self.old.sent + more }
@@ -141,6 +143,7 @@ impl Traffic {
     }
 
     /// Sends a packet that gets the queue's next chance.
+    #[inline(always)]
     fn serve(&mut self, case: &LinkCase, queue: &mut Queue)
         requires kept { IsKept case.now self.old }
         requires queue { IsQueue case.now (standing_in case.now.trace self.old) queue.old }
@@ -148,7 +151,7 @@ impl Traffic {
         requires room { self.old.in_flight + 1 ≤ most_flight }
         requires sent { self.old.sent + 1 ≤ 2 ^ 28 }
         requires calls { self.old.calls ≤ most_acks }
-        ensures standing { standing_in case.now.trace self.new ≡ served_now case.now (standing_in case.now.trace self.old) }
+        ensures standing { TakesStep case.now (served_now case.now) self.old self.new }
         ensures kept { IsKept case.now self.new }
         ensures queue { IsQueue case.now (standing_in case.now.trace self.new) queue.new }
         ensures in_flight { self.new.in_flight ≡ self.old.in_flight + 1 }
@@ -175,13 +178,14 @@ impl Traffic {
     }
 
     /// Acknowledges the first packet in flight that isn't lost, or times out where there is none.
+    #[inline(always)]
     pub(crate) fn acknowledge(&mut self, case: &LinkCase) -> Ack
         requires kept { IsKept case.now self.old }
         requires sent { self.old.sent ≤ 2 ^ 28 }
         requires acked { self.old.acked ≤ self.old.calls }
         requires calls { self.old.calls < most_acks }
         ensures ack { result ≡ ack_of case.now (standing_in case.now.trace self.old) }
-        ensures standing { standing_in case.now.trace self.new ≡ after_ack case.now (standing_in case.now.trace self.old) }
+        ensures standing { TakesStep case.now (after_ack case.now) self.old self.new }
         ensures kept { IsKept case.now self.new }
         ensures sent { self.new.sent ≡ self.old.sent }
         ensures acked { self.new.acked ≤ self.new.calls }
@@ -199,6 +203,7 @@ impl Traffic {
     }
 
     /// Times out: all packets in flight are lost.
+    #[inline]
     fn time_out(&mut self, case: &LinkCase) -> Ack
         requires kept { IsKept case.now self.old }
         requires none { self.old.flight.items ≡ [] }
@@ -206,7 +211,7 @@ impl Traffic {
         requires acked { self.old.acked ≤ self.old.calls }
         requires calls { self.old.calls < most_acks }
         ensures ack { result ≡ ack_of case.now (standing_in case.now.trace self.old) }
-        ensures standing { standing_in case.now.trace self.new ≡ after_ack case.now (standing_in case.now.trace self.old) }
+        ensures standing { TakesStep case.now (after_ack case.now) self.old self.new }
         ensures kept { IsKept case.now self.new }
         ensures sent { self.new.sent ≡ self.old.sent }
         ensures acked { self.new.acked ≡ self.old.acked }
@@ -223,6 +228,7 @@ impl Traffic {
 }
 
 /// Appends a packet to those in flight.
+#[inline]
 fn put(flight: &mut HeapCircularBuffer<Arrival>, arrival: Arrival)
     requires capacity { flight.old.capacity ≡ most_flight }
     requires room { length flight.old.items < most_flight }

@@ -2,7 +2,5 @@
 #![tactic(auto)]
 
 mod reno;
-#[cfg(test)]
-mod tests;
 
 pub use reno::Reno;

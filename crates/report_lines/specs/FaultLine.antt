@@ -2,6 +2,7 @@
 use Rattle.std.specs.Prelude.{ℕ, List, codes, decimal}
 use Rattle.ccp_base.specs.declared.arithmetic.FaultKind.{FaultKind}
 use Rattle.ccp_base.specs.declared.arithmetic.FaultKind.TheVariants.{Overflow, Underflow, ZeroDivisor}
+use Rattle.ccp_base.specs.declared.exchange.Notice.{Notice}
 use Rattle.ccp_base.specs.declared.place.Place.{Place}
 use Rattle.report_lines.specs.Text.{◌⧺◌}
 
@@ -20,3 +21,7 @@ place_tail place = codes " at=" ⧺ decimal place.line ⧺ codes ":" ⧺ decimal
 
 abbrev pub fault_line : ℕ → ℕ → FaultKind → Place → List ℕ
 fault_line epoch at kind place = fault_head epoch at ⧺ codes " kind=" ⧺ kind_text kind ⧺ place_tail place
+
+-- the line of the fault that a notice tells, whose operation has this place
+abbrev pub notice_line : Notice → Place → List ℕ
+notice_line notice place = fault_line notice.epoch notice.at notice.kind place

@@ -1,5 +1,5 @@
 ghost use Rattle.std.specs.Prelude.{◌≡◌, ◌++◌, OnOk};
-ghost use Rattle.report_lines.specs.FaultLine.{fault_head, fault_line, kind_text, place_tail};
+ghost use Rattle.report_lines.specs.FaultLine.{fault_head, notice_line, kind_text, place_tail};
 
 use ccp_base::{Bytes, FaultKind, NoMemory, Notice, Place};
 use std::alloc::Global;
@@ -11,7 +11,7 @@ pub fn put_fault(
     notice: &Notice,
     place: Place,
 ) -> Result<(), NoMemory>
-    ensures { OnOk result (text.new ≡ text.old ++ fault_line notice.entry.now.epoch notice.entry.now.at notice.entry.now.kind place) }
+    ensures { OnOk result (text.new ≡ text.old ++ notice_line notice.entry.now place) }
 {
     put_fault_head(alloc, text, notice.epoch, notice.at)?;
     text.extend(b" kind=")?;

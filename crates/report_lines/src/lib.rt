@@ -12,6 +12,3 @@ pub use fault_line::{put_fault, put_fault_head};
 pub use fields_text::{put_fields, put_window};
 pub use flow_line::put_flow_head;
 pub use report_line::{put_report, put_report_head, put_report_tail, put_reports};
-
-#[cfg(test)]
-mod tests;

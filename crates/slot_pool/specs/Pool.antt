@@ -1,5 +1,5 @@
 -- What a contract sees of a pool.
-use Rattle.std.specs.Prelude.{◌≡◌, ◌≢◌, ℕ, ◌+◌, ◌-◌, List, ◌++◌, length, take, drop, Option, IsSome, option_map, refl, slice_set}
+use Rattle.std.specs.Prelude.{◌≡◌, ◌≢◌, ℕ, ◌+◌, ◌-◌, List, ◌++◌, length, take, drop, Option, Some, IsSome, option_map, refl, replicate, slice_set}
 use Rattle.std.specs.Ordering.{nat_cmp}
 use Rattle.std.specs.FinMap as map
 use Rattle.std.specs.Coded.{Coded, code_by, coded×, coded_ℕ, coded_list}
@@ -54,3 +54,11 @@ with_words p slot at run = option_map (λ words. with_run words at run) (words_a
 -- the words of a slot, with one written
 abbrev pub with_word : PoolState → ℕ → ℕ → ℕ → Option (List ℕ)
 with_word p slot at word = option_map (λ words. slice_set words at word) (words_at p slot)
+
+-- a slot is out now, and its words are all 0
+abbrev pub TakesZeros : PoolState → PoolState → ℕ → Type 0
+TakesZeros old new slot = ChangesSlot old new slot (Some (replicate old.words 0))
+
+-- one word of a slot is written, at a place
+abbrev pub WritesWord : PoolState → PoolState → ℕ → ℕ → ℕ → Type 0
+WritesWord old new slot at word = ChangesSlot old new slot (with_word old slot at word)

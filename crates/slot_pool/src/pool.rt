@@ -1,6 +1,6 @@
-ghost use Rattle.std.specs.Prelude.{◌≡◌, ℕ, ◌+◌, ◌-◌, ◌*◌, ◌^◌, ◌<◌, ◌≤◌, ◌↔◌, [], length, None, Some, IsErr, IfOk, OnOk, OnErr, replicate};
+ghost use Rattle.std.specs.Prelude.{◌≡◌, ℕ, ◌+◌, ◌-◌, ◌*◌, ◌^◌, ◌<◌, ◌≤◌, ◌↔◌, [], length, None, Some, IsErr, IfOk, OnOk, OnErr};
 ghost use Rattle.std.specs.FinMap as map;
-ghost use Rattle.slot_pool.specs.Pool.{words_at, IsOut, free_of, unused, ChangesSlot, with_word, with_words};
+ghost use Rattle.slot_pool.specs.Pool.{words_at, IsOut, free_of, unused, ChangesSlot, TakesZeros, WritesWord, with_words};
 
 use crate::region::Region;
 use crate::slot::{Full, Slot};
@@ -57,7 +57,7 @@ impl Pool {
     pub fn take(&mut self) -> Result<Slot, Full>
         ensures full { IsErr result ↔ (free_of self.old ≡ 0) }
         ensures was_free { IfOk result (λ slot. words_at self.old slot ≡ None) }
-        ensures zeros { IfOk result (λ slot. ChangesSlot self.old self.new slot (Some (replicate self.old.words 0))) }
+        ensures zeros { IfOk result (λ slot. TakesZeros self.old self.new slot) }
         ensures within { IfOk result (λ slot. slot < self.old.slots) }
         ensures counted { OnOk result (free_of self.new + 1 ≡ free_of self.old) }
         ensures unchanged { OnErr result (self.new ≡ self.old) }
@@ -97,7 +97,7 @@ impl Pool {
     pub fn write(&mut self, slot: &Slot, at: u32, word: u64)
         requires out { IsOut self.old slot.now }
         requires within { at < self.old.words }
-        ensures written { ChangesSlot self.old self.new slot.now (with_word self.old slot.now at word) }
+        ensures written { WritesWord self.old self.new slot.now at word }
         ensures out { IsOut self.new slot.now }
         ensures counted { free_of self.new ≡ free_of self.old }
     {
@@ -145,48 +145,5 @@ impl Slots for Pool {
 
     fn set_slot(&mut self, slot: &Slot, at: u32, word: u64) {
         self.write(slot, at, word)
-    }
-}
-
-#[cfg(test)]
-mod tests {
-    use super::*;
-    use std::process::Abort;
-    use std::test::Fail;
-
-    #[test]
-    fn a_full_pool_refuses(rt: HostRuntime) -> Result<(), Fail> {
-        let mut pool = Pool::new(rt.alloc(), 1, 40)?;
-        let slot = pool.take()?;
-        assert_eq!(rt; pool.free(), 0);
-        assert!(rt; pool.take().is_err());
-        pool.give(slot);
-        assert_eq!(rt; pool.free(), 1);
-        Ok(())
-    }
-
-    /// Takes two slots, writes a word of each, reads both back, and takes one of them anew.
-    fn slots_are_apart<P: Slots>(rt: &impl Abort, slots: &mut P) -> Result<(), Full>
-        requires { (P.pool slots.old).words ≡ 3 }
-    {
-        let first = slots.take_slot()?;
-        let second = slots.take_slot()?;
-        slots.set_slot(&first, 0, 7);
-        slots.set_slot(&second, 2, 8);
-        assert_eq!(rt; slots.slot(&first), [7, 0, 0].as_slice());
-        assert_eq!(rt; slots.slot(&second), [0, 0, 8].as_slice());
-        slots.give_slot(first);
-        let third = slots.take_slot()?;
-        assert_eq!(rt; slots.slot(&third), [0, 0, 0].as_slice());
-        assert_eq!(rt; slots.slot(&second), [0, 0, 8].as_slice());
-        Ok(())
-    }
-
-    #[test]
-    fn slots_keep_their_words(rt: HostRuntime) -> Result<(), Fail> {
-        let mut pool = Pool::new(rt.alloc(), 2, 3)?;
-        slots_are_apart(&rt, &mut pool)?;
-        assert_eq!(rt; pool.free(), 0);
-        Ok(())
     }
 }

@@ -1,5 +1,5 @@
-ghost use Rattle.std.specs.Prelude.{◌≡◌, ℕ, ◌+◌, ◌<◌, ◌↔◌, List, length, None, Some, IsErr, IfOk, OnOk, OnErr, replicate};
-ghost use Rattle.slot_pool.specs.Pool.{PoolState, words_at, IsOut, free_of, ChangesSlot, with_word};
+ghost use Rattle.std.specs.Prelude.{◌≡◌, ℕ, ◌+◌, ◌<◌, ◌↔◌, List, length, None, Some, IsErr, IfOk, OnOk, OnErr};
+ghost use Rattle.slot_pool.specs.Pool.{PoolState, words_at, IsOut, free_of, ChangesSlot, TakesZeros, WritesWord};
 
 use crate::slot::{Full, Slot};
 
@@ -16,7 +16,7 @@ pub trait Slots {
     fn take_slot(&mut self) -> Result<Slot, Full>
         ensures full { IsErr result ↔ (free_of (pool self.old) ≡ 0) }
         ensures was_free { IfOk result (λ slot. words_at (pool self.old) slot ≡ None) }
-        ensures zeros { IfOk result (λ slot. ChangesSlot (pool self.old) (pool self.new) slot (Some (replicate (pool self.old).words 0))) }
+        ensures zeros { IfOk result (λ slot. TakesZeros (pool self.old) (pool self.new) slot) }
         ensures counted { OnOk result (free_of (pool self.new) + 1 ≡ free_of (pool self.old)) }
         ensures unchanged { OnErr result (pool self.new ≡ pool self.old) }
         ensures rest { rest self.new ≡ rest self.old };
@@ -38,7 +38,7 @@ pub trait Slots {
     fn set_slot(&mut self, slot: &Slot, at: u32, word: u64)
         requires out { IsOut (pool self.old) slot.now }
         requires within { at < (pool self.old).words }
-        ensures written { ChangesSlot (pool self.old) (pool self.new) slot.now (with_word (pool self.old) slot.now at word) }
+        ensures written { WritesWord (pool self.old) (pool self.new) slot.now at word }
         ensures out { IsOut (pool self.new) slot.now }
         ensures counted { free_of (pool self.new) ≡ free_of (pool self.old) }
         ensures rest { rest self.new ≡ rest self.old };
