@@ -1,5 +1,5 @@
 -- Expressions of the tests' programs.
-use Rattle.std.specs.Prelude.{ℕ, ◌≤◌, IsTrue, length}
+use Rattle.std.specs.Prelude.{◌≤◌, IsTrue, length}
 use Rattle.portus_core.specs.Programs.{Term}
 use Rattle.portus_core.specs.ValidPrograms.{Known, is_term}
 

@@ -177,7 +177,10 @@ fn refuses_the_first_rule_that_a_body_fails(rt: HostRuntime) -> Result<(), Fail>
         (bind(ONE, ONE), Rule::Writable),
         (bind(Reg::Prim(14), ONE), Rule::Writable),
         (bind(MICROS, ONE), Rule::Writable),
-        (instr(Op::Pair(Op2::Add), MICROS, ZERO, ZERO), Rule::Writable),
+        (
+            instr(Op::Pair(Op2::Add), MICROS, ZERO, ZERO),
+            Rule::Writable,
+        ),
         (bind(FLAG, ONE), Rule::Writable),
         (instr(Op::Ewma, FALL, ONE, ONE), Rule::Writable),
     ] {
