@@ -1,8 +1,7 @@
 ghost use Rattle.std.specs.Prelude.{◌≡◌, ℕ, ◌+◌, ◌<◌, ◌≤◌, ◌≢◌, ◌↔◌, [], length, None, Some, IsErr, IfOk, OnOk, OnErr, replicate, slice_set};
-ghost use Rattle.slot_pool.specs.Pool.{PoolState, words_at, IsOut, free_of, unused, ChangesSlot, with_word, with_run};
+ghost use Rattle.slot_pool.specs.Pool.{PoolState, words_at, IsOut, free_of, unused, ChangesSlot, TakesZeros, WritesWord, with_run};
 ghost use Rattle.fold_machine.specs.Layout.{slot_words};
 ghost use Rattle.fold_machine.specs.Store.{StoreState, fresh_store};
-ghost use Rattle.fold_machine.specs.Works.{TakesZeros, WritesWord};
 
 use crate::places::{OWN_SLOTS, WORDS};
 use slot_pool::{Full, Pool, Slot};
@@ -138,7 +137,7 @@ impl Store {
 fn own(pool: &mut Pool) -> Slot
     requires { 0 < free_of pool.old }
     ensures was_free { words_at pool.old result ≡ None }
-    ensures zeros { ChangesSlot pool.old pool.new result (Some (replicate pool.old.words 0)) }
+    ensures zeros { TakesZeros pool.old pool.new result }
     ensures counted { free_of pool.new + 1 ≡ free_of pool.old }
 {
     match pool.take() {
