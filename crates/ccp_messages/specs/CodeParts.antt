@@ -5,39 +5,13 @@ use Rattle.reg_code.specs.declared.code.Event.{Event}
 use Rattle.reg_code.specs.declared.code.Implicit.{Implicit}
 use Rattle.reg_code.specs.declared.code.Implicit.TheVariants.{Flag, Fall, Send, Micros, Cwnd, Rate}
 use Rattle.reg_code.specs.declared.code.Instr.{Instr}
-use Rattle.reg_code.specs.declared.code.Op.{Op}
-use Rattle.reg_code.specs.declared.code.Op.TheVariants as op
 use Rattle.reg_code.specs.declared.code.Reg.{Reg}
 use Rattle.reg_code.specs.declared.code.Reg.TheVariants as reg
 use Rattle.reg_code.specs.declared.code.Start.{Start}
+use Rattle.reg_code.specs.OperationNumbers.{op_number, op_numbered}
 use Rattle.std.specs.List.{flat_map}
 use Rattle.reply_frames.specs.Frames as parts
 use Rattle.reply_frames.specs.FrameBytes.{start_bytes, event_bytes, instruction_bytes}
-
--- the operations by number
-abbrev pub op_number : Op → ℕ
-op_number op.Add = 0
-op_number op.Sub = 1
-op_number op.Mul = 2
-op_number op.Div = 3
-op_number op.Max = 4
-op_number op.Min = 5
-op_number op.Gt = 6
-op_number op.Lt = 7
-op_number op.Eq = 8
-op_number op.And = 9
-op_number op.Or = 10
-op_number op.Bind = 11
-op_number op.If = 12
-op_number op.NotIf = 13
-op_number op.Ewma = 14
-
-abbrev pub op_of : ℕ → Op
-op_of n =
-    if n == 0 then op.Add else if n == 1 then op.Sub else if n == 2 then op.Mul else if n == 3 then op.Div else
-    if n == 4 then op.Max else if n == 5 then op.Min else if n == 6 then op.Gt else if n == 7 then op.Lt else
-    if n == 8 then op.Eq else if n == 9 then op.And else if n == 10 then op.Or else if n == 11 then op.Bind else
-    if n == 12 then op.If else if n == 13 then op.NotIf else op.Ewma
 
 -- the implicit registers by number
 abbrev pub implicit_number : Implicit → ℕ
@@ -91,7 +65,7 @@ abbrev pub instruction_part : Instr → parts.Instruction
 instruction_part i = record { op = op_number i.op; to = register_part i.to; left = register_part i.left; right = register_part i.right }
 
 abbrev pub instr_of : parts.Instruction → Instr
-instr_of i = record { op = op_of i.op; to = reg_of i.to; left = reg_of i.left; right = reg_of i.right }
+instr_of i = record { op = op_numbered i.op; to = reg_of i.to; left = reg_of i.left; right = reg_of i.right }
 
 -- ---- the bytes of the lists of a code
 

@@ -1,14 +1,12 @@
 -- Messages, and the one frame of each version that a message has.
-use Rattle.std.specs.Prelude.{◌≡◌, ℕ, ◌<◌, ◌≤◌, ◌^◌, ◌-◌, ◌==◌, List, [], ◌∷◌, ◌++◌, length, take, map, if◌then◌else◌}
+use Rattle.std.specs.Prelude.{◌≡◌, ℕ, ◌<◌, ◌≤◌, ◌^◌, List, [], ◌∷◌, ◌++◌, length, take, map}
 use Rattle.std.specs.List.{AllByRecursion}
 use Rattle.ccp_base.specs.declared.ack.Ack.{Ack}
-use Rattle.ccp_base.specs.declared.arithmetic.FaultKind.{FaultKind}
-use Rattle.ccp_base.specs.declared.arithmetic.FaultKind.TheVariants.{Overflow, Underflow, ZeroDivisor}
 use Rattle.ccp_base.specs.declared.exchange.Report.{Report}
 use Rattle.ccp_base.specs.declared.exchange.Notice.{Notice}
-use Rattle.ccp_base.specs.Acknowledgement.{number_of, primitives, ack_of}
+use Rattle.ccp_base.specs.Acknowledgement.{primitives, flag_number, ack_of}
 use Rattle.ccp_base.specs.FieldReg.{Pair}
-use Rattle.ccp_base.specs.Limits.{most_fields, most_short_fields, most_controls, most_blocks, most_instrs, most_pairs, primitive_count}
+use Rattle.ccp_base.specs.Limits.{most_fields, most_short_fields, most_controls, most_blocks, most_instrs, most_pairs}
 use Rattle.reg_code.specs.declared.code.Code.{Code}
 use Rattle.reg_code.specs.declared.code.Event.{Event}
 use Rattle.reg_code.specs.declared.code.Instr.{Instr}
@@ -19,6 +17,7 @@ use Rattle.reply_frames.specs.declared.outline.Version.{Version}
 use Rattle.reply_frames.specs.declared.outline.Version.TheVariants.{One, Two}
 use Rattle.reply_frames.specs.Frames.{Body}
 use Rattle.reply_frames.specs.Frames as body
+use Rattle.reply_frames.specs.Bodies.{fault_kind_of, report_body, notice_body, ack_body}
 use Rattle.reply_frames.specs.ValueBytes.{AreTargets, IsValue}
 use Rattle.reply_frames.specs.FrameBytes.{spelled, IsNumber}
 use Rattle.ccp_messages.specs.declared.message.Message.{Message}
@@ -63,15 +62,6 @@ IsNarrow (Refused flow reason index) = Unit {0}
 
 -- ---- the frame of a message
 
--- the kinds of faults by number
-abbrev pub fault_number : FaultKind → ℕ
-fault_number Overflow = 0
-fault_number Underflow = 1
-fault_number ZeroDivisor = 2
-
-abbrev pub fault_kind_of : ℕ → FaultKind
-fault_kind_of n = if n == 0 then Overflow else if n == 1 then Underflow else ZeroDivisor
-
 abbrev pub flow_of : Message → ℕ
 flow_of (Create flow mss cwnd) = flow
 flow_of (Measure report) = report.flow
@@ -85,13 +75,13 @@ flow_of (Refused flow reason index) = flow
 -- what the frame says after its head
 abbrev pub body_of : Message → Body
 body_of (Create flow mss cwnd) = body.Create cwnd mss
-body_of (Measure r) = body.Measure r.program r.epoch r.first r.end r.now r.cwnd r.rate r.fields
+body_of (Measure report) = report_body report
 body_of (Install flow program code) =
     body.Install program (map start_part code.reports) (map start_part code.controls) (map event_part code.events) (map instruction_part code.instrs)
 body_of (Update flow values) = body.Update values
 body_of (Change flow program values) = body.Change program values
-body_of (Fault n) = body.Fault n.program n.epoch n.at (fault_number n.kind) n.index n.now n.cwnd
-body_of (message.Ack flow ack) = body.Ack (take (primitive_count - 1) (primitives ack)) (number_of ack.was_timeout)
+body_of (Fault notice) = notice_body notice
+body_of (message.Ack flow ack) = ack_body ack
 body_of (Refused flow reason index) = body.Refused reason index
 
 -- the message's frame in a version, where it meets the conditions
@@ -143,7 +133,7 @@ IsTypedCode code =
     × AllByRecursion IsTypedEvent code.events × AllByRecursion IsTypedInstr code.instrs
 
 abbrev pub IsTypedAck : Ack → Type 0
-IsTypedAck ack = AllByRecursion IsNumber (take (primitive_count - 1) (primitives ack))
+IsTypedAck ack = AllByRecursion IsNumber (take flag_number (primitives ack))
 
 abbrev pub AreTypedNumbers : List ℕ → Type 0
 AreTypedNumbers numbers = (length numbers ≤ most_fields) × AllByRecursion IsNumber numbers

@@ -2,16 +2,16 @@
 
 ghost use Rattle.std.specs.Prelude.{◌≡◌, ◌+◌, ◌-◌, ◌*◌, ◌^◌, ◌<◌, ◌≤◌, ◌∷◌, ◌++◌, length, take};
 ghost use Rattle.std.specs.Int.{w32, w64, to_le_bytes};
-ghost use Rattle.ccp_base.specs.Acknowledgement.{number_of, primitives};
+ghost use Rattle.ccp_base.specs.Acknowledgement.{number_of, primitives, flag_number};
+ghost use Rattle.reply_frames.specs.Bodies.{fault_number, ack_body};
 ghost use Rattle.reply_frames.specs.ValueBytes.{values_bytes};
 ghost use Rattle.reply_frames.specs.FrameBytes.{count_width, numbers_bytes, body_bytes};
 ghost use Rattle.reply_frames.specs.Writing.{Wrote};
-ghost use Rattle.ccp_base.specs.Limits.{primitive_count};
 ghost use Rattle.ccp_messages.specs.declared.message.Message.TheVariants as message;
-ghost use Rattle.ccp_messages.specs.Messages.{IsShortCount, body_of, fault_number, AreTypedPairs, IsTypedReport, IsTypedNotice, IsTypedAck};
+ghost use Rattle.ccp_messages.specs.Messages.{IsShortCount, body_of, AreTypedPairs, IsTypedReport, IsTypedNotice, IsTypedAck};
 
 use crate::writing::{put_count, put_numbers, put8, put16, put32, put64};
-use ccp_base::{Ack, FaultKind, Fields, Notice, Report, bool_number, primitives};
+use ccp_base::{Ack, FaultKind, Fields, Notice, PRIMITIVES, Report, bool_number, primitives};
 use reply_frames::Version;
 
 /// Puts the body of a Create.
@@ -93,10 +93,10 @@ pub fn put_fault(out: &mut [u8], at: usize, version: Version, notice: Notice) ->
 pub fn put_ack(out: &mut [u8], at: usize, ack: Ack) -> usize
     requires { at + 120 ≤ length out.old }
     ensures typed { IsTypedAck ack }
-    ensures wrote { Wrote at (numbers_bytes (take (primitive_count - 1) (primitives ack)) ++ to_le_bytes w64 (number_of ack.was_timeout)) out.old out.new result }
+    ensures wrote { Wrote at (numbers_bytes (take flag_number (primitives ack)) ++ to_le_bytes w64 (number_of ack.was_timeout)) out.old out.new result }
 {
     let numbers = primitives(&ack);
-    let end = put_numbers(out, at, &numbers[..14]);
+    let end = put_numbers(out, at, &numbers[..PRIMITIVES as usize - 1]);
     put64(out, end, bool_number(ack.was_timeout))
 }
 

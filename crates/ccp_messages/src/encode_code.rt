@@ -8,7 +8,7 @@ ghost use Rattle.reply_frames.specs.Writing.{Wrote};
 ghost use Rattle.ccp_messages.specs.CodeParts.{start_part, event_part, register_part, instruction_part, starts_bytes, events_bytes, instrs_bytes};
 ghost use Rattle.ccp_messages.specs.Messages.{IsTypedStart, IsTypedEvent, IsTypedReg, IsTypedInstr, IsTypedCode};
 
-use crate::code_parts::{op_number, register_numbers};
+use crate::code_parts::register_numbers;
 use crate::writing::{flag, put8, put16, put32, put64};
 use reg_code::{Code, Event, Instr, Packed, Reg, Start};
 
@@ -77,7 +77,7 @@ fn put_instr(out: &mut [u8], at: usize, instr: Instr) -> usize
     ensures wrote { Wrote at (instruction_bytes (instruction_part instr)) out.old out.new result }
     ensures typed { IsTypedInstr instr }
 {
-    let end = put8(out, at, op_number(instr.op));
+    let end = put8(out, at, instr.op.number());
     let end = put_register(out, end, instr.to);
     let end = put_register(out, end, instr.left);
     put_register(out, end, instr.right)
