@@ -19,6 +19,7 @@ use Rattle.reg_code.specs.declared.code.Reg.TheVariants as reg
 use Rattle.reg_code.specs.declared.code.Start.{Start}
 use Rattle.reg_code.specs.OperationNumbers.{op_number, op_numbered}
 use Rattle.reg_code.specs.OperationNumberLaws.{op_back, op_again}
+use Rattle.reply_frames.specs.declared.outline.Instruction.{Instruction}
 use Rattle.reply_frames.specs.Frames as parts
 use Rattle.reply_frames.specs.FrameBytes.{IsStart, IsEvent, IsRegister, IsInstruction}
 use Rattle.reply_frames.proofs.BodyLaws.{truth-back, truth-again}
@@ -95,7 +96,7 @@ register-again (suc (suc (suc (suc (suc (suc (suc class))))))) n ok = absurd (om
 start-again : (start : parts.Start) → IsStart start → (start_part (start_of start) ≡ start) × IsTypedStart (start_of start)
 start-again start ok = (ap (λ n. record { volatile = n; value = start.value }) (truth-again start.volatile ok.0), ok.1)
 
-instruction-again : (i : parts.Instruction) → IsInstruction i → (instruction_part (instr_of i) ≡ i) × IsTypedInstr (instr_of i)
+instruction-again : (i : Instruction) → IsInstruction i → (instruction_part (instr_of i) ≡ i) × IsTypedInstr (instr_of i)
 instruction-again i ok =
     let o = op_again i.op ok.0 in
     let a = register-again i.to.class i.to.number ok.1 in
@@ -121,13 +122,13 @@ starts-again starts ok = map-again start_of start_part IsStart IsTypedStart star
 pub events-again : (events : List parts.Event) → AllByRecursion IsEvent events → (map event_part (map event_of events) ≡ events) × AllByRecursion IsTypedEvent (map event_of events)
 events-again events ok = map-again event_of event_part IsEvent IsTypedEvent (λ event fits. (refl, fits)) events ok
 
-pub instructions-again : (instructions : List parts.Instruction) → AllByRecursion IsInstruction instructions → (map instruction_part (map instr_of instructions) ≡ instructions) × AllByRecursion IsTypedInstr (map instr_of instructions)
+pub instructions-again : (instructions : List Instruction) → AllByRecursion IsInstruction instructions → (map instruction_part (map instr_of instructions) ≡ instructions) × AllByRecursion IsTypedInstr (map instr_of instructions)
 instructions-again instructions ok = map-again instr_of instruction_part IsInstruction IsTypedInstr instruction-again instructions ok
 
 -- ---- what is typed has a place in a frame
 
 -- a test that each of some operations passes is passed by the one that is found among them
-passes : (Op2 → Bool) → List Op2 → Bool
+abbrev passes : (Op2 → Bool) → List Op2 → Bool
 passes pass [] = true
 passes pass (x ∷ xs) = pass x && passes pass xs
 

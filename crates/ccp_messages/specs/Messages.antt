@@ -15,11 +15,12 @@ use Rattle.reg_code.specs.declared.code.Reg.TheVariants as reg
 use Rattle.reg_code.specs.declared.code.Start.{Start}
 use Rattle.reply_frames.specs.declared.outline.Version.{Version}
 use Rattle.reply_frames.specs.declared.outline.Version.TheVariants.{One, Two}
+use Rattle.reply_frames.specs.Kinds.{size_of}
 use Rattle.reply_frames.specs.Frames.{Body}
 use Rattle.reply_frames.specs.Frames as body
 use Rattle.reply_frames.specs.Bodies.{fault_kind_of, report_body, notice_body, ack_body}
 use Rattle.reply_frames.specs.ValueBytes.{AreTargets, IsValue}
-use Rattle.reply_frames.specs.FrameBytes.{spelled, IsNumber}
+use Rattle.reply_frames.specs.FrameBytes.{kind_of_body, counts_of, spelled, IsNumber}
 use Rattle.ccp_messages.specs.declared.message.Message.{Message}
 use Rattle.ccp_messages.specs.declared.message.Message.TheVariants.{Create, Measure, Install, Update, Change, Fault, Refused}
 use Rattle.ccp_messages.specs.declared.message.Message.TheVariants as message
@@ -83,6 +84,10 @@ body_of (Change flow program values) = body.Change program values
 body_of (Fault notice) = notice_body notice
 body_of (message.Ack flow ack) = ack_body ack
 body_of (Refused flow reason index) = body.Refused reason index
+
+-- the length of the message's frame in a version
+abbrev pub size_in : Version → Message → ℕ
+size_in version message = size_of (kind_of_body (body_of message)) version (counts_of (body_of message))
 
 -- the message's frame in a version, where it meets the conditions
 abbrev pub frame_bytes : Version → Message → List ℕ
