@@ -1,8 +1,13 @@
 -- The parts of a code go into a frame and come back.
-use Rattle.std.proofs.Common.{◌≡◌, ℕ, zero, suc, ◌≤◌, Bool, true, false, eqb, List, [], ◌∷◌, refl, ap, ◌∙◌, arith}
-use Rattle.std.specs.Prelude.{map}
+use Rattle.std.proofs.Common.{◌≡◌, ℕ, zero, suc, ◌≤◌, Bool, true, false, eqb, List, [], ◌∷◌, refl, sym, ap, ◌∙◌, arith}
+use Rattle.std.specs.Prelude.{map, Option, Some, nat_le, if◌then◌else◌, ◌&&◌, ◌==◌}
 use Rattle.std.specs.List.{AllByRecursion}
+use Rattle.std.proofs.lemmas.Bool.{and_parts, leb-true}
+use Rattle.ccp_base.specs.declared.operation.Op2.{Op2}
 use Rattle.ccp_base.specs.Acknowledgement.{number_of}
+use Rattle.ccp_base.specs.Limits.{most_operation}
+use Rattle.ccp_base.specs.Operations.{written_as, first_where, operations}
+use Rattle.ccp_base.specs.OperationLaws.{operation-back}
 use Rattle.reg_code.specs.declared.code.Event.{Event}
 use Rattle.reg_code.specs.declared.code.Implicit.{Implicit}
 use Rattle.reg_code.specs.declared.code.Implicit.TheVariants.{Flag, Fall, Send, Micros, Cwnd, Rate}
@@ -12,29 +17,16 @@ use Rattle.reg_code.specs.declared.code.Op.TheVariants as op
 use Rattle.reg_code.specs.declared.code.Reg.{Reg}
 use Rattle.reg_code.specs.declared.code.Reg.TheVariants as reg
 use Rattle.reg_code.specs.declared.code.Start.{Start}
+use Rattle.reg_code.specs.OperationNumbers.{op_number, op_numbered}
+use Rattle.reg_code.specs.OperationNumberLaws.{op_back, op_again}
+use Rattle.reply_frames.specs.declared.outline.Instruction.{Instruction}
 use Rattle.reply_frames.specs.Frames as parts
 use Rattle.reply_frames.specs.FrameBytes.{IsStart, IsEvent, IsRegister, IsInstruction}
-use Rattle.ccp_messages.specs.CodeParts.{op_number, op_of, implicit_number, implicit_of, register, register_part, reg_by, reg_of, start_part, start_of, event_part, event_of, instruction_part, instr_of}
+use Rattle.reply_frames.proofs.BodyLaws.{truth-back, truth-again}
+use Rattle.ccp_messages.specs.CodeParts.{implicit_number, implicit_of, register, register_part, reg_by, reg_of, start_part, start_of, event_part, event_of, instruction_part, instr_of}
 use Rattle.ccp_messages.specs.Messages.{IsTypedStart, IsTypedEvent, IsTypedReg, IsTypedInstr}
 
 -- ---- from a code and back
-
-op-back : (o : Op) → op_of (op_number o) ≡ o
-op-back op.Add = refl
-op-back op.Sub = refl
-op-back op.Mul = refl
-op-back op.Div = refl
-op-back op.Max = refl
-op-back op.Min = refl
-op-back op.Gt = refl
-op-back op.Lt = refl
-op-back op.Eq = refl
-op-back op.And = refl
-op-back op.Or = refl
-op-back op.Bind = refl
-op-back op.If = refl
-op-back op.NotIf = refl
-op-back op.Ewma = refl
 
 implicit-back : (which : Implicit) → implicit_of (implicit_number which) ≡ which
 implicit-back Flag = refl
@@ -53,16 +45,12 @@ reg-back (reg.Implicit which) = ap (λ w. reg.Implicit w) (implicit-back which)
 reg-back (reg.Local i) = refl
 reg-back (reg.Temp i) = refl
 
-pub truth-back : (b : Bool) → eqb (number_of b) 1 ≡ b
-truth-back true = refl
-truth-back false = refl
-
 start-back : (start : Start) → start_of (start_part start) ≡ start
 start-back start = ap (λ b. record { volatile = b; value = start.value }) (truth-back start.volatile)
 
 instr-back : (i : Instr) → instr_of (instruction_part i) ≡ i
 instr-back i =
-    let o = op-back i.op in
+    let o = op_back i.op in
     let a = reg-back i.to in
     let b = reg-back i.left in
     let c = reg-back i.right in
@@ -86,24 +74,6 @@ instrs-back instrs = map-back instruction_part instr_of instr-back instrs
 
 -- ---- from a frame and back
 
-op-again : (n : ℕ) → n ≤ 14 → op_number (op_of n) ≡ n
-op-again zero le = refl
-op-again (suc zero) le = refl
-op-again (suc (suc zero)) le = refl
-op-again (suc (suc (suc zero))) le = refl
-op-again (suc (suc (suc (suc zero)))) le = refl
-op-again (suc (suc (suc (suc (suc zero))))) le = refl
-op-again (suc (suc (suc (suc (suc (suc zero)))))) le = refl
-op-again (suc (suc (suc (suc (suc (suc (suc zero))))))) le = refl
-op-again (suc (suc (suc (suc (suc (suc (suc (suc zero)))))))) le = refl
-op-again (suc (suc (suc (suc (suc (suc (suc (suc (suc zero))))))))) le = refl
-op-again (suc (suc (suc (suc (suc (suc (suc (suc (suc (suc zero)))))))))) le = refl
-op-again (suc (suc (suc (suc (suc (suc (suc (suc (suc (suc (suc zero))))))))))) le = refl
-op-again (suc (suc (suc (suc (suc (suc (suc (suc (suc (suc (suc (suc zero)))))))))))) le = refl
-op-again (suc (suc (suc (suc (suc (suc (suc (suc (suc (suc (suc (suc (suc zero))))))))))))) le = refl
-op-again (suc (suc (suc (suc (suc (suc (suc (suc (suc (suc (suc (suc (suc (suc zero)))))))))))))) le = refl
-op-again (suc (suc (suc (suc (suc (suc (suc (suc (suc (suc (suc (suc (suc (suc (suc n))))))))))))))) le = absurd (omega arith)
-
 implicit-again : (n : ℕ) → n ≤ 5 → implicit_number (implicit_of n) ≡ n
 implicit-again zero le = refl
 implicit-again (suc zero) le = refl
@@ -123,17 +93,12 @@ register-again (suc (suc (suc (suc (suc zero))))) n ok = (refl, omega (arith, ok
 register-again (suc (suc (suc (suc (suc (suc zero)))))) n ok = (refl, omega (arith, ok.1))
 register-again (suc (suc (suc (suc (suc (suc (suc class))))))) n ok = absurd (omega (arith, ok.0))
 
-pub truth-again : (n : ℕ) → n ≤ 1 → number_of (eqb n 1) ≡ n
-truth-again zero le = refl
-truth-again (suc zero) le = refl
-truth-again (suc (suc n)) le = absurd (omega arith)
-
 start-again : (start : parts.Start) → IsStart start → (start_part (start_of start) ≡ start) × IsTypedStart (start_of start)
 start-again start ok = (ap (λ n. record { volatile = n; value = start.value }) (truth-again start.volatile ok.0), ok.1)
 
-instruction-again : (i : parts.Instruction) → IsInstruction i → (instruction_part (instr_of i) ≡ i) × IsTypedInstr (instr_of i)
+instruction-again : (i : Instruction) → IsInstruction i → (instruction_part (instr_of i) ≡ i) × IsTypedInstr (instr_of i)
 instruction-again i ok =
-    let o = op-again i.op ok.0 in
+    let o = op_again i.op ok.0 in
     let a = register-again i.to.class i.to.number ok.1 in
     let b = register-again i.left.class i.left.number ok.2 in
     let c = register-again i.right.class i.right.number ok.3 in (
@@ -157,23 +122,29 @@ starts-again starts ok = map-again start_of start_part IsStart IsTypedStart star
 pub events-again : (events : List parts.Event) → AllByRecursion IsEvent events → (map event_part (map event_of events) ≡ events) × AllByRecursion IsTypedEvent (map event_of events)
 events-again events ok = map-again event_of event_part IsEvent IsTypedEvent (λ event fits. (refl, fits)) events ok
 
-pub instructions-again : (instructions : List parts.Instruction) → AllByRecursion IsInstruction instructions → (map instruction_part (map instr_of instructions) ≡ instructions) × AllByRecursion IsTypedInstr (map instr_of instructions)
+pub instructions-again : (instructions : List Instruction) → AllByRecursion IsInstruction instructions → (map instruction_part (map instr_of instructions) ≡ instructions) × AllByRecursion IsTypedInstr (map instr_of instructions)
 instructions-again instructions ok = map-again instr_of instruction_part IsInstruction IsTypedInstr instruction-again instructions ok
 
 -- ---- what is typed has a place in a frame
 
-op-low : (o : Op) → op_number o ≤ 14
-op-low op.Add = omega arith
-op-low op.Sub = omega arith
-op-low op.Mul = omega arith
-op-low op.Div = omega arith
-op-low op.Max = omega arith
-op-low op.Min = omega arith
-op-low op.Gt = omega arith
-op-low op.Lt = omega arith
-op-low op.Eq = omega arith
-op-low op.And = omega arith
-op-low op.Or = omega arith
+-- a test that each of some operations passes is passed by the one that is found among them
+abbrev passes : (Op2 → Bool) → List Op2 → Bool
+passes pass [] = true
+passes pass (x ∷ xs) = pass x && passes pass xs
+
+found-case : (here : Bool) (pass : Op2 → Bool) (x o : Op2) (rest : Option Op2) (others : Bool) → (if here then Some x else rest) ≡ Some o → pass x && others ≡ true
+    → (rest ≡ Some o → others ≡ true → pass o ≡ true) → pass o ≡ true
+found-case true pass x o rest others found all later = let same : x ≡ o = cc in ap pass (sym same) ∙ (and_parts (pass x) others all).0
+found-case false pass x o rest others found all later = later found (and_parts (pass x) others all).1
+
+found-passes : (test pass : Op2 → Bool) (xs : List Op2) (o : Op2) → first_where test xs ≡ Some o → passes pass xs ≡ true → pass o ≡ true
+found-passes test pass [] o found all = absurd cc
+found-passes test pass (x ∷ xs) o found all = found-case (test x) pass x o (first_where test xs) (passes pass xs) found all (found-passes test pass xs o)
+
+op-low : (o : Op) → op_number o ≤ most_operation
+op-low (op.Pair operation) =
+    leb-true (written_as operation).number most_operation
+    (found-passes (λ o. (written_as o).number == (written_as operation).number) (λ o. nat_le (written_as o).number most_operation) operations operation (operation-back operation) refl)
 op-low op.Bind = omega arith
 op-low op.If = omega arith
 op-low op.NotIf = omega arith

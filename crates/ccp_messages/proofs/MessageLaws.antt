@@ -5,34 +5,27 @@ use Rattle.std.specs.List.{AllByRecursion}
 use Rattle.std.proofs.lemmas.List.{length-map}
 use Rattle.ccp_base.specs.declared.arithmetic.FaultKind.{FaultKind}
 use Rattle.ccp_base.specs.declared.arithmetic.FaultKind.TheVariants.{Overflow, Underflow, ZeroDivisor}
-use Rattle.ccp_base.specs.Acknowledgement.{number_of, primitives, ack_of}
-use Rattle.ccp_base.specs.Truth.{is_true}
+use Rattle.ccp_base.specs.Acknowledgement.{number_of, primitives, flag_number, ack_of}
 use Rattle.ccp_base.specs.FieldReg.{Pair}
+use Rattle.ccp_base.specs.Limits.{most_fields}
 use Rattle.reply_frames.specs.declared.outline.Version.{Version}
 use Rattle.reply_frames.specs.declared.outline.Version.TheVariants.{One, Two}
 use Rattle.reply_frames.specs.declared.outline.FrameKind.TheVariants as kinds
 use Rattle.reply_frames.specs.Kinds.{most_n1}
 use Rattle.reply_frames.specs.Frames.{Body}
 use Rattle.reply_frames.specs.Frames as body
+use Rattle.reply_frames.specs.Bodies.{fault_number, fault_kind_of}
 use Rattle.reply_frames.specs.ValueBytes.{AreTargets, IsValue, IsSendable}
 use Rattle.reply_frames.specs.FrameBytes.{IsNumber, IsCount, IsSpellable}
+use Rattle.reply_frames.proofs.BodyLaws.{fault-back, fault-again, true-back, plain-numbers, ack-again}
 use Rattle.ccp_messages.specs.declared.message.Message.{Message}
 use Rattle.ccp_messages.specs.declared.message.Message.TheVariants.{Create, Measure, Install, Update, Change, Fault, Refused}
 use Rattle.ccp_messages.specs.declared.message.Message.TheVariants as message
 use Rattle.ccp_messages.specs.CodeParts.{start_part, start_of, event_part, event_of, instruction_part, instr_of}
-use Rattle.ccp_messages.specs.Messages.{IsShortCount, AreFew, IsNarrow, Meets, fault_number, fault_kind_of, flow_of, body_of, message_of, IsTyped}
+use Rattle.ccp_messages.specs.Messages.{IsShortCount, AreFew, IsNarrow, Meets, flow_of, body_of, message_of, IsTyped}
 use Rattle.ccp_messages.proofs.CodeLaws.{truth-low, starts-back, events-back, instrs-back, starts-again, events-again, instructions-again, starts-fit, events-fit, instructions-fit}
 
 -- ---- from a message and back
-
-fault-back : (kind : FaultKind) → fault_kind_of (fault_number kind) ≡ kind
-fault-back Overflow = refl
-fault-back Underflow = refl
-fault-back ZeroDivisor = refl
-
-true-back : (b : Bool) → is_true (number_of b) ≡ b
-true-back true = refl
-true-back false = refl
 
 pub message-back : (m : Message) → message_of (flow_of m) (body_of m) ≡ m
 message-back (Create flow mss cwnd) = refl
@@ -121,26 +114,6 @@ message-fits version (Refused flow reason index) meets typed = (typed.0, (omega 
 
 -- ---- from a body and back
 
-fault-again : (n : ℕ) → n ≤ 2 → fault_number (fault_kind_of n) ≡ n
-fault-again zero le = refl
-fault-again (suc zero) le = refl
-fault-again (suc (suc zero)) le = refl
-fault-again (suc (suc (suc n))) le = absurd (omega arith)
-
-true-again : (n : ℕ) → n ≤ 1 → number_of (is_true n) ≡ n
-true-again zero le = refl
-true-again (suc zero) le = refl
-true-again (suc (suc n)) le = absurd (omega arith)
-
-fourteen : (n : List ℕ) (was_timeout : ℕ) → length n ≡ 14 → take 14 (primitives (ack_of (n ++ was_timeout ∷ []))) ≡ n
-fourteen (a ∷ b ∷ c ∷ d ∷ e ∷ f ∷ g ∷ h ∷ i ∷ j ∷ k ∷ l ∷ m ∷ n ∷ []) was_timeout is = refl
-fourteen n was_timeout is = absurd (omega (arith, is))
-
-ack-again : (flow : ℕ) (n : List ℕ) (was_timeout : ℕ) → length n ≡ 14 → was_timeout ≤ 1 → body_of (message.Ack flow (ack_of (n ++ was_timeout ∷ []))) ≡ body.Ack n was_timeout
-ack-again flow (a ∷ b ∷ c ∷ d ∷ e ∷ f ∷ g ∷ h ∷ i ∷ j ∷ k ∷ l ∷ m ∷ n ∷ []) was_timeout is le =
-    ap (λ last. body.Ack (a ∷ b ∷ c ∷ d ∷ e ∷ f ∷ g ∷ h ∷ i ∷ j ∷ k ∷ l ∷ m ∷ n ∷ []) last) (true-again was_timeout le)
-ack-again flow n was_timeout is le = absurd (omega (arith, is))
-
 targets-of : (values : List Pair) → AllByRecursion IsSendable values → AreTargets values
 targets-of [] sendable = tt
 targets-of (value ∷ values) sendable = (sendable.0.0, targets-of values sendable.1)
@@ -160,11 +133,11 @@ count-short : (version : Version) (n : ℕ) → IsCount version n → IsShortCou
 count-short One n count = (count, omega (arith, count))
 count-short Two n count = (tt, count)
 
-fields-few : (version : Version) (n : ℕ) → n ≤ most_n1 kinds.Measure version → AreFew version n × (n ≤ 64)
+fields-few : (version : Version) (n : ℕ) → n ≤ most_n1 kinds.Measure version → AreFew version n × (n ≤ most_fields)
 fields-few One n few = (few, omega (arith, few))
 fields-few Two n few = (tt, few)
 
-reports-few : (version : Version) (n m : ℕ) → m ≡ n → n ≤ most_n1 kinds.Install version → AreFew version m × (m ≤ 64)
+reports-few : (version : Version) (n m : ℕ) → m ≡ n → n ≤ most_n1 kinds.Install version → AreFew version m × (m ≤ most_fields)
 reports-few One n m is few = (omega (arith, few), omega (arith, few))
 reports-few Two n m is few = (tt, omega (arith, few))
 
@@ -213,10 +186,10 @@ body-said version flow (body.Fault program epoch place kind index now cwnd) ok =
       typed = (ok.0, (ok.2.0, ok.2.1, a.1, ok.2.4, ok.2.5, ok.2.6));
     }
 body-said version flow (body.Ack numbers was_timeout) ok =
-    let is : take 14 (primitives (ack_of (numbers ++ was_timeout ∷ []))) ≡ numbers = fourteen numbers was_timeout ok.2.0 in
+    let is : take flag_number (primitives (ack_of (numbers ++ was_timeout ∷ []))) ≡ numbers = plain-numbers numbers was_timeout ok.2.0 in
     record {
       flow_is = refl;
-      body_is = ack-again flow numbers was_timeout ok.2.0 ok.2.2;
+      body_is = ack-again numbers was_timeout ok.2.0 ok.2.2;
       meets = tt;
       typed = (ok.0, subst (λ xs. AllByRecursion IsNumber xs) (sym is) ok.2.1);
     }

@@ -1,43 +1,22 @@
 -- The parts of a code as an Install frame has them, and back.
-use Rattle.std.specs.Prelude.{ℕ, ◌==◌, if◌then◌else◌, List}
+use Rattle.std.specs.Prelude.{ℕ, ◌+◌, ◌*◌, ◌==◌, if◌then◌else◌, List, ◌++◌, length}
 use Rattle.ccp_base.specs.Acknowledgement.{number_of}
+use Rattle.std.specs.Int.{w32, to_le_bytes}
+use Rattle.reg_code.specs.declared.code.Code.{Code}
 use Rattle.reg_code.specs.declared.code.Event.{Event}
 use Rattle.reg_code.specs.declared.code.Implicit.{Implicit}
 use Rattle.reg_code.specs.declared.code.Implicit.TheVariants.{Flag, Fall, Send, Micros, Cwnd, Rate}
 use Rattle.reg_code.specs.declared.code.Instr.{Instr}
-use Rattle.reg_code.specs.declared.code.Op.{Op}
-use Rattle.reg_code.specs.declared.code.Op.TheVariants as op
 use Rattle.reg_code.specs.declared.code.Reg.{Reg}
 use Rattle.reg_code.specs.declared.code.Reg.TheVariants as reg
 use Rattle.reg_code.specs.declared.code.Start.{Start}
+use Rattle.reg_code.specs.OperationNumbers.{op_number, op_numbered}
 use Rattle.std.specs.List.{flat_map}
+use Rattle.reply_frames.specs.declared.outline.Counts.{Counts}
+use Rattle.reply_frames.specs.declared.outline.Register.{Register}
+use Rattle.reply_frames.specs.declared.outline.Instruction.{Instruction}
 use Rattle.reply_frames.specs.Frames as parts
-use Rattle.reply_frames.specs.FrameBytes.{start_bytes, event_bytes, instruction_bytes}
-
--- the operations by number
-abbrev pub op_number : Op → ℕ
-op_number op.Add = 0
-op_number op.Sub = 1
-op_number op.Mul = 2
-op_number op.Div = 3
-op_number op.Max = 4
-op_number op.Min = 5
-op_number op.Gt = 6
-op_number op.Lt = 7
-op_number op.Eq = 8
-op_number op.And = 9
-op_number op.Or = 10
-op_number op.Bind = 11
-op_number op.If = 12
-op_number op.NotIf = 13
-op_number op.Ewma = 14
-
-abbrev pub op_of : ℕ → Op
-op_of n =
-    if n == 0 then op.Add else if n == 1 then op.Sub else if n == 2 then op.Mul else if n == 3 then op.Div else
-    if n == 4 then op.Max else if n == 5 then op.Min else if n == 6 then op.Gt else if n == 7 then op.Lt else
-    if n == 8 then op.Eq else if n == 9 then op.And else if n == 10 then op.Or else if n == 11 then op.Bind else
-    if n == 12 then op.If else if n == 13 then op.NotIf else op.Ewma
+use Rattle.reply_frames.specs.FrameBytes.{counts, start_bytes, event_bytes, instruction_bytes}
 
 -- the implicit registers by number
 abbrev pub implicit_number : Implicit → ℕ
@@ -53,11 +32,11 @@ implicit_of n =
     if n == 0 then Flag else if n == 1 then Fall else if n == 2 then Send else
     if n == 3 then Micros else if n == 4 then Cwnd else Rate
 
-abbrev pub register : ℕ → ℕ → parts.Register
+abbrev pub register : ℕ → ℕ → Register
 register class number = record { class = class; number = number }
 
 -- a register by its class and its number, an immediate one by its value
-abbrev pub register_part : Reg → parts.Register
+abbrev pub register_part : Reg → Register
 register_part (reg.Imm value) = register 0 value
 register_part (reg.Prim n) = register 1 n
 register_part (reg.Report i) = register 2 i
@@ -72,7 +51,7 @@ reg_by class number =
     if class == 3 then reg.Control number else if class == 4 then reg.Implicit (implicit_of number) else
     if class == 5 then reg.Local number else reg.Temp number
 
-abbrev pub reg_of : parts.Register → Reg
+abbrev pub reg_of : Register → Reg
 reg_of r = reg_by r.class r.number
 
 abbrev pub start_part : Start → parts.Start
@@ -87,11 +66,15 @@ event_part event = record { condition = event.condition; block = event.body }
 abbrev pub event_of : parts.Event → Event
 event_of event = record { condition = event.condition; body = event.block }
 
-abbrev pub instruction_part : Instr → parts.Instruction
+abbrev pub instruction_part : Instr → Instruction
 instruction_part i = record { op = op_number i.op; to = register_part i.to; left = register_part i.left; right = register_part i.right }
 
-abbrev pub instr_of : parts.Instruction → Instr
-instr_of i = record { op = op_of i.op; to = reg_of i.to; left = reg_of i.left; right = reg_of i.right }
+abbrev pub instr_of : Instruction → Instr
+instr_of i = record { op = op_numbered i.op; to = reg_of i.to; left = reg_of i.left; right = reg_of i.right }
+
+-- the counts of the head before a code
+abbrev pub code_counts : Code → Counts
+code_counts code = counts (length code.reports) (length code.controls) (length code.events) (length code.instrs)
 
 -- ---- the bytes of the lists of a code
 
@@ -103,3 +86,11 @@ events_bytes events = flat_map (λ event. event_bytes (event_part event)) events
 
 abbrev pub instrs_bytes : List Instr → List ℕ
 instrs_bytes instrs = flat_map (λ instr. instruction_bytes (instruction_part instr)) instrs
+
+-- a program's number and its code, after the head of its Install
+abbrev pub code_bytes : ℕ → Code → List ℕ
+code_bytes program code = to_le_bytes w32 program ++ starts_bytes code.reports ++ starts_bytes code.controls ++ events_bytes code.events ++ instrs_bytes code.instrs
+
+-- how many bytes they are
+abbrev pub code_size : Code → ℕ
+code_size code = 4 + 9 * length code.reports + 9 * length code.controls + 4 * length code.events + 28 * length code.instrs

@@ -8,7 +8,7 @@ use Rattle.reply_frames.specs.declared.outline.Counts.{Counts}
 use Rattle.reply_frames.specs.declared.outline.FrameKind.TheVariants as kinds
 use Rattle.reply_frames.specs.declared.outline.Outline.{Outline}
 use Rattle.reply_frames.specs.Parts.{Read, ◌>>=◌, number_at, repeated_at}
-use Rattle.reply_frames.specs.Frames.{outline_at, start_at, event_at, instruction_at, Frame, frame_at}
+use Rattle.reply_frames.specs.Frames.{outline_at, start_at, event_at, instruction_at, body_at, Frame, frame_at}
 use Rattle.reply_frames.specs.Decoding.{needed_of}
 use Rattle.ccp_messages.specs.declared.fault.DecodeFault.{DecodeFault}
 use Rattle.ccp_messages.specs.declared.fault.DecodeFault.TheVariants.{More, Bad, NoMemory}
@@ -66,6 +66,10 @@ code_at flow counts bytes = do
   events ← repeated_at code_event_at counts.n3 controls.1
   instrs ← repeated_at code_instr_at counts.n4 events.1
   Ok (Install flow program.0 (record { reports = reports.0; controls = controls.0; events = events.0; instrs = instrs.0 }), instrs.1)
+
+-- the message whose body follows this head
+abbrev pub message_at : Outline → List ℕ → Read Message
+message_at head bytes = made (message_of head.flow) (body_at head.kind head.version head.counts bytes)
 
 -- the message of a frame that is read from so many bytes
 abbrev pub found_from : ℕ → Read Frame → Result Found Stop

@@ -1,14 +1,12 @@
 -- Messages, and the one frame of each version that a message has.
-use Rattle.std.specs.Prelude.{◌≡◌, ℕ, ◌<◌, ◌≤◌, ◌^◌, ◌-◌, ◌==◌, List, [], ◌∷◌, ◌++◌, length, take, map, if◌then◌else◌}
+use Rattle.std.specs.Prelude.{◌≡◌, ℕ, ◌<◌, ◌≤◌, ◌^◌, List, [], ◌∷◌, ◌++◌, length, take, map}
 use Rattle.std.specs.List.{AllByRecursion}
 use Rattle.ccp_base.specs.declared.ack.Ack.{Ack}
-use Rattle.ccp_base.specs.declared.arithmetic.FaultKind.{FaultKind}
-use Rattle.ccp_base.specs.declared.arithmetic.FaultKind.TheVariants.{Overflow, Underflow, ZeroDivisor}
 use Rattle.ccp_base.specs.declared.exchange.Report.{Report}
 use Rattle.ccp_base.specs.declared.exchange.Notice.{Notice}
-use Rattle.ccp_base.specs.Acknowledgement.{number_of, primitives, ack_of}
+use Rattle.ccp_base.specs.Acknowledgement.{primitives, flag_number, ack_of}
 use Rattle.ccp_base.specs.FieldReg.{Pair}
-use Rattle.ccp_base.specs.Limits.{most_fields, most_short_fields, most_controls, most_blocks, most_instrs, most_pairs, primitive_count}
+use Rattle.ccp_base.specs.Limits.{most_fields, most_short_fields, most_controls, most_blocks, most_instrs, most_pairs}
 use Rattle.reg_code.specs.declared.code.Code.{Code}
 use Rattle.reg_code.specs.declared.code.Event.{Event}
 use Rattle.reg_code.specs.declared.code.Instr.{Instr}
@@ -17,10 +15,12 @@ use Rattle.reg_code.specs.declared.code.Reg.TheVariants as reg
 use Rattle.reg_code.specs.declared.code.Start.{Start}
 use Rattle.reply_frames.specs.declared.outline.Version.{Version}
 use Rattle.reply_frames.specs.declared.outline.Version.TheVariants.{One, Two}
+use Rattle.reply_frames.specs.Kinds.{size_of}
 use Rattle.reply_frames.specs.Frames.{Body}
 use Rattle.reply_frames.specs.Frames as body
+use Rattle.reply_frames.specs.Bodies.{fault_kind_of, report_body, notice_body, ack_body}
 use Rattle.reply_frames.specs.ValueBytes.{AreTargets, IsValue}
-use Rattle.reply_frames.specs.FrameBytes.{spelled, IsNumber}
+use Rattle.reply_frames.specs.FrameBytes.{kind_of_body, counts_of, spelled, IsNumber}
 use Rattle.ccp_messages.specs.declared.message.Message.{Message}
 use Rattle.ccp_messages.specs.declared.message.Message.TheVariants.{Create, Measure, Install, Update, Change, Fault, Refused}
 use Rattle.ccp_messages.specs.declared.message.Message.TheVariants as message
@@ -63,15 +63,6 @@ IsNarrow (Refused flow reason index) = Unit {0}
 
 -- ---- the frame of a message
 
--- the kinds of faults by number
-abbrev pub fault_number : FaultKind → ℕ
-fault_number Overflow = 0
-fault_number Underflow = 1
-fault_number ZeroDivisor = 2
-
-abbrev pub fault_kind_of : ℕ → FaultKind
-fault_kind_of n = if n == 0 then Overflow else if n == 1 then Underflow else ZeroDivisor
-
 abbrev pub flow_of : Message → ℕ
 flow_of (Create flow mss cwnd) = flow
 flow_of (Measure report) = report.flow
@@ -85,14 +76,18 @@ flow_of (Refused flow reason index) = flow
 -- what the frame says after its head
 abbrev pub body_of : Message → Body
 body_of (Create flow mss cwnd) = body.Create cwnd mss
-body_of (Measure r) = body.Measure r.program r.epoch r.first r.end r.now r.cwnd r.rate r.fields
+body_of (Measure report) = report_body report
 body_of (Install flow program code) =
     body.Install program (map start_part code.reports) (map start_part code.controls) (map event_part code.events) (map instruction_part code.instrs)
 body_of (Update flow values) = body.Update values
 body_of (Change flow program values) = body.Change program values
-body_of (Fault n) = body.Fault n.program n.epoch n.at (fault_number n.kind) n.index n.now n.cwnd
-body_of (message.Ack flow ack) = body.Ack (take (primitive_count - 1) (primitives ack)) (number_of ack.was_timeout)
+body_of (Fault notice) = notice_body notice
+body_of (message.Ack flow ack) = ack_body ack
 body_of (Refused flow reason index) = body.Refused reason index
+
+-- the length of the message's frame in a version
+abbrev pub size_in : Version → Message → ℕ
+size_in version message = size_of (kind_of_body (body_of message)) version (counts_of (body_of message))
 
 -- the message's frame in a version, where it meets the conditions
 abbrev pub frame_bytes : Version → Message → List ℕ
@@ -143,7 +138,7 @@ IsTypedCode code =
     × AllByRecursion IsTypedEvent code.events × AllByRecursion IsTypedInstr code.instrs
 
 abbrev pub IsTypedAck : Ack → Type 0
-IsTypedAck ack = AllByRecursion IsNumber (take (primitive_count - 1) (primitives ack))
+IsTypedAck ack = AllByRecursion IsNumber (take flag_number (primitives ack))
 
 abbrev pub AreTypedNumbers : List ℕ → Type 0
 AreTypedNumbers numbers = (length numbers ≤ most_fields) × AllByRecursion IsNumber numbers

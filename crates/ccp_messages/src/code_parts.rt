@@ -1,56 +1,12 @@
-//! The parts of a code as an Install frame has them: operations, classes and implicit registers are numbered in the
-//! order of `Op`, `Reg` and `Implicit`.
+//! The registers of a code as an Install frame has them: classes and implicit registers are numbered in the order of
+//! `Reg` and `Implicit`.
 
 ghost use Rattle.std.specs.Prelude.{◌≡◌, ◌<◌, ◌^◌};
-ghost use Rattle.ccp_messages.specs.CodeParts.{op_number, op_of, implicit_number, implicit_of, register_part, reg_by};
+ghost use Rattle.reply_frames.specs.Frames.{IsSmall};
+ghost use Rattle.ccp_messages.specs.CodeParts.{implicit_number, implicit_of, register_part, reg_of};
 
-use reg_code::{Implicit, Op, Reg};
-
-/// The number of an operation.
-pub fn op_number(op: Op) -> u8
-    ensures { result ≡ op_number op }
-{
-    match op {
-        Op::Add => 0,
-        Op::Sub => 1,
-        Op::Mul => 2,
-        Op::Div => 3,
-        Op::Max => 4,
-        Op::Min => 5,
-        Op::Gt => 6,
-        Op::Lt => 7,
-        Op::Eq => 8,
-        Op::And => 9,
-        Op::Or => 10,
-        Op::Bind => 11,
-        Op::If => 12,
-        Op::NotIf => 13,
-        Op::Ewma => 14,
-    }
-}
-
-/// The operation of a number below 15.
-pub fn numbered_op(number: u8) -> Op
-    ensures { result ≡ op_of number }
-{
-    match number {
-        0 => Op::Add,
-        1 => Op::Sub,
-        2 => Op::Mul,
-        3 => Op::Div,
-        4 => Op::Max,
-        5 => Op::Min,
-        6 => Op::Gt,
-        7 => Op::Lt,
-        8 => Op::Eq,
-        9 => Op::And,
-        10 => Op::Or,
-        11 => Op::Bind,
-        12 => Op::If,
-        13 => Op::NotIf,
-        _ => Op::Ewma,
-    }
-}
+use reg_code::{Implicit, Reg};
+use reply_frames::Register;
 
 /// The number of an implicit register.
 pub fn implicit_number(which: Implicit) -> u8
@@ -95,12 +51,13 @@ pub fn register_numbers(reg: Reg) -> (u8, u64)
     }
 }
 
-/// The register of a class below 7, with this number or immediate value.
-pub fn numbered_reg(class: u8, number: u64) -> Reg
-    requires { 0 < class → number < 2 ^ 8 }
-    ensures { result ≡ reg_by class number }
+/// The register that a part of an instruction is.
+pub fn reg_of(part: Register) -> Reg
+    requires { IsSmall part }
+    ensures { result ≡ reg_of part }
 {
-    match class {
+    let number = part.number;
+    match part.class {
         0 => Reg::Imm(number),
         1 => Reg::Prim(number as u8),
         2 => Reg::Report(number as u8),

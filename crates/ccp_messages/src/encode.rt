@@ -1,10 +1,10 @@
 ghost use Rattle.std.specs.Prelude.{◌≡◌, ◌↔◌, ◌^◌, ◌<◌, ◌≤◌, length, take, IfOk, IfErr, OnErr, OnOk, IsErr};
 ghost use Rattle.ccp_base.specs.Limits.{most_fields, most_controls, most_blocks, most_instrs};
-ghost use Rattle.reply_frames.specs.Kinds.{size_of};
-ghost use Rattle.reply_frames.specs.FrameBytes.{kind_of_body, counts_of, outline_of, body_bytes};
+ghost use Rattle.reply_frames.specs.FrameBytes.{outline_of, body_bytes};
 ghost use Rattle.reply_frames.specs.Writing.{over, Wrote};
+ghost use Rattle.ccp_messages.specs.CodeParts.{code_counts};
 ghost use Rattle.ccp_messages.specs.Laws.{HasOneFrame};
-ghost use Rattle.ccp_messages.specs.Messages.{Meets, flow_of, body_of, frame_bytes, IsFrameOf, IsTypedBody, IsTyped};
+ghost use Rattle.ccp_messages.specs.Messages.{Meets, flow_of, body_of, size_in, frame_bytes, IsFrameOf, IsTypedBody, IsTyped};
 
 use crate::encode_body::{
     put_ack, put_change, put_create, put_fault, put_measure, put_refused, put_values,
@@ -12,29 +12,9 @@ use crate::encode_body::{
 use crate::encode_code::put_code;
 use crate::message::Message;
 use reg_code::Code;
-use reply_frames::encode::put_outline;
-use reply_frames::outline::frame_size;
+use reply_frames::encode::{HEAD, put_outline};
+use reply_frames::outline::{frame_size, head_with_count};
 use reply_frames::{Counts, FrameKind, Outline, Short, Version};
-
-/// The length of a head, in bytes.
-const HEAD: usize = 16;
-
-/// A head with one count at most.
-fn outlined(kind: FrameKind, version: Version, count: u8, flow: u32) -> Outline
-    ensures { result ≡ record { kind = kind; version = version; counts = record { n1 = count; n2 = 0; n3 = 0; n4 = 0 }; flow = flow } }
-{
-    Outline {
-        kind,
-        version,
-        counts: Counts {
-            n1: count,
-            n2: 0,
-            n3: 0,
-            n4: 0,
-        },
-        flow,
-    }
-}
 
 /// The counts of a code.
 fn code_counts(code: &Code) -> Counts
@@ -42,7 +22,7 @@ fn code_counts(code: &Code) -> Counts
     requires controls { length code.now.controls ≤ most_controls }
     requires events { length code.now.events ≤ most_blocks }
     requires instrs { length code.now.instrs ≤ most_instrs }
-    ensures { result ≡ record { n1 = length code.now.reports; n2 = length code.now.controls; n3 = length code.now.events; n4 = length code.now.instrs } }
+    ensures { result ≡ code_counts code.now }
 {
     Counts {
         n1: code.reports.len() as u8,
@@ -59,10 +39,10 @@ fn head_of(message: &Message, version: Version) -> Outline
     ensures typed { flow_of message.now < 2 ^ 32 }
 {
     match message {
-        Message::Create { flow, .. } => outlined(FrameKind::Create, version, 0, *flow),
+        Message::Create { flow, .. } => head_with_count(FrameKind::Create, version, 0, *flow),
         Message::Measure(report) => {
             let fields = report.fields.len() as u8;
-            outlined(FrameKind::Measure, version, fields, report.flow)
+            head_with_count(FrameKind::Measure, version, fields, report.flow)
         }
         Message::Install { flow, code, .. } => Outline {
             kind: FrameKind::Install,
@@ -71,20 +51,20 @@ fn head_of(message: &Message, version: Version) -> Outline
             flow: *flow,
         },
         Message::Update { flow, values } => {
-            outlined(FrameKind::Update, version, values.len() as u8, *flow)
+            head_with_count(FrameKind::Update, version, values.len() as u8, *flow)
         }
         Message::Change { flow, values, .. } => {
-            outlined(FrameKind::Change, version, values.len() as u8, *flow)
+            head_with_count(FrameKind::Change, version, values.len() as u8, *flow)
         }
-        Message::Fault(notice) => outlined(FrameKind::Fault, version, 0, notice.flow),
-        Message::Ack { flow, .. } => outlined(FrameKind::Ack, version, 0, *flow),
-        Message::Refused { flow, .. } => outlined(FrameKind::Refused, version, 0, *flow),
+        Message::Fault(notice) => head_with_count(FrameKind::Fault, version, 0, notice.flow),
+        Message::Ack { flow, .. } => head_with_count(FrameKind::Ack, version, 0, *flow),
+        Message::Refused { flow, .. } => head_with_count(FrameKind::Refused, version, 0, *flow),
     }
 }
 
 /// Puts the body of a message's frame after its head.
 fn put_body(out: &mut [u8], message: &Message, version: Version) -> usize
-    requires room { size_of (kind_of_body (body_of message.now)) version (counts_of (body_of message.now)) ≤ length out.old }
+    requires room { size_in version message.now ≤ length out.old }
     requires meets { Meets version message.now }
     ensures wrote { Wrote 16 (body_bytes version (body_of message.now)) out.old out.new result }
     ensures typed { IsTypedBody message.now }

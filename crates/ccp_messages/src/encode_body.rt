@@ -1,18 +1,19 @@
 //! The bodies of frames, put at a place of bytes. Each call gives the place after what it put.
 
-ghost use Rattle.std.specs.Prelude.{◌≡◌, ◌+◌, ◌-◌, ◌*◌, ◌^◌, ◌<◌, ◌≤◌, ◌∷◌, ◌++◌, length, take};
+ghost use Rattle.std.specs.Prelude.{◌≡◌, ◌+◌, ◌-◌, ◌*◌, ◌^◌, ◌<◌, ◌≤◌, ◌∷◌, ◌++◌, length};
 ghost use Rattle.std.specs.Int.{w32, w64, to_le_bytes};
-ghost use Rattle.ccp_base.specs.Acknowledgement.{number_of, primitives};
+ghost use Rattle.reply_frames.specs.declared.outline.Version.TheVariants.{One};
+ghost use Rattle.reply_frames.specs.Bodies.{ack_body};
 ghost use Rattle.reply_frames.specs.ValueBytes.{values_bytes};
-ghost use Rattle.reply_frames.specs.FrameBytes.{count_width, numbers_bytes, body_bytes};
+ghost use Rattle.reply_frames.specs.FrameBytes.{count_width, body_bytes};
 ghost use Rattle.reply_frames.specs.Writing.{Wrote};
-ghost use Rattle.ccp_base.specs.Limits.{primitive_count};
 ghost use Rattle.ccp_messages.specs.declared.message.Message.TheVariants as message;
-ghost use Rattle.ccp_messages.specs.Messages.{IsShortCount, body_of, fault_number, AreTypedPairs, IsTypedReport, IsTypedNotice, IsTypedAck};
+ghost use Rattle.ccp_messages.specs.Messages.{IsShortCount, body_of, AreTypedPairs, IsTypedReport, IsTypedNotice, IsTypedAck};
 
 use crate::writing::{put_count, put_numbers, put8, put16, put32, put64};
-use ccp_base::{Ack, FaultKind, Fields, Notice, Report, bool_number, primitives};
+use ccp_base::{Ack, Fields, Notice, PRIMITIVES, Report, bool_number, primitives};
 use reply_frames::Version;
+use reply_frames::fault_kind::fault_number;
 
 /// Puts the body of a Create.
 pub fn put_create(out: &mut [u8], at: usize, cwnd: u64, mss: u32) -> usize
@@ -62,17 +63,6 @@ pub fn put_change(out: &mut [u8], at: usize, program: u32, values: &Fields) -> u
     put_values(out, end, values)
 }
 
-/// The number of a kind of fault.
-fn fault_number(kind: FaultKind) -> u8
-    ensures { result ≡ fault_number kind }
-{
-    match kind {
-        FaultKind::Overflow => 0,
-        FaultKind::Underflow => 1,
-        FaultKind::ZeroDivisor => 2,
-    }
-}
-
 /// Puts the body of a Fault.
 pub fn put_fault(out: &mut [u8], at: usize, version: Version, notice: Notice) -> usize
     requires room { at + (27 + count_width version) ≤ length out.old }
@@ -93,10 +83,10 @@ pub fn put_fault(out: &mut [u8], at: usize, version: Version, notice: Notice) ->
 pub fn put_ack(out: &mut [u8], at: usize, ack: Ack) -> usize
     requires { at + 120 ≤ length out.old }
     ensures typed { IsTypedAck ack }
-    ensures wrote { Wrote at (numbers_bytes (take (primitive_count - 1) (primitives ack)) ++ to_le_bytes w64 (number_of ack.was_timeout)) out.old out.new result }
+    ensures wrote { Wrote at (body_bytes One (ack_body ack)) out.old out.new result }
 {
     let numbers = primitives(&ack);
-    let end = put_numbers(out, at, &numbers[..14]);
+    let end = put_numbers(out, at, &numbers[..PRIMITIVES as usize - 1]);
     put64(out, end, bool_number(ack.was_timeout))
 }
 

@@ -5,10 +5,10 @@ ghost use Rattle.std.specs.List.{AllByRecursion};
 ghost use Rattle.std.specs.Int.{w32, to_le_bytes};
 ghost use Rattle.reply_frames.specs.FrameBytes.{start_bytes, event_bytes, register_bytes, instruction_bytes};
 ghost use Rattle.reply_frames.specs.Writing.{Wrote};
-ghost use Rattle.ccp_messages.specs.CodeParts.{start_part, event_part, register_part, instruction_part, starts_bytes, events_bytes, instrs_bytes};
+ghost use Rattle.ccp_messages.specs.CodeParts.{start_part, event_part, register_part, instruction_part, starts_bytes, events_bytes, instrs_bytes, code_bytes, code_size};
 ghost use Rattle.ccp_messages.specs.Messages.{IsTypedStart, IsTypedEvent, IsTypedReg, IsTypedInstr, IsTypedCode};
 
-use crate::code_parts::{op_number, register_numbers};
+use crate::code_parts::register_numbers;
 use crate::writing::{flag, put8, put16, put32, put64};
 use reg_code::{Code, Event, Instr, Packed, Reg, Start};
 
@@ -77,7 +77,7 @@ fn put_instr(out: &mut [u8], at: usize, instr: Instr) -> usize
     ensures wrote { Wrote at (instruction_bytes (instruction_part instr)) out.old out.new result }
     ensures typed { IsTypedInstr instr }
 {
-    let end = put8(out, at, op_number(instr.op));
+    let end = put8(out, at, instr.op.number());
     let end = put_register(out, end, instr.to);
     let end = put_register(out, end, instr.left);
     put_register(out, end, instr.right)
@@ -99,9 +99,9 @@ fn put_instrs(out: &mut [u8], at: usize, instrs: &[Packed]) -> usize
 
 /// Puts a program's number and its code.
 pub fn put_code(out: &mut [u8], at: usize, program: u32, code: &Code) -> usize
-    requires { at + (4 + 9 * length code.now.reports + 9 * length code.now.controls + 4 * length code.now.events + 28 * length code.now.instrs) ≤ length out.old }
+    requires { at + code_size code.now ≤ length out.old }
     ensures typed { (program < 2 ^ 32) × IsTypedCode code.now }
-    ensures wrote { Wrote at (to_le_bytes w32 program ++ starts_bytes code.now.reports ++ starts_bytes code.now.controls ++ events_bytes code.now.events ++ instrs_bytes code.now.instrs) out.old out.new result }
+    ensures wrote { Wrote at (code_bytes program code.now) out.old out.new result }
 {
     let end = put32(out, at, program);
     let end = put_starts(out, end, code.reports.as_slice());

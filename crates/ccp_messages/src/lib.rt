@@ -12,8 +12,6 @@ mod laws;
 mod message;
 mod read_body;
 mod read_code;
-#[cfg(test)]
-mod tests;
 mod writing;
 
 pub use decoding::decode;

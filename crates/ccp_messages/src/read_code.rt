@@ -1,67 +1,44 @@
 //! A code, read from the body of an Install.
 
 ghost use Rattle.reply_frames.specs.Parts.{Gives, repeated_at};
-ghost use Rattle.reply_frames.specs.Frames.{register_at};
-ghost use Rattle.ccp_messages.specs.CodeParts.{reg_of};
-ghost use Rattle.ccp_messages.specs.Decoding.{Answers, made, code_start_at, code_event_at, code_instr_at, code_at};
+ghost use Rattle.ccp_messages.specs.Decoding.{Answers, code_start_at, code_event_at, code_instr_at, code_at};
 
-use crate::code_parts::{numbered_op, numbered_reg};
+use crate::code_parts::reg_of;
 use crate::fault::Halt;
 use crate::message::Message;
-use reg_code::{Code, Event, Instr, Packed, Reg, Sequence, Start};
-use reply_frames::bodies::register;
-use reply_frames::parts::{byte, number16, number32, number64};
-use reply_frames::{BadKind, Counts, Stop};
+use reg_code::{Code, Event, Instr, Packed, Sequence, Start, op_numbered};
+use reply_frames::parts::number32;
+use reply_frames::{Counts, Stop, install_parts};
 use std::alloc::Global;
 
 /// How a register starts, and the bytes after it.
-#[tactic(auto, unfolding(reply_frames::specs::Frames::start_at))]
 fn start(bytes: &[u8]) -> Result<(Start, &[u8]), Stop>
     ensures { Gives (λ x. (x.0, x.1.now)) result (code_start_at bytes.now) }
 {
-    let (volatile, rest) = byte(bytes, BadKind::Flag, 0, 1)?;
-    let (value, rest) = number64(rest)?;
-    let volatile = volatile == 1;
+    let ((volatile, value), rest) = install_parts::start(bytes)?;
     Ok((Start { volatile, value }, rest))
 }
 
 /// An event, and the bytes after it.
-#[tactic(auto, unfolding(reply_frames::specs::Frames::event_at))]
 fn event(bytes: &[u8]) -> Result<(Event, &[u8]), Stop>
     ensures { Gives (λ x. (x.0, x.1.now)) result (code_event_at bytes.now) }
 {
-    let (condition, rest) = number16(bytes)?;
-    let (body, rest) = number16(rest)?;
+    let ((condition, body), rest) = install_parts::event(bytes)?;
     Ok((Event { condition, body }, rest))
 }
 
-/// A register, and the bytes after it.
-fn reg(bytes: &[u8]) -> Result<(Reg, &[u8]), Stop>
-    ensures { Gives (λ x. (x.0, x.1.now)) result (made reg_of (register_at bytes.now)) }
-{
-    let ((class, number), rest) = register(bytes)?;
-    Ok((numbered_reg(class, number), rest))
-}
-
 /// An instruction, and the bytes after it.
-#[tactic(auto, unfolding(reply_frames::specs::Frames::instruction_at))]
 fn instr(bytes: &[u8]) -> Result<(Instr, &[u8]), Stop>
     ensures { Gives (λ x. (x.0, x.1.now)) result (code_instr_at bytes.now) }
 {
-    let (op, rest) = byte(bytes, BadKind::Op, 0, 14)?;
-    let op = numbered_op(op);
-    let (to, rest) = reg(rest)?;
-    let (left, rest) = reg(rest)?;
-    let (right, rest) = reg(rest)?;
-    Ok((
-        Instr {
-            op,
-            to,
-            left,
-            right,
-        },
-        rest,
-    ))
+    let (part, rest) = install_parts::instruction(bytes)?;
+    let instr = Instr {
+        op: op_numbered(part.op),
+        to: reg_of(part.to),
+        left: reg_of(part.left),
+        right: reg_of(part.right),
+    };
+    Ok((instr, rest))
 }
 
 /// How so many registers start, and the bytes after them.

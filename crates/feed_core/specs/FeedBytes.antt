@@ -3,6 +3,8 @@ use Rattle.std.specs.Prelude.{◌≡◌, ℕ, zero, suc, ◌+◌, ◌-◌, ◌�
 use Rattle.ccp_base.specs.Outside.{Known, Takes, Appends}
 use Rattle.ccp_base.specs.Limits.{most_input_bytes}
 use Rattle.reply_frames.specs.declared.fault.BadKind.{BadKind}
+use Rattle.reply_frames.specs.declared.outline.Version.{Version}
+use Rattle.ccp_messages.specs.declared.message.Message.{Message}
 use Rattle.ccp_messages.specs.declared.fault.DecodeFault.{DecodeFault}
 use Rattle.ccp_messages.specs.declared.fault.DecodeFault.TheVariants.{More, Bad, NoMemory}
 use Rattle.ccp_messages.specs.Messages.{frame_bytes}
@@ -23,6 +25,10 @@ pub record Fed : Type 0 where
 abbrev pub answer_bytes : Answer → List ℕ
 answer_bytes None = []
 answer_bytes (Some (message, version)) = frame_bytes version message
+
+-- the frame that answers a message, as it is written
+abbrev pub answer_to : FeedState → Message → Version → List ℕ
+answer_to state message version = answer_bytes (answered state message version).0
 
 abbrev pub with_answers : List ℕ → Fed → Fed
 with_answers answers fed = record { answers = answers ++ fed.answers; tail = fed.tail }

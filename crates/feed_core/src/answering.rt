@@ -6,7 +6,7 @@ ghost use Rattle.ccp_base.specs.Limits.{most_messages};
 ghost use Rattle.feed_core.specs.Feed.{answered};
 ghost use Rattle.feed_core.specs.FeedHolds.{state_of, IsFeed};
 ghost use Rattle.ccp_messages.specs.Messages.{Meets, frame_bytes};
-ghost use Rattle.feed_core.specs.FeedBytes.{answer_bytes};
+ghost use Rattle.feed_core.specs.FeedBytes.{answer_to};
 ghost use Rattle.feed_core.specs.FeedStops.{StopsAnswer};
 
 use crate::feed::Feed;
@@ -49,10 +49,12 @@ pub fn answer<K: Sink>(
     requires held { IsFeed (state_of feed.old) }
     ensures state { OnOk result (state_of feed.new ≡ (answered (state_of feed.old) message version).1) }
     ensures one { OnOk result (feed.new.messages ≡ feed.old.messages + 1) }
-    ensures written { OnOk result (Appends (K.written sink.old) (K.written sink.new) (answer_bytes (answered (state_of feed.old) message version).0)) }
+    ensures written { OnOk result
+        (Appends (K.written sink.old) (K.written sink.new) (answer_to (state_of feed.old) message version)) }
     ensures held { IsFeed (state_of feed.new) }
     ensures counted { K.faults sink.old ≤ K.faults sink.new }
-    ensures err { IfErr result (StopsAnswer (K.faults sink.old) (K.faults sink.new) (K.written sink.old) (K.written sink.new) (answer_bytes (answered (state_of feed.old) message version).0)) }
+    ensures err { IfErr result (StopsAnswer (K.faults sink.old) (K.faults sink.new)
+        (K.written sink.old) (K.written sink.new) (answer_to (state_of feed.old) message version)) }
 {
     match feed.frame(alloc, message, version)? {
         None => Ok(()),
@@ -63,9 +65,11 @@ pub fn answer<K: Sink>(
 /// Writes the frame of a message.
 fn write<K: Sink>(sink: &mut K, message: &Message, version: Version) -> Result<(), Unanswered>
     requires { Meets version message.now }
-    ensures written { OnOk result (Appends (K.written sink.old) (K.written sink.new) (frame_bytes version message.now)) }
+    ensures written { OnOk result
+        (Appends (K.written sink.old) (K.written sink.new) (frame_bytes version message.now)) }
     ensures counted { K.faults sink.old ≤ K.faults sink.new }
-    ensures err { IfErr result (StopsAnswer (K.faults sink.old) (K.faults sink.new) (K.written sink.old) (K.written sink.new) (frame_bytes version message.now)) }
+    ensures err { IfErr result (StopsAnswer (K.faults sink.old) (K.faults sink.new)
+        (K.written sink.old) (K.written sink.new) (frame_bytes version message.now)) }
 {
     let mut out = [0u8; ANSWER];
     match encode_into(message, version, &mut out) {

@@ -21,7 +21,8 @@ const LIMIT: usize = 1048576;
 pub fn feed<S: Source, K: Sink>(alloc: Global, source: &mut S, sink: &mut K) -> FeedEnd
     ensures reads { S.faults source.old ≤ S.faults source.new }
     ensures writes { K.faults sink.old ≤ K.faults sink.new }
-    ensures fed { IsFed (stream (S.remaining source.old) (S.remaining source.new) (S.faults source.old) (S.faults source.new))
+    ensures fed { IsFed
+        (stream (S.remaining source.old) (S.remaining source.new) (S.faults source.old) (S.faults source.new))
         (stream (K.written sink.old) (K.written sink.new) (K.faults sink.old) (K.faults sink.new))
         (K.is_finished sink.new) result }
 {

@@ -125,7 +125,8 @@ impl Feed {
     ) -> Result<Option<(Message, Version)>, NoMemory>
         requires few { self.old.messages < most_messages }
         requires held { IsFeed (state_of self.old) }
-        ensures answered { IfOk result (λ answer. (answer, state_of self.new) ≡ answered (state_of self.old) message version) }
+        ensures answered { IfOk result (λ answer.
+            (answer, state_of self.new) ≡ answered (state_of self.old) message version) }
         ensures unchanged { OnErr result (state_of self.new ≡ state_of self.old) }
         ensures counted { OnOk result (self.new.messages ≡ self.old.messages + 1) }
         ensures held { IsFeed (state_of self.new) }
@@ -176,7 +177,8 @@ impl Feed {
         cwnd: u64,
     ) -> Result<Option<(Message, Version)>, NoMemory>
         requires held { IsFeed (state_of self.old) }
-        ensures told { IfOk result (λ answer. (answer, state_of self.new) ≡ created (state_of self.old) version n cwnd) }
+        ensures told { IfOk result (λ answer.
+            (answer, state_of self.new) ≡ created (state_of self.old) version n cwnd) }
         ensures messages { self.new.messages ≡ self.old.messages }
         ensures unchanged { OnErr result (state_of self.new ≡ state_of self.old) }
     {

@@ -99,8 +99,10 @@ impl Flow {
     pub fn ack(&mut self, number: u32, epoch: Epoch, code: &Checked, ack: &Ack) -> Option<Message>
         requires count { self.old.count + 1 < 2 ^ 64 }
         requires fits { Fits self.old.machine code.now.code }
-        ensures after { self.new ≡ flow_after (heard code.now.code ack.entry.now true self.old.machine) ack.entry.now self.old }
-        ensures told { result ≡ told_of (heard code.now.code ack.entry.now true self.old.machine) ack.entry.now number epoch self.old }
+        ensures after { self.new
+            ≡ flow_after (heard code.now.code ack.entry.now true self.old.machine) ack.entry.now self.old }
+        ensures told { result ≡ told_of (heard code.now.code ack.entry.now true self.old.machine)
+            ack.entry.now number epoch self.old }
         ensures fits { Fits self.new.machine code.now.code }
     {
         let acked = run::<Brand>(&mut self.machine, code, ack, Blank::new(1));

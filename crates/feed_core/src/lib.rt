@@ -3,15 +3,9 @@
 
 mod answering;
 pub mod calls;
-#[cfg(test)]
-mod calls_tests;
 mod ending;
 mod feed;
-#[cfg(test)]
-mod feed_tests;
 mod flow;
-#[cfg(test)]
-mod frames_of_tests;
 mod piece;
 mod rest;
 mod turn;

@@ -49,14 +49,16 @@ impl Rest {
     /// Takes so many bytes off the front.
     pub fn drop_front(&mut self, count: usize)
         requires { count ≤ length (between self.old.bytes self.old.start self.old.end) }
-        ensures { between self.new.bytes self.new.start self.new.end ≡ drop count (between self.old.bytes self.old.start self.old.end) }
+        ensures { between self.new.bytes self.new.start self.new.end
+            ≡ drop count (between self.old.bytes self.old.start self.old.end) }
     {
         self.start += count;
     }
 
     /// Moves the bytes to the front of their place.
     fn settle(&mut self)
-        ensures same { between self.new.bytes self.new.start self.new.end ≡ between self.old.bytes self.old.start self.old.end }
+        ensures same { between self.new.bytes self.new.start self.new.end
+            ≡ between self.old.bytes self.old.start self.old.end }
         ensures start { self.new.start ≡ 0 }
     {
         let len = self.end - self.start;
@@ -71,7 +73,8 @@ impl Rest {
         requires { length (between self.old.bytes self.old.start self.old.end) < most_frame_bytes }
         ensures counted { S.faults source.old ≤ S.faults source.new }
         ensures came { IsPiece (S.faults source.old) (S.faults source.new) (S.remaining source.old)
-            (S.remaining source.new) room (between self.old.bytes self.old.start self.old.end) (between self.new.bytes self.new.start self.new.end) result }
+            (S.remaining source.new) room (between self.old.bytes self.old.start self.old.end)
+            (between self.new.bytes self.new.start self.new.end) result }
     {
         self.settle();
         let asked = room.max(1).min(LONGEST - self.end);

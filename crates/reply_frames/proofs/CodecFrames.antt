@@ -3,6 +3,8 @@ use Rattle.std.proofs.Common.{◌≡◌, ℕ, zero, suc, ◌+◌, ◌-◌, ◌*�
 use Rattle.std.specs.List.{flat_map, AllByRecursion}
 use Rattle.std.specs.Int.{w16, w32, w64, to_le_bytes}
 use Rattle.std.proofs.lemmas.Bool.{eqb-true, eqb-false}
+use Rattle.ccp_base.specs.Acknowledgement.{flag_number}
+use Rattle.ccp_base.specs.Limits.{most_operation}
 use Rattle.ccp_base.specs.FieldReg.{Pair}
 use Rattle.reply_frames.specs.declared.fault.BadKind.{BadKind}
 use Rattle.reply_frames.specs.declared.fault.BadKind.TheVariants as bad
@@ -236,7 +238,7 @@ instruction-writes : (i : Instruction) → IsInstruction i → Writes instructio
 unfolding instruction_at
 instruction-writes i ok =
     writes-as instruction_at i _ _ (instruction-group i)
-    (writes-then (byte_at bad.Op 0 14) _ i.op i (i.op ∷ []) (register_bytes i.to ++ (register_bytes i.left ++ register_bytes i.right)) (byte-writes bad.Op 0 14 i.op (omega arith) ok.0)
+    (writes-then (byte_at bad.Op 0 most_operation) _ i.op i (i.op ∷ []) (register_bytes i.to ++ (register_bytes i.left ++ register_bytes i.right)) (byte-writes bad.Op 0 most_operation i.op (omega arith) ok.0)
     (writes-then register_at _ i.to _ _ _ (register-writes i.to ok.1)
     (writes-then register_at _ i.left _ _ _ (register-writes i.left ok.2)
     (writes-last register_at (λ right. record { op = i.op; to = i.to; left = i.left; right = right }) i.right _ (register-writes i.right ok.3)))))
@@ -244,7 +246,7 @@ instruction-writes i ok =
 instruction-reads : IsReadBy instruction_at instruction_bytes IsInstruction
 unfolding instruction_at
 instruction-reads = read-by instruction_at instruction_bytes IsInstruction
-    (read-then (byte_at bad.Op 0 14) _ (λ n. n ∷ []) _ _ (byte-reads bad.Op 0 14)
+    (read-then (byte_at bad.Op 0 most_operation) _ (λ n. n ∷ []) _ _ (byte-reads bad.Op 0 most_operation)
     (λ op low. read-then register_at _ register_bytes _ _ register-reads
     (λ to is_to. read-then register_at _ register_bytes _ _ register-reads
     (λ left is_left. read-last register_at (λ right. record { op = op; to = to; left = left; right = right }) register_bytes _ _ register-reads
@@ -410,14 +412,14 @@ fault-reads version c few = read-by (fault_at version) (body_bytes version) (IsB
 ack-writes : (version : Version) (primitives : List ℕ) (was_timeout : ℕ) → HasRanges version (Ack primitives was_timeout) → Writes ack_at (Ack primitives was_timeout) (body_bytes version (Ack primitives was_timeout))
 unfolding ack_at
 ack-writes version primitives was_timeout ok =
-    let all : Writes (repeated_at (number_at w64) 14) primitives (numbers_bytes primitives) = subst (λ n. Writes (repeated_at (number_at w64) n) primitives (numbers_bytes primitives)) ok.0 (numbers-writes primitives ok.1) in
-    writes-then (repeated_at (number_at w64) 14) _ primitives _ _ _ all
+    let all : Writes (repeated_at (number_at w64) flag_number) primitives (numbers_bytes primitives) = subst (λ n. Writes (repeated_at (number_at w64) n) primitives (numbers_bytes primitives)) ok.0 (numbers-writes primitives ok.1) in
+    writes-then (repeated_at (number_at w64) flag_number) _ primitives _ _ _ all
     (writes-last (limited_at bad.Flag 8 1) (λ was_timeout. Ack primitives was_timeout) was_timeout _ (limited8-writes bad.Flag 1 was_timeout (omega arith) ok.2))
 
 ack-reads : (version : Version) (c : Counts) → AreCounts kinds.Ack version c → IsReadBy ack_at (body_bytes version) (IsBody kinds.Ack version c)
 unfolding ack_at
 ack-reads version c few = read-by ack_at (body_bytes version) (IsBody kinds.Ack version c)
-    (read-then (repeated_at (number_at w64) 14) _ numbers_bytes _ _ (numbers-read 14)
+    (read-then (repeated_at (number_at w64) flag_number) _ numbers_bytes _ _ (numbers-read flag_number)
     (λ primitives p. read-last (limited_at bad.Flag 8 1) (λ was_timeout. Ack primitives was_timeout) (to_le_bytes w64) _ _ (limited8-reads bad.Flag 1)
     (λ was_timeout w. (refl, ((p.0, p.1, w), (refl, none-counted version c kinds.Ack few refl refl refl refl))))))
 

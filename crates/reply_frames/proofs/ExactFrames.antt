@@ -2,6 +2,8 @@
 use Rattle.std.proofs.Common.{ℕ, eqb, cond, Ok, arith}
 use Rattle.std.specs.Int.{w16, w32, w64}
 use Rattle.ccp_base.specs.declared.fields.FieldReg.TheVariants.{Cwnd, Rate, Control}
+use Rattle.ccp_base.specs.Acknowledgement.{flag_number}
+use Rattle.ccp_base.specs.Limits.{most_operation}
 use Rattle.ccp_base.specs.FieldReg.{Pair}
 use Rattle.reply_frames.specs.declared.fault.BadKind.TheVariants as bad
 use Rattle.reply_frames.specs.declared.outline.FrameKind.{FrameKind}
@@ -61,7 +63,7 @@ exact-register =
 exact-instruction : IsExact instruction_at
 unfolding instruction_at
 exact-instruction =
-    exact-then (byte_at bad.Op 0 14) _ (exact-byte bad.Op 0 14 (omega arith) (omega arith))
+    exact-then (byte_at bad.Op 0 most_operation) _ (exact-byte bad.Op 0 most_operation (omega arith) (omega arith))
     (λ op. exact-then register_at _ exact-register
     (λ to. exact-then register_at _ exact-register
     (λ left. exact-then register_at _ exact-register
@@ -145,7 +147,7 @@ exact-fault version =
 exact-ack : IsExact ack_at
 unfolding ack_at
 exact-ack =
-    exact-then (repeated_at (number_at w64) 14) _ (exact-repeated (number_at w64) (exact-number w64) 14)
+    exact-then (repeated_at (number_at w64) flag_number) _ (exact-repeated (number_at w64) (exact-number w64) flag_number)
     (λ primitives. exact-then (limited_at bad.Flag 8 1) _ (exact-limited bad.Flag 8 1)
     (λ was_timeout. exact-ok (Ack primitives was_timeout)))
 

@@ -6,6 +6,7 @@ use Rattle.std.proofs.Math.Nat.{mul-suc}
 use Rattle.std.proofs.lemmas.List.Concat.{flat_map-cons}
 use Rattle.ccp_base.specs.declared.fields.FieldReg.{FieldReg}
 use Rattle.ccp_base.specs.declared.fields.FieldReg.TheVariants.{Control, Cwnd, Rate}
+use Rattle.ccp_base.specs.Acknowledgement.{flag_number}
 use Rattle.ccp_base.specs.FieldReg.{Pair}
 use Rattle.reply_frames.specs.declared.outline.FrameKind.{FrameKind}
 use Rattle.reply_frames.specs.declared.outline.FrameKind.TheVariants as kinds
@@ -156,7 +157,7 @@ long-value (Rate, n) = refl
 
 -- an Ack has fourteen numbers
 abbrev pub HasPrimitives : Body → Type 0
-HasPrimitives (Ack primitives was_timeout) = length primitives ≡ 14
+HasPrimitives (Ack primitives was_timeout) = length primitives ≡ flag_number
 HasPrimitives body = Unit {0}
 
 long-body : (version : Version) (body : Body) → IsLong (body_bytes version body) (body_size version body)

@@ -1,6 +1,7 @@
 pub mod Loops
 pub mod Placing
 pub mod Taken
+pub mod BodyLaws
 pub mod Exact
 pub mod ExactParts
 pub mod ExactFrames

@@ -2,7 +2,8 @@
 use Rattle.std.specs.Prelude.{ℕ, ◌≤◌, ◌<◌, ◌^◌, ◌≡◌, ◌==◌, ◌-◌, List, ◌∷◌, ◌++◌, length, if◌then◌else◌}
 use Rattle.std.specs.List.{flat_map, AllByRecursion}
 use Rattle.std.specs.Int.{w16, w32, w64, to_le_bytes}
-use Rattle.ccp_base.specs.Limits.{primitive_count}
+use Rattle.ccp_base.specs.Acknowledgement.{flag_number}
+use Rattle.ccp_base.specs.Limits.{most_operation}
 use Rattle.reply_frames.specs.declared.outline.FrameKind.{FrameKind}
 use Rattle.reply_frames.specs.declared.outline.FrameKind.TheVariants as kinds
 use Rattle.reply_frames.specs.declared.outline.Version.{Version}
@@ -116,7 +117,7 @@ abbrev pub IsRegister : Register → Type 0
 IsRegister register = (register.class ≤ 6) × (register.number ≤ most_number register.class)
 
 abbrev pub IsInstruction : Instruction → Type 0
-IsInstruction i = (i.op ≤ 14) × IsRegister i.to × IsRegister i.left × IsRegister i.right
+IsInstruction i = (i.op ≤ most_operation) × IsRegister i.to × IsRegister i.left × IsRegister i.right
 
 abbrev pub IsNumber : ℕ → Type 0
 IsNumber n = n < 2 ^ 64
@@ -144,7 +145,7 @@ HasRanges version (Fault program epoch place kind index now cwnd) =
     (program < 2 ^ 32) × (epoch < 2 ^ 32) × IsCount version place × (kind ≤ 2) × (index < 2 ^ 16)
     × (now < 2 ^ 64) × (cwnd < 2 ^ 64)
 HasRanges version (Ack primitives was_timeout) =
-    (length primitives ≡ primitive_count - 1) × AllByRecursion IsNumber primitives × (was_timeout ≤ 1)
+    (length primitives ≡ flag_number) × AllByRecursion IsNumber primitives × (was_timeout ≤ 1)
 HasRanges version (Refused reason index) = (1 ≤ reason) × (reason ≤ 9) × (index < 2 ^ 32)
 
 -- a body that a frame of this version and flow can have

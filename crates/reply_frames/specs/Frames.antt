@@ -1,10 +1,11 @@
 -- Frames of every kind and of both versions: the head of 16 bytes, and the body that it speaks of.
-use Rattle.std.specs.Prelude.{ℕ, ◌-◌, ◌==◌, List, Ok, if◌then◌else◌}
+use Rattle.std.specs.Prelude.{ℕ, ◌<◌, ◌-◌, ◌==◌, List, Ok, if◌then◌else◌}
 use Rattle.std.specs.Int.{w16, w32, w64}
 use Rattle.ccp_base.specs.declared.fields.FieldReg.{FieldReg}
 use Rattle.ccp_base.specs.declared.fields.FieldReg.TheVariants.{Cwnd, Rate, Control}
+use Rattle.ccp_base.specs.Acknowledgement.{flag_number}
 use Rattle.ccp_base.specs.FieldReg.{Pair}
-use Rattle.ccp_base.specs.Limits.{most_controls, primitive_count}
+use Rattle.ccp_base.specs.Limits.{most_controls, most_operation}
 use Rattle.reply_frames.specs.declared.fault.BadKind.TheVariants as bad
 use Rattle.reply_frames.specs.declared.outline.FrameKind.{FrameKind}
 use Rattle.reply_frames.specs.declared.outline.FrameKind.TheVariants as kinds
@@ -12,6 +13,8 @@ use Rattle.reply_frames.specs.declared.outline.Version.{Version}
 use Rattle.reply_frames.specs.declared.outline.Version.TheVariants.{One, Two}
 use Rattle.reply_frames.specs.declared.outline.Counts.{Counts}
 use Rattle.reply_frames.specs.declared.outline.Outline.{Outline}
+pub use Rattle.reply_frames.specs.declared.outline.Register.{Register}
+pub use Rattle.reply_frames.specs.declared.outline.Instruction.{Instruction}
 use Rattle.reply_frames.specs.Parts.{Read, ◌>>=◌, byte_at, number_at, limited_at, exactly_at, repeated_at}
 use Rattle.reply_frames.specs.Kinds.{kind_of, version_of, most_n1, most_n2, most_n3, most_n4, size_of}
 
@@ -58,10 +61,9 @@ event_at bytes = do
   block ← number_at w16 condition.1
   Ok (record { condition = condition.0; block = block.0 }, block.1)
 
--- a register: its class, and its number or the immediate value
-pub record Register : Type 0 where
-  pub class : ℕ
-  pub number : ℕ
+-- only the number of an immediate is above 255
+abbrev pub IsSmall : Register → Type 0
+IsSmall register = 0 < register.class → register.number < 256
 
 -- an immediate has any value, an implicit register a number below 6, any other one a number below 256
 unfoldable pub register_number_at : ℕ → List ℕ → Read ℕ
@@ -75,15 +77,9 @@ register_at bytes = do
   number ← register_number_at class.0 class.1
   Ok (record { class = class.0; number = number.0 }, number.1)
 
-pub record Instruction : Type 0 where
-  pub op : ℕ
-  pub to : Register
-  pub left : Register
-  pub right : Register
-
 unfoldable pub instruction_at : List ℕ → Read Instruction
 instruction_at bytes = do
-  op ← byte_at bad.Op 0 14 bytes
+  op ← byte_at bad.Op 0 most_operation bytes
   to ← register_at op.1
   left ← register_at to.1
   right ← register_at left.1
@@ -176,10 +172,10 @@ fault_at version bytes = do
   cwnd ← number_at w64 now.1
   Ok (Fault program.0 epoch.0 place.0 kind.0 index.0 now.0 cwnd.0, cwnd.1)
 
--- fourteen numbers, and whether there was a timeout
+-- the plain numbers, and whether there was a timeout
 unfoldable pub ack_at : List ℕ → Read Body
 ack_at bytes = do
-  primitives ← repeated_at (number_at w64) (primitive_count - 1) bytes
+  primitives ← repeated_at (number_at w64) flag_number bytes
   was_timeout ← limited_at bad.Flag 8 1 primitives.1
   Ok (Ack primitives.0 was_timeout.0, was_timeout.1)
 

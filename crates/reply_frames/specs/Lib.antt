@@ -1,6 +1,7 @@
 pub mod Parts
 pub mod Kinds
 pub mod Frames
+pub mod Bodies
 pub mod ValueBytes
 pub mod FrameBytes
 pub mod Spelling

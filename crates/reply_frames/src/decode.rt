@@ -7,7 +7,7 @@ ghost use Rattle.reply_frames.specs.Frames.{Frame};
 ghost use Rattle.reply_frames.specs.Whole.{IsCut, IsBadIn, BeginsWith};
 ghost use Rattle.reply_frames.specs.Decoding.{needed_of, fault_of, head_of, decoded_of, IsOther, IsBad};
 
-use crate::bodies::body;
+use crate::bodies::passed;
 use crate::fault::{FrameFault, Stop};
 use crate::head::outline;
 use crate::outline::{FrameKind, Outline, Version, kind_number};
@@ -82,7 +82,7 @@ fn found(bytes: &[u8]) -> Result<(Head, Fields), FrameFault>
             Ok((headed(head, Some(program), bytes, rest), fields))
         }
         kind => {
-            body(rest, head).map_err(|stop| stopped(bytes, stop))?;
+            passed(rest, head).map_err(|stop| stopped(bytes, stop))?;
             Err(FrameFault::Other(kind_number(kind)))
         }
     }

@@ -12,12 +12,12 @@ ghost use Rattle.reply_frames.specs.Writing.{placed, over};
 
 use crate::fault::Short;
 use crate::outline::{
-    Counts, FrameKind, Outline, Version, frame_size, kind_number, version_number,
+    FrameKind, Outline, Version, frame_size, head_with_count, kind_number, version_number,
 };
 use ccp_base::{FieldReg, Fields};
 
 /// The length of a head, in bytes.
-const HEAD: usize = 16;
+pub const HEAD: usize = 16;
 
 /// The length of a value, in bytes.
 const VALUE: usize = 10;
@@ -61,23 +61,6 @@ pub fn put_outline(out: &mut [u8], head: Outline)
     put(out, 12, &size.to_le_bytes());
 }
 
-/// The head of a frame of version 1 with one count.
-fn replying(kind: FrameKind, count: u8, flow: u32) -> Outline
-    ensures { result ≡ record { kind = kind; version = One; counts = record { n1 = count; n2 = 0; n3 = 0; n4 = 0 }; flow = flow } }
-{
-    Outline {
-        kind,
-        version: Version::One,
-        counts: Counts {
-            n1: count,
-            n2: 0,
-            n3: 0,
-            n4: 0,
-        },
-        flow,
-    }
-}
-
 /// Puts a value at a place.
 fn put_value(out: &mut [u8], at: usize, reg: FieldReg, value: u64)
     requires { at + 10 ≤ length out.old }
@@ -116,7 +99,7 @@ pub fn encode_update(flow: u32, values: &Fields, out: &mut [u8]) -> Result<usize
     if out.len() < size {
         return Err(Short(size));
     }
-    put_outline(out, replying(FrameKind::Update, count as u8, flow));
+    put_outline(out, head_with_count(FrameKind::Update, Version::One, count as u8, flow));
     put_values(out, HEAD, values);
     Ok(size)
 }
@@ -141,7 +124,7 @@ pub fn encode_change(
     if out.len() < size {
         return Err(Short(size));
     }
-    put_outline(out, replying(FrameKind::Change, count as u8, flow));
+    put_outline(out, head_with_count(FrameKind::Change, Version::One, count as u8, flow));
     put(out, HEAD, &program.to_le_bytes());
     put_values(out, HEAD + 4, values);
     Ok(size)

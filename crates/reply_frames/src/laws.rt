@@ -1,4 +1,13 @@
+ghost use Rattle.std.specs.Prelude.{◌≡◌};
+ghost use Rattle.ccp_base.specs.Limits.{most_operation};
 ghost use Rattle.reply_frames.specs.Laws.{PrefixFree, Needed, Longest};
+
+use crate::install_parts::MOST_OPERATION;
+
+/// The constants of this crate are the numbers of the rules.
+pub fn limits_hold()
+    ensures operations { MOST_OPERATION ≡ most_operation }
+{}
 
 /// The laws of whole frames. No frame is a proper prefix of another; of a frame that is cut after its head, what is
 /// needed is the frame's length; and no frame is longer than 8,596 bytes.

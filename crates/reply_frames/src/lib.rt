@@ -7,16 +7,17 @@ pub mod bodies;
 mod decode;
 pub mod encode;
 mod fault;
+pub mod fault_kind;
 pub mod head;
+pub mod install_parts;
 mod laws;
 pub mod outline;
 pub mod parts;
-#[cfg(test)]
-mod tests;
 pub mod values;
 
 pub use decode::{Head, decode_fields, needed};
 pub use encode::{encode_change, encode_update};
 pub use fault::{BadKind, FrameFault, Short, Stop};
-pub use laws::frame_laws;
-pub use outline::{Counts, FrameKind, Outline, Version};
+pub use install_parts::MOST_OPERATION;
+pub use laws::{frame_laws, limits_hold};
+pub use outline::{Counts, FrameKind, Instruction, Outline, Register, Version};

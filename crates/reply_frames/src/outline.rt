@@ -1,6 +1,7 @@
 //! What the head of a frame says, and what follows from it.
 
 ghost use Rattle.std.specs.Prelude.{◌≡◌, ℕ, ◌+◌, ◌*◌, ◌<◌, ◌≤◌};
+ghost use Rattle.reply_frames.specs.FrameBytes.{counts};
 ghost use Rattle.reply_frames.specs.Kinds.{number_of, kind_of, version_number, version_of, most_n1, most_n2, most_n3, most_n4, size_of};
 
 /// What a frame is for.
@@ -51,6 +52,42 @@ pub struct Outline {
     pub version: Version,
     pub counts: Counts,
     pub flow: u32,
+}
+
+/// A head whose counts after the first are 0.
+pub fn head_with_count(kind: FrameKind, version: Version, count: u8, flow: u32) -> Outline
+    ensures { result ≡ record { kind = kind; version = version; counts = counts count 0 0 0; flow = flow } }
+{
+    Outline {
+        kind,
+        version,
+        counts: Counts {
+            n1: count,
+            n2: 0,
+            n3: 0,
+            n4: 0,
+        },
+        flow,
+    }
+}
+
+/// A register of an instruction.
+#[derive(Clone, Copy)]
+pub struct Register {
+    /// From 0 for an immediate value to 6 for a temporary.
+    pub class: u8,
+    /// The register's number in its class, or the immediate value.
+    pub number: u64,
+}
+
+/// An instruction.
+#[derive(Clone, Copy)]
+pub struct Instruction {
+    /// The operation's number.
+    pub op: u8,
+    pub to: Register,
+    pub left: Register,
+    pub right: Register,
 }
 
 /// The number of a kind, from 1 to 8.

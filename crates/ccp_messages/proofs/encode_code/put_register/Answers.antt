@@ -1,5 +1,5 @@
 use Rattle.std.proofs.Common.{arith, subst}
-use Rattle.reply_frames.specs.Frames.{Register}
+use Rattle.reply_frames.specs.declared.outline.Register.{Register}
 use Rattle.reply_frames.specs.FrameBytes.{register_bytes}
 use Rattle.reply_frames.specs.Writing.{Wrote}
 use Rattle.reply_frames.proofs.Placing.{wrote-then}

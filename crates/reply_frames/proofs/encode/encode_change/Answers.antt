@@ -19,7 +19,7 @@ returns-clause-ok c =
     let len : c.len-count.result ≡ length values = c.len-count.ensures.len in
     let front = outline_bytes (outline_of One flow (body.Change c.args.program values)) in
     let head : c.put_outline.new.out ≡ over front old =
-    c.put_outline.ensures ∙ ap (λ head. over (outline_bytes head) old) (c.replying.ensures ∙ ap (λ n. record { kind = Change; version = One; counts = counts n 0 0 0; flow = flow }) len) in
+    c.put_outline.ensures ∙ ap (λ head. over (outline_bytes head) old) (c.head_with_count.ensures ∙ ap (λ n. record { kind = Change; version = One; counts = counts n 0 0 0; flow = flow }) len) in
     let put : c.put.new.out ≡ placed 16 program c.put_outline.new.out = c.put.ensures ∙ ap (λ bytes. placed 16 bytes c.put_outline.new.out) c.to_le_bytes.ensures in
     let rest : c.put_values.new.out ≡ placed 20 (values_bytes values) c.put.new.out = c.put_values.ensures.placed in (
       ap (λ n. 20 + 10 * n) len,

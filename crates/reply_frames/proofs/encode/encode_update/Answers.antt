@@ -17,7 +17,7 @@ returns-clause-ok c =
     let len : c.len-count.result ≡ length values = c.len-count.ensures.len in
     let front = outline_bytes (outline_of One flow (body.Update values)) in
     let head : c.put_outline.new.out ≡ over front old =
-    c.put_outline.ensures ∙ ap (λ head. over (outline_bytes head) old) (c.replying.ensures ∙ ap (λ n. record { kind = Update; version = One; counts = counts n 0 0 0; flow = flow }) len) in
+    c.put_outline.ensures ∙ ap (λ head. over (outline_bytes head) old) (c.head_with_count.ensures ∙ ap (λ n. record { kind = Update; version = One; counts = counts n 0 0 0; flow = flow }) len) in
     let rest : c.put_values.new.out ≡ placed 16 (values_bytes values) c.put_outline.new.out = c.put_values.ensures.placed in
     (ap (λ n. 16 + 10 * n) len, over-then front (values_bytes values) c.put_outline.new.out c.put_values.new.out old 16 refl head rest)
 

@@ -1,10 +1,11 @@
-use crate::calls::feed;
-use crate::ending::FeedEnd;
-use crate::frames_of_tests::{
+//! Whole inputs of frames, read in pieces of every length.
+use crate::frames::{
     ACK, CHANGE, CREATE, CREATE_2, INSTALL, MEASURE, MEASURE_2, REFUSED_2, REFUSED_6,
 };
 use ccp_base::{Bytes, MemSink, MemSource};
 use ccp_messages::BadKind;
+use feed_core::FeedEnd;
+use feed_core::calls::feed;
 use std::alloc::Global;
 use std::process::Abort;
 use std::test::Fail;
@@ -56,68 +57,77 @@ fn ends_in_pieces(
     ends(rt, alloc, name, input, 4096, output, end);
 }
 
+/// No kind of frame.
+const NINE: &[u8] = b"\x09";
+
+/// The front of an Ack.
+const CUT_ACK: &[u8] =
+    b"\x07\x01\x00\x00\x00\x00\x00\x00\x00\x00\x00\x00\x88\x00\x00\x00\x00\x00\x00\x00";
+
+/// Inputs as frames, what is answered, and how they end.
+const ENDS: [(&str, &[&[u8]], &[u8], FeedEnd); 7] = [
+    (
+        "feed-report",
+        &[CREATE, INSTALL, CHANGE, ACK],
+        MEASURE,
+        FeedEnd::Whole,
+    ),
+    (
+        "feed-version-2",
+        &[CREATE_2, INSTALL, CHANGE, ACK],
+        MEASURE_2,
+        FeedEnd::Whole,
+    ),
+    (
+        "feed-flow-twice",
+        &[CREATE, CREATE],
+        REFUSED_2,
+        FeedEnd::Whole,
+    ),
+    (
+        "feed-no-program",
+        &[CREATE, ACK, CHANGE],
+        REFUSED_6,
+        FeedEnd::Whole,
+    ),
+    (
+        "feed-cut",
+        &[CREATE, INSTALL, CHANGE, ACK, CUT_ACK],
+        MEASURE,
+        FeedEnd::Cut(273),
+    ),
+    (
+        "feed-bad-frame",
+        &[CREATE, NINE],
+        b"",
+        FeedEnd::Bad(BadKind::Kind, 28),
+    ),
+    ("feed-nothing", &[], b"", FeedEnd::Whole),
+];
+
 #[test]
 fn inputs_end(rt: HostRuntime) -> Result<(), Fail> {
-    let nine: &[u8] = b"\x09";
-    let front: &[u8] = &ACK[..20];
-    let rows: [(&str, &[&[u8]], &[u8], FeedEnd); 7] = [
-        (
-            "feed-report",
-            &[CREATE, INSTALL, CHANGE, ACK],
-            MEASURE,
-            FeedEnd::Whole,
-        ),
-        (
-            "feed-version-2",
-            &[CREATE_2, INSTALL, CHANGE, ACK],
-            MEASURE_2,
-            FeedEnd::Whole,
-        ),
-        (
-            "feed-flow-twice",
-            &[CREATE, CREATE],
-            REFUSED_2,
-            FeedEnd::Whole,
-        ),
-        (
-            "feed-no-program",
-            &[CREATE, ACK, CHANGE],
-            REFUSED_6,
-            FeedEnd::Whole,
-        ),
-        (
-            "feed-cut",
-            &[CREATE, INSTALL, CHANGE, ACK, front],
-            MEASURE,
-            FeedEnd::Cut(273),
-        ),
-        (
-            "feed-bad-frame",
-            &[CREATE, nine],
-            b"",
-            FeedEnd::Bad(BadKind::Kind, 28),
-        ),
-        ("feed-nothing", &[], b"", FeedEnd::Whole),
-    ];
-    for (name, frames, output, end) in rows {
+    for (name, frames, output, end) in ENDS {
         let input = joined(rt.alloc(), frames)?;
         ends_in_pieces(&rt, rt.alloc(), name, input.as_slice(), output, end);
     }
     Ok(())
 }
 
+/// What comes last in an input that is nearly as long as one may be, and how it ends.
+const LAST: [(&[u8], FeedEnd); 4] = [
+    (b"", FeedEnd::Whole),
+    (b"\x08\x01\x00\x00", FeedEnd::Cut(1_048_572)),
+    (b"\x08\x01\x00\x00\x00", FeedEnd::TooLong),
+    (
+        b"\x08\x01\x00\x01\x00",
+        FeedEnd::Bad(BadKind::Count, 1_048_575),
+    ),
+];
+
 #[test]
 fn inputs_have_a_limit(rt: HostRuntime) -> Result<(), Fail> {
-    let rows: [(&[u8], FeedEnd); 4] = [
-        (b"", FeedEnd::Whole),
-        (b"\x08\x01\x00\x00", FeedEnd::Cut(1_048_572)),
-        (b"\x08\x01\x00\x00\x00", FeedEnd::TooLong),
-        (
-            b"\x08\x01\x00\x01\x00",
-            FeedEnd::Bad(BadKind::Count, 1_048_575),
-        ),
-    ];
-    for (tail, end) in rows {
+    for (tail, end) in LAST {
         let mut input = Bytes::new(rt.alloc());
         for _ in 0..49_932 {
             input.extend(REFUSED_2)?;

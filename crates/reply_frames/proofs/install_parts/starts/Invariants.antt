@@ -1,7 +1,7 @@
 use Rattle.std.proofs.Common.{◌≡◌, ◌-◌}
 use Rattle.reply_frames.specs.Parts.{passed, repeated_at}
 use Rattle.reply_frames.specs.Frames.{start_at}
-use Rattle.reply_frames.proofs.bodies.starts.Given as goal
+use Rattle.reply_frames.proofs.install_parts.starts.Given as goal
 
 abbrev pub invariant-loop : goal.invariant-loop
 invariant-loop l = passed (repeated_at start_at (l.count - l.counter) l.rest) ≡ passed (repeated_at start_at l.count l.bytes)
