@@ -1,7 +1,7 @@
 ghost use Rattle.std.specs.Prelude.{◌≡◌, ◌↔◌, IsTrue};
 
 use crate::agent::Agent;
-use ccp_base::{Course, FaultKind, Look, Phase, Notice, Report, Role, Told, Values};
+use ccp_base::{Course, FaultKind, Look, Notice, Phase, Report, Role, Told, Values};
 use cubic_agent::{Cubic, Growth};
 use reno_agent::Reno;
 

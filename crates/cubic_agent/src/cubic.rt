@@ -1,8 +1,8 @@
 ghost use Rattle.std.specs.Prelude.{◌≡◌, ◌≤◌};
 
 use crate::curve::{time_to_maximum, w_cubic};
-use crate::window::{SEGMENT, WINDOW_MOST, bytes, converged, decreased, clamped_window};
-use ccp_base::{Course, Phase, Measurement, Reply, Role, Told, initial_segments};
+use crate::window::{SEGMENT, WINDOW_MOST, bytes, clamped_window, converged, decreased};
+use ccp_base::{Course, Measurement, Phase, Reply, Role, Told, initial_segments};
 use int_roots::muldiv;
 use std::marker::Model;
 

@@ -12,8 +12,8 @@ mod start;
 mod tree;
 mod value;
 
+pub use ccp_base::Op2;
 pub use env::{Env, Mean, StartFault};
 pub use printing::print_tree;
-pub use ccp_base::Op2;
 pub use program::{Block, Cmd, Decl, Expr, Program, Var};
 pub use tree::{Parts, Source, Tree, take_apart};

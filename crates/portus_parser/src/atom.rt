@@ -75,10 +75,7 @@ pub fn same(left: &[u8], right: &[u8]) -> bool
 fn is_mark(text: &[u8]) -> bool
     ensures { result ≡ is_mark text.now }
 {
-    is_operation_mark(text)
-        || same(text, b":=")
-        || same(text, b"!if")
-        || same(text, b"+infinity")
+    is_operation_mark(text) || same(text, b":=") || same(text, b"!if") || same(text, b"+infinity")
 }
 
 /// The word that is this text; None where it is none.

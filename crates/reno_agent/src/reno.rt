@@ -1,6 +1,6 @@
 ghost use Rattle.std.specs.Prelude.{◌≡◌, ◌≤◌};
 
-use ccp_base::{Course, Phase, Measurement, Reply, Role, Told, initial_segments};
+use ccp_base::{Course, Measurement, Phase, Reply, Role, Told, initial_segments};
 use int_roots::muldiv;
 use std::marker::Model;
 
