@@ -67,9 +67,9 @@ action_is_runnable known report few is = refl
 action_is_runnable known fall few is = refl
 
 -- a body's locals stay within eight
-few_with_local : (known : Known) (next told : Bool) → length known.locals ≤ 8 → (next ≡ true → length known.locals < 8) → length (with_local known next told).locals ≤ 8
-few_with_local known true told few room = omega (arith, length-append known.locals (told ∷ []), room refl)
-few_with_local known false told few room = few
+few_with_local : (known : Known) (next is_bool : Bool) → length known.locals ≤ 8 → (next ≡ true → length known.locals < 8) → length (with_local known next is_bool).locals ≤ 8
+few_with_local known true is_bool few room = omega (arith, length-append known.locals (is_bool ∷ []), room refl)
+few_with_local known false is_bool few room = few
 
 next_has_room : (known : Known) (v : Var) → is_next_local known v ≡ true → length known.locals < 8
 next_has_room known (var.Local i) is = omega (arith, ltb-true i 8 (second (i == length known.locals) (nat_lt i 8) is), eqb-true i (length known.locals) (first (i == length known.locals) (nat_lt i 8) is))

@@ -19,9 +19,10 @@ abbrev pub declares_truth : Option Decl → Bool
 declares_truth (Some decl) = decl.truth
 declares_truth None = false
 
-abbrev pub is_told : Option Bool → Bool
-is_told (Some told) = told
-is_told None = false
+-- whether the local is there and is a Bool
+abbrev pub is_bool_there : Option Bool → Bool
+is_bool_there (Some is_bool) = is_bool
+is_bool_there None = false
 
 -- whether the name stands for something
 abbrev pub is_known : Known → Var → Bool
@@ -37,7 +38,7 @@ is_known known var.Micros = true
 abbrev pub is_truth : Known → Var → Bool
 is_truth known (var.Field i) = declares_truth (slice_get known.fields i)
 is_truth known (var.Control i) = declares_truth (slice_get known.controls i)
-is_truth known (var.Local i) = is_told (slice_get known.locals i)
+is_truth known (var.Local i) = is_bool_there (slice_get known.locals i)
 is_truth known (var.Prim n) = is_flag n
 is_truth known var.Cwnd = false
 is_truth known var.Rate = false
@@ -93,9 +94,10 @@ is_action known zero_micros = true
 is_action known report = true
 is_action known fall = true
 
+-- the names with one more local, where there is one: whether it is a Bool
 abbrev pub with_local : Known → Bool → Bool → Known
-with_local known true told = record { fields = known.fields; controls = known.controls; locals = known.locals ++ told ∷ [] }
-with_local known false told = known
+with_local known true is_bool = record { fields = known.fields; controls = known.controls; locals = known.locals ++ is_bool ∷ [] }
+with_local known false is_bool = known
 
 -- the names after the command
 abbrev pub known_after : Known → Action → Known

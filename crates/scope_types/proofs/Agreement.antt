@@ -1,3 +1,4 @@
+-- An answer that agrees with the walk over the forms agrees with what the forms stand for.
 use Rattle.std.proofs.Common.{◌≡◌, ◌≢◌, ◌∙◌, sym, subst, refl, Result, Ok, Err, IfOk, IfErr, MatchResult}
 use Rattle.portus_core.specs.Programs.{Form}
 use Rattle.portus_core.specs.Trees.{Nodes}

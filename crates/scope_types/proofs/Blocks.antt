@@ -1,3 +1,4 @@
+-- The walk over a block, once its condition is cut off, is the walk over its condition and its commands.
 use Rattle.std.proofs.Common.{◌≡◌, Result, ap, ◌∙◌, sym}
 use Rattle.ccp_base.specs.declared.place.Place.{Place}
 use Rattle.portus_core.specs.Programs.{Part}

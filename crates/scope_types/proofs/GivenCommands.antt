@@ -1,3 +1,4 @@
+-- Commands that are well scoped are given by the walk over them.
 use Rattle.std.proofs.Common.{◌≡◌, inl, inr, ℕ, ◌<◌, ◌≤◌, ◌==◌, Bool, true, false, not, ◌&&◌, ◌||◌, refl, List, [], ◌∷◌, ◌++◌, length, Option, Some, None, IfSome, is_some, Result, Ok, IsTrue, nat_le, if◌then◌else◌, bytes_eq, codes, arith, ap, ◌∙◌, sym, subst, append-nil, append_assoc}
 use Rattle.std.proofs.lemmas.Bool.Decides.{nat_tests, Decides-eqb}
 use Rattle.ccp_base.specs.declared.place.Place.{Place}
@@ -18,7 +19,7 @@ use Rattle.scope_types.specs.Walk.{place_of, and_then}
 use Rattle.scope_types.specs.ExpressionWalk.{expression_walk}
 use Rattle.scope_types.specs.CommandWalk as walk
 use Rattle.scope_types.specs.WellScoped.{NamesVariable, IsTerm, FitsKind, IsPlain, IsChoice, IsWeight, IsEwma, IsSpecial, IsValue, IsZero, IsZeroAssignment, IsKnownAssignment, IsFresh, IsFirstAssignment, IsAssignment, IsCommand, IsBody}
-use Rattle.scope_types.proofs.ScopedExpressions.{told_of, spelt, variable_kind, IsProper}
+use Rattle.scope_types.proofs.ScopedExpressions.{truth_of, spelt, variable_kind, IsProper}
 use Rattle.scope_types.proofs.GivenExpressions.{outside_fields, meaning_given, expression_given}
 use Rattle.scope_types.proofs.ProperScopes.{fresh_local, fresh_control, fresh_primitive}
 use Rattle.scope_types.proofs.ScopedCommands.{command_proper}
@@ -34,9 +35,9 @@ pub if_true : {A : Type 0} (b : Bool) (x y z : A) → b ≡ true → x ≡ z →
 if_true b x y z e f = ap (λ c. if c then x else y) e ∙ f
 
 -- the target of a name that may be assigned
-record IsTarget (scope : Scope) (r : Result Target ScopeFault) (at : Place) (v : Var) (told : Bool) : Type 0 where
+record IsTarget (scope : Scope) (r : Result Target ScopeFault) (at : Place) (v : Var) (truth : Bool) : Type 0 where
   gives : r ≡ Ok (Meant at v)
-  kind : told ≡ told_of scope v
+  kind : truth ≡ truth_of scope v
 
 writable_named : (at : Place) (w : List ℕ) (v : Var) → IsTrue (is_writable v) → walk.named_target_walk at w (Some v) ≡ Ok (Meant at v)
 writable_named at w (var.Prim n) h = absurd (cc)
@@ -47,10 +48,10 @@ writable_named at w var.Cwnd h = refl
 writable_named at w var.Rate h = refl
 writable_named at w var.Micros h = refl
 
-target_given : (scope : Scope) (at : Place) (w : List ℕ) (lang : Option Var) (v : Var) (told : Bool) → IsProper scope → IfSome lang (λ v. told_of scope v ≡ false) → NamesVariable scope w lang v told → IsTrue (is_writable v) → IsTarget scope (walk.word_target_walk scope at w lang) at v told
-target_given scope at w (Some u) v told p k n h = record { gives = ap (λ x. Ok (Meant at x)) (sym n.0); kind = n.1 ∙ sym (ap (told_of scope) n.0 ∙ k) }
-target_given scope at w None v told p k n h =
-    let m = meaning_given scope w v told p n.1 in
+target_given : (scope : Scope) (at : Place) (w : List ℕ) (lang : Option Var) (v : Var) (truth : Bool) → IsProper scope → IfSome lang (λ v. truth_of scope v ≡ false) → NamesVariable scope w lang v truth → IsTrue (is_writable v) → IsTarget scope (walk.word_target_walk scope at w lang) at v truth
+target_given scope at w (Some u) v truth p k n h = record { gives = ap (λ x. Ok (Meant at x)) (sym n.0); kind = n.1 ∙ sym (ap (truth_of scope) n.0 ∙ k) }
+target_given scope at w None v truth p k n h =
+    let m = meaning_given scope w v truth p n.1 in
     record {
       gives = if_false (is_reserved w) _ _ _ n.0 (ap (walk.named_target_walk at w) m.gives ∙ writable_named at w v h);
       kind = m.kind;
@@ -72,39 +73,39 @@ not_spelt w lit op e h =
     [ true ↦ λ k. absurd (let f : None ≡ Some op = sym e ∙ ap operator_of (sym (spelt w lit k)) ∙ h in cc) | false ↦ λ k. refl ] refl
 
 -- an expression is walked as one
-value_plain : (scope : Scope) (target : Target) (value : Node) (t : Term) (told : Bool) → IsTerm scope value t told → walk.value_walk scope target value ≡ walk.plain_walk scope target value
-value_plain scope target (list at (more (word head w) (more left (more right none)))) t told h =
+value_plain : (scope : Scope) (target : Target) (value : Node) (t : Term) (truth : Bool) → IsTerm scope value t truth → walk.value_walk scope target value ≡ walk.plain_walk scope target value
+value_plain scope target (list at (more (word head w) (more left (more right none)))) t truth h =
     if_false (bytes_eq w (codes "if")) _ _ _ (not_spelt w (codes "if") h.operator refl h.spelt)
     (if_false (bytes_eq w (codes "!if")) _ _ _ (not_spelt w (codes "!if") h.operator refl h.spelt)
     (if_false (bytes_eq w (codes "ewma")) _ _ _ (not_spelt w (codes "ewma") h.operator refl h.spelt) refl))
-value_plain scope target (number at n) t told h = refl
-value_plain scope target (word at w) t told h = refl
-value_plain scope target (list at parts) t told h = absurd h
+value_plain scope target (number at n) t truth h = refl
+value_plain scope target (word at w) t truth h = refl
+value_plain scope target (list at parts) t truth h = absurd h
 
-kind_test : (wanted told : Bool) → FitsKind wanted told → (wanted && not told) ≡ false
-kind_test true told h = ap not (h refl)
-kind_test false told h = refl
+kind_test : (wanted truth : Bool) → FitsKind wanted truth → (wanted && not truth) ≡ false
+kind_test true truth h = ap not (h refl)
+kind_test false truth h = refl
 
-pub kind_given : (scope : Scope) (wanted : Bool) (at : Place) (term : Term) (told : Bool) → told ≡ term_is_truth (known_in scope) term → FitsKind wanted told → walk.kind_walk scope wanted at term ≡ Ok term
-kind_given scope wanted at term told e h =
+pub kind_given : (scope : Scope) (wanted : Bool) (at : Place) (term : Term) (truth : Bool) → truth ≡ term_is_truth (known_in scope) term → FitsKind wanted truth → walk.kind_walk scope wanted at term ≡ Ok term
+kind_given scope wanted at term truth e h =
     if_false (wanted && not (walk.is_bool scope term)) _ _ _ (kind_test wanted _ (subst (FitsKind wanted) e h)) refl
 
-plain_given : (scope : Scope) (at : Place) (v : Var) (value : Node) (action : Action) → IsProper scope → IsPlain scope v (told_of scope v) value action → walk.value_walk scope (Meant at v) value ≡ Ok (action, scope)
+plain_given : (scope : Scope) (at : Place) (v : Var) (value : Node) (action : Action) → IsProper scope → IsPlain scope v (truth_of scope v) value action → walk.value_walk scope (Meant at v) value ≡ Ok (action, scope)
 plain_given scope at v value action p h =
-    let g = expression_given scope value h.term h.told p h.is_value in
-    value_plain scope (Meant at v) value h.term h.told h.is_value
+    let g = expression_given scope value h.term h.truth p h.is_value in
+    value_plain scope (Meant at v) value h.term h.truth h.is_value
     ∙ then_given (expression_walk scope value) _ h.term _ g.gives
-    (then_given (walk.kind_walk scope (told_of scope v) (place_of value) h.term) _ h.term _ (kind_given scope (told_of scope v) (place_of value) h.term h.told g.kind h.fits)
+    (then_given (walk.kind_walk scope (truth_of scope v) (place_of value) h.term) _ h.term _ (kind_given scope (truth_of scope v) (place_of value) h.term h.truth g.kind h.fits)
     (ap (λ a. Ok (a, scope)) (sym h.command)))
 
-choice_given : (scope : Scope) (at : Place) (v : Var) (when_so : Bool) (value_at head : Place) (condition value : Node) (action : Action) → IsProper scope → IsChoice scope (told_of scope v) (λ c e. walk.choice_action when_so head v c e) condition value action → walk.choice_walk scope (Meant at v) when_so value_at head (more condition (more value none)) ≡ Ok (action, scope)
+choice_given : (scope : Scope) (at : Place) (v : Var) (when_so : Bool) (value_at head : Place) (condition value : Node) (action : Action) → IsProper scope → IsChoice scope (truth_of scope v) (λ c e. walk.choice_action when_so head v c e) condition value action → walk.choice_walk scope (Meant at v) when_so value_at head (more condition (more value none)) ≡ Ok (action, scope)
 choice_given scope at v when_so value_at head condition value action p h =
     let c = expression_given scope condition h.condition_term true p h.is_condition in
-    let g = expression_given scope value h.term h.told p h.is_value in
+    let g = expression_given scope value h.term h.truth p h.is_value in
     then_given (expression_walk scope condition) _ h.condition_term _ c.gives
     (then_given (expression_walk scope value) _ h.term _ g.gives
     (then_given (walk.kind_walk scope true (place_of condition) h.condition_term) _ h.condition_term _ (kind_given scope true (place_of condition) h.condition_term true c.kind (λ k. k))
-    (then_given (walk.kind_walk scope (told_of scope v) (place_of value) h.term) _ h.term _ (kind_given scope (told_of scope v) (place_of value) h.term h.told g.kind h.fits)
+    (then_given (walk.kind_walk scope (truth_of scope v) (place_of value) h.term) _ h.term _ (kind_given scope (truth_of scope v) (place_of value) h.term h.truth g.kind h.fits)
     (ap (λ a. Ok (a, scope)) (sym h.command)))))
 
 within_test : (a b : ℕ) → a ≤ b → nat_le a b ≡ true
@@ -115,15 +116,15 @@ weight_given (number at m) n h = if_true (nat_le m 10) _ _ _ (ap (λ k. nat_le k
 weight_given (word at w) n h = absurd h
 weight_given (list at parts) n h = absurd h
 
-ewma_given : (scope : Scope) (at : Place) (v : Var) (value_at head : Place) (weight value : Node) (action : Action) → IsProper scope → IsEwma scope v (told_of scope v) head weight value action → walk.ewma_walk scope (Meant at v) value_at head (more weight (more value none)) ≡ Ok (action, scope)
+ewma_given : (scope : Scope) (at : Place) (v : Var) (value_at head : Place) (weight value : Node) (action : Action) → IsProper scope → IsEwma scope v (truth_of scope v) head weight value action → walk.ewma_walk scope (Meant at v) value_at head (more weight (more value none)) ≡ Ok (action, scope)
 ewma_given scope at v value_at head weight value action p h =
-    let g = expression_given scope value h.term h.told p h.is_value in
-    then_given (walk.number_walk scope (Meant at v)) _ v _ (if_false (told_of scope v) _ _ _ h.number refl)
+    let g = expression_given scope value h.term h.truth p h.is_value in
+    then_given (walk.number_walk scope (Meant at v)) _ v _ (if_false (truth_of scope v) _ _ _ h.number refl)
     (then_given (walk.weight_walk weight) _ h.tenths _ (weight_given weight h.tenths h.is_weight)
     (then_given (expression_walk scope value) _ h.term _ g.gives
     (ap (λ a. Ok (a, scope)) (sym h.command))))
 
-special_given : (scope : Scope) (at : Place) (v : Var) (value : Node) (action : Action) → IsProper scope → IsSpecial scope v (told_of scope v) value action → walk.value_walk scope (Meant at v) value ≡ Ok (action, scope)
+special_given : (scope : Scope) (at : Place) (v : Var) (value : Node) (action : Action) → IsProper scope → IsSpecial scope v (truth_of scope v) value action → walk.value_walk scope (Meant at v) value ≡ Ok (action, scope)
 special_given scope at v (list value_at (more (word head w) (more first (more second none)))) action p h =
     let headed : List ℕ → Result walk.Step ScopeFault = λ u. walk.value_walk scope (Meant at v) (list value_at (more (word head u) (more first (more second none)))) in
     elim h [
@@ -135,13 +136,13 @@ special_given scope at v (list value_at (more (word head w) (more first (more se
     ]
 special_given scope at v value action p h = absurd h
 
-value_given : (scope : Scope) (at : Place) (v : Var) (value : Node) (action : Action) → IsProper scope → IsValue scope v (told_of scope v) value action → walk.value_walk scope (Meant at v) value ≡ Ok (action, scope)
+value_given : (scope : Scope) (at : Place) (v : Var) (value : Node) (action : Action) → IsProper scope → IsValue scope v (truth_of scope v) value action → walk.value_walk scope (Meant at v) value ≡ Ok (action, scope)
 value_given scope at v value action p h =
     elim h [ inl k ↦ plain_given scope at v value action p k | inr k ↦ special_given scope at v value action p k ]
 
 known_given : (scope : Scope) (at : Place) (w : List ℕ) (value : Node) (action : Action) (after : Scope) → IsProper scope → IsKnownAssignment scope w value action after → walk.assignment_walk scope (word at w) value ≡ Ok (action, after)
 known_given scope at w value action after p h =
-    let t = target_given scope at w (variable_of w) h.variable h.told p (variable_kind scope w) h.named h.writable in
+    let t = target_given scope at w (variable_of w) h.variable h.truth p (variable_kind scope w) h.named h.writable in
     then_given (walk.target_walk scope (word at w)) _ (Meant at h.variable) _ t.gives
     (writable_assigned scope at h.variable value h.writable
     ∙ value_given scope at h.variable value action p (subst (λ b. IsValue scope h.variable b value action) t.kind h.assigned)
@@ -197,13 +198,13 @@ room_test n h = grind (arith, nat_tests)
 
 first_given : (scope : Scope) (at : Place) (w : List ℕ) (value : Node) (action : Action) (after : Scope) → IsProper scope → IsFirstAssignment scope w value action after → walk.assignment_walk scope (word at w) value ≡ Ok (action, after)
 first_given scope at w value action after p h =
-    let g = expression_given scope value h.term h.told p h.is_value in
+    let g = expression_given scope value h.term h.truth p h.is_value in
     then_given (walk.target_walk scope (word at w)) _ (Fresh at w) _ (fresh_target scope at w h.fresh)
-    (value_plain scope (Fresh at w) value h.term h.told h.is_value
+    (value_plain scope (Fresh at w) value h.term h.truth h.is_value
     ∙ then_given (expression_walk scope value) _ h.term _ g.gives
     (if_false (nat_le 8 (length scope.locals)) _ _ _ (room_test _ h.few)
     (ap (λ b. Ok (set (var.Local (length scope.locals)) h.term, with_local scope w b)) (sym g.kind)
-    ∙ ap (λ a. Ok (a, with_local scope w h.told)) (sym h.command)
+    ∙ ap (λ a. Ok (a, with_local scope w h.truth)) (sym h.command)
     ∙ ap (λ s. Ok (action, s)) (sym h.names))))
 
 assignment_given : (scope : Scope) (at : Place) (w : List ℕ) (value : Node) (action : Action) (after : Scope) → IsProper scope → IsAssignment scope w value action after → walk.assignment_walk scope (word at w) value ≡ Ok (action, after)

@@ -1,3 +1,4 @@
+-- Declarations that are well scoped and distinct are given by the walk over them.
 use Rattle.std.proofs.Common.{◌≡◌, inl, inr, ℕ, zero, suc, ◌<◌, ◌≤◌, Bool, true, false, not, refl, List, [], ◌∷◌, ◌++◌, length, Option, Some, None, is_some, Result, Ok, IsTrue, nat_le, slice_get, bytes_eq, codes, arith, ap, ◌∙◌, sym, subst, append-nil, append_assoc, length-append}
 use Rattle.std.proofs.lemmas.Bool.Decides.{nat_tests}
 use Rattle.ccp_base.specs.declared.place.Place.{Place}
@@ -15,13 +16,13 @@ use Rattle.scope_types.proofs.ScopedExpressions.{spelt, spells, decl_found}
 use Rattle.scope_types.proofs.ProperScopes.{nowhere}
 use Rattle.scope_types.proofs.GivenCommands.{then_given, if_false, if_true}
 
-start_given : (value : Node) (n : ℕ) (told : Bool) → IsStart value n told → walk.start_of value ≡ Some (record { value = n; truth = told })
-start_given (number at m) n told h =
+start_given : (value : Node) (n : ℕ) (truth : Bool) → IsStart value n truth → walk.start_of value ≡ Some (record { value = n; truth = truth })
+start_given (number at m) n truth h =
     ap (λ k. let start : Option Start = Some (record { value = k; truth = false }) in start) (sym h.0)
     ∙ ap (λ b. let start : Option Start = Some (record { value = n; truth = b }) in start) (sym h.1)
-start_given (list at parts) n told h = absurd h
-start_given (word at w) n told h =
-    let back : (u : List ℕ) (k : ℕ) (b : Bool) → (w ≡ u) × (n ≡ k) × (told ≡ b) → walk.start_word u ≡ Some (record { value = k; truth = b }) → walk.start_word w ≡ Some (record { value = n; truth = told }) =
+start_given (list at parts) n truth h = absurd h
+start_given (word at w) n truth h =
+    let back : (u : List ℕ) (k : ℕ) (b : Bool) → (w ≡ u) × (n ≡ k) × (truth ≡ b) → walk.start_word u ≡ Some (record { value = k; truth = b }) → walk.start_word w ≡ Some (record { value = n; truth = truth }) =
     λ u k b g e.
     ap walk.start_word g.0 ∙ e
     ∙ ap (λ j. let start : Option Start = Some (record { value = j; truth = b }) in start) (sym g.1)

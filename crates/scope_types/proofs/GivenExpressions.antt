@@ -1,3 +1,4 @@
+-- Names and expressions that are well scoped are given by the look-up and the walk over them.
 use Rattle.std.proofs.Common.{◌≡◌, ℕ, ◌<◌, ◌^◌, Bool, true, false, List, drop, Option, Some, None, IfSome, Result, Ok, Err, nat_lt, if◌then◌else◌, arith, ap, ◌∙◌, sym, subst}
 use Rattle.std.proofs.lemmas.Bool.Decides.{nat_tests}
 use Rattle.ccp_base.specs.declared.place.Place.{Place}
@@ -7,7 +8,7 @@ use Rattle.portus_core.specs.declared.program.Var.TheVariants as var
 use Rattle.portus_core.specs.Programs.{Term, name, pair}
 use Rattle.portus_core.specs.Programs as term
 use Rattle.portus_core.specs.Trees.{Node, none, more, number, word, list}
-use Rattle.portus_core.specs.ValidPrograms.{term_is_truth, declares_truth, is_told}
+use Rattle.portus_core.specs.ValidPrograms.{term_is_truth, declares_truth, is_bool_there}
 use Rattle.scope_types.specs.declared.names.Local.{Local}
 use Rattle.scope_types.specs.declared.fault.ScopeFault.{ScopeFault}
 use Rattle.scope_types.specs.declared.fault.ScopeFault.TheVariants.{Unknown, Misplaced}
@@ -19,18 +20,18 @@ use Rattle.scope_types.specs.Scope.{Scope, known_in}
 use Rattle.scope_types.specs.Names.{decl_from, local_from, named, meaning_of}
 use Rattle.scope_types.specs.ExpressionWalk.{or_refused, name_walk, variable_walk, word_walk, pair_walk, expression_walk}
 use Rattle.scope_types.specs.WellScoped.{IsDeclared, IsField, IsLocal, IsPrimitive, Means, NamesVariable, IsWord, IsTerm}
-use Rattle.scope_types.proofs.ScopedExpressions.{told_of, slice_get-map, IsControl, IsOwnLocal, IsProper, primitive_word, variable_kind, constant_kind}
+use Rattle.scope_types.proofs.ScopedExpressions.{truth_of, slice_get-map, IsControl, IsOwnLocal, IsProper, primitive_word, variable_kind, constant_kind}
 
 -- the look-up of a word gives this variable, of this kind
-pub record IsMeaning (scope : Scope) (w : List ℕ) (v : Var) (told : Bool) : Type 0 where
+pub record IsMeaning (scope : Scope) (w : List ℕ) (v : Var) (truth : Bool) : Type 0 where
   pub gives : meaning_of scope w ≡ Some v
-  pub kind : told ≡ told_of scope v
+  pub kind : truth ≡ truth_of scope v
 
 pub outside_fields : (scope : Scope) (w : List ℕ) → is_field_use w ≡ false → meaning_of scope w ≡ named var.Prim (primitive_named w) (named var.Control (decl_from 0 scope.controls w) (named var.Local (local_from 0 scope.locals w) None))
 outside_fields scope w h = ap (λ b. if b then named var.Field (decl_from 0 scope.fields (drop 7 w)) None else named var.Prim (primitive_named w) (named var.Control (decl_from 0 scope.controls w) (named var.Local (local_from 0 scope.locals w) None))) h
 
-field_given : (scope : Scope) (i : ℕ) (w : List ℕ) (told : Bool) → IsProper scope → IsField scope.fields i w told → IsMeaning scope w (var.Field i) told
-field_given scope i w told p f = record {
+field_given : (scope : Scope) (i : ℕ) (w : List ℕ) (truth : Bool) → IsProper scope → IsField scope.fields i w truth → IsMeaning scope w (var.Field i) truth
+field_given scope i w truth p f = record {
   gives =
       ap (meaning_of scope) f.spelt
       ∙ ap (λ r. named var.Field (decl_from 0 scope.fields r) None) (sym f.declared.named)
@@ -38,8 +39,8 @@ field_given scope i w told p f = record {
   kind = f.declared.kind ∙ sym (ap declares_truth f.declared.there);
 }
 
-control_given : (scope : Scope) (i : ℕ) (w : List ℕ) (told : Bool) → IsProper scope → IsDeclared scope.controls i w told → IsMeaning scope w (var.Control i) told
-control_given scope i w told p f =
+control_given : (scope : Scope) (i : ℕ) (w : List ℕ) (truth : Bool) → IsProper scope → IsDeclared scope.controls i w truth → IsMeaning scope w (var.Control i) truth
+control_given scope i w truth p f =
     let c = subst (IsControl scope i) f.named (p.controls i f.decl f.there) in
     record {
       gives =
@@ -49,8 +50,8 @@ control_given scope i w told p f =
       kind = f.kind ∙ sym (ap declares_truth f.there);
     }
 
-local_given : (scope : Scope) (i : ℕ) (w : List ℕ) (told : Bool) → IsProper scope → IsLocal scope.locals i w told → IsMeaning scope w (var.Local i) told
-local_given scope i w told p f =
+local_given : (scope : Scope) (i : ℕ) (w : List ℕ) (truth : Bool) → IsProper scope → IsLocal scope.locals i w truth → IsMeaning scope w (var.Local i) truth
+local_given scope i w truth p f =
     let c = subst (IsOwnLocal scope i) f.named (p.locals i f.local f.there) in
     record {
       gives =
@@ -58,11 +59,11 @@ local_given scope i w told p f =
           ∙ ap (λ n. named var.Prim n (named var.Control (decl_from 0 scope.controls w) (named var.Local (local_from 0 scope.locals w) None))) c.no_primitive
           ∙ ap (λ n. named var.Control n (named var.Local (local_from 0 scope.locals w) None)) c.no_control
           ∙ ap (λ n. named var.Local n None) c.found;
-      kind = f.kind ∙ sym (slice_get-map scope.locals i ∙ ap (λ (o : Option Local). is_told (let told : Option Bool = elim o [ Some l ↦ Some l.truth | None ↦ None ] in told)) f.there);
+      kind = f.kind ∙ sym (slice_get-map scope.locals i ∙ ap (λ (o : Option Local). is_bool_there (let truth : Option Bool = elim o [ Some l ↦ Some l.truth | None ↦ None ] in truth)) f.there);
     }
 
-primitive_given : (scope : Scope) (n : ℕ) (w : List ℕ) (told : Bool) → IsPrimitive n w told → IsMeaning scope w (var.Prim n) told
-primitive_given scope n w told f =
+primitive_given : (scope : Scope) (n : ℕ) (w : List ℕ) (truth : Bool) → IsPrimitive n w truth → IsMeaning scope w (var.Prim n) truth
+primitive_given scope n w truth f =
     let c = subst (λ (o : Option ℕ). IfSome o (λ _. (is_field_use w ≡ false) × (is_primitive_use w ≡ true))) f.spelt (primitive_word w) in
     record {
       gives = outside_fields scope w c.0 ∙ ap (λ n. named var.Prim n (named var.Control (decl_from 0 scope.controls w) (named var.Local (local_from 0 scope.locals w) None))) f.spelt;
@@ -70,28 +71,28 @@ primitive_given scope n w told f =
     }
 
 -- what a word means, its look-up gives
-pub meaning_given : (scope : Scope) (w : List ℕ) (v : Var) (told : Bool) → IsProper scope → Means scope w v told → IsMeaning scope w v told
-meaning_given scope w (var.Field i) told p m = field_given scope i w told p m
-meaning_given scope w (var.Control i) told p m = control_given scope i w told p m
-meaning_given scope w (var.Local i) told p m = local_given scope i w told p m
-meaning_given scope w (var.Prim n) told p m = primitive_given scope n w told m
-meaning_given scope w var.Cwnd told p m = absurd m
-meaning_given scope w var.Rate told p m = absurd m
-meaning_given scope w var.Micros told p m = absurd m
+pub meaning_given : (scope : Scope) (w : List ℕ) (v : Var) (truth : Bool) → IsProper scope → Means scope w v truth → IsMeaning scope w v truth
+meaning_given scope w (var.Field i) truth p m = field_given scope i w truth p m
+meaning_given scope w (var.Control i) truth p m = control_given scope i w truth p m
+meaning_given scope w (var.Local i) truth p m = local_given scope i w truth p m
+meaning_given scope w (var.Prim n) truth p m = primitive_given scope n w truth m
+meaning_given scope w var.Cwnd truth p m = absurd m
+meaning_given scope w var.Rate truth p m = absurd m
+meaning_given scope w var.Micros truth p m = absurd m
 
 -- the walk gives this, and the kind is its own
-pub record IsGiven (scope : Scope) (r : Result Term ScopeFault) (t : Term) (told : Bool) : Type 0 where
+pub record IsGiven (scope : Scope) (r : Result Term ScopeFault) (t : Term) (truth : Bool) : Type 0 where
   pub gives : r ≡ Ok t
-  pub kind : told ≡ term_is_truth (known_in scope) t
+  pub kind : truth ≡ term_is_truth (known_in scope) t
 
-pub record IsGivenVariable (scope : Scope) (r : Result Var ScopeFault) (v : Var) (told : Bool) : Type 0 where
+pub record IsGivenVariable (scope : Scope) (r : Result Var ScopeFault) (v : Var) (truth : Bool) : Type 0 where
   pub gives : r ≡ Ok v
-  pub kind : told ≡ told_of scope v
+  pub kind : truth ≡ truth_of scope v
 
-variable_given : (scope : Scope) (at : Place) (w : List ℕ) (lang : Option Var) (v : Var) (told : Bool) → IsProper scope → IfSome lang (λ v. told_of scope v ≡ false) → NamesVariable scope w lang v told → IsGivenVariable scope (variable_walk scope at w lang) v told
-variable_given scope at w (Some u) v told p k n = record { gives = ap Ok (sym n.0); kind = n.1 ∙ sym (ap (told_of scope) n.0 ∙ k) }
-variable_given scope at w None v told p k n =
-    let m = meaning_given scope w v told p n.1 in
+variable_given : (scope : Scope) (at : Place) (w : List ℕ) (lang : Option Var) (v : Var) (truth : Bool) → IsProper scope → IfSome lang (λ v. truth_of scope v ≡ false) → NamesVariable scope w lang v truth → IsGivenVariable scope (variable_walk scope at w lang) v truth
+variable_given scope at w (Some u) v truth p k n = record { gives = ap Ok (sym n.0); kind = n.1 ∙ sym (ap (truth_of scope) n.0 ∙ k) }
+variable_given scope at w None v truth p k n =
+    let m = meaning_given scope w v truth p n.1 in
     record {
       gives =
           ap (λ b. if b then Err (Misplaced at) else or_refused (meaning_of scope w) (Unknown at)) n.0
@@ -99,10 +100,10 @@ variable_given scope at w None v told p k n =
       kind = m.kind;
     }
 
-word_given : (scope : Scope) (at : Place) (w : List ℕ) (c : Option Term) (t : Term) (told : Bool) → IsProper scope → IfSome c (λ t. term_is_truth (known_in scope) t ≡ constant_truth t) → IsWord scope w c t told → IsGiven scope (word_walk scope at w c) t told
-word_given scope at w (Some c) t told p k h = record { gives = ap Ok (sym h.0); kind = h.1 ∙ sym (ap (term_is_truth (known_in scope)) h.0 ∙ k) }
-word_given scope at w None t told p k h =
-    let g = variable_given scope at w (variable_of w) h.variable told p (variable_kind scope w) h.names in
+word_given : (scope : Scope) (at : Place) (w : List ℕ) (c : Option Term) (t : Term) (truth : Bool) → IsProper scope → IfSome c (λ t. term_is_truth (known_in scope) t ≡ constant_truth t) → IsWord scope w c t truth → IsGiven scope (word_walk scope at w c) t truth
+word_given scope at w (Some c) t truth p k h = record { gives = ap Ok (sym h.0); kind = h.1 ∙ sym (ap (term_is_truth (known_in scope)) h.0 ∙ k) }
+word_given scope at w None t truth p k h =
+    let g = variable_given scope at w (variable_of w) h.variable truth p (variable_kind scope w) h.names in
     record {
       gives = ap name_walk g.gives ∙ ap Ok (sym h.term);
       kind = g.kind ∙ sym (ap (term_is_truth (known_in scope)) h.term);
@@ -118,17 +119,17 @@ pair_given scope at head op l r o left right e f g =
     ∙ ap (λ (x : Result Term ScopeFault). pair_walk at head (Some o) (Ok left) x) g
 
 -- what is scoped, an expression's walk gives
-pub expression_given : (scope : Scope) (node : Node) (t : Term) (told : Bool) → IsProper scope → IsTerm scope node t told → IsGiven scope (expression_walk scope node) t told
-expression_given scope (number at n) t told p h = record {
+pub expression_given : (scope : Scope) (node : Node) (t : Term) (truth : Bool) → IsProper scope → IsTerm scope node t truth → IsGiven scope (expression_walk scope node) t truth
+expression_given scope (number at n) t truth p h = record {
   gives = ap (λ b. if b then Ok (term.number n) else Err (Misplaced at)) (below_test n (2 ^ 64) h.0) ∙ ap Ok (sym h.1);
   kind = h.2 ∙ sym (ap (term_is_truth (known_in scope)) h.1);
 }
-expression_given scope (word at w) t told p h = word_given scope at w (constant_of w) t told p (constant_kind scope w) h
-expression_given scope (list at (more (word head o) (more left (more right none)))) t told p h =
-    let l = expression_given scope left h.left h.left_told p h.is_left in
-    let r = expression_given scope right h.right h.right_told p h.is_right in
+expression_given scope (word at w) t truth p h = word_given scope at w (constant_of w) t truth p (constant_kind scope w) h
+expression_given scope (list at (more (word head o) (more left (more right none)))) t truth p h =
+    let l = expression_given scope left h.left h.left_truth p h.is_left in
+    let r = expression_given scope right h.right h.right_truth p h.is_right in
     record {
       gives = pair_given scope at head (operator_of o) _ _ h.operator h.left h.right h.spelt l.gives r.gives ∙ ap Ok (sym h.term);
       kind = h.kind ∙ sym (ap (term_is_truth (known_in scope)) h.term);
     }
-expression_given scope (list at parts) t told p h = absurd h
+expression_given scope (list at parts) t truth p h = absurd h

@@ -1,3 +1,4 @@
+-- Forms that stand for a program give it by their walk, so they stand for one at most.
 use Rattle.std.proofs.Common.{◌≡◌, ℕ, ◌≤◌, ◌<◌, true, false, not, refl, List, [], ◌∷◌, ◌++◌, length, Result, Ok, IfOk, nat_le, bytes_eq, codes, arith, ap, ◌∙◌, sym, subst, append-nil, append_assoc, length-append}
 use Rattle.std.proofs.lemmas.Bool.Decides.{nat_tests}
 use Rattle.ccp_base.specs.declared.place.Place.{Place}

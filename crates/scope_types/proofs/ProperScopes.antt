@@ -1,3 +1,4 @@
+-- A scope in which each name is found by its look-up stays so with one more local, field or control variable.
 use Rattle.std.proofs.Common.{◌≡◌, ◌⊎◌, inl, inr, ℕ, zero, suc, ◌+◌, Bool, true, false, refl, List, [], ◌∷◌, ◌++◌, length, Option, Some, None, IfSome, IsTrue, not, ◌||◌, slice_get, if◌then◌else◌, bytes_eq, arith, ap, ◌∙◌, sym}
 use Rattle.portus_core.specs.declared.program.Decl.{Decl}
 use Rattle.portus_core.specs.declared.program.Var.TheVariants as var
@@ -50,8 +51,8 @@ fresh_primitive scope w f =
     nowhere (primitive_named w) _ (prim_means w (primitive_named w) refl) (λ n p. f.unknown (var.Prim n) _ p)
 
 -- one more local keeps a scope in order
-pub proper_with_local : (scope : Scope) (w : List ℕ) (told : Bool) → IsProper scope → IsFresh scope w → IsProper (with_local scope w told)
-proper_with_local scope w told p f = record {
+pub proper_with_local : (scope : Scope) (w : List ℕ) (truth : Bool) → IsProper scope → IsFresh scope w → IsProper (with_local scope w truth)
+proper_with_local scope w truth p f = record {
   fields = p.fields;
   controls = λ i d h. let c = p.controls i d h in record { found = c.found; no_field = c.no_field; no_primitive = c.no_primitive };
   locals = λ i l h. elim (slice_get-append scope.locals _ i l h) [

@@ -1,3 +1,4 @@
+-- What holds of the answers of a choice, and of two walks one after the other.
 use Rattle.std.proofs.Common.{◌≡◌, Bool, true, false, ◌&&◌, refl, Result, Ok, Err, IfOk, IfErr, if◌then◌else◌}
 use Rattle.scope_types.specs.Walk.{and_then}
 

@@ -1,3 +1,4 @@
+-- What the walk over commands gives is well scoped, and keeps a scope in order.
 use Rattle.std.proofs.Common.{◌≡◌, ◌⊎◌, inl, inr, ℕ, ◌<◌, ◌≤◌, ◌==◌, Bool, true, false, not, ◌&&◌, ◌||◌, refl, List, [], ◌∷◌, ◌++◌, length, Option, Some, None, IfSome, IfOk, IsTrue, IsFalse, nat_le, bytes_eq, codes, arith, ap, ◌∙◌, sym, subst, append-nil, append_assoc}
 use Rattle.std.proofs.lemmas.Bool.Decides.{nat_tests, Decides-eqb}
 use Rattle.ccp_base.specs.declared.place.Place.{Place}
@@ -15,14 +16,14 @@ use Rattle.scope_types.specs.ExpressionWalk.{expression_walk}
 use Rattle.scope_types.specs.CommandWalk as walk
 use Rattle.scope_types.specs.WellScoped.{Means, NamesVariable, IsTerm, FitsKind, IsPlain, IsChoice, IsWeight, IsEwma, IsValue, IsFresh, IsFirstAssignment, IsAssignment, IsCommand, IsBody}
 use Rattle.scope_types.proofs.Results.{if_ok, then_ok, ok_map}
-use Rattle.scope_types.proofs.ScopedExpressions.{told_of, some_case, spelt, meaning_means, expression_scoped, IsProper}
+use Rattle.scope_types.proofs.ScopedExpressions.{truth_of, some_case, spelt, meaning_means, expression_scoped, IsProper}
 use Rattle.scope_types.proofs.GivenExpressions.{meaning_given}
 use Rattle.scope_types.proofs.ProperScopes.{proper_with_local}
 
 -- what a target's walk finds of a word
 abbrev pub TargetIs : Scope → List ℕ → Option Var → Target → Type 0
 TargetIs scope w lang (Meant at var.Micros) = w ≡ codes "Micros"
-TargetIs scope w lang (Meant at v) = NamesVariable scope w lang v (told_of scope v) × IsTrue (is_writable v)
+TargetIs scope w lang (Meant at v) = NamesVariable scope w lang v (truth_of scope v) × IsTrue (is_writable v)
 TargetIs scope w lang (Fresh at u) = (u ≡ w) × IsFresh scope w
 
 -- a variable of the language, with the spelling of `Micros`
@@ -50,14 +51,14 @@ language_target scope at w (var.Control i) h = absurd h
 language_target scope at w (var.Local i) h = absurd h
 language_target scope at w (var.Prim n) h = absurd h
 
-not_some : (scope : Scope) (w : List ℕ) (v : Var) (told : Bool) → IsProper scope → meaning_of scope w ≡ None → Means scope w v told → ⊥
-not_some scope w v told p e m = let g = meaning_given scope w v told p m in let f : None ≡ Some v = sym e ∙ g.gives in cc
+not_some : (scope : Scope) (w : List ℕ) (v : Var) (truth : Bool) → IsProper scope → meaning_of scope w ≡ None → Means scope w v truth → ⊥
+not_some scope w v truth p e m = let g = meaning_given scope w v truth p m in let f : None ≡ Some v = sym e ∙ g.gives in cc
 
 unclaimed : (a b : Bool) → (a || b) ≡ false → (a ≡ false) × (b ≡ false)
 unclaimed false b h = (refl, h)
 unclaimed true b h = absurd (cc)
 
-meaning_target : (scope : Scope) (at : Place) (w : List ℕ) (o : Option Var) → IsProper scope → IsFalse (is_reserved w) → meaning_of scope w ≡ o → IfSome o (λ v. Means scope w v (told_of scope v)) → IfOk (walk.named_target_walk at w o) (TargetIs scope w None)
+meaning_target : (scope : Scope) (at : Place) (w : List ℕ) (o : Option Var) → IsProper scope → IsFalse (is_reserved w) → meaning_of scope w ≡ o → IfSome o (λ v. Means scope w v (truth_of scope v)) → IfOk (walk.named_target_walk at w o) (TargetIs scope w None)
 meaning_target scope at w (Some (var.Prim n)) p k e m = tt
 meaning_target scope at w (Some (var.Field i)) p k e m = ((k, m), refl)
 meaning_target scope at w (Some (var.Control i)) p k e m = ((k, m), refl)
@@ -68,7 +69,7 @@ meaning_target scope at w (Some var.Micros) p k e m = absurd m
 meaning_target scope at w None p k e m =
     if_ok (is_field_use w || is_primitive_use w) _ _ _ (λ _. tt) (λ h.
     let u = unclaimed (is_field_use w) (is_primitive_use w) h in
-    (refl, record { unreserved = k; no_field = u.0; no_primitive = u.1; unknown = λ v told means. not_some scope w v told p e means }))
+    (refl, record { unreserved = k; no_field = u.0; no_primitive = u.1; unknown = λ v truth means. not_some scope w v truth p e means }))
 
 word_target : (scope : Scope) (at : Place) (w : List ℕ) (lang : Option Var) → IsProper scope → IfSome lang (IsLanguage w) → IfOk (walk.word_target_walk scope at w lang) (TargetIs scope w lang)
 word_target scope at w (Some v) p h = language_target scope at w v h
@@ -80,10 +81,10 @@ pub record IsKind (scope : Scope) (wanted : Bool) (term found : Term) : Type 0 w
   pub same : found ≡ term
   pub fits : FitsKind wanted (term_is_truth (known_in scope) term)
 
-fits_kind : (wanted told : Bool) → (wanted && not told) ≡ false → FitsKind wanted told
+fits_kind : (wanted truth : Bool) → (wanted && not truth) ≡ false → FitsKind wanted truth
 fits_kind true true h w = refl
 fits_kind true false h w = sym h
-fits_kind false told h w = absurd (cc)
+fits_kind false truth h w = absurd (cc)
 
 pub kind_scoped : (scope : Scope) (wanted : Bool) (at : Place) (term : Term) → IfOk (walk.kind_walk scope wanted at term) (IsKind scope wanted term)
 kind_scoped scope wanted at term =
@@ -91,32 +92,32 @@ kind_scoped scope wanted at term =
 
 -- an assignment that leaves the names as they are
 abbrev IsAssigned : Scope → Var → Node → walk.Step → Type 0
-IsAssigned scope v value step = IsValue scope v (told_of scope v) value step.0 × (step.1 ≡ scope)
+IsAssigned scope v value step = IsValue scope v (truth_of scope v) value step.0 × (step.1 ≡ scope)
 
-plain_scoped : (scope : Scope) (at : Place) (v : Var) (value : Node) → IfOk (walk.plain_walk scope (Meant at v) value) (λ step. IsPlain scope v (told_of scope v) value step.0 × (step.1 ≡ scope))
+plain_scoped : (scope : Scope) (at : Place) (v : Var) (value : Node) → IfOk (walk.plain_walk scope (Meant at v) value) (λ step. IsPlain scope v (truth_of scope v) value step.0 × (step.1 ≡ scope))
 plain_scoped scope at v value =
     then_ok (expression_walk scope value) _ _ _ (expression_scoped scope value) (λ t h.
-    then_ok (walk.kind_walk scope (told_of scope v) _ t) _ _ _ (kind_scoped scope (told_of scope v) _ t) (λ e k.
-    (record { term = t; told = _; is_value = h; fits = k.fits; command = ap (set v) k.same }, refl)))
+    then_ok (walk.kind_walk scope (truth_of scope v) _ t) _ _ _ (kind_scoped scope (truth_of scope v) _ t) (λ e k.
+    (record { term = t; truth = _; is_value = h; fits = k.fits; command = ap (set v) k.same }, refl)))
 
 plain_assigned : (scope : Scope) (at : Place) (v : Var) (value : Node) → IfOk (walk.plain_walk scope (Meant at v) value) (IsAssigned scope v value)
 plain_assigned scope at v value = ok_map (walk.plain_walk scope (Meant at v) value) _ _ (plain_scoped scope at v value) (λ step h. (inl h.0, h.1))
 
-pub told_true : (scope : Scope) (node : Node) (t found : Term) → IsTerm scope node t (term_is_truth (known_in scope) t) → IsKind scope true t found → IsTerm scope node found true
-told_true scope node t found h k =
+pub kind_true : (scope : Scope) (node : Node) (t found : Term) → IsTerm scope node t (term_is_truth (known_in scope) t) → IsKind scope true t found → IsTerm scope node found true
+kind_true scope node t found h k =
     subst (λ (e : Term). IsTerm scope node e true) (sym k.same) (subst (λ b. IsTerm scope node t b) (k.fits refl) h)
 
-choice_scoped : (scope : Scope) (at : Place) (v : Var) (when_so : Bool) (value_at head : Place) (condition value : Node) → IfOk (walk.choice_walk scope (Meant at v) when_so value_at head (more condition (more value none))) (λ step. IsChoice scope (told_of scope v) (λ c e. walk.choice_action when_so head v c e) condition value step.0 × (step.1 ≡ scope))
+choice_scoped : (scope : Scope) (at : Place) (v : Var) (when_so : Bool) (value_at head : Place) (condition value : Node) → IfOk (walk.choice_walk scope (Meant at v) when_so value_at head (more condition (more value none))) (λ step. IsChoice scope (truth_of scope v) (λ c e. walk.choice_action when_so head v c e) condition value step.0 × (step.1 ≡ scope))
 choice_scoped scope at v when_so value_at head condition value =
     then_ok (expression_walk scope condition) _ _ _ (expression_scoped scope condition) (λ c p.
     then_ok (expression_walk scope value) _ _ _ (expression_scoped scope value) (λ e q.
     then_ok (walk.kind_walk scope true _ c) _ _ _ (kind_scoped scope true _ c) (λ c' k.
-    then_ok (walk.kind_walk scope (told_of scope v) _ e) _ _ _ (kind_scoped scope (told_of scope v) _ e) (λ e' l. (
+    then_ok (walk.kind_walk scope (truth_of scope v) _ e) _ _ _ (kind_scoped scope (truth_of scope v) _ e) (λ e' l. (
       record {
         condition_term = c';
-        is_condition = told_true scope condition c c' p k;
+        is_condition = kind_true scope condition c c' p k;
         term = e;
-        told = _;
+        truth = _;
         is_value = q;
         fits = l.fits;
         command = ap (walk.choice_action when_so head v c') l.same;
@@ -132,15 +133,15 @@ weight_scoped (number at n) = if_ok (nat_le n 10) _ _ _ (λ h. (refl, within_fac
 weight_scoped (word at w) = tt
 weight_scoped (list at parts) = tt
 
-number_scoped : (scope : Scope) (at : Place) (v : Var) → IfOk (walk.number_walk scope (Meant at v)) (λ u. (u ≡ v) × IsFalse (told_of scope v))
-number_scoped scope at v = if_ok (told_of scope v) _ _ _ (λ _. tt) (λ h. (refl, h))
+number_scoped : (scope : Scope) (at : Place) (v : Var) → IfOk (walk.number_walk scope (Meant at v)) (λ u. (u ≡ v) × IsFalse (truth_of scope v))
+number_scoped scope at v = if_ok (truth_of scope v) _ _ _ (λ _. tt) (λ h. (refl, h))
 
-ewma_scoped : (scope : Scope) (at : Place) (v : Var) (value_at head : Place) (weight value : Node) → IfOk (walk.ewma_walk scope (Meant at v) value_at head (more weight (more value none))) (λ step. IsEwma scope v (told_of scope v) head weight value step.0 × (step.1 ≡ scope))
+ewma_scoped : (scope : Scope) (at : Place) (v : Var) (value_at head : Place) (weight value : Node) → IfOk (walk.ewma_walk scope (Meant at v) value_at head (more weight (more value none))) (λ step. IsEwma scope v (truth_of scope v) head weight value step.0 × (step.1 ≡ scope))
 ewma_scoped scope at v value_at head weight value =
     then_ok (walk.number_walk scope (Meant at v)) _ _ _ (number_scoped scope at v) (λ u n.
     then_ok (walk.weight_walk weight) _ _ _ (weight_scoped weight) (λ w k.
     then_ok (expression_walk scope value) _ _ _ (expression_scoped scope value) (λ e q.
-    (record { number = n.1; tenths = w; is_weight = k; term = e; told = _; is_value = q; command = ap (λ x. ewma head x w e) n.0 }, refl))))
+    (record { number = n.1; tenths = w; is_weight = k; term = e; truth = _; is_value = q; command = ap (λ x. ewma head x w e) n.0 }, refl))))
 
 -- `if`, `!if` and `ewma`, by the number of their parts
 special_scoped : (scope : Scope) (at : Place) (v : Var) (value_at head : Place) (w : List ℕ) (parts : Nodes) → IfOk (walk.value_walk scope (Meant at v) (list value_at (more (word head w) parts))) (IsAssigned scope v (list value_at (more (word head w) parts)))
@@ -176,7 +177,7 @@ first_scoped : (scope : Scope) (at : Place) (w : List ℕ) (value : Node) → Is
 first_scoped scope at w value f =
     then_ok (expression_walk scope value) _ _ _ (expression_scoped scope value) (λ t h.
     if_ok (nat_le 8 (length scope.locals)) _ _ _ (λ _. tt) (λ k.
-    record { fresh = f; term = t; told = _; is_value = h; few = room_fact _ k; command = refl; names = refl }))
+    record { fresh = f; term = t; truth = _; is_value = h; few = room_fact _ k; command = refl; names = refl }))
 
 refused_choice : (scope : Scope) (at : Place) (w : List ℕ) (value : Node) (when_so : Bool) (value_at head : Place) (parts : Nodes) → IfOk (walk.choice_walk scope (Fresh at w) when_so value_at head parts) (λ step. IsFirstAssignment scope w value step.0 step.1)
 refused_choice scope at w value when_so value_at head (more condition (more rest none)) = tt
@@ -208,10 +209,10 @@ micros_scoped scope w (number at n) e =
 micros_scoped scope w (word at u) e = tt
 micros_scoped scope w (list at parts) e = tt
 
-known_assignment : (scope : Scope) (w : List ℕ) (at : Place) (v : Var) (value : Node) → NamesVariable scope w (variable_of w) v (told_of scope v) → IsTrue (is_writable v) → IfOk (walk.value_walk scope (Meant at v) value) (AssignmentIs scope w value)
+known_assignment : (scope : Scope) (w : List ℕ) (at : Place) (v : Var) (value : Node) → NamesVariable scope w (variable_of w) v (truth_of scope v) → IsTrue (is_writable v) → IfOk (walk.value_walk scope (Meant at v) value) (AssignmentIs scope w value)
 known_assignment scope w at v value n h =
     ok_map (walk.value_walk scope (Meant at v) value) _ _ (value_scoped scope at v value)
-    (λ step a. inr (inl (record { variable = v; told = _; named = n; writable = h; assigned = a.0; names = a.1 })))
+    (λ step a. inr (inl (record { variable = v; truth = _; named = n; writable = h; assigned = a.0; names = a.1 })))
 
 assigned_scoped : (scope : Scope) (w : List ℕ) (target : Target) (value : Node) → TargetIs scope w (variable_of w) target → IfOk (walk.assigned_walk scope target value) (AssignmentIs scope w value)
 assigned_scoped scope w (Meant at var.Micros) value h = micros_scoped scope w value h
@@ -264,7 +265,7 @@ command_proper scope (list at (more (word head w) (more (word target_at target) 
       | inl z ↦ subst IsProper (sym z.names) p
       | inr o ↦ elim o [
         | inl k ↦ subst IsProper (sym k.names) p
-        | inr f ↦ subst IsProper (sym f.names) (proper_with_local scope target f.told p f.fresh)
+        | inr f ↦ subst IsProper (sym f.names) (proper_with_local scope target f.truth p f.fresh)
       ]
     ]
 command_proper scope node action after p c = absurd c

@@ -1,3 +1,4 @@
+-- What the walk over the parts of `def` gives is well scoped.
 use Rattle.std.proofs.Common.{◌≡◌, ◌⊎◌, inl, inr, ℕ, Bool, true, false, not, refl, List, [], ◌∷◌, ◌++◌, length, Option, Some, None, IfSome, is_some, IfOk, IsTrue, nat_le, bytes_eq, codes, ap, ◌∙◌, sym, subst, append-nil, append_assoc}
 use Rattle.ccp_base.specs.declared.place.Place.{Place}
 use Rattle.portus_core.specs.declared.program.Decl.{Decl}

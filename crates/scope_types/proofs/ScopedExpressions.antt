@@ -1,3 +1,4 @@
+-- What the look-up of a word and the walk over an expression give is well scoped.
 use Rattle.std.proofs.Common.{◌≡◌, ℕ, zero, suc, ◌+◌, ◌<◌, ◌^◌, ◌==◌, Bool, true, false, not, ◌&&◌, refl, length, get_or, List, [], ◌∷◌, ◌++◌, map, drop, Option, Some, None, IfSome, Result, Ok, Err, IfOk, nat_lt, slice_get, if◌then◌else◌, bytes_eq, codes, arith, ap, ◌∙◌, sym, subst}
 use Rattle.std.specs.List.{list_all}
 use Rattle.std.proofs.lemmas.List.Quantifiers.{position-Some}
@@ -10,13 +11,14 @@ use Rattle.portus_core.specs.declared.program.Var.{Var}
 use Rattle.portus_core.specs.declared.program.Var.TheVariants as var
 use Rattle.portus_core.specs.Programs.{Term}
 use Rattle.portus_core.specs.Trees.{Node, none, more, number, word, list}
-use Rattle.portus_core.specs.ValidPrograms.{is_truth, term_is_truth, declares_truth, is_told}
+use Rattle.portus_core.specs.ValidPrograms.{is_truth, term_is_truth, declares_truth, is_bool_there}
 use Rattle.scope_types.specs.declared.names.Local.{Local}
 use Rattle.scope_types.specs.declared.fault.ScopeFault.{ScopeFault}
 use Rattle.scope_types.specs.declared.fault.ScopeFault.TheVariants.{Unknown}
 use Rattle.portus_core.specs.Words.{variable_of, is_reserved, is_field_use, is_primitive_use}
 use Rattle.ccp_base.specs.Operations.{operator_of}
 use Rattle.ccp_base.specs.Acknowledgement.{is_flag}
+use Rattle.ccp_base.specs.Limits.{primitive_count}
 use Rattle.ccp_base.specs.PrimitiveNames.{PrimitiveName, primitive_names, word_of, primitive_named}
 use Rattle.scope_types.specs.ValueWords.{constant_of, constant_truth}
 use Rattle.scope_types.specs.Scope.{Scope, known_in}
@@ -86,8 +88,8 @@ local_found i (l ∷ ls) w =
     (λ n f. record { k = suc f.k; at = let e = f.at in omega arith; local = f.local; there = f.there; named = f.named }))
 
 -- whether the variable is a Bool
-abbrev pub told_of : Scope → Var → Bool
-told_of scope v = is_truth (known_in scope) v
+abbrev pub truth_of : Scope → Var → Bool
+truth_of scope v = is_truth (known_in scope) v
 
 pub declared_of : (ds : List Decl) (w : List ℕ) (n : ℕ) → IsFound 0 ds w n → IsDeclared ds n w (declares_truth (slice_get ds n))
 declared_of ds w n f =
@@ -95,16 +97,16 @@ declared_of ds w n f =
     let there : slice_get ds n ≡ Some f.decl = ap (slice_get ds) e ∙ f.there in
     record { decl = f.decl; there = there; named = f.named; kind = ap declares_truth there }
 
-pub slice_get-map : (ls : List Local) (n : ℕ) → is_told (slice_get (map (λ (l : Local). l.truth) ls) n) ≡ is_told (let told : Option Bool = elim (slice_get ls n) [ Some l ↦ Some l.truth | None ↦ None ] in told)
+pub slice_get-map : (ls : List Local) (n : ℕ) → is_bool_there (slice_get (map (λ (l : Local). l.truth) ls) n) ≡ is_bool_there (let truth : Option Bool = elim (slice_get ls n) [ Some l ↦ Some l.truth | None ↦ None ] in truth)
 slice_get-map [] n = refl
 slice_get-map (l ∷ ls) zero = refl
 slice_get-map (l ∷ ls) (suc n) = slice_get-map ls n
 
-pub local_of : (ls : List Local) (w : List ℕ) (n : ℕ) → IsFoundLocal 0 ls w n → IsLocal ls n w (is_told (slice_get (map (λ (l : Local). l.truth) ls) n))
+pub local_of : (ls : List Local) (w : List ℕ) (n : ℕ) → IsFoundLocal 0 ls w n → IsLocal ls n w (is_bool_there (slice_get (map (λ (l : Local). l.truth) ls) n))
 local_of ls w n f =
     let e : n ≡ f.k = let at = f.at in omega arith in
     let there : slice_get ls n ≡ Some f.local = ap (slice_get ls) e ∙ f.there in
-    record { local = f.local; there = there; named = f.named; kind = slice_get-map ls n ∙ ap (λ (o : Option Local). is_told (let told : Option Bool = elim o [ Some l ↦ Some l.truth | None ↦ None ] in told)) there }
+    record { local = f.local; there = there; named = f.named; kind = slice_get-map ls n ∙ ap (λ (o : Option Local). is_bool_there (let truth : Option Bool = elim o [ Some l ↦ Some l.truth | None ↦ None ] in truth)) there }
 
 named_means : (P : Var → Type 0) (kind : ℕ → Var) (n : Option ℕ) (rest : Option Var) → IfSome n (λ i. P (kind i)) → IfSome rest P → IfSome (named kind n rest) P
 named_means P kind (Some i) rest p q = p
@@ -120,9 +122,9 @@ field_means ds w e =
     (λ i f. record { rest = drop 7 w; spelt = e; declared = declared_of ds (drop 7 w) i f })
 
 -- what a word's look-up gives, the word means
-pub meaning_means : (scope : Scope) (w : List ℕ) → IfSome (meaning_of scope w) (λ v. Means scope w v (told_of scope v))
+pub meaning_means : (scope : Scope) (w : List ℕ) → IfSome (meaning_of scope w) (λ v. Means scope w v (truth_of scope v))
 meaning_means scope w =
-    let P : Var → Type 0 = λ v. Means scope w v (told_of scope v) in
+    let P : Var → Type 0 = λ v. Means scope w v (truth_of scope v) in
     some_case (is_field_use w) _ _ P
     (λ h. named_means P var.Field (decl_from 0 scope.fields (drop 7 w)) None (field_means scope.fields w ((starts_is Decides-eqb w (codes "Report.") (is_field_use w) refl).0 h)) tt)
     (λ _. named_means P var.Prim (primitive_named w) _ (prim_means w (primitive_named w) refl)
@@ -131,23 +133,23 @@ meaning_means scope w =
     (named_means P var.Local (local_from 0 scope.locals w) None
     (some_mono (local_from 0 scope.locals w) _ _ (local_found 0 scope.locals w) (λ i f. local_of scope.locals w i f)) tt)))
 
-pub variable_kind : (scope : Scope) (w : List ℕ) → IfSome (variable_of w) (λ v. told_of scope v ≡ false)
+pub variable_kind : (scope : Scope) (w : List ℕ) → IfSome (variable_of w) (λ v. truth_of scope v ≡ false)
 variable_kind scope w = grind (arith, nat_tests)
 
 pub constant_kind : (scope : Scope) (w : List ℕ) → IfSome (constant_of w) (λ t. term_is_truth (known_in scope) t ≡ constant_truth t)
 constant_kind scope w = grind (arith, nat_tests)
 
-refused_means : (scope : Scope) (w : List ℕ) (v : Option Var) (fault : ScopeFault) → IfSome v (λ v. Means scope w v (told_of scope v)) → IfOk (or_refused v fault) (λ v. Means scope w v (told_of scope v))
+refused_means : (scope : Scope) (w : List ℕ) (v : Option Var) (fault : ScopeFault) → IfSome v (λ v. Means scope w v (truth_of scope v)) → IfOk (or_refused v fault) (λ v. Means scope w v (truth_of scope v))
 refused_means scope w (Some v) fault h = h
 refused_means scope w None fault h = tt
 
-variable_names : (scope : Scope) (at : Place) (w : List ℕ) (lang : Option Var) → IfSome lang (λ v. told_of scope v ≡ false) → IfOk (variable_walk scope at w lang) (λ v. NamesVariable scope w lang v (told_of scope v))
+variable_names : (scope : Scope) (at : Place) (w : List ℕ) (lang : Option Var) → IfSome lang (λ v. truth_of scope v ≡ false) → IfOk (variable_walk scope at w lang) (λ v. NamesVariable scope w lang v (truth_of scope v))
 variable_names scope at w (Some v) h = (refl, h)
 variable_names scope at w None h =
     if_ok (is_reserved w) _ _ _ (λ _. tt)
     (λ k. ok_map (or_refused (meaning_of scope w) (Unknown at)) _ _ (refused_means scope w (meaning_of scope w) (Unknown at) (meaning_means scope w)) (λ v m. (k, m)))
 
-name_scoped : (scope : Scope) (w : List ℕ) (v : Result Var ScopeFault) → IfOk v (λ v. NamesVariable scope w (variable_of w) v (told_of scope v)) → IfOk (name_walk v) (λ t. IsName scope w t (term_is_truth (known_in scope) t))
+name_scoped : (scope : Scope) (w : List ℕ) (v : Result Var ScopeFault) → IfOk v (λ v. NamesVariable scope w (variable_of w) v (truth_of scope v)) → IfOk (name_walk v) (λ t. IsName scope w t (term_is_truth (known_in scope) t))
 name_scoped scope w (Ok v) h = record { variable = v; names = h; term = refl }
 name_scoped scope w (Err e) h = tt
 
@@ -163,10 +165,10 @@ pair_scoped scope at head (Some op) Left Right (Ok l) (Ok r) p q = record {
   operator = op;
   spelt = refl;
   left = l;
-  left_told = _;
+  left_truth = _;
   is_left = p;
   right = r;
-  right_told = _;
+  right_truth = _;
   is_right = q;
   term = refl;
   kind = refl;
@@ -235,7 +237,7 @@ primitive_word w =
     subst IsAckWord (sym (spelt w (word_of known) there.1)) (ack_word known (passes is_ack_word primitive_names i none all_ack_words there.0)))
 
 -- the number of a primitive is one of them
-pub primitive_count_of : (w : List ℕ) → IfSome (primitive_named w) (λ n. n < 15)
+pub primitive_count_of : (w : List ℕ) → IfSome (primitive_named w) (λ n. n < primitive_count)
 primitive_count_of w =
-    if_found (primitive_named w) (λ n. n < 15) (λ i e.
+    if_found (primitive_named w) (λ n. n < primitive_count) (λ i e.
     (position-Some (λ known. bytes_eq w (word_of known)) primitive_names i ([], []) e).0)

@@ -1,3 +1,4 @@
+-- Forms stand for what the walk over them gives.
 use Rattle.std.proofs.Common.{◌≡◌, ℕ, ◌≤◌, Bool, true, false, not, refl, List, [], ◌∷◌, ◌++◌, length, Some, Result, Ok, Err, IfOk, nat_le, slice_get, bytes_eq, codes, ap, ◌∙◌, sym, subst, append-nil, append_assoc, lit≤}
 use Rattle.portus_core.specs.declared.program.Decl.{Decl}
 use Rattle.portus_core.specs.Programs.{Term, Action, Part}
@@ -12,7 +13,7 @@ use Rattle.scope_types.specs.ProgramWalk.{nothing_declared, without_locals, part
 use Rattle.scope_types.specs.WellScoped.{IsTerm, IsBody, AreParts, AreDistinct, IsBlock, IsWhen, AreBlocks, IsProgram, IsScoped}
 use Rattle.scope_types.proofs.Results.{if_ok, then_ok, ok_map}
 use Rattle.scope_types.proofs.ScopedExpressions.{spelt, expression_scoped, IsProper}
-use Rattle.scope_types.proofs.ScopedCommands.{kind_scoped, told_true, IsRestScoped, body_scoped}
+use Rattle.scope_types.proofs.ScopedCommands.{kind_scoped, kind_true, IsRestScoped, body_scoped}
 use Rattle.scope_types.proofs.ScopedDeclarations.{AddsParts, parts_scoped}
 use Rattle.scope_types.proofs.ValidSource as valid
 
@@ -56,7 +57,7 @@ def_scoped node = tt
 condition_scoped : (names : Scope) (node : Node) → IfOk (condition_walk names node) (λ t. IsTerm names node t true)
 condition_scoped names node =
     then_ok (expression_walk names node) _ _ _ (expression_scoped names node) (λ t h.
-    ok_map (kind_walk names true _ t) _ _ (kind_scoped names true _ t) (λ e k. told_true names node t e h k))
+    ok_map (kind_walk names true _ t) _ _ (kind_scoped names true _ t) (λ e k. kind_true names node t e h k))
 
 block_of : (names : Scope) (condition : Node) (commands : Nodes) (c : Term) (body : List Action × Scope) → IsTerm names condition c true → IsRestScoped names [] commands body → IsBlock names condition commands (part_of c body)
 block_of names condition commands c body h r = record {

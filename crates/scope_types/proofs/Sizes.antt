@@ -1,3 +1,4 @@
+-- The parts of an operation are smaller trees than it.
 use Rattle.std.proofs.Common.{◌≡◌, ℕ, ◌+◌, ◌<◌, List, ap, ◌∙◌, sym, arith}
 use Rattle.ccp_base.specs.declared.place.Place.{Place}
 use Rattle.std.specs.declared.vec.Vec.{Vec}

@@ -1,3 +1,4 @@
+-- Commands that their walk gives are valid where they stand.
 use Rattle.std.proofs.Common.{◌≡◌, ℕ, ◌==◌, Bool, true, false, not, ◌&&◌, ◌||◌, refl, List, [], ◌∷◌, ◌++◌, length, Option, Some, None, IfSome, IfOk, IsTrue, nat_lt, nat_le, bytes_eq, codes, arith, ap, ◌∙◌, sym, append-nil, append_assoc, eq-eqb}
 use Rattle.std.proofs.lemmas.List.{length-map, map-append}
 use Rattle.std.proofs.lemmas.Bool.Decides.{nat_tests}
@@ -56,10 +57,10 @@ target_goal names (word at w) = word_goal names at w (variable_of w) (variable_g
 target_goal names (number at n) = tt
 target_goal names (list at parts) = tt
 
-fits_from : (wanted told : Bool) → (wanted && not told) ≡ false → (not wanted || told) ≡ true
+fits_from : (wanted truth : Bool) → (wanted && not truth) ≡ false → (not wanted || truth) ≡ true
 fits_from true true h = refl
 fits_from true false h = sym h
-fits_from false told h = refl
+fits_from false truth h = refl
 
 pub kind_fits : (names : Scope) (wanted : Bool) (at : Place) (term : Term) → IsTrue (is_term (known_in names) term) → IfOk (walk.kind_walk names wanted at term) (λ t. IsTrue (is_term (known_in names) t && (not wanted || term_is_truth (known_in names) t)))
 kind_fits names wanted at term h =
@@ -197,13 +198,13 @@ command_valid names (list at (more (word head w) (more target (more value none))
     if_ok (bytes_eq w (codes ":=") || bytes_eq w (codes "bind")) _ _ _ (λ _. assignment_valid names target value) (λ _. tt)
 command_valid names node = tt
 
-with_local_fields : (known : Known) (more_ told : Bool) → (with_local known more_ told).fields ≡ known.fields
-with_local_fields known true told = refl
-with_local_fields known false told = refl
+with_local_fields : (known : Known) (more_ truth : Bool) → (with_local known more_ truth).fields ≡ known.fields
+with_local_fields known true truth = refl
+with_local_fields known false truth = refl
 
-with_local_controls : (known : Known) (more_ told : Bool) → (with_local known more_ told).controls ≡ known.controls
-with_local_controls known true told = refl
-with_local_controls known false told = refl
+with_local_controls : (known : Known) (more_ truth : Bool) → (with_local known more_ truth).controls ≡ known.controls
+with_local_controls known true truth = refl
+with_local_controls known false truth = refl
 
 after_fields : (known : Known) (action : Action) → (known_after known action).fields ≡ known.fields
 after_fields known (set v term) = with_local_fields known (is_next_local known v) (term_is_truth known term)

@@ -1,3 +1,4 @@
+-- Expressions that their walk gives have a meaning in each name.
 use Rattle.std.proofs.Common.{ℕ, ◌+◌, ◌<◌, ◌^◌, Bool, true, false, List, [], ◌∷◌, length, drop, Option, Some, None, IfSome, Result, Ok, Err, IfOk, IsTrue, nat_lt, if◌then◌else◌, bytes_eq, arith}
 use Rattle.std.proofs.lemmas.List.{length-map}
 use Rattle.std.proofs.lemmas.Bool.Decides.{nat_tests}
@@ -14,6 +15,7 @@ use Rattle.scope_types.specs.declared.fault.ScopeFault.{ScopeFault}
 use Rattle.scope_types.specs.declared.fault.ScopeFault.TheVariants.{Unknown}
 use Rattle.portus_core.specs.Words.{variable_of, is_reserved, is_field_use}
 use Rattle.ccp_base.specs.Operations.{operator_of}
+use Rattle.ccp_base.specs.Limits.{primitive_count}
 use Rattle.ccp_base.specs.PrimitiveNames.{primitive_named}
 use Rattle.scope_types.specs.ValueWords.{constant_of}
 use Rattle.scope_types.specs.Names.{decl_from, local_from, named, meaning_of}
@@ -52,8 +54,8 @@ named_known P kind None rest p q = q
 below_test : (a b : ℕ) → a < b → IsTrue (nat_lt a b)
 below_test a b h = grind (arith, nat_tests)
 
-primitive_below : (w : List ℕ) → IfSome (primitive_named w) (λ n. IsTrue (nat_lt n 15))
-primitive_below w = some_mono (primitive_named w) _ _ (primitive_count_of w) (λ n h. below_test n 15 h)
+primitive_below : (w : List ℕ) → IfSome (primitive_named w) (λ n. IsTrue (nat_lt n primitive_count))
+primitive_below w = some_mono (primitive_named w) _ _ (primitive_count_of w) (λ n h. below_test n primitive_count h)
 
 local_known : (names : Scope) (w : List ℕ) → IfSome (local_from 0 names.locals w) (λ n. IsTrue (is_known (known_in names) (var.Local n)))
 local_known names w =

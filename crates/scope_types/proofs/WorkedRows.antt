@@ -1,3 +1,4 @@
+-- Small texts with the program or the refusal that their walk gives, worked out by hand.
 use Rattle.std.proofs.Common.{◌≡◌, ℕ, refl, [], ◌∷◌, Ok, Err, true, codes}
 use Rattle.ccp_base.specs.declared.place.Place.{Place}
 use Rattle.portus_core.specs.declared.program.Var.TheVariants as var

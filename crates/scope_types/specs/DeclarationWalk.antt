@@ -1,5 +1,5 @@
 -- The walk over the parts of `def`, in the order of its checks.
-use Rattle.std.specs.Prelude.{ℕ, ◌-◌, ◌^◌, Bool, true, false, not, nat_le, List, [], ◌∷◌, ◌++◌, length, Option, Some, None, is_some, Result, Ok, Err, codes, if◌then◌else◌, bytes_eq}
+use Rattle.std.specs.Prelude.{◌≡◌, ℕ, ◌-◌, ◌^◌, Bool, true, false, not, nat_le, List, [], ◌∷◌, ◌++◌, length, Option, Some, None, is_some, Result, Ok, Err, codes, if◌then◌else◌, bytes_eq}
 use Rattle.ccp_base.specs.Limits.{most_fields, most_controls}
 use Rattle.ccp_base.specs.declared.place.Place.{Place}
 use Rattle.portus_core.specs.declared.program.Decl.{Decl}
@@ -22,6 +22,10 @@ pub record Declaring : Type 0 where
 
 abbrev pub declaring_of : Declared → Declaring
 declaring_of declared = record { names = scope_of declared.names; grouped = declared.grouped }
+
+-- the walk gives what is declared in the code
+abbrev pub GivesDeclared : Result Declaring ScopeFault → Declared → Type 0
+GivesDeclared outcome declared = outcome ≡ Ok (declaring_of declared)
 
 -- a declared value, with whether it is a Bool
 abbrev pub start_word : List ℕ → Option Start

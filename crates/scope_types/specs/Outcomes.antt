@@ -1,11 +1,17 @@
 -- What forms stand for, or are refused by.
-use Rattle.std.specs.Prelude.{◌≡◌, ◌⊎◌, Err}
+use Rattle.std.specs.Prelude.{◌≡◌, ◌⊎◌, Result, Err, MatchResult}
 use Rattle.portus_core.specs.Trees.{Nodes}
 use Rattle.portus_core.specs.Programs.{Form}
+use Rattle.portus_core.specs.ProgramForm.{form_of}
+use Rattle.portus_core.specs.declared.program.Program.{Program}
 use Rattle.scope_types.specs.declared.fault.ScopeFault.{ScopeFault}
 use Rattle.scope_types.specs.declared.fault.ScopeFault.TheVariants.{NoMemory}
 use Rattle.scope_types.specs.ProgramWalk.{source_walk}
 use Rattle.scope_types.specs.WellScoped.{IsScoped}
+
+-- the answer is the program of this form, or there was no memory for it
+abbrev pub ScopesAs : Result Program ScopeFault → Form → Type 0
+ScopesAs result form = MatchResult result (λ program. form_of program ≡ form) (λ fault. fault ≡ NoMemory)
 
 -- the first refusal of forms, in the order of their text
 abbrev pub IsRefused : Nodes → ScopeFault → Type 0

@@ -20,4 +20,4 @@ known_in names = record { fields = names.fields; controls = names.controls; loca
 
 -- the names with one more local
 abbrev pub with_local : Scope → List ℕ → Bool → Scope
-with_local scope w told = record scope { locals = scope.locals ++ record { name = w; truth = told } ∷ [] }
+with_local scope w truth = record scope { locals = scope.locals ++ record { name = w; truth = truth } ∷ [] }

@@ -20,85 +20,85 @@ use Rattle.ccp_base.specs.PrimitiveNames.{primitive_named}
 use Rattle.scope_types.specs.ValueWords.{constant_of, constant_truth}
 
 -- the declaration of this number has this name
-pub record IsDeclared (decls : List Decl) (i : ℕ) (w : List ℕ) (told : Bool) : Type 0 where
+pub record IsDeclared (decls : List Decl) (i : ℕ) (w : List ℕ) (truth : Bool) : Type 0 where
   pub decl : Decl
   pub there : slice_get decls i ≡ Some decl
   pub named : decl.name ≡ w
-  pub kind : told ≡ decl.truth
+  pub kind : truth ≡ decl.truth
 
 -- a field is used with `Report.` before its name
-pub record IsField (decls : List Decl) (i : ℕ) (w : List ℕ) (told : Bool) : Type 0 where
+pub record IsField (decls : List Decl) (i : ℕ) (w : List ℕ) (truth : Bool) : Type 0 where
   pub rest : List ℕ
   pub spelt : w ≡ codes "Report." ++ rest
-  pub declared : IsDeclared decls i rest told
+  pub declared : IsDeclared decls i rest truth
 
 -- the local of this number has this name
-pub record IsLocal (locals : List Local) (i : ℕ) (w : List ℕ) (told : Bool) : Type 0 where
+pub record IsLocal (locals : List Local) (i : ℕ) (w : List ℕ) (truth : Bool) : Type 0 where
   pub local : Local
   pub there : slice_get locals i ≡ Some local
   pub named : local.name ≡ w
-  pub kind : told ≡ local.truth
+  pub kind : truth ≡ local.truth
 
-pub record IsPrimitive (n : ℕ) (w : List ℕ) (told : Bool) : Type 0 where
+pub record IsPrimitive (n : ℕ) (w : List ℕ) (truth : Bool) : Type 0 where
   pub spelt : primitive_named w ≡ Some n
-  pub kind : told ≡ is_flag n
+  pub kind : truth ≡ is_flag n
 
 -- a word that a declaration, an assignment or the acknowledgement gives a meaning, and whether it is a Bool
 abbrev pub Means : Scope → List ℕ → Var → Bool → Type 0
-Means scope w (var.Field i) told = IsField scope.fields i w told
-Means scope w (var.Control i) told = IsDeclared scope.controls i w told
-Means scope w (var.Local i) told = IsLocal scope.locals i w told
-Means scope w (var.Prim n) told = IsPrimitive n w told
-Means scope w var.Cwnd told = ⊥
-Means scope w var.Rate told = ⊥
-Means scope w var.Micros told = ⊥
+Means scope w (var.Field i) truth = IsField scope.fields i w truth
+Means scope w (var.Control i) truth = IsDeclared scope.controls i w truth
+Means scope w (var.Local i) truth = IsLocal scope.locals i w truth
+Means scope w (var.Prim n) truth = IsPrimitive n w truth
+Means scope w var.Cwnd truth = ⊥
+Means scope w var.Rate truth = ⊥
+Means scope w var.Micros truth = ⊥
 
 -- a word that names a variable: one of the language, or one that has a meaning
 abbrev pub NamesVariable : Scope → List ℕ → Option Var → Var → Bool → Type 0
-NamesVariable scope w (Some u) v told = (v ≡ u) × (told ≡ false)
-NamesVariable scope w None v told = IsFalse (is_reserved w) × Means scope w v told
+NamesVariable scope w (Some u) v truth = (v ≡ u) × (truth ≡ false)
+NamesVariable scope w None v truth = IsFalse (is_reserved w) × Means scope w v truth
 
-pub record IsName (scope : Scope) (w : List ℕ) (t : Term) (told : Bool) : Type 0 where
+pub record IsName (scope : Scope) (w : List ℕ) (t : Term) (truth : Bool) : Type 0 where
   pub variable : Var
-  pub names : NamesVariable scope w (variable_of w) variable told
+  pub names : NamesVariable scope w (variable_of w) variable truth
   pub term : t ≡ name variable
 
 -- a word that is an expression: a value, or a name
 abbrev pub IsWord : Scope → List ℕ → Option Term → Term → Bool → Type 0
-IsWord scope w (Some constant) t told = (t ≡ constant) × (told ≡ constant_truth constant)
-IsWord scope w None t told = IsName scope w t told
+IsWord scope w (Some constant) t truth = (t ≡ constant) × (truth ≡ constant_truth constant)
+IsWord scope w None t truth = IsName scope w t truth
 
 -- an operation on two parts, of which the whole is a Bool where its operator gives one
-pub record IsPair (op : Option Op2) (head : Place) (Left Right : Term → Bool → Type 0) (t : Term) (told : Bool) : Type 0 where
+pub record IsPair (op : Option Op2) (head : Place) (Left Right : Term → Bool → Type 0) (t : Term) (truth : Bool) : Type 0 where
   pub operator : Op2
   pub spelt : op ≡ Some operator
   pub left : Term
-  pub left_told : Bool
-  pub is_left : Left left left_told
+  pub left_truth : Bool
+  pub is_left : Left left left_truth
   pub right : Term
-  pub right_told : Bool
-  pub is_right : Right right right_told
+  pub right_truth : Bool
+  pub is_right : Right right right_truth
   pub term : t ≡ pair operator head left right
-  pub kind : told ≡ gives_truth operator
+  pub kind : truth ≡ gives_truth operator
 
 -- an expression, and whether it is a Bool
 abbrev pub IsTerm : Scope → Node → Term → Bool → Type 0
-IsTerm scope (number at n) t told = (n < 2 ^ 64) × (t ≡ term.number n) × (told ≡ false)
-IsTerm scope (word at w) t told = IsWord scope w (constant_of w) t told
-IsTerm scope (list at (more (word head o) (more left (more right none)))) t told =
-    IsPair (operator_of o) head (IsTerm scope left) (IsTerm scope right) t told
-IsTerm scope (list at parts) t told = ⊥
+IsTerm scope (number at n) t truth = (n < 2 ^ 64) × (t ≡ term.number n) × (truth ≡ false)
+IsTerm scope (word at w) t truth = IsWord scope w (constant_of w) t truth
+IsTerm scope (list at (more (word head o) (more left (more right none)))) t truth =
+    IsPair (operator_of o) head (IsTerm scope left) (IsTerm scope right) t truth
+IsTerm scope (list at parts) t truth = ⊥
 
 -- a value that is a Bool where one is wanted
 abbrev pub FitsKind : Bool → Bool → Type 0
-FitsKind wanted told = IsTrue wanted → IsTrue told
+FitsKind wanted truth = IsTrue wanted → IsTrue truth
 
 -- the assignment of an expression
 pub record IsPlain (scope : Scope) (v : Var) (wanted : Bool) (value : Node) (action : Action) : Type 0 where
   pub term : Term
-  pub told : Bool
-  pub is_value : IsTerm scope value term told
-  pub fits : FitsKind wanted told
+  pub truth : Bool
+  pub is_value : IsTerm scope value term truth
+  pub fits : FitsKind wanted truth
   pub command : action ≡ set v term
 
 -- the assignment of a value under a condition
@@ -106,9 +106,9 @@ pub record IsChoice (scope : Scope) (wanted : Bool) (make : Term → Term → Ac
   pub condition_term : Term
   pub is_condition : IsTerm scope condition condition_term true
   pub term : Term
-  pub told : Bool
-  pub is_value : IsTerm scope value term told
-  pub fits : FitsKind wanted told
+  pub truth : Bool
+  pub is_value : IsTerm scope value term truth
+  pub fits : FitsKind wanted truth
   pub command : action ≡ make condition_term term
 
 abbrev pub IsWeight : Node → ℕ → Type 0
@@ -122,8 +122,8 @@ pub record IsEwma (scope : Scope) (v : Var) (wanted : Bool) (head : Place) (weig
   pub tenths : ℕ
   pub is_weight : IsWeight weight tenths
   pub term : Term
-  pub told : Bool
-  pub is_value : IsTerm scope value term told
+  pub truth : Bool
+  pub is_value : IsTerm scope value term truth
   pub command : action ≡ ewma head v tenths term
 
 abbrev pub IsSpecial : Scope → Var → Bool → Node → Action → Type 0
@@ -150,10 +150,10 @@ pub record IsZeroAssignment (scope : Scope) (w : List ℕ) (value : Node) (actio
 
 pub record IsKnownAssignment (scope : Scope) (w : List ℕ) (value : Node) (action : Action) (after : Scope) : Type 0 where
   pub variable : Var
-  pub told : Bool
-  pub named : NamesVariable scope w (variable_of w) variable told
+  pub truth : Bool
+  pub named : NamesVariable scope w (variable_of w) variable truth
   pub writable : IsTrue (is_writable variable)
-  pub assigned : IsValue scope variable told value action
+  pub assigned : IsValue scope variable truth value action
   pub names : after ≡ scope
 
 -- a word that has no meaning, and may get one
@@ -161,17 +161,17 @@ pub record IsFresh (scope : Scope) (w : List ℕ) : Type 0 where
   pub unreserved : IsFalse (is_reserved w)
   pub no_field : IsFalse (is_field_use w)
   pub no_primitive : IsFalse (is_primitive_use w)
-  pub unknown : (v : Var) (told : Bool) → Means scope w v told → ⊥
+  pub unknown : (v : Var) (truth : Bool) → Means scope w v truth → ⊥
 
 -- the first assignment of the body's next local
 pub record IsFirstAssignment (scope : Scope) (w : List ℕ) (value : Node) (action : Action) (after : Scope) : Type 0 where
   pub fresh : IsFresh scope w
   pub term : Term
-  pub told : Bool
-  pub is_value : IsTerm scope value term told
+  pub truth : Bool
+  pub is_value : IsTerm scope value term truth
   pub few : length scope.locals < most_locals
   pub command : action ≡ set (var.Local (length scope.locals)) term
-  pub names : after ≡ with_local scope w told
+  pub names : after ≡ with_local scope w truth
 
 abbrev pub IsAssignment : Scope → List ℕ → Node → Action → Scope → Type 0
 IsAssignment scope w value action after =
@@ -201,11 +201,11 @@ IsBody scope (more node rest) (action ∷ actions) after =
 
 -- a declared value, and whether it is a Bool
 abbrev pub IsStart : Node → ℕ → Bool → Type 0
-IsStart (number at n) value told = (value ≡ n) × (told ≡ false)
-IsStart (word at w) value told =
-    ((w ≡ codes "true") × (value ≡ 1) × (told ≡ true))
-    ⊎ (((w ≡ codes "false") × (value ≡ 0) × (told ≡ true)) ⊎ ((w ≡ codes "+infinity") × (value ≡ 2 ^ 64 - 1) × (told ≡ false)))
-IsStart (list at parts) value told = ⊥
+IsStart (number at n) value truth = (value ≡ n) × (truth ≡ false)
+IsStart (word at w) value truth =
+    ((w ≡ codes "true") × (value ≡ 1) × (truth ≡ true))
+    ⊎ (((w ≡ codes "false") × (value ≡ 0) × (truth ≡ true)) ⊎ ((w ≡ codes "+infinity") × (value ≡ 2 ^ 64 - 1) × (truth ≡ false)))
+IsStart (list at parts) value truth = ⊥
 
 pub record IsDeclarationOf (volatile : Bool) (w : List ℕ) (value : Node) (decl : Decl) : Type 0 where
   pub named : decl.name ≡ w

@@ -2,8 +2,9 @@ ghost use Rattle.std.specs.Prelude.{◌≡◌, ◌≢◌, IfOk, IfErr, Ok, Err, 
 ghost use Rattle.portus_core.specs.Trees.{node_of, nodes_of};
 ghost use Rattle.portus_core.specs.Programs.{term_of};
 ghost use Rattle.scope_types.specs.ProgramWalk.{without_locals, condition_walk, inner_walk, block_walk, form_walk, blocks_walk};
-ghost use Rattle.scope_types.specs.Steps.{built_of, blocks_of};
+ghost use Rattle.scope_types.specs.Steps.{GivesBuilt, GivesBlocks};
 ghost use Rattle.scope_types.specs.Scope.{scope_of};
+ghost use Rattle.scope_types.specs.Walk.{EndsWalk};
 
 use crate::command::{Body, commands};
 use crate::expression::expression;
@@ -47,7 +48,7 @@ fn without_locals(alloc: Global, names: Names) -> Names
 /// The condition of a block.
 fn condition(alloc: Global, names: &Names, tree: &Tree) -> Result<Expr, ScopeFault>
     ensures ok { IfOk result (λ e. condition_walk (scope_of names.now) (node_of tree.now) ≡ Ok (term_of e)) }
-    ensures err { IfErr result (λ e. e ≢ ScopeFault.NoMemory → condition_walk (scope_of names.now) (node_of tree.now) ≡ Err e) }
+    ensures err { IfErr result (EndsWalk (condition_walk (scope_of names.now) (node_of tree.now))) }
 {
     let expr = expression(alloc, names, tree)?;
     of_kind(names, true, place_of(tree), expr)
@@ -55,8 +56,8 @@ fn condition(alloc: Global, names: &Names, tree: &Tree) -> Result<Expr, ScopeFau
 
 /// A block that begins with these names: its condition, then its commands.
 fn inner(alloc: Global, names: Names, first: &Tree, rest: &[Tree]) -> Result<Built, ScopeFault>
-    ensures ok { IfOk result (λ b. inner_walk (scope_of names) (node_of first.now) (nodes_of rest.now) ≡ Ok (built_of b)) }
-    ensures err { IfErr result (λ e. e ≢ ScopeFault.NoMemory → inner_walk (scope_of names) (node_of first.now) (nodes_of rest.now) ≡ Err e) }
+    ensures ok { IfOk result (GivesBuilt (inner_walk (scope_of names) (node_of first.now) (nodes_of rest.now))) }
+    ensures err { IfErr result (EndsWalk (inner_walk (scope_of names) (node_of first.now) (nodes_of rest.now))) }
 {
     let condition = condition(alloc, &names, first)?;
     let Body { commands, names } = commands(alloc, names, rest)?;
@@ -73,8 +74,8 @@ fn inner(alloc: Global, names: Names, first: &Tree, rest: &[Tree]) -> Result<Bui
 
 /// A block.
 fn block(alloc: Global, names: Names, at: Place, parts: &[Tree]) -> Result<Built, ScopeFault>
-    ensures ok { IfOk result (λ b. block_walk (scope_of names) at (nodes_of parts.now) ≡ Ok (built_of b)) }
-    ensures err { IfErr result (λ e. e ≢ ScopeFault.NoMemory → block_walk (scope_of names) at (nodes_of parts.now) ≡ Err e) }
+    ensures ok { IfOk result (GivesBuilt (block_walk (scope_of names) at (nodes_of parts.now))) }
+    ensures err { IfErr result (EndsWalk (block_walk (scope_of names) at (nodes_of parts.now))) }
 {
     match cut_first(parts) {
         Cut::Nothing => Err(ScopeFault::Misplaced(at)),
@@ -84,8 +85,8 @@ fn block(alloc: Global, names: Names, at: Place, parts: &[Tree]) -> Result<Built
 
 /// A form after the first, with so many blocks before it.
 fn form(alloc: Global, names: Names, count: usize, tree: &Tree) -> Result<Built, ScopeFault>
-    ensures ok { IfOk result (λ b. form_walk (scope_of names) count (node_of tree.now) ≡ Ok (built_of b)) }
-    ensures err { IfErr result (λ e. e ≢ ScopeFault.NoMemory → form_walk (scope_of names) count (node_of tree.now) ≡ Err e) }
+    ensures ok { IfOk result (GivesBuilt (form_walk (scope_of names) count (node_of tree.now))) }
+    ensures err { IfErr result (EndsWalk (form_walk (scope_of names) count (node_of tree.now))) }
 {
     if let Tree::List(at, parts) = tree {
         if let Cut::First(Tree::Word(_, w), rest) = cut_first(parts.as_slice()) {
@@ -103,8 +104,8 @@ fn form(alloc: Global, names: Names, count: usize, tree: &Tree) -> Result<Built,
 
 /// The forms after the first.
 pub(crate) fn later_forms(alloc: Global, names: Names, trees: &[Tree]) -> Result<Blocks, ScopeFault>
-    ensures ok { IfOk result (λ b. blocks_walk (scope_of names) [] (nodes_of trees.now) ≡ Ok (blocks_of b.all.items, scope_of b.names)) }
-    ensures err { IfErr result (λ e. e ≢ ScopeFault.NoMemory → blocks_walk (scope_of names) [] (nodes_of trees.now) ≡ Err e) }
+    ensures ok { IfOk result (GivesBlocks (blocks_walk (scope_of names) [] (nodes_of trees.now))) }
+    ensures err { IfErr result (EndsWalk (blocks_walk (scope_of names) [] (nodes_of trees.now))) }
 {
     let mut names = names;
     let mut blocks = Vec::new(alloc);

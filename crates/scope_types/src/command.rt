@@ -1,8 +1,9 @@
 ghost use Rattle.std.specs.Prelude.{◌≡◌, ◌≢◌, IfOk, IfErr, Ok, Err, []};
 ghost use Rattle.portus_core.specs.Trees.{node_of, nodes_of};
 ghost use Rattle.scope_types.specs.CommandWalk.{assignment_walk, command_walk, body_walk};
-ghost use Rattle.scope_types.specs.Steps.{step_of, actions_of};
+ghost use Rattle.scope_types.specs.Steps.{GivesStep, GivesBody};
 ghost use Rattle.scope_types.specs.Scope.{scope_of};
+ghost use Rattle.scope_types.specs.Walk.{EndsWalk};
 
 use crate::fault::ScopeFault;
 use crate::names::Names;
@@ -22,8 +23,8 @@ pub(crate) struct Body {
 
 /// An assignment: its target is looked at first.
 fn assignment(alloc: Global, names: Names, named: &Tree, value: &Tree) -> Result<Step, ScopeFault>
-    ensures ok { IfOk result (λ s. assignment_walk (scope_of names) (node_of named.now) (node_of value.now) ≡ Ok (step_of s)) }
-    ensures err { IfErr result (λ e. e ≢ ScopeFault.NoMemory → assignment_walk (scope_of names) (node_of named.now) (node_of value.now) ≡ Err e) }
+    ensures ok { IfOk result (GivesStep (assignment_walk (scope_of names) (node_of named.now) (node_of value.now))) }
+    ensures err { IfErr result (EndsWalk (assignment_walk (scope_of names) (node_of named.now) (node_of value.now))) }
 {
     match target_of(&names, named)? {
         Target::Known(_, Var::Micros) => micros(names, value),
@@ -33,8 +34,8 @@ fn assignment(alloc: Global, names: Names, named: &Tree, value: &Tree) -> Result
 
 /// A command.
 fn command(alloc: Global, names: Names, tree: &Tree) -> Result<Step, ScopeFault>
-    ensures ok { IfOk result (λ s. command_walk (scope_of names) (node_of tree.now) ≡ Ok (step_of s)) }
-    ensures err { IfErr result (λ e. e ≢ ScopeFault.NoMemory → command_walk (scope_of names) (node_of tree.now) ≡ Err e) }
+    ensures ok { IfOk result (GivesStep (command_walk (scope_of names) (node_of tree.now))) }
+    ensures err { IfErr result (EndsWalk (command_walk (scope_of names) (node_of tree.now))) }
 {
     let Tree::List(at, parts) = tree else {
         return Err(ScopeFault::Misplaced(place_of(tree)));
@@ -68,8 +69,8 @@ fn command(alloc: Global, names: Names, tree: &Tree) -> Result<Step, ScopeFault>
 
 /// The commands of a body.
 pub(crate) fn commands(alloc: Global, names: Names, trees: &[Tree]) -> Result<Body, ScopeFault>
-    ensures ok { IfOk result (λ b. body_walk (scope_of names) [] (nodes_of trees.now) ≡ Ok (actions_of b.commands.items, scope_of b.names)) }
-    ensures err { IfErr result (λ e. e ≢ ScopeFault.NoMemory → body_walk (scope_of names) [] (nodes_of trees.now) ≡ Err e) }
+    ensures ok { IfOk result (GivesBody (body_walk (scope_of names) [] (nodes_of trees.now))) }
+    ensures err { IfErr result (EndsWalk (body_walk (scope_of names) [] (nodes_of trees.now))) }
 {
     let mut names = names;
     let mut commands = Vec::new(alloc);

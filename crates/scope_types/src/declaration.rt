@@ -1,15 +1,17 @@
 ghost use Rattle.std.specs.Prelude.{◌≡◌, ◌≢◌, ◌++◌, ◌∷◌, [], IfOk, IfErr, Ok, Err, length};
 ghost use Rattle.portus_core.specs.Trees.{node_of, nodes_of};
 ghost use Rattle.portus_core.specs.Words.{has_dot, is_field_name, is_control_name};
-ghost use Rattle.scope_types.specs.DeclarationWalk.{declaring_of, start_word, start_of, declaration_walk, field_walk, control_walk, fields_walk, group_walk, control_part_walk, part_walk, parts_walk};
+ghost use Rattle.scope_types.specs.DeclarationWalk.{declaring_of, GivesDeclared, start_word, start_of, declaration_walk, field_walk, control_walk, fields_walk, group_walk, control_part_walk, part_walk, parts_walk};
 ghost use Rattle.scope_types.specs.Scope.{scope_of};
+ghost use Rattle.scope_types.specs.Walk.{EndsWalk};
+ghost use Rattle.scope_types.specs.declared.fault.ScopeFault.TheVariants.{NoMemory};
 
 use crate::fault::{ScopeFault, What};
 use crate::names::Names;
 use crate::parts::{Cut, cut_first, place_of};
-use crate::words::{is_field_use, is_name_shaped, is_primitive_use, is_reserved, same};
+use crate::words::{is_field_use, is_primitive_use, is_reserved, same};
 use ccp_base::{FIELDS, Place};
-use portus_core::{Decl, Parts, Tree, take_apart};
+use portus_core::{Decl, Parts, Tree, is_name_shaped, take_apart};
 
 /// The most control variables that a program declares.
 const CONTROLS: usize = 64;
@@ -130,7 +132,7 @@ fn is_control_name(w: &[u8]) -> bool
 /// One more field.
 fn field(mut names: Names, d: Declaration) -> Result<Names, ScopeFault>
     ensures ok { IfOk result (λ after. field_walk (scope_of names) d ≡ Ok (scope_of after)) }
-    ensures err { IfErr result (λ e. e ≢ ScopeFault.NoMemory → field_walk (scope_of names) d ≡ Err e) }
+    ensures err { IfErr result (EndsWalk (field_walk (scope_of names) d)) }
 {
     if !is_field_name(d.decl.name.as_slice()) {
         return Err(ScopeFault::Misplaced(d.at));
@@ -148,7 +150,7 @@ fn field(mut names: Names, d: Declaration) -> Result<Names, ScopeFault>
 /// One more control variable.
 fn control(mut names: Names, d: Declaration) -> Result<Names, ScopeFault>
     ensures ok { IfOk result (λ after. control_walk (scope_of names) d ≡ Ok (scope_of after)) }
-    ensures err { IfErr result (λ e. e ≢ ScopeFault.NoMemory → control_walk (scope_of names) d ≡ Err e) }
+    ensures err { IfErr result (EndsWalk (control_walk (scope_of names) d)) }
 {
     if !is_control_name(d.decl.name.as_slice()) {
         return Err(ScopeFault::Misplaced(d.at));
@@ -166,7 +168,7 @@ fn control(mut names: Names, d: Declaration) -> Result<Names, ScopeFault>
 /// The parts of the group of fields.
 fn fields(names: Names, parts: &[Tree]) -> Result<Names, ScopeFault>
     ensures ok { IfOk result (λ after. fields_walk (scope_of names) (nodes_of parts.now) ≡ Ok (scope_of after)) }
-    ensures err { IfErr result (λ e. e ≢ ScopeFault.NoMemory → fields_walk (scope_of names) (nodes_of parts.now) ≡ Err e) }
+    ensures err { IfErr result (EndsWalk (fields_walk (scope_of names) (nodes_of parts.now))) }
 {
     let mut names = names;
     let mut rest = parts;
@@ -179,8 +181,8 @@ fn fields(names: Names, parts: &[Tree]) -> Result<Names, ScopeFault>
 
 /// The group of fields, of which there is one at most.
 fn group(declared: Declared, head: Place, parts: &[Tree]) -> Result<Declared, ScopeFault>
-    ensures ok { IfOk result (λ after. group_walk (declaring_of declared) head (nodes_of parts.now) ≡ Ok (declaring_of after)) }
-    ensures err { IfErr result (λ e. e ≢ ScopeFault.NoMemory → group_walk (declaring_of declared) head (nodes_of parts.now) ≡ Err e) }
+    ensures ok { IfOk result (GivesDeclared (group_walk (declaring_of declared) head (nodes_of parts.now))) }
+    ensures err { IfErr result (EndsWalk (group_walk (declaring_of declared) head (nodes_of parts.now))) }
 {
     if declared.grouped {
         return Err(ScopeFault::Twice(head));
@@ -194,8 +196,8 @@ fn group(declared: Declared, head: Place, parts: &[Tree]) -> Result<Declared, Sc
 
 /// A part of `def` that declares a control variable.
 fn control_part(declared: Declared, tree: &Tree) -> Result<Declared, ScopeFault>
-    ensures ok { IfOk result (λ after. control_part_walk (declaring_of declared) (node_of tree.now) ≡ Ok (declaring_of after)) }
-    ensures err { IfErr result (λ e. e ≢ ScopeFault.NoMemory → control_part_walk (declaring_of declared) (node_of tree.now) ≡ Err e) }
+    ensures ok { IfOk result (GivesDeclared (control_part_walk (declaring_of declared) (node_of tree.now))) }
+    ensures err { IfErr result (EndsWalk (control_part_walk (declaring_of declared) (node_of tree.now))) }
 {
     let names = control(declared.names, declaration_of(tree)?)?;
     Ok(Declared {
@@ -207,7 +209,7 @@ fn control_part(declared: Declared, tree: &Tree) -> Result<Declared, ScopeFault>
 /// A part of `def`.
 fn part(declared: Declared, tree: &Tree) -> Result<Declared, ScopeFault>
     ensures ok { IfOk result (λ after. part_walk (declaring_of declared) (node_of tree.now) ≡ Ok (declaring_of after)) }
-    ensures err { IfErr result (λ e. e ≢ ScopeFault.NoMemory → part_walk (declaring_of declared) (node_of tree.now) ≡ Err e) }
+    ensures err { IfErr result (λ e. e ≢ NoMemory → part_walk (declaring_of declared) (node_of tree.now) ≡ Err e) }
 {
     if let Tree::List(_, parts) = tree {
         if let Cut::First(Tree::Word(head, w), rest) = cut_first(parts.as_slice()) {
@@ -221,8 +223,8 @@ fn part(declared: Declared, tree: &Tree) -> Result<Declared, ScopeFault>
 
 /// The parts of `def`.
 pub(crate) fn parts(declared: Declared, trees: &[Tree]) -> Result<Declared, ScopeFault>
-    ensures ok { IfOk result (λ after. parts_walk (declaring_of declared) (nodes_of trees.now) ≡ Ok (declaring_of after)) }
-    ensures err { IfErr result (λ e. e ≢ ScopeFault.NoMemory → parts_walk (declaring_of declared) (nodes_of trees.now) ≡ Err e) }
+    ensures ok { IfOk result (GivesDeclared (parts_walk (declaring_of declared) (nodes_of trees.now))) }
+    ensures err { IfErr result (EndsWalk (parts_walk (declaring_of declared) (nodes_of trees.now))) }
 {
     let mut declared = declared;
     let mut rest = trees;

@@ -5,6 +5,7 @@ ghost use Rattle.scope_types.specs.ExpressionWalk.{expression_walk, variable_wal
 ghost use Rattle.portus_core.specs.Words.{variable_of};
 ghost use Rattle.scope_types.specs.ValueWords.{constant_of};
 ghost use Rattle.scope_types.specs.Scope.{scope_of};
+ghost use Rattle.scope_types.specs.Walk.{EndsWalk};
 
 use crate::fault::ScopeFault;
 use crate::meaning::meaning_of;
@@ -56,7 +57,7 @@ fn pair(alloc: Global, op: Op2, head: Place, left: Expr, right: Expr) -> Result<
 /// An expression: the left part is looked at before the right one.
 pub(crate) fn expression(alloc: Global, names: &Names, tree: &Tree) -> Result<Expr, ScopeFault>
     ensures ok { IfOk result (λ e. expression_walk (scope_of names.now) (node_of tree.now) ≡ Ok (term_of e)) }
-    ensures err { IfErr result (λ e. e ≢ ScopeFault.NoMemory → expression_walk (scope_of names.now) (node_of tree.now) ≡ Err e) }
+    ensures err { IfErr result (EndsWalk (expression_walk (scope_of names.now) (node_of tree.now))) }
 {
     match tree {
         Tree::Num(_, value) => Ok(Expr::Num(*value)),

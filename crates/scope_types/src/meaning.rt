@@ -1,6 +1,6 @@
 ghost use Rattle.std.specs.Prelude.{◌≡◌, ◌≤◌, length, map, slice_get};
 ghost use Rattle.portus_core.specs.Programs.{term_of};
-ghost use Rattle.portus_core.specs.ValidPrograms.{declares_truth, is_told};
+ghost use Rattle.portus_core.specs.ValidPrograms.{declares_truth, is_bool_there};
 ghost use Rattle.scope_types.specs.declared.names.Local.{Local};
 ghost use Rattle.scope_types.specs.CommandWalk.{is_bool, wants_bool};
 ghost use Rattle.scope_types.specs.Names.{local_from, meaning_of};
@@ -57,7 +57,7 @@ fn is_bool_decl(decls: &Declarations, number: u32) -> bool
 
 /// Whether a local is a Bool.
 fn is_bool_local(locals: &[Local], number: u32) -> bool
-    ensures { result ≡ is_told (slice_get (map (λ (l : Local). l.truth) locals.now) number) }
+    ensures { result ≡ is_bool_there (slice_get (map (λ (l : Local). l.truth) locals.now) number) }
 {
     match locals.get(number as usize) {
         Some(local) => local.truth,

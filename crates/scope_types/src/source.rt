@@ -7,7 +7,8 @@ ghost use Rattle.scope_types.specs.DeclarationWalk.{declaring_of};
 ghost use Rattle.scope_types.specs.ProgramWalk.{nothing_declared, def_walk, source_walk};
 ghost use Rattle.scope_types.specs.Scope.{scope_of};
 ghost use Rattle.scope_types.specs.WellScoped.{IsScoped};
-ghost use Rattle.scope_types.specs.Outcomes.{IsRefused, IsSettled};
+ghost use Rattle.scope_types.specs.Outcomes.{ScopesAs, IsRefused, IsSettled};
+ghost use Rattle.scope_types.specs.Walk.{EndsWalk};
 
 use crate::block::{Blocks, later_forms};
 use crate::declaration::{Declared, parts};
@@ -37,7 +38,7 @@ fn nothing_declared(alloc: Global) -> Declared
 /// The first form, which declares the names.
 fn def(alloc: Global, tree: &Tree) -> Result<Names, ScopeFault>
     ensures ok { IfOk result (λ names. def_walk (node_of tree.now) ≡ Ok (scope_of names)) }
-    ensures err { IfErr result (λ e. e ≢ ScopeFault.NoMemory → def_walk (node_of tree.now) ≡ Err e) }
+    ensures err { IfErr result (EndsWalk (def_walk (node_of tree.now))) }
 {
     if let Tree::List(_, items) = tree {
         if let Cut::First(Tree::Word(_, w), rest) = cut_first(items.as_slice()) {
@@ -67,7 +68,7 @@ fn program(alloc: Global, names: Names, blocks: Vec<Block>) -> Result<Program, A
 /// The program of a text's forms, or the first refusal in the order of the text.
 fn scope_forms(alloc: Global, forms: &[Tree]) -> Result<Program, ScopeFault>
     ensures ok { IfOk result (λ p. source_walk (nodes_of forms.now) ≡ Ok (form_of p)) }
-    ensures err { IfErr result (λ e. e ≢ ScopeFault.NoMemory → source_walk (nodes_of forms.now) ≡ Err e) }
+    ensures err { IfErr result (EndsWalk (source_walk (nodes_of forms.now))) }
 {
     let Cut::First(first, rest) = cut_first(forms) else {
         return Err(ScopeFault::Misplaced(Place { line: 1, column: 1 }));
@@ -81,7 +82,7 @@ fn scope_forms(alloc: Global, forms: &[Tree]) -> Result<Program, ScopeFault>
 /// a program, only want of memory can refuse them.
 pub fn scope(alloc: Global, source: Source) -> Result<Program, ScopeFault>
     ensures found { IfOk result (λ p. IsScoped (nodes_of source.forms.items) (form_of p)) }
-    ensures only { (form : Form) → IsScoped (nodes_of source.forms.items) form → MatchResult result (λ p. form_of p ≡ form) (λ e. e ≡ ScopeFault.NoMemory) }
+    ensures only { (form : Form) → IsScoped (nodes_of source.forms.items) form → ScopesAs result form }
 
     // The same as equations with the walk over the forms, which is the order of the refusals.
     ensures gives { IfOk result (λ p. source_walk (nodes_of source.forms.items) ≡ Ok (form_of p)) }

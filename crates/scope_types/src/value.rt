@@ -2,8 +2,9 @@ ghost use Rattle.std.specs.Prelude.{◌≡◌, ◌≢◌, IfOk, IfErr, Ok, Err};
 ghost use Rattle.portus_core.specs.Trees.{node_of, nodes_of};
 ghost use Rattle.portus_core.specs.Programs.{term_of};
 ghost use Rattle.scope_types.specs.CommandWalk.{micros_walk, kind_walk, choice_walk, weight_walk, ewma_walk, set_walk, plain_walk, value_walk};
-ghost use Rattle.scope_types.specs.Steps.{step_of};
-ghost use Rattle.scope_types.specs.Walk.{place_of};
+ghost use Rattle.scope_types.specs.Steps.{GivesStep, step_of};
+ghost use Rattle.scope_types.specs.Walk.{EndsWalk, place_of};
+ghost use Rattle.scope_types.specs.declared.fault.ScopeFault.TheVariants.{NoMemory};
 ghost use Rattle.scope_types.specs.Scope.{scope_of};
 
 use crate::expression::expression;
@@ -29,7 +30,7 @@ pub(crate) struct Step {
 
 /// The assignment to `Micros`.
 pub(crate) fn micros(names: Names, value: &Tree) -> Result<Step, ScopeFault>
-    ensures ok { IfOk result (λ s. micros_walk (scope_of names) (node_of value.now) ≡ Ok (step_of s)) }
+    ensures ok { IfOk result (GivesStep (micros_walk (scope_of names) (node_of value.now))) }
     ensures err { IfErr result (λ e. micros_walk (scope_of names) (node_of value.now) ≡ Err e) }
 {
     if let Tree::Num(_, 0) = value {
@@ -63,15 +64,15 @@ fn choice(
     names: Names,
     target: Target,
     when_true: bool,
-    value_at: Place,
+    at: Place,
     head: Place,
     parts: &[Tree],
 ) -> Result<Step, ScopeFault>
-    ensures ok { IfOk result (λ s. choice_walk (scope_of names) target when_true value_at head (nodes_of parts.now) ≡ Ok (step_of s)) }
-    ensures err { IfErr result (λ e. e ≢ ScopeFault.NoMemory → choice_walk (scope_of names) target when_true value_at head (nodes_of parts.now) ≡ Err e) }
+    ensures ok { IfOk result (GivesStep (choice_walk (scope_of names) target when_true at head (nodes_of parts.now))) }
+    ensures err { IfErr result (EndsWalk (choice_walk (scope_of names) target when_true at head (nodes_of parts.now))) }
 {
     let Parts::Two(first, second) = take_apart(parts) else {
-        return Err(ScopeFault::Misplaced(value_at));
+        return Err(ScopeFault::Misplaced(at));
     };
     let var = known(target)?;
     let condition = expression(alloc, &names, first)?;
@@ -109,15 +110,15 @@ fn ewma(
     alloc: Global,
     names: Names,
     target: Target,
-    value_at: Place,
+    at: Place,
     head: Place,
     parts: &[Tree],
 ) -> Result<Step, ScopeFault>
-    ensures ok { IfOk result (λ s. ewma_walk (scope_of names) target value_at head (nodes_of parts.now) ≡ Ok (step_of s)) }
-    ensures err { IfErr result (λ e. e ≢ ScopeFault.NoMemory → ewma_walk (scope_of names) target value_at head (nodes_of parts.now) ≡ Err e) }
+    ensures ok { IfOk result (GivesStep (ewma_walk (scope_of names) target at head (nodes_of parts.now))) }
+    ensures err { IfErr result (EndsWalk (ewma_walk (scope_of names) target at head (nodes_of parts.now))) }
 {
     let Parts::Two(first, second) = take_apart(parts) else {
-        return Err(ScopeFault::Misplaced(value_at));
+        return Err(ScopeFault::Misplaced(at));
     };
     let var = number(&names, target)?;
     let tenths = weight(first)?;
@@ -130,8 +131,8 @@ fn ewma(
 
 /// The assignment of an expression, by which a word without a meaning becomes a local.
 fn set(mut names: Names, target: Target, value_at: Place, value: Expr) -> Result<Step, ScopeFault>
-    ensures ok { IfOk result (λ s. set_walk (scope_of names) target value_at (term_of value) ≡ Ok (step_of s)) }
-    ensures err { IfErr result (λ e. e ≢ ScopeFault.NoMemory → set_walk (scope_of names) target value_at (term_of value) ≡ Err e) }
+    ensures ok { IfOk result (GivesStep (set_walk (scope_of names) target value_at (term_of value))) }
+    ensures err { IfErr result (EndsWalk (set_walk (scope_of names) target value_at (term_of value))) }
 {
     match target {
         Target::Known(_, var) => {
@@ -159,8 +160,8 @@ fn set(mut names: Names, target: Target, value_at: Place, value: Expr) -> Result
 
 /// The assignment of what must be an expression.
 fn plain(alloc: Global, names: Names, target: Target, value: &Tree) -> Result<Step, ScopeFault>
-    ensures ok { IfOk result (λ s. plain_walk (scope_of names) target (node_of value.now) ≡ Ok (step_of s)) }
-    ensures err { IfErr result (λ e. e ≢ ScopeFault.NoMemory → plain_walk (scope_of names) target (node_of value.now) ≡ Err e) }
+    ensures ok { IfOk result (GivesStep (plain_walk (scope_of names) target (node_of value.now))) }
+    ensures err { IfErr result (EndsWalk (plain_walk (scope_of names) target (node_of value.now))) }
 {
     let expr = expression(alloc, &names, value)?;
     set(names, target, place_of(value), expr)
@@ -174,7 +175,7 @@ pub(crate) fn assign(
     value: &Tree,
 ) -> Result<Step, ScopeFault>
     ensures ok { IfOk result (λ s. value_walk (scope_of names) target (node_of value.now) ≡ Ok (step_of s)) }
-    ensures err { IfErr result (λ e. e ≢ ScopeFault.NoMemory → value_walk (scope_of names) target (node_of value.now) ≡ Err e) }
+    ensures err { IfErr result (λ e. e ≢ NoMemory → value_walk (scope_of names) target (node_of value.now) ≡ Err e) }
 {
     if let Tree::List(at, parts) = value {
         if let Cut::First(Tree::Word(head, w), rest) = cut_first(parts.as_slice()) {

@@ -1,9 +1,8 @@
 ghost use Rattle.std.specs.Prelude.{◌≡◌, bytes_eq};
-ghost use Rattle.std.specs.List.{list_all};
-ghost use Rattle.portus_core.specs.Words.{is_constant, variable_of, is_first, is_later, is_name_shaped, is_heading, is_reserved, is_field_use, is_primitive_use};
+ghost use Rattle.portus_core.specs.Words.{is_constant, variable_of, is_heading, is_reserved, is_field_use, is_primitive_use};
 
 use ccp_base::operator_of;
-use portus_core::Var;
+use portus_core::{Var, is_name_shaped};
 
 /// Whether two texts are equal.
 pub(crate) fn same(a: &[u8], b: &[u8]) -> bool
@@ -24,37 +23,6 @@ pub(crate) fn variable_of(w: &[u8]) -> Option<Var>
         Some(Var::Micros)
     } else {
         None
-    }
-}
-
-/// Whether a byte may begin a name.
-fn is_first(c: u8) -> bool
-    ensures { result ≡ is_first c }
-{
-    c.is_ascii_alphabetic() || c == b'_'
-}
-
-/// Whether a byte may follow in a name.
-fn is_later(c: u8) -> bool
-    ensures { result ≡ is_later c }
-{
-    c.is_ascii_alphanumeric() || c == b'_' || c == b'.'
-}
-
-/// Whether all the bytes may follow in a name.
-fn are_later(rest: &[u8]) -> bool
-    ensures { result ≡ list_all is_later rest.now }
-{
-    rest.iter().all(|c| is_later(*c))
-}
-
-/// Whether a word is a letter or `_`, then letters, digits, `_` and `.`.
-pub(crate) fn is_name_shaped(w: &[u8]) -> bool
-    ensures { result ≡ is_name_shaped w.now }
-{
-    match w.split_first() {
-        None => false,
-        Some((first, rest)) => is_first(*first) && are_later(rest),
     }
 }
 
