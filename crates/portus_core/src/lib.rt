@@ -1,8 +1,8 @@
 //! Trees and programs of the datapath language, and what a program means.
 //!
 //! The evaluator by trees, `Program::start` and `Program::mean`, is the reference: it computes exactly what the
-//! definitions say of a program, on which the claims of all modes rest, those of `audit` too. No mode runs it. What
-//! the modes run is the code that a program is compiled to.
+//! definitions say of a program. `audit` alone runs it, to judge what others ran. Every other mode runs the code that a
+//! program is compiled to.
 #![tactic(auto)]
 
 mod blocks;
