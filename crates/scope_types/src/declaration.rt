@@ -195,14 +195,14 @@ fn group(declared: Declared, head: Place, parts: &[Tree]) -> Result<Declared, Sc
 }
 
 /// A part of `def` that declares a control variable.
-fn control_part(declared: Declared, tree: &Tree) -> Result<Declared, ScopeFault>
-    ensures ok { IfOk result (GivesDeclared (control_part_walk (declaring_of declared) (node_of tree.now))) }
-    ensures err { IfErr result (EndsWalk (control_part_walk (declaring_of declared) (node_of tree.now))) }
+fn control_part(known: Declared, tree: &Tree) -> Result<Declared, ScopeFault>
+    ensures ok { IfOk result (λ d. control_part_walk (declaring_of known) (node_of tree.now) ≡ Ok (declaring_of d)) }
+    ensures err { IfErr result (λ e. e ≢ NoMemory → control_part_walk (declaring_of known) (node_of tree.now) ≡ Err e) }
 {
-    let names = control(declared.names, declaration_of(tree)?)?;
+    let names = control(known.names, declaration_of(tree)?)?;
     Ok(Declared {
         names,
-        grouped: declared.grouped,
+        grouped: known.grouped,
     })
 }
 

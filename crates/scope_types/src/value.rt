@@ -160,8 +160,8 @@ fn set(mut names: Names, target: Target, value_at: Place, value: Expr) -> Result
 
 /// The assignment of what must be an expression.
 fn plain(alloc: Global, names: Names, target: Target, value: &Tree) -> Result<Step, ScopeFault>
-    ensures ok { IfOk result (GivesStep (plain_walk (scope_of names) target (node_of value.now))) }
-    ensures err { IfErr result (EndsWalk (plain_walk (scope_of names) target (node_of value.now))) }
+    ensures ok { IfOk result (λ s. plain_walk (scope_of names) target (node_of value.now) ≡ Ok (step_of s)) }
+    ensures err { IfErr result (λ e. e ≢ NoMemory → plain_walk (scope_of names) target (node_of value.now) ≡ Err e) }
 {
     let expr = expression(alloc, &names, value)?;
     set(names, target, place_of(value), expr)
