@@ -1,205 +1,82 @@
 //! Flows with their links.
-ghost use Rattle.std.specs.Prelude.{◌≡◌, ◌<◌};
-
-use crate::cases::{alike, reno};
-use crate::turns::{
-    Shown, book, changed, epoch, hears, is_out, refused, settled, shown_by, taken, untaken,
-};
+use crate::scenes::{COUNTING, RENO, VOLATILE, cell};
+use crate::turns::{Shown, hear, is_out, refusal, settle, shown_by, stale, take};
 use agent_core::Ticket;
-use agent_core::calls::answer;
 use ccp_base::Reply;
-use flow_core::{Case, Cell, Ended, EpochLine, TakeFault};
-use fold_machine::{Acked, Steps};
+use flow_core::{Cell, Ended, TakeFault};
+use fold_machine::Acked;
 use std::alloc::Global;
-use std::marker::Brand;
 use std::process::Abort;
-use std::sync::ledger::{Blank, Ledger};
 use std::test::Fail;
 
-/// Shows a loss at each acknowledgement.
-const LOSING: &[u8] = b"(def (Report (volatile loss 0))) (when true (:= Report.loss 1) (report))";
-
-/// The next acknowledgement comes to this.
-fn hear<L: Ledger>(
-    rt: &impl Abort,
-    cell: &mut Cell,
-    steps: &mut Steps<L>,
-    want: Result<Acked, Ended>,
-) -> Result<(), Fail> {
-    assert_eq!(rt; hears(cell, steps), want);
-    Ok(())
-}
-
-/// The four acknowledgements of a Reno flow come to one report.
-fn report_once<L: Ledger>(
-    rt: &impl Abort,
-    alloc: Global,
-    blank: Blank,
-    cell: &mut Cell,
-) -> Result<(), Fail>
-    requires name { blank.name ≡ L.name }
-    requires parts { blank.parts ≡ L.parts }
-    requires some { 0 < blank.parts }
-{
-    let mut steps = Steps::<L>::new(blank);
-    assert_eq!(rt; untaken(alloc, cell), Some(TakeFault::NotYet));
-    hear(rt, cell, &mut steps, Ok(Acked::Quiet))?;
-    hear(rt, cell, &mut steps, Ok(Acked::Quiet))?;
-    hear(rt, cell, &mut steps, Ok(Acked::Quiet))?;
-    hear(rt, cell, &mut steps, Ok(Acked::Reported))?;
-    hear(rt, cell, &mut steps, Err(Ended))
-}
-
-/// The report is told once, and the answer to it is applied once.
-fn settle_once(rt: &impl Abort, alloc: Global, cell: &mut Cell) -> Result<(), Fail> {
-    let ticket = taken(alloc, cell).ok_or("a ticket")?;
-    assert_eq!(rt; ticket.number, 0);
-    assert_eq!(rt;
-        shown_by(&ticket.told),
-        Shown {
-            first: 0,
-            end: 4,
-            value: 5792
-        }
-    );
-    assert!(rt; is_out(cell, &ticket));
-    assert_eq!(rt; untaken(alloc, cell), Some(TakeFault::Out(0)));
-    assert_eq!(rt; settled(cell, ticket), Some(Reply::Nothing));
-    assert_eq!(rt; refused(cell, ticket), Some(None));
-    Ok(())
-}
-
-/// A cell of Reno's built-in programs without a letter.
-fn reno_cell(alloc: Global) -> Result<Cell, Fail> {
-    let case = reno(alloc, 4)?;
-    Ok(Cell::new(alloc, case)?)
-}
-
-/// The last acknowledgement came at this time, so many reports wait, and the window is this.
-fn stand(rt: &impl Abort, cell: &Cell, now: u64, waiting: u32, cwnd: u64) -> Result<(), Fail> {
-    let last = cell.last().ok_or("an acknowledgement")?;
-    assert_eq!(rt; last.now, now);
-    assert_eq!(rt; cell.waiting(), waiting);
-    assert_eq!(rt; cell.cwnd(), cwnd);
-    Ok(())
-}
-
-/// How many letters a complete cell has.
-fn letters(cell: Cell) -> Option<usize> {
-    let book = book(cell)?;
-    Some(book.word.len())
-}
-
-#[test]
-fn a_flow_reports_and_is_complete(rt: HostRuntime) -> Result<(), Fail> {
-    let mut cell = reno_cell(rt.alloc())?;
-    report_once::<Brand>(&rt, rt.alloc(), Blank::new(1), &mut cell)?;
-    stand(&rt, &cell, 60_000, 1, 10_136)?;
-    settle_once(&rt, rt.alloc(), &mut cell)?;
-    stand(&rt, &cell, 60_000, 0, 10_136)?;
-    assert_eq!(rt; letters(cell), Some(6));
-    Ok(())
-}
-
-/// The frame of the change to program 3 with a window of 2,896 bytes.
-const CHANGE: [u8; 30] = [
-    5, 1, 1, 0, 0, 0, 0, 0, 0, 0, 0, 0, 30, 0, 0, 0, 3, 0, 0, 0, 4, 4, 0x50, 0x0b, 0, 0, 0, 0, 0, 0,
-];
-
-/// The answer's frame is that of the change.
-fn frame(rt: &impl Abort, ticket: &Ticket) -> Result<(), Fail> {
-    let answered = answer(*ticket);
-    assert_eq!(rt; answered.frame(), CHANGE.as_slice());
-    Ok(())
-}
-
-/// The next ticket is answered by a change.
-fn change(rt: &impl Abort, alloc: Global, cell: &mut Cell) -> Result<(), Fail> {
-    let ticket = taken(alloc, cell).ok_or("a ticket")?;
-    frame(rt, &ticket)?;
-    assert_eq!(rt; changed(cell, ticket), Some((3, 2896)));
-    Ok(())
-}
-
-/// The next ticket shows this span, whose epoch has ended, and is answered by nothing.
-fn tell(rt: &impl Abort, alloc: Global, cell: &mut Cell, span: (u64, u64)) -> Result<(), Fail> {
-    let ticket = taken(alloc, cell).ok_or("a ticket")?;
-    let shown = shown_by(&ticket.told);
-    assert_eq!(rt; (shown.first, shown.end), span);
-    assert_eq!(rt; settled(cell, ticket), Some(Reply::Nothing));
-    Ok(())
-}
-
-/// The first of two reports is answered by a change, and the second, of the ended epoch, by nothing.
-fn change_while_waiting<L: Ledger>(
-    rt: &impl Abort,
-    alloc: Global,
-    blank: Blank,
-    cell: &mut Cell,
-) -> Result<(), Fail>
-    requires name { blank.name ≡ L.name }
-    requires parts { blank.parts ≡ L.parts }
-    requires some { 0 < blank.parts }
-{
-    let mut steps = Steps::<L>::new(blank);
-    hear(rt, cell, &mut steps, Ok(Acked::Reported))?;
-    hear(rt, cell, &mut steps, Ok(Acked::Reported))?;
-    change(rt, alloc, cell)?;
-    tell(rt, alloc, cell, (1, 2))?;
-    hear(rt, cell, &mut steps, Ok(Acked::Reported))?;
-    let ticket = taken(alloc, cell).ok_or("a ticket")?;
-    assert_eq!(rt;
-        shown_by(&ticket.told),
-        Shown {
-            first: 2,
-            end: 3,
-            value: 1
-        }
-    );
-    assert!(rt; settled(cell, ticket).is_some());
-    Ok(())
-}
-
-/// A copy of a case.
-fn copy_of(alloc: Global, case: &Case) -> Option<Case> {
-    case.copy(alloc).ok()
-}
-
-/// Whether two cases are the same.
-fn are_same(case: &Case, other: &Case) -> bool {
-    case.same(other)
-}
-
-/// Whether the copy of a case is the same.
-fn is_copied(alloc: Global, case: &Case) -> bool {
-    match copy_of(alloc, case) {
-        None => false,
-        Some(copy) => are_same(case, &copy),
-    }
-}
-
-/// A cell without a letter, of two slots and two programs that are one.
-fn losing(rt: &impl Abort, alloc: Global) -> Result<Cell, Fail> {
-    let case = alike(alloc, LOSING, 2)?;
-    assert!(rt; is_copied(alloc, &case));
-    Ok(Cell::new(alloc, case)?)
-}
-
-/// The epoch after the opening one, of a complete cell.
-fn second_epoch(cell: Cell) -> Option<EpochLine> {
-    let book = book(cell)?;
-    epoch(&book, 1)
-}
-
-#[test]
-fn a_change_leaves_the_waiting_reports(rt: HostRuntime) -> Result<(), Fail> {
-    let mut cell = losing(&rt, rt.alloc())?;
-    change_while_waiting::<Brand>(&rt, rt.alloc(), Blank::new(1), &mut cell)?;
-    let second = EpochLine {
-        program: 3,
-        at: 2,
-        cwnd: 2896,
+/// A ticket shows a report of epoch 0 with this span and this first field.
+fn shows(rt: &impl Abort, ticket: &Ticket, first: u64, end: u64, value: u64) {
+    let want = Shown {
+        epoch: 0,
+        first,
+        end,
+        value,
     };
-    assert_eq!(rt; second_epoch(cell), Some(second));
+    assert_eq!(rt; shown_by(ticket), Some(want));
+}
+
+/// The answer to a ticket is applied, and changes nothing.
+fn is_answered(rt: &impl Abort, cell: &mut Cell, ticket: Ticket) {
+    assert_eq!(rt; settle(cell, ticket), Some(Reply::Nothing));
+}
+
+/// The four acknowledgements come to one report, and no fifth one is taken.
+fn reports_once(rt: &impl Abort, cell: &mut Cell) {
+    assert_eq!(rt; hear(cell), Ok(Acked::Quiet));
+    assert_eq!(rt; hear(cell), Ok(Acked::Quiet));
+    assert_eq!(rt; hear(cell), Ok(Acked::Quiet));
+    assert_eq!(rt; hear(cell), Ok(Acked::Reported));
+    assert_eq!(rt; hear(cell), Err(Ended));
+}
+
+/// One ticket is out at a time, and its answer is applied once.
+fn settles_once(rt: &impl Abort, alloc: Global, cell: &mut Cell) -> Result<(), Fail> {
+    let ticket = take(alloc, cell)?;
+    assert_eq!(rt; ticket.number, 0);
+    assert!(rt; is_out(cell, &ticket));
+    assert_eq!(rt; refusal(alloc, cell), Some(TakeFault::Out(0)));
+    is_answered(rt, cell, ticket);
+    assert_eq!(rt; stale(cell, ticket), Some(None));
     Ok(())
+}
+
+#[test]
+fn a_flow_reports_once_and_is_complete(rt: HostRuntime) -> Result<(), Fail> {
+    let mut cell = cell(rt.alloc(), RENO)?;
+    assert_eq!(rt; refusal(rt.alloc(), &mut cell), Some(TakeFault::NotYet));
+    reports_once(&rt, &mut cell);
+    assert!(rt; !cell.is_complete());
+    settles_once(&rt, rt.alloc(), &mut cell)?;
+    assert!(rt; cell.is_complete());
+    Ok(())
+}
+
+/// With one slot the second report is held, and the third one has the span of both.
+fn holds(rt: &impl Abort, alloc: Global, cell: &mut Cell, value: u64) -> Result<(), Fail> {
+    assert_eq!(rt; hear(cell), Ok(Acked::Reported));
+    assert_eq!(rt; hear(cell), Ok(Acked::Held));
+    let earlier = take(alloc, cell)?;
+    assert_eq!(rt; hear(cell), Ok(Acked::Reported));
+    shows(rt, &earlier, 0, 1, 1);
+    is_answered(rt, cell, earlier);
+    let later = take(alloc, cell)?;
+    shows(rt, &later, 1, 3, value);
+    Ok(())
+}
+
+#[test]
+fn a_held_report_is_made_with_the_next(rt: HostRuntime) -> Result<(), Fail> {
+    let mut cell = cell(rt.alloc(), COUNTING)?;
+    holds(&rt, rt.alloc(), &mut cell, 3)
+}
+
+#[test]
+fn a_held_report_keeps_its_volatile_field(rt: HostRuntime) -> Result<(), Fail> {
+    let mut cell = cell(rt.alloc(), VOLATILE)?;
+    holds(&rt, rt.alloc(), &mut cell, 2)
 }

@@ -1,11 +1,17 @@
-//! Worked flows: what a core and a cell come to, letter by letter, over programs that are built from their texts.
+//! Rows of one flow: what an outbox, a core and a cell come to, letter by letter.
 #![tactic(auto)]
 
 #[cfg(test)]
-mod cases;
-#[cfg(test)]
 mod cells;
 #[cfg(test)]
+mod changes;
+#[cfg(test)]
 mod cores;
+#[cfg(test)]
+mod lists;
+#[cfg(test)]
+mod outboxes;
+#[cfg(test)]
+mod scenes;
 #[cfg(test)]
 mod turns;
