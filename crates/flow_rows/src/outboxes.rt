@@ -1,5 +1,6 @@
-use super::*;
+//! Outboxes over a pool of their own.
 use ccp_base::{FaultKind, Notice, Report, Told, Values};
+use flow_core::Outbox;
 use slot_pool::Pool;
 use std::test::Fail;
 
@@ -58,18 +59,5 @@ fn the_oldest_of_a_full_outbox_is_told(rt: HostRuntime) -> Result<(), Fail> {
     outbox.note(NOTICE);
     outbox.void();
     assert_eq!(rt; outbox.pop(&mut pool), None);
-    Ok(())
-}
-
-#[test]
-fn items_are_put_into_kept_room(rt: HostRuntime) -> Result<(), Fail> {
-    let mut list = Roomy::with_room(rt.alloc(), 1)?;
-    list.push(5u8);
-    list.reserve(1)?;
-    list.push(6);
-    assert_eq!(rt; list.last(), Some(&6));
-    assert_eq!(rt; list.len(), 2);
-    assert_eq!(rt; list.as_slice(), [5, 6].as_slice());
-    assert_eq!(rt; list.into_sequence().as_slice(), [5, 6].as_slice());
     Ok(())
 }

@@ -1,0 +1,17 @@
+//! Rows of one flow: what an outbox, a core and a cell come to, letter by letter.
+#![tactic(auto)]
+
+#[cfg(test)]
+mod cells;
+#[cfg(test)]
+mod changes;
+#[cfg(test)]
+mod cores;
+#[cfg(test)]
+mod lists;
+#[cfg(test)]
+mod outboxes;
+#[cfg(test)]
+mod scenes;
+#[cfg(test)]
+mod turns;
