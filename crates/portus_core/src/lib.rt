@@ -17,9 +17,9 @@ mod tree;
 mod value;
 mod words;
 
+pub use ccp_base::Op2;
 pub use env::{Env, Mean, StartFault};
 pub use printing::print_tree;
-pub use ccp_base::Op2;
 pub use program::{Block, Cmd, Decl, Expr, Program, Var};
 pub use tree::{Parts, Source, Tree, take_apart};
 pub use words::is_name_shaped;
