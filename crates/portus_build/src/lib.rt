@@ -7,8 +7,6 @@ pub mod calls;
 mod fault;
 mod refusal;
 mod settled;
-#[cfg(test)]
-mod tests;
 
 pub use building::build;
 pub use builtins::builtin;

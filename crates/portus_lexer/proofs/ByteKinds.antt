@@ -1,3 +1,4 @@
+-- A byte that is allowed outside comments belongs to an atom, or is a space, a parenthesis or `#`.
 use Rattle.std.specs.Prelude.{◌≡◌, ℕ, Bool, true, false, ◌||◌, ◌==◌}
 use Rattle.std.proofs.Common.{arith, inl, inr, subst, sym}
 use Rattle.std.proofs.lemmas.Bool.Decides.{nat_tests}

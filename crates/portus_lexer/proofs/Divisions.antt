@@ -1,3 +1,4 @@
+-- The lexemes of bytes with one more byte or lexeme in front.
 use Rattle.std.specs.Prelude.{◌≡◌, ℕ, ◌+◌, Bool, false, IsTrue, List, [], ◌∷◌, ◌++◌, length, map}
 use Rattle.std.proofs.Common.{arith, refl, ap, ◌∙◌}
 use Rattle.ccp_base.specs.declared.place.Place.{Place}

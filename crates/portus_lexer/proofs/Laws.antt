@@ -1,3 +1,4 @@
+-- A scan finds the one list of tokens that a text has, or the first byte that may not stand where it does.
 use Rattle.std.specs.Prelude.{◌≡◌, ℕ, false, Result, Ok, Err, IfOk, List, map}
 use Rattle.std.proofs.Common.{[], refl, sym, ◌∙◌, subst}
 use Rattle.portus_lexer.specs.declared.token.Token.{Token}

@@ -1,3 +1,4 @@
+-- The tokens of a text are found by the scan, so there is one list of them.
 use Rattle.std.specs.Prelude.{◌≡◌, ℕ, ◌+◌, Bool, true, false, not, ◌&&◌, ◌==◌, Result, Ok, Err, if◌then◌else◌, List, [], ◌∷◌, ◌++◌, length, map, suc}
 use Rattle.std.specs.List.{list_all}
 use Rattle.std.proofs.Common.{arith, refl, ap, sym, ◌∙◌, subst, append-nil, inl, inr}

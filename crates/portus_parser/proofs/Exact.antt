@@ -1,3 +1,4 @@
+-- What a reading ends with is what the text spells or its first refusal, of which each text has one.
 use Rattle.std.specs.Prelude.{◌≡◌, ℕ, ◌<◌, ◌≤◌, true, Some, None, ◌⊎◌, Result, Ok, Err, IfOk, IfErr, List, [], length, map}
 use Rattle.std.proofs.Common.{arith, refl, ap, sym, ◌∙◌, subst, append-nil, inl, inr}
 use Rattle.std.proofs.lemmas.Bool.{cases_lt}

@@ -1,3 +1,4 @@
+-- What is read of a text's lexemes is what the text spells.
 use Rattle.std.specs.Prelude.{◌≡◌, ℕ, ◌+◌, ◌<◌, Bool, true, false, nat_le, Result, Ok, Err, if◌then◌else◌, List, [], ◌∷◌, ◌++◌, length}
 use Rattle.std.proofs.Common.{arith, refl, ap, sym, ◌∙◌, subst, append_assoc, append-nil, suc}
 use Rattle.std.proofs.lemmas.Bool.{and_parts, and_from, leb-false}

@@ -1,3 +1,4 @@
+-- A reading ends with the first lexeme that is wrong, or else at the last list that is left open.
 use Rattle.std.specs.Prelude.{◌≡◌, ℕ, ◌+◌, ◌-◌, Bool, true, false, ◌==◌, nat_le, Option, Some, None, Result, Ok, Err, if◌then◌else◌, List, [], ◌∷◌, ◌++◌, length}
 use Rattle.std.specs.Option.{option_or}
 use Rattle.std.proofs.Common.{arith, refl, ap, sym, ◌∙◌, suc, zero, drop}

@@ -1,3 +1,4 @@
+-- The stack of open lists in the code stands for the open lists of a reading, turn by turn.
 use Rattle.std.specs.Prelude.{◌≡◌, ℕ, ◌+◌, ◌<◌, ◌≤◌, false, ◌==◌, Result, Ok, Err, List, [], ◌∷◌, ◌++◌, length, map}
 use Rattle.std.proofs.Common.{refl, ap, sym, ◌∙◌, arith, subst, suc, drop, get_or, drop-cons}
 use Rattle.std.proofs.lemmas.List.{map-append}

@@ -1,3 +1,4 @@
+-- A refusal of a text's lexemes is neither of its length, nor of a stray byte, nor want of memory.
 use Rattle.std.specs.Prelude.{◌≡◌, ℕ, ◌==◌, nat_le, Bool, true, false, Option, Some, None, Result, Ok, Err, if◌then◌else◌, List, [], ◌∷◌}
 use Rattle.std.specs.Option.{option_or}
 use Rattle.std.proofs.Common.{refl}

@@ -1,3 +1,4 @@
+-- What a text spells is printed as a text that spells the same but for places.
 use Rattle.std.specs.Prelude.{◌≡◌, ℕ, ◌+◌, ◌<◌, true, false, List, [], ◌∷◌, ◌++◌, codes}
 use Rattle.std.proofs.Common.{arith, refl, ap, sym, ◌∙◌, subst, append_assoc}
 use Rattle.ccp_base.specs.declared.place.Place.{Place}

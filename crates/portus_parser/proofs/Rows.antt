@@ -1,3 +1,4 @@
+-- Small texts with what they spell or are refused by, worked out by hand.
 use Rattle.std.specs.Prelude.{ℕ, [], ◌∷◌, codes}
 use Rattle.std.proofs.Common.{refl, lit≤}
 use Rattle.ccp_base.specs.declared.place.Place.{Place}

@@ -1,3 +1,4 @@
+-- Bytes that spell nodes have lexemes that are read as these nodes.
 use Rattle.std.specs.Prelude.{◌≡◌, ℕ, ◌+◌, ◌<◌, true, false, ◌&&◌, Result, Ok, List, [], ◌∷◌, ◌++◌, length}
 use Rattle.std.proofs.Common.{arith, refl, ap, sym, ◌∙◌, subst, append_assoc, append-nil, length-append}
 use Rattle.std.proofs.lemmas.Bool.{and_parts, or_right}

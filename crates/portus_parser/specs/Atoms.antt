@@ -1,30 +1,14 @@
 -- What an atom of a text stands for.
-use Rattle.std.specs.Prelude.{ℕ, Bool, false, ◌&&◌, ◌||◌, ◌==◌, nat_le, Option, Some, None, Result, Ok, Err, if◌then◌else◌, List, [], ◌∷◌, length, codes}
-use Rattle.std.specs.List.{list_all}
+use Rattle.std.specs.Prelude.{ℕ, Bool, false, ◌&&◌, ◌||◌, nat_le, Option, Some, None, Result, Ok, Err, if◌then◌else◌, List, [], ◌∷◌, length, codes}
 use Rattle.std.specs.Str.{bytes_eq}
 use Rattle.ccp_base.specs.Limits.{most_name_bytes}
 use Rattle.ccp_base.specs.Numerals.{is_digit, numeral_of}
 use Rattle.ccp_base.specs.Operations.{is_operation_mark}
 use Rattle.ccp_base.specs.declared.place.Place.{Place}
 use Rattle.portus_core.specs.Trees.{Node, number, word}
+use Rattle.portus_core.specs.Words.{is_name_shaped}
 use Rattle.portus_parser.specs.declared.fault.ParseFault.{ParseFault}
 use Rattle.portus_parser.specs.declared.fault.ParseFault.TheVariants.{BadNumeral, BadName}
-
--- a letter or `_`
-abbrev pub is_initial : ℕ → Bool
-is_initial b = (nat_le 97 b && nat_le b 122) || (nat_le 65 b && nat_le b 90) || b == 95
-
--- a letter, `_`, a digit or `.`
-abbrev pub is_name_byte : ℕ → Bool
-is_name_byte b = is_initial b || is_digit b || b == 46
-
-abbrev pub begins_as_name : List ℕ → Bool
-begins_as_name [] = false
-begins_as_name (b ∷ rest) = is_initial b
-
--- whether the text is shaped as a name
-abbrev pub is_named : List ℕ → Bool
-is_named text = begins_as_name text && list_all is_name_byte text
 
 -- whether the text is one of the words that aren't shaped as a name
 abbrev pub is_mark : List ℕ → Bool
@@ -34,7 +18,7 @@ is_mark text =
 
 -- whether the text is a word
 abbrev pub is_word : List ℕ → Bool
-is_word text = (is_named text || is_mark text) && nat_le (length text) most_name_bytes
+is_word text = (is_name_shaped text || is_mark text) && nat_le (length text) most_name_bytes
 
 abbrev pub begins_with_digit : List ℕ → Bool
 begins_with_digit [] = false

@@ -1,33 +1,18 @@
 ghost use Rattle.std.specs.Prelude.{◌≡◌, ◌&&◌, IsTrue, IfOk, IfErr, Ok, Err, Some, None, if◌then◌else◌};
 ghost use Rattle.std.specs.Str.{bytes_eq};
-ghost use Rattle.std.specs.List.{list_all};
 ghost use Rattle.portus_core.specs.Trees.{node_of};
 ghost use Rattle.ccp_base.specs.Numerals.{is_digit};
-ghost use Rattle.portus_parser.specs.Atoms.{is_initial, is_name_byte, is_named, is_mark, is_word, begins_with_digit, begins_as_name, atom_of};
+ghost use Rattle.portus_parser.specs.Atoms.{is_mark, is_word, begins_with_digit, atom_of};
 
 use crate::fault::ParseFault;
 use ccp_base::{Name, Place, is_operation_mark, numeral};
-use portus_core::Tree;
+use portus_core::{Tree, is_name_shaped};
 
 /// Whether the byte is a decimal digit.
 fn is_digit(byte: u8) -> bool
     ensures { result ≡ is_digit byte }
 {
     byte >= b'0' && byte <= b'9'
-}
-
-/// Whether the byte begins a name: a letter or `_`.
-fn is_initial(byte: u8) -> bool
-    ensures { result ≡ is_initial byte }
-{
-    (byte >= b'a' && byte <= b'z') || (byte >= b'A' && byte <= b'Z') || byte == b'_'
-}
-
-/// Whether the byte belongs to a name: a letter, `_`, a digit or `.`.
-fn is_name_byte(byte: u8) -> bool
-    ensures { result ≡ is_name_byte byte }
-{
-    is_initial(byte) || is_digit(byte) || byte == b'.'
 }
 
 /// Whether the text begins with a digit.
@@ -38,30 +23,6 @@ fn begins_with_digit(text: &[u8]) -> bool
         Some(first) => is_digit(*first),
         None => false,
     }
-}
-
-/// Whether the text begins as a name.
-fn begins_as_name(text: &[u8]) -> bool
-    ensures { result ≡ begins_as_name text.now }
-{
-    match text.first() {
-        Some(first) => is_initial(*first),
-        None => false,
-    }
-}
-
-/// Whether each byte of the text belongs to a name.
-fn are_name_bytes(text: &[u8]) -> bool
-    ensures { result ≡ list_all is_name_byte text.now }
-{
-    text.iter().all(|byte| is_name_byte(*byte))
-}
-
-/// Whether the text is shaped as a name.
-fn is_named(text: &[u8]) -> bool
-    ensures { result ≡ is_named text.now }
-{
-    begins_as_name(text) && are_name_bytes(text)
 }
 
 /// Whether two texts are equal.
@@ -82,7 +43,7 @@ fn is_mark(text: &[u8]) -> bool
 fn word(text: &[u8]) -> Option<Name>
     ensures { result ≡ (if is_word text.now then Some text.now else None) }
 {
-    if is_named(text) || is_mark(text) {
+    if is_name_shaped(text) || is_mark(text) {
         Name::new(text)
     } else {
         None

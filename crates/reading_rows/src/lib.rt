@@ -1,0 +1,15 @@
+//! Worked texts: what the readers and the builder make of them, and what their programs come to.
+#![tactic(auto)]
+
+#[cfg(test)]
+mod builds;
+#[cfg(test)]
+mod evaluations;
+#[cfg(test)]
+mod looks;
+#[cfg(test)]
+mod readings;
+#[cfg(test)]
+mod spans;
+#[cfg(test)]
+mod texts;
