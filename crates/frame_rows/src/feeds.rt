@@ -81,7 +81,11 @@ const ANSWERED: [(&str, &[&[u8]], &[u8]); 12] = [
         &[CREATE, INSTALL, CHANGE_BAD],
         b"\x08\x01\x00\x00\x00\x00\x00\x00\x00\x00\x00\x00\x15\x00\x00\x00\x08\x00\x00\x00\x00",
     ),
-    ("update-without-a-program", &[CREATE, UPDATE_FLOW_0], REFUSED_6),
+    (
+        "update-without-a-program",
+        &[CREATE, UPDATE_FLOW_0],
+        REFUSED_6,
+    ),
     (
         "update",
         &[CREATE, INSTALL, CHANGE, UPDATE_FLOW_0, ACK],

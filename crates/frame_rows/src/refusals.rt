@@ -77,8 +77,7 @@ const FULL: &[u8] = b"\x03\x02\x40\x40\x00\x00\x00\x00";
 const FULLER: &[u8] = b"\x03\x02\x40\x40\x00\x00\x01\x00";
 
 /// The front of an Update of control 0.
-const CONTROL: &[u8] =
-    b"\x04\x01\x01\x00\x00\x00\x00\x00\x00\x00\x00\x00\x1a\x00\x00\x00\x03\x00";
+const CONTROL: &[u8] = b"\x04\x01\x01\x00\x00\x00\x00\x00\x00\x00\x00\x00\x1a\x00\x00\x00\x03\x00";
 
 /// Frames, each with a place, a byte that can't stand there, and the byte's field.
 const BAD: [(&[u8], usize, u8, BadKind); 36] = [

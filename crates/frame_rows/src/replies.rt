@@ -1,9 +1,7 @@
 //! Updates and Changes, written and read in place.
 use crate::frames::{CHANGE_3, INSTALL_5, UPDATE};
 use ccp_base::{FieldReg, Fields};
-use reply_frames::{
-    FrameFault, Head, Short, Version, decode_fields, encode_change, encode_update,
-};
+use reply_frames::{FrameFault, Head, Short, Version, decode_fields, encode_change, encode_update};
 use std::test::*;
 
 #[test]
