@@ -59,7 +59,12 @@ pub fn create(bytes: &[u8]) -> Result<((u64, u32), &[u8]), Stop>
 
 /// The report of a Measure on a flow.
 #[tactic(auto, unfolding(crate::specs::Frames::measure_at))]
-pub fn measure(bytes: &[u8], version: Version, flow: u32, fields: u8) -> Result<(Report, &[u8]), Stop>
+pub fn measure(
+    bytes: &[u8],
+    version: Version,
+    flow: u32,
+    fields: u8,
+) -> Result<(Report, &[u8]), Stop>
     requires { fields ≤ most_fields }
     ensures read { Gives (λ x. (report_body x.0, x.1.now)) result (measure_at version fields bytes.now) }
     ensures flow { IfOk result (λ x. x.0.flow ≡ flow) }

@@ -99,7 +99,10 @@ pub fn encode_update(flow: u32, values: &Fields, out: &mut [u8]) -> Result<usize
     if out.len() < size {
         return Err(Short(size));
     }
-    put_outline(out, head_with_count(FrameKind::Update, Version::One, count as u8, flow));
+    put_outline(
+        out,
+        head_with_count(FrameKind::Update, Version::One, count as u8, flow),
+    );
     put_values(out, HEAD, values);
     Ok(size)
 }
@@ -124,7 +127,10 @@ pub fn encode_change(
     if out.len() < size {
         return Err(Short(size));
     }
-    put_outline(out, head_with_count(FrameKind::Change, Version::One, count as u8, flow));
+    put_outline(
+        out,
+        head_with_count(FrameKind::Change, Version::One, count as u8, flow),
+    );
     put(out, HEAD, &program.to_le_bytes());
     put_values(out, HEAD + 4, values);
     Ok(size)
