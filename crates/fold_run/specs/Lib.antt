@@ -7,3 +7,4 @@ pub mod Fold
 pub mod Told
 pub mod Folding
 pub mod ReadingLaws
+pub mod ExpectedName

@@ -7,7 +7,8 @@ ghost use Rattle.fold_run.specs.AckLine.{with_word, with_words, some_if, no_valu
 
 use crate::line_number::read_number;
 use crate::line_values::LineValues;
-use ccp_base::{Separator, value_named};
+use crate::names::number_named;
+use ccp_base::Separator;
 use memchr::memchr;
 
 /// What a line below the separator says.
@@ -66,8 +67,9 @@ fn read_words(values: &mut LineValues, line: &[u8]) -> bool
     ensures { some_if result values.new ≡ with_words (Some values.old) (parts_of Blank line.now) }
 {
     let mut left = line;
+    let mut expected = 0;
     while !left.is_empty() {
-        match read_word(values, left) {
+        match read_word(values, left, &mut expected) {
             None => return false,
             Some(after) => left = after,
         }
@@ -76,8 +78,9 @@ fn read_words(values: &mut LineValues, line: &[u8]) -> bool
 }
 
 /// Takes the value of the word at the front of a text, and gives what follows the word; None exactly where the word
-/// gives no value that isn't there yet.
-fn read_word<'a>(values: &mut LineValues, text: &'a [u8]) -> Option<&'a [u8]>
+/// gives no value that isn't there yet. `expected` is the number of the value that is looked for first: words mostly stand
+/// in the order of the numbers.
+fn read_word<'a>(values: &mut LineValues, text: &'a [u8], expected: &mut usize) -> Option<&'a [u8]>
     requires { 0 < length text.now }
     ensures word { IfSome result (λ after. with_word values.old (first_of Blank text.now) ≡ Some values.new) }
     ensures after { IfSome result (λ after. after.now ≡ after_of Blank text.now) }
@@ -89,9 +92,10 @@ fn read_word<'a>(values: &mut LineValues, text: &'a [u8]) -> Option<&'a [u8]>
     let Some(at) = memchr(b'=', text) else {
         return None;
     };
-    let Some(number) = value_named(&text[..at]) else {
+    let Some(number) = number_named(&text[..at], *expected) else {
         return None;
     };
+    *expected = number + 1;
     let Some((value, after)) = read_number(&text[at + 1..]) else {
         return None;
     };

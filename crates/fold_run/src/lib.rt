@@ -13,6 +13,7 @@ mod folding;
 mod laws;
 mod line_number;
 mod line_values;
+mod names;
 mod separated;
 #[cfg(test)]
 mod tests;
