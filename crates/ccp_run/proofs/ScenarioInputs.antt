@@ -30,11 +30,11 @@ pub record AreApart {Said : Type 0} (says : Said → Type 0) (has : SceneFault �
   pub apart : (said : Said) (fault : SceneFault) → says said → has fault → ⊥
   pub one : (left right : SceneFault) → has left → has right → left ≡ right
 
-ok_or_err : {Said : Type 0} (said : Said) (fault : SceneFault) → Ok said ≡ Err fault → ⊥
-ok_or_err said fault e = cc
+ok_or_err : {Said : Type 0} (found : Result Said SceneFault) (said : Said) (fault : SceneFault) → found ≡ Ok said → found ≡ Err fault → ⊥
+ok_or_err found said fault says has = let both : Ok said ≡ Err fault = sym says ∙ has in cc
 
-one_err : {Said : Type 0} (left right : SceneFault) → Err {Said} {SceneFault} left ≡ Err right → left ≡ right
-one_err left right e = cc
+one_err : {Said : Type 0} (found : Result Said SceneFault) (left right : SceneFault) → found ≡ Err left → found ≡ Err right → left ≡ right
+one_err found left right l r = let both : Err left ≡ Err right = sym l ∙ r in cc
 
 -- what a function finds
 module _ {Said : Type 0} (found : Result Said SceneFault) where
@@ -45,8 +45,8 @@ module _ {Said : Type 0} (found : Result Said SceneFault) where
   pub by_function : AreApart (λ (said : Said). found ≡ Ok said) (λ fault. found ≡ Err fault)
   by_function = record {
     some = some_found found refl;
-    apart = λ said fault says has. ok_or_err said fault (sym says ∙ has);
-    one = λ left right l r. one_err left right (sym l ∙ r);
+    apart = ok_or_err found;
+    one = one_err found;
   }
 
 -- what a function of the reading finds, by every reading
@@ -67,8 +67,8 @@ module _ {Said : Type 0} (found : Reading → Result Said SceneFault) where
   pub by_readings : AreApart (λ (said : Said). (read : Reading) → IsReading read → found read ≡ Ok said) (λ fault. (read : Reading) → IsReading read → found read ≡ Err fault)
   by_readings = record {
     some = some_read now refl;
-    apart = λ said fault says has. ok_or_err said fault (sym (says some_reading.0 some_reading.1) ∙ has some_reading.0 some_reading.1);
-    one = λ left right l r. one_err left right (sym (l some_reading.0 some_reading.1) ∙ r some_reading.0 some_reading.1);
+    apart = λ said fault says has. ok_or_err now said fault (says some_reading.0 some_reading.1) (has some_reading.0 some_reading.1);
+    one = λ left right l r. one_err now left right (l some_reading.0 some_reading.1) (r some_reading.0 some_reading.1);
   }
 
 -- ---- the same with refusals

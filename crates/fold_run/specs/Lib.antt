@@ -1,4 +1,5 @@
 pub mod FirstPart
+pub mod ExpectedName
 pub mod Separated
 pub mod AckLine
 pub mod Acknowledgements
@@ -7,4 +8,3 @@ pub mod Fold
 pub mod Told
 pub mod Folding
 pub mod ReadingLaws
-pub mod ExpectedName

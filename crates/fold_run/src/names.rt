@@ -1,4 +1,4 @@
-ghost use Rattle.std.specs.Prelude.{◌≡◌, ◌<◌, Some};
+ghost use Rattle.std.specs.Prelude.{◌≡◌, ◌≤◌, ◌<◌, Some};
 ghost use Rattle.std.specs.Bool.{OnTrue};
 ghost use Rattle.std.specs.Option.{ForSome};
 ghost use Rattle.std.specs.Str.{bytes_eq};
@@ -8,16 +8,41 @@ ghost use Rattle.fold_run.specs.ExpectedName.{name_of};
 
 use ccp_base::{PRIMITIVES, value_named};
 
-/// The number of the primitive with this name, which is looked for first at the number that is expected; None exactly
-/// where there is none.
-pub fn number_named(name: &[u8], expected: usize) -> Option<usize>
-    ensures number { result ≡ value_named name.now }
-    ensures below { ForSome result (λ n. n < primitive_count) }
-{
-    if is_expected(name, expected) {
-        return Some(expected);
+/// The place of a line's begin among the numbers of names.
+pub const LINE_BEGIN: usize = 15;
+
+/// Which name followed each name last, and a line's begin: lines mostly name the same values in the same order, so the
+/// name that is looked for first is mostly the right one.
+#[derive(Clone, Copy, Debug)]
+pub struct Followers {
+    numbers: [usize; 16],
+}
+
+impl Followers {
+    /// No line was read.
+    pub fn new() -> Followers {
+        Followers { numbers: [0; 16] }
     }
-    value_named(name)
+
+    /// The number of the primitive with this name, which stands after the one with the number `before` or at a line's
+    /// begin; None exactly where there is none.
+    pub fn number_named(&mut self, before: usize, name: &[u8]) -> Option<usize>
+        requires { before ≤ primitive_count }
+        ensures number { result ≡ value_named name.now }
+        ensures below { ForSome result (λ n. n < primitive_count) }
+    {
+        let expected = self.numbers[before];
+        if is_expected(name, expected) {
+            return Some(expected);
+        }
+        match value_named(name) {
+            None => None,
+            Some(number) => {
+                self.numbers[before] = number;
+                Some(number)
+            }
+        }
+    }
 }
 
 /// Whether there is a primitive with this number, and this is its name.

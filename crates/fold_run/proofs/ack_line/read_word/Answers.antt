@@ -26,7 +26,7 @@ module _ (values : LineValues) (text : List ℕ) (at : ℕ) (is : equals_from 0 
 
 pub returns-in_default-clause-wrong : goal.returns-in_default-clause-wrong
 returns-in_default-clause-wrong c =
-    word-none c.args.values.now c.args.text.now c.requires (sym c.is.ensures ∙ c.if-is.false) (no-equals 0 c.args.text.now c.in_default.ensures)
+    word-none c.args.values.now c.args.text.now c.requires.some (sym c.is.ensures ∙ c.if-is.false) (no-equals 0 c.args.text.now c.in_default.ensures)
 
 pub returns-in_default-number_named-clause-wrong : goal.returns-in_default-number_named-clause-wrong
 returns-in_default-number_named-clause-wrong c =
