@@ -60,7 +60,7 @@ module _ {Said : Type 0} (found : Reading → Result Said SceneFault) where
 
   some_read : (came : Result Said SceneFault) → now ≡ came
       → SaysSomething (λ said. (read : Reading) → IsReading read → found read ≡ Ok said)
-        ⊎ ((fault : SceneFault) × ((read : Reading) → IsReading read → found read ≡ Err fault))
+      ⊎ ((fault : SceneFault) × ((read : Reading) → IsReading read → found read ≡ Err fault))
   some_read (Ok said) is = inl (said, for_all (Ok said) is)
   some_read (Err fault) is = inr (fault, for_all (Err fault) is)
 

@@ -7,6 +7,7 @@ use Rattle.flow_core.specs.declared.case.Case.{Case}
 use Rattle.flow_core.specs.LiveText.{flow_from}
 use Rattle.reg_compiler.specs.declared.built.Built.{Built}
 use Rattle.scenario_json.specs.declared.fault.SceneFault.{SceneFault}
+use Rattle.scenario_json.specs.declared.shared_scene.SharedScene.{SharedScene}
 use Rattle.scenario_json.specs.Cases.{plan_of, case_names, IsCoded, AreFlowsFrom}
 use Rattle.scenario_json.specs.Scene.{scene_with}
 use Rattle.scenario_json.specs.ScenePrograms.{Reading, IsReading, forms_of}
@@ -54,6 +55,10 @@ abbrev pub shared_text : List (ℕ × Built) → List Case → SharedCase → �
 shared_text programs cases link rounds =
     table_text (case_names cases) (case_agents cases) (shared_rows link (flow_from (forms_of programs)) cases rounds)
     ⧺ link_line (shared_counts link (flow_from (forms_of programs)) cases rounds)
+
+-- that text of a scenario that was read
+abbrev pub text_of_scene : SharedScene → List ℕ
+text_of_scene scene = shared_text scene.scene.programs scene.scene.cases scene.link scene.rounds
 
 -- the output is that text of the scenario's cases
 pub record IsSharedOutput (bytes : List ℕ) (output : ModeOutput) : Type 0 where

@@ -5,7 +5,7 @@ ghost use Rattle.scenario_json.specs.Cases.{plan_of, case_names, IsCoded, AreFlo
 ghost use Rattle.scenario_json.specs.SharedScenes.{flow_link_of};
 ghost use Rattle.shared_link.specs.SharedLimits.{IsWithin};
 ghost use Rattle.ccp_run.specs.Attempts.{IsAnswer, IsAttempt};
-ghost use Rattle.ccp_run.specs.Shared.{IsSharedScenario, StopsShared, link_line, shared_text};
+ghost use Rattle.ccp_run.specs.Shared.{IsSharedScenario, StopsShared, link_line, text_of_scene};
 ghost use Rattle.ccp_run.specs.Streams.{over};
 ghost use Rattle.ccp_run.specs.Modes.{Task};
 
@@ -95,7 +95,7 @@ fn run_together<R: Threads + Wait + Sync, G: Gate + Sync>(
     requires link { IsWithin scene.link }
     requires links { scene.link.flows ≡ map flow_link_of (map plan_of scene.scene.cases) }
     requires rounds { scene.rounds ≤ most_rounds }
-    ensures text { IfOk result (λ output. output.text ≡ shared_text scene.scene.programs scene.scene.cases scene.link scene.rounds) }
+    ensures text { IfOk result (λ output. output.text ≡ text_of_scene scene) }
     ensures books { IfOk result (λ output. output.books ≡ []) }
     ensures programs { IfOk result (λ output. output.programs ≡ []) }
     ensures ran { IfOk result (λ output. output.ran ≡ 0) }

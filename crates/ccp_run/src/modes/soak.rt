@@ -1,7 +1,7 @@
 ghost use Rattle.std.specs.Prelude.{◌≡◌, ◌≤◌, IfOk};
 ghost use Rattle.ccp_base.specs.Limits.{most_workers};
 ghost use Rattle.ccp_run.specs.Attempts.{IsAttempt};
-ghost use Rattle.ccp_run.specs.Campaign.{IsSoakOutput};
+ghost use Rattle.ccp_run.specs.Soak.{IsSoakOutput};
 ghost use Rattle.ccp_run.specs.Streams.{Stream};
 ghost use Rattle.ccp_run.specs.Modes.{Task};
 
