@@ -2,9 +2,9 @@
 use Rattle.std.proofs.Common.{◌≡◌, refl, inl, ℕ, Bool, List}
 use Rattle.scenario_json.specs.declared.mode.Mode.{Mode as SceneMode}
 use Rattle.scenario_json.specs.declared.mode.Mode.TheVariants as scene
-use Rattle.scenario_json.specs.Rollout.{OpenPlan, rollout_of}
-use Rattle.scenario_json.specs.Scene.{Scene, scene_of}
-use Rattle.scenario_json.specs.SharedScenes.{SharedParts, shared_scene_of}
+use Rattle.scenario_json.specs.Rollout.{rollout_of}
+use Rattle.scenario_json.specs.Scene.{scene_of}
+use Rattle.scenario_json.specs.SharedScenes.{shared_scene_of}
 use Rattle.ccp_run.specs.Modes.{Task, Alone, Live, Campaign, Soak, Rollout, Shared}
 use Rattle.ccp_run.specs.Rollout.{SaysRollout, HasRolloutFault}
 use Rattle.ccp_run.specs.Scenes.{Says, HasFault}

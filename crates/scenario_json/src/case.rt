@@ -1,6 +1,6 @@
 ghost use Rattle.std.specs.Prelude.{◌≡◌, ◌≢◌, ◌≤◌, ◌+◌, IfOk, IfErr, Ok, Err, [], length};
 ghost use Rattle.std.specs.List.{All};
-ghost use Rattle.serde_json.specs.View.{view, items_view};
+ghost use Rattle.serde_json.specs.View.{view};
 ghost use Rattle.ccp_base.specs.Limits.{most_named_programs};
 ghost use Rattle.scenario_json.specs.CaseWalk.{case_name, kind_named, case_kind, trace_in, case_trace, case_members, case_in};
 ghost use Rattle.scenario_json.specs.Drafts.{plans_in};
