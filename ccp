@@ -6,6 +6,22 @@ set -u
 here=$(cd "$(dirname "$(readlink -f "${BASH_SOURCE[0]}")")" && pwd)
 program=$here/crates/ccp/out/ccp
 
+# Each mode with what it does and an example, from the table of README.md.
+modes() {
+    awk '
+        /^## / { within = $0 == "## Modes" }
+        within && /^\| `/ {
+            gsub(/\\\|/, "\001")
+            split($0, cells, / *\| */)
+            gsub(/ \(\[[^)]*\)\)/, "", cells[3])
+            gsub(/`/, "", cells[2])
+            gsub(/`/, "", cells[4])
+            gsub("\001", "|", cells[4])
+            printf "  %-9s %s\n              %s\n", cells[2], cells[3], cells[4]
+        }
+    ' "$here/README.md"
+}
+
 help() {
     cat <<'END'
 ccp [OPTION].. MODE < INPUT
@@ -13,24 +29,9 @@ ccp [OPTION].. MODE < INPUT
 Congestion control as programs that the datapath runs on each acknowledgement: compiled, verified, and run over virtual
 links with Reno and CUBIC as agents. Each report that is printed means what its program's source says.
 
-  check     a program's summary and the listing of its code
-              ./ccp check < examples/reno_ss.portus
-  fold      a program over given acknowledgements: reports, fault, end line
-              ./ccp fold < examples/measurement-program.ccp
-  live      the flows of a scenario on datapath and agent threads: what each flow's history came to
-              ./ccp live --datapaths 2 --agents 2 < examples/live.json
-  campaign  the cases of a scenario, each on a link of its own: a table
-              ./ccp campaign --workers 4 < examples/campaign.json
-  soak      64 generated cases, as their sums; it reads nothing
-              ./ccp soak --number 7 --workers 4
-  feed      a datapath over a stream of frames
-              grep -v '^#' examples/feed.hex | xxd -r -p | ./ccp feed | xxd -p
-  rollout   programs compiled and installed while datapaths run
-              ./ccp rollout --datapaths 2 --agents 2 < examples/rollout.json
-  shared    several flows over one bottleneck: a table, and the link's counts
-              ./ccp shared --workers 2 < examples/shared.json
-  audit     whether a printed live text is one of its scenario
-              (cat examples/live.json; echo ---; ./ccp live < examples/live.json) | ./ccp audit
+END
+    modes
+    cat <<'END'
 
   --datapaths N, --agents N   threads of live and rollout, 1 to 32, 1 unless they are given
   --workers N                 threads of campaign, soak and shared, 1 to 32, 1 unless it is given

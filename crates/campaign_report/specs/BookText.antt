@@ -14,7 +14,7 @@ use Rattle.flow_core.specs.declared.case.Case.{Case}
 use Rattle.flow_core.specs.declared.letter.Letter.{Letter}
 use Rattle.flow_core.specs.declared.letter.Letter.TheVariants.{A, T, C}
 use Rattle.flow_core.specs.Lift.{place_at}
-use Rattle.flow_core.specs.LiveText.{Account, Sources, account_text, answer_text, told_text}
+use Rattle.flow_core.specs.LiveText.{Account, Sources, account_text, answer_text, end_line, told_text}
 use Rattle.flow_core.specs.Readings.{by_number}
 use Rattle.flow_core.specs.World.{Failure}
 
@@ -116,3 +116,13 @@ fault_texts programs case (notice ∷ rest) = fault_text programs case notice �
 abbrev pub ticket_text : Sources → ℕ → TicketLine → List ℕ
 ticket_text sources number ticket =
     codes "ticket " ⧺ decimal number ⧺ codes " " ⧺ told_text sources ticket.told (answer_text ticket)
+
+-- ---- parts of it
+
+-- a book's last line
+abbrev pub last_line : List (ℕ × Built) → Book → List ℕ
+last_line programs book = end_line (sources_of programs) (account_in programs book)
+
+-- what a ticket told, and how it was answered
+abbrev pub ticket_told : List (ℕ × Built) → TicketLine → List ℕ
+ticket_told programs ticket = told_text (sources_of programs) ticket.told (answer_text ticket)

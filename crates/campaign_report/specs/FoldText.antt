@@ -4,6 +4,8 @@ use Rattle.ccp_base.specs.declared.exchange.Notice.{Notice}
 use Rattle.ccp_base.specs.declared.exchange.Report.{Report}
 use Rattle.ccp_base.specs.declared.place.Place.{Place}
 use Rattle.portus_core.specs.declared.program.Decl.{Decl}
+use Rattle.portus_core.specs.ProgramForm.{form_of}
+use Rattle.reg_compiler.specs.declared.built.Built.{Built}
 use Rattle.report_lines.specs.declared.end_line.End.{End}
 use Rattle.report_lines.specs.Text.{◌⧺◌}
 use Rattle.report_lines.specs.EndLine.{end_line}
@@ -32,3 +34,7 @@ ShowsAll fields report = length report.fields ≡ length fields
 -- a fault's instruction has a place
 abbrev pub IsPlaced : List Place → Notice → Type 0
 IsPlaced places notice = notice.index < length places
+
+-- the text of a fold of this program
+abbrev pub program_text : Built → List Report → Option Notice → End → List ℕ
+program_text built reports fault end = fold_text (form_of built.program).fields built.places reports fault end

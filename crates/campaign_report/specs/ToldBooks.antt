@@ -10,7 +10,7 @@ use Rattle.flow_core.specs.declared.book.TicketLine.{TicketLine}
 use Rattle.flow_core.specs.declared.case.Case.{Case}
 use Rattle.flow_core.specs.declared.letter.Letter.{Letter}
 use Rattle.flow_core.specs.Books.{epoch_line}
-use Rattle.flow_core.specs.LiveText.{flow_from}
+use Rattle.flow_core.specs.LiveText.{flow_from, live_text}
 use Rattle.flow_core.specs.Readings.{Flow, env_of}
 use Rattle.flow_core.specs.Words.{world}
 use Rattle.flow_core.specs.World.{Content, of_report, of_failure, Answered, World, track_of}
@@ -51,3 +51,7 @@ pub record IsRead (programs : List (ℕ × Built)) (book : Book) : Type 0 where
 -- the flows of books: each its case and its word
 abbrev pub flows_of : List Book → List (Case × List Letter)
 flows_of books = map (λ (book : Book). (book.case, book.word)) books
+
+-- the live text of these flows, read over the sources of the programs
+abbrev pub read_text : List (ℕ × Built) → List Book → List ℕ
+read_text programs books = live_text (sources_of programs) (flows_of books)

@@ -2,7 +2,7 @@ ghost use Rattle.std.specs.Prelude.{◌≡◌, ◌++◌, IfOk, OnOk, length, opt
 ghost use Rattle.std.specs.List.{All};
 ghost use Rattle.std.specs.Option.{ForSome};
 ghost use Rattle.portus_core.specs.ProgramForm.{form_of};
-ghost use Rattle.campaign_report.specs.FoldText.{IsPlaced, ShowsAll, fold_text, notice_line, placed_line};
+ghost use Rattle.campaign_report.specs.FoldText.{IsPlaced, ShowsAll, notice_line, placed_line, program_text};
 
 use ccp_base::{Bytes, NoMemory, Notice, Place, Reports};
 use reg_compiler::Built;
@@ -22,7 +22,7 @@ pub fn fold_text(
     requires reports { All (ShowsAll (form_of built.now.program).fields) reports.now }
     requires fault { ForSome fault (IsPlaced built.now.places) }
     requires end { length end.now.fields ≡ length (form_of built.now.program).fields }
-    ensures { IfOk result (λ text. text ≡ fold_text (form_of built.now.program).fields built.now.places reports.now fault end.now) }
+    ensures { IfOk result (λ text. text ≡ program_text built.now reports.now fault end.now) }
 {
     let fields = built.program.fields.as_slice();
     let mut text = Bytes::new(alloc);

@@ -1,8 +1,8 @@
 ghost use Rattle.std.specs.Prelude.{◌≡◌, ◌≤◌, ◌++◌, IfOk, OnOk, map};
 ghost use Rattle.std.specs.List.{All};
-ghost use Rattle.flow_core.specs.LiveText.{end_line, epoch_lines, fault_lines, flow_line, live_text};
-ghost use Rattle.campaign_report.specs.BookText.{account_in, ack_count, acks_at, book_text, books_text, end_in, epoch_text, failure_of, fault_text, fault_texts, is_faulted, last_program, sources_of};
-ghost use Rattle.campaign_report.specs.ToldBooks.{IsRead, flows_of};
+ghost use Rattle.flow_core.specs.LiveText.{epoch_lines, fault_lines, flow_line};
+ghost use Rattle.campaign_report.specs.BookText.{ack_count, acks_at, book_text, books_text, end_in, epoch_text, failure_of, fault_text, fault_texts, is_faulted, last_line, last_program};
+ghost use Rattle.campaign_report.specs.ToldBooks.{IsRead, read_text};
 
 use crate::agent_text::agent_text;
 use crate::programs::{fields_of, place_of};
@@ -18,7 +18,7 @@ use std::alloc::Global;
 /// each book tells what its word came to, read over the sources of the programs, it is the live text of these words.
 pub fn live_text(alloc: Global, books: &[Book], programs: &Builts) -> Result<Bytes, NoMemory>
     ensures text { IfOk result (λ text. text ≡ books_text programs.now books.now) }
-    ensures live { All (IsRead programs.now) books.now → IfOk result (λ text. text ≡ live_text (sources_of programs.now) (flows_of books.now)) }
+    ensures live { All (IsRead programs.now) books.now → IfOk result (λ text. text ≡ read_text programs.now books.now) }
 {
     books_text(alloc, books, programs)
 }
@@ -146,7 +146,7 @@ fn put_last(
     programs: &[(u32, Built)],
     book: &Book,
 ) -> Result<(), NoMemory>
-    ensures { OnOk result (text.new ≡ text.old ++ end_line (sources_of programs.now) (account_in programs.now book.now)) }
+    ensures { OnOk result (text.new ≡ text.old ++ last_line programs.now book.now) }
 {
     let end = end_in(book);
     let fields = fields_of(programs, last_program(book.epochs.as_slice()));

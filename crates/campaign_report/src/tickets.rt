@@ -1,6 +1,6 @@
 ghost use Rattle.std.specs.Prelude.{◌≡◌, ◌≤◌, ◌++◌, OnOk};
-ghost use Rattle.flow_core.specs.LiveText.{answer_text, reply_text, report_count, reports_told, ticket_lines, told_text};
-ghost use Rattle.campaign_report.specs.BookText.{sources_of, ticket_text};
+ghost use Rattle.flow_core.specs.LiveText.{answer_text, reply_text, report_count, reports_told, ticket_lines};
+ghost use Rattle.campaign_report.specs.BookText.{sources_of, ticket_text, ticket_told};
 
 use crate::programs::fields_of;
 use ccp_base::{Bytes, NoMemory, Reply, Told};
@@ -45,7 +45,7 @@ fn put_told(
     programs: &[(u32, Built)],
     ticket: &TicketLine,
 ) -> Result<(), NoMemory>
-    ensures { OnOk result (text.new ≡ text.old ++ told_text (sources_of programs.now) ticket.now.told (answer_text ticket.now)) }
+    ensures { OnOk result (text.new ≡ text.old ++ ticket_told programs.now ticket.now) }
 {
     match &ticket.told {
         Told::Report(report) => {

@@ -1,7 +1,7 @@
 ghost use Rattle.std.specs.Prelude.{◌≡◌, IfOk, OnErr, map, string_bytes};
 ghost use Rattle.std.specs.Process.{exit_status};
 ghost use Rattle.ccp_run.specs.Statuses.{memory_line};
-ghost use Rattle.ccp_run.specs.Streams.{Tells, stream};
+ghost use Rattle.ccp_run.specs.Streams.{Tells, over};
 ghost use Rattle.ccp.specs.Exit.{IsExit};
 
 use ccp_base::{NoMemory, OpenGate, Sink, Source};
@@ -21,9 +21,12 @@ pub fn exit<R: Threads + Wait + Sync, S: Source, K: Sink, E: Sink>(
     sink: &mut K,
     errors: &mut E,
 ) -> ExitCode
-    ensures run { IfOk words (λ words. IsExit (map string_bytes words.items) (stream (S.remaining source.old) (S.remaining source.new) (S.faults source.old) (S.faults source.new)) (stream (K.written sink.old) (K.written sink.new) (K.faults sink.old) (K.faults sink.new)) (stream (E.written errors.old) (E.written errors.new) (E.faults errors.old) (E.faults errors.new)) (K.is_finished sink.new) (exit_status result)) }
+    ensures run { IfOk words (λ words. IsExit (map string_bytes words.items)
+        (over S.remaining S.faults source.old source.new)
+        (over K.written K.faults sink.old sink.new)
+        (over E.written E.faults errors.old errors.new) (K.is_finished sink.new) (exit_status result)) }
     ensures no_words { OnErr words (exit_status result ≡ 6) }
-    ensures told { OnErr words (Tells (stream (E.written errors.old) (E.written errors.new) (E.faults errors.old) (E.faults errors.new)) memory_line) }
+    ensures told { OnErr words (Tells (over E.written E.faults errors.old errors.new) memory_line) }
 {
     match words {
         Ok(words) => run_on(rt, alloc, words, source, sink, errors),
@@ -40,7 +43,10 @@ fn run_on<R: Threads + Wait + Sync, S: Source, K: Sink, E: Sink>(
     sink: &mut K,
     errors: &mut E,
 ) -> ExitCode
-    ensures { IsExit (map string_bytes words.items) (stream (S.remaining source.old) (S.remaining source.new) (S.faults source.old) (S.faults source.new)) (stream (K.written sink.old) (K.written sink.new) (K.faults sink.old) (K.faults sink.new)) (stream (E.written errors.old) (E.written errors.new) (E.faults errors.old) (E.faults errors.new)) (K.is_finished sink.new) (exit_status result) }
+    ensures { IsExit (map string_bytes words.items)
+        (over S.remaining S.faults source.old source.new)
+        (over K.written K.faults sink.old sink.new)
+        (over E.written E.faults errors.old errors.new) (K.is_finished sink.new) (exit_status result) }
 {
     let outcome = run(rt, alloc, words, source, sink, errors, &OpenGate);
     ExitCode::from(outcome.status)

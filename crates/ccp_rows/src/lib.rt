@@ -2,6 +2,8 @@
 #![tactic(auto)]
 
 #[cfg(test)]
+mod acknowledgement_lines;
+#[cfg(test)]
 mod came;
 #[cfg(test)]
 mod campaigns;

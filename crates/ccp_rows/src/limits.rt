@@ -120,13 +120,21 @@ fn a_fold_has_at_most_65536_acknowledgements(rt: HostRuntime) -> Result<(), Fail
         &input,
         b"end acks=65536 reports=0 tail=0..65536 stopped=no cwnd=0 rate=0\n",
     );
-    input.extend_from_slice(b"now=2\n")?;
+    input.extend_from_slice(b"now=2")?;
     is_refused(
         &rt,
         alloc,
         Alone::Fold,
         &input,
         "ccp: input refused: too many acknowledgements\n",
+    );
+    input.extend_from_slice(b"x")?;
+    is_refused(
+        &rt,
+        alloc,
+        Alone::Fold,
+        &input,
+        "ccp: input refused: acknowledgement line 65539\n",
     );
     Ok(())
 }

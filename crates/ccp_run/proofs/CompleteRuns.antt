@@ -1,18 +1,16 @@
 -- A run on an input of its mode isn't refused, and one on any other bytes is.
 use Rattle.std.proofs.Common.{◌≡◌, ◌≤◌, ◌<◌, ◌∙◌, inl, inr, ℕ, zero, suc, Bool, true, false, List, [], ◌++◌, length, Some, None, arith, ap, sym, subst, refl, append-nil, length-append}
 use Rattle.ccp_base.specs.Outside.{Known, Rose, Takes, IsAtEnd, TakesOver}
-use Rattle.ccp_run.specs.Tasks.{Task, Alone, Live, Campaign, Soak, Rollout, Shared}
 use Rattle.ccp_run.specs.declared.outcome.ModeOutput.{ModeOutput}
 use Rattle.ccp_run.specs.declared.outcome.Outcome.{Outcome}
 use Rattle.ccp_run.specs.declared.refusal.Refusal.{Refusal}
 use Rattle.ccp_run.specs.declared.status.Status.TheVariants as status
 use Rattle.ccp_run.specs.Attempts.{MakesOutput, RefusesBytes, RefusesAny}
 use Rattle.ccp_run.specs.Complete.{EndsAs, IsNoInput, IsComplete}
-use Rattle.ccp_run.specs.Modes.{limit_of, is_read, is_stream, IsMade, IsRefused}
+use Rattle.ccp_run.specs.Modes.{Task, limit_of, is_read, is_stream, IsInput, IsMade, IsRefused}
 use Rattle.ccp_run.specs.Run.{IsRun, WritesAnyFront}
-use Rattle.ccp_run.specs.Settled.{IsInput}
 use Rattle.ccp_run.specs.Streams.{Stream, HasInput}
-use Rattle.ccp_run.proofs.SettledInputs.{settled_input}
+use Rattle.ccp_run.proofs.WorkerModes.{is_mode}
 
 not_over : (limit : ℕ) (bytes : List ℕ) (old new : Known) → old ≡ Some bytes → length bytes ≤ limit → TakesOver limit old new → ⊥
 not_over limit bytes old None is short over = let e : Some bytes ≡ None = sym is ∙ over.takes in cc
@@ -36,29 +34,20 @@ split : (bytes taken : List ℕ) (old new : Known) → old ≡ Some bytes → Ta
 split bytes taken old None is takes = let e : Some bytes ≡ None = sym is ∙ takes in let bad : ⊥ = cc in absurd bad
 split bytes taken old (Some left) is takes = let e : Some bytes ≡ Some (taken ++ left) = sym is ∙ takes in let lists : bytes ≡ taken ++ left = cc in (left, lists)
 
--- a task that doesn't read its source refuses nothing
-no_refusal : (task : Task) (bytes : List ℕ) (refusal : Refusal) → is_read task ≡ false → IsRefused task bytes refusal → ⊥
-no_refusal (Alone alone) bytes refusal reads refused = cc
-no_refusal (Live wire) bytes refusal reads refused = let bad : ⊥ = cc in absurd bad
-no_refusal (Campaign wire) bytes refusal reads refused = let bad : ⊥ = cc in absurd bad
-no_refusal (Soak number) bytes refusal reads refused = refused
-no_refusal Rollout bytes refusal reads refused = let bad : ⊥ = cc in absurd bad
-no_refusal Shared bytes refusal reads refused = let bad : ⊥ = cc in absurd bad
-
 module _ (task : Task) (source : Stream) (bytes : List ℕ) (is : source.old ≡ Some bytes) where
   same_bytes : (taken : List ℕ) → HasInput true source taken → bytes ≡ taken
   same_bytes taken has = whole bytes taken source.old source.new is has.taken has.end
 
   not_refused_bytes : (refusal : Refusal) → IsInput task bytes → (r : RefusesBytes task source refusal) → (reads : Bool) → is_read task ≡ reads → HasInput reads source r.bytes → ⊥
   not_refused_bytes refusal input r true reads has =
-      (settled_input task bytes).apart refusal input
+      ((is_mode task).settled bytes).apart refusal input
       (subst (λ (b : List ℕ). IsRefused task b refusal) (sym (same_bytes r.bytes has)) r.cause)
-  not_refused_bytes refusal input r false reads has = no_refusal task r.bytes refusal reads r.cause
+  not_refused_bytes refusal input r false reads has = (is_mode task).unread reads r.bytes refusal r.cause
 
   not_refused : (refusal : Refusal) → length bytes ≤ limit_of task → IsInput task bytes → (answers_early : Bool) → RefusesAny answers_early task source refusal → ⊥
   not_refused refusal short input true (inl early) =
       let parts = split bytes early.bytes source.old source.new is early.taken in
-      (settled_input task bytes).apart refusal input
+      ((is_mode task).settled bytes).apart refusal input
       (subst (λ (b : List ℕ). IsRefused task b refusal) (sym parts.1) (early.cause parts.0))
   not_refused refusal short input true (inr r) = not_refused_bytes refusal input r (is_read task) refl r.read
   not_refused refusal short input false (inl long) = not_over (limit_of task) bytes source.old source.new is short long.over
@@ -71,10 +60,10 @@ module _ (task : Task) (source : Stream) (bytes : List ℕ) (is : source.old ≡
       let over : limit_of task < length bytes = long.1 in
       absurd (omega (arith, short, over, ap length (same_bytes m.bytes has)))
   not_made_of output (inr refused) m true reads has =
-      let settled = settled_input task bytes in
+      let settled = (is_mode task).settled bytes in
       settled.apart refused.0 (settled.made output (subst (λ (b : List ℕ). IsMade task b output) (sym (same_bytes m.bytes has)) m.made)) refused.1
   not_made_of output (inl long) m false reads has = let bad : ⊥ = let is_true : is_read task ≡ true = long.0 in cc in absurd bad
-  not_made_of output (inr refused) m false reads has = no_refusal task bytes refused.0 reads refused.1
+  not_made_of output (inr refused) m false reads has = (is_mode task).unread reads bytes refused.0 refused.1
 
   not_made : (output : ModeOutput) → IsNoInput task bytes → MakesOutput task source output → ⊥
   not_made output other m = not_made_of output other m (is_read task) refl m.read

@@ -7,7 +7,7 @@ use Rattle.feed_core.specs.declared.ending.FeedEnd.TheVariants as ends
 use Rattle.feed_core.specs.FeedEnds.{answers_of, IsFed, Answers}
 use Rattle.feed_core.specs.FeedEnds.{Stream as Frames, stream as frames}
 use Rattle.ccp_words.specs.declared.mode.Alone.TheVariants.{Feed}
-use Rattle.ccp_run.specs.Tasks.{Alone}
+use Rattle.ccp_run.specs.Modes.{Alone}
 use Rattle.ccp_run.specs.declared.outcome.ModeOutput.{ModeOutput}
 use Rattle.ccp_run.specs.declared.outcome.Outcome.{Outcome}
 use Rattle.ccp_run.specs.declared.refusal.Limit.TheVariants.{Input}

@@ -4,9 +4,8 @@ use Rattle.ccp_run.specs.declared.outcome.ModeOutput.{ModeOutput}
 use Rattle.ccp_run.specs.declared.stop.Stop.{Stop}
 use Rattle.ccp_run.specs.declared.stop.Stop.TheVariants as stop
 use Rattle.ccp_run.specs.Attempts.{IsAnswer, IsAttempt, IsRead}
-use Rattle.ccp_run.specs.Modes.{limit_in, is_read}
+use Rattle.ccp_run.specs.Modes.{Task, limit_in, is_read}
 use Rattle.ccp_run.specs.Streams.{Stream, ReadsToEnd, HasInput}
-use Rattle.ccp_run.specs.Tasks.{Task}
 use Rattle.ccp_run.proofs.RunLemmas.{is_left}
 
 has_input : (read : Bool) (source : Stream) (bytes : List ℕ) → read ≡ true → ReadsToEnd source bytes → HasInput read source bytes

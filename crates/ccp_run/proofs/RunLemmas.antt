@@ -1,9 +1,6 @@
 -- A run's promises, from what its mode came to and how it then ended.
 use Rattle.std.proofs.Common.{◌≡◌, ◌≢◌, ◌≤◌, ◌⊎◌, inl, inr, ◌∙◌, ℕ, zero, suc, ◌+◌, Bool, true, false, subst, Some, None, Result, Ok, Err, List, [], length, arith, ap, sym, refl, append-nil}
 use Rattle.ccp_base.specs.Outside.{Known, Rose, Takes, TakesWithin, Appends}
-use Rattle.ccp_words.specs.declared.mode.Alone.TheVariants.{Check, Fold, Feed, Audit}
-use Rattle.ccp_run.specs.Tasks.{Task, Alone, Live, Campaign, Soak, Rollout, Shared}
-use Rattle.feed_core.proofs.FeedBegins.{no-answers}
 use Rattle.ccp_run.specs.declared.outcome.ModeOutput.{ModeOutput}
 use Rattle.ccp_run.specs.declared.outcome.Outcome.{Outcome}
 use Rattle.ccp_run.specs.declared.refusal.Refusal.{Refusal}
@@ -13,10 +10,11 @@ use Rattle.ccp_run.specs.declared.stop.Stop.TheVariants as stop
 use Rattle.ccp_run.specs.Attempts.{IsAttempt, MakesOutput, RefusesInput, RefusesAny, FailsToRead, WantsMemory}
 use Rattle.ccp_run.specs.Endings.{Ends, IsEnding, Writes, WritesAll, Refuses}
 use Rattle.ccp_run.specs.ErrorLine.{refusal_line}
-use Rattle.ccp_run.specs.Modes.{limit_in, limit_of, is_read, is_stream, answers_before, GoesOn}
+use Rattle.ccp_run.specs.Modes.{Task, limit_in, limit_of, is_read, is_stream, answers_before}
 use Rattle.ccp_run.specs.Run.{IsRun, TellsRefusal, WritesFront, WritesAnyFront, WritesAnswers, WritesSomeAnswers, TakesOpen}
 use Rattle.ccp_run.specs.Statuses.{read_line, write_line, memory_line}
 use Rattle.ccp_run.specs.Streams.{Stream, HasInput, IsLeft, Tells}
+use Rattle.ccp_run.proofs.WorkerModes.{is_mode}
 
 appends_nothing : (old new : Known) → new ≡ old → Appends old new []
 appends_nothing None new same = same
@@ -58,41 +56,6 @@ is_three (suc zero) = inr (λ e. omega (arith, e))
 is_three (suc (suc zero)) = inr (λ e. omega (arith, e))
 is_three (suc (suc (suc zero))) = inl refl
 is_three (suc (suc (suc (suc n)))) = inr (λ e. omega (arith, e))
-
--- no bytes have no answers, in any mode
-nothing_before : (task : Task) → answers_before task [] ≡ []
-nothing_before (Alone Check) = refl
-nothing_before (Alone Fold) = refl
-nothing_before (Alone Feed) = no-answers
-nothing_before (Alone Audit) = refl
-nothing_before (Live wire) = refl
-nothing_before (Campaign wire) = refl
-nothing_before (Soak number) = refl
-nothing_before Rollout = refl
-nothing_before Shared = refl
-
--- a mode that isn't a stream has no answers
-none_before : (task : Task) (bytes : List ℕ) → is_stream task ≡ false → answers_before task bytes ≡ []
-none_before (Alone Check) bytes plain = refl
-none_before (Alone Fold) bytes plain = refl
-none_before (Alone Feed) bytes plain = let bad : ⊥ = cc in absurd bad
-none_before (Alone Audit) bytes plain = refl
-none_before (Live wire) bytes plain = refl
-none_before (Campaign wire) bytes plain = refl
-none_before (Soak number) bytes plain = refl
-none_before Rollout bytes plain = refl
-none_before Shared bytes plain = refl
-
-goes_on : (task : Task) (bytes : List ℕ) → is_stream task ≡ false → GoesOn task bytes
-goes_on (Alone Check) bytes plain = tt
-goes_on (Alone Fold) bytes plain = tt
-goes_on (Alone Feed) bytes plain = let bad : ⊥ = cc in absurd bad
-goes_on (Alone Audit) bytes plain = tt
-goes_on (Live wire) bytes plain = tt
-goes_on (Campaign wire) bytes plain = tt
-goes_on (Soak number) bytes plain = tt
-goes_on Rollout bytes plain = tt
-goes_on Shared bytes plain = tt
 
 module _ (task : Task) (source sink errors : Stream) (is_finished : Type 0) (outcome : Outcome) where
   -- there was no whole output, and the run ended with this status
@@ -206,7 +169,7 @@ module _ (task : Task) (source sink errors : Stream) (is_finished : Type 0) (out
         rest = [];
         later = [];
         takes = takes_nothing source.old source.new same;
-        answers = subst (Appends sink.old sink.new) (sym (nothing_before task)) (appends_nothing sink.old sink.new quiet);
+        answers = subst (Appends sink.old sink.new) (sym (is_mode task).begins) (appends_nothing sink.old sink.new quiet);
         begins = sym (append-nil (answers_before task []));
       })
       e
@@ -217,7 +180,7 @@ module _ (task : Task) (plain : is_stream task ≡ false) (source sink errors : 
   answers taken takes same = record {
     taken = taken;
     takes = takes;
-    answers = subst (Appends sink.old sink.new) (sym (none_before task taken plain)) (appends_nothing sink.old sink.new same);
+    answers = subst (Appends sink.old sink.new) (sym ((is_mode task).plain plain taken).0) (appends_nothing sink.old sink.new same);
   }
 
   some_answers : TakesWithin (limit_of task) source.old source.new → sink.new ≡ sink.old → WritesSomeAnswers task source sink
@@ -226,7 +189,7 @@ module _ (task : Task) (plain : is_stream task ≡ false) (source sink errors : 
     rest = [];
     later = [];
     takes = subst (Takes source.old source.new) (sym (append-nil few.taken)) few.takes;
-    answers = subst (Appends sink.old sink.new) (sym (none_before task few.taken plain)) (appends_nothing sink.old sink.new same);
+    answers = subst (Appends sink.old sink.new) (sym ((is_mode task).plain plain few.taken).0) (appends_nothing sink.old sink.new same);
     begins = ap (answers_before task) (append-nil few.taken) ∙ sym (append-nil (answers_before task few.taken));
   }
 
@@ -252,7 +215,7 @@ module _ (task : Task) (plain : is_stream task ≡ false) (source sink errors : 
   read_failed : FailsToRead task source → sink.new ≡ sink.old → Ends errors outcome status.ReadFailed read_line → IsRun task source sink errors is_finished outcome
   read_failed failed same e =
       ends_unread task source sink errors is_finished outcome failed.rose
-      (record { taken = failed.within.taken; takes = failed.within.takes; goes_on = goes_on task failed.within.taken plain })
+      (record { taken = failed.within.taken; takes = failed.within.takes; goes_on = ((is_mode task).plain plain failed.within.taken).1 })
       failed.within (is_left (is_read task) source failed.reads) (answers failed.within.taken failed.within.takes same) e
 
   refused_or_not : (refusal : Refusal) → RefusesInput task source refusal → sink.new ≡ sink.old → Refuses errors outcome refusal → (outcome.status ≡ 3) ⊎ (outcome.status ≢ 3) → IsRun task source sink errors is_finished outcome

@@ -8,9 +8,8 @@ use Rattle.ccp_run.specs.declared.refusal.Refusal.TheVariants.{TooLong}
 use Rattle.ccp_run.specs.declared.stop.Stop.{Stop}
 use Rattle.ccp_run.specs.declared.stop.Stop.TheVariants as stop
 use Rattle.ccp_run.specs.ErrorLine.{most_bytes}
-use Rattle.ccp_run.specs.Modes.{limit_in, limit_of, is_read, IsMade, IsRefused}
+use Rattle.ccp_run.specs.Modes.{Task, limit_in, limit_of, is_read, IsMade, IsRefused}
 use Rattle.ccp_run.specs.Streams.{Stream, ReadsToEnd, HasInput, IsLeft}
-use Rattle.ccp_run.specs.Tasks.{Task}
 
 -- the mode's output for bytes, or the first refusal of these
 abbrev pub IsAnswer : Task → List ℕ → Result ModeOutput Stop → Type 0

@@ -16,6 +16,7 @@ use Rattle.ccp_run.specs.declared.refusal.Limit.TheVariants as limit
 use Rattle.ccp_run.specs.declared.refusal.Refusal.{Refusal}
 use Rattle.ccp_run.specs.declared.refusal.Refusal.TheVariants as refusal
 use Rattle.ccp_run.specs.ErrorLine.{most_bytes}
+use Rattle.ccp_run.specs.Rules.{Rules, reads_whole}
 use Rattle.ccp_run.specs.Scenes.{Says, IsScenario, IsNoScenario}
 
 -- the line that says it
@@ -68,3 +69,10 @@ IsNoAudit bytes refusal.NoSeparator = cut_of bytes ≡ None
 IsNoAudit bytes (refusal.TooLong limit.Input) = HasLongScenario bytes
 IsNoAudit bytes (refusal.Scene fault) = HasNoScenario bytes fault
 IsNoAudit bytes _ = ⊥
+
+-- bytes are such an input
+abbrev pub IsAuditInput : List ℕ → Type 0
+IsAuditInput bytes = (said : Scene) × IsAudit bytes said
+
+abbrev pub audit_rules : Rules
+audit_rules = reads_whole limit.Audit IsAuditInput IsAuditOutput IsNoAudit

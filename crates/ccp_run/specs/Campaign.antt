@@ -1,6 +1,5 @@
--- What `campaign` and `soak` make of their cases.
+-- What `campaign` makes of its cases: the table of their rows.
 use Rattle.std.specs.Prelude.{◌≡◌, ℕ, Bool, true, false, List, [], map}
-use Rattle.std.specs.List.{All}
 use Rattle.ccp_base.specs.Text.{◌⧺◌}
 use Rattle.agent_core.specs.declared.agent.Agent.{Agent}
 use Rattle.flow_core.specs.declared.case.Case.{Case}
@@ -8,15 +7,15 @@ use Rattle.flow_core.specs.LiveText.{Sources, flow_from}
 use Rattle.reg_compiler.specs.declared.built.Built.{Built}
 use Rattle.campaign_gate.specs.declared.row.Row.{Row}
 use Rattle.campaign_gate.specs.CampaignRow.{row_read}
-use Rattle.campaign_report.specs.TableText.{table_text, soak_text}
+use Rattle.campaign_report.specs.TableText.{table_text}
 use Rattle.campaign_report.specs.WireText.{wire_text}
 use Rattle.scenario_json.specs.declared.mode.Mode.TheVariants as scene
-use Rattle.scenario_json.specs.Cases.{plan_of, case_names, IsCoded, AreFlowsFrom}
-use Rattle.scenario_json.specs.Scene.{scene_with}
-use Rattle.scenario_json.specs.ScenePrograms.{Reading, IsReading, forms_of}
-use Rattle.scenario_json.specs.Soak.{gen}
+use Rattle.scenario_json.specs.Cases.{case_names}
+use Rattle.scenario_json.specs.ScenePrograms.{forms_of}
 use Rattle.ccp_run.specs.declared.outcome.ModeOutput.{ModeOutput}
-use Rattle.ccp_run.specs.Scenes.{IsScenario}
+use Rattle.ccp_run.specs.declared.refusal.Limit.TheVariants.{Input}
+use Rattle.ccp_run.specs.Rules.{Rules, reads_whole}
+use Rattle.ccp_run.specs.Scenes.{IsScenario, IsNoScenario, SaysSomething, Says}
 
 -- the row of a case, read over the sources of its programs
 abbrev pub source_row : Sources → Case → Row
@@ -46,12 +45,6 @@ pub record IsCampaignOutput (wire : Bool) (bytes : List ℕ) (output : ModeOutpu
   pub no_books : output.books ≡ []
   pub idle : output.ran ≡ 0
 
--- the output is the total of the generated cases of this number
-pub record IsSoakOutput (number : ℕ) (output : ModeOutput) : Type 0 where
-  pub cases : List Case
-  pub generated : (read : Reading) → IsReading read → scene_with (forms_of output.programs) (map plan_of cases) ≡ gen read number
-  pub coded : All (IsCoded output.programs) cases
-  pub flows : AreFlowsFrom 0 cases
-  pub written : output.text ≡ soak_text number (source_rows output.programs cases)
-  pub no_books : output.books ≡ []
-  pub idle : output.ran ≡ 0
+abbrev pub campaign_rules : Bool → Rules
+campaign_rules wire =
+    reads_whole Input (λ bytes. SaysSomething (Says scene.Campaign bytes)) (IsCampaignOutput wire) (IsNoScenario scene.Campaign)

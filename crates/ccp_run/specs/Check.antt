@@ -1,15 +1,18 @@
 -- What `check` makes of its input, and the inputs that it refuses.
 use Rattle.std.specs.Prelude.{◌≡◌, ◌≤◌, ℕ, List, [], ◌∷◌, length}
+use Rattle.portus_core.specs.Programs.{Form}
 use Rattle.portus_core.specs.ProgramForm.{form_of}
 use Rattle.reg_compiler.specs.declared.built.Built.{Built}
 use Rattle.reg_compiler.specs.Counts.{lean}
 use Rattle.portus_build.specs.Texts.{IsBuiltFrom, IsNoProgram}
 use Rattle.campaign_report.specs.CheckText.{check_text}
 use Rattle.ccp_run.specs.declared.outcome.ModeOutput.{ModeOutput}
+use Rattle.ccp_run.specs.declared.refusal.Limit.TheVariants.{Input}
 use Rattle.ccp_run.specs.declared.refusal.Refusal.{Refusal}
 use Rattle.ccp_run.specs.declared.refusal.Refusal.TheVariants.{Program}
 use Rattle.ccp_run.specs.declared.stop.Stop.{Stop}
 use Rattle.ccp_run.specs.declared.stop.Stop.TheVariants as stop
+use Rattle.ccp_run.specs.Rules.{Rules, reads_whole}
 
 -- the input is a program's text, the program has this code, of at most its lean count of instructions, and the output
 -- is its summary and listing
@@ -26,6 +29,13 @@ pub record IsCheckOutput (bytes : List ℕ) (output : ModeOutput) : Type 0 where
 abbrev pub IsNoCheck : List ℕ → Refusal → Type 0
 IsNoCheck bytes (Program fault) = IsNoProgram bytes fault
 IsNoCheck bytes _ = ⊥
+
+-- bytes are the text of a program
+abbrev pub IsProgram : List ℕ → Type 0
+IsProgram bytes = (form : Form) × IsBuiltFrom bytes form
+
+abbrev pub check_rules : Rules
+check_rules = reads_whole Input IsProgram IsCheckOutput IsNoCheck
 
 -- why a text isn't built, but for want of memory
 abbrev pub StopsProgram : List ℕ → Stop → Type 0

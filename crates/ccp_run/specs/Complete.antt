@@ -5,11 +5,10 @@ use Rattle.ccp_run.specs.declared.outcome.Outcome.{Outcome}
 use Rattle.ccp_run.specs.declared.refusal.Refusal.{Refusal}
 use Rattle.ccp_run.specs.declared.status.Status.{Status}
 use Rattle.ccp_run.specs.declared.status.Status.TheVariants as status
-use Rattle.ccp_run.specs.Modes.{limit_of, is_read, is_stream, IsRefused}
-use Rattle.ccp_run.specs.Settled.{IsInput}
+use Rattle.ccp_run.specs.Modes.{Task, limit_of, is_read, is_stream, IsInput, IsRefused}
+use Rattle.ccp_run.specs.Run.{IsRun}
 use Rattle.ccp_run.specs.Statuses.{number_of}
 use Rattle.ccp_run.specs.Streams.{Stream}
-use Rattle.ccp_run.specs.Tasks.{Task}
 
 -- the run ended so, or memory was wanted
 abbrev pub EndsAs : Status → Outcome → Type 0
@@ -28,3 +27,8 @@ pub record IsComplete (task : Task) (source sink : Stream) (outcome : Outcome) :
   pub refused : (bytes : List ℕ) → source.old ≡ Some bytes → IsNoInput task bytes
       → (Rose source.before source.now → ⊥) → (is_stream task ≡ true → Rose sink.before sink.now → ⊥)
       → EndsAs status.InputRefused outcome
+
+-- what a call does that is given a task: it is a run of the task, and a complete one
+pub record DoesTask (task : Task) (source sink errors : Stream) (is_finished : Type 0) (outcome : Outcome) : Type 0 where
+  pub run : IsRun task source sink errors is_finished outcome
+  pub complete : IsComplete task source sink outcome

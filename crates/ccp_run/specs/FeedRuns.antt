@@ -1,11 +1,12 @@
 -- What `feed` makes of its input, and the inputs that it refuses.
-use Rattle.std.specs.Prelude.{◌≡◌, ℕ, List, []}
+use Rattle.std.specs.Prelude.{◌≡◌, ℕ, true, List, []}
 use Rattle.feed_core.specs.declared.ending.FeedEnd.TheVariants as ends
-use Rattle.feed_core.specs.FeedEnds.{answers_of, end_of}
+use Rattle.feed_core.specs.FeedEnds.{IsOpen, answers_of, end_of}
 use Rattle.ccp_run.specs.declared.outcome.ModeOutput.{ModeOutput}
 use Rattle.ccp_run.specs.declared.refusal.Limit.TheVariants.{Input}
 use Rattle.ccp_run.specs.declared.refusal.Refusal.{Refusal}
 use Rattle.ccp_run.specs.declared.refusal.Refusal.TheVariants.{TooLong, Frame, FrameCut}
+use Rattle.ccp_run.specs.Rules.{Rules}
 
 -- the frames of the input are whole up to its end, and the output is their answers
 pub record IsFeedOutput (bytes : List ℕ) (output : ModeOutput) : Type 0 where
@@ -21,3 +22,16 @@ IsNoFeed bytes (TooLong Input) = end_of bytes ≡ ends.TooLong
 IsNoFeed bytes (Frame field place) = end_of bytes ≡ ends.Bad field place
 IsNoFeed bytes (FrameCut place) = end_of bytes ≡ ends.Cut place
 IsNoFeed bytes _ = ⊥
+
+-- it is the one mode that answers as its input comes
+abbrev pub feed_rules : Rules
+feed_rules = record {
+  limit = Input;
+  is_read = true;
+  is_stream = true;
+  answers_before = answers_of;
+  GoesOn = λ bytes. IsOpen (end_of bytes);
+  IsInput = λ bytes. end_of bytes ≡ ends.Whole;
+  IsMade = IsFeedOutput;
+  IsRefused = IsNoFeed;
+}

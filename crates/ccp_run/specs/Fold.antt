@@ -22,8 +22,10 @@ use Rattle.fold_run.specs.Fold.{fold_reports, fold_fault, fold_end}
 use Rattle.fold_run.specs.Ran.{ran_of}
 use Rattle.fold_run.specs.Separated.{Cut, cut_of}
 use Rattle.ccp_run.specs.declared.outcome.ModeOutput.{ModeOutput}
+use Rattle.ccp_run.specs.declared.refusal.Limit.TheVariants.{Input}
 use Rattle.ccp_run.specs.declared.refusal.Refusal.{Refusal}
 use Rattle.ccp_run.specs.declared.refusal.Refusal.TheVariants.{TooLong, NoSeparator, Program, Line, TooManyAcks, Scene, Frame, FrameCut}
+use Rattle.ccp_run.specs.Rules.{Rules, reads_whole}
 
 -- the acknowledgements of what stands below the separator, or the first fault among its lines
 abbrev pub acks_below : Cut → Result (List Ack) LineFault
@@ -93,3 +95,10 @@ IsNoFold bytes TooManyAcks = HasBadLines bytes lines.TooMany
 IsNoFold bytes (Scene fault) = ⊥
 IsNoFold bytes (Frame field place) = ⊥
 IsNoFold bytes (FrameCut place) = ⊥
+
+-- bytes are such an input
+abbrev pub IsFoldInput : List ℕ → Type 0
+IsFoldInput bytes = (form : Form) × (acks : List Ack) × IsFold bytes form acks
+
+abbrev pub fold_rules : Rules
+fold_rules = reads_whole Input IsFoldInput IsFoldOutput IsNoFold

@@ -1,16 +1,17 @@
 pub mod Streams
 pub mod Statuses
 pub mod ErrorLine
+pub mod Rules
 pub mod Check
 pub mod Fold
 pub mod FeedRuns
 pub mod Scenes
 pub mod Campaign
+pub mod Soak
 pub mod Live
 pub mod AuditRuns
 pub mod Shared
 pub mod Rollout
-pub mod Tasks
 pub mod Modes
 pub mod Attempts
 pub mod Endings
@@ -18,3 +19,4 @@ pub mod FeedEndings
 pub mod Run
 pub mod Complete
 pub mod Settled
+pub mod Tool

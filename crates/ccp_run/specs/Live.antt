@@ -11,8 +11,10 @@ use Rattle.campaign_report.specs.ToldBooks.{IsRead, read_flow, read_world, flows
 use Rattle.scenario_json.specs.declared.mode.Mode.TheVariants as scene
 use Rattle.scenario_json.specs.ScenePrograms.{forms_of}
 use Rattle.ccp_run.specs.declared.outcome.ModeOutput.{ModeOutput}
+use Rattle.ccp_run.specs.declared.refusal.Limit.TheVariants.{Input}
 use Rattle.ccp_run.specs.Campaign.{frames_shown}
-use Rattle.ccp_run.specs.Scenes.{IsScenario}
+use Rattle.ccp_run.specs.Rules.{Rules, reads_whole}
+use Rattle.ccp_run.specs.Scenes.{IsScenario, IsNoScenario, SaysSomething, Says}
 
 -- the book's word is legal and complete for its case, and the book tells what the word came to, all read over the
 -- sources of these programs
@@ -38,3 +40,6 @@ pub record IsLiveOutput (wire : Bool) (bytes : List ℕ) (output : ModeOutput) :
   pub told : All (IsTold output.programs) output.books
   pub written : output.text ≡ books_written wire output.programs output.books
   pub idle : output.ran ≡ 0
+
+abbrev pub live_rules : Bool → Rules
+live_rules wire = reads_whole Input (λ bytes. SaysSomething (Says scene.Live bytes)) (IsLiveOutput wire) (IsNoScenario scene.Live)

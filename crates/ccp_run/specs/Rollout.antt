@@ -1,18 +1,19 @@
 -- What `rollout` makes of its cases, and the inputs that it refuses.
 use Rattle.std.specs.Prelude.{◌≡◌, ℕ, Ok, Err, List, [], map}
 use Rattle.std.specs.List.{All}
+use Rattle.scenario_json.specs.declared.fault.SceneFault.{SceneFault}
 use Rattle.scenario_json.specs.declared.open_case.OpenCase.{OpenCase}
 use Rattle.scenario_json.specs.OpenCases.{open_plan_of, AreOpenFlowsFrom}
-use Rattle.scenario_json.specs.Rollout.{rollout_of}
+use Rattle.scenario_json.specs.Rollout.{OpenPlan, rollout_of}
 use Rattle.scenario_json.specs.ScenePrograms.{Reading, IsReading}
 use Rattle.open_flow.specs.declared.letter.OpenLetter.{OpenLetter}
 use Rattle.live_install.specs.RolloutText.{rollout_text}
 use Rattle.live_install.specs.WholeBooks.{IsHistory}
 use Rattle.ccp_run.specs.declared.outcome.ModeOutput.{ModeOutput}
-use Rattle.ccp_run.specs.declared.refusal.Refusal.{Refusal}
-use Rattle.ccp_run.specs.declared.refusal.Refusal.TheVariants as refusal
+use Rattle.ccp_run.specs.declared.refusal.Limit.TheVariants.{Input}
 use Rattle.ccp_run.specs.declared.stop.Stop.{Stop}
-use Rattle.ccp_run.specs.declared.stop.Stop.TheVariants as stop
+use Rattle.ccp_run.specs.Rules.{Rules, reads_whole}
+use Rattle.ccp_run.specs.Scenes.{IsOfScene, SaysSomething, StopsFor}
 
 -- bytes are the text of a rollout's scenario, and these are its cases
 pub record IsRolloutScenario (bytes : List ℕ) (cases : List OpenCase) : Type 0 where
@@ -35,13 +36,17 @@ pub record IsRolloutOutput (bytes : List ℕ) (output : ModeOutput) : Type 0 whe
   pub scenario : IsRolloutScenario bytes cases
   pub told : TellsRollout cases output
 
--- bytes are no rollout's scenario, and this is their first refusal
-abbrev pub IsNoRollout : List ℕ → Refusal → Type 0
-IsNoRollout bytes (refusal.Scene fault) = rollout_of bytes ≡ Err fault
-IsNoRollout bytes _ = ⊥
+-- bytes are no rollout's scenario, and this is the first fault
+abbrev pub HasRolloutFault : List ℕ → SceneFault → Type 0
+HasRolloutFault bytes fault = rollout_of bytes ≡ Err fault
 
 -- why there is no such scenario, but for want of memory
 abbrev pub StopsRollout : List ℕ → Stop → Type 0
-StopsRollout bytes (stop.Refused refusal) = IsNoRollout bytes refusal
-StopsRollout bytes stop.ReadFailed = ⊥
-StopsRollout bytes stop.NoMemory = Unit {0}
+StopsRollout bytes = StopsFor (HasRolloutFault bytes)
+
+-- bytes are a rollout's scenario, which says these plans
+abbrev pub SaysRollout : List ℕ → List OpenPlan → Type 0
+SaysRollout bytes plans = rollout_of bytes ≡ Ok plans
+
+abbrev pub rollout_rules : Rules
+rollout_rules = reads_whole Input (λ bytes. SaysSomething (SaysRollout bytes)) IsRolloutOutput (λ bytes. IsOfScene (HasRolloutFault bytes))

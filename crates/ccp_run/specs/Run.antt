@@ -8,10 +8,9 @@ use Rattle.ccp_run.specs.declared.status.Status.TheVariants as status
 use Rattle.ccp_run.specs.Attempts.{MakesOutput, RefusesAny}
 use Rattle.ccp_run.specs.Endings.{Ends, WritesAll}
 use Rattle.ccp_run.specs.ErrorLine.{refusal_line}
-use Rattle.ccp_run.specs.Modes.{limit_of, is_read, is_stream, answers_before, GoesOn}
+use Rattle.ccp_run.specs.Modes.{Task, limit_of, is_read, is_stream, answers_before, GoesOn}
 use Rattle.ccp_run.specs.Statuses.{number_of, words_line, read_line, write_line, memory_line}
 use Rattle.ccp_run.specs.Streams.{Stream, IsLeft, Tells}
-use Rattle.ccp_run.specs.Tasks.{Task}
 
 -- the mode's whole output for the input was written, and the sink finished
 pub record IsDone (task : Task) (source sink errors : Stream) (is_finished : Type 0) (outcome : Outcome) : Type 0 where

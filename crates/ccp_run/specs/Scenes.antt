@@ -7,6 +7,7 @@ use Rattle.scenario_json.specs.declared.mode.Mode.{Mode as SceneMode}
 use Rattle.scenario_json.specs.Cases.{plan_of, IsCoded, AreFlowsFrom}
 use Rattle.scenario_json.specs.Scene.{Scene, scene_with, scene_of}
 use Rattle.scenario_json.specs.ScenePrograms.{Reading, IsReading, forms_of}
+use Rattle.scenario_json.specs.declared.fault.SceneFault.{SceneFault}
 use Rattle.ccp_run.specs.declared.refusal.Refusal.{Refusal}
 use Rattle.ccp_run.specs.declared.refusal.Refusal.TheVariants as refusal
 use Rattle.ccp_run.specs.declared.stop.Stop.{Stop}
@@ -22,13 +23,29 @@ pub record IsScenario (mode : SceneMode) (bytes : List ℕ) (programs : List (�
   pub coded : All (IsCoded programs) cases
   pub flows : AreFlowsFrom 0 cases
 
+-- bytes say something, as texts of this kind do
+abbrev pub SaysSomething : {Said : Type 0} → (Said → Type 0) → Type 0
+SaysSomething {Said} says = (said : Said) × says said
+
+-- the refusal is one of a scenario, for a fault that this is so of
+abbrev pub IsOfScene : (SceneFault → Type 0) → Refusal → Type 0
+IsOfScene has (refusal.Scene fault) = has fault
+IsOfScene has _ = ⊥
+
+-- why there is no scenario: such a refusal, or want of memory, of which nothing is said
+abbrev pub StopsFor : (SceneFault → Type 0) → Stop → Type 0
+StopsFor has (stop.Refused refusal) = IsOfScene has refusal
+StopsFor has stop.ReadFailed = ⊥
+StopsFor has stop.NoMemory = Unit {0}
+
+-- bytes are no scenario's text, and this is the first fault
+abbrev pub HasFault : SceneMode → List ℕ → SceneFault → Type 0
+HasFault mode bytes fault = (read : Reading) → IsReading read → scene_of read mode bytes ≡ Err fault
+
 -- bytes are no scenario's text, and this is their first refusal
 abbrev pub IsNoScenario : SceneMode → List ℕ → Refusal → Type 0
-IsNoScenario mode bytes (refusal.Scene fault) = (read : Reading) → IsReading read → scene_of read mode bytes ≡ Err fault
-IsNoScenario mode bytes _ = ⊥
+IsNoScenario mode bytes = IsOfScene (HasFault mode bytes)
 
 -- why there is no scenario, but for want of memory
 abbrev pub StopsScene : SceneMode → List ℕ → Stop → Type 0
-StopsScene mode bytes (stop.Refused refusal) = IsNoScenario mode bytes refusal
-StopsScene mode bytes stop.ReadFailed = ⊥
-StopsScene mode bytes stop.NoMemory = Unit {0}
+StopsScene mode bytes = StopsFor (HasFault mode bytes)

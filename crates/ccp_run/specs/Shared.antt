@@ -6,6 +6,8 @@ use Rattle.campaign_report.specs.TableText.{table_text}
 use Rattle.flow_core.specs.declared.case.Case.{Case}
 use Rattle.flow_core.specs.LiveText.{flow_from}
 use Rattle.reg_compiler.specs.declared.built.Built.{Built}
+use Rattle.scenario_json.specs.declared.fault.SceneFault.{SceneFault}
+use Rattle.scenario_json.specs.declared.shared_scene.SharedScene.{SharedScene}
 use Rattle.scenario_json.specs.Cases.{plan_of, case_names, IsCoded, AreFlowsFrom}
 use Rattle.scenario_json.specs.Scene.{scene_with}
 use Rattle.scenario_json.specs.ScenePrograms.{Reading, IsReading, forms_of}
@@ -14,11 +16,11 @@ use Rattle.shared_link.specs.declared.round.Counts.{Counts}
 use Rattle.shared_link.specs.declared.shared_case.SharedCase.{SharedCase}
 use Rattle.shared_run.specs.SharedHistory.{shared_rows, shared_counts}
 use Rattle.ccp_run.specs.declared.outcome.ModeOutput.{ModeOutput}
-use Rattle.ccp_run.specs.declared.refusal.Refusal.{Refusal}
-use Rattle.ccp_run.specs.declared.refusal.Refusal.TheVariants as refusal
+use Rattle.ccp_run.specs.declared.refusal.Limit.TheVariants.{Input}
 use Rattle.ccp_run.specs.declared.stop.Stop.{Stop}
-use Rattle.ccp_run.specs.declared.stop.Stop.TheVariants as stop
 use Rattle.ccp_run.specs.Campaign.{case_agents}
+use Rattle.ccp_run.specs.Rules.{Rules, reads_whole}
+use Rattle.ccp_run.specs.Scenes.{IsOfScene, SaysSomething, StopsFor}
 
 -- ---- the input
 
@@ -32,16 +34,13 @@ pub record IsSharedScenario (bytes : List ℕ) (programs : List (ℕ × Built)) 
   pub coded : All (IsCoded programs) cases
   pub flows : AreFlowsFrom 0 cases
 
--- bytes are no such text, and this is their first refusal
-abbrev pub IsNoSharedScenario : List ℕ → Refusal → Type 0
-IsNoSharedScenario bytes (refusal.Scene fault) = (read : Reading) → IsReading read → shared_scene_of read bytes ≡ Err fault
-IsNoSharedScenario bytes _ = ⊥
+-- bytes are no such text, and this is the first fault
+abbrev pub HasSharedFault : List ℕ → SceneFault → Type 0
+HasSharedFault bytes fault = (read : Reading) → IsReading read → shared_scene_of read bytes ≡ Err fault
 
 -- why there is no such scenario, but for want of memory
 abbrev pub StopsShared : List ℕ → Stop → Type 0
-StopsShared bytes (stop.Refused refusal) = IsNoSharedScenario bytes refusal
-StopsShared bytes stop.ReadFailed = ⊥
-StopsShared bytes stop.NoMemory = Unit {0}
+StopsShared bytes = StopsFor (HasSharedFault bytes)
 
 -- ---- the output
 
@@ -57,6 +56,10 @@ shared_text programs cases link rounds =
     table_text (case_names cases) (case_agents cases) (shared_rows link (flow_from (forms_of programs)) cases rounds)
     ⧺ link_line (shared_counts link (flow_from (forms_of programs)) cases rounds)
 
+-- that text of a scenario that was read
+abbrev pub text_of_scene : SharedScene → List ℕ
+text_of_scene scene = shared_text scene.scene.programs scene.scene.cases scene.link scene.rounds
+
 -- the output is that text of the scenario's cases
 pub record IsSharedOutput (bytes : List ℕ) (output : ModeOutput) : Type 0 where
   pub programs : List (ℕ × Built)
@@ -68,3 +71,6 @@ pub record IsSharedOutput (bytes : List ℕ) (output : ModeOutput) : Type 0 wher
   pub no_books : output.books ≡ []
   pub no_programs : output.programs ≡ []
   pub idle : output.ran ≡ 0
+
+abbrev pub shared_rules : Rules
+shared_rules = reads_whole Input (λ bytes. SaysSomething (SaysShared bytes)) IsSharedOutput (λ bytes. IsOfScene (HasSharedFault bytes))

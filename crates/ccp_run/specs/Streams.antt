@@ -10,8 +10,9 @@ pub record Stream : Type 0 where
   pub before : ℕ
   pub now : ℕ
 
-abbrev pub stream : Known → Known → ℕ → ℕ → Stream
-stream old new before now = record { old = old; new = new; before = before; now = now }
+-- what a call did to a source or a sink: its bytes, and its count of faults, before and after
+abbrev pub over : {X : Type 0} → (X → Known) → (X → ℕ) → X → X → Stream
+over bytes faults old new = record { old = bytes old; new = bytes new; before = faults old; now = faults new }
 
 -- the source was read to its end, and had these bytes
 pub record ReadsToEnd (source : Stream) (bytes : List ℕ) : Type 0 where

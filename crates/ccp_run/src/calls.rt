@@ -1,18 +1,14 @@
 //! The modes whose work is done by their caller alone, and the end without words.
 
-ghost use Rattle.std.specs.Prelude.{◌≡◌, false};
-ghost use Rattle.ccp_run.specs.Complete.{IsComplete};
+ghost use Rattle.ccp_run.specs.Complete.{DoesTask};
 ghost use Rattle.ccp_run.specs.Endings.{Ends};
-ghost use Rattle.ccp_run.specs.Modes.{is_stream};
-ghost use Rattle.ccp_run.specs.Run.{IsRun};
+ghost use Rattle.ccp_run.specs.Modes.{Task};
 ghost use Rattle.ccp_run.specs.Statuses.{memory_line};
-ghost use Rattle.ccp_run.specs.Streams.{stream};
-ghost use Rattle.ccp_run.specs.Tasks.{alone_task};
+ghost use Rattle.ccp_run.specs.Streams.{over};
 
-use crate::ending::{end, end_without};
-use crate::feed::feed_run;
+use crate::ending::end_without;
+use crate::modes::alone_run;
 use crate::outcome::Outcome;
-use crate::reading::read_output;
 use crate::status::{MEMORY_LINE, Status};
 use ccp_base::{Sink, Source};
 use ccp_words::Alone;
@@ -28,35 +24,17 @@ pub fn alone<S: Source, K: Sink, E: Sink>(
     sink: &mut K,
     errors: &mut E,
 ) -> Outcome
-    ensures run { IsRun (alone_task mode) (stream (S.remaining source.old) (S.remaining source.new) (S.faults source.old) (S.faults source.new)) (stream (K.written sink.old) (K.written sink.new) (K.faults sink.old) (K.faults sink.new)) (stream (E.written errors.old) (E.written errors.new) (E.faults errors.old) (E.faults errors.new)) (K.is_finished sink.new) result }
-    ensures complete { IsComplete (alone_task mode) (stream (S.remaining source.old) (S.remaining source.new) (S.faults source.old) (S.faults source.new)) (stream (K.written sink.old) (K.written sink.new) (K.faults sink.old) (K.faults sink.new)) result }
+    ensures { DoesTask (Task.Alone mode)
+        (over S.remaining S.faults source.old source.new)
+        (over K.written K.faults sink.old sink.new)
+        (over E.written E.faults errors.old errors.new) (K.is_finished sink.new) result }
 {
-    match mode {
-        Alone::Check => whole(alloc, mode, source, sink, errors),
-        Alone::Fold => whole(alloc, mode, source, sink, errors),
-        Alone::Feed => feed_run(alloc, source, sink, errors),
-        Alone::Audit => whole(alloc, mode, source, sink, errors),
-    }
-}
-
-/// Does the work of a mode that reads its source to the end before it writes.
-fn whole<S: Source, K: Sink, E: Sink>(
-    alloc: Global,
-    mode: Alone,
-    source: &mut S,
-    sink: &mut K,
-    errors: &mut E,
-) -> Outcome
-    requires { is_stream (alone_task mode) ≡ false }
-    ensures { IsRun (alone_task mode) (stream (S.remaining source.old) (S.remaining source.new) (S.faults source.old) (S.faults source.new)) (stream (K.written sink.old) (K.written sink.new) (K.faults sink.old) (K.faults sink.new)) (stream (E.written errors.old) (E.written errors.new) (E.faults errors.old) (E.faults errors.new)) (K.is_finished sink.new) result }
-{
-    let made = read_output(alloc, mode, source);
-    end(alloc, made, sink, errors)
+    alone_run(alloc, mode, source, sink, errors)
 }
 
 /// Ends where memory was wanted for the words: nothing is read or written.
 pub fn without_words<E: Sink>(alloc: Global, errors: &mut E) -> Outcome
-    ensures { Ends (stream (E.written errors.old) (E.written errors.new) (E.faults errors.old) (E.faults errors.new)) result Status.NoMemory memory_line }
+    ensures { Ends (over E.written E.faults errors.old errors.new) result Status.NoMemory memory_line }
 {
     end_without(alloc, errors, Status::NoMemory, MEMORY_LINE)
 }

@@ -1,6 +1,6 @@
 ghost use Rattle.std.specs.Prelude.{◌≡◌, ◌≤◌};
 ghost use Rattle.ccp_run.specs.Endings.{Ends, IsEnding, Refuses, Writes};
-ghost use Rattle.ccp_run.specs.Streams.{stream};
+ghost use Rattle.ccp_run.specs.Streams.{over};
 
 use crate::outcome::{ModeOutput, Outcome};
 use crate::refusal::{Refusal, refusal_line};
@@ -18,7 +18,9 @@ pub fn end<K: Sink, E: Sink>(
     sink: &mut K,
     errors: &mut E,
 ) -> Outcome
-    ensures { IsEnding (stream (K.written sink.old) (K.written sink.new) (K.faults sink.old) (K.faults sink.new)) (stream (E.written errors.old) (E.written errors.new) (E.faults errors.old) (E.faults errors.new)) (K.is_finished sink.new) result made }
+    ensures { IsEnding
+        (over K.written K.faults sink.old sink.new)
+        (over E.written E.faults errors.old errors.new) (K.is_finished sink.new) result made }
 {
     match made {
         Ok(output) => write_output(alloc, output, sink, errors),
@@ -35,7 +37,9 @@ fn write_output<K: Sink, E: Sink>(
     sink: &mut K,
     errors: &mut E,
 ) -> Outcome
-    ensures { Writes (stream (K.written sink.old) (K.written sink.new) (K.faults sink.old) (K.faults sink.new)) (stream (E.written errors.old) (E.written errors.new) (E.faults errors.old) (E.faults errors.new)) (K.is_finished sink.new) result output }
+    ensures { Writes
+        (over K.written K.faults sink.old sink.new)
+        (over E.written E.faults errors.old errors.new) (K.is_finished sink.new) result output }
 {
     match write_all(sink, output.text.as_slice()) {
         Ok(()) => Outcome {
@@ -50,7 +54,7 @@ fn write_output<K: Sink, E: Sink>(
 
 /// Tells why the input is refused.
 pub fn refuse<E: Sink>(alloc: Global, refusal: Refusal, errors: &mut E) -> Outcome
-    ensures { Refuses (stream (E.written errors.old) (E.written errors.new) (E.faults errors.old) (E.faults errors.new)) result refusal }
+    ensures { Refuses (over E.written E.faults errors.old errors.new) result refusal }
 {
     if let Refusal::TooLong(limit) = &refusal {
         return end_without(alloc, errors, Status::InputRefused, limit.line());
@@ -63,7 +67,7 @@ pub fn refuse<E: Sink>(alloc: Global, refusal: Refusal, errors: &mut E) -> Outco
 
 /// Ends without an output: tells the line.
 pub fn end_without<E: Sink>(alloc: Global, errors: &mut E, status: Status, line: &[u8]) -> Outcome
-    ensures { Ends (stream (E.written errors.old) (E.written errors.new) (E.faults errors.old) (E.faults errors.new)) result status line.now }
+    ensures { Ends (over E.written E.faults errors.old errors.new) result status line.now }
 {
     let _ = write_all(errors, line);
     Outcome {

@@ -20,20 +20,20 @@ use Rattle.ccp_words.specs.Matches.{HasOptions, ReadsNumber, is_flag_text, numbe
 use Rattle.ccp_words.specs.declared.words.Asked.{Asked}
 use Rattle.ccp_words.proofs.OptionsGiven.{datapaths_given, agents_given, workers_given, number_given}
 use Rattle.clap.specs.Values.{IsUnsignedIn}
-use Rattle.ccp_words.specs.declared.mode.Mode.{Mode}
+use Rattle.ccp_words.specs.declared.mode.ToolMode.{ToolMode}
 use Rattle.ccp_words.specs.declared.mode.NoMode.{NoMode}
 use Rattle.ccp_words.proofs.CommandLine.{any_text, same_faults, same_matches}
 use Rattle.ccp_words.proofs.ModeGiven.{mode_given}
 
 -- a name among those of a table is found in it
-found_in : (rows : List (Text × Mode)) (text : Text) → list_any (λ name. bytes_eq name text) (map (λ row. row.0) rows) ≡ true
-    → (mode : Mode) × (option_map (λ row. row.1) (find (λ row. bytes_eq text row.0) rows) ≡ Some mode)
+found_in : (rows : List (Text × ToolMode)) (text : Text) → list_any (λ name. bytes_eq name text) (map (λ row. row.0) rows) ≡ true
+    → (mode : ToolMode) × (option_map (λ row. row.1) (find (λ row. bytes_eq text row.0) rows) ≡ Some mode)
 found_in [] text none = cc
 found_in (row ∷ rows) text any = at (bytes_eq text row.0) refl (bytes_eq row.0 text) refl (found_in rows text)
   where
     at : (same : Bool) → bytes_eq text row.0 ≡ same → (back : Bool) → bytes_eq row.0 text ≡ back
-        → (list_any (λ name. bytes_eq name text) (map (λ row. row.0) rows) ≡ true → (mode : Mode) × (option_map (λ row. row.1) (find (λ row. bytes_eq text row.0) rows) ≡ Some mode))
-        → (mode : Mode) × (option_map (λ row. row.1) (find (λ row. bytes_eq text row.0) (row ∷ rows)) ≡ Some mode)
+        → (list_any (λ name. bytes_eq name text) (map (λ row. row.0) rows) ≡ true → (mode : ToolMode) × (option_map (λ row. row.1) (find (λ row. bytes_eq text row.0) rows) ≡ Some mode))
+        → (mode : ToolMode) × (option_map (λ row. row.1) (find (λ row. bytes_eq text row.0) (row ∷ rows)) ≡ Some mode)
     at true e back b rest = (row.1, rw e refl)
     at false e false b rest =
         let later = rest (rw b at any) in
@@ -44,10 +44,10 @@ found_in (row ∷ rows) text any = at (bytes_eq text row.0) refl (bytes_eq row.0
         cc
 
 -- a name among those of the modes is that of a mode
-named : (text : Text) → list_any (λ name. same_text false name text) mode_names ≡ true → (mode : Mode) × (mode_named text ≡ Some mode)
+named : (text : Text) → list_any (λ name. same_text false name text) mode_names ≡ true → (mode : ToolMode) × (mode_named text ≡ Some mode)
 named text any = found_in modes text any
 
-reads : (text : Text) (r : Option Mode) → ReadsOne {E = NoMode} (λ name mode. result_ok mode ≡ mode_named name) text r → r ≡ mode_named text
+reads : (text : Text) (r : Option ToolMode) → ReadsOne {E = NoMode} (λ name mode. result_ok mode ≡ mode_named name) text r → r ≡ mode_named text
 reads text None e = e.1
 reads text (Some mode) e = e
 
@@ -102,7 +102,7 @@ module _ (command : Command) (line : IsCommandLine command) (words : List Text) 
         number = number_of (said (codes "number") words);
         wire = is_flag_text (said (codes "wire") words);
       }) (option_and_then mode_named o)) mode_said
-      ∙ (ap (option_map (λ (mode : Mode). record {
+      ∙ (ap (option_map (λ (mode : ToolMode). record {
         mode = mode;
         datapaths = number_of (said (codes "datapaths") words);
         agents = number_of (said (codes "agents") words);
@@ -122,7 +122,7 @@ module _ (command : Command) (line : IsCommandLine command) (words : List Text) 
       given : (text : Text) × (one_text (found_of m) (codes "mode") ≡ Some text) × (list_any (λ name. same_text false name.now text) line.names.now ≡ true)
       given = mode_given command line.names line.app m parsed
 
-      found : (mode : Mode) × (mode_named given.0 ≡ Some mode)
+      found : (mode : ToolMode) × (mode_named given.0 ≡ Some mode)
       found = named given.0 (ap (list_any (λ name. same_text false name given.0)) (sym line.modes) ∙ sym (any_text given.0 line.names.now) ∙ given.2)
 
       go : (r : Option Asked) → ((text : Text) → one_text (found_of m) (codes "mode") ≡ Some text → option_map (λ (asked : Asked). asked.mode) r ≡ mode_named text)

@@ -4,7 +4,9 @@ use Rattle.std.specs.Str.{bytes_eq}
 use Rattle.std.specs.Str.Parse.{IsNumeral, digits_value, without_leading_plus}
 use Rattle.clap.specs.Words.{one_text}
 use Rattle.clap.specs.declared.parser.matches.Found.{Found}
+use Rattle.ccp_words.specs.declared.mode.ToolMode.{ToolMode}
 use Rattle.ccp_words.specs.declared.words.Asked.{Asked}
+use Rattle.ccp_words.specs.Modes.{mode_named}
 
 -- the number that digits write, after a plus or none; 1 where nothing is said
 abbrev pub number_of : Option (List ℕ) → ℕ
@@ -22,6 +24,10 @@ ReadsNumber None number = number ≡ 1
 ReadsNumber (Some text) number =
     IsNumeral 10 (without_leading_plus text) → digits_value 10 (without_leading_plus text) < 2 ^ 32
     → number ≡ digits_value 10 (without_leading_plus text)
+
+-- the mode is the one whose name was found
+abbrev pub SaysMode : Found → Option ToolMode → Type 0
+SaysMode found mode = (text : List ℕ) → one_text found (codes "mode") ≡ Some text → mode ≡ mode_named text
 
 -- the options are those that were found
 pub record HasOptions (found : Found) (asked : Asked) : Type 0 where

@@ -2,11 +2,11 @@
 use Rattle.std.specs.Prelude.{ℕ, Option, option_map, List, [], ◌∷◌, map, find, codes}
 use Rattle.std.specs.Str.{bytes_eq}
 use Rattle.ccp_words.specs.declared.mode.Alone.TheVariants.{Check, Fold, Feed, Audit}
-use Rattle.ccp_words.specs.declared.mode.Mode.{Mode}
-use Rattle.ccp_words.specs.declared.mode.Mode.TheVariants.{Alone, Live, Campaign, Soak, Rollout, Shared}
+use Rattle.ccp_words.specs.declared.mode.ToolMode.{ToolMode}
+use Rattle.ccp_words.specs.declared.mode.ToolMode.TheVariants.{Alone, Live, Campaign, Soak, Rollout, Shared}
 
 -- each mode that is there, after its name
-abbrev pub modes : List (List ℕ × Mode)
+abbrev pub modes : List (List ℕ × ToolMode)
 modes = (codes "check", Alone Check) ∷ (codes "fold", Alone Fold) ∷ (codes "feed", Alone Feed) ∷ (codes "audit", Alone Audit)
     ∷ (codes "live", Live) ∷ (codes "campaign", Campaign) ∷ (codes "soak", Soak)
     ∷ (codes "rollout", Rollout) ∷ (codes "shared", Shared) ∷ []
@@ -15,5 +15,5 @@ abbrev pub mode_names : List (List ℕ)
 mode_names = map (λ mode. mode.0) modes
 
 -- the mode of a name, or none
-abbrev pub mode_named : List ℕ → Option Mode
+abbrev pub mode_named : List ℕ → Option ToolMode
 mode_named name = option_map (λ mode. mode.1) (find (λ mode. bytes_eq name mode.0) modes)

@@ -16,9 +16,9 @@ pub enum Alone {
     Audit,
 }
 
-/// What the words ask for.
+/// What the tool can be asked for.
 #[derive(Clone, Copy, PartialEq, Eq, Debug)]
-pub enum Mode {
+pub enum ToolMode {
     Alone(Alone),
     /// A scenario on datapath and agent threads.
     Live,
@@ -46,24 +46,24 @@ pub(crate) fn names<'a>() -> &'a [&'a str]
 }
 
 /// The mode of a name.
-fn named(name: &str) -> Option<Mode>
+fn named(name: &str) -> Option<ToolMode>
     ensures { result ≡ mode_named name.now }
 {
     match name {
-        "check" => Some(Mode::Alone(Alone::Check)),
-        "fold" => Some(Mode::Alone(Alone::Fold)),
-        "feed" => Some(Mode::Alone(Alone::Feed)),
-        "audit" => Some(Mode::Alone(Alone::Audit)),
-        "live" => Some(Mode::Live),
-        "campaign" => Some(Mode::Campaign),
-        "soak" => Some(Mode::Soak),
-        "rollout" => Some(Mode::Rollout),
-        "shared" => Some(Mode::Shared),
+        "check" => Some(ToolMode::Alone(Alone::Check)),
+        "fold" => Some(ToolMode::Alone(Alone::Fold)),
+        "feed" => Some(ToolMode::Alone(Alone::Feed)),
+        "audit" => Some(ToolMode::Alone(Alone::Audit)),
+        "live" => Some(ToolMode::Live),
+        "campaign" => Some(ToolMode::Campaign),
+        "soak" => Some(ToolMode::Soak),
+        "rollout" => Some(ToolMode::Rollout),
+        "shared" => Some(ToolMode::Shared),
         _ => None,
     }
 }
 
-impl FromStr for Mode {
+impl FromStr for ToolMode {
     ghost use Rattle.std.specs.Prelude.{◌≡◌};
     ghost use Rattle.std.specs.Result.{result_ok};
     ghost use Rattle.ccp_words.specs.Modes.{mode_named};
@@ -72,7 +72,7 @@ impl FromStr for Mode {
 
     ghost from_str_gives = { λ name mode. result_ok mode ≡ mode_named name };
 
-    fn from_str(name: &str) -> Result<Mode, NoMode> {
+    fn from_str(name: &str) -> Result<ToolMode, NoMode> {
         named(name).ok_or(NoMode)
     }
 }

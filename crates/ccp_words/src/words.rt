@@ -1,10 +1,9 @@
-ghost use Rattle.std.specs.Prelude.{◌≡◌, ◌≢◌, ℕ, true, false, Some, List, IfOk, OnOk, IfErr, IfSome, option_map, map, codes, string_bytes};
+ghost use Rattle.std.specs.Prelude.{◌≡◌, ◌≢◌, true, false, Some, IfOk, OnOk, IfErr, IfSome, option_map, map, string_bytes};
 ghost use Rattle.clap.specs.Words.{rule_of, found_of, one_text};
-ghost use Rattle.ccp_words.specs.Modes.{mode_named};
-ghost use Rattle.ccp_words.specs.Matches.{HasOptions, ReadsNumber, is_flag_text};
+ghost use Rattle.ccp_words.specs.Matches.{HasOptions, ReadsNumber, SaysMode, is_flag_text};
 ghost use Rattle.ccp_words.specs.Words.{HasWorkers, IsCommandLine, are_accepted, asked_in, mode_argument, number_option};
 
-use crate::mode::{Mode, names};
+use crate::mode::{ToolMode, names};
 use clap::builder::ValueParser;
 use clap::error::ErrorKind;
 use clap::{Arg, ArgAction, ArgMatches, Command};
@@ -32,7 +31,7 @@ impl From<AllocError> for Unasked {
 /// What accepted words ask for: the mode, and the options of all modes, each with its default where it isn't given.
 #[derive(Clone, Copy, PartialEq, Eq, Debug)]
 pub struct Asked {
-    pub mode: Mode,
+    pub mode: ToolMode,
     /// Datapath workers, 1 to 32.
     pub datapaths: u32,
     /// Agent workers, or installers, 1 to 32.
@@ -63,7 +62,7 @@ pub fn read_words(alloc: Global, words: &[String]) -> Result<Asked, Unasked>
 
 /// What matches of the command line say, none where they have no mode.
 fn read_matches(matches: &ArgMatches) -> Option<Asked>
-    ensures mode { (text : List ℕ) → one_text (found_of matches.now) (codes "mode") ≡ Some text → option_map (λ asked. asked.mode) result ≡ mode_named text }
+    ensures mode { SaysMode (found_of matches.now) (option_map (λ asked. asked.mode) result) }
     ensures options { IfSome result (HasOptions (found_of matches.now)) }
 {
     let mode = read_mode(matches)?;
@@ -77,10 +76,10 @@ fn read_matches(matches: &ArgMatches) -> Option<Asked>
     })
 }
 
-fn read_mode(matches: &ArgMatches) -> Option<Mode>
-    ensures { (text : List ℕ) → one_text (found_of matches.now) (codes "mode") ≡ Some text → result ≡ mode_named text }
+fn read_mode(matches: &ArgMatches) -> Option<ToolMode>
+    ensures { SaysMode (found_of matches.now) result }
 {
-    matches.get_one::<Mode>("mode")
+    matches.get_one::<ToolMode>("mode")
 }
 
 /// The number that an option was given, or its default.

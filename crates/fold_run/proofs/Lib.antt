@@ -5,3 +5,4 @@ mod FirstWord
 mod SeparatedLemmas
 mod AcksLaws
 mod CutLaws
+mod ExpectedNames

@@ -8,6 +8,8 @@ use Rattle.portus_core.specs.Programs.{Form}
 use Rattle.portus_core.specs.Value.{Cause}
 use Rattle.portus_core.specs.Epoch.{Event, acknowledged, by_source, Track, track_at, declared_env, after}
 use Rattle.portus_core.specs.Reports.{Epoch, reports, fault_of}
+use Rattle.portus_core.specs.ProgramForm.{form_of}
+use Rattle.reg_compiler.specs.declared.built.Built.{Built}
 use Rattle.fold_run.specs.declared.end.End.{End}
 
 -- the one epoch of a fold
@@ -21,6 +23,10 @@ with_room ack = acknowledged ack true
 -- a fold begins with `Cwnd`, `Rate` and time zero 0, and without values
 abbrev pub fold_start : Form → Track
 fold_start form = track_at 0 (declared_env form 0 0 0)
+
+-- where the fold stands after acknowledgements
+abbrev pub fold_track : Form → List Ack → Track
+fold_track form acks = after (by_source form) (map with_room acks) (fold_start form)
 
 abbrev pub fold_reports : Form → List Ack → List Report
 fold_reports form acks = reports (by_source form) fold_epoch (map with_room acks) (fold_start form)
@@ -40,7 +46,7 @@ end_of track = record {
 }
 
 abbrev pub fold_end : Form → List Ack → End
-fold_end form acks = end_of (after (by_source form) (map with_room acks) (fold_start form))
+fold_end form acks = end_of (fold_track form acks)
 
 abbrev pub place_at : List Place → ℕ → Place
 place_at places index = slice_index_or places index (record { line = 0; column = 0 })
@@ -58,3 +64,7 @@ pub record IsFoldNotice (acks : List Ack) (places : List Place) (window : ℕ) (
   pub placed : notice.index < length places
   pub now : option_map (λ (ack : Ack). ack.now) (slice_get acks notice.at) ≡ Some notice.now
   pub cwnd : notice.cwnd ≡ window
+
+-- the fault that a notice tells, where there is one, is the one that stops the program
+abbrev pub TellsFault : Built → List Ack → Option Notice → Type 0
+TellsFault built acks notice = option_map (told_fault built.places) notice ≡ fold_fault (form_of built.program) acks

@@ -1,16 +1,27 @@
 -- How far a fold has come, as an epoch of the source and as a run of the code.
-use Rattle.std.specs.Prelude.{◌≡◌, ◌≤◌, ◌*◌, is_some, List, [], ◌∷◌, ◌++◌}
-use Rattle.std.specs.Option.{ForSome}
+use Rattle.std.specs.Prelude.{◌≡◌, ◌≤◌, ◌*◌, ℕ, true, Option, Some, is_some, option_map, slice_get, List, [], ◌∷◌, ◌++◌}
+use Rattle.std.specs.Option.{ForSome, option_or}
 use Rattle.ccp_base.specs.declared.ack.Ack.{Ack}
+use Rattle.ccp_base.specs.declared.arithmetic.FaultKind.{FaultKind}
+use Rattle.ccp_base.specs.declared.exchange.Notice.{Notice}
+use Rattle.ccp_base.specs.declared.exchange.Report.{Report}
 use Rattle.ccp_base.specs.declared.place.Place.{Place}
 use Rattle.portus_core.specs.declared.env.Env.{Env}
-use Rattle.portus_core.specs.Epoch.{Track}
+use Rattle.portus_core.specs.declared.env.Mean.{Mean}
+use Rattle.portus_core.specs.OneAcknowledgement.{one_of}
+use Rattle.portus_core.specs.ProgramForm.{form_of}
+use Rattle.portus_core.specs.Epoch.{Track, after_event, by_source}
+use Rattle.portus_core.specs.Reports.{fault_at, reports_at}
+use Rattle.portus_core.specs.Value.{Cause}
 use Rattle.reg_code.specs.declared.code.Code.{Code}
-use Rattle.reg_code.specs.CodeStep.{Kept}
+use Rattle.reg_code.specs.CodeStep.{Kept, Made, one_by_code}
+use Rattle.reg_compiler.specs.declared.built.Built.{Built}
 use Rattle.fold_machine.specs.MachineState.{Fits}
-use Rattle.fold_run.specs.Fold.{IsFoldNotice}
+use Rattle.fold_run.specs.Fold.{IsFoldNotice, fold_epoch, told_fault, with_room}
+use Rattle.fold_run.specs.declared.end.End.{End}
+use Rattle.fold_run.specs.declared.folded.Folded.{Folded}
 use Rattle.fold_run.specs.declared.folding.Folding.{Folding}
-use Rattle.fold_run.specs.Ran.{Running}
+use Rattle.fold_run.specs.Ran.{Running, running_after}
 
 -- the env that registers hold
 abbrev pub env_of : Kept → Env
@@ -66,3 +77,67 @@ reported_by folding ack = record folding {
 -- the notice of a fold, where it has one, tells of one of these acknowledgements
 abbrev pub HasNotice : List Ack → List Place → Folding → Type 0
 HasNotice acks places folding = ForSome folding.fault (IsFoldNotice acks places folding.machine.kept.cwnd)
+
+-- the same of a fold that has ended
+abbrev pub HasEndNotice : List Ack → List Place → Folded → Type 0
+HasEndNotice acks places folded = ForSome folded.fault (IsFoldNotice acks places folded.end.cwnd)
+
+-- ---- one acknowledgement
+
+-- what the program means at it, where its code has these registers
+abbrev pub by_program : Built → Kept → Ack → Mean × Env
+by_program built kept ack = one_of (form_of built.program) (env_of kept) ack true
+
+-- what its code does at it
+abbrev pub by_code : Built → Kept → Ack → Made
+by_code built kept ack = one_by_code built.code.code kept ack true
+
+-- where the program stands after it
+abbrev pub track_after : Built → Folding → Ack → Track
+track_after built folding ack = after_event (by_source (form_of built.program)) (with_room ack) (track_of folding)
+
+-- where the code stands after it
+abbrev pub code_after : Built → Folding → Ack → Running
+code_after built folding ack = running_after built.code.code (running_of folding) ack
+
+-- the reports of it
+abbrev pub reports_after : Built → Folding → Ack → List Report
+reports_after built folding ack = reports_at (by_source (form_of built.program)) fold_epoch (with_room ack) (track_of folding)
+
+-- the fault so far
+abbrev pub fault_in : Built → Folding → Option (ℕ × Cause)
+fault_in built folding = option_map (told_fault built.places) folding.fault
+
+-- the fault after it, which is the first one
+abbrev pub fault_after : Built → Folding → Ack → Option (ℕ × Cause)
+fault_after built folding ack = option_or (fault_in built folding) (fault_at (by_source (form_of built.program)) (with_room ack) (track_of folding))
+
+-- where it is the next of some acknowledgements, the notice still tells of one of these
+abbrev pub KeepsNotice : Built → Ack → Folding → Folding → Type 0
+KeepsNotice built ack before now =
+    (acks : List Ack) → slice_get acks before.count ≡ Some ack → HasNotice acks built.places before → HasNotice acks built.places now
+
+-- the notice of a fault at it
+abbrev pub notice_of : Folding → ℕ → FaultKind → ℕ → ℕ → Notice
+notice_of folding at kind index now = record {
+  flow = 0;
+  program = 0;
+  epoch = 0;
+  at = at;
+  kind = kind;
+  index = index;
+  now = now;
+  cwnd = folding.machine.kept.cwnd;
+}
+
+-- ---- the end
+
+abbrev pub end_with : Folding → End
+end_with folding = record {
+  acks = folding.count;
+  first = folding.first;
+  stopped = is_some folding.fault;
+  cwnd = folding.machine.kept.cwnd;
+  rate = folding.machine.kept.rate;
+  fields = folding.machine.kept.reports;
+}

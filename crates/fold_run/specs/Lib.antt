@@ -1,4 +1,5 @@
 pub mod FirstPart
+pub mod ExpectedName
 pub mod Separated
 pub mod AckLine
 pub mod Acknowledgements

@@ -4,6 +4,7 @@ use Rattle.std.specs.Str.{bytes_eq}
 use Rattle.ccp_base.specs.declared.parts.Separator.TheVariants.{LineFeed}
 use Rattle.ccp_base.specs.Parts.{parts_of, without_last}
 use Rattle.fold_run.specs.FirstPart.{after_of}
+use Rattle.fold_run.specs.declared.separated.Separated.{Separated}
 
 -- the bytes before a line, the bytes after it, and the number in the whole text, counted from 1, of the first line
 -- after it
@@ -32,3 +33,7 @@ cut_at text n = record {
 -- the cut of a text at its first separator
 abbrev pub cut_of : List ℕ → Option Cut
 cut_of text = option_map (cut_at text) (position is_separator (parts_of LineFeed text))
+
+-- the cut that a separated text is
+abbrev pub cut_as : Separated → Cut
+cut_as s = record { program = s.program.now; rest = s.rest.now; next = s.next }

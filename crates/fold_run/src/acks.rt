@@ -9,6 +9,7 @@ ghost use Rattle.fold_run.specs.Acknowledgements.{with_line, acks_of};
 use crate::ack_line::{LineKind, read_line};
 use crate::first_line::first_line;
 use crate::line_values::LineValues;
+use crate::names::Followers;
 use ccp_base::{Acks, ack_of, without_return};
 use std::alloc::{AllocError, Global};
 
@@ -42,11 +43,12 @@ pub fn acknowledgements(alloc: Global, lines: &[u8], next: u64) -> Result<Acks, 
     ensures within { IfOk result (λ acks. length acks ≤ most_acks) }
 {
     let mut acks = Acks::from_vec(Vec::with_capacity(alloc, room_for(lines))?);
+    let mut followers = Followers::new();
     let mut number = next;
     let mut rest = lines;
     while !rest.is_empty() {
         let (line, after) = first_line(rest);
-        put_line(&mut acks, number, without_return(line))?;
+        put_line(&mut acks, &mut followers, number, without_return(line))?;
         rest = after;
         number += 1;
     }
@@ -65,14 +67,19 @@ fn room_for(lines: &[u8]) -> usize
 }
 
 /// Puts what the line of this number says, without the CR at its end, at the end of the acknowledgements.
-fn put_line(acks: &mut Acks, number: u64, line: &[u8]) -> Result<(), LineFault>
+fn put_line(
+    acks: &mut Acks,
+    followers: &mut Followers,
+    number: u64,
+    line: &[u8],
+) -> Result<(), LineFault>
     requires { length acks.old ≤ most_acks }
     ensures ok { OnOk result (with_line number acks.old (line_of line.now) ≡ Ok acks.new) }
     ensures err { IfErr result (λ e. e ≢ NoMemory → with_line number acks.old (line_of line.now) ≡ Err e) }
     ensures within { length acks.new ≤ most_acks }
 {
     let mut values = LineValues::none();
-    match read_line(&mut values, line) {
+    match read_line(&mut values, followers, line) {
         LineKind::Nothing => Ok(()),
         LineKind::Refused => Err(LineFault::Line(number)),
         LineKind::Given => {

@@ -1,9 +1,9 @@
 //! The run of a program's code over acknowledgements.
-ghost use Rattle.std.specs.Prelude.{◌≡◌, ◌≤◌, ◌<◌, IfOk, length, option_map};
-ghost use Rattle.std.specs.Option.{ForSome};
+ghost use Rattle.std.specs.Prelude.{◌≡◌, ◌≤◌, ◌<◌, IfOk, length};
 ghost use Rattle.ccp_base.specs.Limits.{most_acks};
 ghost use Rattle.portus_core.specs.ProgramForm.{form_of};
-ghost use Rattle.fold_run.specs.Fold.{fold_reports, fold_fault, fold_end, told_fault, IsFoldNotice};
+ghost use Rattle.fold_run.specs.Fold.{TellsFault, fold_end, fold_reports};
+ghost use Rattle.fold_run.specs.Folding.{HasEndNotice};
 ghost use Rattle.fold_run.specs.Ran.{ran_of};
 
 use crate::fold::fold;
@@ -20,8 +20,8 @@ use std::sync::ledger::{Blank, Ledger};
 pub fn folded(alloc: Global, built: &Built, acks: &[Ack]) -> Result<Folded, NoMemory>
     requires { length acks.now ≤ most_acks }
     ensures reports { IfOk result (λ folded. folded.reports ≡ fold_reports (form_of built.now.program) acks.now) }
-    ensures fault { IfOk result (λ folded. option_map (told_fault built.now.places) folded.fault ≡ fold_fault (form_of built.now.program) acks.now) }
-    ensures notice { IfOk result (λ folded. ForSome folded.fault (IsFoldNotice acks.now built.now.places folded.end.cwnd)) }
+    ensures fault { IfOk result (λ folded. TellsFault built.now acks.now folded.fault) }
+    ensures notice { IfOk result (HasEndNotice acks.now built.now.places) }
     ensures end { IfOk result (λ folded. folded.end ≡ fold_end (form_of built.now.program) acks.now) }
     ensures ran { IfOk result (λ folded. folded.ran ≡ ran_of built.now.code.code acks.now) }
 {
@@ -40,8 +40,8 @@ fn counted<L: Ledger>(
     requires some { 0 < blank.parts }
     requires acks { length acks.now ≤ most_acks }
     ensures reports { IfOk result (λ folded. folded.reports ≡ fold_reports (form_of built.now.program) acks.now) }
-    ensures fault { IfOk result (λ folded. option_map (told_fault built.now.places) folded.fault ≡ fold_fault (form_of built.now.program) acks.now) }
-    ensures notice { IfOk result (λ folded. ForSome folded.fault (IsFoldNotice acks.now built.now.places folded.end.cwnd)) }
+    ensures fault { IfOk result (λ folded. TellsFault built.now acks.now folded.fault) }
+    ensures notice { IfOk result (HasEndNotice acks.now built.now.places) }
     ensures end { IfOk result (λ folded. folded.end ≡ fold_end (form_of built.now.program) acks.now) }
     ensures ran { IfOk result (λ folded. folded.ran ≡ ran_of built.now.code.code acks.now) }
 {

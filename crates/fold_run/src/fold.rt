@@ -1,8 +1,7 @@
-ghost use Rattle.std.specs.Prelude.{◌≡◌, ◌≤◌, IfOk, length, map, option_map};
+ghost use Rattle.std.specs.Prelude.{◌≡◌, ◌≤◌, IfOk, length};
 ghost use Rattle.ccp_base.specs.Limits.{most_acks};
 ghost use Rattle.portus_core.specs.ProgramForm.{form_of};
-ghost use Rattle.portus_core.specs.Epoch.{by_source, after};
-ghost use Rattle.fold_run.specs.Fold.{with_room, fold_start, fold_reports, fold_fault, told_fault};
+ghost use Rattle.fold_run.specs.Fold.{TellsFault, fold_reports, fold_track};
 ghost use Rattle.fold_run.specs.Folding.{track_of, IsFoldOf, HasNotice};
 ghost use Rattle.fold_run.specs.Ran.{ran_of};
 
@@ -21,10 +20,10 @@ pub fn fold<L: Ledger>(
     steps: &mut Steps<L>,
 ) -> Result<Folding, NoMemory>
     requires { length acks.now ≤ most_acks }
-    ensures track { IfOk result (λ folding. track_of folding ≡ after (by_source (form_of built.now.program)) (map with_room acks.now) (fold_start (form_of built.now.program))) }
+    ensures track { IfOk result (λ folding. track_of folding ≡ fold_track (form_of built.now.program) acks.now) }
     ensures ran { IfOk result (λ folding. folding.ran ≡ ran_of built.now.code.code acks.now) }
     ensures reports { IfOk result (λ folding. folding.reports ≡ fold_reports (form_of built.now.program) acks.now) }
-    ensures fault { IfOk result (λ folding. option_map (told_fault built.now.places) folding.fault ≡ fold_fault (form_of built.now.program) acks.now) }
+    ensures fault { IfOk result (λ folding. TellsFault built.now acks.now folding.fault) }
     ensures notice { IfOk result (HasNotice acks.now built.now.places) }
     ensures fold { IfOk result (IsFoldOf built.now.code.code) }
 {

@@ -1,19 +1,12 @@
-ghost use Rattle.std.specs.Prelude.{◌≡◌, ◌≤◌, ◌<◌, ◌+◌, ◌++◌, IfOk, OnOk, Some, None, is_some, [], List, true, false, option_map, slice_get, ◌^◌};
-ghost use Rattle.std.specs.Option.{option_or};
-ghost use Rattle.ccp_base.specs.declared.ack.Ack.{Ack};
+ghost use Rattle.std.specs.Prelude.{◌≡◌, ◌<◌, ◌+◌, ◌++◌, IfOk, OnOk, None, [], false, ◌^◌};
 ghost use Rattle.ccp_base.specs.Limits.{most_acks};
 ghost use Rattle.portus_core.specs.ProgramForm.{form_of};
-ghost use Rattle.portus_core.specs.OneAcknowledgement.{one_of};
-ghost use Rattle.portus_core.specs.Epoch.{by_source, outcome_of, after_event};
-ghost use Rattle.portus_core.specs.Epoch.{stops as stops_epoch};
-ghost use Rattle.portus_core.specs.Reports.{reports_at, fault_at};
-ghost use Rattle.reg_code.specs.CodeStep.{one_by_code};
 ghost use Rattle.fold_machine.specs.MachineState.{Fits};
 ghost use Rattle.fold_machine.specs.Heard.{is_fault, stops};
-ghost use Rattle.fold_run.specs.Fold.{fold_epoch, with_room, fold_start, told_fault};
+ghost use Rattle.fold_run.specs.Fold.{fold_start};
 ghost use Rattle.fold_run.specs.Told.{mean_of, IsPlaced};
-ghost use Rattle.fold_run.specs.Folding.{env_of, track_of, running_of, IsFoldOf, HasNotice, reported_by};
-ghost use Rattle.fold_run.specs.Ran.{running_after, running_start};
+ghost use Rattle.fold_run.specs.Folding.{env_of, track_of, running_of, IsFoldOf, KeepsNotice, by_code, by_program, code_after, end_with, fault_after, fault_in, notice_of, reported_by, reports_after, track_after};
+ghost use Rattle.fold_run.specs.Ran.{running_start};
 
 use crate::end::End;
 use ccp_base::{Ack, FaultKind, Fields, NoMemory, Notice, Report, Reports};
@@ -41,12 +34,13 @@ pub struct Folding {
 fn meant<L: Ledger>(machine: &mut Machine, built: &Built, ack: &Ack, steps: &mut Steps<L>) -> Acked
     requires fits { Fits machine.old built.now.code.code }
     requires going { machine.old.is_stopped ≡ false }
-    ensures mean { (one_of (form_of built.now.program) (env_of machine.old.kept) ack.entry.now true).0 ≡ mean_of built.now.places machine.new.report result }
+    ensures mean { (by_program built.now machine.old.kept ack.entry.now).0
+        ≡ mean_of built.now.places machine.new.report result }
     ensures placed { IsPlaced built.now.places result }
-    ensures env { env_of machine.new.kept ≡ (one_of (form_of built.now.program) (env_of machine.old.kept) ack.entry.now true).1 }
-    ensures kept { machine.new.kept ≡ (one_by_code built.now.code.code machine.old.kept ack.entry.now true).kept }
-    ensures ran { machine.new.ran ≡ (one_by_code built.now.code.code machine.old.kept ack.entry.now true).ran }
-    ensures stopped { machine.new.is_stopped ≡ stops (one_by_code built.now.code.code machine.old.kept ack.entry.now true).outcome }
+    ensures env { env_of machine.new.kept ≡ (by_program built.now machine.old.kept ack.entry.now).1 }
+    ensures kept { machine.new.kept ≡ (by_code built.now machine.old.kept ack.entry.now).kept }
+    ensures ran { machine.new.ran ≡ (by_code built.now machine.old.kept ack.entry.now).ran }
+    ensures stopped { machine.new.is_stopped ≡ stops (by_code built.now machine.old.kept ack.entry.now).outcome }
     ensures stops { machine.new.is_stopped ≡ is_fault result }
     ensures fits { Fits machine.new built.now.code.code }
 {
@@ -86,11 +80,12 @@ impl Folding {
     ) -> Result<(), NoMemory>
         requires fold { IsFoldOf built.now.code.code self.old }
         requires room { self.old.count < most_acks }
-        ensures track { OnOk result (track_of self.new ≡ after_event (by_source (form_of built.now.program)) (with_room ack.entry.now) (track_of self.old)) }
-        ensures running { OnOk result (running_of self.new ≡ running_after built.now.code.code (running_of self.old) ack.entry.now) }
-        ensures reports { OnOk result (self.new.reports ≡ self.old.reports ++ reports_at (by_source (form_of built.now.program)) fold_epoch (with_room ack.entry.now) (track_of self.old)) }
-        ensures fault { OnOk result (option_map (told_fault built.now.places) self.new.fault ≡ option_or (option_map (told_fault built.now.places) self.old.fault) (fault_at (by_source (form_of built.now.program)) (with_room ack.entry.now) (track_of self.old))) }
-        ensures notice { OnOk result ((acks : List Ack) → slice_get acks self.old.count ≡ Some ack.entry.now → HasNotice acks built.now.places self.old → HasNotice acks built.now.places self.new) }
+        ensures track { OnOk result (track_of self.new ≡ track_after built.now self.old ack.entry.now) }
+        ensures running { OnOk result (running_of self.new ≡ code_after built.now self.old ack.entry.now) }
+        ensures reports { OnOk result (self.new.reports
+            ≡ self.old.reports ++ reports_after built.now self.old ack.entry.now) }
+        ensures fault { OnOk result (fault_in built.now self.new ≡ fault_after built.now self.old ack.entry.now) }
+        ensures notice { OnOk result (KeepsNotice built.now ack.entry.now self.old self.new) }
         ensures fold { OnOk result (IsFoldOf built.now.code.code self.new) }
         ensures counted { OnOk result (self.new.count ≡ self.old.count + 1) }
     {
@@ -133,7 +128,7 @@ impl Folding {
 
     /// That the acknowledgement with the number `at` and the time `now` faulted.
     fn notice(&self, at: u64, kind: FaultKind, index: u16, now: u64) -> Notice
-        ensures { result ≡ (record { flow = 0; program = 0; epoch = 0; at = at; kind = kind; index = index; now = now; cwnd = self.now.machine.kept.cwnd }) }
+        ensures { result ≡ notice_of self.now at kind index now }
     {
         Notice {
             flow: 0,
@@ -149,7 +144,7 @@ impl Folding {
 
     /// How the fold ends.
     pub fn end(&self) -> End
-        ensures { result ≡ (record { acks = self.now.count; first = self.now.first; stopped = is_some self.now.fault; cwnd = self.now.machine.kept.cwnd; rate = self.now.machine.kept.rate; fields = self.now.machine.kept.reports }) }
+        ensures { result ≡ end_with self.now }
     {
         End {
             acks: self.count,

@@ -13,9 +13,8 @@ mod folding;
 mod laws;
 mod line_number;
 mod line_values;
+mod names;
 mod separated;
-#[cfg(test)]
-mod tests;
 
 pub use acks::{LineFault, acknowledgements};
 pub use end::End;

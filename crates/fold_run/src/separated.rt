@@ -1,7 +1,7 @@
 ghost use Rattle.std.specs.Prelude.{◌≡◌, ◌+◌, ◌<◌, ◌≤◌, IfSome, IfNone, Some, None, length, codes};
 ghost use Rattle.std.specs.Bool.{OnTrue};
 ghost use Rattle.std.specs.Str.{bytes_eq};
-ghost use Rattle.fold_run.specs.Separated.{is_separator, cut_of};
+ghost use Rattle.fold_run.specs.Separated.{cut_as, cut_of, is_separator};
 
 use crate::first_line::first_line;
 use ccp_base::without_return;
@@ -20,7 +20,7 @@ pub struct Separated<'a> {
 /// Cuts a text at its first line `---`, which may have a CR at its end; None exactly where there is no such
 /// line.
 pub fn separate(text: &[u8]) -> Option<Separated<'_>>
-    ensures found { IfSome result (λ s. cut_of text.now ≡ Some (record { program = s.program.now; rest = s.rest.now; next = s.next })) }
+    ensures found { IfSome result (λ s. cut_of text.now ≡ Some (cut_as s)) }
     ensures none { IfNone result (cut_of text.now ≡ None) }
     ensures next { IfSome result (λ s. s.next + length s.rest.now < length text.now) }
 {

@@ -1,3 +1,4 @@
+-- What the generator's draws come to: its traces say their times, and one plan more is drawn.
 use Rattle.std.proofs.Common.{◌≡◌, ℕ, zero, suc, ◌-◌, ◌<◌, List, [], ◌∷◌, ◌++◌, Ok, length, refl, arith}
 use Rattle.link_model.specs.TraceText.{trace_of}
 use Rattle.scenario_json.specs.Soak.{text_at, times_at, drawn_plan, drawn_plans}

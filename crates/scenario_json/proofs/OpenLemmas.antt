@@ -1,3 +1,4 @@
+-- What is read of a rollout's scenario grows at its end: its texts and its cases.
 use Rattle.std.proofs.Common.{◌≡◌, ℕ, ◌+◌, List, [], ◌∷◌, ◌++◌, Ok, length, map, sym, ap, ◌∙◌, arith}
 use Rattle.std.proofs.lemmas.List.{length-map, map_push}
 use Rattle.serde_json.specs.Data.{Data, Items, item, Members, member}

@@ -1,3 +1,4 @@
+-- There is a reading of program texts, and a text that is built or refused is read as that by every reading.
 use Rattle.std.proofs.Common.{◌≡◌, ◌≢◌, inl, inr, List, ℕ, Option, Some, None, Result, Ok, Err, IfOk, IfErr, ap, refl}
 use Rattle.portus_core.specs.Programs.{Form}
 use Rattle.portus_core.specs.Trees.{Nodes}

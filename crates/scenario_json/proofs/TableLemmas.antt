@@ -1,3 +1,4 @@
+-- The table of traces: a trace whose name is above those before it goes last, and is found by its name.
 use Rattle.std.proofs.Common.{◌≡◌, ℕ, List, [], ◌∷◌, ◌++◌, map, Some, Ok, String, Global, Less, Greater, string_bytes, string_cmp, nat_cmp, cond, refl, sym, ap, ap₂, ◌∙◌, subst}
 use Rattle.std.proofs.lemmas.List.{map_push}
 use Rattle.serde_json.specs.View.{view, members_view}

@@ -12,4 +12,5 @@ pub mod Cases
 pub mod RefusalText
 pub mod Rollout
 pub mod OpenCases
+pub mod Drafts
 pub mod SharedScenes

@@ -71,8 +71,9 @@ pub fn soak(alloc: Global, number: u32) -> Result<Scenario, NoMemory>
     put_together(alloc, programs, plans(alloc, number)?)
 }
 
-/// Reads the scenario of a rollout: as `scenario` in a live run, but that the texts of programs aren't built, and that a
-/// case has a first window and the names of its steps in place of an agent. The cases are those of the flows from 0 on.
+/// Reads the scenario of a rollout: as `scenario` in a live run, but that the texts of programs aren't built, and that
+/// a case has a first window and the names of its steps in place of an agent. The cases are those of the flows from 0
+/// on.
 pub fn rollout_scene(alloc: Global, text: &[u8]) -> Result<OpenCases, SceneFault>
     // The answer is what the text says, and each refusal the text's first one.
     ensures found { IfOk result (λ cases. rollout_of text.now ≡ Ok (map open_plan_of cases)) }

@@ -1,8 +1,9 @@
 ghost use Rattle.std.specs.Prelude.{◌≡◌, ◌≢◌, ◌≤◌, ◌+◌, IfOk, IfErr, Ok, Err, [], length};
 ghost use Rattle.std.specs.List.{All};
-ghost use Rattle.serde_json.specs.View.{view, items_view};
+ghost use Rattle.serde_json.specs.View.{view};
 ghost use Rattle.ccp_base.specs.Limits.{most_named_programs};
-ghost use Rattle.scenario_json.specs.CaseWalk.{case_name, kind_named, case_kind, trace_in, case_trace, case_members, case_in, cases_from};
+ghost use Rattle.scenario_json.specs.CaseWalk.{case_name, kind_named, case_kind, trace_in, case_trace, case_members, case_in};
+ghost use Rattle.scenario_json.specs.Drafts.{plans_in};
 ghost use Rattle.scenario_json.specs.Traces.{table_of};
 ghost use Rattle.scenario_json.specs.Plans.{IsPlan};
 ghost use Rattle.scenario_json.specs.declared.fault.SceneFault.TheVariants as fault;
@@ -147,11 +148,10 @@ pub(crate) fn cases_from(
     values: &[Value],
 ) -> Result<Plans, SceneFault>
     requires { length names.now ≤ most_named_programs }
-    ensures ok { IfOk result (λ ps. cases_from names.now (table_of traces.now.entries) [] (items_view values.now) ≡ Ok ps) }
+    ensures ok { IfOk result (λ ps. plans_in names.now traces.now.entries values.now ≡ Ok ps) }
     ensures within { IfOk result (λ ps. All (IsPlan (length names.now + 3)) ps) }
     ensures count { IfOk result (λ ps. length ps ≡ length values.now) }
-    ensures err { IfErr result (λ e. e ≢ fault.NoMemory
-        → cases_from names.now (table_of traces.now.entries) [] (items_view values.now) ≡ Err e) }
+    ensures err { IfErr result (λ e. e ≢ fault.NoMemory → plans_in names.now traces.now.entries values.now ≡ Err e) }
 {
     let mut plans = Sequence::new(alloc);
     let mut rest = values;

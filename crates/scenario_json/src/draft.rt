@@ -4,10 +4,11 @@ ghost use Rattle.serde_json.specs.View.{view, items_view};
 ghost use Rattle.ccp_base.specs.Limits.{most_named_programs};
 ghost use Rattle.scenario_json.specs.Values.{member_of};
 ghost use Rattle.scenario_json.specs.Cases.{AreNumberedFrom};
+ghost use Rattle.scenario_json.specs.Drafts.{parts_said, programs_said};
 ghost use Rattle.scenario_json.specs.Plans.{IsPlan};
 ghost use Rattle.scenario_json.specs.Traces.{table_of};
-ghost use Rattle.scenario_json.specs.ScenePrograms.{TextReading, IsReading, forms_of};
-ghost use Rattle.scenario_json.specs.Scene.{all_programs, most_cases_of, few_items, cases_in, acks_of, within_total, opening_in, parts_in, parts_with};
+ghost use Rattle.scenario_json.specs.ScenePrograms.{TextReading, IsReading};
+ghost use Rattle.scenario_json.specs.Scene.{all_programs, most_cases_of, few_items, cases_in, acks_of, within_total, opening_in, parts_in};
 ghost use Rattle.scenario_json.specs.declared.fault.SceneFault.TheVariants as fault;
 ghost use Rattle.scenario_json.specs.declared.key.Key.TheVariants as key;
 
@@ -38,7 +39,7 @@ pub(crate) struct Draft {
 /// All programs of a scenario.
 fn all_programs(alloc: Global, whole: &Value) -> Result<SceneProgramList, SceneFault>
     ensures ok { (read : TextReading) → IsReading read
-        → IfOk result (λ p. all_programs read (member_of key.Programs (view whole.now)) ≡ Ok (forms_of p.builts, p.names)) }
+        → IfOk result (λ p. all_programs read (member_of key.Programs (view whole.now)) ≡ Ok (programs_said p)) }
     ensures numbered { IfOk result (λ p. AreNumberedFrom 0 p.builts) }
     ensures count { IfOk result (λ p. length p.builts ≡ length p.names + 3) }
     ensures few { IfOk result (λ p. length p.names ≤ most_named_programs) }
@@ -130,7 +131,7 @@ pub(crate) fn opening(alloc: Global, whole: &Value) -> Result<u64, SceneFault>
 /// What a value says.
 pub(crate) fn draft_in(alloc: Global, mode: Mode, whole: &Value) -> Result<Draft, SceneFault>
     ensures ok { (read : TextReading) → IsReading read
-        → IfOk result (λ d. parts_in read mode (view whole.now) ≡ Ok (parts_with (forms_of d.programs.builts) (table_of d.traces.entries) d.plans)) }
+        → IfOk result (λ d. parts_in read mode (view whole.now) ≡ Ok (parts_said d)) }
     ensures numbered { IfOk result (λ d. AreNumberedFrom 0 d.programs.builts) }
     ensures within { IfOk result (λ d. All (IsPlan (length d.programs.builts)) d.plans) }
     ensures count { IfOk result (λ d. length d.plans ≤ most_cases_of mode) }

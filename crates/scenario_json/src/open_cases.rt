@@ -1,9 +1,10 @@
 ghost use Rattle.std.specs.Prelude.{◌≡◌, ◌≢◌, ◌≤◌, IfOk, IfErr, Ok, Err, [], length, map};
-ghost use Rattle.serde_json.specs.View.{view, items_view};
+ghost use Rattle.serde_json.specs.View.{view};
 ghost use Rattle.ccp_base.specs.Limits.{most_flows};
 ghost use Rattle.scenario_json.specs.Traces.{table_of};
-ghost use Rattle.scenario_json.specs.Rollout.{open_members, open_case_in, open_cases_from, open_cases_in, open_acks_of, within_open_total, open_plans_in};
+ghost use Rattle.scenario_json.specs.Rollout.{open_members, open_case_in, open_cases_in, open_acks_of, within_open_total, open_plans_in};
 ghost use Rattle.scenario_json.specs.OpenCases.{open_plan_of, AreOpenFlowsFrom, texts_of};
+ghost use Rattle.scenario_json.specs.Drafts.{open_plans};
 ghost use Rattle.scenario_json.specs.declared.fault.SceneFault.TheVariants as fault;
 
 use crate::case::{case_name, case_trace};
@@ -90,12 +91,10 @@ fn open_cases_from(
     values: &[Value],
 ) -> Result<OpenCases, SceneFault>
     requires { length values.now ≤ most_flows }
-    ensures ok { IfOk result (λ cs.
-        open_cases_from (texts_of texts.now) (table_of traces.now.entries) [] (items_view values.now) ≡ Ok (map open_plan_of cs)) }
+    ensures ok { IfOk result (λ cs. open_plans texts.now traces.now.entries values.now ≡ Ok (map open_plan_of cs)) }
     ensures flows { IfOk result (λ cs. AreOpenFlowsFrom 0 cs) }
     ensures count { IfOk result (λ cs. length cs ≡ length values.now) }
-    ensures err { IfErr result (λ e. e ≢ fault.NoMemory
-        → open_cases_from (texts_of texts.now) (table_of traces.now.entries) [] (items_view values.now) ≡ Err e) }
+    ensures err { IfErr result (λ e. e ≢ fault.NoMemory → open_plans texts.now traces.now.entries values.now ≡ Err e) }
 {
     let mut cases = Sequence::new(alloc);
     let mut rest = values;

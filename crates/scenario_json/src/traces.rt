@@ -61,7 +61,7 @@ fn named_trace(alloc: Global, name: &str, value: &Value) -> Result<Trace, SceneF
 }
 
 fn traces_from(alloc: Global, members: &Map<String, Value>) -> Result<Traces, SceneFault>
-    ensures ok { IfOk result (λ traces. traces_from [] (members_view members.now.entries) ≡ Ok (table_of traces.entries)) }
+    ensures ok { IfOk result (λ ts. traces_from [] (members_view members.now.entries) ≡ Ok (table_of ts.entries)) }
     ensures err { IfErr result (λ e. e ≢ fault.NoMemory → traces_from [] (members_view members.now.entries) ≡ Err e) }
 {
     let mut traces = Traces::new(alloc);

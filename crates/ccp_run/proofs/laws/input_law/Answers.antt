@@ -1,5 +1,5 @@
-use Rattle.ccp_run.proofs.SettledInputs.{settled_input}
+use Rattle.ccp_run.proofs.WorkerModes.{is_mode}
 use Rattle.ccp_run.proofs.laws.input_law.Goals as goal
 
 pub returns : goal.returns
-returns c = settled_input
+returns c = λ task bytes. (is_mode task).settled bytes

@@ -1,29 +1,55 @@
-use Rattle.std.proofs.Common.{◌≡◌, ◌∙◌, Some, ap, refl, rules, sym, subst, map, string_bytes}
+use Rattle.std.proofs.Common.{◌≡◌, ◌∙◌, true, Some, List, ℕ, ap, is_some, refl, rules, sym, subst, map, string_bytes}
 use Rattle.ccp_words.specs.declared.words.Asked.{Asked}
-use Rattle.ccp_words.specs.Words.{asked_in}
+use Rattle.ccp_words.specs.Words.{are_accepted, asked_in}
 use Rattle.ccp_run.specs.Complete.{IsComplete}
-use Rattle.ccp_run.specs.Tasks.{task_of}
-use Rattle.ccp_run.specs.Streams.{Stream, stream}
+use Rattle.ccp_run.specs.Modes.{task_of}
+use Rattle.ccp_run.specs.Run.{IsRun}
+use Rattle.ccp_run.specs.Streams.{Stream, over}
 use Rattle.ccp_run.proofs.CompleteRuns.{complete}
+use Rattle.ccp_run.proofs.ModeLaws.{no_both}
 use Rattle.ccp_run.proofs.RunLemmas.{wants_at_once}
 use Rattle.ccp_run.proofs.tool.run.Goals as goal
 
-pub returns-clause-asked : goal.returns-clause-asked
-returns-clause-asked g c = λ asked accepted is.
-    wants_at_once (task_of asked)
-    (stream (g.S.Source.remaining c.args.source.now) (g.S.Source.remaining c.args.source.now) (g.S.Source.faults c.args.source.now) (g.S.Source.faults c.args.source.now))
-    (stream (g.K.Sink.written c.args.sink.now) (g.K.Sink.written c.args.sink.now) (g.K.Sink.faults c.args.sink.now) (g.K.Sink.faults c.args.sink.now))
-    (stream (g.E.Sink.written c.args.errors.now) (g.E.Sink.written c.end_without-in-Err-NoMemory.new.errors) (g.E.Sink.faults c.args.errors.now) (g.E.Sink.faults c.end_without-in-Err-NoMemory.new.errors))
-    (g.K.Sink.is_finished c.args.sink.now) c.end_without-in-Err-NoMemory.result
-    refl refl c.end_without-in-Err-NoMemory.ensures
+one_some : (left right : Asked) → Some left ≡ Some right → left ≡ right
+one_some left right e = cc
 
-pub returns-in-Ok-clause-complete : goal.returns-in-Ok-clause-complete
-returns-in-Ok-clause-complete g c = λ asked accepted is.
-    let source : Stream = stream (g.S.Source.remaining c.args.source.now) (g.S.Source.remaining c.asked_run.new.source) (g.S.Source.faults c.args.source.now) (g.S.Source.faults c.asked_run.new.source) in
-    let sink : Stream = stream (g.K.Sink.written c.args.sink.now) (g.K.Sink.written c.asked_run.new.sink) (g.K.Sink.faults c.args.sink.now) (g.K.Sink.faults c.asked_run.new.sink) in
-    let errors : Stream = stream (g.E.Sink.written c.args.errors.now) (g.E.Sink.written c.asked_run.new.errors) (g.E.Sink.faults c.args.errors.now) (g.E.Sink.faults c.asked_run.new.errors) in
+-- the words are accepted, and the run is one of the mode that they ask for
+pub returns-in-Ok : goal.returns-in-Ok
+returns-in-Ok g c =
+    let source : Stream = over g.S.Source.remaining g.S.Source.faults c.args.source.now c.asked_run.new.source in
+    let sink : Stream = over g.K.Sink.written g.K.Sink.faults c.args.sink.now c.asked_run.new.sink in
+    let errors : Stream = over g.E.Sink.written g.E.Sink.faults c.args.errors.now c.asked_run.new.errors in
+    let run : IsRun (task_of c.in-Ok.asked) source sink errors (g.K.Sink.is_finished c.asked_run.new.sink) c.asked_run.result = c.asked_run.ensures in
+    let given : List (List ℕ) = map string_bytes c.args.words.items in
     let words : c.deref.result.now ≡ c.args.words.items = search rules in
-    let found : Some c.in-Ok.asked ≡ Some asked = sym c.in-Ok.ensures.asked ∙ (ap (λ xs. asked_in (map string_bytes xs)) words ∙ is) in
-    let same : c.in-Ok.asked ≡ asked = cc in
-    subst (λ (a : Asked). IsComplete (task_of a) source sink c.asked_run.result) same
-    (complete (task_of c.in-Ok.asked) source sink errors (g.K.Sink.is_finished c.asked_run.new.sink) c.asked_run.result c.asked_run.ensures)
+    let accepted : are_accepted given ≡ true = sym (ap (λ xs. are_accepted (map string_bytes xs)) words) ∙ c.in-Ok.ensures.accepted in
+    let found : asked_in given ≡ Some c.in-Ok.asked = sym (ap (λ xs. asked_in (map string_bytes xs)) words) ∙ c.in-Ok.ensures.asked in
+    record {
+      words = λ _. ((λ refused. absurd (run.words refused)), (λ not. no_both (sym accepted ∙ not)));
+      unasked = λ not. no_both (sym accepted ∙ not);
+      asks = λ _ _. ap is_some found;
+      asked = λ asked _ is.
+          subst (λ (a : Asked). IsRun (task_of a) source sink errors (g.K.Sink.is_finished c.asked_run.new.sink) c.asked_run.result)
+          (one_some c.in-Ok.asked asked (sym found ∙ is)) run;
+      complete = λ asked _ is.
+          subst (λ (a : Asked). IsComplete (task_of a) source sink c.asked_run.result) (one_some c.in-Ok.asked asked (sym found ∙ is))
+          (complete (task_of c.in-Ok.asked) source sink errors (g.K.Sink.is_finished c.asked_run.new.sink) c.asked_run.result run);
+    }
+
+-- memory was wanted for the words
+pub returns : goal.returns
+returns g c =
+    let source : Stream = over g.S.Source.remaining g.S.Source.faults c.args.source.now c.args.source.now in
+    let sink : Stream = over g.K.Sink.written g.K.Sink.faults c.args.sink.now c.args.sink.now in
+    let errors : Stream = over g.E.Sink.written g.E.Sink.faults c.args.errors.now c.end_without-in-Err-NoMemory.new.errors in
+    let ends = c.end_without-in-Err-NoMemory.ensures in
+    let run : (asked : Asked) → IsRun (task_of asked) source sink errors (g.K.Sink.is_finished c.args.sink.now) c.end_without-in-Err-NoMemory.result =
+    λ asked. wants_at_once (task_of asked) source sink errors (g.K.Sink.is_finished c.args.sink.now) c.end_without-in-Err-NoMemory.result refl refl ends in
+    record {
+      words = λ not6. absurd (not6 ends.status);
+      unasked = λ _. record { untouched = refl; nothing = refl; told = λ not6. absurd (not6 ends.status); told_memory = λ _. ends };
+      asks = λ _ not6. absurd (not6 ends.status);
+      asked = λ asked _ _. run asked;
+      complete = λ asked _ _.
+          complete (task_of asked) source sink errors (g.K.Sink.is_finished c.args.sink.now) c.end_without-in-Err-NoMemory.result (run asked);
+    }

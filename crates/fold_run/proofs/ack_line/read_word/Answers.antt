@@ -26,38 +26,38 @@ module _ (values : LineValues) (text : List ℕ) (at : ℕ) (is : equals_from 0 
 
 pub returns-in_default-clause-wrong : goal.returns-in_default-clause-wrong
 returns-in_default-clause-wrong c =
-    word-none c.args.values.now c.args.text.now c.requires (sym c.is.ensures ∙ c.if-is.false) (no-equals 0 c.args.text.now c.in_default.ensures)
+    word-none c.args.values.now c.args.text.now c.requires.some (sym c.is.ensures ∙ c.if-is.false) (no-equals 0 c.args.text.now c.in_default.ensures)
 
-pub returns-in_default-value_named-clause-wrong : goal.returns-in_default-value_named-clause-wrong
-returns-in_default-value_named-clause-wrong c =
+pub returns-in_default-number_named-clause-wrong : goal.returns-in_default-number_named-clause-wrong
+returns-in_default-number_named-clause-wrong c =
     equals-unknown c.args.text.now c.in-Some.at c.in-Some.ensures.0.high c.in-Some.ensures.0.before c.in-Some.ensures.1
-    c.args.values.now (sym c.is.ensures ∙ c.if-is.false) (sym c.value_named.ensures.number ∙ c.in_default-value_named.is)
+    c.args.values.now (sym c.is.ensures ∙ c.if-is.false) (sym c.number_named.ensures.number ∙ c.in_default-number_named.is)
 
 pub returns-in_default-read_number-clause-wrong : goal.returns-in_default-read_number-clause-wrong
 returns-in_default-read_number-clause-wrong c =
     valueless c.args.values.now c.args.text.now c.in-Some.at (equals-known c.args.text.now c.in-Some.at c.in-Some.ensures.0.high c.in-Some.ensures.0.before c.in-Some.ensures.1
-    c.in-Some-value_named.number (sym c.value_named.ensures.number ∙ c.in-Some-value_named.is))
+    c.in-Some-number_named.number (sym c.number_named.ensures.number ∙ c.in-Some-number_named.is))
     c.in_default-read_number.ensures.wrong
 
 pub returns-then-take-clause-word : goal.returns-then-take-clause-word
 returns-then-take-clause-word c =
     given c.args.values.now c.args.text.now c.in-Some.at (equals-known c.args.text.now c.in-Some.at c.in-Some.ensures.0.high c.in-Some.ensures.0.before c.in-Some.ensures.1
-    c.in-Some-value_named.number (sym c.value_named.ensures.number ∙ c.in-Some-value_named.is))
-    c.in-Some-value_named.number c.in-Some-read_number.value
-    (sym c.value_named.ensures.number ∙ c.in-Some-value_named.is) c.in-Some-read_number.ensures.number
+    c.in-Some-number_named.number (sym c.number_named.ensures.number ∙ c.in-Some-number_named.is))
+    c.in-Some-number_named.number c.in-Some-read_number.value
+    (sym c.number_named.ensures.number ∙ c.in-Some-number_named.is) c.in-Some-read_number.ensures.number
     c.take.result c.take.new.self c.take.ensures
     ∙ ap (λ b. some_if b c.take.new.self) c.if-take.true
 
 pub returns-then-take-clause-after : goal.returns-then-take-clause-after
 returns-then-take-clause-after c =
     c.in-Some-read_number.ensures.after ∙ behind c.args.values.now c.args.text.now c.in-Some.at (equals-known c.args.text.now c.in-Some.at c.in-Some.ensures.0.high c.in-Some.ensures.0.before c.in-Some.ensures.1
-    c.in-Some-value_named.number (sym c.value_named.ensures.number ∙ c.in-Some-value_named.is))
+    c.in-Some-number_named.number (sym c.number_named.ensures.number ∙ c.in-Some-number_named.is))
 
 pub returns-else-take-clause-wrong : goal.returns-else-take-clause-wrong
 returns-else-take-clause-wrong c =
     given c.args.values.now c.args.text.now c.in-Some.at (equals-known c.args.text.now c.in-Some.at c.in-Some.ensures.0.high c.in-Some.ensures.0.before c.in-Some.ensures.1
-    c.in-Some-value_named.number (sym c.value_named.ensures.number ∙ c.in-Some-value_named.is))
-    c.in-Some-value_named.number c.in-Some-read_number.value
-    (sym c.value_named.ensures.number ∙ c.in-Some-value_named.is) c.in-Some-read_number.ensures.number
+    c.in-Some-number_named.number (sym c.number_named.ensures.number ∙ c.in-Some-number_named.is))
+    c.in-Some-number_named.number c.in-Some-read_number.value
+    (sym c.number_named.ensures.number ∙ c.in-Some-number_named.is) c.in-Some-read_number.ensures.number
     c.take.result c.take.new.self c.take.ensures
     ∙ ap (λ b. some_if b c.take.new.self) c.if-take.false

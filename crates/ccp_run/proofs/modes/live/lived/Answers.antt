@@ -1,0 +1,15 @@
+use Rattle.ccp_run.proofs.LiveLemmas.{books_of, flows_numbered}
+use Rattle.ccp_run.proofs.modes.live.lived.Goals as goal
+
+pub new-requires-clause-numbered : goal.new-requires-clause-numbered
+new-requires-clause-numbered g c = flows_numbered c.args.scene.cases c.requires.flows
+
+pub written-requires : goal.written-requires
+written-requires g c =
+    let scene = c.args.scene in
+    books_of scene.programs c.requires.numbered scene.cases c.in_ok-table.table c.in_ok-books.books c.requires.coded c.in_ok-table.ensures c.in_ok-books.ensures
+
+pub returns-clause-told : goal.returns-clause-told
+returns-clause-told g c =
+    let scene = c.args.scene in
+    books_of scene.programs c.requires.numbered scene.cases c.in_ok-table.table c.in_ok-books.books c.requires.coded c.in_ok-table.ensures c.in_ok-books.ensures

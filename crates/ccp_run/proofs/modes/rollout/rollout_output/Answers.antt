@@ -1,0 +1,8 @@
+use Rattle.ccp_run.proofs.modes.rollout.rollout_output.Goals as goal
+
+pub returns : goal.returns
+returns g c = record {
+  cases = c.in_ok-cases.cases;
+  scenario = c.in_ok-cases.ensures.found;
+  told = c.in_ok-rolled_out.ensures;
+}

@@ -1,0 +1,54 @@
+use Rattle.std.proofs.Common.{◌≡◌, ◌∙◌, ◌++◌, length, rules, ap, sym, arith}
+use Rattle.std.proofs.lemmas.List.{length-map}
+use Rattle.flow_core.specs.LiveText.{flow_from}
+use Rattle.flow_core.specs.Readings.{over_codes}
+use Rattle.campaign_report.specs.TableText.{table_text}
+use Rattle.scenario_json.specs.Cases.{case_names}
+use Rattle.scenario_json.specs.ScenePrograms.{forms_of}
+use Rattle.shared_link.specs.SharedRounds.{counts_of}
+use Rattle.shared_run.specs.LiftedRun.{HaveOneRun}
+use Rattle.shared_run.specs.SharedHistory.{shared_rows, shared_counts}
+use Rattle.ccp_run.specs.Campaign.{case_agents}
+use Rattle.ccp_run.specs.Shared.{link_line}
+use Rattle.ccp_run.proofs.SharedLemmas.{all_simulated, rows-count}
+use Rattle.ccp_run.proofs.modes.shared.run_together.Goals as goal
+
+pub table_text-requires-clause-within : goal.table_text-requires-clause-within
+table_text-requires-clause-within g c =
+    let scene = c.args.scene in
+    let rows : c.in_ok-made.made.rows ≡ shared_rows scene.link over_codes scene.scene.cases scene.rounds = search rules in
+    let count = rows-count scene.link scene.scene.cases scene.rounds in
+    omega (arith, ap length rows, count, c.requires.few)
+
+pub table_text-requires-clause-names : goal.table_text-requires-clause-names
+table_text-requires-clause-names g c =
+    let scene = c.args.scene in
+    let rows : c.in_ok-made.made.rows ≡ shared_rows scene.link over_codes scene.scene.cases scene.rounds = search rules in
+    let names : c.in_ok-names.names ≡ case_names scene.scene.cases = c.in_ok-names.ensures ∙ c.requires.names in
+    ap length names ∙ length-map scene.scene.cases (λ case. case.name) ∙ sym (ap length rows ∙ rows-count scene.link scene.scene.cases scene.rounds)
+
+pub table_text-requires-clause-agents : goal.table_text-requires-clause-agents
+table_text-requires-clause-agents g c =
+    let scene = c.args.scene in
+    let rows : c.in_ok-made.made.rows ≡ shared_rows scene.link over_codes scene.scene.cases scene.rounds = search rules in
+    let agents : c.in_ok-agents.agents ≡ case_agents scene.scene.cases = search rules in
+    ap length agents ∙ length-map scene.scene.cases (λ case. case.agent) ∙ sym (ap length rows ∙ rows-count scene.link scene.scene.cases scene.rounds)
+
+pub returns-clause-text : goal.returns-clause-text
+returns-clause-text g c =
+    let scene = c.args.scene in
+    let cases = scene.scene.cases in
+    let programs = scene.scene.programs in
+    let sources = flow_from (forms_of programs) in
+    let one : HaveOneRun sources scene.link cases scene.rounds =
+    c.in_ok-made.ensures.lifted sources (all_simulated programs c.requires.numbered cases c.requires.coded) in
+    let names : c.in_ok-names.names ≡ case_names cases = c.in_ok-names.ensures ∙ c.requires.names in
+    let agents : c.in_ok-agents.agents ≡ case_agents cases = search rules in
+    let rows : c.in_ok-made.made.rows ≡ shared_rows scene.link sources cases scene.rounds = c.in_ok-made.ensures.rows ∙ one.rows in
+    let counts : c.in_ok-made.made.counts ≡ shared_counts scene.link sources cases scene.rounds =
+    c.in_ok-made.ensures.counts ∙ ap (λ run. counts_of scene.link run.history) one.run in
+    let table : c.in_ok-text.text ≡ table_text c.in_ok-names.names c.in_ok-agents.agents c.in_ok-made.made.rows = search rules in
+    let whole : c.put_line.new.text ≡ c.in_ok-text.text ++ link_line c.in_ok-made.made.counts = search rules in
+    whole
+    ∙ ap (λ text. text ++ link_line c.in_ok-made.made.counts) table
+    ∙ (λ i. table_text (names i) (agents i) (rows i) ++ link_line (counts i))

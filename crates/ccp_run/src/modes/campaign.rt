@@ -1,0 +1,116 @@
+ghost use Rattle.std.specs.Prelude.{◌≡◌, ◌≤◌, [], IfOk, map, length};
+ghost use Rattle.ccp_base.specs.Limits.{most_cases, most_workers};
+ghost use Rattle.flow_core.specs.declared.case.Case.{Case};
+ghost use Rattle.ccp_run.specs.Attempts.{IsAnswer, IsAttempt};
+ghost use Rattle.std.specs.List.{All};
+ghost use Rattle.scenario_json.specs.Cases.{case_names, IsCoded, AreNumberedFrom};
+ghost use Rattle.ccp_run.specs.Campaign.{campaign_text, case_agents, frames_shown};
+ghost use Rattle.ccp_run.specs.Streams.{over};
+ghost use Rattle.ccp_run.specs.Modes.{Task};
+
+use crate::outcome::ModeOutput;
+use crate::reading::read_bytes;
+use crate::refusal::Limit;
+use crate::scene::scene;
+use crate::stop::Stop;
+use agent_loop::Books;
+use campaign_gate::calls::rows;
+use campaign_report::{Agents, table_text, wire_text};
+use ccp_base::{Bytes, Gate, NoMemory, Source};
+use flow_core::Case;
+use reg_compiler::Builts;
+use scenario_json::{Mode, Scenario};
+use std::alloc::Global;
+use std::sync::Wait;
+use std::thread::Threads;
+
+/// Reads a scenario, runs each of its cases on its campaign word, and makes the table.
+#[tactic(auto, using(crate::proofs::ReadLemmas::not_read, crate::proofs::ReadLemmas::answered))]
+pub fn read_campaign<R: Threads + Wait + Sync, S: Source, G: Gate + Sync>(
+    rt: &R,
+    alloc: Global,
+    workers: u32,
+    wire: bool,
+    source: &mut S,
+    gate: &G,
+) -> Result<ModeOutput, Stop>
+    requires workers { (1 ≤ workers) × (workers ≤ most_workers) }
+    ensures { IsAttempt (Task.Campaign wire) (over S.remaining S.faults source.old source.new) result }
+{
+    match read_bytes(alloc, Limit::Input, source) {
+        Ok(bytes) => campaign(rt, alloc, workers, wire, bytes.as_slice(), gate),
+        Err(stop) => Err(stop),
+    }
+}
+
+/// The table of the scenario that the bytes stand for, or its refusal.
+fn campaign<R: Threads + Wait + Sync, G: Gate + Sync>(
+    rt: &R,
+    alloc: Global,
+    workers: u32,
+    wire: bool,
+    bytes: &[u8],
+    gate: &G,
+) -> Result<ModeOutput, Stop>
+    requires workers { (1 ≤ workers) × (workers ≤ most_workers) }
+    ensures { IsAnswer (Task.Campaign wire) bytes.now result }
+{
+    let scene = scene(alloc, bytes, Mode::Campaign)?;
+    Ok(campaigned(rt, alloc, workers, wire, scene, gate)?)
+}
+
+/// What the cases of a scenario come to.
+#[tactic(auto, using(crate::proofs::CampaignLemmas::rows_over))]
+fn campaigned<R: Threads + Wait + Sync, G: Gate + Sync>(
+    rt: &R,
+    alloc: Global,
+    workers: u32,
+    wire: bool,
+    scene: Scenario,
+    gate: &G,
+) -> Result<ModeOutput, NoMemory>
+    requires workers { (1 ≤ workers) × (workers ≤ most_workers) }
+    requires names { scene.names ≡ case_names scene.cases }
+    requires few { length scene.cases ≤ most_cases }
+    requires numbered { AreNumberedFrom 0 scene.programs }
+    requires coded { All (IsCoded scene.programs) scene.cases }
+    ensures text { IfOk result (λ output. output.text ≡ campaign_text wire scene.programs scene.cases) }
+    ensures books { IfOk result (λ output. output.books ≡ []) }
+    ensures programs { IfOk result (λ output. output.programs ≡ scene.programs) }
+    ensures ran { IfOk result (λ output. output.ran ≡ 0) }
+{
+    let agents = agents(alloc, scene.cases.as_slice())?;
+    let rows = rows(rt, alloc, scene.cases, workers, gate)?;
+    let mut text = frames(alloc, wire, &scene.programs)?;
+    text.extend(table_text(alloc, &scene.names, &agents, &rows)?.as_slice())?;
+    Ok(ModeOutput {
+        text,
+        books: Books::new(alloc),
+        programs: scene.programs,
+        ran: 0,
+    })
+}
+
+/// The programs' Install frames, where they are asked for.
+pub fn frames(alloc: Global, wire: bool, programs: &Builts) -> Result<Bytes, NoMemory>
+    ensures { IfOk result (λ text. text ≡ frames_shown wire programs.now) }
+{
+    if wire {
+        wire_text(alloc, programs)
+    } else {
+        Ok(Bytes::new(alloc))
+    }
+}
+
+/// The agents of cases, in order.
+pub fn agents(alloc: Global, cases: &[Case]) -> Result<Agents, NoMemory>
+    ensures { IfOk result (λ agents. agents ≡ case_agents cases.now) }
+{
+    let mut agents = Agents::new(alloc);
+    let mut left = cases;
+    while let Some((case, rest)) = left.split_first() {
+        agents.push(case.agent)?;
+        left = rest;
+    }
+    Ok(agents)
+}

@@ -1,0 +1,55 @@
+//! The mode `feed`.
+
+ghost use Rattle.std.specs.Prelude.{◌≡◌};
+ghost use Rattle.ccp_words.specs.declared.mode.Alone.TheVariants as modes;
+ghost use Rattle.ccp_run.specs.FeedEndings.{EndsFeed};
+ghost use Rattle.ccp_run.specs.Run.{IsRun};
+ghost use Rattle.ccp_run.specs.Streams.{over};
+ghost use Rattle.ccp_run.specs.Modes.{Task};
+
+use crate::ending::{end_without, refuse};
+use crate::outcome::Outcome;
+use crate::refusal::{Limit, Refusal};
+use crate::status::{MEMORY_LINE, READ_LINE, Status, WRITE_LINE};
+use agent_loop::Books;
+use ccp_base::{Sink, Source};
+use feed_core::FeedEnd;
+use feed_core::calls::feed;
+use reg_compiler::Builts;
+use std::alloc::Global;
+
+/// Answers the frames of the source as they come, and tells why where it stops before a whole input's end.
+pub fn feed_run<S: Source, K: Sink, E: Sink>(
+    alloc: Global,
+    source: &mut S,
+    sink: &mut K,
+    errors: &mut E,
+) -> Outcome
+    ensures { IsRun (Task.Alone modes.Feed)
+        (over S.remaining S.faults source.old source.new)
+        (over K.written K.faults sink.old sink.new)
+        (over E.written E.faults errors.old errors.new) (K.is_finished sink.new) result }
+{
+    let ended = feed(alloc, source, sink);
+    end_feed(alloc, errors, ended)
+}
+
+/// Tells how a feed ended, where its input isn't whole.
+fn end_feed<E: Sink>(alloc: Global, errors: &mut E, ended: FeedEnd) -> Outcome
+    ensures { EndsFeed (over E.written E.faults errors.old errors.new) result ended }
+{
+    match ended {
+        FeedEnd::Whole => Outcome {
+            status: Status::Done.number(),
+            books: Books::new(alloc),
+            programs: Builts::new(alloc),
+            ran: 0,
+        },
+        FeedEnd::Bad(field, place) => refuse(alloc, Refusal::Frame(field, place), errors),
+        FeedEnd::Cut(place) => refuse(alloc, Refusal::FrameCut(place), errors),
+        FeedEnd::TooLong => refuse(alloc, Refusal::TooLong(Limit::Input), errors),
+        FeedEnd::ReadFailed => end_without(alloc, errors, Status::ReadFailed, READ_LINE),
+        FeedEnd::WriteFailed => end_without(alloc, errors, Status::WriteFailed, WRITE_LINE),
+        FeedEnd::NoMemory => end_without(alloc, errors, Status::NoMemory, MEMORY_LINE),
+    }
+}

@@ -1,0 +1,75 @@
+ghost use Rattle.std.specs.Prelude.{◌≡◌, ◌≤◌, ◌∷◌, [], IfOk, length};
+ghost use Rattle.ccp_base.specs.Limits.{most_acks};
+ghost use Rattle.portus_core.specs.ProgramForm.{form_of};
+ghost use Rattle.fold_run.specs.Ran.{ran_of};
+ghost use Rattle.ccp_run.specs.Attempts.{IsAnswer};
+ghost use Rattle.ccp_run.specs.Fold.{folded_text, shown_end};
+ghost use Rattle.ccp_run.specs.Modes.{Task};
+
+use crate::outcome::ModeOutput;
+use crate::program::{only, program};
+use crate::refusal::Refusal;
+use crate::stop::Stop;
+use agent_loop::Books;
+use campaign_report::{End, fold_text};
+use ccp_base::{Ack, NoMemory};
+use ccp_words::Alone;
+use fold_run::calls::folded;
+use fold_run::{Folded, LineFault, acknowledgements, separate};
+use reg_compiler::Built;
+use std::alloc::Global;
+
+/// The fold that the bytes ask for, or the first refusal: of the separator, the program, the lines.
+pub fn fold_output(alloc: Global, bytes: &[u8]) -> Result<ModeOutput, Stop>
+    ensures { IsAnswer (Task.Alone Alone.Fold) bytes.now result }
+{
+    let Some(cut) = separate(bytes) else {
+        return Err(Stop::Refused(Refusal::NoSeparator));
+    };
+    let built = program(alloc, cut.program)?;
+    match acknowledgements(alloc, cut.rest, cut.next) {
+        Ok(acks) => Ok(folded_output(alloc, built, acks.as_slice())?),
+        Err(LineFault::Line(number)) => Err(Stop::Refused(Refusal::Line(number))),
+        Err(LineFault::TooMany) => Err(Stop::Refused(Refusal::TooManyAcks)),
+        Err(LineFault::NoMemory) => Err(Stop::NoMemory),
+    }
+}
+
+/// What a program's fold over acknowledgements comes to.
+fn folded_output(alloc: Global, built: Built, acks: &[Ack]) -> Result<ModeOutput, NoMemory>
+    requires { length acks.now ≤ most_acks }
+    ensures text { IfOk result (λ output. output.text ≡ folded_text (form_of built.program) acks.now) }
+    ensures books { IfOk result (λ output. output.books ≡ []) }
+    ensures programs { IfOk result (λ output. output.programs ≡ (0, built) ∷ []) }
+    ensures ran { IfOk result (λ output. output.ran ≡ ran_of built.code.code acks.now) }
+{
+    let folded = folded(alloc, &built, acks)?;
+    let text = fold_text(
+        alloc,
+        &built,
+        &folded.reports,
+        folded.fault,
+        &shown_end(&folded),
+    )?;
+    Ok(ModeOutput {
+        text,
+        books: Books::new(alloc),
+        programs: only(alloc, built)?,
+        ran: folded.ran,
+    })
+}
+
+/// How a fold ends, as texts show it.
+fn shown_end(folded: &Folded) -> End
+    ensures { result ≡ shown_end folded.now.end }
+{
+    let end = &folded.end;
+    End {
+        acks: end.acks,
+        first: end.first,
+        stopped: end.stopped,
+        cwnd: end.cwnd,
+        rate: end.rate,
+        fields: end.fields,
+    }
+}

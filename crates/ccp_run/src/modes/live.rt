@@ -1,0 +1,105 @@
+ghost use Rattle.std.specs.Prelude.{◌≡◌, ◌≤◌, IfOk, length};
+ghost use Rattle.std.specs.List.{All};
+ghost use Rattle.ccp_base.specs.Limits.{most_flows, most_workers};
+ghost use Rattle.scenario_json.specs.Cases.{IsCoded, AreFlowsFrom, AreNumberedFrom};
+ghost use Rattle.ccp_run.specs.Attempts.{IsAnswer, IsAttempt};
+ghost use Rattle.ccp_run.specs.Live.{IsTold, book_cases, books_written};
+ghost use Rattle.ccp_run.specs.Streams.{over};
+ghost use Rattle.ccp_run.specs.Modes.{Task};
+
+use crate::modes::campaign::frames;
+use crate::outcome::ModeOutput;
+use crate::reading::read_bytes;
+use crate::refusal::Limit;
+use crate::scene::scene;
+use crate::stop::Stop;
+use agent_loop::{Books, live};
+use campaign_report::live_text;
+use ccp_base::{Bytes, Gate, NoMemory, Source};
+use flow_table::FlowTable;
+use reg_compiler::Builts;
+use scenario_json::{Mode, Scenario};
+use std::alloc::Global;
+use std::sync::Wait;
+use std::thread::Threads;
+
+/// Reads a scenario, runs its flows on datapath and agent workers, and makes the text of their books.
+#[tactic(auto, using(crate::proofs::ReadLemmas::not_read, crate::proofs::ReadLemmas::answered))]
+pub fn read_live<R: Threads + Wait + Sync, S: Source, G: Gate + Sync>(
+    rt: &R,
+    alloc: Global,
+    datapaths: u32,
+    agents: u32,
+    wire: bool,
+    source: &mut S,
+    gate: &G,
+) -> Result<ModeOutput, Stop>
+    requires datapaths { (1 ≤ datapaths) × (datapaths ≤ most_workers) }
+    requires agents { (1 ≤ agents) × (agents ≤ most_workers) }
+    ensures { IsAttempt (Task.Live wire) (over S.remaining S.faults source.old source.new) result }
+{
+    match read_bytes(alloc, Limit::Input, source) {
+        Ok(bytes) => live_output(rt, alloc, datapaths, agents, wire, bytes.as_slice(), gate),
+        Err(stop) => Err(stop),
+    }
+}
+
+/// What the flows of the scenario that the bytes stand for come to, or its refusal.
+fn live_output<R: Threads + Wait + Sync, G: Gate + Sync>(
+    rt: &R,
+    alloc: Global,
+    datapaths: u32,
+    agents: u32,
+    wire: bool,
+    bytes: &[u8],
+    gate: &G,
+) -> Result<ModeOutput, Stop>
+    requires datapaths { (1 ≤ datapaths) × (datapaths ≤ most_workers) }
+    requires agents { (1 ≤ agents) × (agents ≤ most_workers) }
+    ensures { IsAnswer (Task.Live wire) bytes.now result }
+{
+    let scene = scene(alloc, bytes, Mode::Live)?;
+    Ok(lived(rt, alloc, datapaths, agents, wire, scene, gate)?)
+}
+
+/// What the flows of a scenario come to.
+fn lived<R: Threads + Wait + Sync, G: Gate + Sync>(
+    rt: &R,
+    alloc: Global,
+    datapaths: u32,
+    agents: u32,
+    wire: bool,
+    scene: Scenario,
+    gate: &G,
+) -> Result<ModeOutput, NoMemory>
+    requires datapaths { (1 ≤ datapaths) × (datapaths ≤ most_workers) }
+    requires agents { (1 ≤ agents) × (agents ≤ most_workers) }
+    requires few { length scene.cases ≤ most_flows }
+    requires flows { AreFlowsFrom 0 scene.cases }
+    requires numbered { AreNumberedFrom 0 scene.programs }
+    requires coded { All (IsCoded scene.programs) scene.cases }
+    ensures text { IfOk result (λ output. output.text ≡ books_written wire scene.programs output.books) }
+    ensures books { IfOk result (λ output. book_cases output.books ≡ scene.cases) }
+    ensures told { IfOk result (λ output. All (IsTold scene.programs) output.books) }
+    ensures programs { IfOk result (λ output. output.programs ≡ scene.programs) }
+    ensures ran { IfOk result (λ output. output.ran ≡ 0) }
+{
+    let table = FlowTable::new(alloc, scene.cases)?;
+    let books = live(rt, alloc, table, datapaths, agents, gate)?;
+    Ok(ModeOutput {
+        text: written(alloc, wire, &books, &scene.programs)?,
+        books,
+        programs: scene.programs,
+        ran: 0,
+    })
+}
+
+/// The text of books that tell of their words, after the programs' frames where they are asked for.
+fn written(alloc: Global, wire: bool, books: &Books, programs: &Builts) -> Result<Bytes, NoMemory>
+    requires { All (IsTold programs.now) books.now }
+    ensures { IfOk result (λ text. text ≡ books_written wire programs.now books.now) }
+{
+    let mut text = frames(alloc, wire, programs)?;
+    text.extend(live_text(alloc, books.as_slice(), programs)?.as_slice())?;
+    Ok(text)
+}

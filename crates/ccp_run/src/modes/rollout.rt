@@ -1,0 +1,96 @@
+ghost use Rattle.std.specs.Prelude.{◌≤◌, IfOk, IfErr, length};
+ghost use Rattle.ccp_base.specs.Limits.{most_flows, most_workers};
+ghost use Rattle.scenario_json.specs.OpenCases.{AreOpenFlowsFrom};
+ghost use Rattle.ccp_run.specs.Attempts.{IsAnswer, IsAttempt};
+ghost use Rattle.ccp_run.specs.Rollout.{IsRolloutScenario, StopsRollout, TellsRollout};
+ghost use Rattle.ccp_run.specs.Streams.{over};
+ghost use Rattle.ccp_run.specs.Modes.{Task};
+
+use crate::outcome::ModeOutput;
+use crate::reading::read_bytes;
+use crate::refusal::{Limit, Refusal};
+use crate::stop::Stop;
+use agent_loop::Books;
+use ccp_base::{Gate, NoMemory, Source};
+use live_install::{rollout, rollout_text};
+use reg_compiler::Builts;
+use scenario_json::calls::rollout_scene;
+use scenario_json::{OpenCases, SceneFault};
+use std::alloc::Global;
+use std::sync::Wait;
+use std::thread::Threads;
+
+/// Reads a scenario of a rollout, runs its cases on datapath workers and installers, and makes the text of what came of
+/// it.
+#[tactic(auto, using(crate::proofs::ReadLemmas::not_read, crate::proofs::ReadLemmas::answered))]
+pub fn read_rollout<R: Threads + Wait + Sync, S: Source, G: Gate + Sync>(
+    rt: &R,
+    alloc: Global,
+    datapaths: u32,
+    agents: u32,
+    source: &mut S,
+    gate: &G,
+) -> Result<ModeOutput, Stop>
+    requires datapaths { (1 ≤ datapaths) × (datapaths ≤ most_workers) }
+    requires agents { (1 ≤ agents) × (agents ≤ most_workers) }
+    ensures { IsAttempt Task.Rollout (over S.remaining S.faults source.old source.new) result }
+{
+    match read_bytes(alloc, Limit::Input, source) {
+        Ok(bytes) => rollout_output(rt, alloc, datapaths, agents, bytes.as_slice(), gate),
+        Err(stop) => Err(stop),
+    }
+}
+
+/// The text of the scenario that the bytes stand for, or its refusal.
+fn rollout_output<R: Threads + Wait + Sync, G: Gate + Sync>(
+    rt: &R,
+    alloc: Global,
+    datapaths: u32,
+    agents: u32,
+    bytes: &[u8],
+    gate: &G,
+) -> Result<ModeOutput, Stop>
+    requires datapaths { (1 ≤ datapaths) × (datapaths ≤ most_workers) }
+    requires agents { (1 ≤ agents) × (agents ≤ most_workers) }
+    ensures { IsAnswer Task.Rollout bytes.now result }
+{
+    let cases = open_cases(alloc, bytes)?;
+    Ok(rolled_out(rt, alloc, cases, datapaths, agents, gate)?)
+}
+
+/// The cases that the bytes stand for.
+fn open_cases(alloc: Global, bytes: &[u8]) -> Result<OpenCases, Stop>
+    ensures found { IfOk result (λ cases. IsRolloutScenario bytes.now cases) }
+    ensures few { IfOk result (λ cases. length cases ≤ most_flows) }
+    ensures err { IfErr result (StopsRollout bytes.now) }
+{
+    match rollout_scene(alloc, bytes) {
+        Ok(cases) => Ok(cases),
+        Err(SceneFault::NoMemory) => Err(Stop::NoMemory),
+        Err(fault) => Err(Stop::Refused(Refusal::Scene(fault))),
+    }
+}
+
+/// What cases come to.
+fn rolled_out<R: Threads + Wait + Sync, G: Gate + Sync>(
+    rt: &R,
+    alloc: Global,
+    cases: OpenCases,
+    datapaths: u32,
+    agents: u32,
+    gate: &G,
+) -> Result<ModeOutput, NoMemory>
+    requires datapaths { (1 ≤ datapaths) × (datapaths ≤ most_workers) }
+    requires agents { (1 ≤ agents) × (agents ≤ most_workers) }
+    requires few { length cases ≤ most_flows }
+    requires numbered { AreOpenFlowsFrom 0 cases }
+    ensures { IfOk result (λ output. TellsRollout cases output) }
+{
+    let books = rollout(rt, alloc, cases, datapaths, agents, gate)?;
+    Ok(ModeOutput {
+        text: rollout_text(alloc, &books)?,
+        books: Books::new(alloc),
+        programs: Builts::new(alloc),
+        ran: 0,
+    })
+}

@@ -1,0 +1,133 @@
+ghost use Rattle.std.specs.Prelude.{◌≡◌, ◌≤◌, ◌++◌, [], OnOk, IfOk, IfErr, length, map};
+ghost use Rattle.std.specs.List.{All};
+ghost use Rattle.ccp_base.specs.Limits.{most_flows, most_rounds, most_workers};
+ghost use Rattle.scenario_json.specs.Cases.{plan_of, case_names, IsCoded, AreFlowsFrom, AreNumberedFrom};
+ghost use Rattle.scenario_json.specs.SharedScenes.{flow_link_of};
+ghost use Rattle.shared_link.specs.SharedLimits.{IsWithin};
+ghost use Rattle.ccp_run.specs.Attempts.{IsAnswer, IsAttempt};
+ghost use Rattle.ccp_run.specs.Shared.{IsSharedScenario, StopsShared, link_line, text_of_scene};
+ghost use Rattle.ccp_run.specs.Streams.{over};
+ghost use Rattle.ccp_run.specs.Modes.{Task};
+
+use crate::modes::campaign::agents;
+use crate::outcome::ModeOutput;
+use crate::reading::read_bytes;
+use crate::refusal::{Limit, Refusal};
+use crate::stop::Stop;
+use agent_loop::Books;
+use campaign_report::table_text;
+use ccp_base::{Bytes, Gate, Names, NoMemory, Source};
+use reg_compiler::Builts;
+use scenario_json::calls::shared_scene;
+use scenario_json::{SceneFault, SharedScene};
+use shared_link::Counts;
+use shared_run::shared;
+use std::alloc::Global;
+use std::sync::Wait;
+use std::thread::Threads;
+
+/// Reads a scenario of flows that share one link, runs them, and makes the table and the link's line.
+#[tactic(auto, using(crate::proofs::ReadLemmas::not_read, crate::proofs::ReadLemmas::answered))]
+pub fn read_shared<R: Threads + Wait + Sync, S: Source, G: Gate + Sync>(
+    rt: &R,
+    alloc: Global,
+    workers: u32,
+    source: &mut S,
+    gate: &G,
+) -> Result<ModeOutput, Stop>
+    requires workers { (1 ≤ workers) × (workers ≤ most_workers) }
+    ensures { IsAttempt Task.Shared (over S.remaining S.faults source.old source.new) result }
+{
+    match read_bytes(alloc, Limit::Input, source) {
+        Ok(bytes) => shared_output(rt, alloc, workers, bytes.as_slice(), gate),
+        Err(stop) => Err(stop),
+    }
+}
+
+/// What the flows of the scenario that the bytes stand for come to, or its refusal.
+fn shared_output<R: Threads + Wait + Sync, G: Gate + Sync>(
+    rt: &R,
+    alloc: Global,
+    workers: u32,
+    bytes: &[u8],
+    gate: &G,
+) -> Result<ModeOutput, Stop>
+    requires workers { (1 ≤ workers) × (workers ≤ most_workers) }
+    ensures { IsAnswer Task.Shared bytes.now result }
+{
+    let scene = joined(alloc, bytes)?;
+    Ok(run_together(rt, alloc, workers, scene, gate)?)
+}
+
+/// The scenario of flows on one link that the bytes stand for.
+#[tactic(auto, using(crate::proofs::SharedLemmas::link_within))]
+fn joined(alloc: Global, bytes: &[u8]) -> Result<SharedScene, Stop>
+    ensures found { IfOk result (λ s. IsSharedScenario bytes.now s.scene.programs s.scene.cases s.link s.rounds) }
+    ensures numbered { IfOk result (λ s. AreNumberedFrom 0 s.scene.programs) }
+    ensures names { IfOk result (λ s. s.scene.names ≡ case_names s.scene.cases) }
+    ensures few { IfOk result (λ s. length s.scene.cases ≤ most_flows) }
+    ensures link { IfOk result (λ s. IsWithin s.link) }
+    ensures links { IfOk result (λ s. s.link.flows ≡ map flow_link_of (map plan_of s.scene.cases)) }
+    ensures rounds { IfOk result (λ s. s.rounds ≤ most_rounds) }
+    ensures err { IfErr result (StopsShared bytes.now) }
+{
+    match shared_scene(alloc, bytes) {
+        Ok(scene) => Ok(scene),
+        Err(SceneFault::NoMemory) => Err(Stop::NoMemory),
+        Err(fault) => Err(Stop::Refused(Refusal::Scene(fault))),
+    }
+}
+
+/// What the flows of a scenario come to on their link.
+fn run_together<R: Threads + Wait + Sync, G: Gate + Sync>(
+    rt: &R,
+    alloc: Global,
+    workers: u32,
+    scene: SharedScene,
+    gate: &G,
+) -> Result<ModeOutput, NoMemory>
+    requires workers { (1 ≤ workers) × (workers ≤ most_workers) }
+    requires names { scene.scene.names ≡ case_names scene.scene.cases }
+    requires few { length scene.scene.cases ≤ most_flows }
+    requires numbered { AreNumberedFrom 0 scene.scene.programs }
+    requires coded { All (IsCoded scene.scene.programs) scene.scene.cases }
+    requires flows { AreFlowsFrom 0 scene.scene.cases }
+    requires link { IsWithin scene.link }
+    requires links { scene.link.flows ≡ map flow_link_of (map plan_of scene.scene.cases) }
+    requires rounds { scene.rounds ≤ most_rounds }
+    ensures text { IfOk result (λ output. output.text ≡ text_of_scene scene) }
+    ensures books { IfOk result (λ output. output.books ≡ []) }
+    ensures programs { IfOk result (λ output. output.programs ≡ []) }
+    ensures ran { IfOk result (λ output. output.ran ≡ 0) }
+{
+    let names = copied(alloc, &scene.scene.names)?;
+    let agents = agents(alloc, scene.scene.cases.as_slice())?;
+    let made = shared(rt, alloc, scene, workers, gate)?;
+    let mut text = table_text(alloc, &names, &agents, &made.rows)?;
+    put_line(alloc, &mut text, &made.counts)?;
+    Ok(ModeOutput {
+        text,
+        books: Books::new(alloc),
+        programs: Builts::new(alloc),
+        ran: 0,
+    })
+}
+
+/// Equal names.
+fn copied(alloc: Global, names: &Names) -> Result<Names, NoMemory>
+    ensures { IfOk result (λ copy. copy ≡ names.now) }
+{
+    Ok(Names::from_vec(names.as_slice().to_vec(alloc)?))
+}
+
+/// Puts the line of a link's packets at the end of a text.
+fn put_line(alloc: Global, text: &mut Bytes, counts: &Counts) -> Result<(), NoMemory>
+    ensures { OnOk result (text.new ≡ text.old ++ link_line counts.now) }
+{
+    let line = format!(in alloc;
+        "link rounds={} sent={} acked={} lost={} inflight={}\n",
+        counts.rounds, counts.sent, counts.acked, counts.lost, counts.inflight
+    )?;
+    text.extend(line.as_bytes())?;
+    Ok(())
+}

@@ -1,0 +1,51 @@
+ghost use Rattle.std.specs.Prelude.{◌≡◌, ◌≤◌, IfOk};
+ghost use Rattle.ccp_base.specs.Limits.{most_workers};
+ghost use Rattle.ccp_run.specs.Attempts.{IsAttempt};
+ghost use Rattle.ccp_run.specs.Soak.{IsSoakOutput};
+ghost use Rattle.ccp_run.specs.Streams.{Stream};
+ghost use Rattle.ccp_run.specs.Modes.{Task};
+
+use crate::outcome::ModeOutput;
+use crate::stop::Stop;
+use agent_loop::Books;
+use campaign_gate::calls::rows;
+use campaign_report::soak_text;
+use ccp_base::{Gate, NoMemory};
+use scenario_json::calls::soak;
+use std::alloc::Global;
+use std::sync::Wait;
+use std::thread::Threads;
+
+/// Runs the generated cases of this number, and sums them up. It reads nothing.
+pub fn soak_output<R: Threads + Wait + Sync, G: Gate + Sync>(
+    rt: &R,
+    alloc: Global,
+    workers: u32,
+    number: u32,
+    gate: &G,
+) -> Result<ModeOutput, Stop>
+    requires workers { (1 ≤ workers) × (workers ≤ most_workers) }
+    ensures { (source : Stream) → source.new ≡ source.old → IsAttempt (Task.Soak number) source result }
+{
+    Ok(soaked(rt, alloc, workers, number, gate)?)
+}
+
+fn soaked<R: Threads + Wait + Sync, G: Gate + Sync>(
+    rt: &R,
+    alloc: Global,
+    workers: u32,
+    number: u32,
+    gate: &G,
+) -> Result<ModeOutput, NoMemory>
+    requires workers { (1 ≤ workers) × (workers ≤ most_workers) }
+    ensures { IfOk result (IsSoakOutput number) }
+{
+    let scene = soak(alloc, number)?;
+    let rows = rows(rt, alloc, scene.cases, workers, gate)?;
+    Ok(ModeOutput {
+        text: soak_text(alloc, number, &rows)?,
+        books: Books::new(alloc),
+        programs: scene.programs,
+        ran: 0,
+    })
+}
