@@ -98,7 +98,8 @@ fn put_notice(
     entries: &[Entry],
     notice: &Notice,
 ) -> Result<(), NoMemory>
-    ensures { OnOk result (text.new ≡ text.old ++ placed_line notice.entry.now (place_at entries.now notice.entry.now.program notice.entry.now.index)) }
+    ensures { OnOk result (text.new ≡ text.old ++ placed_line notice.entry.now
+        (place_at entries.now notice.entry.now.program notice.entry.now.index)) }
 {
     match place_at(entries, notice.program, notice.index) {
         None => Ok(()),

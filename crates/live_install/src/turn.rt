@@ -35,7 +35,8 @@ pub(crate) fn next<L: Ledger>(
 fn change(cell: &mut OpenCell) -> bool
     ensures made { result ≡ true → (read : Reading) → IsReading read → IsNearer read cell.old cell.new }
     ensures not { result ≡ false → cell.new ≡ cell.old }
-    ensures none { result ≡ false → (read : Reading) → IsReading read → is_legal cell.old.case (world_at read cell.old) letters.G ≡ false }
+    ensures none { result ≡ false → (read : Reading) → IsReading read
+        → is_legal cell.old.case (world_at read cell.old) letters.G ≡ false }
 {
     match cell.change() {
         Ok(_) => true,
@@ -47,7 +48,8 @@ fn change(cell: &mut OpenCell) -> bool
 fn install(alloc: Global, cell: &mut OpenCell) -> Result<bool, NoMemory>
     ensures made { result ≡ Ok true → (read : Reading) → IsReading read → IsNearer read cell.old cell.new }
     ensures not { result ≡ Ok false → cell.new ≡ cell.old }
-    ensures none { result ≡ Ok false → (read : Reading) → IsReading read → is_legal cell.old.case (world_at read cell.old) letters.I ≡ false }
+    ensures none { result ≡ Ok false → (read : Reading) → IsReading read
+        → is_legal cell.old.case (world_at read cell.old) letters.I ≡ false }
 {
     let step = cell.entries().len();
     if step >= cell.case().steps.len() {

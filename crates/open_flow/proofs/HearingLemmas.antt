@@ -24,8 +24,16 @@ use Rattle.open_flow.specs.Entries.{built_at}
 use Rattle.open_flow.specs.OpenBooks.{seen_of, seen_as}
 use Rattle.open_flow.specs.OpenCells.{Tells}
 use Rattle.open_flow.specs.Accounts.{reporter, notice_by, faults_of, track_by, PutDown, met_in, Heard}
-use Rattle.open_flow.specs.States.{form_at}
+use Rattle.open_flow.specs.OpenWorld.{Running}
+use Rattle.open_flow.specs.States.{RunsAs, step_in, form_at}
 use Rattle.open_flow.proofs.SeenLemmas.{placed, heard-placed, heard-env, stops-placed, first-placed, reports-placed, failures-placed, tells-placed}
+
+-- the step that is kept is that of the program that runs
+pub running-step : (entries : List Entry) (step : Option ℕ) (present : Option Running) → RunsAs entries step present → step ≡ step_in present
+running-step entries None None runs = refl
+running-step entries None (Some running) runs = absurd runs
+running-step entries (Some step) None runs = absurd runs
+running-step entries (Some step) (Some running) runs = ap Some (sym runs.program)
 
 -- ---- counts
 

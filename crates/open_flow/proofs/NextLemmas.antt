@@ -1,7 +1,8 @@
 -- The first accepted entry that wasn't changed to is the first accepted one past those that the changes went through.
-use Rattle.std.specs.Prelude.{◌≡◌, ◌⊎◌, ℕ, ◌+◌, ◌<◌, ◌≤◌, ◌==◌, zero, suc, Bool, true, false, ◌||◌, if◌then◌else◌, Option, Some, None, option_map, Result, Ok, Err, List, [], ◌∷◌, ◌++◌, length, map, drop, slice_get, refl}
+use Rattle.std.specs.Prelude.{◌≡◌, ◌⊎◌, ℕ, ◌+◌, ◌<◌, ◌≤◌, ◌==◌, zero, suc, Bool, true, false, not, ◌||◌, nat_lt, cond, if◌then◌else◌, Option, Some, None, option_map, Result, Ok, Err, List, [], ◌∷◌, ◌++◌, length, map, drop, slice_get, refl}
+use Rattle.std.specs.List.{position_or_len}
 use Rattle.std.proofs.Common.{ap, sym, ◌∙◌, subst, inl, inr, arith}
-use Rattle.std.proofs.lemmas.Bool.{cases_eq, eq-eqb, ne_eqb, true≢false}
+use Rattle.std.proofs.lemmas.Bool.{cases_eq, eq-eqb, ne_eqb, true≢false, ltb-true, ltb-false, lt-ltb, le-ltb}
 use Rattle.std.proofs.lemmas.Option.{none-some, slice_get-map}
 use Rattle.portus_core.specs.Programs.{Form}
 use Rattle.portus_build.specs.declared.fault.BuildFault.{BuildFault}
@@ -12,35 +13,72 @@ use Rattle.open_flow.specs.declared.entry.Entry.{Entry}
 use Rattle.open_flow.specs.OpenWorld.{Installed, OpenWorld, was_started, first_left, eras_of, next_of}
 use Rattle.open_flow.specs.BuiltTexts.{is_accepted, came_of, built_of}
 use Rattle.open_flow.specs.Entries.{installed_of, built_in, built_at}
-use Rattle.open_flow.specs.States.{accepted_from, step_of, ArePassed}
+use Rattle.open_flow.specs.States.{accepted_from, ArePassed}
 use Rattle.open_flow.proofs.ListLemmas.{slice_get-front}
+
+-- ---- the first accepted one
+
+shifted : (step later count : ℕ) (here : Bool) → nat_lt later count ≡ here
+    → option_map (λ (place : ℕ). step + place) (cond (nat_lt (1 + later) (suc count)) (Some (1 + later)) None)
+    ≡ option_map (λ (place : ℕ). step + 1 + place) (cond here (Some later) None)
+shifted step later count true is =
+    let less : later < count = ltb-true later count is in
+    let more : 1 + later < suc count = omega (arith, less) in
+    let sum : step + (1 + later) ≡ step + 1 + later = omega arith in
+    ap (λ (b : Bool). option_map (λ (place : ℕ). step + place) (cond b (Some (1 + later)) None)) (lt-ltb (1 + later) (suc count) more)
+    ∙ ap Some sum
+shifted step later count false is =
+    let least : count ≤ later = ltb-false later count is in
+    let past : suc count ≤ 1 + later = omega (arith, least) in
+    ap (λ (b : Bool). option_map (λ (place : ℕ). step + place) (cond b (Some (1 + later)) None)) (le-ltb (1 + later) (suc count) past)
+
+by-first : (step later count : ℕ) (accepted : Bool)
+    → option_map (λ (place : ℕ). step + place)
+    (cond (nat_lt (cond (not accepted) (1 + later) 0) (suc count)) (Some (cond (not accepted) (1 + later) 0)) None)
+    ≡ cond accepted (Some step) (option_map (λ (place : ℕ). step + 1 + place) (cond (nat_lt later count) (Some later) None))
+by-first step later count true =
+    let some : 0 < suc count = omega arith in
+    let sum : step + 0 ≡ step = omega arith in
+    ap (λ (b : Bool). option_map (λ (place : ℕ). step + place) (cond b (Some 0) None)) (lt-ltb 0 (suc count) some)
+    ∙ ap Some sum
+by-first step later count false = shifted step later count (nat_lt later count) refl
+
+accepted-first : (step : ℕ) (entry : Entry) (rest : List Entry)
+    → accepted_from step (entry ∷ rest) ≡ (if is_accepted entry.answer then Some step else accepted_from (step + 1) rest)
+accepted-first step entry rest =
+    by-first step (position_or_len (λ (e : Entry). is_accepted e.answer) rest) (length rest) (is_accepted entry.answer)
 
 -- ---- the next entry
 
+-- the step of what is left
+abbrev pub steps : Option (ℕ × Form) → Option ℕ
+steps left = option_map (λ next. next.0) left
+
 -- the first entry wasn't changed to
 fresh-first : (eras : List Era) (step : ℕ) (answer : Result Built BuildFault) (rest : List Entry) → was_started step eras ≡ false
-    → option_map step_of (first_left eras (step + 1) (map installed_of rest)) ≡ accepted_from (step + 1) rest
-    → option_map step_of (first_left eras step (came_of answer ∷ map installed_of rest))
+    → steps (first_left eras (step + 1) (map installed_of rest)) ≡ accepted_from (step + 1) rest
+    → steps (first_left eras step (came_of answer ∷ map installed_of rest))
     ≡ (if is_accepted answer then Some step else accepted_from (step + 1) rest)
 fresh-first eras step (Ok built) rest fresh later =
-    λ i. option_map step_of (if fresh i then first_left eras (step + 1) (map installed_of rest) else Some (step, form_of built.program))
+    λ i. steps (if fresh i then first_left eras (step + 1) (map installed_of rest) else Some (step, form_of built.program))
 fresh-first eras step (Err refusal) rest fresh later = later
 
 -- none of the entries from here on was changed to
 after-left : (eras : List Era) (step : ℕ) (entries : List Entry) → ((i : ℕ) → step ≤ i → was_started i eras ≡ false)
-    → option_map step_of (first_left eras step (map installed_of entries)) ≡ accepted_from step entries
+    → steps (first_left eras step (map installed_of entries)) ≡ accepted_from step entries
 after-left eras step [] none = refl
 after-left eras step (entry ∷ rest) none =
     fresh-first eras step entry.answer rest (none step (omega arith))
     (after-left eras (step + 1) rest (λ i past. none i (omega (arith, past))))
+    ∙ sym (accepted-first step entry rest)
 
 -- the first entry was passed
 passed-first : (eras : List Era) (step : ℕ) (answer : Result Built BuildFault) (rest : List Entry) (out : Option ℕ)
     → ((form : Form) → came_of answer ≡ Ok form → was_started step eras ≡ true)
-    → option_map step_of (first_left eras (step + 1) (map installed_of rest)) ≡ out
-    → option_map step_of (first_left eras step (came_of answer ∷ map installed_of rest)) ≡ out
+    → steps (first_left eras (step + 1) (map installed_of rest)) ≡ out
+    → steps (first_left eras step (came_of answer ∷ map installed_of rest)) ≡ out
 passed-first eras step (Ok built) rest out was later =
-    (λ i. option_map step_of (if was (form_of built.program) refl i then first_left eras (step + 1) (map installed_of rest) else Some (step, form_of built.program)))
+    (λ i. steps (if was (form_of built.program) refl i then first_left eras (step + 1) (map installed_of rest) else Some (step, form_of built.program)))
     ∙ later
 passed-first eras step (Err refusal) rest out was later = later
 
@@ -48,10 +86,10 @@ passed-first eras step (Err refusal) rest out was later = later
 before-left : (eras : List Era) (step next count : ℕ) (entries : List Entry) → step + count ≡ next
     → ((i : ℕ) (form : Form) → i < count → slice_get (map installed_of entries) i ≡ Some (Ok form) → was_started (step + i) eras ≡ true)
     → ((i : ℕ) → next ≤ i → was_started i eras ≡ false)
-    → option_map step_of (first_left eras step (map installed_of entries)) ≡ accepted_from next (drop count entries)
+    → steps (first_left eras step (map installed_of entries)) ≡ accepted_from next (drop count entries)
 before-left eras step next zero entries sum all none =
     let here : step ≡ next = omega (arith, sum) in
-    subst (λ (n : ℕ). option_map step_of (first_left eras step (map installed_of entries)) ≡ accepted_from n entries) here
+    subst (λ (n : ℕ). steps (first_left eras step (map installed_of entries)) ≡ accepted_from n entries) here
     (after-left eras step entries (λ i past. none i (omega (arith, past, here))))
 before-left eras step next (suc count) [] sum all none = refl
 before-left eras step next (suc count) (entry ∷ rest) sum all none =
@@ -66,7 +104,7 @@ before-left eras step next (suc count) (entry ∷ rest) sum all none =
     none)
 
 pub next-step : (next : ℕ) (eras : List Era) (entries : List Entry) → ArePassed next eras (map installed_of entries)
-    → option_map step_of (first_left eras 0 (map installed_of entries)) ≡ accepted_from next (drop next entries)
+    → steps (first_left eras 0 (map installed_of entries)) ≡ accepted_from next (drop next entries)
 next-step next eras entries passed =
     before-left eras 0 next next entries (omega arith)
     (λ i form below is.
@@ -231,13 +269,13 @@ passed-more next eras entries more within passed = record {
 -- ---- the code's search
 
 -- what the code finds is what is left
-pub left-found : (step : ℕ) (left : Option (ℕ × Form)) → option_map step_of left ≡ Some step → (form : Form) × (left ≡ Some (step, form))
+pub left-found : (step : ℕ) (left : Option (ℕ × Form)) → steps left ≡ Some step → (form : Form) × (left ≡ Some (step, form))
 left-found step None is = absurd (none-some step is)
 left-found step (Some (other, form)) is = (form, λ k. Some (ap (first_of other) is k, form))
 
 -- what the code finds past what it looked at is the next one
 pub next-found : (next : ℕ) (entries : List Entry) (w : OpenWorld) → map installed_of entries ≡ w.entries → ArePassed next (eras_of w) w.entries
-    → accepted_from next (drop next entries) ≡ option_map step_of (next_of w)
+    → accepted_from next (drop next entries) ≡ steps (next_of w)
 next-found next entries w same passed =
     sym (next-step next (eras_of w) entries (subst (ArePassed next (eras_of w)) (sym same) passed))
-    ∙ ap (λ (installed : List Installed). option_map step_of (first_left (eras_of w) 0 installed)) same
+    ∙ ap (λ (installed : List Installed). steps (first_left (eras_of w) 0 installed)) same

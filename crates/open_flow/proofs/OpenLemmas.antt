@@ -1,5 +1,5 @@
 -- Each letter leads from a flow of its case and its word to the one of the longer word.
-use Rattle.std.specs.Prelude.{◌≡◌, ℕ, ◌+◌, ◌<◌, ◌≤◌, true, ◌&&◌, is_some, Option, Some, None, option_map, Ok, List, [], ◌∷◌, ◌++◌, length, slice_get, refl}
+use Rattle.std.specs.Prelude.{◌≡◌, ℕ, ◌+◌, ◌<◌, ◌≤◌, true, ◌&&◌, is_some, Option, Some, None, Ok, List, [], ◌∷◌, ◌++◌, length, slice_get, refl}
 use Rattle.std.proofs.Common.{ap, sym, ◌∙◌, subst, arith, length-append}
 use Rattle.std.proofs.lemmas.List.{length-map}
 use Rattle.std.proofs.lemmas.Bool.{lt-ltb}
@@ -29,8 +29,8 @@ use Rattle.open_flow.specs.OpenWorld.{Running, OpenWorld, track_of, cwnd_of, aft
 use Rattle.open_flow.specs.OpenWords.{after_letter, install_world, next_ack, is_legal, legal}
 use Rattle.open_flow.specs.BuiltTexts.{Answers}
 use Rattle.open_flow.specs.Entries.{installed_of, built_at, AreStepsFrom}
-use Rattle.open_flow.specs.OpenCells.{Tells, AnswersTo, ran_of, ran_in}
-use Rattle.open_flow.specs.States.{world_of, kept_track, step_of, next_from, RunsAs, Runs, FitsAt, FitsBuilt, faults_left, turn_of, form_at, Keeps, IsFit, IsOpen}
+use Rattle.open_flow.specs.OpenCells.{Tells, AnswersTo, ran_of, ran_in, next_at}
+use Rattle.open_flow.specs.States.{cell_of, world_of, kept_track, next_from, RunsAs, Runs, FitsAt, FitsBuilt, faults_left, turn_of, form_at, Keeps, IsFit, IsOpen}
 use Rattle.open_flow.proofs.LetterLemmas.{world-append, legal-append}
 use Rattle.open_flow.proofs.KeepsLemmas.{counted_state, keeps-counted, keeps-heard, put_state, keeps-put, fits-more, started_state, keeps-started}
 use Rattle.open_flow.proofs.ListLemmas.{steps-push}
@@ -282,7 +282,7 @@ open-put s entry entries installed word opens is_step is_text answers pushed roo
 -- ---- a change
 
 module _ (s : State) (opens : IsOpen s) (step : ℕ)
-    (next : (read : Reading) → IsReading read → option_map step_of (next_of (world_of read s)) ≡ Some step) where
+    (next : (read : Reading) → IsReading read → next_at read (cell_of s) ≡ Some step) where
   found-at : (read : Reading) → IsReading read → (form : Form) × (next_of (world_of read s) ≡ Some (step, form))
   found-at read reading = left-found step (next_of (world_of read s)) (next read reading)
 

@@ -1,5 +1,5 @@
 -- What an acknowledgement that is run changes of what is kept.
-use Rattle.std.specs.Prelude.{◌≡◌, ℕ, ◌+◌, ◌≤◌, Bool, true, false, List, ◌++◌, length, map}
+use Rattle.std.specs.Prelude.{◌≡◌, ℕ, ◌+◌, ◌<◌, ◌≤◌, Bool, true, false, List, ◌++◌, length, map}
 use Rattle.ccp_base.specs.declared.ack.Ack.{Ack}
 use Rattle.ccp_base.specs.declared.arithmetic.FaultKind.{FaultKind}
 use Rattle.ccp_base.specs.declared.exchange.Notice.{Notice}
@@ -8,13 +8,40 @@ use Rattle.portus_core.specs.Programs.{Form}
 use Rattle.portus_core.specs.Value.{Cause}
 use Rattle.portus_core.specs.Epoch.{Outcome, Track, by_source, heard, stops, next_first}
 use Rattle.portus_core.specs.Reports.{Epoch, reports_met}
+use Rattle.reg_code.specs.declared.code.Code.{Code}
+use Rattle.fold_machine.specs.declared.acked.Acked.{Acked}
+use Rattle.fold_machine.specs.declared.acked.Acked.TheVariants as acked
 use Rattle.fold_machine.specs.MachineState.{MachineState}
-use Rattle.flow_core.specs.Readings.{env_of}
+use Rattle.flow_core.specs.Readings.{by_code, env_of}
+use Rattle.flow_core.specs.Cores.{ran_by}
+use Rattle.flow_core.specs.States.{outcome_by}
 use Rattle.flow_core.specs.World.{Failure, failures_met}
 use Rattle.open_flow.specs.declared.account.Account.{Account}
 use Rattle.open_flow.specs.declared.account.Turn.{Turn}
 use Rattle.open_flow.specs.declared.entry.Entry.{Entry}
 use Rattle.open_flow.specs.OpenBooks.{seen_of, seen_as}
+
+-- ---- the machine's answer
+
+-- the outcome that the machine's answer tells, and the env that it keeps
+abbrev pub met_as : Acked → MachineState → Outcome (FaultKind × ℕ) × Env
+met_as answer machine = (outcome_by answer machine.report, env_of machine.kept)
+
+-- an acknowledgement, with room, takes the machine from the one state to the other with this answer, as its code says
+abbrev pub IsMet : Code → MachineState → Ack → MachineState → Acked → Type 0
+IsMet code old ack new answer =
+    heard (by_code code) old.is_stopped (env_of old.kept) ack true ≡ met_as answer new
+
+-- how many instructions the machine runs on an acknowledgement with room
+abbrev pub ran_on : Code → MachineState → Ack → ℕ
+ran_on code machine ack = ran_by machine.is_stopped code (env_of machine.kept) ack true
+
+-- there is a place for the fault, where the answer tells one
+abbrev pub HasPlaceFor : Acked → Account → Type 0
+HasPlaceFor answer account =
+    (kind : FaultKind) (index : ℕ) → answer ≡ acked.Faulted kind index → length account.faults.items < account.faults.room
+
+-- ---- what is put down
 
 -- whose reports they are
 abbrev pub reporter : Turn → Epoch

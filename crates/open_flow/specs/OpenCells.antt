@@ -1,5 +1,5 @@
 -- A flow of a rollout: its case, its library and its word.
-use Rattle.std.specs.Prelude.{◌≡◌, ℕ, ◌+◌, ◌*◌, true, Option, Some, None, option_map, List, [], ⊤, length, slice_get}
+use Rattle.std.specs.Prelude.{◌≡◌, ℕ, ◌+◌, ◌*◌, ◌≤◌, Bool, true, Option, Some, None, option_map, List, [], ◌∷◌, ◌++◌, ⊤, length, slice_get}
 use Rattle.ccp_base.specs.declared.ack.Ack.{Ack}
 use Rattle.portus_core.specs.Value.{Cause}
 use Rattle.portus_core.specs.Epoch.{Outcome, quiet, reported, held, failed, stopped}
@@ -11,8 +11,9 @@ use Rattle.scenario_json.specs.ScenePrograms.{Reading}
 use Rattle.scenario_json.specs.declared.open_case.OpenCase.{OpenCase}
 use Rattle.open_flow.specs.declared.entry.Entry.{Entry}
 use Rattle.open_flow.specs.declared.letter.OpenLetter.{OpenLetter}
+use Rattle.open_flow.specs.declared.letter.OpenLetter.TheVariants.{I}
 use Rattle.open_flow.specs.OpenWorld.{Running, OpenWorld, track_of, met_by, next_of}
-use Rattle.open_flow.specs.OpenWords.{next_ack, install_world, is_complete}
+use Rattle.open_flow.specs.OpenWords.{next_ack, after_letter, install_world, is_legal, is_complete}
 use Rattle.open_flow.specs.Entries.{built_at, place_of}
 
 pub record OpenState : Type 0 where
@@ -27,6 +28,18 @@ world_at read cell = install_world read cell.case cell.word
 abbrev pub ack_at : Reading → OpenState → Ack
 ack_at read cell = next_ack cell.case (world_at read cell)
 
+-- the new flow's state is the old one's after one more letter
+abbrev pub IsAfter : Reading → OpenState → OpenLetter → OpenState → Type 0
+IsAfter read old letter new = world_at read new ≡ after_letter read old.case (world_at read old) letter
+
+-- the letter is legal at the end of the flow's word
+abbrev pub is_legal_at : Reading → OpenState → OpenLetter → Bool
+is_legal_at read cell letter = is_legal cell.case (world_at read cell) letter
+
+-- all acknowledgements of the case are in
+abbrev pub HasAll : Reading → OpenState → Type 0
+HasAll read cell = cell.case.acks ≤ length (world_at read cell).acks
+
 abbrev pub IsComplete : Reading → OpenState → Type 0
 IsComplete read cell = is_complete cell.case (world_at read cell) ≡ true
 
@@ -39,6 +52,10 @@ most_letters case = case.acks + 2 * length case.steps
 -- the entry's step is the number of entries so far, and its text is the case's of that step
 abbrev pub IsNextEntry : OpenState → Entry → Type 0
 IsNextEntry cell entry = (entry.step ≡ length cell.entries) × (slice_get cell.case.steps (length cell.entries) ≡ Some entry.text)
+
+-- the flow with one more entry
+abbrev pub with_entry : OpenState → Entry → OpenState
+with_entry cell entry = record cell { entries = cell.entries ++ entry ∷ []; word = cell.word ++ I ∷ [] }
 
 -- ---- what an acknowledgement is answered
 

@@ -1,5 +1,5 @@
 -- What a flow of a rollout keeps, and what holds of it: it is the state after the flow's word.
-use Rattle.std.specs.Prelude.{◌≡◌, ℕ, ◌+◌, ◌-◌, ◌<◌, ◌≤◌, Bool, true, false, if◌then◌else◌, Option, Some, None, option_map, Ok, List, [], ◌∷◌, ⊤, length, map, slice_get}
+use Rattle.std.specs.Prelude.{◌≡◌, ℕ, ◌+◌, ◌-◌, ◌<◌, ◌≤◌, Bool, true, false, Option, Some, None, option_map, Ok, List, [], ◌∷◌, ⊤, length, map, position, slice_get}
 use Rattle.portus_core.specs.Programs.{Form}
 use Rattle.portus_core.specs.ProgramForm.{form_of}
 use Rattle.portus_core.specs.OneAcknowledgement.{IsEnvOf}
@@ -20,7 +20,11 @@ use Rattle.open_flow.specs.OpenWords.{install_world, legal}
 use Rattle.open_flow.specs.BuiltTexts.{is_accepted}
 use Rattle.open_flow.specs.Entries.{installed_of, built_at, AreStepsFrom}
 use Rattle.open_flow.specs.OpenBooks.{seen_of, seen_as}
-use Rattle.open_flow.specs.OpenCells.{most_letters}
+use Rattle.open_flow.specs.OpenCells.{OpenState, most_letters}
+
+-- the flow as contracts see it
+abbrev pub cell_of : State → OpenState
+cell_of s = record { case = s.case; entries = s.entries.items; word = s.word.items }
 
 -- the state after the flow's word
 abbrev pub world_of : Reading → State → OpenWorld
@@ -37,13 +41,13 @@ abbrev pub next_from : Option ℕ → ℕ
 next_from None = 0
 next_from (Some step) = step + 1
 
--- the first accepted entry of these, which are those from this step on
-abbrev pub accepted_from : ℕ → List Entry → Option ℕ
-accepted_from step [] = None
-accepted_from step (entry ∷ rest) = if is_accepted entry.answer then Some step else accepted_from (step + 1) rest
+-- the place of the first accepted one of these entries
+abbrev pub first_accepted : List Entry → Option ℕ
+first_accepted entries = position (λ entry. is_accepted entry.answer) entries
 
-abbrev pub step_of : ℕ × Form → ℕ
-step_of next = next.0
+-- the step of the first accepted one of these entries, which are those from this step on
+abbrev pub accepted_from : ℕ → List Entry → Option ℕ
+accepted_from step entries = option_map (λ place. step + place) (first_accepted entries)
 
 -- the changes went through the entries below this step, and through no other
 pub record ArePassed (next : ℕ) (eras : List Era) (entries : List Installed) : Type 0 where
@@ -54,6 +58,10 @@ pub record ArePassed (next : ℕ) (eras : List Era) (entries : List Installed) :
 
 abbrev pub form_at : List Entry → ℕ → Option Form
 form_at entries step = option_map (λ (built : Built). form_of built.program) (built_at entries step)
+
+-- the step whose program runs, none before the first change
+abbrev pub step_in : Option Running → Option ℕ
+step_in present = option_map (λ running. running.era.program) present
 
 -- the step's program is the one that runs
 pub record Runs (entries : List Entry) (step : ℕ) (running : Running) : Type 0 where

@@ -1,11 +1,10 @@
 //! What comes of the acknowledgements that are run.
-ghost use Rattle.std.specs.Prelude.{◌≡◌, ◌+◌, ◌<◌, true, length};
-ghost use Rattle.portus_core.specs.Epoch.{heard, stops, reported, failed};
+ghost use Rattle.std.specs.Prelude.{◌≡◌, ◌+◌, ◌<◌, length};
+ghost use Rattle.portus_core.specs.Epoch.{stops, reported, failed};
 ghost use Rattle.fold_machine.specs.MachineState.{Fits};
-ghost use Rattle.flow_core.specs.Readings.{by_code, env_of};
-ghost use Rattle.flow_core.specs.Cores.{ran_by};
+ghost use Rattle.flow_core.specs.Readings.{env_of};
 ghost use Rattle.flow_core.specs.States.{outcome_by};
-ghost use Rattle.open_flow.specs.Accounts.{PutDown};
+ghost use Rattle.open_flow.specs.Accounts.{met_as, IsMet, ran_on, HasPlaceFor, PutDown};
 
 use ccp_base::{Ack, FaultKind, Notice, Report};
 use flow_core::Roomy;
@@ -39,10 +38,10 @@ pub(crate) fn run<L: Ledger>(
     steps: &mut Steps<L>,
 ) -> Acked
     requires { Fits machine.old code.now.code }
-    ensures met { heard (by_code code.now.code) machine.old.is_stopped (env_of machine.old.kept) ack.entry.now true ≡ (outcome_by result machine.new.report, env_of machine.new.kept) }
+    ensures met { IsMet code.now.code machine.old ack.entry.now machine.new result }
     ensures stopped { machine.new.is_stopped ≡ stops (outcome_by result machine.new.report) }
     ensures fits { Fits machine.new code.now.code }
-    ensures steps { steps.new ≡ steps.old + ran_by machine.old.is_stopped code.now.code (env_of machine.old.kept) ack.entry.now true }
+    ensures steps { steps.new ≡ steps.old + ran_on code.now.code machine.old ack.entry.now }
 {
     machine.ack(code, ack, true, steps)
 }
@@ -51,8 +50,8 @@ impl Account {
     /// Puts down what an acknowledgement came to, by the machine's answer.
     pub(crate) fn put_down(&mut self, turn: Turn, machine: &Machine, ack: &Ack, acked: Acked)
         requires reports { length self.old.reports.items < self.old.reports.room }
-        requires faults { (kind : _) (index : _) → acked ≡ Acked.Faulted kind index → length self.old.faults.items < self.old.faults.room }
-        ensures { PutDown turn self.old self.new ack.entry.now (outcome_by acked machine.now.report, env_of machine.now.kept) }
+        requires faults { HasPlaceFor acked self.old }
+        ensures { PutDown turn self.old self.new ack.entry.now (met_as acked machine.now) }
     {
         match acked {
             Acked::Quiet | Acked::Held | Acked::Stopped => {}

@@ -1,10 +1,9 @@
 ghost use Rattle.std.specs.Prelude.{◌≡◌, ◌+◌, ◌≤◌, ◌↔◌, ◌∷◌, [], ◌++◌, true, Some, None, slice_get, length, map, IsTrue, IsOk, IsErr, IfOk, IfErr, OnOk, OnErr};
 ghost use Rattle.scenario_json.specs.ScenePrograms.{Reading, IsReading};
-ghost use Rattle.open_flow.specs.OpenWorld.{after_ack, after_install, after_change};
-ghost use Rattle.open_flow.specs.OpenWords.{is_legal, legal, is_complete};
+ghost use Rattle.open_flow.specs.OpenWords.{legal, is_complete};
 ghost use Rattle.open_flow.specs.Entries.{installed_of};
 ghost use Rattle.open_flow.specs.OpenBooks.{IsOpenBookOf};
-ghost use Rattle.open_flow.specs.OpenCells.{world_at, ack_at, IsComplete, most_letters, Answered, ran_at, IsNextEntry, next_at};
+ghost use Rattle.open_flow.specs.OpenCells.{world_at, IsAfter, is_legal_at, HasAll, IsComplete, most_letters, IsNextEntry, with_entry, Answered, ran_at, next_at};
 
 use crate::account::Account;
 use crate::book::OpenBook;
@@ -84,10 +83,9 @@ impl OpenCell {
     /// where all acknowledgements are in; then nothing has changed. None exactly where no change came yet. `steps` counts
     /// the instructions that are run.
     pub fn ack<L: Ledger>(&mut self, steps: &mut Steps<L>) -> Result<Option<Acked>, Ended>
-        ensures ended { (read : Reading) → IsReading read → (IsErr result ↔ (self.old.case.acks ≤ length (world_at read self.old).acks)) }
+        ensures ended { (read : Reading) → IsReading read → (IsErr result ↔ HasAll read self.old) }
         ensures ok { OnOk result (self.new ≡ record self.old { word = self.old.word ++ OpenLetter.A ∷ [] }) }
-        ensures world { (read : Reading) → IsReading read
-            → OnOk result (world_at read self.new ≡ after_ack self.old.case (ack_at read self.old) (world_at read self.old)) }
+        ensures world { (read : Reading) → IsReading read → OnOk result (IsAfter read self.old OpenLetter.A self.new) }
         ensures acked { (read : Reading) → IsReading read → IfOk result (λ answer. Answered read self.old answer) }
         ensures steps { (read : Reading) → IsReading read → OnOk result (steps.new ≡ steps.old + ran_at read self.old) }
         ensures unchanged { OnErr result (self.new ≡ self.old) }
@@ -103,9 +101,8 @@ impl OpenCell {
     /// that step; it is handed back then, and nothing has changed.
     pub fn install(&mut self, entry: Entry) -> Result<(), Late>
         ensures installed { IsOk result ↔ IsNextEntry self.old entry }
-        ensures ok { OnOk result (self.new ≡ record self.old { entries = self.old.entries ++ entry ∷ []; word = self.old.word ++ OpenLetter.I ∷ [] }) }
-        ensures world { (read : Reading) → IsReading read
-            → OnOk result (world_at read self.new ≡ after_install read self.old.case (world_at read self.old)) }
+        ensures ok { OnOk result (self.new ≡ with_entry self.old entry) }
+        ensures world { (read : Reading) → IsReading read → OnOk result (IsAfter read self.old OpenLetter.I self.new) }
         ensures late { IfErr result (λ late. (late.entry ≡ entry) × (late.want ≡ length self.old.entries)) }
         ensures unchanged { OnErr result (self.new ≡ self.old) }
     {
@@ -125,8 +122,7 @@ impl OpenCell {
     pub fn change(&mut self) -> Result<u32, Nothing>
         ensures nothing { (read : Reading) → IsReading read → (IsErr result ↔ (next_at read self.old ≡ None)) }
         ensures ok { OnOk result (self.new ≡ record self.old { word = self.old.word ++ OpenLetter.G ∷ [] }) }
-        ensures world { (read : Reading) → IsReading read
-            → OnOk result (world_at read self.new ≡ after_change self.old.case (world_at read self.old)) }
+        ensures world { (read : Reading) → IsReading read → OnOk result (IsAfter read self.old OpenLetter.G self.new) }
         ensures step { (read : Reading) → IsReading read → IfOk result (λ step. next_at read self.old ≡ Some step) }
         ensures unchanged { OnErr result (self.new ≡ self.old) }
     {
@@ -151,7 +147,7 @@ impl OpenCell {
 
     /// Whether an accepted entry is left that wasn't changed to.
     pub fn can_change(&self) -> bool
-        ensures { (read : Reading) → IsReading read → result ≡ is_legal self.now.case (world_at read self.now) OpenLetter.G }
+        ensures { (read : Reading) → IsReading read → result ≡ is_legal_at read self.now OpenLetter.G }
     {
         self.state.next().is_some()
     }
@@ -166,7 +162,8 @@ impl OpenCell {
     /// The flow's library: the entries in the order of the steps. Each is what its step's text stands for.
     pub fn entries(&self) -> &[Entry]
         ensures entries { result.now ≡ self.now.entries }
-        ensures world { (read : Reading) → IsReading read → map installed_of self.now.entries ≡ (world_at read self.now).entries }
+        ensures world { (read : Reading) → IsReading read
+            → map installed_of self.now.entries ≡ (world_at read self.now).entries }
     {
         self.state.entries.as_slice()
     }

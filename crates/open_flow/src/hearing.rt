@@ -1,10 +1,9 @@
 //! An acknowledgement: it is counted, and run where a program runs.
 ghost use Rattle.std.specs.Prelude.{◌≡◌, ◌+◌, ◌<◌, Some, None, option_copied, ◌∷◌, [], ◌++◌};
 ghost use Rattle.scenario_json.specs.ScenePrograms.{Reading, IsReading};
-ghost use Rattle.open_flow.specs.OpenWords.{next_ack};
 ghost use Rattle.open_flow.specs.Entries.{built_at};
-ghost use Rattle.open_flow.specs.OpenCells.{ran_in, AnswersTo};
-ghost use Rattle.open_flow.specs.States.{world_of, IsOpen};
+ghost use Rattle.open_flow.specs.OpenCells.{ran_at, Answered};
+ghost use Rattle.open_flow.specs.States.{cell_of, world_of, step_in, IsOpen};
 
 use crate::account::{Turn, run};
 use crate::entry::Entry;
@@ -22,6 +21,15 @@ pub(crate) fn built_at(entries: &[Entry], step: u32) -> Option<&Built>
 }
 
 impl State {
+    /// The step of the program that hears the next acknowledgement; None exactly before the first change.
+    fn hearer(&self) -> Option<u32>
+        requires { IsOpen self.now }
+        ensures kept { result ≡ self.now.running }
+        ensures present { (read : Reading) → IsReading read → result ≡ step_in (world_of read self.now).present }
+    {
+        self.running
+    }
+
     /// Takes the link's next acknowledgement. It is only counted before the first change, and then run.
     pub(crate) fn advance<L: Ledger>(&mut self, steps: &mut Steps<L>) -> Option<Acked>
         requires open_state { IsOpen self.old }
@@ -30,12 +38,10 @@ impl State {
         ensures case { self.new.case ≡ self.old.case }
         ensures entries { self.new.entries ≡ self.old.entries }
         ensures word { self.new.word.items ≡ self.old.word.items ++ OpenLetter.A ∷ [] }
-        ensures told { (read : Reading) → IsReading read
-            → AnswersTo self.old.entries.items (next_ack self.old.case (world_of read self.old)) (world_of read self.old).present result }
-        ensures steps { (read : Reading) → IsReading read
-            → steps.new ≡ steps.old + ran_in self.old.entries.items (world_of read self.old).present (next_ack self.old.case (world_of read self.old)) }
+        ensures told { (read : Reading) → IsReading read → Answered read (cell_of self.old) result }
+        ensures steps { (read : Reading) → IsReading read → steps.new ≡ steps.old + ran_at read (cell_of self.old) }
     {
-        match self.running {
+        match self.hearer() {
             Some(step) => Some(self.run_next(step, steps)),
             None => {
                 self.count_next();
@@ -71,10 +77,8 @@ impl State {
         ensures case { self.new.case ≡ self.old.case }
         ensures entries { self.new.entries ≡ self.old.entries }
         ensures word { self.new.word.items ≡ self.old.word.items ++ OpenLetter.A ∷ [] }
-        ensures told { (read : Reading) → IsReading read
-            → AnswersTo self.old.entries.items (next_ack self.old.case (world_of read self.old)) (world_of read self.old).present (Some result) }
-        ensures steps { (read : Reading) → IsReading read
-            → steps.new ≡ steps.old + ran_in self.old.entries.items (world_of read self.old).present (next_ack self.old.case (world_of read self.old)) }
+        ensures told { (read : Reading) → IsReading read → Answered read (cell_of self.old) (Some result) }
+        ensures steps { (read : Reading) → IsReading read → steps.new ≡ steps.old + ran_at read (cell_of self.old) }
     {
         let window = self.machine.cwnd();
         let ack = self.link.next(window);

@@ -1,10 +1,11 @@
 //! The library and its changes: an entry is put into it, and the first accepted one that wasn't changed to is started.
-ghost use Rattle.std.specs.Prelude.{◌≡◌, ◌+◌, ◌≤◌, Some, option_map, slice_get, length, ◌∷◌, [], ◌++◌};
+ghost use Rattle.std.specs.Prelude.{◌≡◌, ◌+◌, ◌<◌, ◌≤◌, Some, slice_get, length, ◌∷◌, [], ◌++◌};
+ghost use Rattle.std.specs.Option.{ForSome};
 ghost use Rattle.ccp_base.specs.Limits.{most_steps};
 ghost use Rattle.scenario_json.specs.ScenePrograms.{Reading, IsReading};
-ghost use Rattle.open_flow.specs.OpenWorld.{next_of};
 ghost use Rattle.open_flow.specs.BuiltTexts.{Answers};
-ghost use Rattle.open_flow.specs.States.{next_from, accepted_from, step_of, world_of, IsOpen};
+ghost use Rattle.open_flow.specs.OpenCells.{next_at};
+ghost use Rattle.open_flow.specs.States.{next_from, first_accepted, accepted_from, cell_of, IsOpen};
 
 use crate::entry::Entry;
 use crate::hearing::built_at;
@@ -13,21 +14,21 @@ use crate::state::State;
 use ccp_base::Fields;
 use flow_core::EpochLine;
 
-/// The first accepted entry of these, which are those from this step on.
+/// The place of the first accepted one of these entries.
+fn first_accepted(entries: &[Entry]) -> Option<usize>
+    ensures place { result ≡ first_accepted entries.now }
+    ensures within { ForSome result (λ place. place < length entries.now) }
+{
+    entries.iter().position(|entry| entry.accepted())
+}
+
+/// The step of the first accepted one of these entries, which are those from this step on.
 fn accepted_from(from: u32, entries: &[Entry]) -> Option<u32>
     requires { from + length entries.now ≤ most_steps }
     ensures { result ≡ accepted_from from entries.now }
 {
-    let mut step = from;
-    let mut left = entries;
-    while let Some((entry, rest)) = left.split_first() {
-        if entry.accepted() {
-            return Some(step);
-        }
-        step += 1;
-        left = rest;
-    }
-    None
+    let place = first_accepted(entries)?;
+    Some(from + place as u32)
 }
 
 /// The first step that no change has looked at.
@@ -45,7 +46,7 @@ impl State {
     /// The step of the first accepted entry that wasn't changed to, None exactly where there is none.
     pub(crate) fn next(&self) -> Option<u32>
         requires { IsOpen self.now }
-        ensures { (read : Reading) → IsReading read → result ≡ option_map step_of (next_of (world_of read self.now)) }
+        ensures { (read : Reading) → IsReading read → result ≡ next_at read (cell_of self.now) }
     {
         let from = next_from(self.running);
         accepted_from(from, &self.entries.as_slice()[from as usize..])
@@ -54,7 +55,7 @@ impl State {
     /// Changes the flow to the program of this step.
     pub(crate) fn start(&mut self, step: u32)
         requires open_state { IsOpen self.old }
-        requires next { (read : Reading) → IsReading read → option_map step_of (next_of (world_of read self.old)) ≡ Some step }
+        requires next { (read : Reading) → IsReading read → next_at read (cell_of self.old) ≡ Some step }
         ensures open_state { IsOpen self.new }
         ensures case { self.new.case ≡ self.old.case }
         ensures entries { self.new.entries ≡ self.old.entries }

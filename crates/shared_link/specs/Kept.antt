@@ -6,7 +6,7 @@ use Rattle.link_model.specs.declared.arrival.Arrival.{Arrival}
 use Rattle.link_model.specs.declared.chance.Chance.{Chance}
 use Rattle.link_model.specs.Traces.{IsTrace}
 use Rattle.link_model.specs.Chances.{number_of, chance_time, first_chance}
-use Rattle.link_model.specs.Link.{Fate, Given, chances_past, fate_of, arrival_ack_of, timeout_ack_of}
+use Rattle.link_model.specs.Link.{Fate, Served, Given, chance_past, chances_past, is_marked, fate_of, arrival_ack_of, timeout_ack_of}
 use Rattle.link_model.specs.Steps.{count_of}
 use Rattle.link_model.specs.Horizon.{ArriveWithin}
 use Rattle.shared_link.specs.declared.shared_case.FlowLink.{FlowLink}
@@ -62,6 +62,15 @@ with_one times delay now fate standing = record {
 abbrev pub fate_now : List ℕ → FlowLink → ℕ → ℕ → Sending → Fate
 fate_now times link room sent sending =
     fate_of link.losses room link.mark sent sending.queue.waiting (number_of times sending.queue.next)
+
+-- the fate of one that gets the queue's next chance
+abbrev pub served_now : List ℕ → FlowLink → Sending → Fate
+served_now times link sending = Served (number_of times sending.queue.next) (is_marked link.mark sending.queue.waiting)
+
+-- the next chance is the one past the packet that is sent next
+abbrev pub IsNextChance : List ℕ → FlowLink → ℕ → ℕ → Sending → Sending → Type 0
+IsNextChance times link room sent old new =
+    number_of times new.next ≡ chance_past (fate_now times link room sent old) (number_of times old.next)
 
 -- how long after now the last chance may be, in microseconds: so many hours as packets may wait, and two more
 abbrev pub span : ℕ

@@ -1,4 +1,5 @@
 pub mod Kept
+pub mod KeptFlows
 pub mod Reached
 pub mod SharedLaws
 pub mod SharedLimits

@@ -1,10 +1,10 @@
 ghost use Rattle.std.specs.Prelude.{◌≡◌, ℕ, ◌+◌, ◌^◌, ◌<◌, ◌≤◌, [], ◌∷◌, ◌++◌, length, if◌then◌else◌, ◌==◌, IfOk};
 ghost use Rattle.ccp_base.specs.Limits.{most_flight, most_queue};
 ghost use Rattle.link_model.specs.Chances.{number_of};
-ghost use Rattle.link_model.specs.Link.{Lost, Served, chance_past, is_marked};
+ghost use Rattle.link_model.specs.Link.{Lost};
 ghost use Rattle.shared_link.specs.SharedLimits.{IsFlowWithin};
 ghost use Rattle.shared_link.specs.SharedStanding.{flow_standing};
-ghost use Rattle.shared_link.specs.Kept.{flow_in, IsFlowKept, with_one, fate_now, IsSending};
+ghost use Rattle.shared_link.specs.Kept.{flow_in, IsFlowKept, with_one, fate_now, IsNextChance, served_now, IsSending};
 
 use crate::flow_traffic::FlowTraffic;
 use crate::sending::Sending;
@@ -63,8 +63,7 @@ impl FlowTraffic {
         ensures sending { IsSending trace.now sending.new }
         ensures rounds { sending.new.rounds ≡ sending.old.rounds }
         ensures now { sending.new.now ≡ sending.old.now }
-        ensures chance { number_of trace.now sending.new.next
-            ≡ chance_past (fate_now trace.now link.now room self.old.sent sending.old) (number_of trace.now sending.old.next) }
+        ensures chance { IsNextChance trace.now link.now room self.old.sent sending.old sending.new }
     {
         let losses = link.losses.as_slice();
         self.passed = next_loss(losses, self.passed, self.sent);
@@ -104,7 +103,7 @@ impl FlowTraffic {
         requires sent { self.old.sent < 2 ^ 28 }
         ensures kept { IsFlowKept link.now self.new }
         ensures standing { flow_in self.new ≡ with_one trace.now link.now.delay_us sending.old.now
-            (Served (number_of trace.now sending.old.queue.next) (is_marked link.now.mark sending.old.queue.waiting)) (flow_in self.old) }
+            (served_now trace.now link.now sending.old) (flow_in self.old) }
         ensures in_flight { self.new.in_flight ≡ self.old.in_flight + 1 }
         ensures sent { self.new.sent ≡ self.old.sent + 1 }
         ensures acks { self.new.acks ≡ self.old.acks }

@@ -1,11 +1,11 @@
-ghost use Rattle.std.specs.Prelude.{◌≡◌, ◌≢◌, ℕ, ◌+◌, ◌*◌, ◌<◌, ◌≤◌, min, List, [], length, map, get_or, vec_capacity, if◌then◌else◌, IfOk, OnOk, IsTrue};
+ghost use Rattle.std.specs.Prelude.{◌≡◌, ◌+◌, ◌*◌, ◌<◌, ◌≤◌, [], length, map, get_or, vec_capacity, IfOk, OnOk, IsTrue};
 ghost use Rattle.ccp_base.specs.Limits.{most_flight, most_rounds, most_quantum_us};
 ghost use Rattle.link_model.specs.Traces.{IsTrace};
-ghost use Rattle.link_model.specs.Link.{Given};
 ghost use Rattle.shared_link.specs.SharedLimits.{IsWithin};
-ghost use Rattle.shared_link.specs.SharedRounds.{Sent, flow_at, ask_at, allowed, lacks, some_lacks, with_packet, turn_of, turns_of, counts_in};
-ghost use Rattle.shared_link.specs.Reached.{Settled};
-ghost use Rattle.shared_link.specs.Kept.{flow_in, answered_all, IsFlowReady, AnsweredTo, IsSending, FlowsFollow, Follows, AreReady, HaveRoom};
+ghost use Rattle.shared_link.specs.SharedRounds.{flow_at, ask_at, allowed};
+ghost use Rattle.shared_link.specs.Kept.{flow_in, IsSending, FlowsFollow, AreReady, HaveRoom};
+ghost use Rattle.shared_link.specs.KeptFlows.{TellsLack, TellsSomeLack, TellsCounts, SendsOne, SendsTurn, SendsAll};
+ghost use Rattle.shared_link.specs.KeptFlows.{IsReadyAt, HasRoomAt, AreOthersKept, AnswersAt, AnswersAll};
 
 use crate::flow_sending::PACKETS;
 use crate::flow_traffic::FlowTraffic;
@@ -62,8 +62,7 @@ impl Flows {
         requires flow { flow < length self.now.traffic.items }
         ensures few { IsTrue result
             → (other : FlowTraffic) → (get_or self.now.traffic.items flow other).in_flight < most_flight }
-        ensures lacks { (sent : List Sent) (givens : ℕ → List Given) → FlowsFollow case.now self.now.traffic.items sent givens
-            → result ≡ lacks (allowed case.now asks.now) givens flow sent }
+        ensures lacks { TellsLack case.now asks.now self.now flow result }
     {
         let _ = sending;
         let may = allowed(case, asks, flow);
@@ -75,8 +74,7 @@ impl Flows {
         requires case { IsWithin case.now }
         requires ready { AreReady case.now sending.now.rounds self.now.traffic.items }
         requires asks { length asks.now ≡ length case.now.flows }
-        ensures { (sent : List Sent) (givens : ℕ → List Given) → FlowsFollow case.now self.now.traffic.items sent givens
-            → result ≡ some_lacks (allowed case.now asks.now) givens (length case.now.flows) sent }
+        ensures { TellsSomeLack case.now asks.now self.now result }
     {
         let mut found = false;
         let mut flow = 0;
@@ -100,9 +98,7 @@ impl Flows {
         ensures sending { IsSending case.now.trace sending.new }
         ensures rounds { sending.new.rounds ≡ sending.old.rounds }
         ensures now { sending.new.now ≡ sending.old.now }
-        ensures follows { (sent : List Sent) (givens : ℕ → List Given) → Follows case.now self.old.traffic.items sending.old sent givens
-            → Follows case.now self.new.traffic.items sending.new (if lacks (allowed case.now asks.now) givens flow sent
-            then with_packet case.now sending.old.now flow sent else sent) givens }
+        ensures follows { SendsOne case.now asks.now flow self.old sending.old self.new sending.new }
     {
         if !self.lacks(case, asks, sending, flow) {
             return;
@@ -122,9 +118,7 @@ impl Flows {
         ensures sending { IsSending case.now.trace sending.new }
         ensures rounds { sending.new.rounds ≡ sending.old.rounds }
         ensures now { sending.new.now ≡ sending.old.now }
-        ensures follows { (sent : List Sent) (givens : ℕ → List Given) → Follows case.now self.old.traffic.items sending.old sent givens
-            → Follows case.now self.new.traffic.items sending.new
-            (turn_of case.now sending.old.now (allowed case.now asks.now) givens (length case.now.flows) sent) givens }
+        ensures follows { SendsTurn case.now asks.now self.old sending.old self.new sending.new }
     {
         let mut flow = 0;
         while flow < self.traffic.len() {
@@ -145,9 +139,7 @@ impl Flows {
         ensures sending { IsSending case.now.trace sending.new }
         ensures rounds { sending.new.rounds ≡ sending.old.rounds }
         ensures now { sending.new.now ≡ sending.old.now }
-        ensures follows { (sent : List Sent) (givens : ℕ → List Given) → Follows case.now self.old.traffic.items sending.old sent givens
-            → Follows case.now self.new.traffic.items sending.new
-            (turns_of case.now sending.old.now (allowed case.now asks.now) givens most_flight sent) givens }
+        ensures follows { SendsAll case.now asks.now self.old sending.old self.new sending.new }
     {
         let mut left = PACKETS;
         while left > 0 {
@@ -212,15 +204,12 @@ impl Flows {
         requires flow { flow < length self.old.traffic.items }
         requires end { end ≤ most_rounds * most_quantum_us }
         requires rounds { rounds < most_rounds }
-        requires ready { (other : FlowTraffic) → IsFlowReady (flow_at case.now flow) rounds (get_or self.old.traffic.items flow other) }
-        requires room { (other : FlowTraffic) → min (ask_at asks.now flow).left most_flight
-            ≤ vec_capacity (get_or self.old.traffic.items flow other).acks }
-        ensures ready { (other : FlowTraffic) → IsFlowReady (flow_at case.now flow) (rounds + 1) (get_or self.new.traffic.items flow other) }
+        requires ready { IsReadyAt case.now rounds self.old flow }
+        requires room { HasRoomAt asks.now self.old flow }
+        ensures ready { IsReadyAt case.now (rounds + 1) self.new flow }
         ensures count { length self.new.traffic.items ≡ length self.old.traffic.items }
-        ensures others { (at : ℕ) (other : FlowTraffic) → at ≢ flow → get_or self.new.traffic.items at other ≡ get_or self.old.traffic.items at other }
-        ensures answered { (other : FlowTraffic) → record { acks = result; standing = flow_in (get_or self.new.traffic.items flow other) }
-            ≡ answered_all (flow_at case.now flow) end (ask_at asks.now flow).left
-            (record { acks = []; standing = flow_in (get_or self.old.traffic.items flow other) }) }
+        ensures others { AreOthersKept flow self.old self.new }
+        ensures answered { AnswersAt case.now asks.now end flow self.old self.new result }
     {
         let _ = rounds;
         let link = link_of(case, flow);
@@ -250,9 +239,7 @@ impl Flows {
         requires none { answers.old.items ≡ [] }
         requires space { length asks.now ≤ vec_capacity answers.old }
         ensures ready { AreReady case.now (rounds + 1) self.new.traffic.items }
-        ensures answered { (now : ℕ) (sent : List Sent) (givens : ℕ → List Given) → Settled case.now now sent givens
-            → FlowsFollow case.now self.old.traffic.items sent givens
-            → AnsweredTo case.now asks.now end self.new.traffic.items answers.new.items (length self.new.traffic.items) sent givens }
+        ensures answered { AnswersAll case.now asks.now end self.old self.new answers.new.items }
     {
         let mut flow = 0;
         while flow < self.traffic.len() {
@@ -267,8 +254,7 @@ impl Flows {
         requires case { IsWithin case.now }
         requires ready { AreReady case.now rounds self.now.traffic.items }
         requires rounds { rounds ≤ most_rounds }
-        ensures { (sent : List Sent) (givens : ℕ → List Given) → FlowsFollow case.now self.now.traffic.items sent givens
-            → result ≡ counts_in case.now (record { sent = sent; givens = givens; rounds = rounds }) }
+        ensures { TellsCounts case.now rounds self.now result }
     {
         let _ = case;
         let mut sent = 0;
