@@ -14,8 +14,6 @@ mod roomy;
 mod settling;
 mod state;
 mod taking;
-#[cfg(test)]
-mod tests;
 
 pub use book::{Book, EpochLine, Given, TicketLine};
 pub use case::{Case, Coded};
