@@ -1,3 +1,2 @@
-pub mod LeftLemmas
 pub mod TurnLemmas
 pub mod BookLemmas

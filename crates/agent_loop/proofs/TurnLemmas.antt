@@ -10,8 +10,9 @@ use Rattle.flow_core.specs.World.{Taken, World, after_ack, after_take, after_ans
 use Rattle.flow_core.specs.Words.{can_take, is_complete}
 use Rattle.flow_core.specs.Books.{ticket_of}
 use Rattle.flow_core.specs.Cells.{CellState, flow_at, world_at, ack_at, out_at, out_number_at}
-use Rattle.agent_loop.specs.LettersLeft.{letters_left, left_at, IsNearer}
-use Rattle.agent_loop.proofs.LeftLemmas.{left-ack, left-take, left-answer}
+use Rattle.flow_core.specs.LettersLeft.{letters_left, left_at}
+use Rattle.agent_loop.specs.Nearer.{IsNearer}
+use Rattle.flow_core.proofs.LeftLemmas.{left-ack, left-take, left-answer}
 
 -- ---- the ticket that is out
 

@@ -1,2 +1,2 @@
 pub mod LiveBooks
-pub mod LettersLeft
+pub mod Nearer

@@ -1,7 +1,7 @@
 ghost use Rattle.std.specs.Prelude.{◌≡◌, ◌<◌, Ok, Some, None, true, false, length, OnOk};
 ghost use Rattle.flow_core.specs.Words.{can_take, is_complete};
 ghost use Rattle.flow_core.specs.Cells.{flow_at, world_at, out_at};
-ghost use Rattle.agent_loop.specs.LettersLeft.{IsNearer};
+ghost use Rattle.agent_loop.specs.Nearer.{IsNearer};
 
 use agent_core::Ticket;
 use agent_core::calls::answer;

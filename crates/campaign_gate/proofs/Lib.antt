@@ -1,4 +1,3 @@
-pub mod LeftLemmas
 pub mod PlanLemmas
 pub mod PeakLemmas
 pub mod SumLemmas

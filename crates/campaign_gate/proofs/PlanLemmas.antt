@@ -9,8 +9,8 @@ use Rattle.flow_core.specs.Readings.{Flow, over_codes}
 use Rattle.flow_core.specs.World.{Taken, World, opening}
 use Rattle.flow_core.specs.Words.{from_link, after_letter, world_from, world, can_take, is_legal, legal_from, legal, is_complete}
 use Rattle.campaign_gate.specs.CampaignWord.{is_late, is_due, first_letter, next_of, with_next, plan_from, plan_over, plan}
-use Rattle.campaign_gate.specs.Walks.{letters_left}
-use Rattle.campaign_gate.proofs.LeftLemmas.{left-letter}
+use Rattle.flow_core.specs.LettersLeft.{letters_left}
+use Rattle.flow_core.proofs.LeftLemmas.{left-letter}
 
 -- ---- the next letter
 

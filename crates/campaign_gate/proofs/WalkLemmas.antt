@@ -21,8 +21,9 @@ use Rattle.campaign_gate.specs.declared.sums.Sums.{Sums}
 use Rattle.campaign_gate.specs.declared.walk.Walk.{Walk}
 use Rattle.campaign_gate.specs.CampaignWord.{plan_from, plan}
 use Rattle.campaign_gate.specs.CampaignRow.{row_over, row_after, row_of}
-use Rattle.campaign_gate.specs.Walks.{letters_left, left_at, next_at, window_at, plan_at, sums_of, with_ack, sums_after, TakenAfter, AreRoomy, IsOnWay, Makes}
-use Rattle.campaign_gate.proofs.LeftLemmas.{left-letter}
+use Rattle.flow_core.specs.LettersLeft.{letters_left, left_at}
+use Rattle.campaign_gate.specs.Walks.{next_at, window_at, plan_at, sums_of, with_ack, sums_after, TakenAfter, AreRoomy, IsOnWay, Makes}
+use Rattle.flow_core.proofs.LeftLemmas.{left-letter}
 use Rattle.campaign_gate.proofs.PlanLemmas.{next-legal, plan-next, plan-none}
 use Rattle.campaign_gate.proofs.PeakLemmas.{peak-append}
 use Rattle.campaign_gate.proofs.SumLemmas.{sums-append, roomy}

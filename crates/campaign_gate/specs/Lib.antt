@@ -3,3 +3,4 @@ pub mod CampaignRow
 pub mod Walks
 pub mod LiftedRow
 pub mod Tried
+pub mod Parts

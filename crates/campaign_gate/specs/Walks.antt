@@ -4,22 +4,13 @@ use Rattle.std.specs.Option.{ForSome}
 use Rattle.ccp_base.specs.declared.ack.Ack.{Ack}
 use Rattle.flow_core.specs.declared.letter.Letter.{Letter}
 use Rattle.flow_core.specs.declared.letter.Letter.TheVariants.{A, T, C}
-use Rattle.flow_core.specs.Readings.{Flow}
-use Rattle.flow_core.specs.World.{Taken, World}
-use Rattle.flow_core.specs.States.{some_count}
+use Rattle.flow_core.specs.World.{Taken}
 use Rattle.flow_core.specs.Cells.{CellState, flow_at, world_at, ack_at}
+use Rattle.flow_core.specs.LettersLeft.{left_at}
 use Rattle.campaign_gate.specs.declared.sums.Sums.{Sums}
 use Rattle.campaign_gate.specs.declared.walk.Walk.{Walk}
 use Rattle.campaign_gate.specs.CampaignWord.{next_of, plan_from, plan}
 use Rattle.campaign_gate.specs.CampaignRow.{lost_in, timeouts_in, acked_in, window_of, peak_of}
-
--- how many letters can come yet: an acknowledgement makes one ticket at most, and a ticket is taken and answered
-abbrev pub letters_left : {X : Type 0} → Flow X → World X → ℕ
-letters_left flow w =
-    3 * (flow.acks - length w.acks) + (2 * (length w.waiting + some_count w.untold) + some_count w.out)
-
-abbrev pub left_at : CellState → ℕ
-left_at cell = letters_left (flow_at cell) (world_at cell)
 
 -- the next letter of a cell's campaign word
 abbrev pub next_at : CellState → Option Letter

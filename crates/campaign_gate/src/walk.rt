@@ -5,7 +5,8 @@ ghost use Rattle.flow_core.specs.Cells.{flow_at, world_at, IsComplete};
 ghost use Rattle.campaign_gate.specs.CampaignWord.{is_due};
 ghost use Rattle.campaign_gate.specs.CampaignRow.{row_of};
 ghost use Rattle.campaign_gate.specs.Tried.{Tried};
-ghost use Rattle.campaign_gate.specs.Walks.{left_at, next_at, IsOnWay, Makes};
+ghost use Rattle.flow_core.specs.LettersLeft.{left_at};
+ghost use Rattle.campaign_gate.specs.Walks.{next_at, IsOnWay, Makes};
 
 use crate::row::Row;
 use crate::sums::Sums;

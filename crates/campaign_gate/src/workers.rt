@@ -1,6 +1,7 @@
 ghost use Rattle.std.specs.Prelude.{◌≡◌, ◌<◌, ◌≤◌, Ok, Some, map, length, slice_get, IfOk};
 ghost use Rattle.ccp_base.specs.Limits.{most_cases, most_workers};
 ghost use Rattle.campaign_gate.specs.CampaignRow.{row_of};
+ghost use Rattle.campaign_gate.specs.Parts.{HasPart};
 
 use crate::calls::run_case;
 use crate::case_row::{Campaign, CaseRow, case_row, row_in};
@@ -25,7 +26,7 @@ pub(crate) fn by_workers<C: Campaign + Send + Sync, R: Threads + Sync, G: Gate +
     ensures { IfOk result (λ rows. rows ≡ map row_of cases.now) }
 {
     let part = |worker: usize| -> Result<Vec<CaseRow<C>>, NoMemory>
-        requires { (worker < workers) × (workers ≤ most_workers) × (1 ≤ workers) × (length cases.now ≤ most_cases) × (cases.now ≡ C.cases) }
+        requires { HasPart worker workers cases.now C.cases }
     { work::<C, G>(alloc, cases, workers, worker as u32, gate) };
     let parts = thread::map_indices(rt, alloc, workers as usize, &part)?;
     merged::<C>(alloc, cases, parts.as_slice())

@@ -15,3 +15,4 @@ pub mod OpeningLemmas
 pub mod CoreLemmas
 pub mod CellLemmas
 pub mod WorkedText
+pub mod LeftLemmas

@@ -11,7 +11,7 @@ use Rattle.fold_machine.specs.declared.acked.Acked.{Acked}
 use Rattle.flow_core.specs.declared.case.Case.{Case}
 use Rattle.flow_core.specs.declared.letter.Letter.{Letter}
 use Rattle.flow_core.specs.Readings.{Flow, over_codes, over_sources}
-use Rattle.flow_core.specs.World.{World, track_of}
+use Rattle.flow_core.specs.World.{World, track_of, after_ack}
 use Rattle.flow_core.specs.Words.{world, is_complete}
 use Rattle.flow_core.specs.WordLaws.{acks_in}
 use Rattle.flow_core.specs.Lift.{place_in, map_world}
@@ -33,6 +33,10 @@ world_at cell = world (flow_at cell) cell.case.link cell.word
 -- the link's next acknowledgement: for the windows so far and the present `Cwnd`
 abbrev pub ack_at : CellState → Ack
 ack_at cell = ack_after cell.case.link (world_at cell).windows (track_of (flow_at cell) (world_at cell)).env.cwnd
+
+-- the flow's state after it
+abbrev pub heard_at : CellState → World ℕ
+heard_at cell = after_ack (flow_at cell) (ack_at cell) (world_at cell)
 
 -- the answer to it
 abbrev pub acked_at : CellState → Acked

@@ -1,5 +1,5 @@
 -- A flow without its link: its case, the acknowledgements that it was given, and its word.
-use Rattle.std.specs.Prelude.{ℕ, Bool, true, false, Option, option_map, List}
+use Rattle.std.specs.Prelude.{ℕ, Bool, true, false, Option, option_map, List, [], ◌∷◌, ◌++◌}
 use Rattle.ccp_base.specs.declared.ack.Ack.{Ack}
 use Rattle.ccp_base.specs.declared.arithmetic.FaultKind.{FaultKind}
 use Rattle.portus_core.specs.declared.env.Env.{Env}
@@ -12,8 +12,9 @@ use Rattle.fold_machine.specs.declared.acked.Acked.{Acked}
 use Rattle.fold_machine.specs.declared.acked.Acked.TheVariants as acked
 use Rattle.flow_core.specs.declared.case.Case.{Case}
 use Rattle.flow_core.specs.declared.letter.Letter.{Letter}
+use Rattle.flow_core.specs.declared.letter.Letter.TheVariants.{A}
 use Rattle.flow_core.specs.Readings.{Flow, code_at, over_codes}
-use Rattle.flow_core.specs.World.{World, track_of, has_room}
+use Rattle.flow_core.specs.World.{World, track_of, has_room, after_ack}
 use Rattle.flow_core.specs.Words.{world_over}
 use Rattle.flow_core.specs.Books.{out_ticket}
 
@@ -29,6 +30,14 @@ flow_in core = over_codes core.case
 -- the flow's state after its word
 abbrev pub world_in : CoreState → World ℕ
 world_in core = world_over (flow_in core) core.acks core.word
+
+-- the core with one more acknowledgement, and its letter
+abbrev pub with_ack : CoreState → Ack → CoreState
+with_ack core ack = record core { acks = core.acks ++ ack ∷ []; word = core.word ++ A ∷ [] }
+
+-- the flow's state after one more acknowledgement
+abbrev pub heard_in : CoreState → Ack → World ℕ
+heard_in core ack = after_ack (flow_in core) ack (world_in core)
 
 -- ---- what an acknowledgement is answered
 

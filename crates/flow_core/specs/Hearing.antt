@@ -1,17 +1,38 @@
 -- How what comes of an acknowledgement is put down.
-use Rattle.std.specs.Prelude.{◌≡◌, ℕ, ◌+◌, ◌-◌, ◌<◌, ◌≤◌, Option, option_map, List, ◌++◌, length, map}
+use Rattle.std.specs.Prelude.{◌≡◌, ℕ, ◌+◌, ◌-◌, ◌<◌, ◌≤◌, Bool, Option, option_map, List, ◌++◌, length, map}
 use Rattle.ccp_base.specs.Limits.{most_acks}
 use Rattle.ccp_base.specs.declared.ack.Ack.{Ack}
 use Rattle.ccp_base.specs.declared.arithmetic.FaultKind.{FaultKind}
 use Rattle.ccp_base.specs.declared.exchange.Report.{Report}
 use Rattle.portus_core.specs.declared.env.Env.{Env}
-use Rattle.portus_core.specs.Epoch.{Outcome, Track, next_first}
+use Rattle.portus_core.specs.Epoch.{Outcome, Track, heard, next_first}
 use Rattle.portus_core.specs.Reports.{Epoch, reports_met}
+use Rattle.reg_code.specs.declared.code.Code.{Code}
+use Rattle.fold_machine.specs.declared.acked.Acked.{Acked}
+use Rattle.fold_machine.specs.MachineState.{MachineState}
 use Rattle.slot_pool.specs.Pool.{free_of}
 use Rattle.flow_core.specs.declared.state.State.{State}
+use Rattle.flow_core.specs.Readings.{by_code, env_of}
 use Rattle.flow_core.specs.World.{Failure, failures_met, untold_after, held_met, notice_of}
 use Rattle.flow_core.specs.Outbox.{AreOwned, Lies}
-use Rattle.flow_core.specs.States.{flow_of}
+use Rattle.flow_core.specs.Cores.{ran_by}
+use Rattle.flow_core.specs.States.{outcome_by, flow_of}
+
+-- ---- on the machine
+
+-- what an acknowledgement comes to on a machine with this code, and the env after it
+abbrev pub heard_on : Code → MachineState → Ack → Bool → Outcome (FaultKind × ℕ) × Env
+heard_on code machine ack room = heard (by_code code) machine.is_stopped (env_of machine.kept) ack room
+
+-- what it came to, by the machine's answer
+abbrev pub met_by : Acked → MachineState → Outcome (FaultKind × ℕ) × Env
+met_by acked machine = (outcome_by acked machine.report, env_of machine.kept)
+
+-- how many instructions it runs
+abbrev pub ran_on : Code → MachineState → Ack → Bool → ℕ
+ran_on code machine ack room = ran_by machine.is_stopped code (env_of machine.kept) ack room
+
+-- ---- what is put down
 
 -- the present epoch's number
 abbrev pub epoch_of : State → ℕ
@@ -35,6 +56,10 @@ pub record CanHear (s : State) : Type 0 where
   pub words : s.machine.further.words ≡ 160
   pub owned : AreOwned s.machine.further s.outbox.slots
 
+-- one more report may wait, and a slot is free for it
+abbrev pub HasPlace : State → Type 0
+HasPlace s = (length s.outbox.slots < s.outbox.size) × (0 < free_of s.machine.further)
+
 -- what an outcome with this env changes
 pub record PutDown (old new : State) (ack : Ack) (met : Outcome (FaultKind × ℕ) × Env) : Type 0 where
   pub frame : new ≡ record old { machine = new.machine; outbox = new.outbox; first = new.first; faults = new.faults; held = new.held }
@@ -51,3 +76,8 @@ pub record PutDown (old new : State) (ack : Ack) (met : Outcome (FaultKind × �
   pub faults : new.faults.items ≡ old.faults.items ++ map (notice_of (flow_of old)) (failures_of old ack met)
   pub room : new.faults.room ≡ old.faults.room
   pub held : new.held ≡ old.held + held_met met.0
+
+-- an acknowledgement changes no more of what is kept
+abbrev pub HearingFrame : State → State → Type 0
+HearingFrame old new =
+    new ≡ record old { machine = new.machine; outbox = new.outbox; first = new.first; faults = new.faults; held = new.held; acks = new.acks }

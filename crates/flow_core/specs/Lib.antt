@@ -11,7 +11,10 @@ pub mod WordLaws
 pub mod Books
 pub mod Cores
 pub mod States
+pub mod Opening
 pub mod Hearing
+pub mod Taking
 pub mod Settling
 pub mod Cells
 pub mod LiveText
+pub mod LettersLeft

@@ -1,11 +1,11 @@
 -- What a contract sees of an outbox, and how waiting reports lie in slots.
-use Rattle.std.specs.Prelude.{◌≡◌, ◌≢◌, ℕ, ◌-◌, ◌^◌, ◌<◌, ◌≤◌, List, [], ◌∷◌, ◌++◌, length, take, slice_index, Option, Some, None, option_map}
+use Rattle.std.specs.Prelude.{◌≡◌, ◌≢◌, ℕ, ◌+◌, ◌-◌, ◌^◌, ◌<◌, ◌≤◌, List, [], ◌∷◌, ◌++◌, length, take, drop, slice_index, Option, Some, None, option_map}
 use Rattle.ccp_base.specs.Limits.{most_fields}
 use Rattle.ccp_base.specs.declared.exchange.Notice.{Notice}
 use Rattle.ccp_base.specs.declared.exchange.Report.{Report}
 use Rattle.ccp_base.specs.declared.exchange.Told.{Told}
 use Rattle.ccp_base.specs.declared.exchange.Told.TheVariants as told
-use Rattle.slot_pool.specs.Pool.{PoolState, words_at, IsOut, ChangesSlot}
+use Rattle.slot_pool.specs.Pool.{PoolState, words_at, free_of, IsOut, ChangesSlot}
 
 -- the slots of the waiting reports, the oldest first; the notice that is untold, or none; and how many reports may wait
 pub record OutboxState : Type 0 where
@@ -80,6 +80,26 @@ pub record Lies (pool : PoolState) (slots : List ℕ) (reports : List Report) : 
   pub owned : AreOwned pool slots
   pub held : AreHeld pool slots reports
 
+-- ---- what a call changes of a pool and of the slots of the waiting reports
+
+-- whatever reports waited before, this one waits at their end afterwards
+abbrev pub Gains : Report → PoolState → List ℕ → PoolState → List ℕ → Type 0
+Gains report pool slots after slots_after =
+    (reports : List Report) → Lies pool slots reports → Lies after slots_after (reports ++ report ∷ [])
+
+-- whatever reports waited before, all but the first wait afterwards
+abbrev pub LosesFirst : PoolState → List ℕ → PoolState → List ℕ → Type 0
+LosesFirst pool slots after slots_after =
+    (reports : List Report) → Lies pool slots reports → Lies after slots_after (drop 1 reports)
+
+-- the free slots and those of waiting reports are as many as before
+abbrev pub AreAsMany : PoolState → List ℕ → PoolState → List ℕ → Type 0
+AreAsMany pool slots after slots_after = free_of after + length slots_after ≡ free_of pool + length slots
+
+-- no slot but this one changes
+abbrev pub ChangesOnly : ℕ → PoolState → PoolState → Type 0
+ChangesOnly slot old new = ChangesSlot old new slot (words_at new slot)
+
 -- ---- the end and the front of the list
 
 -- the slot at the list's end
@@ -95,6 +115,10 @@ GivesFirst old new (slot ∷ rest) = ChangesSlot old new slot None
 abbrev pub next_told : List Report → Option Notice → Option Told
 next_told [] untold = option_map told.Fault untold
 next_told (report ∷ rest) untold = Some (told.Report report)
+
+-- whatever reports wait in the slots, this is told next
+abbrev pub IsToldNext : Option Told → Option Notice → PoolState → List ℕ → Type 0
+IsToldNext told untold pool slots = (reports : List Report) → Lies pool slots reports → told ≡ next_told reports untold
 
 -- a notice stays untold while a report waits
 abbrev pub untold_after : List ℕ → Option Notice → Option Notice

@@ -1,11 +1,16 @@
 -- How the words of a report are written and read.
 use Rattle.std.specs.Prelude.{ℕ, ◌+◌, ◌-◌, ◌^◌, min, List, [], ◌∷◌, take, drop, slice_index, slice_set, Option, option_map}
 use Rattle.ccp_base.specs.declared.exchange.Report.{Report}
+use Rattle.slot_pool.specs.Pool.{PoolState, words_at, ChangesSlot}
 
 -- the words of a slot, with these written over them from a place on
 abbrev pub written_over : Option (List ℕ) → ℕ → List ℕ → Option (List ℕ)
 written_over held at [] = held
 written_over held at (word ∷ rest) = written_over (option_map (λ words. slice_set words at word) held) (at + 1) rest
+
+-- these words are written into a slot, from a place on, and no other slot changes
+abbrev pub WritesOver : ℕ → ℕ → List ℕ → PoolState → PoolState → Type 0
+WritesOver slot at words old new = ChangesSlot old new slot (written_over (words_at old slot) at words)
 
 -- a number of 32 bits that a word holds
 abbrev pub narrow : ℕ → ℕ

@@ -4,12 +4,28 @@ use Rattle.ccp_base.specs.declared.exchange.Reply.{Reply}
 use Rattle.ccp_base.specs.declared.exchange.Reply.TheVariants.{Nothing, Update, Change}
 use Rattle.ccp_base.specs.FieldReg.{Pair}
 use Rattle.ccp_base.specs.FieldReg.{first_bad}
+use Rattle.agent_core.specs.declared.ticket.Ticket.{Ticket}
+use Rattle.agent_core.specs.Answers.{after_of, reply_of}
 use Rattle.fold_machine.specs.MachineState.{Fits}
 use Rattle.fold_machine.specs.Heard.{started_by, updated_by}
+use Rattle.flow_core.specs.declared.book.TicketLine.{TicketLine}
 use Rattle.flow_core.specs.declared.case.Case.{Case}
 use Rattle.flow_core.specs.declared.state.State.{State}
 use Rattle.flow_core.specs.Readings.{code_at}
 use Rattle.flow_core.specs.World.{time_of}
+
+-- the line of a ticket that was taken at so many acknowledgements, where its answer is applied in this state
+abbrev pub next_line : State → Ticket → ℕ → TicketLine
+next_line s ticket taken = record {
+  told = ticket.told;
+  taken = taken;
+  answered = length s.acks.items;
+  reply = reply_of ticket;
+}
+
+-- that a ticket was answered changes the agent as the answer says, the ticket that is out, and the lines of tickets
+abbrev pub ClosingFrame : State → State → Ticket → Type 0
+ClosingFrame old new ticket = new ≡ record old { agent = after_of ticket; out = None; tickets = new.tickets }
 
 -- the code that a reply is for, while this program runs, has each control register that the values name
 abbrev pub AreGood : Case → ℕ → Reply → List Pair → Type 0
@@ -33,3 +49,18 @@ abbrev pub Obeys : State → State → Reply → List Pair → Type 0
 Obeys old new Nothing values = new ≡ old
 Obeys old new (Update cwnd) values = Updates old new values
 Obeys old new (Change program cwnd cap) values = Changes old new program values
+
+-- an answer changes no more of what is kept, and no ticket is out after it
+abbrev pub ApplyingFrame : State → State → Type 0
+ApplyingFrame old new =
+    new
+    ≡ record old {
+      machine = new.machine;
+      program = new.program;
+      first = new.first;
+      outbox = new.outbox;
+      agent = new.agent;
+      out = None;
+      tickets = new.tickets;
+      epochs = new.epochs;
+    }

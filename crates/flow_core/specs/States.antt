@@ -86,10 +86,14 @@ pub record IsReady (s : State) : Type 0 where
   pub word_room : 3 * s.case.acks ≤ s.word.room
   pub faults_room : s.case.acks ≤ s.faults.room
 
+-- one ticket and one epoch more have their room
+abbrev pub HaveRoom : RoomyState TicketLine → RoomyState EpochLine → Type 0
+HaveRoom tickets epochs = (length tickets.items < tickets.room) × (length epochs.items < epochs.room)
+
 -- the lines that the answer to the ticket that is out puts down have their room
 abbrev pub HasLines : Option Issued → RoomyState TicketLine → RoomyState EpochLine → Type 0
 HasLines None tickets epochs = Unit {0}
-HasLines (Some issued) tickets epochs = (length tickets.items < tickets.room) × (length epochs.items < epochs.room)
+HasLines (Some issued) tickets epochs = HaveRoom tickets epochs
 
 pub record IsCore (s : State) : Type 0 where
   pub keeps : Keeps s (world_of s)

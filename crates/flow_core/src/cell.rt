@@ -1,8 +1,8 @@
 ghost use Rattle.std.specs.Prelude.{◌≡◌, ◌+◌, ◌-◌, ◌≤◌, ◌↔◌, ◌∷◌, [], ◌++◌, ℕ, true, Some, Err, slice_get, length, IsOk, IsErr, IfOk, IfErr, OnOk, OnErr};
-ghost use Rattle.flow_core.specs.World.{track_of, after_ack, after_take, after_answer};
+ghost use Rattle.flow_core.specs.World.{track_of, after_take, after_answer};
 ghost use Rattle.flow_core.specs.Words.{is_still, legal, is_complete};
 ghost use Rattle.flow_core.specs.Books.{IsBookOf};
-ghost use Rattle.flow_core.specs.Cells.{flow_at, world_at, ack_at, acked_at, ran_at, out_at, out_number_at, IsComplete, IsLifted};
+ghost use Rattle.flow_core.specs.Cells.{flow_at, world_at, heard_at, acked_at, ran_at, out_at, out_number_at, IsComplete, IsLifted};
 
 use crate::book::Book;
 use crate::case::Case;
@@ -51,7 +51,7 @@ impl Cell {
     pub fn ack<L: Ledger>(&mut self, steps: &mut Steps<L>) -> Result<Acked, Ended>
         ensures ended { IsErr result ↔ (self.old.case.acks ≤ length (world_at self.old).acks) }
         ensures ok { OnOk result (self.new ≡ record self.old { word = self.old.word ++ Letter.A ∷ [] }) }
-        ensures world { OnOk result (world_at self.new ≡ after_ack (flow_at self.old) (ack_at self.old) (world_at self.old)) }
+        ensures world { OnOk result (world_at self.new ≡ heard_at self.old) }
         ensures acked { IfOk result (λ acked. acked ≡ acked_at self.old) }
         ensures steps { OnOk result (steps.new ≡ steps.old + ran_at self.old) }
         ensures unchanged { OnErr result (self.new ≡ self.old) }

@@ -1,8 +1,8 @@
 ghost use Rattle.std.specs.Prelude.{◌≡◌, ◌+◌, ◌-◌, ◌≤◌, ◌↔◌, ◌∷◌, [], ◌++◌, ℕ, true, Some, option_map, slice_get, length, Err, IsOk, IsErr, IfOk, IfErr, OnOk, OnErr};
-ghost use Rattle.flow_core.specs.World.{opening, track_of, after_ack, after_take, after_answer};
+ghost use Rattle.flow_core.specs.World.{track_of, after_take, after_answer};
 ghost use Rattle.flow_core.specs.Words.{is_still, legal_over};
 ghost use Rattle.flow_core.specs.Books.{IsBookOf};
-ghost use Rattle.flow_core.specs.Cores.{flow_in, world_in, acked_in, ran_in, out_in, out_number};
+ghost use Rattle.flow_core.specs.Cores.{flow_in, world_in, with_ack, heard_in, acked_in, ran_in, out_in, out_number};
 
 use crate::book::{Book, Given};
 use crate::case::Case;
@@ -79,8 +79,8 @@ impl Core {
     /// changed. `steps` counts the instructions that are run.
     pub fn ack<L: Ledger>(&mut self, ack: &Ack, steps: &mut Steps<L>) -> Result<Acked, Ended>
         ensures ended { IsErr result ↔ (self.old.case.acks ≤ length self.old.acks) }
-        ensures ok { OnOk result (self.new ≡ record self.old { acks = self.old.acks ++ ack.entry.now ∷ []; word = self.old.word ++ Letter.A ∷ [] }) }
-        ensures world { OnOk result (world_in self.new ≡ after_ack (flow_in self.old) ack.entry.now (world_in self.old)) }
+        ensures ok { OnOk result (self.new ≡ with_ack self.old ack.entry.now) }
+        ensures world { OnOk result (world_in self.new ≡ heard_in self.old ack.entry.now) }
         ensures acked { IfOk result (λ acked. acked ≡ acked_in self.old ack.entry.now) }
         ensures steps { OnOk result (steps.new ≡ steps.old + ran_in self.old ack.entry.now) }
         ensures unchanged { OnErr result (self.new ≡ self.old) }

@@ -1,15 +1,14 @@
 //! An acknowledgement: it is run, and what comes of it is put down.
 ghost use Rattle.std.specs.Prelude.{◌≡◌, ◌+◌, ◌-◌, ◌<◌, ◌≤◌, length, ◌∷◌, [], ◌++◌};
 ghost use Rattle.ccp_base.specs.Limits.{most_acks};
-ghost use Rattle.portus_core.specs.Epoch.{heard, stops, reported, failed};
+ghost use Rattle.portus_core.specs.Epoch.{stops};
 ghost use Rattle.fold_machine.specs.MachineState.{Fits};
 ghost use Rattle.slot_pool.specs.Pool.{free_of};
-ghost use Rattle.flow_core.specs.Readings.{by_code, env_of};
-ghost use Rattle.flow_core.specs.Cores.{ran_by, met_in, acked_as, ran_met};
+ghost use Rattle.flow_core.specs.Cores.{met_in, acked_as, ran_met};
 ghost use Rattle.flow_core.specs.World.{after_ack};
-ghost use Rattle.flow_core.specs.Outbox.{AreOwned, Lies};
+ghost use Rattle.flow_core.specs.Outbox.{AreOwned, AreAsMany, Gains};
 ghost use Rattle.flow_core.specs.States.{outcome_by, flow_of, world_of, Keeps, IsReady, IsCore};
-ghost use Rattle.flow_core.specs.Hearing.{epoch_of, CanHear, PutDown};
+ghost use Rattle.flow_core.specs.Hearing.{met_by, heard_on, ran_on, epoch_of, CanHear, HasPlace, PutDown, HearingFrame};
 
 use crate::outbox::Outbox;
 use crate::state::State;
@@ -27,11 +26,11 @@ pub(crate) fn run<L: Ledger>(
     steps: &mut Steps<L>,
 ) -> Acked
     requires { Fits machine.old code.now.code }
-    ensures met { heard (by_code code.now.code) machine.old.is_stopped (env_of machine.old.kept) ack.entry.now room ≡ (outcome_by result machine.new.report, env_of machine.new.kept) }
+    ensures met { heard_on code.now.code machine.old ack.entry.now room ≡ met_by result machine.new }
     ensures stopped { machine.new.is_stopped ≡ stops (outcome_by result machine.new.report) }
     ensures further { machine.new.further ≡ machine.old.further }
     ensures fits { Fits machine.new code.now.code }
-    ensures steps { steps.new ≡ steps.old + ran_by machine.old.is_stopped code.now.code (env_of machine.old.kept) ack.entry.now room }
+    ensures steps { steps.new ≡ steps.old + ran_on code.now.code machine.old ack.entry.now room }
 {
     machine.ack(code, ack, room, steps)
 }
@@ -44,8 +43,8 @@ pub(crate) fn put_report(machine: &mut Machine, outbox: &mut Outbox, report: &Re
     requires owned { AreOwned machine.old.further outbox.old.slots }
     ensures machine { machine.new ≡ record machine.old { further = machine.new.further } }
     ensures words { machine.new.further.words ≡ 160 }
-    ensures free { free_of machine.new.further + length outbox.new.slots ≡ free_of machine.old.further + length outbox.old.slots }
-    ensures lies { (reports : _) → Lies machine.old.further outbox.old.slots reports → Lies machine.new.further outbox.new.slots (reports ++ report.entry.now ∷ []) }
+    ensures free { AreAsMany machine.old.further outbox.old.slots machine.new.further outbox.new.slots }
+    ensures lies { Gains report.entry.now machine.old.further outbox.old.slots machine.new.further outbox.new.slots }
     ensures untold { outbox.new.untold ≡ outbox.old.untold }
     ensures size { outbox.new.size ≡ outbox.old.size }
 {
@@ -59,7 +58,7 @@ impl State {
         requires left { length self.old.acks.items < self.old.case.acks }
         ensures keeps { Keeps self.new (after_ack (flow_of self.old) ack.entry.now (world_of self.old)) }
         ensures ready { IsReady self.new }
-        ensures frame { self.new ≡ record self.old { machine = self.new.machine; outbox = self.new.outbox; first = self.new.first; faults = self.new.faults; held = self.new.held; acks = self.new.acks } }
+        ensures frame { HearingFrame self.old self.new }
         ensures acks { self.new.acks.items ≡ self.old.acks.items ++ ack.entry.now ∷ [] }
         ensures acked { result ≡ acked_as (met_in (flow_of self.old) (world_of self.old) ack.entry.now).0 }
         ensures steps { steps.new ≡ steps.old + ran_met self.old.case (world_of self.old) ack.entry.now }
@@ -84,8 +83,8 @@ impl State {
     /// Puts down what an acknowledgement came to, by the machine's answer.
     fn put_down(&mut self, ack: &Ack, acked: Acked)
         requires can { CanHear self.old }
-        requires room { acked ≡ Acked.Reported → (length self.old.outbox.slots < self.old.outbox.size) × (0 < free_of self.old.machine.further) }
-        ensures { PutDown self.old self.new ack.entry.now (outcome_by acked self.old.machine.report, env_of self.old.machine.kept) }
+        requires room { acked ≡ Acked.Reported → HasPlace self.old }
+        ensures { PutDown self.old self.new ack.entry.now (met_by acked self.old.machine) }
     {
         match acked {
             Acked::Quiet | Acked::Stopped => {}
@@ -100,7 +99,7 @@ impl State {
         requires can { CanHear self.old }
         requires room { length self.old.outbox.slots < self.old.outbox.size }
         requires free { 0 < free_of self.old.machine.further }
-        ensures { PutDown self.old self.new ack.entry.now (reported self.old.machine.report, env_of self.old.machine.kept) }
+        ensures { PutDown self.old self.new ack.entry.now (met_by Acked.Reported self.old.machine) }
     {
         let end = self.acks.len() as u64 + 1;
         let report = Report {
@@ -121,7 +120,7 @@ impl State {
     /// Puts down a fault of this kind at the instruction with this index.
     fn put_down_fault(&mut self, ack: &Ack, kind: FaultKind, index: u16)
         requires { CanHear self.old }
-        ensures { PutDown self.old self.new ack.entry.now (failed (kind, index), env_of self.old.machine.kept) }
+        ensures { PutDown self.old self.new ack.entry.now (met_by (Acked.Faulted kind index) self.old.machine) }
     {
         let notice = Notice {
             flow: self.case.flow,

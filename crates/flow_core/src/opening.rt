@@ -1,9 +1,9 @@
 //! A flow before its first letter.
 ghost use Rattle.std.specs.Prelude.{◌≡◌, [], IfOk};
-ghost use Rattle.fold_machine.specs.MachineState.{fresh_machine, Fits};
-ghost use Rattle.fold_machine.specs.Heard.{started_by};
-ghost use Rattle.agent_core.specs.Agents.{begun, course_of, values_of};
+ghost use Rattle.fold_machine.specs.MachineState.{Fits};
+ghost use Rattle.agent_core.specs.Agents.{course_of};
 ghost use Rattle.flow_core.specs.Readings.{code_at};
+ghost use Rattle.flow_core.specs.Opening.{opened_machine};
 ghost use Rattle.flow_core.specs.States.{IsCore};
 
 use crate::book::EpochLine;
@@ -25,7 +25,7 @@ const _: () = prove!(BYTES_PER_ACK <= 200);
 /// The machine of a case, which runs the program of the agent's opening change.
 fn opening_machine(alloc: Global, case: &Case, program: u32) -> Result<Machine, NoMemory>
     requires { program ≡ (course_of case.now.agent).ss.number }
-    ensures started { IfOk result (λ machine. machine ≡ started_by (code_at case.now program) (values_of case.now.agent (begun case.now.agent)) 0 (fresh_machine 0 0 case.now.slots)) }
+    ensures started { IfOk result (λ machine. machine ≡ opened_machine case.now program) }
     ensures fits { IfOk result (λ machine. Fits machine (code_at case.now program)) }
 {
     let mut machine = Machine::roomy(alloc, 0, 0, case.slots)?;

@@ -2,7 +2,7 @@ ghost use Rattle.std.specs.Prelude.{◌≡◌, ◌+◌, ◌<◌, ◌≤◌, ◌�
 ghost use Rattle.ccp_base.specs.Limits.{most_slots};
 ghost use Rattle.ccp_base.specs.declared.exchange.Report.{Report};
 ghost use Rattle.slot_pool.specs.Pool.{words_at, free_of, ChangesSlot};
-ghost use Rattle.flow_core.specs.Outbox.{empty_outbox, slot_words, AreOwned, AreWide, Lies, newest, GivesFirst, next_told, untold_after};
+ghost use Rattle.flow_core.specs.Outbox.{empty_outbox, slot_words, AreOwned, AreWide, AreAsMany, Gains, LosesFirst, ChangesOnly, newest, GivesFirst, IsToldNext, untold_after};
 
 use crate::report_words::{store, unload};
 use ccp_base::{NoMemory, Notice, Report, Told};
@@ -75,9 +75,9 @@ impl Outbox {
         ensures slots { self.new.slots ≡ self.old.slots ++ newest self.new.slots ∷ [] }
         ensures was_free { words_at (P.pool slots.old) (newest self.new.slots) ≡ None }
         ensures owned { AreOwned (P.pool slots.new) self.new.slots }
-        ensures lies { (reports : List Report) → Lies (P.pool slots.old) self.old.slots reports → Lies (P.pool slots.new) self.new.slots (reports ++ report.entry.now ∷ []) }
-        ensures others { ChangesSlot (P.pool slots.old) (P.pool slots.new) (newest self.new.slots) (words_at (P.pool slots.new) (newest self.new.slots)) }
-        ensures counted { free_of (P.pool slots.new) + length self.new.slots ≡ free_of (P.pool slots.old) + length self.old.slots }
+        ensures lies { Gains report.entry.now (P.pool slots.old) self.old.slots (P.pool slots.new) self.new.slots }
+        ensures others { ChangesOnly (newest self.new.slots) (P.pool slots.old) (P.pool slots.new) }
+        ensures counted { AreAsMany (P.pool slots.old) self.old.slots (P.pool slots.new) self.new.slots }
         ensures number { (P.pool slots.new).slots ≡ (P.pool slots.old).slots }
         ensures words { (P.pool slots.new).words ≡ (P.pool slots.old).words }
         ensures rest { P.rest slots.new ≡ P.rest slots.old }
@@ -93,13 +93,13 @@ impl Outbox {
     pub fn pop<P: Slots>(&mut self, slots: &mut P) -> Option<Told>
         requires wide { AreWide (P.pool slots.old) self.old.slots }
         requires owned { AreOwned (P.pool slots.old) self.old.slots }
-        ensures told { (reports : List Report) → Lies (P.pool slots.old) self.old.slots reports → result ≡ next_told reports self.old.untold }
+        ensures told { IsToldNext result self.old.untold (P.pool slots.old) self.old.slots }
         ensures none { IsNone result ↔ ((self.old.slots ≡ []) × (self.old.untold ≡ None)) }
         ensures slots { self.new.slots ≡ drop 1 self.old.slots }
         ensures owned { AreOwned (P.pool slots.new) self.new.slots }
-        ensures lies { (reports : List Report) → Lies (P.pool slots.old) self.old.slots reports → Lies (P.pool slots.new) self.new.slots (drop 1 reports) }
+        ensures lies { LosesFirst (P.pool slots.old) self.old.slots (P.pool slots.new) self.new.slots }
         ensures others { GivesFirst (P.pool slots.old) (P.pool slots.new) self.old.slots }
-        ensures counted { free_of (P.pool slots.new) + length self.new.slots ≡ free_of (P.pool slots.old) + length self.old.slots }
+        ensures counted { AreAsMany (P.pool slots.old) self.old.slots (P.pool slots.new) self.new.slots }
         ensures number { (P.pool slots.new).slots ≡ (P.pool slots.old).slots }
         ensures words { (P.pool slots.new).words ≡ (P.pool slots.old).words }
         ensures rest { P.rest slots.new ≡ P.rest slots.old }

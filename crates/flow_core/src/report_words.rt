@@ -3,7 +3,7 @@ ghost use Rattle.std.specs.Prelude.{◌≡◌, ◌+◌, ◌<◌, ◌≤◌, None
 ghost use Rattle.ccp_base.specs.declared.exchange.Report.{Report};
 ghost use Rattle.slot_pool.specs.Pool.{words_at, IsOut, free_of, ChangesSlot};
 ghost use Rattle.flow_core.specs.Outbox.{slot_words, report_head, IsInRange, Holds};
-ghost use Rattle.flow_core.specs.ReportWords.{written_over, narrow, report_in};
+ghost use Rattle.flow_core.specs.ReportWords.{WritesOver, narrow, report_in};
 
 use ccp_base::{Report, Values};
 use slot_pool::{Full, Slot, Slots};
@@ -58,7 +58,7 @@ fn write<P: Slots>(slots: &mut P, slot: &Slot, at: u32, words: &[u64])
     requires out { IsOut (P.pool slots.old) slot.now }
     requires within { at + length words.now ≤ slot_words }
     requires words { slot_words ≤ (P.pool slots.old).words }
-    ensures written { ChangesSlot (P.pool slots.old) (P.pool slots.new) slot.now (written_over (words_at (P.pool slots.old) slot.now) at words.now) }
+    ensures written { WritesOver slot.now at words.now (P.pool slots.old) (P.pool slots.new) }
     ensures out { IsOut (P.pool slots.new) slot.now }
     ensures counted { free_of (P.pool slots.new) ≡ free_of (P.pool slots.old) }
     ensures rest { P.rest slots.new ≡ P.rest slots.old }

@@ -3,12 +3,11 @@ ghost use Rattle.std.specs.Prelude.{◌≡◌, ◌+◌, ◌<◌, ◌≤◌, ◌�
 ghost use Rattle.ccp_base.specs.FieldReg.{first_bad};
 ghost use Rattle.ccp_base.specs.Limits.{most_acks};
 ghost use Rattle.fold_machine.specs.MachineState.{Fits};
-ghost use Rattle.agent_core.specs.Answers.{after_of, reply_of};
 ghost use Rattle.flow_core.specs.Readings.{code_at};
 ghost use Rattle.flow_core.specs.World.{time_of, after_answer};
 ghost use Rattle.flow_core.specs.Books.{out_ticket};
 ghost use Rattle.flow_core.specs.States.{flow_of, world_of, Keeps, IsReady, IsCore};
-ghost use Rattle.flow_core.specs.Settling.{AreGood, Updates, Changes, Obeys};
+ghost use Rattle.flow_core.specs.Settling.{AreGood, next_line, ClosingFrame, Updates, Changes, Obeys, ApplyingFrame};
 
 use crate::book::{EpochLine, TicketLine};
 use crate::letter::Letter;
@@ -59,7 +58,7 @@ impl State {
         requires before { answer.now.before ≡ self.old.agent }
         ensures keeps { Keeps self.new (after_answer (flow_of self.old) (world_of self.old)) }
         ensures ready { IsReady self.new }
-        ensures frame { self.new ≡ record self.old { machine = self.new.machine; program = self.new.program; first = self.new.first; outbox = self.new.outbox; agent = self.new.agent; out = None; tickets = self.new.tickets; epochs = self.new.epochs } }
+        ensures frame { ApplyingFrame self.old self.new }
     {
         let reply = answer.reply();
         let values = self.agent.values(&reply);
@@ -71,8 +70,8 @@ impl State {
     fn close(&mut self, taken: u32, answer: &Answer)
         requires room { length self.old.tickets.items < self.old.tickets.room }
         requires acks { length self.old.acks.items ≤ most_acks }
-        ensures tickets { self.new.tickets.items ≡ self.old.tickets.items ++ record { told = answer.now.told; taken = taken; answered = length self.old.acks.items; reply = reply_of answer.now } ∷ [] }
-        ensures frame { self.new ≡ record self.old { agent = after_of answer.now; out = None; tickets = self.new.tickets } }
+        ensures tickets { self.new.tickets.items ≡ self.old.tickets.items ++ next_line self.old answer.now taken ∷ [] }
+        ensures frame { ClosingFrame self.old self.new answer.now }
     {
         let line = TicketLine {
             told: answer.ticket().told,

@@ -1,12 +1,12 @@
 //! A report or a fault notice is taken as a ticket.
 ghost use Rattle.std.specs.Prelude.{◌≡◌, ◌+◌, ◌<◌, ◌≤◌, ◌↔◌, ◌∷◌, ◌++◌, true, IfOk, OnOk, OnErr, IsNone, None, Some, [], length, drop};
 ghost use Rattle.ccp_base.specs.Limits.{most_acks};
-ghost use Rattle.slot_pool.specs.Pool.{free_of};
 ghost use Rattle.flow_core.specs.World.{after_take};
 ghost use Rattle.flow_core.specs.Words.{can_take};
-ghost use Rattle.flow_core.specs.Outbox.{AreOwned, Lies, next_told, untold_after};
+ghost use Rattle.flow_core.specs.Outbox.{AreOwned, AreAsMany, LosesFirst, IsToldNext, untold_after};
 ghost use Rattle.flow_core.specs.Books.{out_ticket};
-ghost use Rattle.flow_core.specs.States.{flow_of, world_of, Keeps, IsReady, IsCore};
+ghost use Rattle.flow_core.specs.States.{flow_of, world_of, Keeps, IsReady, HaveRoom, IsCore};
+ghost use Rattle.flow_core.specs.Taking.{ticket_by, IssuingFrame};
 
 use crate::letter::Letter;
 use crate::outbox::Outbox;
@@ -19,12 +19,12 @@ use fold_machine::Machine;
 pub(crate) fn pop_told(machine: &mut Machine, outbox: &mut Outbox) -> Option<Told>
     requires words { machine.old.further.words ≡ 160 }
     requires owned { AreOwned machine.old.further outbox.old.slots }
-    ensures told { (reports : _) → Lies machine.old.further outbox.old.slots reports → result ≡ next_told reports outbox.old.untold }
+    ensures told { IsToldNext result outbox.old.untold machine.old.further outbox.old.slots }
     ensures none { IsNone result ↔ ((outbox.old.slots ≡ []) × (outbox.old.untold ≡ None)) }
     ensures machine { machine.new ≡ record machine.old { further = machine.new.further } }
     ensures words { machine.new.further.words ≡ 160 }
-    ensures free { free_of machine.new.further + length outbox.new.slots ≡ free_of machine.old.further + length outbox.old.slots }
-    ensures lies { (reports : _) → Lies machine.old.further outbox.old.slots reports → Lies machine.new.further outbox.new.slots (drop 1 reports) }
+    ensures free { AreAsMany machine.old.further outbox.old.slots machine.new.further outbox.new.slots }
+    ensures lies { LosesFirst machine.old.further outbox.old.slots machine.new.further outbox.new.slots }
     ensures untold { outbox.new.untold ≡ untold_after outbox.old.slots outbox.old.untold }
     ensures size { outbox.new.size ≡ outbox.old.size }
 {
@@ -48,7 +48,7 @@ impl State {
         ensures frame { self.new ≡ record self.old { tickets = self.new.tickets; epochs = self.new.epochs } }
         ensures tickets { self.new.tickets.items ≡ self.old.tickets.items }
         ensures epochs { self.new.epochs.items ≡ self.old.epochs.items }
-        ensures room { OnOk result ((length self.new.tickets.items < self.new.tickets.room) × (length self.new.epochs.items < self.new.epochs.room)) }
+        ensures room { OnOk result (HaveRoom self.new.tickets self.new.epochs) }
     {
         self.tickets.reserve(1)?;
         self.epochs.reserve(1)?;
@@ -81,7 +81,7 @@ impl State {
         requires some { can_take (world_of self.old) ≡ true }
         ensures keeps { Keeps self.new (after_take (world_of self.old)) }
         ensures ready { IsReady self.new }
-        ensures frame { self.new ≡ record self.old { machine = self.new.machine; outbox = self.new.outbox; out = self.new.out } }
+        ensures frame { IssuingFrame self.old self.new }
         ensures ticket { Some result ≡ out_ticket (flow_of self.old) (after_take (world_of self.old)) }
     {
         let Some(told) = pop_told(&mut self.machine, &mut self.outbox) else {
@@ -96,7 +96,7 @@ impl State {
     /// The ticket that tells this.
     pub(crate) fn ticket(&self, told: &Told) -> Ticket
         requires { length self.now.tickets.items ≤ most_acks }
-        ensures { result ≡ record { flow = self.now.case.flow; number = length self.now.tickets.items; before = self.now.agent; told = told.now } }
+        ensures { result ≡ ticket_by self.now told.now }
     {
         Ticket {
             flow: self.case.flow,

@@ -29,7 +29,7 @@ use Rattle.flow_core.proofs.LiftLemmas.{lift}
 use Rattle.flow_core.proofs.SimulatedEpochs.{after-simulated}
 use Rattle.campaign_gate.specs.CampaignWord.{is_late, is_due}
 use Rattle.campaign_gate.specs.CampaignRow.{lost_in, timeouts_in, acked_in, window_of, row_over}
-use Rattle.campaign_gate.specs.Walks.{letters_left}
+use Rattle.flow_core.specs.LettersLeft.{letters_left}
 use Rattle.shared_flow.specs.LiftedFlow.{IsLifted}
 use Rattle.shared_flow.proofs.LikeFlows.{AreLike, alike}
 

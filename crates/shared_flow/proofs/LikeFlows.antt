@@ -12,7 +12,7 @@ use Rattle.flow_core.specs.WordLaws.{world_over-append}
 use Rattle.flow_core.specs.Cores.{CoreState}
 use Rattle.campaign_gate.specs.CampaignWord.{is_due, first_letter}
 use Rattle.campaign_gate.specs.CampaignRow.{window_of, row_over}
-use Rattle.campaign_gate.specs.Walks.{letters_left}
+use Rattle.flow_core.specs.LettersLeft.{letters_left}
 use Rattle.shared_flow.specs.RoundLetters.{Read, with_ack, next_letter, with_next, settled_in, settled, heard, part}
 use Rattle.shared_flow.specs.FlowRow.{peak_from, peak_of}
 use Rattle.shared_flow.specs.LiftedFlow.{AreAlike}

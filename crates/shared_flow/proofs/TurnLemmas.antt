@@ -9,8 +9,8 @@ use Rattle.flow_core.specs.Words.{from_list, after_letter, can_take, is_legal, i
 use Rattle.flow_core.specs.WordLaws.{world_over-append}
 use Rattle.flow_core.specs.Cores.{CoreState}
 use Rattle.campaign_gate.specs.CampaignWord.{is_late, first_letter}
-use Rattle.campaign_gate.specs.Walks.{letters_left}
-use Rattle.campaign_gate.proofs.LeftLemmas.{left-letter}
+use Rattle.flow_core.specs.LettersLeft.{letters_left}
+use Rattle.flow_core.proofs.LeftLemmas.{left-letter}
 use Rattle.shared_flow.specs.RoundLetters.{Read, state_of, with_ack, with_letter, is_answered, next_letter, with_next, settled_in, settled, heard, part}
 
 -- ---- which letter is next

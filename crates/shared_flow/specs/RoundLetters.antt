@@ -9,7 +9,7 @@ use Rattle.flow_core.specs.World.{World}
 use Rattle.flow_core.specs.Words.{world_over, is_legal}
 use Rattle.flow_core.specs.Cores.{CoreState}
 use Rattle.campaign_gate.specs.CampaignWord.{is_due, first_letter}
-use Rattle.campaign_gate.specs.Walks.{letters_left}
+use Rattle.flow_core.specs.LettersLeft.{letters_left}
 
 -- a reading of cases: over their codes, or over the sources of programs
 abbrev pub Read : Type 0 → Type 0

@@ -1,5 +1,5 @@
 use Rattle.std.proofs.Common.{◌≡◌}
-use Rattle.agent_loop.specs.LettersLeft.{left_at}
+use Rattle.flow_core.specs.LettersLeft.{left_at}
 use Rattle.agent_loop.proofs.books.finished.Given as goal
 
 abbrev pub invariant-loop-alloc : goal.invariant-loop-alloc

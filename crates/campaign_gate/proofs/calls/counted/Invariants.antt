@@ -1,5 +1,6 @@
 use Rattle.std.proofs.Common.{◌≡◌}
-use Rattle.campaign_gate.specs.Walks.{left_at, IsOnWay}
+use Rattle.flow_core.specs.LettersLeft.{left_at}
+use Rattle.campaign_gate.specs.Walks.{IsOnWay}
 use Rattle.campaign_gate.proofs.calls.counted.Given as goal
 
 abbrev pub invariant-loop-alloc : goal.invariant-loop-alloc

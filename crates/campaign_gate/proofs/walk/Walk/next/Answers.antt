@@ -2,7 +2,8 @@ use Rattle.std.proofs.Common.{◌≡◌, ◌<◌, Bool, Some, true, false, sym, 
 use Rattle.flow_core.specs.declared.letter.Letter.TheVariants.{A, T, C}
 use Rattle.flow_core.specs.Cells.{flow_at, world_at}
 use Rattle.campaign_gate.specs.declared.walk.Walk.{Walk}
-use Rattle.campaign_gate.specs.Walks.{left_at, next_at, IsOnWay, Makes}
+use Rattle.flow_core.specs.LettersLeft.{left_at}
+use Rattle.campaign_gate.specs.Walks.{next_at, IsOnWay, Makes}
 use Rattle.campaign_gate.specs.Tried.{Tried}
 use Rattle.campaign_gate.proofs.PlanLemmas.{next-C, next-A}
 use Rattle.campaign_gate.proofs.WalkLemmas.{on-made, fewer-left}

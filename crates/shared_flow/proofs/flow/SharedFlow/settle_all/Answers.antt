@@ -1,7 +1,7 @@
 use Rattle.std.proofs.Common.{◌≡◌, ◌<◌, Bool, true, false, sym, ap, ◌∙◌, subst}
 use Rattle.flow_core.specs.Readings.{over_codes}
 use Rattle.flow_core.specs.Cores.{CoreState}
-use Rattle.campaign_gate.specs.Walks.{letters_left}
+use Rattle.flow_core.specs.LettersLeft.{letters_left}
 use Rattle.shared_flow.specs.RoundLetters.{state_of, settled}
 use Rattle.shared_flow.specs.OnWay.{Turned}
 use Rattle.shared_flow.proofs.TurnLemmas.{fewer, settled-turn, settled-none}

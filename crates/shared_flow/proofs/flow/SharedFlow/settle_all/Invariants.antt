@@ -1,6 +1,6 @@
 use Rattle.std.proofs.Common.{◌≡◌}
 use Rattle.flow_core.specs.Readings.{over_codes}
-use Rattle.campaign_gate.specs.Walks.{letters_left}
+use Rattle.flow_core.specs.LettersLeft.{letters_left}
 use Rattle.shared_flow.specs.RoundLetters.{state_of, settled}
 use Rattle.shared_flow.proofs.flow.SharedFlow.settle_all.Given as goal
 

@@ -17,10 +17,10 @@ use Rattle.link_model.specs.Link.{ack_after}
 use Rattle.flow_core.specs.declared.letter.Letter.{Letter}
 use Rattle.flow_core.specs.declared.letter.Letter.TheVariants.{A, T, C}
 use Rattle.flow_core.specs.Readings.{Flow}
-use Rattle.flow_core.specs.World.{Failure, Taken, World, track_of, has_room, with_met, after_ack, taking, with_taken, told_as, with_turn, answer_applied}
+use Rattle.flow_core.specs.World.{Failure, Taken, World, track_of, has_room, with_met, after_ack, taking, with_taken, after_take, told_as, with_turn, answer_applied, after_answer}
 use Rattle.flow_core.specs.Words.{from_link, after_letter, can_take, is_legal}
 use Rattle.flow_core.specs.States.{some_count}
-use Rattle.campaign_gate.specs.Walks.{letters_left}
+use Rattle.flow_core.specs.LettersLeft.{letters_left}
 
 some_count-most : {Y : Type 0} (option : Option Y) → some_count option ≤ 1
 some_count-most None = omega arith
@@ -44,7 +44,7 @@ module _ {X : Type 0} (flow : Flow X) where
       → length w.acks < flow.acks → letters_left flow (with_met flow ack room track met w) < letters_left flow w
   left-heard ack room track (outcome, env) w more = left-met ack room track outcome env w more
 
-  left-ack : (ack : Ack) (w : World X) → length w.acks < flow.acks → letters_left flow (after_ack flow ack w) < letters_left flow w
+  pub left-ack : (ack : Ack) (w : World X) → length w.acks < flow.acks → letters_left flow (after_ack flow ack w) < letters_left flow w
   left-ack ack w more =
       let track = track_of flow w in
       left-heard ack (has_room flow w) track (heard (flow.reading w.present.program) track.is_stopped track.env ack (has_room flow w)) w more
@@ -82,11 +82,16 @@ module _ {X : Type 0} (flow : Flow X) where
   can-out None can both = both
   can-out (Some ticket) can both = absurd (let wrong : false ≡ true = both in (cc))
 
+  pub left-take : (w : World X) → (is_none w.out && can_take w) ≡ true → letters_left flow (after_take w) < letters_left flow w
+  left-take w may = left-taking w.waiting w.untold w refl refl (can-out w.out (can_take w) may) (none-out w.out (can_take w) may)
+
+  pub left-answer : (w : World X) → is_some w.out ≡ true → letters_left flow (after_answer flow w) < letters_left flow w
+  left-answer w some = left-applied w.out w refl some
+
   -- a legal letter leaves fewer
   pub left-letter : (link : LinkCase) (letter : Letter) (w : World X) → is_legal flow w letter ≡ true
       → letters_left flow (after_letter flow (from_link flow link) w letter) < letters_left flow w
   left-letter link A w may =
       left-ack (ack_after link w.windows (track_of flow w).env.cwnd) w (ltb-true (length w.acks) flow.acks may)
-  left-letter link T w may =
-      left-taking w.waiting w.untold w refl refl (can-out w.out (can_take w) may) (none-out w.out (can_take w) may)
-  left-letter link C w may = left-applied w.out w refl may
+  left-letter link T w may = left-take w may
+  left-letter link C w may = left-answer w may

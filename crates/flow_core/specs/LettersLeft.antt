@@ -1,5 +1,5 @@
 -- How many letters a flow's word can have yet.
-use Rattle.std.specs.Prelude.{◌≡◌, ℕ, ◌+◌, ◌-◌, ◌*◌, ◌<◌, length}
+use Rattle.std.specs.Prelude.{ℕ, ◌+◌, ◌-◌, ◌*◌, length}
 use Rattle.flow_core.specs.Readings.{Flow}
 use Rattle.flow_core.specs.World.{World}
 use Rattle.flow_core.specs.States.{some_count}
@@ -12,8 +12,3 @@ letters_left flow w =
 
 abbrev pub left_at : CellState → ℕ
 left_at cell = letters_left (flow_at cell) (world_at cell)
-
--- the same flow, nearer to the end of its word
-pub record IsNearer (old new : CellState) : Type 0 where
-  pub case : new.case ≡ old.case
-  pub fewer : left_at new < left_at old
