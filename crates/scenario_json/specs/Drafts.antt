@@ -1,5 +1,6 @@
 -- What a part that was read says, in the words of the scenario's definition.
-use Rattle.std.specs.Prelude.{ℕ, Result, List, [], String, Global}
+use Rattle.std.specs.Prelude.{ℕ, Result, List, [], String}
+use Rattle.std.specs.declared.alloc.Global.{Global}
 use Rattle.serde_json.specs.View.{items_view}
 use Rattle.serde_json.specs.declared.value.Value.{Value}
 use Rattle.scenario_json.specs.declared.draft.Draft.{Draft}
