@@ -9,7 +9,7 @@ use Rattle.ccp_base.specs.Text.{◌⧺◌}
 use Rattle.flow_core.specs.declared.book.EpochLine.{EpochLine}
 use Rattle.flow_core.specs.Books.{epoch_line}
 use Rattle.flow_core.specs.World.{Failure}
-use Rattle.scenario_json.specs.ScenePrograms.{Reading}
+use Rattle.scenario_json.specs.ScenePrograms.{TextReading}
 use Rattle.open_flow.specs.declared.book.OpenBook.{OpenBook}
 use Rattle.open_flow.specs.BuiltTexts.{EntryState}
 use Rattle.open_flow.specs.Entries.{place_at}
@@ -65,7 +65,7 @@ module _ (entries : List EntryState) (flow : ℕ) where
 
 -- ---- a book
 
-module _ (read : Reading) (book : OpenBook) (told : IsTold read book) where
+module _ (read : TextReading) (book : OpenBook) (told : IsTold read book) where
   abbrev w : OpenWorld
   w = install_world read book.case book.word
 
@@ -103,7 +103,7 @@ module _ (read : Reading) (book : OpenBook) (told : IsTold read book) where
   book-part = ap (λ (account : OpenAccount). account_text book.case account) accounts
 
 -- the text of books that tell what their words came to
-pub books-rollout : (read : Reading) (books : List OpenBook) → All (IsTold read) books → books_text books ≡ rollout_text read (flows_of books)
+pub books-rollout : (read : TextReading) (books : List OpenBook) → All (IsTold read) books → books_text books ≡ rollout_text read (flows_of books)
 books-rollout read [] told = refl
 books-rollout read (book ∷ rest) told =
     let first = book-part read book (told 0 book (omega arith)) in

@@ -6,7 +6,7 @@ use Rattle.ccp_base.specs.declared.ack.Ack.{Ack}
 use Rattle.portus_core.specs.Programs.{Form}
 use Rattle.portus_core.specs.Epoch.{acknowledged}
 use Rattle.flow_core.specs.World.{Era, with_event}
-use Rattle.scenario_json.specs.ScenePrograms.{Reading}
+use Rattle.scenario_json.specs.ScenePrograms.{TextReading}
 use Rattle.scenario_json.specs.declared.open_case.OpenCase.{OpenCase}
 use Rattle.open_flow.specs.OpenWorld.{Installed, Running, OpenWorld, was_started, first_left, run_in, after_ack, with_entry, after_install, eras_in, eras_of, next_of, with_next, after_change, running_of, cwnd_of}
 use Rattle.live_install.specs.LettersLeft.{one_unless, changes_left, letters_left}
@@ -104,7 +104,7 @@ left-event past era other same step (Err refusal ∷ rest) = left-event past era
 
 -- ---- letters
 
-module _ (read : Reading) (case : OpenCase) where
+module _ (read : TextReading) (case : OpenCase) where
   left-run : (ack : Ack) (w : OpenWorld) (present : Option Running) → w.present ≡ present
       → letters_left case (run_in case ack present w) ≡ letters_left case w
   left-run ack w None is = refl

@@ -14,7 +14,7 @@ use Rattle.portus_core.specs.Value.{Cause}
 use Rattle.portus_core.proofs.EventLaws.{after-append}
 use Rattle.flow_core.specs.World.{Failure, Era, failures_met}
 use Rattle.scenario_json.specs.declared.open_case.OpenCase.{OpenCase}
-use Rattle.scenario_json.specs.ScenePrograms.{Reading}
+use Rattle.scenario_json.specs.ScenePrograms.{TextReading}
 use Rattle.open_flow.specs.declared.letter.OpenLetter.{OpenLetter}
 use Rattle.open_flow.specs.declared.letter.OpenLetter.TheVariants.{A, I, G}
 use Rattle.open_flow.specs.OpenWorld.{Running, OpenWorld, opening, track_of, track_in, track_now, run_in, with_entry, eras_in, eras_of, next_of, with_next, cwnd_of}
@@ -98,7 +98,7 @@ few-met : (program epoch at : ℕ) (form : Form) (before : Bool) (env : Env) (ac
 few-met program epoch at form true env ack = tt
 few-met program epoch at form false env ack = few-outcome program epoch at ack (one_of form env ack true).0 (one_of form env ack true).1
 
-module _ (read : Reading) (case : OpenCase) where
+module _ (read : TextReading) (case : OpenCase) where
   stops-run : (ack : Ack) (w : OpenWorld) (present : Option Running) → w.present ≡ present → Stops present w.past w.faults → StopsIn (run_in case ack present w)
   stops-run ack w None is so_far = subst (λ (p : Option Running). Stops p w.past w.faults) (sym is) so_far
   stops-run ack w (Some running) is so_far =

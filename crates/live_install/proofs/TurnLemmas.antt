@@ -2,14 +2,14 @@
 use Rattle.std.specs.Prelude.{◌≡◌, ◌≢◌, ◌<◌, Bool, true, false, not, is_some, ◌&&◌, Option, Some, None, option_map, List, ℕ, length, slice_get, refl}
 use Rattle.std.proofs.Common.{arith}
 use Rattle.portus_core.specs.Programs.{Form}
-use Rattle.scenario_json.specs.ScenePrograms.{Reading}
+use Rattle.scenario_json.specs.ScenePrograms.{TextReading}
 use Rattle.open_flow.specs.OpenWorld.{OpenWorld, after_ack, after_install, after_change, next_of}
 use Rattle.open_flow.specs.OpenCells.{OpenState, world_at, ack_at, next_at}
 use Rattle.live_install.specs.LettersLeft.{letters_left, left_at, IsNearer}
 use Rattle.live_install.proofs.LeftLemmas.{left-ack, left-install, left-change}
 
 -- a flow of the same case, whose state has fewer letters left
-pub nearer : (read : Reading) (old new : OpenState) (w : OpenWorld) → new.case ≡ old.case → world_at read new ≡ w
+pub nearer : (read : TextReading) (old new : OpenState) (w : OpenWorld) → new.case ≡ old.case → world_at read new ≡ w
     → letters_left old.case w < left_at read old → IsNearer read old new
 nearer read old new w case world less =
     let same : left_at read new ≡ letters_left old.case w = λ i. letters_left (case i) (world i) in
@@ -34,7 +34,7 @@ acks-left false true change complete no_entry none = absurd (let wrong : true �
 acks-left false false true complete no_entry none = absurd (let wrong : true ≡ false = none in (cc))
 acks-left false false false complete no_entry none = absurd (let wrong : true ≡ false = complete in (cc))
 
-module _ (read : Reading) (old new : OpenState) where
+module _ (read : TextReading) (old new : OpenState) where
   pub nearer-A : new.case ≡ old.case → world_at read new ≡ after_ack old.case (ack_at read old) (world_at read old)
       → length (world_at read old).acks < old.case.acks → IsNearer read old new
   nearer-A case world more =

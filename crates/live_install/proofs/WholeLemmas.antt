@@ -5,7 +5,7 @@ use Rattle.std.proofs.Common.{arith, ap, sym, ◌∙◌, subst, append_assoc}
 use Rattle.std.proofs.lemmas.List.{map-append}
 use Rattle.std.proofs.lemmas.List.Elements.{All-push}
 use Rattle.scenario_json.specs.declared.open_case.OpenCase.{OpenCase}
-use Rattle.scenario_json.specs.ScenePrograms.{Reading}
+use Rattle.scenario_json.specs.ScenePrograms.{TextReading}
 use Rattle.open_flow.specs.declared.book.OpenBook.{OpenBook}
 use Rattle.open_flow.specs.declared.letter.OpenLetter.{OpenLetter}
 use Rattle.open_flow.specs.OpenWords.{install_world, legal, is_complete}
@@ -14,7 +14,7 @@ use Rattle.open_flow.specs.OpenCells.{OpenState, world_at, IsComplete}
 use Rattle.live_install.specs.Tables.{case_of}
 use Rattle.live_install.specs.WholeBooks.{flow_of, IsWhole, case_in}
 
-pub whole : (read : Reading) (cell : OpenState) (book : OpenBook) → book.case ≡ cell.case → book.word ≡ cell.word → IsComplete read cell
+pub whole : (read : TextReading) (cell : OpenState) (book : OpenBook) → book.case ≡ cell.case → book.word ≡ cell.word → IsComplete read cell
     → legal read cell.case cell.word ≡ true → IsOpenBookOf (world_at read cell) book → IsWhole read book
 whole read cell book case word complete legal_word told =
     let same : (cell.case, cell.word) ≡ flow_of book = sym (λ i. (case i, word i)) in
@@ -45,5 +45,5 @@ module _ (cases : List OpenCase) (books more : List OpenBook) (rest : List OpenS
       ap (λ (c : OpenCase). map case_in books ++ (c ∷ map case_of after)) so in
       parts ∙ (apart ∙ (joined ∙ (same ∙ whole_list)))
 
-  pub all-whole : (read : Reading) → more ≡ books ++ book ∷ [] → All (IsWhole read) books → IsWhole read book → All (IsWhole read) more
+  pub all-whole : (read : TextReading) → more ≡ books ++ book ∷ [] → All (IsWhole read) books → IsWhole read book → All (IsWhole read) more
   all-whole read grown all is_whole = subst (All (IsWhole read)) (sym grown) (All-push (IsWhole read) books book all is_whole)

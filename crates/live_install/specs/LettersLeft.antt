@@ -1,6 +1,6 @@
 -- How many letters a flow's word can have yet.
 use Rattle.std.specs.Prelude.{◌≡◌, ℕ, ◌+◌, ◌-◌, ◌*◌, ◌<◌, Bool, true, false, Ok, Err, List, [], ◌∷◌, length}
-use Rattle.scenario_json.specs.ScenePrograms.{Reading}
+use Rattle.scenario_json.specs.ScenePrograms.{TextReading}
 use Rattle.scenario_json.specs.declared.open_case.OpenCase.{OpenCase}
 use Rattle.flow_core.specs.World.{Era}
 use Rattle.open_flow.specs.OpenWorld.{Installed, OpenWorld, eras_of, was_started}
@@ -21,10 +21,10 @@ abbrev pub letters_left : OpenCase → OpenWorld → ℕ
 letters_left case w =
     (case.acks - length w.acks) + (2 * (length case.steps - length w.entries) + changes_left (eras_of w) 0 w.entries)
 
-abbrev pub left_at : Reading → OpenState → ℕ
+abbrev pub left_at : TextReading → OpenState → ℕ
 left_at read cell = letters_left cell.case (world_at read cell)
 
 -- the same flow, nearer to the end of its word
-pub record IsNearer (read : Reading) (old new : OpenState) : Type 0 where
+pub record IsNearer (read : TextReading) (old new : OpenState) : Type 0 where
   pub case : new.case ≡ old.case
   pub fewer : left_at read new < left_at read old

@@ -15,7 +15,7 @@ use Rattle.flow_core.specs.declared.book.EpochLine.{EpochLine}
 use Rattle.flow_core.specs.World.{Failure}
 use Rattle.flow_core.specs.Books.{epoch_line}
 use Rattle.scenario_json.specs.declared.open_case.OpenCase.{OpenCase}
-use Rattle.scenario_json.specs.ScenePrograms.{Reading}
+use Rattle.scenario_json.specs.ScenePrograms.{TextReading}
 use Rattle.open_flow.specs.declared.letter.OpenLetter.{OpenLetter}
 use Rattle.open_flow.specs.OpenWorld.{Installed, OpenWorld, eras_of, track_now}
 use Rattle.open_flow.specs.OpenWords.{install_world}
@@ -139,6 +139,6 @@ abbrev pub open_part : OpenCase → OpenWorld → List ℕ
 open_part case w = account_text case (account_of case w)
 
 -- the text of flows, each a case and its word
-abbrev pub rollout_text : Reading → List (OpenCase × List OpenLetter) → List ℕ
+abbrev pub rollout_text : TextReading → List (OpenCase × List OpenLetter) → List ℕ
 rollout_text read [] = []
 rollout_text read (flow ∷ rest) = open_part flow.0 (install_world read flow.0 flow.1) ⧺ rollout_text read rest

@@ -1,14 +1,14 @@
 -- What a book of a rollout is: it tells what a legal and complete word of its case came to.
 use Rattle.std.specs.Prelude.{◌≡◌, true, List, map}
 use Rattle.scenario_json.specs.declared.open_case.OpenCase.{OpenCase}
-use Rattle.scenario_json.specs.ScenePrograms.{Reading}
+use Rattle.scenario_json.specs.ScenePrograms.{TextReading}
 use Rattle.open_flow.specs.declared.book.OpenBook.{OpenBook}
 use Rattle.open_flow.specs.declared.letter.OpenLetter.{OpenLetter}
 use Rattle.open_flow.specs.OpenWords.{install_world, legal, is_complete}
 use Rattle.open_flow.specs.OpenBooks.{IsOpenBookOf}
 
 -- the word is legal and complete for the case
-pub record IsHistory (read : Reading) (flow : OpenCase × List OpenLetter) : Type 0 where
+pub record IsHistory (read : TextReading) (flow : OpenCase × List OpenLetter) : Type 0 where
   pub legal : legal read flow.0 flow.1 ≡ true
   pub complete : is_complete flow.0 (install_world read flow.0 flow.1) ≡ true
 
@@ -20,10 +20,10 @@ abbrev pub flows_of : List OpenBook → List (OpenCase × List OpenLetter)
 flows_of books = map flow_of books
 
 -- the book tells what its word came to
-abbrev pub IsTold : Reading → OpenBook → Type 0
+abbrev pub IsTold : TextReading → OpenBook → Type 0
 IsTold read book = IsOpenBookOf (install_world read book.case book.word) book
 
-pub record IsWhole (read : Reading) (book : OpenBook) : Type 0 where
+pub record IsWhole (read : TextReading) (book : OpenBook) : Type 0 where
   pub history : IsHistory read (flow_of book)
   pub told : IsTold read book
 

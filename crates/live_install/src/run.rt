@@ -2,7 +2,7 @@ ghost use Rattle.std.specs.Prelude.{◌≡◌, ◌≤◌, IfOk, length, map};
 ghost use Rattle.std.specs.List.{All};
 ghost use Rattle.ccp_base.specs.Limits.{most_flows, most_workers};
 ghost use Rattle.scenario_json.specs.OpenCases.{AreOpenFlowsFrom};
-ghost use Rattle.scenario_json.specs.ScenePrograms.{Reading, IsReading};
+ghost use Rattle.scenario_json.specs.ScenePrograms.{TextReading, IsReading};
 ghost use Rattle.live_install.specs.WholeBooks.{IsWhole, case_in};
 
 use crate::OpenBooks;
@@ -39,10 +39,10 @@ pub fn rollout<R: Threads + Wait + Sync, G: Gate + Sync>(
     requires few { length cases ≤ most_flows }
     requires numbered { AreOpenFlowsFrom 0 cases }
     // There is a reading of program texts: each text comes to a program, or to its first refusal.
-    ensures readable { (read : Reading) × IsReading read }
+    ensures readable { (read : TextReading) × IsReading read }
     // The books are those of the cases, and over every reading each tells of a legal and complete word.
     ensures cases { IfOk result (λ books. map case_in books ≡ cases) }
-    ensures whole { (read : Reading) → IsReading read → IfOk result (λ books. All (IsWhole read) books) }
+    ensures whole { (read : TextReading) → IsReading read → IfOk result (λ books. All (IsWhole read) books) }
 {
     let table = OpenTable::new(alloc, cases)?;
     work(rt, alloc, &table, datapaths, agents, gate);

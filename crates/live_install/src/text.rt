@@ -1,6 +1,6 @@
 ghost use Rattle.std.specs.Prelude.{◌≡◌, ◌≤◌, ◌++◌, IfOk, OnOk, [], map};
 ghost use Rattle.std.specs.List.{All};
-ghost use Rattle.scenario_json.specs.ScenePrograms.{Reading, IsReading};
+ghost use Rattle.scenario_json.specs.ScenePrograms.{TextReading, IsReading};
 ghost use Rattle.open_flow.specs.Entries.{installed_of, place_at};
 ghost use Rattle.live_install.specs.RolloutText.{fault_lines, fields_at, fields_of, flow_line, last_fields, last_line, rollout_text, shown_lines};
 ghost use Rattle.live_install.specs.BookText.{account_in, book_text, books_text, end_in, failures_in, is_faulted, notice_lines, placed_line};
@@ -20,7 +20,7 @@ use std::alloc::Global;
 /// word came to, it is the rollout text of these words.
 pub fn rollout_text(alloc: Global, books: &OpenBooks) -> Result<Bytes, NoMemory>
     ensures text { IfOk result (λ text. text ≡ books_text books.now) }
-    ensures rollout { (read : Reading) → All (IsTold read) books.now
+    ensures rollout { (read : TextReading) → All (IsTold read) books.now
         → IfOk result (λ text. text ≡ rollout_text read (flows_of books.now)) }
 {
     books_text(alloc, books)

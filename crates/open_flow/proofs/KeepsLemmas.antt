@@ -25,7 +25,7 @@ use Rattle.flow_core.specs.Roomy.{RoomyState}
 use Rattle.flow_core.specs.World.{Failure, with_event, failures_met}
 use Rattle.flow_core.specs.Books.{epoch_line}
 use Rattle.flow_core.proofs.SimulatedEpochs.{IsEnvOf-after, declared-simulated}
-use Rattle.scenario_json.specs.ScenePrograms.{Reading}
+use Rattle.scenario_json.specs.ScenePrograms.{TextReading}
 use Rattle.open_flow.specs.declared.account.Account.{Account}
 use Rattle.open_flow.specs.declared.entry.Entry.{Entry}
 use Rattle.open_flow.specs.Accounts.{reporter, met_in, Heard}
@@ -185,7 +185,7 @@ fits-more machine entries more (Some step) within fits =
 abbrev pub put_state : State → Entry → RoomyState Entry → RoomyState ℕ → RoomyState OpenLetter → State
 put_state s entry entries installed word = record s { entries = entries; installed = installed; word = word }
 
-pub keeps-put : (read : Reading) (s : State) (w : OpenWorld) (entry : Entry) (entries : RoomyState Entry) (installed : RoomyState ℕ) (word : RoomyState OpenLetter)
+pub keeps-put : (read : TextReading) (s : State) (w : OpenWorld) (entry : Entry) (entries : RoomyState Entry) (installed : RoomyState ℕ) (word : RoomyState OpenLetter)
     → Keeps s w → next_from s.running ≤ length s.entries.items
     → entries.items ≡ s.entries.items ++ entry ∷ [] → installed.items ≡ s.installed.items ++ s.acks ∷ []
     → slice_get s.case.steps (length s.entries.items) ≡ Some entry.text → read entry.text ≡ installed_of entry

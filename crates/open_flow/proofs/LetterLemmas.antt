@@ -2,13 +2,13 @@
 use Rattle.std.specs.Prelude.{◌≡◌, Bool, ◌&&◌, List, [], ◌∷◌, ◌++◌, refl}
 use Rattle.std.proofs.Common.{ap, sym, ◌∙◌}
 use Rattle.std.proofs.Math.Bool.{and_assoc, and-true}
-use Rattle.scenario_json.specs.ScenePrograms.{Reading}
+use Rattle.scenario_json.specs.ScenePrograms.{TextReading}
 use Rattle.scenario_json.specs.declared.open_case.OpenCase.{OpenCase}
 use Rattle.open_flow.specs.declared.letter.OpenLetter.{OpenLetter}
 use Rattle.open_flow.specs.OpenWorld.{OpenWorld, opening}
 use Rattle.open_flow.specs.OpenWords.{after_letter, world_from, install_world, is_legal, legal_from, legal}
 
-module _ (read : Reading) (case : OpenCase) where
+module _ (read : TextReading) (case : OpenCase) where
   world_from-append : (w : OpenWorld) (word more : List OpenLetter)
       → world_from read case w (word ++ more) ≡ world_from read case (world_from read case w word) more
   world_from-append w [] more = refl
@@ -35,7 +35,7 @@ module _ (read : Reading) (case : OpenCase) where
       ∙ ap (λ (b : Bool). legal read case word && b) (and-true (is_legal case (install_world read case word) letter))
 
 -- a case and a word with one more letter have come to that letter's step
-pub grown : (read : Reading) (case other : OpenCase) (word more : List OpenLetter) (letter : OpenLetter) → other ≡ case → more ≡ word ++ letter ∷ []
+pub grown : (read : TextReading) (case other : OpenCase) (word more : List OpenLetter) (letter : OpenLetter) → other ≡ case → more ≡ word ++ letter ∷ []
     → install_world read other more ≡ after_letter read case (install_world read case word) letter
 grown read case other word more letter same longer =
     (λ i. install_world read (same i) (longer i)) ∙ world-append read case word letter

@@ -7,7 +7,7 @@ use Rattle.reg_compiler.specs.declared.built.Built.{Built}
 use Rattle.fold_machine.specs.declared.acked.Acked.{Acked}
 use Rattle.fold_machine.specs.declared.acked.Acked.TheVariants as acked
 use Rattle.flow_core.specs.Cores.{ran_by}
-use Rattle.scenario_json.specs.ScenePrograms.{Reading}
+use Rattle.scenario_json.specs.ScenePrograms.{TextReading}
 use Rattle.scenario_json.specs.declared.open_case.OpenCase.{OpenCase}
 use Rattle.open_flow.specs.declared.entry.Entry.{Entry}
 use Rattle.open_flow.specs.declared.letter.OpenLetter.{OpenLetter}
@@ -22,25 +22,25 @@ pub record OpenState : Type 0 where
   pub word : List OpenLetter
 
 -- the flow's state after its word
-abbrev pub world_at : Reading → OpenState → OpenWorld
+abbrev pub world_at : TextReading → OpenState → OpenWorld
 world_at read cell = install_world read cell.case cell.word
 
-abbrev pub ack_at : Reading → OpenState → Ack
+abbrev pub ack_at : TextReading → OpenState → Ack
 ack_at read cell = next_ack cell.case (world_at read cell)
 
 -- the new flow's state is the old one's after one more letter
-abbrev pub IsAfter : Reading → OpenState → OpenLetter → OpenState → Type 0
+abbrev pub IsAfter : TextReading → OpenState → OpenLetter → OpenState → Type 0
 IsAfter read old letter new = world_at read new ≡ after_letter read old.case (world_at read old) letter
 
 -- the letter is legal at the end of the flow's word
-abbrev pub is_legal_at : Reading → OpenState → OpenLetter → Bool
+abbrev pub is_legal_at : TextReading → OpenState → OpenLetter → Bool
 is_legal_at read cell letter = is_legal cell.case (world_at read cell) letter
 
 -- all acknowledgements of the case are in
-abbrev pub HasAll : Reading → OpenState → Type 0
+abbrev pub HasAll : TextReading → OpenState → Type 0
 HasAll read cell = cell.case.acks ≤ length (world_at read cell).acks
 
-abbrev pub IsComplete : Reading → OpenState → Type 0
+abbrev pub IsComplete : TextReading → OpenState → Type 0
 IsComplete read cell = is_complete cell.case (world_at read cell) ≡ true
 
 -- how many letters a word of a case has at most
@@ -83,7 +83,7 @@ AnswersTo entries ack (Some running) None = ⊥
 AnswersTo entries ack (Some running) (Some answer) = Tells (built_at entries running.era.program) answer (met_by running ack).0
 
 -- the answer to the next acknowledgement
-abbrev pub Answered : Reading → OpenState → Option Acked → Type 0
+abbrev pub Answered : TextReading → OpenState → Option Acked → Type 0
 Answered read cell answer = AnswersTo cell.entries (ack_at read cell) (world_at read cell).present answer
 
 -- how many instructions an acknowledgement runs, none before the first change
@@ -95,11 +95,11 @@ abbrev pub ran_in : List Entry → Option Running → Ack → ℕ
 ran_in entries None ack = 0
 ran_in entries (Some running) ack = ran_of (built_at entries running.era.program) running ack
 
-abbrev pub ran_at : Reading → OpenState → ℕ
+abbrev pub ran_at : TextReading → OpenState → ℕ
 ran_at read cell = ran_in cell.entries (world_at read cell).present (ack_at read cell)
 
 -- ---- what a change is answered
 
 -- the step that the next change changes to, None where there is none
-abbrev pub next_at : Reading → OpenState → Option ℕ
+abbrev pub next_at : TextReading → OpenState → Option ℕ
 next_at read cell = option_map (λ next. next.0) (next_of (world_at read cell))

@@ -1,7 +1,7 @@
 -- The history of a flow of a rollout as a word, and the states that words come to.
 use Rattle.std.specs.Prelude.{Bool, true, not, ◌&&◌, nat_lt, is_some, List, [], ◌∷◌, length}
 use Rattle.link_model.specs.Link.{ack_after}
-use Rattle.scenario_json.specs.ScenePrograms.{Reading}
+use Rattle.scenario_json.specs.ScenePrograms.{TextReading}
 use Rattle.scenario_json.specs.declared.open_case.OpenCase.{OpenCase}
 use Rattle.ccp_base.specs.declared.ack.Ack.{Ack}
 use Rattle.open_flow.specs.declared.letter.OpenLetter.{OpenLetter}
@@ -13,17 +13,17 @@ abbrev pub next_ack : OpenCase → OpenWorld → Ack
 next_ack case w = ack_after case.link w.windows (cwnd_of case w)
 
 -- the state after one more letter: A is an acknowledgement, I an entry that is installed, G a change
-abbrev pub after_letter : Reading → OpenCase → OpenWorld → OpenLetter → OpenWorld
+abbrev pub after_letter : TextReading → OpenCase → OpenWorld → OpenLetter → OpenWorld
 after_letter read case w A = after_ack case (next_ack case w) w
 after_letter read case w I = after_install read case w
 after_letter read case w G = after_change case w
 
-abbrev pub world_from : Reading → OpenCase → OpenWorld → List OpenLetter → OpenWorld
+abbrev pub world_from : TextReading → OpenCase → OpenWorld → List OpenLetter → OpenWorld
 world_from read case w [] = w
 world_from read case w (letter ∷ rest) = world_from read case (after_letter read case w letter) rest
 
 -- the state after a word
-abbrev pub install_world : Reading → OpenCase → List OpenLetter → OpenWorld
+abbrev pub install_world : TextReading → OpenCase → List OpenLetter → OpenWorld
 install_world read case word = world_from read case opening word
 
 -- ---- legal and complete words
@@ -35,12 +35,12 @@ is_legal case w A = nat_lt (length w.acks) case.acks
 is_legal case w I = nat_lt (length w.entries) (length case.steps)
 is_legal case w G = is_some (next_of w)
 
-abbrev pub legal_from : Reading → OpenCase → OpenWorld → List OpenLetter → Bool
+abbrev pub legal_from : TextReading → OpenCase → OpenWorld → List OpenLetter → Bool
 legal_from read case w [] = true
 legal_from read case w (letter ∷ rest) = is_legal case w letter && legal_from read case (after_letter read case w letter) rest
 
 -- each letter is legal at its point
-abbrev pub legal : Reading → OpenCase → List OpenLetter → Bool
+abbrev pub legal : TextReading → OpenCase → List OpenLetter → Bool
 legal read case word = legal_from read case opening word
 
 -- all acknowledgements are in, all steps have entries, and no change is legal

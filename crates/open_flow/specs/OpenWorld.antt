@@ -9,7 +9,7 @@ use Rattle.portus_core.specs.Value.{Cause}
 use Rattle.portus_core.specs.Epoch.{acknowledged, Outcome, Track, track_at, by_source, declared_env, heard, after}
 use Rattle.portus_core.specs.Reports.{reports_met}
 use Rattle.portus_build.specs.declared.fault.BuildFault.{BuildFault}
-use Rattle.scenario_json.specs.ScenePrograms.{Reading}
+use Rattle.scenario_json.specs.ScenePrograms.{TextReading}
 use Rattle.scenario_json.specs.declared.open_case.OpenCase.{OpenCase}
 use Rattle.flow_core.specs.World.{Failure, Era, with_event, time_of, failures_met}
 
@@ -102,7 +102,7 @@ after_ack case ack w =
 
 -- ---- an entry is installed
 
-abbrev pub with_entry : Reading → Option (List ℕ) → OpenWorld → OpenWorld
+abbrev pub with_entry : TextReading → Option (List ℕ) → OpenWorld → OpenWorld
 with_entry read None w = w
 with_entry read (Some text) w = record w {
   entries = w.entries ++ read text ∷ [];
@@ -110,7 +110,7 @@ with_entry read (Some text) w = record w {
 }
 
 -- what the next step's text stands for
-abbrev pub after_install : Reading → OpenCase → OpenWorld → OpenWorld
+abbrev pub after_install : TextReading → OpenCase → OpenWorld → OpenWorld
 after_install read case w = with_entry read (slice_get case.steps (length w.entries)) w
 
 -- ---- a change
