@@ -9,6 +9,10 @@ placed at bytes old = take at old ++ bytes ++ drop (at + length bytes) old
 abbrev pub over : List ℕ → List ℕ → List ℕ
 over bytes old = bytes ++ drop (length bytes) old
 
+-- these bytes were written at the front, and the answer is that they are so many
+abbrev pub WroteFront : ℕ → List ℕ → List ℕ → List ℕ → ℕ → Type 0
+WroteFront count bytes old out answer = (answer ≡ count) × (out ≡ over bytes old)
+
 -- bytes were written from a place on, up to this end
 pub record Wrote (at : ℕ) (bytes old out : List ℕ) (end : ℕ) : Type 0 where
   pub is : out ≡ placed at bytes old

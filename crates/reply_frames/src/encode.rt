@@ -8,7 +8,7 @@ ghost use Rattle.reply_frames.specs.Spelling.{update_bytes, change_bytes};
 ghost use Rattle.reply_frames.specs.ValueBytes.{target_bytes, value_bytes, values_bytes, AreTargets, IsValue};
 ghost use Rattle.std.specs.List.{AllByRecursion};
 ghost use Rattle.reply_frames.specs.FrameBytes.{outline_bytes};
-ghost use Rattle.reply_frames.specs.Writing.{placed, over};
+ghost use Rattle.reply_frames.specs.Writing.{placed, over, WroteFront};
 
 use crate::fault::Short;
 use crate::outline::{
@@ -88,7 +88,8 @@ pub fn put_values(out: &mut [u8], at: usize, values: &Fields)
 /// `decode_fields` reads it back. Short exactly where `out` is shorter than that; then nothing is written.
 pub fn encode_update(flow: u32, values: &Fields, out: &mut [u8]) -> Result<usize, Short>
     requires { AreTargets values.now }
-    ensures ok { IfOk result (λ size. (size ≡ 16 + 10 * length values.now) × (out.new ≡ over (update_bytes One flow values.now) out.old)) }
+    ensures ok { IfOk result
+        (WroteFront (16 + 10 * length values.now) (update_bytes One flow values.now) out.old out.new) }
     ensures read_back { OnOk result (IsReply out.new (reply_head flow None values.now) values.now) }
     ensures short { IfErr result (λ short. short ≡ record { 0 = 16 + 10 * length values.now }) }
     ensures only_short { IsErr result ↔ (length out.old < 16 + 10 * length values.now) }
@@ -116,7 +117,8 @@ pub fn encode_change(
     out: &mut [u8],
 ) -> Result<usize, Short>
     requires { AreTargets values.now }
-    ensures ok { IfOk result (λ size. (size ≡ 20 + 10 * length values.now) × (out.new ≡ over (change_bytes One flow program values.now) out.old)) }
+    ensures ok { IfOk result
+        (WroteFront (20 + 10 * length values.now) (change_bytes One flow program values.now) out.old out.new) }
     ensures read_back { OnOk result (IsReply out.new (reply_head flow (Some program) values.now) values.now) }
     ensures short { IfErr result (λ short. short ≡ record { 0 = 20 + 10 * length values.now }) }
     ensures only_short { IsErr result ↔ (length out.old < 20 + 10 * length values.now) }

@@ -57,8 +57,8 @@ fn values<'a>(bytes: &'a [u8], count: u8, fields: &mut Fields) -> Result<&'a [u8
     Ok(rest)
 }
 
-/// Reads the values of an Update's body into `fields`, and gives the bytes after it. Where the answer isn't Ok, `fields`
-/// is as before.
+/// Reads the values of an Update's body into `fields`, and gives the bytes after it. Where the answer isn't Ok,
+/// `fields` is as before.
 #[tactic(auto, unfolding(crate::specs::Frames::update_at))]
 pub fn update<'a>(bytes: &'a [u8], count: u8, fields: &mut Fields) -> Result<&'a [u8], Stop>
     requires { count ≤ most_pairs }
