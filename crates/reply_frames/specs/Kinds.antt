@@ -51,34 +51,16 @@ most_n1 Ack version = 0
 most_n1 Refused version = 0
 
 abbrev pub most_n2 : FrameKind → ℕ
-most_n2 Create = 0
-most_n2 Measure = 0
 most_n2 Install = most_controls
-most_n2 Update = 0
-most_n2 Change = 0
-most_n2 Fault = 0
-most_n2 Ack = 0
-most_n2 Refused = 0
+most_n2 kind = 0
 
 abbrev pub most_n3 : FrameKind → ℕ
-most_n3 Create = 0
-most_n3 Measure = 0
 most_n3 Install = most_blocks
-most_n3 Update = 0
-most_n3 Change = 0
-most_n3 Fault = 0
-most_n3 Ack = 0
-most_n3 Refused = 0
+most_n3 kind = 0
 
 abbrev pub most_n4 : FrameKind → ℕ
-most_n4 Create = 0
-most_n4 Measure = 0
 most_n4 Install = most_instrs
-most_n4 Update = 0
-most_n4 Change = 0
-most_n4 Fault = 0
-most_n4 Ack = 0
-most_n4 Refused = 0
+most_n4 kind = 0
 
 -- the length of the whole frame, in bytes
 abbrev pub size_of : FrameKind → Version → Counts → ℕ

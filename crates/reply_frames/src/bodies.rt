@@ -152,7 +152,7 @@ pub fn refused(bytes: &[u8]) -> Result<((u8, u32), &[u8]), Stop>
 }
 
 /// The bytes after the body of a frame of any kind, which is passed over.
-pub fn passed(bytes: &[u8], head: Outline) -> Result<&[u8], Stop>
+pub(crate) fn passed(bytes: &[u8], head: Outline) -> Result<&[u8], Stop>
     requires { head.counts.n1 ≤ most_n1 head.kind head.version }
     ensures { Gives (λ rest. rest.now) result (passed (body_at head.kind head.version head.counts bytes.now)) }
 {

@@ -124,7 +124,7 @@ fn instructions(bytes: &[u8], count: u16) -> Result<&[u8], Stop>
 
 /// The bytes after an Install's body, whose code is passed over.
 #[tactic(auto, unfolding(crate::specs::Frames::install_at))]
-pub fn install(bytes: &[u8], counts: Counts) -> Result<&[u8], Stop>
+pub(crate) fn install(bytes: &[u8], counts: Counts) -> Result<&[u8], Stop>
     ensures { Gives (λ rest. rest.now) result (passed (install_at counts bytes.now)) }
 {
     let (_, rest) = number32(bytes)?;

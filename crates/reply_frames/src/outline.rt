@@ -91,7 +91,7 @@ pub struct Instruction {
 }
 
 /// The number of a kind, from 1 to 8.
-pub fn kind_number(kind: FrameKind) -> u8
+pub(crate) fn kind_number(kind: FrameKind) -> u8
     ensures { result ≡ number_of kind }
 {
     match kind {
@@ -107,7 +107,7 @@ pub fn kind_number(kind: FrameKind) -> u8
 }
 
 /// The number of a version, 1 or 2.
-pub fn version_number(version: Version) -> u8
+pub(crate) fn version_number(version: Version) -> u8
     ensures { result ≡ version_number version }
 {
     match version {
@@ -117,7 +117,7 @@ pub fn version_number(version: Version) -> u8
 }
 
 /// The kind of a number from 1 to 8.
-pub fn numbered_kind(number: u8) -> FrameKind
+pub(crate) fn numbered_kind(number: u8) -> FrameKind
     ensures { result ≡ kind_of number }
 {
     match number {
@@ -133,7 +133,7 @@ pub fn numbered_kind(number: u8) -> FrameKind
 }
 
 /// The version of a number, 1 or 2.
-pub fn numbered_version(number: u8) -> Version
+pub(crate) fn numbered_version(number: u8) -> Version
     ensures { result ≡ version_of number }
 {
     if number == 1 {
@@ -144,7 +144,7 @@ pub fn numbered_version(number: u8) -> Version
 }
 
 /// The most that the first count may be.
-pub fn first_limit(kind: FrameKind, version: Version) -> u8
+pub(crate) fn first_limit(kind: FrameKind, version: Version) -> u8
     ensures { result ≡ most_n1 kind version }
 {
     match (kind, version) {
@@ -156,7 +156,7 @@ pub fn first_limit(kind: FrameKind, version: Version) -> u8
 }
 
 /// The most control variables and events.
-pub fn install_limit(kind: FrameKind) -> u8
+pub(crate) fn install_limit(kind: FrameKind) -> u8
     ensures controls { result ≡ most_n2 kind }
     ensures events { result ≡ most_n3 kind }
 {
@@ -164,7 +164,7 @@ pub fn install_limit(kind: FrameKind) -> u8
 }
 
 /// The most instructions.
-pub fn instruction_limit(kind: FrameKind) -> u16
+pub(crate) fn instruction_limit(kind: FrameKind) -> u16
     ensures { result ≡ most_n4 kind }
 {
     if kind == FrameKind::Install { 256 } else { 0 }

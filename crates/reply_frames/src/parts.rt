@@ -8,7 +8,7 @@ ghost use Rattle.reply_frames.specs.Parts.{Gives, byte_at, number_at, limited_at
 use crate::fault::{BadKind, Stop};
 
 /// A byte from `least` to `most`, and the bytes after it. Another byte is a bad one of `field`.
-pub fn byte(bytes: &[u8], field: BadKind, least: u8, most: u64) -> Result<(u8, &[u8]), Stop>
+pub(crate) fn byte(bytes: &[u8], field: BadKind, least: u8, most: u64) -> Result<(u8, &[u8]), Stop>
     ensures read { Gives (λ x. (x.0, x.1.now)) result (byte_at field least most bytes.now) }
     ensures within { IfOk result (λ x. x.0 ≤ most) }
 {
@@ -25,7 +25,7 @@ pub fn byte(bytes: &[u8], field: BadKind, least: u8, most: u64) -> Result<(u8, &
 }
 
 /// A number of two bytes, and the bytes after it.
-pub fn number16(bytes: &[u8]) -> Result<(u16, &[u8]), Stop>
+pub(crate) fn number16(bytes: &[u8]) -> Result<(u16, &[u8]), Stop>
     ensures { Gives (λ x. (x.0, x.1.now)) result (number_at w16 bytes.now) }
 {
     if bytes.len() < 2 {
@@ -48,7 +48,7 @@ pub fn number32(bytes: &[u8]) -> Result<(u32, &[u8]), Stop>
 }
 
 /// A number of eight bytes, and the bytes after it.
-pub fn number64(bytes: &[u8]) -> Result<(u64, &[u8]), Stop>
+pub(crate) fn number64(bytes: &[u8]) -> Result<(u64, &[u8]), Stop>
     ensures { Gives (λ x. (x.0, x.1.now)) result (number_at w64 bytes.now) }
 {
     if bytes.len() < 8 {
@@ -64,7 +64,7 @@ pub fn number64(bytes: &[u8]) -> Result<(u64, &[u8]), Stop>
 /// A number of `width` bytes that is at most `most`, and the bytes after it. A byte is a bad one of `field` where
 /// every number that goes on so is above `most`.
 #[tactic(auto, unfolding(crate::specs::Parts::limited_at))]
-pub fn limited(bytes: &[u8], field: BadKind, width: u32, most: u64) -> Result<(u64, &[u8]), Stop>
+pub(crate) fn limited(bytes: &[u8], field: BadKind, width: u32, most: u64) -> Result<(u64, &[u8]), Stop>
     ensures read { Gives (λ x. (x.0, x.1.now)) result (limited_at field width most bytes.now) }
     ensures within { IfOk result (λ x. x.0 ≤ most) }
 {
@@ -79,7 +79,7 @@ pub fn limited(bytes: &[u8], field: BadKind, width: u32, most: u64) -> Result<(u
 
 /// This number alone, in `width` bytes, and the bytes after it. Another byte is a bad one of `field`.
 #[tactic(auto, unfolding(crate::specs::Parts::exactly_at))]
-pub fn exactly(bytes: &[u8], field: BadKind, width: u32, number: u32) -> Result<(u64, &[u8]), Stop>
+pub(crate) fn exactly(bytes: &[u8], field: BadKind, width: u32, number: u32) -> Result<(u64, &[u8]), Stop>
     ensures read { Gives (λ x. (x.0, x.1.now)) result (exactly_at field width number bytes.now) }
     ensures within { IfOk result (λ x. x.0 ≤ number) }
 {
