@@ -6,6 +6,7 @@ use Rattle.std.specs.Prelude.{IfOk}
 use Rattle.ccp_base.specs.declared.ack.Ack.{Ack}
 use Rattle.ccp_base.specs.declared.place.Place.{Place}
 use Rattle.ccp_base.specs.Acknowledgement.{number_of, primitives}
+use Rattle.ccp_base.specs.Limits.{primitive_count}
 use Rattle.portus_core.specs.declared.program.Var.{Var}
 use Rattle.portus_core.specs.declared.program.Var.TheVariants as var
 use Rattle.portus_core.specs.Programs.{Term, number, Action, set, set_if, set_unless, ewma, zero_micros, report, fall}
@@ -51,7 +52,7 @@ Reads-regs_of known going flag temps ack fits (var.Field i) is =
 Reads-regs_of known going flag temps ack fits (var.Control i) is =
     slice_get-get_or going.env.controls i 0 (omega (arith, ltb-true i (length known.controls) is, fits.sized.controls))
 Reads-regs_of known going flag temps ack fits (var.Local i) is = fits.locals i (ltb-true i (length known.locals) is)
-Reads-regs_of known going flag temps ack fits (var.Prim n) is = slice_get-get_or (primitives ack) n 0 (ltb-true n 15 is)
+Reads-regs_of known going flag temps ack fits (var.Prim n) is = slice_get-get_or (primitives ack) n 0 (ltb-true n primitive_count is)
 Reads-regs_of known going flag temps ack fits var.Cwnd is = refl
 Reads-regs_of known going flag temps ack fits var.Rate is = refl
 Reads-regs_of known going flag temps ack fits var.Micros is = refl

@@ -1,6 +1,7 @@
 -- The names of a valid program have numbers below 256.
 use Rattle.std.proofs.Common.{◌≡◌, refl, ℕ, ◌≤◌, ◌<◌, Bool, true, false, not, ◌&&◌, ◌||◌, ◌==◌, nat_lt, nat_le, ◌⊎◌, inl, inr, List, [], ◌∷◌, length, arith, length-append, lit≤}
 use Rattle.std.proofs.lemmas.Bool.{ltb-true, lt-ltb, leb-true, eqb-true}
+use Rattle.ccp_base.specs.Limits.{primitive_count}
 use Rattle.portus_core.specs.declared.program.Var.{Var}
 use Rattle.portus_core.specs.declared.program.Var.TheVariants as var
 use Rattle.portus_core.specs.Programs.{Term, number, truth, name, pair, Action, set, set_if, set_unless, ewma, zero_micros, report, fall, Part, Form}
@@ -36,7 +37,7 @@ numbered-known : (known : Known) (v : Var) → IsSmall known → is_known known 
 numbered-known known (var.Field i) small is = below_256 i (length known.fields) (omega (arith, small.fields)) is
 numbered-known known (var.Control i) small is = below_256 i (length known.controls) (omega (arith, small.controls)) is
 numbered-known known (var.Local i) small is = below_256 i (length known.locals) (omega (arith, small.locals)) is
-numbered-known known (var.Prim n) small is = below_256 n 15 (lit≤ tt) is
+numbered-known known (var.Prim n) small is = below_256 n primitive_count (lit≤ tt) is
 numbered-known known var.Cwnd small is = refl
 numbered-known known var.Rate small is = refl
 numbered-known known var.Micros small is = refl

@@ -87,10 +87,16 @@ into to (pair o place left right) free =
 abbrev pub operand_lines : Term → ℕ → List Line
 operand_lines term free = unless_direct (direct term) (into (reg.Temp free) term free)
 
--- the lines of an operation on two expressions, into a register
+-- the lines of an operation on two expressions, into a register, with the temporaries from `free` on
+abbrev pub both_from : Op → Reg → Place → Term → Term → ℕ → List Line
+both_from o to place left right free =
+    operand_lines left free
+    ++ (operand_lines right (free_after left free)
+    ++ (line_of o to (operand left free) (operand right (free_after left free)) place ∷ []))
+
+-- the same with all temporaries
 abbrev pub both_into : Op → Reg → Place → Term → Term → List Line
-both_into o to place left right =
-    joined o to place left (into (reg.Temp 0) left 0) right (into (reg.Temp (free_after left 0)) right (free_after left 0)) 0
+both_into o to place left right = both_from o to place left right 0
 
 abbrev pub action_lines : Action → List Line
 action_lines (set v term) = into (reg_of v) term 0

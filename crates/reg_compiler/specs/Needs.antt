@@ -2,6 +2,7 @@
 use Rattle.std.specs.Prelude.{ℕ, ◌+◌, nat_lt, max, if◌then◌else◌, Option, Some, None, List, [], ◌∷◌}
 use Rattle.std.specs.Option.{option_or}
 use Rattle.ccp_base.specs.declared.place.Place.{Place}
+use Rattle.ccp_base.specs.Limits.{most_temps}
 use Rattle.portus_core.specs.Programs.{Term, number, truth, name, pair, Action, set, set_if, set_unless, ewma, zero_micros, report, fall, Part, Form}
 
 -- a part that is no leaf takes a temporary while the part after it is worked out
@@ -45,7 +46,7 @@ form_need form = parts_need form.blocks
 
 -- a need above the number of temporaries, with its place
 abbrev pub deep_at : ℕ → Place → Option Place
-deep_at need place = if nat_lt 8 need then Some place else None
+deep_at need place = if nat_lt most_temps need then Some place else None
 
 -- the head atom of an expression that needs too many; a leaf needs none
 abbrev pub deep_term : Term → Option Place

@@ -9,7 +9,8 @@ use reg_code::Checked;
 
 /// A program and code that simulates it: for every state that the program can have, every acknowledgement and either
 /// room, the code comes to the same outcome with the same fields, and leaves the same state. Where the program faults,
-/// the code faults at an instruction with the same place, and the other way round. The compiler refuses no such program.
+/// the code faults at an instruction with the same place, and the other way round. The compiler refuses no such
+/// program.
 #[derive(Debug, Drop)]
 pub struct Built {
     pub program: Program,

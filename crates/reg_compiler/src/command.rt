@@ -1,4 +1,5 @@
 ghost use Rattle.std.specs.Prelude.{◌≡◌, ◌++◌, ◌∷◌, [], ◌≤◌, IsTrue, OnOk, map};
+ghost use Rattle.ccp_base.specs.Limits.{most_temps};
 ghost use Rattle.portus_core.specs.Programs.{action_of};
 ghost use Rattle.reg_code.specs.declared.code.Reg.TheVariants as reg;
 ghost use Rattle.reg_compiler.specs.Needs.{action_need, body_need};
@@ -15,7 +16,7 @@ use std::alloc::AllocError;
 /// Appends the lines of a body's commands.
 pub fn body(cmds: &[Cmd], lines: &mut Lines) -> Result<(), AllocError>
     requires names { IsTrue (is_numbered_body (map action_of cmds.now)) }
-    requires fits { body_need (map action_of cmds.now) ≤ 8 }
+    requires fits { body_need (map action_of cmds.now) ≤ most_temps }
     ensures { OnOk result (lines.new ≡ lines.old ++ body_lines (map action_of cmds.now)) }
 {
     for cmd in cmds {
@@ -27,7 +28,7 @@ pub fn body(cmds: &[Cmd], lines: &mut Lines) -> Result<(), AllocError>
 /// Appends the lines of a command.
 fn command(cmd: &Cmd, lines: &mut Lines) -> Result<(), AllocError>
     requires names { IsTrue (is_numbered_action (action_of cmd.now)) }
-    requires fits { action_need (action_of cmd.now) ≤ 8 }
+    requires fits { action_need (action_of cmd.now) ≤ most_temps }
     ensures { OnOk result (lines.new ≡ lines.old ++ action_lines (action_of cmd.now)) }
 {
     match cmd {

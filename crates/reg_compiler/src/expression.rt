@@ -1,8 +1,9 @@
 ghost use Rattle.std.specs.Prelude.{◌≡◌, ◌+◌, ◌++◌, ◌∷◌, [], ◌≤◌, max, IsTrue, IfOk, OnOk};
+ghost use Rattle.ccp_base.specs.Limits.{most_temps};
 ghost use Rattle.portus_core.specs.Programs.{term_of};
 ghost use Rattle.reg_compiler.specs.Needs.{beside, need_of};
 ghost use Rattle.reg_compiler.specs.Numbered.{is_numbered_term};
-ghost use Rattle.reg_compiler.specs.CompiledCode.{direct, operand, free_after, operand_lines, joined, into};
+ghost use Rattle.reg_compiler.specs.CompiledCode.{direct, operand, free_after, operand_lines, both_from, into};
 
 use crate::known::known;
 use crate::line::{Lines, bind_line, operation_line};
@@ -18,7 +19,7 @@ use std::alloc::AllocError;
 #[tactic(auto, using(portus_core::specs::Programs::terms))]
 pub fn into(expr: &Expr, to: Reg, free: u8, lines: &mut Lines) -> Result<(), AllocError>
     requires names { IsTrue (is_numbered_term (term_of expr.now)) }
-    requires fits { need_of (term_of expr.now) + free ≤ 8 }
+    requires fits { need_of (term_of expr.now) + free ≤ most_temps }
     ensures { OnOk result (lines.new ≡ lines.old ++ into to (term_of expr.now) free) }
 {
     match expr {
@@ -45,11 +46,10 @@ pub fn joined(
 ) -> Result<(), AllocError>
     requires left_names { IsTrue (is_numbered_term (term_of left.now)) }
     requires right_names { IsTrue (is_numbered_term (term_of right.now)) }
-    requires left_fits { need_of (term_of left.now) + free ≤ 8 }
-    requires right_fits { need_of (term_of right.now) + beside (term_of left.now) + free ≤ 8 }
-    ensures { OnOk result (lines.new ≡ lines.old ++ joined op to place
-        (term_of left.now) (into (Reg.Temp free) (term_of left.now) free)
-        (term_of right.now) (into (Reg.Temp (free_after (term_of left.now) free)) (term_of right.now) (free_after (term_of left.now) free)) free) }
+    requires left_fits { need_of (term_of left.now) + free ≤ most_temps }
+    requires right_fits { need_of (term_of right.now) + beside (term_of left.now) + free ≤ most_temps }
+    ensures { OnOk result
+        (lines.new ≡ lines.old ++ both_from op to place (term_of left.now) (term_of right.now) free) }
 {
     let first = operand(left, free, lines)?;
     let second = operand(right, free_after(left, free), lines)?;
@@ -61,7 +61,7 @@ pub fn joined(
 #[cycle(expression)]
 pub fn operand(expr: &Expr, free: u8, lines: &mut Lines) -> Result<Reg, AllocError>
     requires names { IsTrue (is_numbered_term (term_of expr.now)) }
-    requires fits { need_of (term_of expr.now) + free ≤ 8 }
+    requires fits { need_of (term_of expr.now) + free ≤ most_temps }
     ensures operand { IfOk result (λ register. register ≡ operand (term_of expr.now) free) }
     ensures lines { OnOk result (lines.new ≡ lines.old ++ operand_lines (term_of expr.now) free) }
 {
@@ -91,7 +91,7 @@ fn direct(expr: &Expr) -> Option<Reg>
 /// The first temporary that is free after the operand of an expression.
 fn free_after(expr: &Expr, free: u8) -> u8
     requires names { IsTrue (is_numbered_term (term_of expr.now)) }
-    requires fits { free ≤ 8 }
+    requires fits { free ≤ most_temps }
     ensures free { result ≡ free_after (term_of expr.now) free }
     ensures within { result ≤ free + beside (term_of expr.now) }
 {

@@ -1,5 +1,6 @@
 ghost use Rattle.std.specs.Prelude.{◌≡◌, ◌+◌, max, min, map};
 ghost use Rattle.std.specs.Option.{option_or};
+ghost use Rattle.ccp_base.specs.Limits.{most_temps};
 ghost use Rattle.portus_core.specs.Programs.{term_of, action_of, part_of};
 ghost use Rattle.portus_core.specs.ProgramForm.{form_of};
 ghost use Rattle.reg_compiler.specs.Needs.{beside, need_of, need_of_both, action_need, body_need, parts_need, form_need, deep_at, deep_term, deep_action, deep_body, deep_block, deep_parts, deep_form};
@@ -14,13 +15,13 @@ const TOO_MANY: u32 = TEMPS as u32 + 1;
 /// The greatest need of a program's expressions, 0 where it has none, and 9 where it is above 8. The need of an
 /// expression is the number of temporaries that it takes.
 pub fn greatest_need(program: &Program) -> u32
-    ensures { result ≡ min (form_need (form_of program.now)) 9 }
+    ensures { result ≡ min (form_need (form_of program.now)) (most_temps + 1) }
 {
     parts_need(&program.blocks)
 }
 
 fn parts_need(blocks: &[Block]) -> u32
-    ensures { result ≡ min (parts_need (map part_of blocks.now)) 9 }
+    ensures { result ≡ min (parts_need (map part_of blocks.now)) (most_temps + 1) }
 {
     let mut greatest = 0;
     for block in blocks {
@@ -32,7 +33,7 @@ fn parts_need(blocks: &[Block]) -> u32
 }
 
 fn body_need(cmds: &[Cmd]) -> u32
-    ensures { result ≡ min (body_need (map action_of cmds.now)) 9 }
+    ensures { result ≡ min (body_need (map action_of cmds.now)) (most_temps + 1) }
 {
     let mut greatest = 0;
     for cmd in cmds {
@@ -42,7 +43,7 @@ fn body_need(cmds: &[Cmd]) -> u32
 }
 
 fn action_need(cmd: &Cmd) -> u32
-    ensures { result ≡ min (action_need (action_of cmd.now)) 9 }
+    ensures { result ≡ min (action_need (action_of cmd.now)) (most_temps + 1) }
 {
     match cmd {
         Cmd::Set(_, expr) | Cmd::Ewma(_, _, _, expr) => need(expr),
@@ -56,7 +57,7 @@ fn action_need(cmd: &Cmd) -> u32
 /// The need of an expression.
 #[tactic(auto, using(portus_core::specs::Programs::terms))]
 fn need(expr: &Expr) -> u32
-    ensures { result ≡ min (need_of (term_of expr.now)) 9 }
+    ensures { result ≡ min (need_of (term_of expr.now)) (most_temps + 1) }
 {
     match expr {
         Expr::Num(_) | Expr::Truth(_) | Expr::Var(_) => 0,
@@ -70,7 +71,7 @@ fn need(expr: &Expr) -> u32
 
 /// The need of two expressions of which the first one's value is kept beside the second.
 fn need_of_both(left: &Expr, right: &Expr) -> u32
-    ensures { result ≡ min (need_of_both (term_of left.now) (term_of right.now)) 9 }
+    ensures { result ≡ min (need_of_both (term_of left.now) (term_of right.now)) (most_temps + 1) }
 {
     need(left).max(need(right) + beside(left)).min(TOO_MANY)
 }
