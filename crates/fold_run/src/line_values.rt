@@ -3,15 +3,18 @@ ghost use Rattle.std.specs.Option.{ForSome};
 ghost use Rattle.ccp_base.specs.Limits.{primitive_count};
 ghost use Rattle.fold_run.specs.AckLine.{no_values, with_number, some_if};
 
-use ccp_base::is_flag;
+use ccp_base::{PRIMITIVES, is_flag};
+
+/// How many values a line may give: one for each primitive.
+const VALUES: usize = PRIMITIVES as usize;
 
 /// The values that a line gives, each at the number of its primitive.
 #[derive(Clone, Copy, Debug)]
 pub struct LineValues {
     /// The values, 0 where the line gives none.
-    pub numbers: [u64; 15],
+    pub numbers: [u64; VALUES],
     /// Which of them the line gives.
-    pub named: [bool; 15],
+    pub named: [bool; VALUES],
 }
 
 impl LineValues {
@@ -20,8 +23,8 @@ impl LineValues {
         ensures { result ≡ no_values }
     {
         LineValues {
-            numbers: [0; 15],
-            named: [false; 15],
+            numbers: [0; VALUES],
+            named: [false; VALUES],
         }
     }
 

@@ -8,20 +8,23 @@ ghost use Rattle.fold_run.specs.ExpectedName.{name_of};
 
 use ccp_base::{PRIMITIVES, value_named};
 
-/// The place of a line's begin among the numbers of names.
-pub const LINE_BEGIN: usize = 15;
+/// The place of a line's begin among the numbers of names: after those of the primitives.
+pub const LINE_BEGIN: usize = PRIMITIVES as usize;
+
+/// The places after which a name stands: each name, and a line's begin.
+const PLACES: usize = LINE_BEGIN + 1;
 
 /// Which name followed each name last, and a line's begin: lines mostly name the same values in the same order, so the
 /// name that is looked for first is mostly the right one.
 #[derive(Clone, Copy, Debug)]
 pub struct Followers {
-    numbers: [usize; 16],
+    numbers: [usize; PLACES],
 }
 
 impl Followers {
     /// No line was read.
     pub fn new() -> Followers {
-        Followers { numbers: [0; 16] }
+        Followers { numbers: [0; PLACES] }
     }
 
     /// The number of the primitive with this name, which stands after the one with the number `before` or at a line's
@@ -50,7 +53,7 @@ fn is_expected(name: &[u8], expected: usize) -> bool
     ensures named { OnTrue result (value_named name.now ≡ Some expected) }
     ensures below { OnTrue result (expected < primitive_count) }
 {
-    if expected >= PRIMITIVES as usize {
+    if expected >= LINE_BEGIN {
         return false;
     }
     is_name_of(name, expected)
