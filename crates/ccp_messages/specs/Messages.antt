@@ -21,6 +21,7 @@ use Rattle.reply_frames.specs.Frames as body
 use Rattle.reply_frames.specs.Bodies.{fault_kind_of, report_body, notice_body, ack_body}
 use Rattle.reply_frames.specs.ValueBytes.{AreTargets, IsValue}
 use Rattle.reply_frames.specs.FrameBytes.{kind_of_body, counts_of, spelled, IsNumber}
+use Rattle.reply_frames.specs.Writing.{WroteFront}
 use Rattle.ccp_messages.specs.declared.message.Message.{Message}
 use Rattle.ccp_messages.specs.declared.message.Message.TheVariants.{Create, Measure, Install, Update, Change, Fault, Refused}
 use Rattle.ccp_messages.specs.declared.message.Message.TheVariants as message
@@ -53,11 +54,11 @@ Meets version (Refused flow reason index) = (1 ≤ reason) × (reason ≤ 9)
 -- its counts of acknowledgements are below 2^32, and it has at most 32 fields or reports
 abbrev pub IsNarrow : Message → Type 0
 IsNarrow (Create flow mss cwnd) = Unit {0}
-IsNarrow (Measure report) = (report.first < 2 ^ 32) × (report.end < 2 ^ 32) × (length report.fields ≤ most_short_fields)
-IsNarrow (Install flow program code) = length code.reports ≤ most_short_fields
+IsNarrow (Measure report) = IsShortCount One report.first × IsShortCount One report.end × AreFew One (length report.fields)
+IsNarrow (Install flow program code) = AreFew One (length code.reports)
 IsNarrow (Update flow values) = Unit {0}
 IsNarrow (Change flow program values) = Unit {0}
-IsNarrow (Fault notice) = notice.at < 2 ^ 32
+IsNarrow (Fault notice) = IsShortCount One notice.at
 IsNarrow (message.Ack flow ack) = Unit {0}
 IsNarrow (Refused flow reason index) = Unit {0}
 
@@ -92,6 +93,11 @@ size_in version message = size_of (kind_of_body (body_of message)) version (coun
 -- the message's frame in a version, where it meets the conditions
 abbrev pub frame_bytes : Version → Message → List ℕ
 frame_bytes version message = spelled version (flow_of message) (body_of message)
+
+-- the message's frame was written at the front, and the answer is its length
+abbrev pub WroteFrame : Version → Message → List ℕ → List ℕ → ℕ → Type 0
+WroteFrame version message old out answer =
+    WroteFront (length (frame_bytes version message)) (frame_bytes version message) old out answer
 
 -- these bytes are the frame of the message
 abbrev pub IsFrameOf : Message → Version → List ℕ → Type 0

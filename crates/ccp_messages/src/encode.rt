@@ -1,10 +1,10 @@
 ghost use Rattle.std.specs.Prelude.{◌≡◌, ◌↔◌, ◌^◌, ◌<◌, ◌≤◌, length, take, IfOk, IfErr, OnErr, OnOk, IsErr};
 ghost use Rattle.ccp_base.specs.Limits.{most_fields, most_controls, most_blocks, most_instrs};
 ghost use Rattle.reply_frames.specs.FrameBytes.{outline_of, body_bytes};
-ghost use Rattle.reply_frames.specs.Writing.{over, Wrote};
+ghost use Rattle.reply_frames.specs.Writing.{Wrote};
 ghost use Rattle.ccp_messages.specs.CodeParts.{code_counts};
 ghost use Rattle.ccp_messages.specs.Laws.{HasOneFrame};
-ghost use Rattle.ccp_messages.specs.Messages.{Meets, flow_of, body_of, size_in, frame_bytes, IsFrameOf, IsTypedBody, IsTyped};
+ghost use Rattle.ccp_messages.specs.Messages.{Meets, flow_of, body_of, size_in, frame_bytes, WroteFrame, IsFrameOf, IsTypedBody, IsTyped};
 
 use crate::encode_body::{
     put_ack, put_change, put_create, put_fault, put_measure, put_refused, put_values,
@@ -91,7 +91,7 @@ fn put_body(out: &mut [u8], message: &Message, version: Version) -> usize
 /// the numbers of acknowledgements are below 2^32, and there are at most 32 fields or reports.
 pub fn encode_into(message: &Message, version: Version, out: &mut [u8]) -> Result<usize, Short>
     requires { Meets version message.now }
-    ensures ok { IfOk result (λ size. (size ≡ length (frame_bytes version message.now)) × (out.new ≡ over (frame_bytes version message.now) out.old)) }
+    ensures ok { IfOk result (WroteFrame version message.now out.old out.new) }
     ensures frame { IfOk result (λ size. IsFrameOf message.now version (take size out.new)) }
     ensures typed { OnOk result (IsTyped message.now) }
     ensures one_frame { OnOk result (HasOneFrame version message.now) }

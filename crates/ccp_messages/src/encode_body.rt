@@ -1,8 +1,8 @@
 //! The bodies of frames, put at a place of bytes. Each call gives the place after what it put.
 
-ghost use Rattle.std.specs.Prelude.{◌≡◌, ◌+◌, ◌-◌, ◌*◌, ◌^◌, ◌<◌, ◌≤◌, ◌∷◌, ◌++◌, length};
-ghost use Rattle.std.specs.Int.{w32, w64, to_le_bytes};
+ghost use Rattle.std.specs.Prelude.{◌≡◌, ◌+◌, ◌-◌, ◌*◌, ◌^◌, ◌<◌, ◌≤◌, length};
 ghost use Rattle.reply_frames.specs.declared.outline.Version.TheVariants.{One};
+ghost use Rattle.reply_frames.specs.Frames as body;
 ghost use Rattle.reply_frames.specs.Bodies.{ack_body};
 ghost use Rattle.reply_frames.specs.ValueBytes.{values_bytes};
 ghost use Rattle.reply_frames.specs.FrameBytes.{count_width, body_bytes};
@@ -18,7 +18,7 @@ use reply_frames::fault_kind::fault_number;
 /// Puts the body of a Create.
 pub fn put_create(out: &mut [u8], at: usize, cwnd: u64, mss: u32) -> usize
     requires { at + 12 ≤ length out.old }
-    ensures wrote { Wrote at (to_le_bytes w64 cwnd ++ to_le_bytes w32 mss) out.old out.new result }
+    ensures wrote { Wrote at (body_bytes One (body.Create cwnd mss)) out.old out.new result }
     ensures typed { (mss < 2 ^ 32) × (cwnd < 2 ^ 64) }
 {
     let end = put64(out, at, cwnd);
@@ -56,7 +56,7 @@ pub fn put_values(out: &mut [u8], at: usize, values: &Fields) -> usize
 /// Puts the body of a Change.
 pub fn put_change(out: &mut [u8], at: usize, program: u32, values: &Fields) -> usize
     requires { at + (4 + 10 * length values.now) ≤ length out.old }
-    ensures wrote { Wrote at (to_le_bytes w32 program ++ values_bytes values.now) out.old out.new result }
+    ensures wrote { Wrote at (body_bytes One (body.Change program values.now)) out.old out.new result }
     ensures typed { (program < 2 ^ 32) × AreTypedPairs values.now }
 {
     let end = put32(out, at, program);
@@ -93,7 +93,7 @@ pub fn put_ack(out: &mut [u8], at: usize, ack: Ack) -> usize
 /// Puts the body of a Refused.
 pub fn put_refused(out: &mut [u8], at: usize, reason: u8, index: u32) -> usize
     requires { at + 5 ≤ length out.old }
-    ensures wrote { Wrote at (reason ∷ to_le_bytes w32 index) out.old out.new result }
+    ensures wrote { Wrote at (body_bytes One (body.Refused reason index)) out.old out.new result }
     ensures typed { index < 2 ^ 32 }
 {
     let end = put8(out, at, reason);
