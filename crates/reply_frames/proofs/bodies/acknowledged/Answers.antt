@@ -1,4 +1,4 @@
-use Rattle.std.proofs.Common.{◌≡◌, ap, ◌∙◌}
+use Rattle.std.proofs.Common.{ap, ◌∙◌}
 use Rattle.ccp_base.specs.Acknowledgement.{ack_of}
 use Rattle.reply_frames.specs.Bodies.{ack_body}
 use Rattle.reply_frames.proofs.BodyLaws.{ack-again}
