@@ -109,19 +109,20 @@ impl Op2 {
     pub fn applied(self, a: u64, b: u64) -> Result<u64, FaultKind>
         ensures { result ≡ applied self a b }
     {
-        match self {
-            Op2::Add => add(a, b),
-            Op2::Sub => sub(a, b),
-            Op2::Mul => mul(a, b),
-            Op2::Div => div(a, b),
-            Op2::Max => Ok(a.max(b)),
-            Op2::Min => Ok(a.min(b)),
-            Op2::Gt => Ok(bool_number(a > b)),
-            Op2::Lt => Ok(bool_number(a < b)),
-            Op2::Eq => Ok(bool_number(a == b)),
-            Op2::And => Ok(bool_number(is_true(a) && is_true(b))),
-            Op2::Or => Ok(bool_number(is_true(a) || is_true(b))),
-        }
+        let value = match self {
+            Op2::Add => add(a, b)?,
+            Op2::Sub => sub(a, b)?,
+            Op2::Mul => mul(a, b)?,
+            Op2::Div => div(a, b)?,
+            Op2::Max => a.max(b),
+            Op2::Min => a.min(b),
+            Op2::Gt => bool_number(a > b),
+            Op2::Lt => bool_number(a < b),
+            Op2::Eq => bool_number(a == b),
+            Op2::And => bool_number(is_true(a) && is_true(b)),
+            Op2::Or => bool_number(is_true(a) || is_true(b)),
+        };
+        Ok(value)
     }
 
     /// Whether a program writes it as this text.
