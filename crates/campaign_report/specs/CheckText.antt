@@ -5,7 +5,7 @@ use Rattle.reg_code.specs.declared.code.Code.{Code}
 use Rattle.reg_code.specs.ListingText.{listing_text}
 use Rattle.reg_compiler.specs.Needs.{form_need}
 use Rattle.reg_compiler.specs.Counts.{form_count}
-use Rattle.report_lines.specs.Text.{◌⧺◌}
+use Rattle.ccp_base.specs.Text.{◌⧺◌}
 
 -- the summary of a program: how much it declares, its greatest need of temporaries, and its count of instructions
 abbrev pub summary_line : Form → List ℕ

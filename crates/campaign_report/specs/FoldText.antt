@@ -7,7 +7,7 @@ use Rattle.portus_core.specs.declared.program.Decl.{Decl}
 use Rattle.portus_core.specs.ProgramForm.{form_of}
 use Rattle.reg_compiler.specs.declared.built.Built.{Built}
 use Rattle.report_lines.specs.declared.end_line.End.{End}
-use Rattle.report_lines.specs.Text.{◌⧺◌}
+use Rattle.ccp_base.specs.Text.{◌⧺◌}
 use Rattle.report_lines.specs.EndLine.{end_line}
 use Rattle.report_lines.specs.FaultLine.{fault_line}
 use Rattle.report_lines.specs.ReportLine.{report_lines}

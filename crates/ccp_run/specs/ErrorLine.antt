@@ -5,7 +5,7 @@ use Rattle.portus_build.specs.RefusalText.{refusal_text}
 use Rattle.reply_frames.specs.declared.fault.BadKind.{BadKind}
 use Rattle.reply_frames.specs.declared.fault.BadKind.TheVariants as bad
 use Rattle.scenario_json.specs.RefusalText as scene
-use Rattle.report_lines.specs.Text.{◌⧺◌}
+use Rattle.ccp_base.specs.Text.{◌⧺◌}
 use Rattle.ccp_run.specs.declared.refusal.Limit.{Limit}
 use Rattle.ccp_run.specs.declared.refusal.Limit.TheVariants.{Input, Audit}
 use Rattle.ccp_run.specs.declared.refusal.Refusal.{Refusal}

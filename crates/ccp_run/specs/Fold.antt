@@ -10,7 +10,7 @@ use Rattle.reg_compiler.specs.declared.built.Built.{Built}
 use Rattle.portus_build.specs.declared.fault.BuildFault.{BuildFault}
 use Rattle.portus_build.specs.Texts.{IsBuiltFrom, IsNoProgram}
 use Rattle.report_lines.specs.declared.end_line.End.{End}
-use Rattle.report_lines.specs.Text.{◌⧺◌}
+use Rattle.ccp_base.specs.Text.{◌⧺◌}
 use Rattle.report_lines.specs.EndLine.{end_line}
 use Rattle.report_lines.specs.FaultLine.{fault_line}
 use Rattle.report_lines.specs.ReportLine.{report_lines}

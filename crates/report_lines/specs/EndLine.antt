@@ -2,7 +2,7 @@
 use Rattle.std.specs.Prelude.{ℕ, Bool, true, false, List, codes, decimal}
 use Rattle.portus_core.specs.declared.program.Decl.{Decl}
 use Rattle.report_lines.specs.declared.end_line.End.{End}
-use Rattle.report_lines.specs.Text.{◌⧺◌}
+use Rattle.ccp_base.specs.Text.{◌⧺◌}
 use Rattle.report_lines.specs.FieldsText.{window_text, fields_text}
 
 abbrev pub yes_or_no : Bool → List ℕ

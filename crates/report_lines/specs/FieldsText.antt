@@ -1,7 +1,7 @@
 -- What a line says of a flow's state: its window and rate, and its fields.
 use Rattle.std.specs.Prelude.{ℕ, List, [], ◌∷◌, codes, decimal}
 use Rattle.portus_core.specs.declared.program.Decl.{Decl}
-use Rattle.report_lines.specs.Text.{◌⧺◌}
+use Rattle.ccp_base.specs.Text.{◌⧺◌}
 
 -- the congestion window, in bytes, and the pacing rate, in bytes a second
 abbrev pub window_text : ℕ → ℕ → List ℕ

@@ -1,4 +1,3 @@
-pub mod Text
 pub mod FieldsText
 pub mod FlowLine
 pub mod ReportLine
