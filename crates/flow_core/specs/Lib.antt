@@ -4,7 +4,6 @@ pub mod Cases
 pub mod Words
 pub mod Roomy
 pub mod Outbox
-pub mod OutboxLaws
 pub mod ReportWords
 pub mod Lift
 pub mod WordLaws
