@@ -4,7 +4,6 @@ pub mod AcceptedCode
 pub mod ListingText
 pub mod Sound
 pub mod SoundLaws
-pub mod RanLaws
 pub mod Places
 pub mod PackedCode
 pub mod OperationNumbers

@@ -1,4 +1,4 @@
-use Rattle.reg_code.specs.RanLaws.{RunsWithin-every}
+use Rattle.reg_code.proofs.RanLaws.{RunsWithin-every}
 use Rattle.reg_code.specs.SoundLaws.{IsSound-accepted}
 use Rattle.reg_code.proofs.checked.Checked.code.Goals as goal
 
