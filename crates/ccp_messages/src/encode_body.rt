@@ -1,6 +1,7 @@
 //! The bodies of frames, put at a place of bytes. Each call gives the place after what it put.
 
 ghost use Rattle.std.specs.Prelude.{◌≡◌, ◌+◌, ◌-◌, ◌*◌, ◌^◌, ◌<◌, ◌≤◌, length};
+ghost use Rattle.ccp_base.specs.Limits.{primitive_count};
 ghost use Rattle.reply_frames.specs.declared.outline.Version.TheVariants.{One};
 ghost use Rattle.reply_frames.specs.Frames as body;
 ghost use Rattle.reply_frames.specs.Bodies.{ack_body};
@@ -81,7 +82,7 @@ pub fn put_fault(out: &mut [u8], at: usize, version: Version, notice: Notice) ->
 
 /// Puts the body of an Ack.
 pub fn put_ack(out: &mut [u8], at: usize, ack: Ack) -> usize
-    requires { at + 120 ≤ length out.old }
+    requires { at + 8 * primitive_count ≤ length out.old }
     ensures typed { IsTypedAck ack }
     ensures wrote { Wrote at (body_bytes One (ack_body ack)) out.old out.new result }
 {

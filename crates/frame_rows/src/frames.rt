@@ -1,5 +1,8 @@
 //! Frames that the tests read, write and answer.
 
+/// How long the frame of an acknowledgement is.
+pub const ACK_BYTES: usize = 136;
+
 /// The Create of flow 0 with segments of 1448 bytes and `Cwnd` 4344.
 pub const CREATE: &[u8] =
     b"\x01\x01\x00\x00\x00\x00\x00\x00\x00\x00\x00\x00\x1c\x00\x00\x00\xf8\x10\x00\x00\x00\x00\x00\x00\xa8\x05\x00\x00";

@@ -5,8 +5,8 @@ ghost use Rattle.ccp_messages.specs.declared.message.Message.TheVariants.{Instal
 ghost use Rattle.ccp_base.specs.declared.arithmetic.FaultKind.TheVariants.{Overflow};
 
 use crate::frames::{
-    ACK, CHANGE_8, CREATE, FAULT, FAULT_1, INSTALL, INSTALL_5, MEASURE, MEASURE_WIDE, REFUSED_2,
-    UPDATE,
+    ACK, ACK_BYTES, CHANGE_8, CREATE, FAULT, FAULT_1, INSTALL, INSTALL_5, MEASURE, MEASURE_WIDE,
+    REFUSED_2, UPDATE,
 };
 use ccp_base::{FaultKind, FieldReg, Fields, Notice};
 use ccp_messages::{Message, Short, Version, decode, encode_into};
@@ -99,9 +99,9 @@ fn comes_back(rt: &impl Abort, alloc: Global, bytes: &[u8]) {
     let Ok((message, version, used)) = decode(alloc, bytes) else {
         panic!(rt; "not read");
     };
-    let mut out = [0; 136];
+    let mut out = [0; ACK_BYTES];
     assert_eq!(rt; encode_into(&message, version, &mut out), Ok(used));
-    assert!(rt; used <= 136 && used <= bytes.len());
+    assert!(rt; used <= ACK_BYTES && used <= bytes.len());
     assert_eq!(rt; &out[..used], &bytes[..used]);
 }
 
@@ -114,7 +114,7 @@ const BOTH_VERSIONS: [&[u8]; 6] = [CREATE, INSTALL_5, INSTALL, UPDATE, CHANGE_8,
 /// Each kind in both versions, with a byte more behind it.
 #[test]
 fn each_kind_comes_back(rt: HostRuntime) {
-    let mut ack = [0; 136];
+    let mut ack = [0; ACK_BYTES];
     ack.copy_from_slice(ACK);
     ack[72] = 8;
     ack[128] = 1;

@@ -1,6 +1,6 @@
 //! Bytes that no frame begins with, and bytes that go on to one, for both decoders.
 use crate::frames::{
-    ACK, CHANGE, CHANGE_3, CREATE, FAULT, INSTALL, INSTALL_5, MEASURE, REFUSED_2, UPDATE,
+    ACK, ACK_BYTES, CHANGE, CHANGE_3, CREATE, FAULT, INSTALL, INSTALL_5, MEASURE, REFUSED_2, UPDATE,
 };
 use ccp_base::Fields;
 use ccp_messages::{BadKind, DecodeFault, decode};
@@ -53,8 +53,8 @@ fn a_cut_frame_says_what_it_goes_on_to(rt: HostRuntime) {
 
 /// A frame with this byte at this place is refused there.
 fn bad_at(rt: &impl Abort, alloc: Global, frame: &[u8], place: usize, byte: u8, field: BadKind) {
-    let mut bytes = [0; 136];
-    assert!(rt; frame.len() <= 136 && place < frame.len());
+    let mut bytes = [0; ACK_BYTES];
+    assert!(rt; frame.len() <= ACK_BYTES && place < frame.len());
     bytes[..frame.len()].copy_from_slice(frame);
     bytes[place] = byte;
     let bytes = &bytes[..frame.len()];

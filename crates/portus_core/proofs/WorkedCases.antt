@@ -2,6 +2,7 @@
 use Rattle.std.proofs.Common.{◌≡◌, refl, ℕ, ◌-◌, ◌^◌, true, false, Some, Ok, Err, List, [], ◌∷◌}
 use Rattle.std.specs.Prelude.{codes}
 use Rattle.ccp_base.specs.declared.ack.Ack.{Ack}
+use Rattle.ccp_base.specs.Acknowledgement.{ack_of}
 use Rattle.ccp_base.specs.declared.arithmetic.FaultKind.TheVariants.{Overflow, ZeroDivisor}
 use Rattle.ccp_base.specs.declared.exchange.Report.{Report}
 use Rattle.ccp_base.specs.declared.fields.FieldReg.TheVariants as reg
@@ -18,23 +19,7 @@ abbrev at : ℕ → Place
 at column = record { line = 1; column = column }
 
 abbrev zeros : Ack
-zeros = record {
-  bytes_acked = 0;
-  packets_acked = 0;
-  bytes_misordered = 0;
-  packets_misordered = 0;
-  ecn_bytes = 0;
-  ecn_packets = 0;
-  lost_pkts_sample = 0;
-  now = 0;
-  bytes_in_flight = 0;
-  packets_in_flight = 0;
-  bytes_pending = 0;
-  rate_incoming = 0;
-  rate_outgoing = 0;
-  rtt_sample_us = 0;
-  was_timeout = false;
-}
+zeros = ack_of []
 
 abbrev acked : ℕ → Event
 acked bytes = acknowledged (record zeros { bytes_acked = bytes }) true

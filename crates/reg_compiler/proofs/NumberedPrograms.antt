@@ -3,6 +3,7 @@ use Rattle.std.proofs.Common.{◌≡◌, refl, ℕ, ◌≤◌, ◌<◌, Bool, tr
 use Rattle.std.proofs.lemmas.Bool.{ltb-true, lt-ltb, leb-true, eqb-true}
 use Rattle.ccp_base.specs.Limits.{primitive_count}
 use Rattle.portus_core.specs.declared.program.Var.{Var}
+use Rattle.ccp_base.specs.Limits.{primitive_count}
 use Rattle.portus_core.specs.declared.program.Var.TheVariants as var
 use Rattle.portus_core.specs.Programs.{Term, number, truth, name, pair, Action, set, set_if, set_unless, ewma, zero_micros, report, fall, Part, Form}
 use Rattle.portus_core.specs.ValidPrograms.{Known, is_known, is_target, is_next_local, fits_target, is_condition, is_term, is_truth, term_is_truth, is_writable, is_action, with_local, known_after, is_body, are_parts, known_of, is_valid}

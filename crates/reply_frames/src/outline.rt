@@ -4,6 +4,8 @@ ghost use Rattle.std.specs.Prelude.{◌≡◌, ℕ, ◌+◌, ◌*◌, ◌<◌, �
 ghost use Rattle.reply_frames.specs.FrameBytes.{counts};
 ghost use Rattle.reply_frames.specs.Kinds.{number_of, kind_of, version_number, version_of, most_n1, most_n2, most_n3, most_n4, size_of};
 
+use ccp_base::PRIMITIVES;
+
 /// What a frame is for.
 #[derive(Clone, Copy, PartialEq, Eq, Debug)]
 pub enum FrameKind {
@@ -189,7 +191,7 @@ pub fn frame_size(kind: FrameKind, version: Version, counts: Counts) -> u32
         (FrameKind::Change, _) => 20 + 10 * first,
         (FrameKind::Fault, Version::One) => 47,
         (FrameKind::Fault, Version::Two) => 51,
-        (FrameKind::Ack, _) => 136,
+        (FrameKind::Ack, _) => 16 + 8 * PRIMITIVES,
         (FrameKind::Refused, _) => 21,
     }
 }

@@ -2,6 +2,7 @@ use Rattle.std.proofs.Common.{rules, ◌≡◌, Some, sym, ◌∙◌, ◌<◌}
 use Rattle.std.proofs.lemmas.Bool.{OnTrue_from}
 use Rattle.ccp_base.specs.Limits.{primitive_count}
 use Rattle.ccp_base.specs.PrimitiveNames.{value_named}
+use Rattle.ccp_base.specs.Limits.{primitive_count}
 use Rattle.fold_run.proofs.ExpectedNames.{named}
 use Rattle.fold_run.proofs.names.is_expected.Goals as goal
 
