@@ -22,6 +22,7 @@
 -- - a fault of that program is answered by starting it anew with the agent's window, and what is told of another
 --   epoch is passed over.
 use Rattle.std.specs.Prelude.{ℕ, ◌-◌, ◌/◌, ◌^◌, ◌≤◌, ◌==◌, ◌||◌, nat_lt, nat_le, min, max, if◌then◌else◌}
+use Rattle.ccp_base.specs.Limits.{most_segment_bytes}
 use Rattle.ccp_base.specs.Saturating.{◌+ˢ◌, ◌*ˢ◌, muldiv, clamped}
 use Rattle.ccp_base.specs.Measurement.{measurement_of}
 use Rattle.ccp_base.specs.Course.{epoch_of, first_course, role_of, course_after, change_to, initial_segments}
@@ -35,7 +36,7 @@ use Rattle.ccp_base.specs.declared.exchange.Reply.TheVariants.{Nothing, Update}
 use Rattle.ccp_base.specs.declared.exchange.Told.{Told}
 use Rattle.ccp_base.specs.declared.exchange.Told.TheVariants.{Report, Fault}
 use Rattle.cubic_agent.specs.declared.cubic.Growth.{Growth}
-use Rattle.cubic_agent.specs.Window.{bytes_of, clamped_window, decreased, converged}
+use Rattle.cubic_agent.specs.Window.{most_window, bytes_of, clamped_window, decreased, converged}
 use Rattle.cubic_agent.specs.Curve.{w_cubic, k_of}
 
 pub record CubicState : Type 0 where
@@ -67,12 +68,12 @@ growth_of s =
 -- the ranges of a state
 pub record IsInRange (mss window w_max w_prior w_est : ℕ) : Type 0 where
   pub segment : 1 ≤ mss
-  pub segment_most : mss ≤ 65535
+  pub segment_most : mss ≤ most_segment_bytes
   pub window_least : 1000 ≤ window
-  pub window_most : window ≤ 4096000
-  pub w_max_most : w_max ≤ 4096000
-  pub w_prior_most : w_prior ≤ 4096000
-  pub w_est_most : w_est ≤ 4096000
+  pub window_most : window ≤ most_window
+  pub w_max_most : w_max ≤ most_window
+  pub w_prior_most : w_prior ≤ most_window
+  pub w_est_most : w_est ≤ most_window
 
 -- what a state becomes, and the reply
 abbrev pub Turn : Type 0
@@ -135,7 +136,7 @@ in_slow_start r s =
 
 -- what was acknowledged, in thousandths of a segment, at most the greatest window
 abbrev pub acked_of : ℕ → Measurement → ℕ
-acked_of mss r = min 4096000 (muldiv r.acked 1000 mss)
+acked_of mss r = min most_window (muldiv r.acked 1000 mss)
 
 -- W_est after these acknowledgements: it grows by alpha segments in a round-trip time until it has reached
 -- cwnd_prior, and by one segment from then on (RFC 9438, section 4.3)
@@ -143,7 +144,7 @@ abbrev pub estimate_of : ℕ → CubicState → ℕ
 estimate_of acked s =
     let slow = (9000 *ˢ acked) / (17 *ˢ s.window) in
     let fast = (1000 *ˢ acked) / s.window in
-    min (s.w_est +ˢ (if nat_lt s.w_est s.w_prior then slow else fast)) 4096000
+    min (s.w_est +ˢ (if nat_lt s.w_est s.w_prior then slow else fast)) most_window
 
 -- the window one round-trip time from now, from the window to half as much again (RFC 9438, section 4.2)
 abbrev pub target_of : ℕ → CubicState → ℕ

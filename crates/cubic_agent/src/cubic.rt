@@ -1,4 +1,5 @@
 ghost use Rattle.std.specs.Prelude.{◌≡◌, ◌≤◌};
+ghost use Rattle.ccp_base.specs.Limits.{most_segment_bytes};
 
 use crate::curve::{time_to_maximum, w_cubic};
 use crate::window::{SEGMENT, WINDOW_MOST, bytes, clamped_window, converged, decreased};
@@ -65,7 +66,7 @@ impl Cubic {
     /// start and of congestion avoidance.
     pub fn new(mss: u32, ss: Role, ca: Role) -> Self
         requires some { 1 ≤ mss }
-        requires most { mss ≤ 65535 }
+        requires most { mss ≤ most_segment_bytes }
         ensures { result ≡ first_cubic mss ss ca }
     {
         Cubic {

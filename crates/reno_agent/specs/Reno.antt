@@ -22,6 +22,7 @@
 -- - a fault of that program is answered by starting it anew with the agent's window, and what is told of another
 --   epoch is passed over.
 use Rattle.std.specs.Prelude.{ℕ, ◌-◌, ◌*◌, ◌/◌, ◌^◌, ◌≤◌, ◌==◌, ◌||◌, nat_lt, nat_le, min, max, if◌then◌else◌}
+use Rattle.ccp_base.specs.Limits.{most_segment_bytes, most_flight}
 use Rattle.ccp_base.specs.Saturating.{◌+ˢ◌, ◌*ˢ◌, muldiv, clamped}
 use Rattle.ccp_base.specs.Measurement.{measurement_of}
 use Rattle.ccp_base.specs.Course.{epoch_of, first_course, role_of, course_after, change_to, initial_segments}
@@ -49,9 +50,9 @@ pub record RenoState : Type 0 where
 -- the ranges of a state
 pub record IsInRange (mss window : ℕ) : Type 0 where
   pub segment : 1 ≤ mss
-  pub segment_most : mss ≤ 65535
+  pub segment_most : mss ≤ most_segment_bytes
   pub window_least : mss ≤ window
-  pub window_most : window ≤ 4096 * mss
+  pub window_most : window ≤ most_flight * mss
 
 -- what a state becomes, and the reply
 abbrev pub Turn : Type 0
@@ -69,11 +70,11 @@ first_reno mss ss ca = record {
 
 -- a window held from one segment to 4,096 segments
 abbrev pub clamped_window : ℕ → ℕ → ℕ
-clamped_window mss window = clamped mss (4096 *ˢ mss) window
+clamped_window mss window = clamped mss (most_flight *ˢ mss) window
 
 -- half of the flight before the losses were noticed, at least 2 segments (RFC 5681, equation 4) and at most 4,096
 abbrev pub cut_of : ℕ → Measurement → ℕ
-cut_of mss r = min (max ((r.inflight +ˢ r.loss *ˢ mss) / 2) (2 *ˢ mss)) (4096 *ˢ mss)
+cut_of mss r = min (max ((r.inflight +ˢ r.loss *ˢ mss) / 2) (2 *ˢ mss)) (most_flight *ˢ mss)
 
 -- the retransmission timer ran out: the window is one segment (RFC 5681, section 3.1)
 abbrev pub after_timeout : Measurement → RenoState → Turn

@@ -1,4 +1,5 @@
 ghost use Rattle.std.specs.Prelude.{◌≡◌, ◌≤◌};
+ghost use Rattle.ccp_base.specs.Limits.{most_segment_bytes};
 
 use ccp_base::{Course, Measurement, Phase, Reply, Role, Told, initial_segments};
 use int_roots::muldiv;
@@ -45,7 +46,7 @@ impl Reno {
     /// start and of congestion avoidance.
     pub fn new(mss: u32, ss: Role, ca: Role) -> Self
         requires some { 1 ≤ mss }
-        requires most { mss ≤ 65535 }
+        requires most { mss ≤ most_segment_bytes }
         ensures { result ≡ first_reno mss ss ca }
     {
         Reno {
