@@ -24,7 +24,9 @@ pub struct Followers {
 impl Followers {
     /// No line was read.
     pub fn new() -> Followers {
-        Followers { numbers: [0; PLACES] }
+        Followers {
+            numbers: [0; PLACES],
+        }
     }
 
     /// The number of the primitive with this name, which stands after the one with the number `before` or at a line's

@@ -64,7 +64,12 @@ pub(crate) fn number64(bytes: &[u8]) -> Result<(u64, &[u8]), Stop>
 /// A number of `width` bytes that is at most `most`, and the bytes after it. A byte is a bad one of `field` where
 /// every number that goes on so is above `most`.
 #[tactic(auto, unfolding(crate::specs::Parts::limited_at))]
-pub(crate) fn limited(bytes: &[u8], field: BadKind, width: u32, most: u64) -> Result<(u64, &[u8]), Stop>
+pub(crate) fn limited(
+    bytes: &[u8],
+    field: BadKind,
+    width: u32,
+    most: u64,
+) -> Result<(u64, &[u8]), Stop>
     ensures read { Gives (λ x. (x.0, x.1.now)) result (limited_at field width most bytes.now) }
     ensures within { IfOk result (λ x. x.0 ≤ most) }
 {
@@ -79,7 +84,12 @@ pub(crate) fn limited(bytes: &[u8], field: BadKind, width: u32, most: u64) -> Re
 
 /// This number alone, in `width` bytes, and the bytes after it. Another byte is a bad one of `field`.
 #[tactic(auto, unfolding(crate::specs::Parts::exactly_at))]
-pub(crate) fn exactly(bytes: &[u8], field: BadKind, width: u32, number: u32) -> Result<(u64, &[u8]), Stop>
+pub(crate) fn exactly(
+    bytes: &[u8],
+    field: BadKind,
+    width: u32,
+    number: u32,
+) -> Result<(u64, &[u8]), Stop>
     ensures read { Gives (λ x. (x.0, x.1.now)) result (exactly_at field width number bytes.now) }
     ensures within { IfOk result (λ x. x.0 ≤ number) }
 {
