@@ -1,71 +1,72 @@
 //! Flows with their links.
 use crate::scenes::{COUNTING, RENO, VOLATILE, cell};
-use crate::turns::{Shown, hear, is_out, refusal, settle, shown_by, stale, take};
-use agent_core::Ticket;
-use ccp_base::Reply;
+use crate::turns::{Shown, hears, is_out, is_stale, refuses, settles_nothing, shows, take};
 use flow_core::{Cell, Ended, TakeFault};
 use fold_machine::Acked;
 use std::alloc::Global;
 use std::process::Abort;
 use std::test::Fail;
 
-/// A ticket shows a report of epoch 0 with this span and this first field.
-fn shows(rt: &impl Abort, ticket: &Ticket, first: u64, end: u64, value: u64) {
-    let want = Shown {
-        epoch: 0,
-        first,
-        end,
-        value,
-    };
-    assert_eq!(rt; shown_by(ticket), Some(want));
-}
-
-/// The answer to a ticket is applied, and changes nothing.
-fn is_answered(rt: &impl Abort, cell: &mut Cell, ticket: Ticket) {
-    assert_eq!(rt; settle(cell, ticket), Some(Reply::Nothing));
-}
-
 /// The four acknowledgements come to one report, and no fifth one is taken.
 fn reports_once(rt: &impl Abort, cell: &mut Cell) {
-    assert_eq!(rt; hear(cell), Ok(Acked::Quiet));
-    assert_eq!(rt; hear(cell), Ok(Acked::Quiet));
-    assert_eq!(rt; hear(cell), Ok(Acked::Quiet));
-    assert_eq!(rt; hear(cell), Ok(Acked::Reported));
-    assert_eq!(rt; hear(cell), Err(Ended));
+    hears(rt, cell, Ok(Acked::Quiet));
+    hears(rt, cell, Ok(Acked::Quiet));
+    hears(rt, cell, Ok(Acked::Quiet));
+    hears(rt, cell, Ok(Acked::Reported));
+    hears(rt, cell, Err(Ended));
 }
 
 /// One ticket is out at a time, and its answer is applied once.
 fn settles_once(rt: &impl Abort, alloc: Global, cell: &mut Cell) -> Result<(), Fail> {
     let ticket = take(alloc, cell)?;
-    assert_eq!(rt; ticket.number, 0);
-    assert!(rt; is_out(cell, &ticket));
-    assert_eq!(rt; refusal(alloc, cell), Some(TakeFault::Out(0)));
-    is_answered(rt, cell, ticket);
-    assert_eq!(rt; stale(cell, ticket), Some(None));
+    is_out(rt, cell, &ticket, 0);
+    refuses(rt, alloc, cell, TakeFault::Out(0));
+    settles_nothing(rt, cell, &ticket);
+    is_stale(rt, cell, &ticket);
+    Ok(())
+}
+
+/// Whether the flow's word is complete.
+fn is_complete(rt: &impl Abort, cell: &Cell, want: bool) {
+    assert_eq!(rt; cell.is_complete(), want);
+}
+
+/// Before the first report there is nothing to take, and after its answer the flow is complete.
+fn completes(rt: &impl Abort, alloc: Global, cell: &mut Cell) -> Result<(), Fail> {
+    refuses(rt, alloc, cell, TakeFault::NotYet);
+    reports_once(rt, cell);
+    is_complete(rt, cell, false);
+    settles_once(rt, alloc, cell)?;
+    is_complete(rt, cell, true);
     Ok(())
 }
 
 #[test]
 fn a_flow_reports_once_and_is_complete(rt: HostRuntime) -> Result<(), Fail> {
     let mut cell = cell(rt.alloc(), RENO)?;
-    assert_eq!(rt; refusal(rt.alloc(), &mut cell), Some(TakeFault::NotYet));
-    reports_once(&rt, &mut cell);
-    assert!(rt; !cell.is_complete());
-    settles_once(&rt, rt.alloc(), &mut cell)?;
-    assert!(rt; cell.is_complete());
-    Ok(())
+    completes(&rt, rt.alloc(), &mut cell)
+}
+
+/// What a report of epoch 0 shows that has this span and this first field.
+fn span(first: u64, end: u64, value: u64) -> Shown {
+    Shown {
+        epoch: 0,
+        first,
+        end,
+        value,
+    }
 }
 
 /// With one slot the second report is held, and the third one has the span of both.
 fn holds(rt: &impl Abort, alloc: Global, cell: &mut Cell, value: u64) -> Result<(), Fail> {
-    assert_eq!(rt; hear(cell), Ok(Acked::Reported));
-    assert_eq!(rt; hear(cell), Ok(Acked::Held));
+    hears(rt, cell, Ok(Acked::Reported));
+    hears(rt, cell, Ok(Acked::Held));
     let earlier = take(alloc, cell)?;
-    assert_eq!(rt; hear(cell), Ok(Acked::Reported));
-    shows(rt, &earlier, 0, 1, 1);
-    is_answered(rt, cell, earlier);
+    hears(rt, cell, Ok(Acked::Reported));
+    shows(rt, &earlier, span(0, 1, 1));
+    settles_nothing(rt, cell, &earlier);
     let later = take(alloc, cell)?;
-    shows(rt, &later, 1, 3, value);
+    shows(rt, &later, span(1, 3, value));
     Ok(())
 }
 

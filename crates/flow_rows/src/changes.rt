@@ -1,8 +1,8 @@
 //! A change of program while an older report waits.
 use crate::scenes::{LOSING, case, cell};
-use crate::turns::{Shown, hear, settle, shown_by, take};
-use agent_core::Ticket;
+use crate::turns::{Shown, hears, settles, settles_nothing, shows, take};
 use agent_core::calls::answer;
+use agent_core::{Answer, Ticket};
 use ccp_base::Reply;
 use flow_core::{Case, Cell, EpochLine};
 use fold_machine::Acked;
@@ -15,6 +15,13 @@ const CHANGE: [u8; 30] = [
     5, 1, 1, 0, 0, 0, 0, 0, 0, 0, 0, 0, 30, 0, 0, 0, 3, 0, 0, 0, 4, 4, 0x50, 0x0b, 0, 0, 0, 0, 0, 0,
 ];
 
+/// The epoch that this change begins.
+const SECOND: EpochLine = EpochLine {
+    program: 3,
+    at: 2,
+    cwnd: 2896,
+};
+
 /// The program and the window that a reply changes to.
 fn change_of(reply: &Reply) -> Option<(u32, u64)> {
     match reply {
@@ -23,50 +30,66 @@ fn change_of(reply: &Reply) -> Option<(u32, u64)> {
     }
 }
 
-/// The answer to a ticket is the change.
-fn is_change(rt: &impl Abort, ticket: Ticket) {
-    let answer = answer(ticket);
-    assert_eq!(rt; change_of(&answer.reply()), Some((3, 2896)));
+/// The reply is the change.
+fn is_change(rt: &impl Abort, reply: &Reply) {
+    assert_eq!(rt; change_of(reply), Some((3, 2896)));
+}
+
+/// The frame is that of the change.
+fn has_frame(rt: &impl Abort, answer: &Answer) {
     assert_eq!(rt; answer.frame(), CHANGE.as_slice());
 }
 
-/// A ticket shows a report of this epoch, of one acknowledgement.
-fn shows(rt: &impl Abort, ticket: &Ticket, epoch: u32, first: u64, end: u64) {
-    let want = Shown {
+/// The answer to a ticket is the change.
+fn answers_change(rt: &impl Abort, ticket: &Ticket) {
+    let answer = answer(*ticket);
+    is_change(rt, &answer.reply());
+    has_frame(rt, &answer);
+}
+
+/// What a report of this epoch shows, of one acknowledgement.
+fn loss(epoch: u32, first: u64, end: u64) -> Shown {
+    Shown {
         epoch,
         first,
         end,
         value: 1,
-    };
-    assert_eq!(rt; shown_by(ticket), Some(want));
+    }
 }
 
 /// The first of two reports is answered by a change.
 fn changes(rt: &impl Abort, alloc: Global, cell: &mut Cell) -> Result<(), Fail> {
-    assert_eq!(rt; hear(cell), Ok(Acked::Reported));
-    assert_eq!(rt; hear(cell), Ok(Acked::Reported));
+    hears(rt, cell, Ok(Acked::Reported));
+    hears(rt, cell, Ok(Acked::Reported));
     let ticket = take(alloc, cell)?;
-    shows(rt, &ticket, 0, 0, 1);
-    is_change(rt, ticket);
-    assert!(rt; settle(cell, ticket).is_some());
+    shows(rt, &ticket, loss(0, 0, 1));
+    answers_change(rt, &ticket);
+    settles(rt, cell, &ticket);
     Ok(())
 }
 
 /// The second report keeps its epoch, which has ended, so nothing is answered to it.
 fn tells_the_waiting_one(rt: &impl Abort, alloc: Global, cell: &mut Cell) -> Result<(), Fail> {
     let ticket = take(alloc, cell)?;
-    shows(rt, &ticket, 0, 1, 2);
-    assert_eq!(rt; settle(cell, ticket), Some(Reply::Nothing));
+    shows(rt, &ticket, loss(0, 1, 2));
+    settles_nothing(rt, cell, &ticket);
     Ok(())
 }
 
 /// The third acknowledgement is reported of the new epoch.
 fn reports_anew(rt: &impl Abort, alloc: Global, cell: &mut Cell) -> Result<(), Fail> {
-    assert_eq!(rt; hear(cell), Ok(Acked::Reported));
+    hears(rt, cell, Ok(Acked::Reported));
     let ticket = take(alloc, cell)?;
-    shows(rt, &ticket, 1, 2, 3);
-    assert!(rt; settle(cell, ticket).is_some());
+    shows(rt, &ticket, loss(1, 2, 3));
+    settles(rt, cell, &ticket);
     Ok(())
+}
+
+/// The three reports are told in order, the first two of epoch 0.
+fn tells_all(rt: &impl Abort, alloc: Global, cell: &mut Cell) -> Result<(), Fail> {
+    changes(rt, alloc, cell)?;
+    tells_the_waiting_one(rt, alloc, cell)?;
+    reports_anew(rt, alloc, cell)
 }
 
 /// The epoch after the opening one of a complete flow.
@@ -78,18 +101,16 @@ fn second_epoch(cell: Cell) -> Option<EpochLine> {
     book.epochs.as_slice().get(1).copied()
 }
 
+/// The flow is complete, and the change is its second epoch.
+fn has_second(rt: &impl Abort, cell: Cell) {
+    assert_eq!(rt; second_epoch(cell), Some(SECOND));
+}
+
 #[test]
 fn a_change_leaves_what_waits(rt: HostRuntime) -> Result<(), Fail> {
     let mut cell = cell(rt.alloc(), LOSING)?;
-    changes(&rt, rt.alloc(), &mut cell)?;
-    tells_the_waiting_one(&rt, rt.alloc(), &mut cell)?;
-    reports_anew(&rt, rt.alloc(), &mut cell)?;
-    let second = EpochLine {
-        program: 3,
-        at: 2,
-        cwnd: 2896,
-    };
-    assert_eq!(rt; second_epoch(cell), Some(second));
+    tells_all(&rt, rt.alloc(), &mut cell)?;
+    has_second(&rt, cell);
     Ok(())
 }
 

@@ -7,11 +7,12 @@ use flow_core::{Core, Ended, TakeFault};
 use fold_machine::{Acked, Steps};
 use std::alloc::Global;
 use std::marker::Brand;
+use std::process::Abort;
 use std::sync::ledger::{Blank, Ledger};
 use std::test::Fail;
 
 /// What an acknowledgement of 1,448 bytes at time 1 comes to.
-fn hear(core: &mut Core) -> Result<Acked, Ended> {
+fn next(core: &mut Core) -> Result<Acked, Ended> {
     let ack = Ack {
         now: 1,
         bytes_acked: 1448,
@@ -31,6 +32,11 @@ fn counted<L: Ledger>(core: &mut Core, ack: &Ack, blank: Blank) -> Result<Acked,
     core.ack(ack, &mut steps)
 }
 
+/// That acknowledgement comes to this.
+fn hears(rt: &impl Abort, core: &mut Core, want: Result<Acked, Ended>) {
+    assert_eq!(rt; next(core), want);
+}
+
 /// Why no ticket is taken; None where one is.
 fn refusal(alloc: Global, core: &mut Core) -> Option<TakeFault> {
     match core.take(alloc) {
@@ -39,12 +45,22 @@ fn refusal(alloc: Global, core: &mut Core) -> Option<TakeFault> {
     }
 }
 
+/// No ticket is taken, for this reason.
+fn refuses(rt: &impl Abort, alloc: Global, core: &mut Core, want: TakeFault) {
+    assert_eq!(rt; refusal(alloc, core), Some(want));
+}
+
+/// The acknowledgement makes no report, and the window is wider by it.
+fn widens(rt: &impl Abort, alloc: Global, core: &mut Core) {
+    hears(rt, core, Ok(Acked::Quiet));
+    assert_eq!(rt; core.cwnd(), 5792);
+    refuses(rt, alloc, core, TakeFault::NotYet);
+}
+
 #[test]
 fn an_acknowledgement_widens_the_window(rt: HostRuntime) -> Result<(), Fail> {
     let mut core = core(rt.alloc(), RENO)?;
-    assert_eq!(rt; hear(&mut core), Ok(Acked::Quiet));
-    assert_eq!(rt; core.cwnd(), 5792);
-    assert_eq!(rt; refusal(rt.alloc(), &mut core), Some(TakeFault::NotYet));
+    widens(&rt, rt.alloc(), &mut core);
     Ok(())
 }
 
@@ -57,10 +73,15 @@ fn letters(core: Core) -> Option<usize> {
     Some(given.book.word.len())
 }
 
+/// The flow is still, and made no letter.
+fn has_no_letter(rt: &impl Abort, core: Core) {
+    assert_eq!(rt; letters(core), Some(0));
+}
+
 #[test]
 fn a_case_without_acknowledgements_takes_none(rt: HostRuntime) -> Result<(), Fail> {
     let mut core = core(rt.alloc(), NO_ACK)?;
-    assert_eq!(rt; hear(&mut core), Err(Ended));
-    assert_eq!(rt; letters(core), Some(0));
+    hears(&rt, &mut core, Err(Ended));
+    has_no_letter(&rt, core);
     Ok(())
 }

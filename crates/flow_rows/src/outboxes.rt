@@ -1,7 +1,11 @@
 //! Outboxes over a pool of their own.
+ghost use Rattle.std.specs.Prelude.{◌≤◌};
+ghost use Rattle.flow_core.specs.Outbox.{AreOwned};
+
 use ccp_base::{FaultKind, Notice, Report, Told, Values};
 use flow_core::Outbox;
 use slot_pool::Pool;
+use std::process::Abort;
 use std::test::Fail;
 
 const NOTICE: Notice = Notice {
@@ -31,17 +35,57 @@ fn report(first: u32) -> Report {
     }
 }
 
+/// Puts the report of the acknowledgements from here on into the outbox, which has room.
+fn push(rt: &impl Abort, pool: &mut Pool, outbox: &mut Outbox, first: u32)
+    requires words { 80 ≤ pool.old.words }
+    requires owned { AreOwned pool.old outbox.old.slots }
+    ensures words { 80 ≤ pool.new.words }
+    ensures owned { AreOwned pool.new outbox.new.slots }
+{
+    assert!(rt; outbox.room());
+    assert!(rt; pool.free() > 0);
+    outbox.push(pool, &report(first));
+}
+
+/// This is told next.
+fn tells(rt: &impl Abort, pool: &mut Pool, outbox: &mut Outbox, want: Option<Told>)
+    requires words { 80 ≤ pool.old.words }
+    requires owned { AreOwned pool.old outbox.old.slots }
+    ensures words { 80 ≤ pool.new.words }
+    ensures owned { AreOwned pool.new outbox.new.slots }
+{
+    assert_eq!(rt; outbox.pop(pool), want);
+}
+
+/// The report of the acknowledgements from here on is told next.
+fn tells_report(rt: &impl Abort, pool: &mut Pool, outbox: &mut Outbox, first: u32)
+    requires words { 80 ≤ pool.old.words }
+    requires owned { AreOwned pool.old outbox.old.slots }
+    ensures words { 80 ≤ pool.new.words }
+    ensures owned { AreOwned pool.new outbox.new.slots }
+{
+    tells(rt, pool, outbox, Some(Told::Report(report(first))));
+}
+
+/// Nothing is told any more, and each of so many slots is free.
+fn is_emptied(rt: &impl Abort, pool: &mut Pool, outbox: &mut Outbox, slots: u32)
+    requires words { 80 ≤ pool.old.words }
+    requires owned { AreOwned pool.old outbox.old.slots }
+{
+    tells(rt, pool, outbox, None);
+    assert_eq!(rt; pool.free(), slots);
+}
+
 #[test]
 fn a_report_is_told_before_a_notice(rt: HostRuntime) -> Result<(), Fail> {
     let mut pool = Pool::new(rt.alloc(), 1, 80)?;
     let mut outbox = Outbox::new(rt.alloc(), 1)?;
-    outbox.push(&mut pool, &report(3));
+    push(&rt, &mut pool, &mut outbox, 3);
     assert!(rt; !outbox.room());
     outbox.note(NOTICE);
-    assert_eq!(rt; outbox.pop(&mut pool), Some(Told::Report(report(3))));
-    assert_eq!(rt; outbox.pop(&mut pool), Some(Told::Fault(NOTICE)));
-    assert_eq!(rt; outbox.pop(&mut pool), None);
-    assert_eq!(rt; pool.free(), 1);
+    tells_report(&rt, &mut pool, &mut outbox, 3);
+    tells(&rt, &mut pool, &mut outbox, Some(Told::Fault(NOTICE)));
+    is_emptied(&rt, &mut pool, &mut outbox, 1);
     Ok(())
 }
 
@@ -49,15 +93,15 @@ fn a_report_is_told_before_a_notice(rt: HostRuntime) -> Result<(), Fail> {
 fn the_oldest_of_a_full_outbox_is_told(rt: HostRuntime) -> Result<(), Fail> {
     let mut pool = Pool::new(rt.alloc(), 3, 80)?;
     let mut outbox = Outbox::new(rt.alloc(), 2)?;
-    outbox.push(&mut pool, &report(0));
-    outbox.push(&mut pool, &report(1));
-    assert_eq!(rt; outbox.pop(&mut pool), Some(Told::Report(report(0))));
-    outbox.push(&mut pool, &report(2));
+    push(&rt, &mut pool, &mut outbox, 0);
+    push(&rt, &mut pool, &mut outbox, 1);
+    tells_report(&rt, &mut pool, &mut outbox, 0);
+    push(&rt, &mut pool, &mut outbox, 2);
     assert_eq!(rt; outbox.waiting(), 2);
-    assert_eq!(rt; outbox.pop(&mut pool), Some(Told::Report(report(1))));
-    assert_eq!(rt; outbox.pop(&mut pool), Some(Told::Report(report(2))));
+    tells_report(&rt, &mut pool, &mut outbox, 1);
+    tells_report(&rt, &mut pool, &mut outbox, 2);
     outbox.note(NOTICE);
     outbox.void();
-    assert_eq!(rt; outbox.pop(&mut pool), None);
+    is_emptied(&rt, &mut pool, &mut outbox, 3);
     Ok(())
 }

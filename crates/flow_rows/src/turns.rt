@@ -1,4 +1,5 @@
-//! The letters of a flow with its link, and what tests look at of them.
+//! The letters of a flow with its link, and what tests look at of them. A test's steps are calls of functions that
+//! assert one thing each.
 ghost use Rattle.std.specs.Prelude.{◌≡◌, ◌<◌};
 
 use agent_core::Ticket;
@@ -8,6 +9,7 @@ use flow_core::{Cell, Ended, TakeFault};
 use fold_machine::{Acked, Steps};
 use std::alloc::Global;
 use std::marker::Brand;
+use std::process::Abort;
 use std::sync::ledger::{Blank, Ledger};
 use std::test::Fail;
 
@@ -21,7 +23,7 @@ pub(crate) struct Shown {
 }
 
 /// What the cell's next acknowledgement comes to.
-pub(crate) fn hear(cell: &mut Cell) -> Result<Acked, Ended> {
+fn next(cell: &mut Cell) -> Result<Acked, Ended> {
     counted::<Brand>(cell, Blank::new(1))
 }
 
@@ -35,30 +37,46 @@ fn counted<L: Ledger>(cell: &mut Cell, blank: Blank) -> Result<Acked, Ended>
     cell.ack(&mut steps)
 }
 
+/// The cell's next acknowledgement comes to this.
+pub(crate) fn hears(rt: &impl Abort, cell: &mut Cell, want: Result<Acked, Ended>) {
+    assert_eq!(rt; next(cell), want);
+}
+
 /// The next ticket.
 pub(crate) fn take(alloc: Global, cell: &mut Cell) -> Result<Ticket, Fail> {
     Ok(cell.take(alloc)?)
 }
 
 /// Why no ticket is taken; None where one is.
-pub(crate) fn refusal(alloc: Global, cell: &mut Cell) -> Option<TakeFault> {
+fn refusal(alloc: Global, cell: &mut Cell) -> Option<TakeFault> {
     match cell.take(alloc) {
         Ok(_) => None,
         Err(fault) => Some(fault),
     }
 }
 
+/// No ticket is taken, for this reason.
+pub(crate) fn refuses(rt: &impl Abort, alloc: Global, cell: &mut Cell, want: TakeFault) {
+    assert_eq!(rt; refusal(alloc, cell), Some(want));
+}
+
 /// Whether this ticket is the one that is out.
-pub(crate) fn is_out(cell: &Cell, ticket: &Ticket) -> bool {
+fn is_the_one_out(cell: &Cell, ticket: &Ticket) -> bool {
     match &cell.out() {
         Some(out) => out.same(ticket),
         None => false,
     }
 }
 
+/// The ticket has this number, and it is out.
+pub(crate) fn is_out(rt: &impl Abort, cell: &Cell, ticket: &Ticket, number: u32) {
+    assert_eq!(rt; ticket.number, number);
+    assert!(rt; is_the_one_out(cell, ticket));
+}
+
 /// Applies the answer to a ticket: the reply; None where the answer is refused.
-pub(crate) fn settle(cell: &mut Cell, ticket: Ticket) -> Option<Reply> {
-    let answer = answer(ticket);
+fn settle(cell: &mut Cell, ticket: &Ticket) -> Option<Reply> {
+    let answer = answer(*ticket);
     let reply = answer.reply();
     match cell.settle(answer) {
         Ok(()) => Some(reply),
@@ -66,12 +84,27 @@ pub(crate) fn settle(cell: &mut Cell, ticket: Ticket) -> Option<Reply> {
     }
 }
 
+/// The answer to a ticket is applied.
+pub(crate) fn settles(rt: &impl Abort, cell: &mut Cell, ticket: &Ticket) {
+    assert!(rt; settle(cell, ticket).is_some());
+}
+
+/// The answer to a ticket is applied, and changes nothing.
+pub(crate) fn settles_nothing(rt: &impl Abort, cell: &mut Cell, ticket: &Ticket) {
+    assert_eq!(rt; settle(cell, ticket), Some(Reply::Nothing));
+}
+
 /// The number of the ticket that is out, if one is, where the answer to a ticket is refused; None where it is applied.
-pub(crate) fn stale(cell: &mut Cell, ticket: Ticket) -> Option<Option<u32>> {
-    match cell.settle(answer(ticket)) {
+fn stale(cell: &mut Cell, ticket: &Ticket) -> Option<Option<u32>> {
+    match cell.settle(answer(*ticket)) {
         Ok(()) => None,
         Err(stale) => Some(stale.out),
     }
+}
+
+/// The answer to a ticket is refused, and no ticket is out.
+pub(crate) fn is_stale(rt: &impl Abort, cell: &mut Cell, ticket: &Ticket) {
+    assert_eq!(rt; stale(cell, ticket), Some(None));
 }
 
 fn shown_of(report: &Report) -> Shown {
@@ -84,9 +117,14 @@ fn shown_of(report: &Report) -> Shown {
 }
 
 /// What a ticket shows of its report; None where it tells a fault.
-pub(crate) fn shown_by(ticket: &Ticket) -> Option<Shown> {
+fn shown_by(ticket: &Ticket) -> Option<Shown> {
     match &ticket.told {
         Told::Report(report) => Some(shown_of(report)),
         Told::Fault(_) => None,
     }
+}
+
+/// A ticket shows this of its report.
+pub(crate) fn shows(rt: &impl Abort, ticket: &Ticket, want: Shown) {
+    assert_eq!(rt; shown_by(ticket), Some(want));
 }
