@@ -1,6 +1,7 @@
 -- When a text is the live text of flows, and else with how many flows it begins.
-use Rattle.std.specs.Prelude.{◌≡◌, ◌≤◌, ℕ, true, List, [], ◌∷◌, length, take, ⊤}
+use Rattle.std.specs.Prelude.{◌≡◌, ◌≤◌, ℕ, true, List, [], ◌∷◌, length, take, ⊤, Result, IfOk}
 use Rattle.ccp_base.specs.Text.{◌⧺◌}
+use Rattle.ccp_base.specs.declared.outside.NoMemory.{NoMemory}
 use Rattle.flow_core.specs.declared.case.Case.{Case}
 use Rattle.flow_core.specs.declared.letter.Letter.{Letter}
 use Rattle.flow_core.specs.Words.{world, legal, is_complete}
@@ -26,18 +27,29 @@ with_words [] words = []
 with_words (case ∷ cases) [] = []
 with_words (case ∷ cases) (word ∷ words) = (case, word) ∷ with_words cases words
 
+-- the live text of the cases for these words
+abbrev pub text_of : Sources → List Case → List (List Letter) → List ℕ
+text_of sources cases words = live_text sources (with_words cases words)
+
+-- a text is the live text of one history of each flow at most, whatever follows it
+abbrev pub HaveOneHistory : Sources → List Case → Type 0
+HaveOneHistory sources cases =
+    (words others : List (List Letter)) (rest more : List ℕ)
+    → AreWordsOf sources cases words → AreWordsOf sources cases others
+    → text_of sources cases words ⧺ rest ≡ text_of sources cases others ⧺ more → words ≡ others
+
 -- the text is the live text of the cases for some legal and complete words
 pub record IsLiveText (sources : Sources) (cases : List Case) (text : List ℕ) : Type 0 where
   pub words : List (List Letter)
   pub are : AreWordsOf sources cases words
-  pub whole : text ≡ live_text sources (with_words cases words)
+  pub whole : text ≡ text_of sources cases words
 
 -- the text begins with the live text of the cases for some legal and complete words
 pub record BeginsWith (sources : Sources) (cases : List Case) (text : List ℕ) : Type 0 where
   pub words : List (List Letter)
   pub are : AreWordsOf sources cases words
   pub rest : List ℕ
-  pub whole : text ≡ live_text sources (with_words cases words) ⧺ rest
+  pub whole : text ≡ text_of sources cases words ⧺ rest
 
 -- the text isn't the live text of the cases, and this is the greatest number of them, from the first one on, with whose
 -- parts it begins
@@ -51,3 +63,7 @@ pub record IsNot (sources : Sources) (cases : List Case) (text : List ℕ) (coun
 abbrev pub IsVerdict : Sources → List Case → List ℕ → Verdict → Type 0
 IsVerdict sources cases text Yes = IsLiveText sources cases text
 IsVerdict sources cases text (No flow) = IsNot sources cases text flow
+
+-- an answer that is given is this verdict
+abbrev pub Says : Result Verdict NoMemory → Verdict → Type 0
+Says answer verdict = IfOk answer (λ said. said ≡ verdict)

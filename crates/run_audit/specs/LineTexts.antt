@@ -1,4 +1,4 @@
--- The lines of one epoch and of one ticket.
+-- The lines of one epoch, of one fault and of one ticket.
 use Rattle.std.specs.Prelude.{ℕ, List, codes, decimal}
 use Rattle.ccp_base.specs.Text.{◌⧺◌}
 use Rattle.report_lines.specs.FaultLine.{fault_line}
@@ -15,6 +15,10 @@ epoch_text number epoch =
 abbrev pub fault_text : SourceFault → List ℕ
 fault_text fault = fault_line fault.epoch fault.at fault.kind fault.place
 
+-- what a ticket told, and how it was answered
+abbrev pub answered_text : Sources → TicketLine → List ℕ
+answered_text sources ticket = told_text sources ticket.told (answer_text ticket)
+
 abbrev pub ticket_text : Sources → ℕ → TicketLine → List ℕ
 ticket_text sources number ticket =
-    codes "ticket " ⧺ decimal number ⧺ codes " " ⧺ told_text sources ticket.told (answer_text ticket)
+    codes "ticket " ⧺ decimal number ⧺ codes " " ⧺ answered_text sources ticket

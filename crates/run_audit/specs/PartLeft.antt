@@ -11,17 +11,17 @@ use Rattle.run_audit.specs.Fronts.{after}
 use Rattle.run_audit.specs.Marks.{text_marks}
 use Rattle.run_audit.specs.ForcedWord.{forced_word}
 
--- an account's lines after its faults
-abbrev pub answered_lines : Sources → Account → List ℕ
-answered_lines sources account = ticket_lines sources 0 account.tickets ⧺ end_line sources account
+-- an account's lines from its tickets on
+abbrev pub tickets_on : Sources → Account → List ℕ
+tickets_on sources account = ticket_lines sources 0 account.tickets ⧺ end_line sources account
 
--- those after its epochs
-abbrev pub told_lines : Sources → Account → List ℕ
-told_lines sources account = fault_lines account.faults ⧺ answered_lines sources account
+-- those from its faults on
+abbrev pub faults_on : Sources → Account → List ℕ
+faults_on sources account = fault_lines account.faults ⧺ tickets_on sources account
 
--- those after its flow's first line
+-- those from its epochs on, which are all after its flow's first line
 abbrev pub body_text : Sources → Account → List ℕ
-body_text sources account = epoch_lines 0 account.epochs ⧺ told_lines sources account
+body_text sources account = epoch_lines 0 account.epochs ⧺ faults_on sources account
 
 -- what of this is left after an account's lines
 abbrev pub account_left : Sources → List ℕ → Option Account → Option (List ℕ)
@@ -31,7 +31,8 @@ account_left sources body (Some account) = after (body_text sources account) bod
 -- after those of the account of a word
 abbrev pub word_left : Sources → Case → List ℕ → Option (List Letter) → Option (List ℕ)
 word_left sources case body None = None
-word_left sources case body (Some word) = account_left sources body (account_after (flow_from sources case) case.link word)
+word_left sources case body (Some word) =
+    account_left sources body (account_after (flow_from sources case) case.link word)
 
 -- after those of the word that is read off
 abbrev pub body_left : Sources → Case → Option (List ℕ) → Option (List ℕ)

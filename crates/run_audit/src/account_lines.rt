@@ -1,7 +1,7 @@
-ghost use Rattle.std.specs.Prelude.{◌≡◌, IfOk, map};
+ghost use Rattle.std.specs.Prelude.{IfOk, map};
 ghost use Rattle.flow_core.specs.LiveText.{end_line, epoch_lines, fault_lines, flow_line, ticket_lines};
 ghost use Rattle.source_flow.specs.SourceAccounts.{account_in, failure_of, sources_of};
-ghost use Rattle.run_audit.specs.Fronts.{after, bytes_found};
+ghost use Rattle.run_audit.specs.Fronts.{IsLeftAfter};
 ghost use Rattle.run_audit.specs.LineTexts.{epoch_text, fault_text, ticket_text};
 
 use crate::fronts::after;
@@ -18,7 +18,7 @@ pub fn after_flow<'a>(
     text: &'a [u8],
     case: &Case,
 ) -> Result<Option<&'a [u8]>, NoMemory>
-    ensures { IfOk result (λ left. bytes_found left ≡ after (flow_line case.now.flow case.now.name case.now.agent) text.now) }
+    ensures { IfOk result (IsLeftAfter (flow_line case.now.flow case.now.name case.now.agent) text.now) }
 {
     let mut line = Bytes::new(alloc);
     put_flow(alloc, &mut line, case)?;
@@ -31,7 +31,7 @@ pub fn after_epochs<'a>(
     text: &'a [u8],
     epochs: &[EpochLine],
 ) -> Result<Option<&'a [u8]>, NoMemory>
-    ensures { IfOk result (λ left. bytes_found left ≡ after (epoch_lines 0 epochs.now) text.now) }
+    ensures { IfOk result (IsLeftAfter (epoch_lines 0 epochs.now) text.now) }
 {
     let most = epochs.len();
     let mut number = 0;
@@ -55,7 +55,7 @@ fn after_epoch<'a>(
     number: usize,
     epoch: &EpochLine,
 ) -> Result<Option<&'a [u8]>, NoMemory>
-    ensures { IfOk result (λ left. bytes_found left ≡ after (epoch_text number epoch.now) text.now) }
+    ensures { IfOk result (IsLeftAfter (epoch_text number epoch.now) text.now) }
 {
     let mut line = Bytes::new(alloc);
     put_epoch(alloc, &mut line, number, epoch)?;
@@ -68,7 +68,7 @@ pub fn after_faults<'a>(
     text: &'a [u8],
     faults: &[SourceFault],
 ) -> Result<Option<&'a [u8]>, NoMemory>
-    ensures { IfOk result (λ left. bytes_found left ≡ after (fault_lines (map failure_of faults.now)) text.now) }
+    ensures { IfOk result (IsLeftAfter (fault_lines (map failure_of faults.now)) text.now) }
 {
     let mut left = text;
     let mut todo = faults;
@@ -87,7 +87,7 @@ fn after_fault<'a>(
     text: &'a [u8],
     fault: &SourceFault,
 ) -> Result<Option<&'a [u8]>, NoMemory>
-    ensures { IfOk result (λ left. bytes_found left ≡ after (fault_text fault.now) text.now) }
+    ensures { IfOk result (IsLeftAfter (fault_text fault.now) text.now) }
 {
     let mut line = Bytes::new(alloc);
     put_source_fault(alloc, &mut line, fault)?;
@@ -101,7 +101,7 @@ pub fn after_tickets<'a>(
     programs: &[(u32, Built)],
     tickets: &[TicketLine],
 ) -> Result<Option<&'a [u8]>, NoMemory>
-    ensures { IfOk result (λ left. bytes_found left ≡ after (ticket_lines (sources_of programs.now) 0 tickets.now) text.now) }
+    ensures { IfOk result (IsLeftAfter (ticket_lines (sources_of programs.now) 0 tickets.now) text.now) }
 {
     let most = tickets.len();
     let mut number = 0;
@@ -126,7 +126,7 @@ fn after_ticket<'a>(
     number: usize,
     ticket: &TicketLine,
 ) -> Result<Option<&'a [u8]>, NoMemory>
-    ensures { IfOk result (λ left. bytes_found left ≡ after (ticket_text (sources_of programs.now) number ticket.now) text.now) }
+    ensures { IfOk result (IsLeftAfter (ticket_text (sources_of programs.now) number ticket.now) text.now) }
 {
     let mut line = Bytes::new(alloc);
     put_ticket(alloc, &mut line, programs, number, ticket)?;
@@ -140,7 +140,7 @@ pub fn after_end<'a>(
     programs: &[(u32, Built)],
     account: &FlowAccount,
 ) -> Result<Option<&'a [u8]>, NoMemory>
-    ensures { IfOk result (λ left. bytes_found left ≡ after (end_line (sources_of programs.now) (account_in account.now)) text.now) }
+    ensures { IfOk result (IsLeftAfter (end_line (sources_of programs.now) (account_in account.now)) text.now) }
 {
     let mut line = Bytes::new(alloc);
     put_last(alloc, &mut line, programs, account)?;

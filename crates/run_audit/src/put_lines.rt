@@ -1,7 +1,8 @@
 ghost use Rattle.std.specs.Prelude.{◌≡◌, ◌≤◌, ◌++◌, OnOk};
-ghost use Rattle.flow_core.specs.LiveText.{agent_text, answer_text, end_line, fields_at, flow_line, reply_text, report_count, reports_told, told_text};
+ghost use Rattle.flow_core.specs.LiveText.{agent_text, answer_text, end_line, fields_at, flow_line, reply_text};
+ghost use Rattle.flow_core.specs.LiveText.{report_count, reports_told};
 ghost use Rattle.source_flow.specs.SourceAccounts.{account_in, sources_of};
-ghost use Rattle.run_audit.specs.LineTexts.{epoch_text, fault_text, ticket_text};
+ghost use Rattle.run_audit.specs.LineTexts.{answered_text, epoch_text, fault_text, ticket_text};
 
 use agent_core::Agent;
 use ccp_base::{Bytes, NoMemory, Notice, Reply, Told};
@@ -95,7 +96,7 @@ fn put_told(
     programs: &[(u32, Built)],
     ticket: &TicketLine,
 ) -> Result<(), NoMemory>
-    ensures { OnOk result (text.new ≡ text.old ++ told_text (sources_of programs.now) ticket.now.told (answer_text ticket.now)) }
+    ensures { OnOk result (text.new ≡ text.old ++ answered_text (sources_of programs.now) ticket.now) }
 {
     match &ticket.told {
         Told::Report(report) => {

@@ -3,3 +3,4 @@ pub mod Sourced
 pub mod SourceStates
 pub mod SourceSteps
 pub mod SourceWalks
+pub mod SourceMoves

@@ -1,5 +1,5 @@
 -- The account of a flow's word, read over the sources of programs, and what is made of it.
-use Rattle.std.specs.Prelude.{ℕ, ◌&&◌, Option, Some, None, if◌then◌else◌, List, map}
+use Rattle.std.specs.Prelude.{◌≡◌, ℕ, ◌&&◌, Option, Some, None, option_map, if◌then◌else◌, List, map}
 use Rattle.ccp_base.specs.declared.place.Place.{Place}
 use Rattle.link_model.specs.declared.link_case.LinkCase.{LinkCase}
 use Rattle.portus_core.specs.ProgramForm.{form_of}
@@ -49,3 +49,7 @@ account_in account = record {
   program = account.program;
   end = account.end;
 }
+
+-- this is found after a word: its account, or nothing where the word isn't legal or not complete
+abbrev pub IsAccountAfter : Flow Place → LinkCase → List Letter → Option FlowAccount → Type 0
+IsAccountAfter flow link word found = option_map account_in found ≡ account_after flow link word

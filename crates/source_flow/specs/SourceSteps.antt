@@ -1,26 +1,30 @@
 -- What the steps of a flow over its sources change of what is kept.
-use Rattle.std.specs.Prelude.{◌≡◌, ℕ, ◌+◌, ◌<◌, false, Option, Some, None, option_map, List, [], ◌∷◌, ◌++◌, length, map}
+use Rattle.std.specs.Prelude.{◌≡◌, ℕ, ◌+◌, ◌<◌, Bool, false, Option, Some, None, List, [], ◌∷◌, ◌++◌, length, map}
 use Rattle.ccp_base.specs.Limits.{most_acks}
 use Rattle.ccp_base.specs.declared.ack.Ack.{Ack}
 use Rattle.ccp_base.specs.declared.exchange.Notice.{Notice}
 use Rattle.ccp_base.specs.declared.exchange.Reply.{Reply}
 use Rattle.ccp_base.specs.declared.exchange.Reply.TheVariants.{Nothing, Update, Change}
 use Rattle.ccp_base.specs.FieldReg.{Pair, first_bad}
-use Rattle.ccp_base.specs.declared.exchange.Told.{Told}
-use Rattle.ccp_base.specs.declared.exchange.Told.TheVariants as told
 use Rattle.ccp_base.specs.declared.exchange.Report.{Report}
 use Rattle.ccp_base.specs.declared.place.Place.{Place}
+use Rattle.portus_core.specs.declared.env.Env.{Env}
+use Rattle.portus_core.specs.declared.env.Mean.{Mean}
 use Rattle.portus_core.specs.Value.{Cause}
+use Rattle.portus_core.specs.Programs.{Form}
 use Rattle.portus_core.specs.OneAcknowledgement.{IsEnvOf}
-use Rattle.portus_core.specs.Epoch.{Outcome, Track, next_first, with_values, declared_env}
+use Rattle.portus_core.specs.Epoch.{Outcome, Track, heard, by_source, stops, next_first, with_values, declared_env}
 use Rattle.portus_core.specs.Reports.{Epoch, reports_met}
 use Rattle.agent_core.specs.declared.agent.Agent.{Agent}
 use Rattle.agent_core.specs.Agents.{values_of}
+use Rattle.flow_core.specs.declared.book.TicketLine.{TicketLine}
 use Rattle.flow_core.specs.World.{Failure, failures_met, held_met}
+use Rattle.source_flow.specs.declared.state.Issued.{Issued}
+use Rattle.source_flow.specs.declared.state.Present.{Present}
 use Rattle.source_flow.specs.declared.state.State.{State}
 use Rattle.source_flow.specs.declared.source_case.SourceCase.{SourceCase}
 use Rattle.source_flow.specs.SourceAccounts.{failure_of}
-use Rattle.source_flow.specs.SourceStates.{form_at}
+use Rattle.source_flow.specs.SourceStates.{form_at, outcome_met}
 
 -- whose reports the present epoch's are
 abbrev pub reporter : ℕ → State → Epoch
@@ -57,26 +61,45 @@ pub record CanPut (s : State) : Type 0 where
   pub acks : s.acks < most_acks
   pub held : s.held < most_acks
 
+-- what an acknowledgement comes to by the program of an epoch, and the epoch after it
+pub record HasRun (form : Form) (ack : Ack) (room : Bool) (old new : Present) (mean : Option Mean) : Type 0 where
+  pub met : heard (by_source form) old.is_stopped old.env ack room ≡ (outcome_met mean, new.env)
+  pub stopped : new.is_stopped ≡ stops (outcome_met mean)
+  pub shape : IsEnvOf form new.env
+  pub frame : new ≡ record old { env = new.env; is_stopped = new.is_stopped }
+
 -- what an outcome changes
 pub record PutDown (flow : ℕ) (old new : State) (ack : Ack) (outcome : Outcome Cause) : Type 0 where
-  pub frame : new ≡ record old { present = new.present; waiting = new.waiting; untold = new.untold; faults = new.faults; held = new.held }
+  pub frame : new ≡ record old {
+    present = new.present;
+    waiting = new.waiting;
+    untold = new.untold;
+    faults = new.faults;
+    held = new.held;
+  }
   pub present : new.present ≡ record old.present { first = next_first outcome (track_in old) }
-  pub waiting : new.waiting.items ≡ old.waiting.items ++ reports_met (reporter flow old) (track_in old) ack outcome old.present.env
+  pub waiting :
+      new.waiting.items
+      ≡ old.waiting.items ++ reports_met (reporter flow old) (track_in old) ack outcome old.present.env
   pub untold : new.untold ≡ untold_by flow (failures_in old ack outcome) old.untold
   pub faults : map failure_of new.faults ≡ map failure_of old.faults ++ failures_in old ack outcome
   pub held : new.held ≡ old.held + held_met outcome
 
--- the oldest report is told, or else the notice
-abbrev pub told_next : List Report → Option Notice → Option Told
-told_next (report ∷ rest) untold = Some (told.Report report)
-told_next [] untold = option_map told.Fault untold
-
--- the notice that is left then
+-- the notice that is left where the oldest report is told, or else the notice
 abbrev pub untold_left : List Report → Option Notice → Option Notice
 untold_left (report ∷ rest) untold = untold
 untold_left [] untold = None
 
--- ---- a reply is obeyed
+-- ---- a ticket is answered, and the reply obeyed
+
+-- the line of a ticket that is answered so at this many acknowledgements
+abbrev pub line_of : Issued → ℕ → Reply → TicketLine
+line_of issued acks reply = record { told = issued.told; taken = issued.taken; answered = acks; reply = reply }
+
+-- the ticket that is out was answered so
+pub record Closed (issued : Issued) (reply : Reply) (old new : State) : Type 0 where
+  pub tickets : new.tickets ≡ old.tickets ++ line_of issued old.acks reply ∷ []
+  pub frame : new ≡ record old { out = None; tickets = new.tickets }
 
 -- the program of a change has each control variable that the agent's values name
 abbrev pub AreGood : SourceCase → Agent → Reply → Type 0
@@ -85,11 +108,22 @@ AreGood source agent (Update cwnd) = Unit {0}
 AreGood source agent (Change program cwnd cap) =
     first_bad (length (form_at source program).controls) (values_of agent (Change program cwnd cap)) ≡ None
 
+-- the env that a program starts with, by these values: the window and rate stay, and time zero is now
+abbrev pub env_at_start : SourceCase → ℕ → List Pair → State → Env
+env_at_start source program values s =
+    with_values values (declared_env (form_at source program) s.present.env.cwnd s.present.env.rate s.time)
+
 -- a change starts the program and an epoch, and makes an untold notice void
 pub record Changed (source : SourceCase) (program : ℕ) (values : List Pair) (old new : State) : Type 0 where
-  pub env : new.present.env ≡ with_values values (declared_env (form_at source program) old.present.env.cwnd old.present.env.rate old.time)
+  pub env : new.present.env ≡ env_at_start source program values old
   pub shape : IsEnvOf (form_at source program) new.present.env
-  pub present : new.present ≡ record { program = program; number = old.present.number + 1; env = new.present.env; is_stopped = false; first = old.acks }
+  pub present : new.present ≡ record {
+    program = program;
+    number = old.present.number + 1;
+    env = new.present.env;
+    is_stopped = false;
+    first = old.acks;
+  }
   pub epochs : new.epochs ≡ old.epochs ++ record { program = program; at = old.acks; cwnd = new.present.env.cwnd } ∷ []
   pub frame : new ≡ record old { present = new.present; untold = None; epochs = new.epochs }
 

@@ -1,5 +1,6 @@
 -- What a walk along a word comes to.
 use Rattle.std.specs.Prelude.{◌≡◌, ◌<◌, true, false, Option, Some, None, List}
+use Rattle.ccp_base.specs.FieldReg.{Pair}
 use Rattle.flow_core.specs.declared.letter.Letter.{Letter}
 use Rattle.flow_core.specs.declared.letter.Letter.TheVariants.{A, T, C}
 use Rattle.flow_core.specs.Words.{world, legal}
@@ -17,10 +18,14 @@ IsPermitted source A s = s.acks < source.case.now.acks
 IsPermitted source T s = s.out ≡ None
 IsPermitted source C s = Unit {0}
 
--- the epoch that the agent's opening change starts
+-- the values of the agent's opening change
+abbrev pub first_values : SourceCase → List Pair
+first_values source = values_of source.case.now.agent (begun source.case.now.agent)
+
+-- the epoch that this change starts
 pub record IsOpening (source : SourceCase) (present : Present) : Type 0 where
   pub program : present.program ≡ (course_of source.case.now.agent).ss.number
-  pub env : present.env ≡ with_values (values_of source.case.now.agent (begun source.case.now.agent)) (declared_env (form_at source present.program) 0 0 0)
+  pub env : present.env ≡ with_values (first_values source) (declared_env (form_at source present.program) 0 0 0)
   pub shape : IsEnvOf (form_at source present.program) present.env
   pub number : present.number ≡ 0
   pub running : present.is_stopped ≡ false

@@ -1,5 +1,5 @@
-ghost use Rattle.std.specs.Prelude.{◌≡◌, option_map, IfOk};
-ghost use Rattle.source_flow.specs.SourceAccounts.{flow_by, account_after, account_in};
+ghost use Rattle.std.specs.Prelude.{IfOk};
+ghost use Rattle.source_flow.specs.SourceAccounts.{flow_by, IsAccountAfter};
 ghost use Rattle.source_flow.specs.Sourced.{IsSourced};
 
 use crate::flow_account::FlowAccount;
@@ -11,8 +11,8 @@ use reg_compiler::Builts;
 use std::alloc::Global;
 
 /// What the flow of a case comes to after a word, by the meaning of the sources of its programs: its account where the
-/// word is legal and complete, None exactly where it isn't. Each program that the case's roles name must be among these,
-/// and be simulated by the role's code.
+/// word is legal and complete, None exactly where it isn't. Each program that the case's roles name must be among
+/// these, and be simulated by the role's code.
 pub fn account(
     alloc: Global,
     case: &Case,
@@ -20,7 +20,7 @@ pub fn account(
     word: &[Letter],
 ) -> Result<Option<FlowAccount>, NoMemory>
     requires { IsSourced programs.now case.now }
-    ensures { IfOk result (λ found. option_map account_in found ≡ account_after (flow_by programs.now case.now) case.now.link word.now) }
+    ensures { IfOk result (IsAccountAfter (flow_by programs.now case.now) case.now.link word.now) }
 {
     let Some(ss) = built_at(programs.as_slice(), case.ss.role.number) else {
         unreachable!()

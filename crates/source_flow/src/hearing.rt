@@ -1,14 +1,13 @@
 //! An acknowledgement: its program's source says what it comes to, and that is put down.
-ghost use Rattle.std.specs.Prelude.{◌≡◌, ◌+◌, ◌<◌, OnOk, IfOk};
-ghost use Rattle.portus_core.specs.Epoch.{heard, by_source, stops, outcome_of};
+ghost use Rattle.std.specs.Prelude.{◌≡◌, ◌<◌, OnOk, IfOk};
+ghost use Rattle.portus_core.specs.Epoch.{stops, outcome_of};
 ghost use Rattle.portus_core.specs.OneAcknowledgement.{IsEnvOf};
 ghost use Rattle.portus_core.specs.ProgramForm.{form_of};
-ghost use Rattle.ccp_base.specs.declared.place.Place.{Place};
-ghost use Rattle.link_model.specs.Link.{ack_after};
-ghost use Rattle.flow_core.specs.World.{World, track_of, after_ack};
-ghost use Rattle.source_flow.specs.SourceStates.{flow_of, outcome_met, IsAt, IsSound};
+ghost use Rattle.flow_core.specs.declared.letter.Letter.TheVariants.{A};
+ghost use Rattle.source_flow.specs.SourceStates.{outcome_met, IsSound};
+ghost use Rattle.source_flow.specs.SourceMoves.{Makes};
 ghost use Rattle.source_flow.specs.SourceAccounts.{failure_of};
-ghost use Rattle.source_flow.specs.SourceSteps.{notice_by, CanPut, PutDown};
+ghost use Rattle.source_flow.specs.SourceSteps.{notice_by, CanPut, HasRun, PutDown};
 
 use crate::flow_account::SourceFault;
 use crate::source_case::SourceCase;
@@ -28,8 +27,8 @@ fn stops(mean: &Mean) -> bool
 }
 
 impl Present {
-    /// What an acknowledgement comes to by the epoch's program, None exactly where the epoch was stopped. The env becomes
-    /// the one after it.
+    /// What an acknowledgement comes to by the epoch's program, None exactly where the epoch was stopped. The env
+    /// becomes the one after it.
     fn run(
         &mut self,
         alloc: Global,
@@ -38,10 +37,7 @@ impl Present {
         room: bool,
     ) -> Result<Option<Mean>, NoMemory>
         requires shape { IsEnvOf (form_of program.now) self.old.env }
-        ensures met { IfOk result (λ mean. heard (by_source (form_of program.now)) self.old.is_stopped self.old.env ack.entry.now room ≡ (outcome_met mean, self.new.env)) }
-        ensures stopped { IfOk result (λ mean. self.new.is_stopped ≡ stops (outcome_met mean)) }
-        ensures shape { OnOk result (IsEnvOf (form_of program.now) self.new.env) }
-        ensures frame { OnOk result (self.new ≡ record self.old { env = self.new.env; is_stopped = self.new.is_stopped }) }
+        ensures { IfOk result (HasRun (form_of program.now) ack.entry.now room self.old self.new) }
     {
         if self.is_stopped {
             return Ok(None);
@@ -59,7 +55,7 @@ impl State {
         requires sound { IsSound source.now self.old }
         requires left { self.old.acks < source.now.case.now.acks }
         ensures sound { OnOk result (IsSound source.now self.new) }
-        ensures at { OnOk result ((w : World Place) → IsAt (flow_of source.now) self.old w → IsAt (flow_of source.now) self.new (after_ack (flow_of source.now) (ack_after source.now.case.now.link w.windows (track_of (flow_of source.now) w).env.cwnd) w)) }
+        ensures at { OnOk result (Makes source.now A self.old self.new) }
     {
         let ack = self.link.next(self.present.env.cwnd);
         let room = self.waiting.len() < source.case.slots as usize;

@@ -1,14 +1,14 @@
 //! The answer to the ticket that is out is applied.
-ghost use Rattle.std.specs.Prelude.{◌≡◌, ◌+◌, ◌<◌, ◌∷◌, [], ◌++◌, Some, None, IfOk, OnOk, length};
+ghost use Rattle.std.specs.Prelude.{◌≡◌, ◌+◌, ◌<◌, Some, None, IfOk, OnOk, length};
 ghost use Rattle.ccp_base.specs.Limits.{most_acks};
 ghost use Rattle.ccp_base.specs.FieldReg.{first_bad};
-ghost use Rattle.ccp_base.specs.declared.place.Place.{Place};
 ghost use Rattle.portus_core.specs.Epoch.{with_values, declared_env};
 ghost use Rattle.portus_core.specs.OneAcknowledgement.{IsEnvOf};
 ghost use Rattle.portus_core.specs.ProgramForm.{form_of};
-ghost use Rattle.flow_core.specs.World.{World, after_answer};
-ghost use Rattle.source_flow.specs.SourceStates.{form_at, flow_of, IsAt, IsSound};
-ghost use Rattle.source_flow.specs.SourceSteps.{AreGood, Changed, Obeyed};
+ghost use Rattle.flow_core.specs.declared.letter.Letter.TheVariants.{C};
+ghost use Rattle.source_flow.specs.SourceStates.{form_at, IsSound};
+ghost use Rattle.source_flow.specs.SourceMoves.{Makes};
+ghost use Rattle.source_flow.specs.SourceSteps.{AreGood, Changed, Closed, Obeyed};
 
 use crate::source_case::SourceCase;
 use crate::state::{Issued, Present, State};
@@ -43,7 +43,7 @@ impl State {
     pub(crate) fn answer(&mut self, alloc: Global, source: &SourceCase<'_>) -> Result<(), NoMemory>
         requires sound { IsSound source.now self.old }
         ensures sound { OnOk result (IsSound source.now self.new) }
-        ensures at { OnOk result ((w : World Place) → IsAt (flow_of source.now) self.old w → IsAt (flow_of source.now) self.new (after_answer (flow_of source.now) w)) }
+        ensures at { OnOk result (Makes source.now C self.old self.new) }
     {
         match self.out {
             Some(issued) => self.settle(alloc, source, &issued),
@@ -61,7 +61,7 @@ impl State {
         requires sound { IsSound source.now self.old }
         requires out { self.old.out ≡ Some issued.now }
         ensures sound { OnOk result (IsSound source.now self.new) }
-        ensures at { OnOk result ((w : World Place) → IsAt (flow_of source.now) self.old w → IsAt (flow_of source.now) self.new (after_answer (flow_of source.now) w)) }
+        ensures at { OnOk result (Makes source.now C self.old self.new) }
     {
         let before = self.agent;
         let reply = self.agent.reply(&issued.told);
@@ -72,8 +72,7 @@ impl State {
 
     /// Puts down that the ticket that is out was answered so.
     fn close(&mut self, issued: &Issued, reply: Reply) -> Result<(), NoMemory>
-        ensures tickets { OnOk result (self.new.tickets ≡ self.old.tickets ++ record { told = issued.now.told; taken = issued.now.taken; answered = self.old.acks; reply = reply } ∷ []) }
-        ensures frame { OnOk result (self.new ≡ record self.old { out = None; tickets = self.new.tickets }) }
+        ensures { OnOk result (Closed issued.now reply self.old self.new) }
     {
         self.tickets.push(TicketLine {
             told: issued.told,

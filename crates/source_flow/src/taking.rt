@@ -1,12 +1,13 @@
 //! A report or a fault notice is taken as a ticket, and whether a letter may come.
 ghost use Rattle.std.specs.Prelude.{◌≡◌, None, is_some, drop};
 ghost use Rattle.std.specs.Bool.{OnTrue};
-ghost use Rattle.ccp_base.specs.declared.place.Place.{Place};
-ghost use Rattle.flow_core.specs.World.{World, after_take};
+ghost use Rattle.flow_core.specs.declared.letter.Letter.TheVariants.{T};
+ghost use Rattle.flow_core.specs.Outbox.{next_told};
 ghost use Rattle.flow_core.specs.Words.{can_take, is_legal, is_complete};
-ghost use Rattle.source_flow.specs.SourceStates.{flow_of, IsAt, IsSound};
+ghost use Rattle.source_flow.specs.SourceStates.{flow_of, IsSound};
+ghost use Rattle.source_flow.specs.SourceMoves.{Makes, Shows};
 ghost use Rattle.source_flow.specs.SourceWalks.{IsPermitted};
-ghost use Rattle.source_flow.specs.SourceSteps.{told_next, untold_left};
+ghost use Rattle.source_flow.specs.SourceSteps.{untold_left};
 
 use crate::source_case::SourceCase;
 use crate::state::{Issued, State};
@@ -16,14 +17,14 @@ use flow_core::Letter;
 impl State {
     /// Whether a report waits or a notice is untold.
     fn can_take(&self) -> bool
-        ensures { result ≡ is_some (told_next self.now.waiting.items self.now.untold) }
+        ensures { result ≡ is_some (next_told self.now.waiting.items self.now.untold) }
     {
         !self.waiting.is_empty() || self.untold.is_some()
     }
 
     /// Whether a letter is legal now.
     pub(crate) fn may(&self, source: &SourceCase<'_>, letter: Letter) -> bool
-        ensures legal { (w : World Place) → IsAt (flow_of source.now) self.now w → result ≡ is_legal (flow_of source.now) w letter }
+        ensures legal { Shows source.now self.now (λ w. is_legal (flow_of source.now) w letter) result }
         ensures permitted { OnTrue result (IsPermitted source.now letter self.now) }
     {
         match letter {
@@ -35,14 +36,14 @@ impl State {
 
     /// Whether all acknowledgements are in, nothing can be taken and no ticket is out.
     pub(crate) fn is_complete(&self, source: &SourceCase<'_>) -> bool
-        ensures { (w : World Place) → IsAt (flow_of source.now) self.now w → result ≡ is_complete (flow_of source.now) w }
+        ensures { Shows source.now self.now (is_complete (flow_of source.now)) result }
     {
         self.acks >= source.case.acks && self.out.is_none() && !self.can_take()
     }
 
     /// Takes out what is told next.
     fn pop(&mut self) -> Option<Told>
-        ensures told { result ≡ told_next self.old.waiting.items self.old.untold }
+        ensures told { result ≡ next_told self.old.waiting.items self.old.untold }
         ensures waiting { self.new.waiting.items ≡ drop 1 self.old.waiting.items }
         ensures untold { self.new.untold ≡ untold_left self.old.waiting.items self.old.untold }
         ensures frame { self.new ≡ record self.old { waiting = self.new.waiting; untold = self.new.untold } }
@@ -59,7 +60,7 @@ impl State {
         requires sound { IsSound source.now self.old }
         requires none_out { self.old.out ≡ None }
         ensures sound { IsSound source.now self.new }
-        ensures at { (w : World Place) → IsAt (flow_of source.now) self.old w → IsAt (flow_of source.now) self.new (after_take w) }
+        ensures at { Makes source.now T self.old self.new }
     {
         let taken = self.acks;
         if let Some(told) = self.pop() {

@@ -1,11 +1,9 @@
 //! A word, letter by letter, as long as each is legal.
-ghost use Rattle.std.specs.Prelude.{◌≡◌, option_map, IfOk, OnOk};
-ghost use Rattle.ccp_base.specs.declared.place.Place.{Place};
-ghost use Rattle.flow_core.specs.World.{World};
-ghost use Rattle.flow_core.specs.Words.{from_link, after_letter};
+ghost use Rattle.std.specs.Prelude.{IfOk, OnOk};
 ghost use Rattle.flow_core.specs.LiveText.{account_of};
-ghost use Rattle.source_flow.specs.SourceAccounts.{account_after, account_in};
-ghost use Rattle.source_flow.specs.SourceStates.{flow_of, AreMatched, IsAt, IsSound};
+ghost use Rattle.source_flow.specs.SourceAccounts.{account_in, IsAccountAfter};
+ghost use Rattle.source_flow.specs.SourceStates.{flow_of, AreMatched, IsSound};
+ghost use Rattle.source_flow.specs.SourceMoves.{Makes, Shows};
 ghost use Rattle.source_flow.specs.SourceWalks.{IsPermitted, IsWalked};
 
 use crate::flow_account::FlowAccount;
@@ -27,7 +25,7 @@ impl State {
         requires sound { IsSound source.now self.old }
         requires legal { IsPermitted source.now letter self.old }
         ensures sound { OnOk result (IsSound source.now self.new) }
-        ensures at { OnOk result ((w : World Place) → IsAt (flow_of source.now) self.old w → IsAt (flow_of source.now) self.new (after_letter (flow_of source.now) (from_link (flow_of source.now) source.now.case.now.link) w letter)) }
+        ensures at { OnOk result (Makes source.now letter self.old self.new) }
     {
         match letter {
             Letter::A => self.hear(alloc, source),
@@ -42,7 +40,7 @@ impl State {
     /// What the flow comes to.
     fn into_account(self, source: &SourceCase<'_>) -> FlowAccount
         requires { IsSound source.now self }
-        ensures { (w : World Place) → IsAt (flow_of source.now) self w → account_in result ≡ account_of (flow_of source.now) w }
+        ensures { Shows source.now self (account_of (flow_of source.now)) (account_in result) }
     {
         let end = End {
             acks: u64::from(self.acks),
@@ -85,7 +83,7 @@ pub(crate) fn account_over(
     word: &[Letter],
 ) -> Result<Option<FlowAccount>, NoMemory>
     requires { AreMatched source.now }
-    ensures { IfOk result (λ found. option_map account_in found ≡ account_after (flow_of source.now) source.now.case.now.link word.now) }
+    ensures { IfOk result (IsAccountAfter (flow_of source.now) source.now.case.now.link word.now) }
 {
     let Some(state) = walk(alloc, source, word)? else {
         return Ok(None);

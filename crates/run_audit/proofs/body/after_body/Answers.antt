@@ -2,17 +2,17 @@ use Rattle.std.proofs.Common.{rules, ◌≡◌, ℕ, Option, Some, None, List, I
 use Rattle.flow_core.specs.LiveText.{epoch_lines}
 use Rattle.source_flow.specs.SourceAccounts.{account_in, sources_of}
 use Rattle.run_audit.specs.Fronts.{after, bytes_found}
-use Rattle.run_audit.specs.PartLeft.{told_lines}
+use Rattle.run_audit.specs.PartLeft.{faults_on}
 use Rattle.run_audit.proofs.LineSteps.{both_there, both_missing}
 use Rattle.run_audit.proofs.body.after_body.Goals as goal
 
 pub returns-in-None : goal.returns-in-None
 returns-in-None c =
     let missing : None ≡ after (epoch_lines 0 (account_in c.args.account.now).epochs) c.args.text.now = search rules in
-    both_missing (epoch_lines 0 (account_in c.args.account.now).epochs) (told_lines (sources_of c.args.programs.now) (account_in c.args.account.now)) c.args.text.now missing
+    both_missing (epoch_lines 0 (account_in c.args.account.now).epochs) (faults_on (sources_of c.args.programs.now) (account_in c.args.account.now)) c.args.text.now missing
 
 pub returns-in-Some : goal.returns-in-Some
 returns-in-Some c =
     let there : Some c.in-Some.left.now ≡ after (epoch_lines 0 (account_in c.args.account.now).epochs) c.args.text.now = search rules in
-    subst (λ (o : Option (List ℕ)). IfOk c.after_told.result (λ left. bytes_found left ≡ o))
-    (both_there (epoch_lines 0 (account_in c.args.account.now).epochs) (told_lines (sources_of c.args.programs.now) (account_in c.args.account.now)) c.args.text.now c.in-Some.left.now (after (told_lines (sources_of c.args.programs.now) (account_in c.args.account.now)) c.in-Some.left.now) there refl) c.after_told.ensures
+    subst (λ (o : Option (List ℕ)). IfOk c.after_faults_on.result (λ left. bytes_found left ≡ o))
+    (both_there (epoch_lines 0 (account_in c.args.account.now).epochs) (faults_on (sources_of c.args.programs.now) (account_in c.args.account.now)) c.args.text.now c.in-Some.left.now (after (faults_on (sources_of c.args.programs.now) (account_in c.args.account.now)) c.in-Some.left.now) there refl) c.after_faults_on.ensures

@@ -3,7 +3,7 @@ use Rattle.flow_core.specs.LiveText.{ticket_lines, end_line}
 use Rattle.source_flow.specs.SourceAccounts.{account_in, sources_of}
 use Rattle.run_audit.specs.Fronts.{after, bytes_found}
 use Rattle.run_audit.proofs.LineSteps.{both_there, both_missing}
-use Rattle.run_audit.proofs.body.after_answered.Goals as goal
+use Rattle.run_audit.proofs.body.after_tickets_on.Goals as goal
 
 pub returns-in-None : goal.returns-in-None
 returns-in-None c =
