@@ -8,7 +8,6 @@ use portus_core::{Block, Cmd, Decl, Expr, Op2, Program, Var};
 use reg_code::listing;
 use reg_compiler::{CompileFault, compile, greatest_need, instruction_count};
 use std::alloc::{AllocError, Global};
-use std::process::Abort;
 use std::test::Fail;
 
 /// A part of an operation.
@@ -68,46 +67,41 @@ fn code_text(alloc: Global, op: Op2, left: Leaf, right: Leaf) -> Result<Vec<u8>,
     Ok(listing(alloc, &built.code.code)?.into_vec())
 }
 
-fn has_line(
-    rt: &impl Abort,
-    alloc: Global,
-    op: Op2,
-    left: Leaf,
-    right: Leaf,
-    line: &str,
-) -> Result<(), Fail> {
-    let text = code_text(alloc, op, left, right)?;
-    let expected = format!(in alloc;
+/// Operations on two leaves, and the line of code that each assignment becomes.
+const LINES: [(Op2, Leaf, Leaf, &str); 3] = [
+    (
+        Op2::Add,
+        Leaf::Number(1),
+        Leaf::Number(2),
+        "bind report0 #3 #0",
+    ),
+    (
+        Op2::Add,
+        Leaf::Field,
+        Leaf::Number(1),
+        "add report0 report0 #1",
+    ),
+    (
+        Op2::Div,
+        Leaf::Number(1),
+        Leaf::Number(0),
+        "div report0 #1 #0",
+    ),
+];
+
+/// The listing of a code with this line.
+fn listed(alloc: Global, line: &str) -> Result<String, AllocError> {
+    format!(in alloc;
         "report 0 fixed 0\nevent 0 condition 0..1 body 1..2\n0 bind flag #1 #0\n1 {line}\n"
-    )?;
-    assert_eq!(rt; text.as_slice(), expected.as_bytes());
-    Ok(())
+    )
 }
 
 #[test]
 fn the_last_line_writes_the_target(rt: HostRuntime) -> Result<(), Fail> {
-    let rows = [
-        (
-            Op2::Add,
-            Leaf::Number(1),
-            Leaf::Number(2),
-            "bind report0 #3 #0",
-        ),
-        (
-            Op2::Add,
-            Leaf::Field,
-            Leaf::Number(1),
-            "add report0 report0 #1",
-        ),
-        (
-            Op2::Div,
-            Leaf::Number(1),
-            Leaf::Number(0),
-            "div report0 #1 #0",
-        ),
-    ];
-    for (op, left, right, line) in rows {
-        has_line(&rt, rt.alloc(), op, left, right, line)?;
+    for (op, left, right, line) in &LINES {
+        let text = code_text(rt.alloc(), *op, *left, *right)?;
+        let wanted = listed(rt.alloc(), line)?;
+        assert!(rt; text.as_slice() == wanted.as_bytes(), "{line}");
     }
     Ok(())
 }
@@ -142,25 +136,51 @@ fn balanced(alloc: Global, levels: u32) -> Result<Expr, AllocError>
     operation(alloc, Op2::Add, levels, left, right)
 }
 
+/// How operations stand in one another, at how many levels, and of the program its need, its count and its refusal.
+type Size = (Shape, u32, u32, u64, Option<CompileFault>);
+
+#[derive(Clone, Copy)]
+enum Shape {
+    Nested,
+    Balanced,
+}
+
+/// What a program is refused by whose operation at line 9 needs too much.
+const TOO_DEEP: Option<CompileFault> = Some(CompileFault::TooDeep(Place { line: 9, column: 1 }));
+
+const SIZES: [Size; 4] = [
+    (Shape::Nested, 8, 8, 17, None),
+    (Shape::Nested, 9, 9, 19, TOO_DEEP),
+    (
+        Shape::Balanced,
+        8,
+        8,
+        257,
+        Some(CompileFault::CodeTooLong(257)),
+    ),
+    (Shape::Balanced, 9, 9, 513, TOO_DEEP),
+];
+
+/// A program that assigns operations in this shape.
+fn shaped(alloc: Global, shape: Shape, levels: u32) -> Result<Program, Fail> {
+    let value = match shape {
+        Shape::Nested => nested(alloc, levels)?,
+        Shape::Balanced => balanced(alloc, levels)?,
+    };
+    assigning(alloc, value)
+}
+
+fn has_size(alloc: Global, size: &Size) -> Result<bool, Fail> {
+    let (shape, levels, need, count, fault) = *size;
+    let program = shaped(alloc, shape, levels)?;
+    let is_sized = greatest_need(&program) == need && instruction_count(&program) == count;
+    Ok(is_sized && compile(alloc, program).err() == fault)
+}
+
 #[test]
 fn refusals_by_need_and_count(rt: HostRuntime) -> Result<(), Fail> {
-    let deep = |line| Some(CompileFault::TooDeep(Place { line, column: 1 }));
-    let rows = [
-        (nested(rt.alloc(), 8)?, 8, 17, None),
-        (nested(rt.alloc(), 9)?, 9, 19, deep(9)),
-        (
-            balanced(rt.alloc(), 8)?,
-            8,
-            257,
-            Some(CompileFault::CodeTooLong(257)),
-        ),
-        (balanced(rt.alloc(), 9)?, 9, 513, deep(9)),
-    ];
-    for (value, need, count, fault) in rows {
-        let program = assigning(rt.alloc(), value)?;
-        assert_eq!(rt; greatest_need(&program), need);
-        assert_eq!(rt; instruction_count(&program), count);
-        assert_eq!(rt; compile(rt.alloc(), program).err(), fault);
+    for (place, size) in SIZES.iter().enumerate() {
+        assert!(rt; has_size(rt.alloc(), size)?, "at {place}");
     }
     Ok(())
 }

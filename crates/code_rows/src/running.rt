@@ -1,13 +1,14 @@
 //! Codes that the machine runs.
 ghost use Rattle.std.specs.Prelude.{◌≡◌, ◌<◌};
+ghost use Rattle.fold_machine.specs.MachineState.{fresh_machine};
 
 use ccp_base::{Ack, FieldReg, Fields};
+use code_verifier::verify;
 use fold_machine::{Acked, BadRegister, Machine, Steps};
 use reg_code::{Checked, Code, Event, Implicit, Instr, Op, Reg, Sequence, pack_all};
 use slot_pool::Slots;
-use std::alloc::{AllocError, Global};
+use std::alloc::Global;
 use std::marker::Brand;
-use std::process::Abort;
 use std::sync::ledger::{Blank, Ledger};
 use std::test::Fail;
 
@@ -15,9 +16,7 @@ const FLAG: Reg = Reg::Implicit(Implicit::Flag);
 
 const CWND: Reg = Reg::Implicit(Implicit::Cwnd);
 
-const fn bind(to: Reg, left: Reg) -> Instr
-    ensures { result ≡ record { op = Op.Bind; to = to; left = left; right = Reg.Imm 0 } }
-{
+fn bind(to: Reg, left: Reg) -> Instr {
     Instr {
         op: Op::Bind,
         to,
@@ -27,7 +26,7 @@ const fn bind(to: Reg, left: Reg) -> Instr
 }
 
 /// One event: its condition is true by a temporary, and its body sets the window to 1.
-fn window_of_one(alloc: Global) -> Result<Checked, AllocError> {
+fn window_of_one(alloc: Global) -> Result<Checked, Fail> {
     let instrs = [
         bind(Reg::Temp(3), Reg::Imm(1)),
         bind(FLAG, Reg::Temp(3)),
@@ -37,26 +36,28 @@ fn window_of_one(alloc: Global) -> Result<Checked, AllocError> {
         condition: 2,
         body: 1,
     };
-    Ok(Checked::new(Code {
+    let code = Code {
         reports: Sequence::new(alloc),
         controls: Sequence::new(alloc),
         events: Sequence::from_vec(vec![in alloc; event]?),
         instrs: pack_all(alloc, &instrs)?,
-    }))
+    };
+    Ok(verify(code).ok().ok_or("refused")?)
 }
 
 /// A code without registers, events and instructions.
-fn empty_code(alloc: Global) -> Checked {
-    Checked::new(Code {
+fn empty_code(alloc: Global) -> Result<Checked, Fail> {
+    let code = Code {
         reports: Sequence::new(alloc),
         controls: Sequence::new(alloc),
         events: Sequence::new(alloc),
         instrs: Sequence::new(alloc),
-    })
+    };
+    Ok(verify(code).ok().ok_or("refused")?)
 }
 
-/// Starts the code at a window of 0 and runs one acknowledgement.
-fn run_once<L: Ledger>(rt: &impl Abort, alloc: Global, blank: Blank) -> Result<(), Fail>
+/// Whether the code, started at a window of 0, takes it to 1 in three steps at one acknowledgement.
+fn runs_once<L: Ledger>(alloc: Global, blank: Blank) -> Result<bool, Fail>
     requires name { blank.name ≡ L.name }
     requires parts { blank.parts ≡ L.parts }
     requires some { 0 < blank.parts }
@@ -64,18 +65,17 @@ fn run_once<L: Ledger>(rt: &impl Abort, alloc: Global, blank: Blank) -> Result<(
     let mut steps = Steps::<L>::new(blank);
     let code = window_of_one(alloc)?;
     let mut machine = Machine::new(alloc, 0, 0)?;
-    assert_eq!(rt; machine.start(&code, &Fields::new(), 0), Ok(()));
-    assert!(rt; machine.fits(&code));
+    if machine.start(&code, &Fields::new(), 0).is_err() || !machine.fits(&code) {
+        return Ok(false);
+    }
     let acked = machine.ack(&code, &Ack::default(), true, &mut steps);
-    assert_eq!(rt; acked, Acked::Quiet);
-    assert_eq!(rt; machine.cwnd(), 1);
-    assert_eq!(rt; machine.ran(), 3);
-    Ok(())
+    Ok(acked == Acked::Quiet && machine.cwnd() == 1 && machine.ran() == 3)
 }
 
 #[test]
 fn three_steps_set_the_window(rt: HostRuntime) -> Result<(), Fail> {
-    run_once::<Brand>(&rt, rt.alloc(), Blank::new(1))
+    assert!(rt; runs_once::<Brand>(rt.alloc(), Blank::new(1))?);
+    Ok(())
 }
 
 #[test]
@@ -83,22 +83,35 @@ fn a_control_that_isnt_there_is_refused(rt: HostRuntime) -> Result<(), Fail> {
     let mut machine = Machine::new(rt.alloc(), 0, 0)?;
     let mut values = Fields::new();
     values.push(FieldReg::Control(0), 7);
-    let code = empty_code(rt.alloc());
-    assert_eq!(rt; machine.start(&code, &values, 0), Err(BadRegister(0)));
-    assert!(rt; !machine.fits(&code));
+    let code = empty_code(rt.alloc())?;
+    let refused = machine.start(&code, &values, 0).err();
+    assert!(rt; refused == Some(BadRegister(0)) && !machine.fits(&code));
     Ok(())
+}
+
+/// Whether 160 words are all 0.
+fn are_blank(words: &[u64]) -> bool {
+    words.len() == 160 && words.iter().all(|word| *word == 0)
+}
+
+/// Whether the one further slot is blank, and what is written there stays when a code is started.
+fn keeps_a_slot(machine: &mut Machine, code: &Checked) -> Result<bool, Fail>
+    requires { machine.old ≡ fresh_machine 5 0 1 }
+{
+    let slot = machine.take_slot()?;
+    if !are_blank(machine.slot(&slot)) || machine.take_slot().is_ok() {
+        return Ok(false);
+    }
+    machine.set_slot(&slot, 0, 9);
+    let started = machine.start(code, &Fields::new(), 0);
+    Ok(started.is_ok() && machine.slot(&slot).first() == Some(&9))
 }
 
 #[test]
 fn a_start_leaves_a_further_slot(rt: HostRuntime) -> Result<(), Fail> {
     let mut machine = Machine::roomy(rt.alloc(), 5, 0, 1)?;
-    let slot = machine.take_slot()?;
-    assert_eq!(rt; machine.slot(&slot), [0; 160].as_slice());
-    assert!(rt; machine.take_slot().is_err());
-    machine.set_slot(&slot, 0, 9);
-    let code = empty_code(rt.alloc());
-    assert_eq!(rt; machine.start(&code, &Fields::new(), 0), Ok(()));
-    assert_eq!(rt; machine.slot(&slot)[0], 9);
-    assert_eq!(rt; machine.cwnd(), 5);
+    let code = empty_code(rt.alloc())?;
+    assert!(rt; keeps_a_slot(&mut machine, &code)?);
+    assert!(rt; machine.cwnd() == 5);
     Ok(())
 }

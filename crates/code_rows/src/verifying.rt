@@ -16,18 +16,24 @@ const ZERO: Reg = Reg::Imm(0);
 
 const ONE: Reg = Reg::Imm(1);
 
-const fn instr(op: Op, to: Reg, left: Reg, right: Reg) -> Instr {
-    Instr {
-        op,
-        to,
-        left,
-        right,
-    }
-}
+const TEMP: Reg = Reg::Temp(3);
 
-fn bind(to: Reg, left: Reg) -> Instr {
-    instr(Op::Bind, to, left, ZERO)
-}
+/// A condition that holds.
+const HOLDS: Instr = Instr {
+    op: Op::Bind,
+    to: FLAG,
+    left: ONE,
+    right: ZERO,
+};
+
+/// An event of a condition alone.
+const BARE: Event = Event {
+    condition: 1,
+    body: 0,
+};
+
+/// The rule and the index with which a code is refused, if it is.
+type Refusal = Option<(Rule, u32)>;
 
 fn starts(alloc: Global, count: usize) -> Result<Sequence<Start>, AllocError> {
     let start = Start {
@@ -37,233 +43,240 @@ fn starts(alloc: Global, count: usize) -> Result<Sequence<Start>, AllocError> {
     Ok(Sequence::from_vec(vec![in alloc; start; count]?))
 }
 
-/// The rule and the index with which a code is refused, if it is.
-fn refused(
+/// A code with so many reports and controls.
+fn code(
     alloc: Global,
-    sizes: (usize, usize),
+    reports: usize,
+    controls: usize,
     events: &[Event],
     instrs: &[Instr],
-) -> Result<Option<(Rule, u32)>, AllocError> {
-    let code = Code {
-        reports: starts(alloc, sizes.0)?,
-        controls: starts(alloc, sizes.1)?,
+) -> Result<Code, AllocError> {
+    Ok(Code {
+        reports: starts(alloc, reports)?,
+        controls: starts(alloc, controls)?,
         events: Sequence::from_vec(Vec::from_slice(alloc, events)?),
         instrs: pack_all(alloc, instrs)?,
-    };
-    Ok(match verify(code) {
+    })
+}
+
+fn refusal(code: Code) -> Refusal {
+    match verify(code) {
         Ok(_) => None,
         Err(refusal) => Some((refusal.rule, refusal.index)),
-    })
+    }
+}
+
+/// How many reports and controls, how many events, each of this kind, and how many conditions that hold.
+type Counts = (usize, usize, usize, Event, usize, Refusal);
+
+/// An event with one condition and all else as its body.
+const WHOLE: Event = Event {
+    condition: 1,
+    body: 255,
+};
+
+const COUNTS: [Counts; 6] = [
+    (64, 64, 64, BARE, 64, None),
+    (65, 65, 65, BARE, 257, Some((Rule::Counts, 0))),
+    (64, 65, 65, BARE, 257, Some((Rule::Counts, 1))),
+    (64, 64, 65, BARE, 257, Some((Rule::Counts, 2))),
+    (64, 64, 1, WHOLE, 257, Some((Rule::Counts, 3))),
+    (64, 64, 1, WHOLE, 256, Some((Rule::Writable, 1))),
+];
+
+fn refusal_of_counts(alloc: Global, counts: &Counts) -> Result<Refusal, AllocError> {
+    let (reports, controls, size, event, holding, _) = *counts;
+    let events = vec![in alloc; event; size]?;
+    let instrs = vec![in alloc; HOLDS; holding]?;
+    Ok(refusal(code(alloc, reports, controls, &events, &instrs)?))
 }
 
 #[test]
 fn refuses_too_many(rt: HostRuntime) -> Result<(), Fail> {
-    let alloc = rt.alloc();
-    let event = [Event {
-        condition: 1,
-        body: 0,
-    }; 65];
-    let holds = [instr(Op::Bind, FLAG, ONE, ZERO); 257];
-    let whole = [Event {
-        condition: 1,
-        body: 255,
-    }];
-    assert_eq!(rt; refused(alloc, (64, 64), &event[..64], &holds[..64])?, None);
-    assert_eq!(rt;
-        refused(alloc, (65, 65), &event, &holds)?,
-        Some((Rule::Counts, 0))
-    );
-    assert_eq!(rt;
-        refused(alloc, (64, 65), &event, &holds)?,
-        Some((Rule::Counts, 1))
-    );
-    assert_eq!(rt;
-        refused(alloc, (64, 64), &event, &holds)?,
-        Some((Rule::Counts, 2))
-    );
-    assert_eq!(rt;
-        refused(alloc, (64, 64), &whole, &holds)?,
-        Some((Rule::Counts, 3))
-    );
-    assert_eq!(rt;
-        refused(alloc, (64, 64), &whole, &holds[..256])?,
-        Some((Rule::Writable, 1))
-    );
+    for (place, counts) in COUNTS.iter().enumerate() {
+        assert!(rt;
+            refusal_of_counts(rt.alloc(), counts)? == counts.5,
+            "at {place}"
+        );
+    }
     Ok(())
 }
+
+/// Events over two instructions, and their refusals.
+const EVENTS: [(&[Event], Refusal); 5] = [
+    (
+        &[
+            BARE,
+            Event {
+                condition: 0,
+                body: 1,
+            },
+        ],
+        Some((Rule::Events, 1)),
+    ),
+    (
+        &[
+            BARE,
+            Event {
+                condition: 1,
+                body: 1,
+            },
+        ],
+        Some((Rule::Events, 1)),
+    ),
+    (
+        &[
+            Event {
+                condition: 3,
+                body: 0,
+            },
+            BARE,
+        ],
+        Some((Rule::Events, 0)),
+    ),
+    (&[BARE], Some((Rule::Events, 1))),
+    (&[BARE, BARE], None),
+];
 
 #[test]
 fn refuses_events_that_dont_fit(rt: HostRuntime) -> Result<(), Fail> {
-    let alloc = rt.alloc();
-    let two = [bind(FLAG, ONE), bind(FLAG, ONE)];
-    let one = Event {
-        condition: 1,
-        body: 0,
-    };
-    for (events, index) in [
-        (
-            [
-                one,
-                Event {
-                    condition: 0,
-                    body: 1,
-                },
-            ],
-            1,
-        ),
-        (
-            [
-                one,
-                Event {
-                    condition: 1,
-                    body: 1,
-                },
-            ],
-            1,
-        ),
-        (
-            [
-                Event {
-                    condition: 3,
-                    body: 0,
-                },
-                one,
-            ],
-            0,
-        ),
-    ] {
-        assert_eq!(rt;
-            refused(alloc, (0, 0), &events, &two)?,
-            Some((Rule::Events, index))
-        );
+    for (events, wanted) in &EVENTS {
+        let code = code(rt.alloc(), 0, 0, events, &[HOLDS, HOLDS])?;
+        assert!(rt; refusal(code) == *wanted, "{events:?}");
     }
-    assert_eq!(rt;
-        refused(alloc, (0, 0), &[one], &two)?,
-        Some((Rule::Events, 1))
-    );
-    assert_eq!(rt; refused(alloc, (0, 0), &[one, one], &two)?, None);
     Ok(())
 }
 
-/// The same for an event with a condition of two instructions and a body of one.
-fn refused_event(
-    alloc: Global,
-    first: Instr,
-    second: Instr,
-    body: Instr,
-) -> Result<Option<(Rule, u32)>, AllocError> {
-    refused(
-        alloc,
-        (1, 1),
-        &[Event {
-            condition: 2,
-            body: 1,
-        }],
-        &[first, second, body],
-    )
+/// An operation, the register that it writes and those that it reads.
+type Line = (Op, Reg, Reg, Reg);
+
+fn instr(line: Line) -> Instr {
+    let (op, to, left, right) = line;
+    Instr {
+        op,
+        to,
+        left,
+        right,
+    }
 }
+
+/// The refusal of an event with a condition of two instructions and a body of one.
+fn refusal_of_event(
+    alloc: Global,
+    first: Line,
+    second: Line,
+    body: Line,
+) -> Result<Refusal, AllocError> {
+    let event = Event {
+        condition: 2,
+        body: 1,
+    };
+    let instrs = [instr(first), instr(second), instr(body)];
+    Ok(refusal(code(alloc, 1, 1, &[event], &instrs)?))
+}
+
+/// Bodies, and the first rules that they fail.
+const BODIES: [(Line, Option<Rule>); 14] = [
+    ((Op::Bind, Reg::Report(1), FLAG, ZERO), Some(Rule::Range)),
+    ((Op::Bind, CWND, FALL, ZERO), Some(Rule::Readable)),
+    ((Op::Bind, CWND, Reg::Local(1), ZERO), Some(Rule::Local)),
+    ((Op::Ewma, Reg::Local(1), CWND, ONE), Some(Rule::Local)),
+    ((Op::Ewma, CWND, Reg::Imm(11), ONE), Some(Rule::Weight)),
+    ((Op::Bind, ONE, ONE, ONE), Some(Rule::BindRight)),
+    ((Op::Bind, ONE, ONE, ZERO), Some(Rule::Writable)),
+    ((Op::Bind, Reg::Prim(14), ONE, ZERO), Some(Rule::Writable)),
+    ((Op::Bind, MICROS, ONE, ZERO), Some(Rule::Writable)),
+    (
+        (Op::Pair(Op2::Add), MICROS, ZERO, ZERO),
+        Some(Rule::Writable),
+    ),
+    ((Op::Bind, FLAG, ONE, ZERO), Some(Rule::Writable)),
+    ((Op::Ewma, FALL, ONE, ONE), Some(Rule::Writable)),
+    ((Op::Bind, CWND, ONE, ZERO), None),
+    ((Op::Bind, MICROS, ZERO, ZERO), None),
+];
 
 #[test]
 fn refuses_the_first_rule_that_a_body_fails(rt: HostRuntime) -> Result<(), Fail> {
-    let first = bind(Reg::Temp(3), ONE);
-    let second = bind(FLAG, Reg::Temp(3));
-    for (instr, rule) in [
-        (bind(Reg::Report(1), FLAG), Rule::Range),
-        (bind(CWND, FALL), Rule::Readable),
-        (bind(CWND, Reg::Local(1)), Rule::Local),
-        (instr(Op::Ewma, Reg::Local(1), CWND, ONE), Rule::Local),
-        (instr(Op::Ewma, CWND, Reg::Imm(11), ONE), Rule::Weight),
-        (instr(Op::Bind, ONE, ONE, ONE), Rule::BindRight),
-        (bind(ONE, ONE), Rule::Writable),
-        (bind(Reg::Prim(14), ONE), Rule::Writable),
-        (bind(MICROS, ONE), Rule::Writable),
-        (
-            instr(Op::Pair(Op2::Add), MICROS, ZERO, ZERO),
-            Rule::Writable,
-        ),
-        (bind(FLAG, ONE), Rule::Writable),
-        (instr(Op::Ewma, FALL, ONE, ONE), Rule::Writable),
-    ] {
-        assert_eq!(rt;
-            refused_event(rt.alloc(), first, second, instr)?,
-            Some((rule, 2))
-        );
+    let first = (Op::Bind, TEMP, ONE, ZERO);
+    let second = (Op::Bind, FLAG, TEMP, ZERO);
+    for (place, row) in BODIES.iter().enumerate() {
+        let refusal = refusal_of_event(rt.alloc(), first, second, row.0)?;
+        assert!(rt; refusal == row.1.map(|rule| (rule, 2)), "at {place}");
     }
-    assert_eq!(rt;
-        refused_event(rt.alloc(), first, second, bind(CWND, ONE))?,
-        None
-    );
-    assert_eq!(rt;
-        refused_event(rt.alloc(), first, second, bind(MICROS, ZERO))?,
-        None
-    );
     Ok(())
 }
+
+/// Conditions of two instructions, and the rules and the indices with which they are refused.
+const CONDITIONS: [(Line, Line, Refusal); 6] = [
+    (
+        (Op::Bind, Reg::Temp(8), ONE, ZERO),
+        (Op::Bind, FLAG, ONE, ZERO),
+        Some((Rule::Range, 0)),
+    ),
+    (
+        (Op::Bind, TEMP, TEMP, ZERO),
+        (Op::Bind, FLAG, ONE, ZERO),
+        Some((Rule::Temporary, 0)),
+    ),
+    (
+        (Op::If, TEMP, ONE, ONE),
+        (Op::Bind, FLAG, TEMP, ZERO),
+        Some((Rule::Temporary, 1)),
+    ),
+    (
+        (Op::Bind, CWND, ONE, ZERO),
+        (Op::Bind, FLAG, ONE, ZERO),
+        Some((Rule::Writable, 0)),
+    ),
+    (
+        (Op::Bind, FLAG, ONE, ZERO),
+        (Op::Bind, TEMP, ONE, ZERO),
+        Some((Rule::Writable, 1)),
+    ),
+    (
+        (Op::Bind, FLAG, ONE, ZERO),
+        (Op::NotIf, FLAG, ONE, ONE),
+        Some((Rule::Writable, 1)),
+    ),
+];
 
 #[test]
 fn refuses_the_first_rule_that_a_condition_fails(rt: HostRuntime) -> Result<(), Fail> {
-    let body = bind(CWND, ONE);
-    let temp = Reg::Temp(3);
-    for (first, second, rule, index) in [
-        (bind(Reg::Temp(8), ONE), bind(FLAG, ONE), Rule::Range, 0),
-        (bind(temp, temp), bind(FLAG, ONE), Rule::Temporary, 0),
-        (
-            instr(Op::If, temp, ONE, ONE),
-            bind(FLAG, temp),
-            Rule::Temporary,
-            1,
-        ),
-        (bind(CWND, ONE), bind(FLAG, ONE), Rule::Writable, 0),
-        (bind(FLAG, ONE), bind(temp, ONE), Rule::Writable, 1),
-        (
-            bind(FLAG, ONE),
-            instr(Op::NotIf, FLAG, ONE, ONE),
-            Rule::Writable,
-            1,
-        ),
-    ] {
-        assert_eq!(rt;
-            refused_event(rt.alloc(), first, second, body)?,
-            Some((rule, index))
-        );
+    let body = (Op::Bind, CWND, ONE, ZERO);
+    for (place, row) in CONDITIONS.iter().enumerate() {
+        let refusal = refusal_of_event(rt.alloc(), row.0, row.1, body)?;
+        assert!(rt; refusal == row.2, "at {place}");
     }
     Ok(())
 }
 
 #[test]
-fn hands_a_code_on_and_back(rt: HostRuntime) -> Result<(), Fail> {
+fn refuses_a_temporary_that_was_not_written(rt: HostRuntime) -> Result<(), Fail> {
+    let event = Event {
+        condition: 1,
+        body: 1,
+    };
+    let lines = [
+        instr((Op::Bind, FLAG, TEMP, ZERO)),
+        instr((Op::Bind, CWND, ONE, ZERO)),
+    ];
+    let refusal = refusal(code(rt.alloc(), 0, 0, &[event], &lines)?);
+    assert!(rt; refusal == Some((Rule::Temporary, 0)));
+    Ok(())
+}
+
+#[test]
+fn hands_a_code_on(rt: HostRuntime) -> Result<(), Fail> {
     let alloc = rt.alloc();
-    assert_eq!(rt;
-        refused(
-            alloc,
-            (0, 0),
-            &[Event {
-                condition: 1,
-                body: 1
-            }],
-            &[bind(FLAG, Reg::Temp(3)), bind(CWND, ONE)]
-        )?,
-        Some((Rule::Temporary, 0))
-    );
-    let empty = Code {
-        reports: starts(alloc, 0)?,
-        controls: starts(alloc, 2)?,
-        events: Sequence::new(alloc),
-        instrs: Sequence::new(alloc),
-    };
-    let Ok(checked) = verify(empty) else {
-        return Err("refused".into());
-    };
-    assert_eq!(rt; checked.copy(alloc)?.code().controls.len(), 2);
-    let longer = Code {
-        events: Sequence::new(alloc),
-        instrs: pack_all(alloc, &[bind(FLAG, ONE)])?,
-        reports: starts(alloc, 3)?,
-        controls: starts(alloc, 0)?,
-    };
-    let Err(refusal) = verify(longer) else {
-        return Err("accepted".into());
-    };
-    assert_eq!(rt; refusal.code.reports.len(), 3);
+    let checked = verify(code(alloc, 0, 2, &[], &[])?).ok().ok_or("refused")?;
+    assert!(rt; checked.copy(alloc)?.code().controls.len() == 2);
+    Ok(())
+}
+
+#[test]
+fn hands_a_code_back(rt: HostRuntime) -> Result<(), Fail> {
+    let refusal = verify(code(rt.alloc(), 3, 0, &[], &[HOLDS])?).err();
+    assert!(rt; refusal.ok_or("accepted")?.code.reports.len() == 3);
     Ok(())
 }

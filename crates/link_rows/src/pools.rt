@@ -9,10 +9,10 @@ use std::test::Fail;
 fn a_full_pool_refuses(rt: HostRuntime) -> Result<(), Fail> {
     let mut pool = Pool::new(rt.alloc(), 1, 40)?;
     let slot = pool.take()?;
-    assert_eq!(rt; pool.free(), 0);
+    assert!(rt; pool.free() == 0);
     assert!(rt; pool.take().is_err());
     pool.give(slot);
-    assert_eq!(rt; pool.free(), 1);
+    assert!(rt; pool.free() == 1);
     Ok(())
 }
 
@@ -24,12 +24,12 @@ fn slots_are_apart<P: Slots>(rt: &impl Abort, slots: &mut P) -> Result<(), Full>
     let second = slots.take_slot()?;
     slots.set_slot(&first, 0, 7);
     slots.set_slot(&second, 2, 8);
-    assert_eq!(rt; slots.slot(&first), [7, 0, 0].as_slice());
-    assert_eq!(rt; slots.slot(&second), [0, 0, 8].as_slice());
+    assert!(rt; slots.slot(&first) == [7, 0, 0].as_slice());
+    assert!(rt; slots.slot(&second) == [0, 0, 8].as_slice());
     slots.give_slot(first);
     let third = slots.take_slot()?;
-    assert_eq!(rt; slots.slot(&third), [0, 0, 0].as_slice());
-    assert_eq!(rt; slots.slot(&second), [0, 0, 8].as_slice());
+    assert!(rt; slots.slot(&third) == [0, 0, 0].as_slice());
+    assert!(rt; slots.slot(&second) == [0, 0, 8].as_slice());
     Ok(())
 }
 
@@ -37,6 +37,6 @@ fn slots_are_apart<P: Slots>(rt: &impl Abort, slots: &mut P) -> Result<(), Full>
 fn slots_keep_their_words(rt: HostRuntime) -> Result<(), Fail> {
     let mut pool = Pool::new(rt.alloc(), 2, 3)?;
     slots_are_apart(&rt, &mut pool)?;
-    assert_eq!(rt; pool.free(), 0);
+    assert!(rt; pool.free() == 0);
     Ok(())
 }

@@ -315,13 +315,13 @@ const LONG: [Step; 30] = [
 #[test]
 fn reno_answers_a_loss_and_a_timeout(rt: HostRuntime) {
     let agent = Reno::new(1448, role(0), role(1));
-    assert_eq!(rt;
-        agent.begin(),
-        Change {
-            program: 0,
-            cwnd: 4344,
-            cap: u64::MAX
-        }
+    assert!(rt;
+        agent.begin()
+            == Change {
+                program: 0,
+                cwnd: 4344,
+                cap: u64::MAX
+            }
     );
     replies(&rt, Agent::Reno(agent), &LOSS);
 }

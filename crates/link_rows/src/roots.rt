@@ -23,13 +23,13 @@ const QUOTIENTS: [(u64, u64, u64, u64); 5] = [
 #[test]
 fn cube_roots_are_cut(rt: HostRuntime) {
     for (n, root) in ROOTS {
-        assert_eq!(rt; cbrt(n), root, "at {n}");
+        assert!(rt; cbrt(n) == root, "at {n}");
     }
 }
 
 #[test]
 fn quotients_are_cut_and_bounded(rt: HostRuntime) {
     for (a, b, c, quotient) in QUOTIENTS {
-        assert_eq!(rt; muldiv(a, b, c), quotient, "at {a} * {b} / {c}");
+        assert!(rt; muldiv(a, b, c) == quotient, "at {a} * {b} / {c}");
     }
 }
