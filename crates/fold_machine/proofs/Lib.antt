@@ -5,5 +5,6 @@ pub mod LoadLemmas
 pub mod KeptLemmas
 pub mod RunnableLemmas
 pub mod RefinementLemmas
+pub mod RunLemmas
 pub mod WorkLemmas
 pub mod MachineLemmas
