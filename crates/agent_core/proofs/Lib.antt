@@ -1,1 +1,2 @@
+-- The lemmas of agent_core, a file a topic.
 pub mod FrameLemmas

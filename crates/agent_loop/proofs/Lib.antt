@@ -1,2 +1,3 @@
+-- The lemmas of agent_loop, a file a topic.
 pub mod TurnLemmas
 pub mod BookLemmas

@@ -1,3 +1,4 @@
+-- The lemmas of campaign_gate, a file a topic.
 pub mod PlanLemmas
 pub mod PeakLemmas
 pub mod SumLemmas

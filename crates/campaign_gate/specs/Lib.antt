@@ -1,3 +1,4 @@
+-- The definitions of campaign_gate, a file each.
 pub mod CampaignWord
 pub mod CampaignRow
 pub mod Walks

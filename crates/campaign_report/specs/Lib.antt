@@ -1,3 +1,4 @@
+-- The definitions of campaign_report, a file each.
 pub mod FoldText
 pub mod CheckText
 pub mod WireText

@@ -1,1 +1,2 @@
+-- The lemmas of campaign_rows, a file a topic.
 pub mod LookWithin

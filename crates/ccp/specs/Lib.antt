@@ -1,1 +1,2 @@
+-- The definitions of ccp, a file each.
 pub mod Exit

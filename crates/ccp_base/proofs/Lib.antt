@@ -1,1 +1,2 @@
+-- The lemmas of ccp_base, a file a topic.
 pub mod PartLemmas

@@ -1,3 +1,4 @@
+-- The definitions of ccp_base, a file each; files named ..Laws have what follows from them.
 pub mod Acknowledgement
 pub mod Blending
 pub mod Chaining

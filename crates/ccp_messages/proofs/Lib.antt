@@ -1,3 +1,4 @@
+-- The lemmas of ccp_messages, a file a topic.
 pub mod CodeLaws
 pub mod MessageLaws
 pub mod DecodeLaws

@@ -1,3 +1,4 @@
+-- The lemmas of ccp_run, a file a topic.
 mod FoldLemmas
 mod ModeLaws
 mod ScenarioInputs

@@ -1,3 +1,4 @@
+-- The definitions of ccp_run, a file each.
 pub mod Streams
 pub mod Statuses
 pub mod ErrorLine

@@ -1,3 +1,4 @@
+-- The lemmas of ccp_words, a file a topic.
 mod AlikeWalks
 mod AlikeFaults
 mod CommandLine

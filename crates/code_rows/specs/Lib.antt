@@ -1,1 +1,2 @@
+-- The definitions of code_rows, a file each.
 pub mod FieldTerms

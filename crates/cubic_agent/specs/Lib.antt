@@ -1,3 +1,4 @@
+-- The definitions of cubic_agent, a file each.
 pub mod Window
 pub mod Curve
 pub mod Cubic

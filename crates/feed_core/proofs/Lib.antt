@@ -1,3 +1,4 @@
+-- The lemmas of feed_core, a file a topic.
 pub mod FeedBegins
 mod FeedEats
 mod FeedEnding

@@ -1,3 +1,4 @@
+-- The definitions of feed_core, a file each.
 pub mod Feed
 pub mod FeedBytes
 pub mod FeedEnds

@@ -1,3 +1,4 @@
+-- The definitions of flow_core, a file each; files named ..Laws have what follows from them.
 pub mod Readings
 pub mod World
 pub mod Cases

@@ -1,1 +1,2 @@
+-- The lemmas of flow_table, a file a topic.
 pub mod TableLemmas

@@ -1,1 +1,2 @@
+-- The definitions of flow_table, a file each.
 pub mod Tables

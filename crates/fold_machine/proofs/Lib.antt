@@ -1,3 +1,4 @@
+-- The lemmas of fold_machine, a file a topic.
 pub mod StoreLemmas
 pub mod LayoutLemmas
 pub mod FrameLemmas

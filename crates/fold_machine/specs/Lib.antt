@@ -1,3 +1,4 @@
+-- The definitions of fold_machine, a file each; files named ..Laws have what follows from them.
 pub mod Store
 pub mod Layout
 pub mod Frame

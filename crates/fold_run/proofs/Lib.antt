@@ -1,3 +1,4 @@
+-- The lemmas of fold_run, a file a topic.
 mod MachineMeans
 mod FoldSteps
 mod FirstLine

@@ -1,3 +1,4 @@
+-- The definitions of fold_run, a file each; files named ..Laws have what follows from them.
 pub mod FirstPart
 pub mod ExpectedName
 pub mod Separated

@@ -1,3 +1,4 @@
+-- The lemmas of link_model, a file a topic.
 mod TraceTextLemmas
 mod TraceLemmas
 pub mod ChanceLemmas

@@ -1,3 +1,4 @@
+-- The definitions of link_model, a file each; files named ..Laws have what follows from them.
 pub mod Chances
 pub mod Counts
 pub mod Horizon

@@ -1,3 +1,4 @@
+-- The lemmas of live_install, a file a topic.
 pub mod StopLemmas
 pub mod BookLemmas
 pub mod LeftLemmas

@@ -1,3 +1,4 @@
+-- The definitions of live_install, a file each.
 pub mod RolloutText
 pub mod WholeBooks
 pub mod BookText

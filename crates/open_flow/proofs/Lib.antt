@@ -1,3 +1,4 @@
+-- The lemmas of open_flow, a file a topic.
 pub mod EntryLemmas
 pub mod ListLemmas
 pub mod SeenLemmas

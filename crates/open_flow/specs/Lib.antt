@@ -1,3 +1,4 @@
+-- The definitions of open_flow, a file each.
 pub mod OpenWorld
 pub mod OpenWords
 pub mod BuiltTexts

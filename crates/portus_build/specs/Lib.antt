@@ -1,3 +1,4 @@
+-- The definitions of portus_build, a file each.
 pub mod Texts
 pub mod StepFaults
 pub mod Outcomes

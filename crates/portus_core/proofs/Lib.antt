@@ -1,3 +1,4 @@
+-- The lemmas of portus_core, a file a topic.
 pub mod EnvShapes
 pub mod EventLaws
 pub mod ResetLemmas

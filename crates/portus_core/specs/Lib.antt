@@ -1,3 +1,4 @@
+-- The definitions of portus_core, a file each.
 pub mod Trees
 pub mod Programs
 pub mod Words

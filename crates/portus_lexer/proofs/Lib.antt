@@ -1,3 +1,4 @@
+-- The lemmas of portus_lexer, a file a topic.
 pub mod ByteKinds
 pub mod Divisions
 pub mod Scans

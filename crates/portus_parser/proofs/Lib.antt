@@ -1,3 +1,4 @@
+-- The lemmas of portus_parser, a file a topic.
 pub mod Numerals
 pub mod Frames
 pub mod Joins

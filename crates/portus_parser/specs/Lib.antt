@@ -1,3 +1,4 @@
+-- The definitions of portus_parser, a file each.
 pub mod LexFaults
 pub mod Atoms
 pub mod Spelling

@@ -1,3 +1,4 @@
+-- The definitions of reg_code, a file each; files named ..Laws have what follows from them.
 pub mod CodeStep
 pub mod CodeStart
 pub mod AcceptedCode

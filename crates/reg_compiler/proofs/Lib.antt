@@ -1,3 +1,4 @@
+-- The lemmas of reg_compiler, a file a topic.
 mod WorkedCases
 pub mod NumberedPrograms
 pub mod FittingNeeds

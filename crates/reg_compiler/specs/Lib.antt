@@ -1,3 +1,4 @@
+-- The definitions of reg_compiler, a file each.
 pub mod Known
 pub mod Needs
 pub mod Counts

@@ -1,1 +1,2 @@
+-- The definitions of reno_agent, a file each.
 pub mod Reno

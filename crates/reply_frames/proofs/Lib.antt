@@ -1,3 +1,4 @@
+-- The lemmas of reply_frames, a file a topic.
 pub mod Loops
 pub mod Placing
 pub mod Taken

@@ -1,3 +1,4 @@
+-- The definitions of reply_frames, a file each; files named ..Laws have what follows from them.
 pub mod Parts
 pub mod Kinds
 pub mod Frames

@@ -1,3 +1,4 @@
+-- The definitions of report_lines, a file each.
 pub mod FieldsText
 pub mod FlowLine
 pub mod ReportLine

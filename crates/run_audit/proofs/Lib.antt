@@ -1,3 +1,4 @@
+-- The lemmas of run_audit, a file a topic.
 pub mod ForcedLemmas
 pub mod WorldMarks
 pub mod Pieces

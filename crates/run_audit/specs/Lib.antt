@@ -1,3 +1,4 @@
+-- The definitions of run_audit, a file each.
 pub mod Audit
 pub mod Fronts
 pub mod Marks

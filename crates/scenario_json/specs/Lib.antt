@@ -1,3 +1,4 @@
+-- The definitions of scenario_json, a file each.
 pub mod Keys
 pub mod Paths
 pub mod Values

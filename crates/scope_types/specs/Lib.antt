@@ -1,3 +1,4 @@
+-- The definitions of scope_types, a file each.
 pub mod ValueWords
 pub mod Scope
 pub mod Names

@@ -1,3 +1,4 @@
+-- The lemmas of shared_flow, a file a topic.
 pub mod PeakLemmas
 pub mod TurnLemmas
 pub mod OnWayLemmas

@@ -1,3 +1,4 @@
+-- The definitions of shared_flow, a file each.
 pub mod RoundLetters
 pub mod FlowRow
 pub mod OnWay

@@ -1,3 +1,4 @@
+-- The lemmas of shared_link, a file a topic.
 mod FlowLemmas
 mod FlowsLemmas
 mod KeptLemmas

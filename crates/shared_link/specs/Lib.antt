@@ -1,3 +1,4 @@
+-- The definitions of shared_link, a file each; files named ..Laws have what follows from them.
 pub mod Kept
 pub mod KeptFlows
 pub mod Reached

@@ -1,3 +1,4 @@
+-- The lemmas of shared_run, a file a topic.
 pub mod LiftedRunLemmas
 pub mod LaneLemmas
 pub mod AnswerLemmas

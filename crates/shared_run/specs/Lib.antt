@@ -1,3 +1,4 @@
+-- The definitions of shared_run, a file each.
 pub mod SharedHistory
 pub mod SharedBooks
 pub mod LiftedRun

@@ -1,3 +1,4 @@
+-- The lemmas of slot_pool, a file a topic.
 pub mod RegionLemmas
 pub mod FreeListLemmas
 pub mod PoolLemmas

@@ -1,3 +1,4 @@
+-- The lemmas of source_flow, a file a topic.
 pub mod StateLemmas
 pub mod HeardLemmas
 pub mod SettledLemmas

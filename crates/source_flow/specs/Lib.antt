@@ -1,3 +1,4 @@
+-- The definitions of source_flow, a file each.
 pub mod SourceAccounts
 pub mod Sourced
 pub mod SourceStates
