@@ -18,7 +18,15 @@ use std::test::*;
 /// The fault that `FAULT` tells of.
 fn overflow() -> Message
     ensures { result ≡ Fault (record {
-        flow = 0; program = 0; epoch = 0; at = 0; kind = Overflow; index = 1; now = 5; cwnd = 4344 }) }
+      flow = 0;
+      program = 0;
+      epoch = 0;
+      at = 0;
+      kind = Overflow;
+      index = 1;
+      now = 5;
+      cwnd = 4344;
+    }) }
 {
     Message::Fault(Notice {
         flow: 0,
