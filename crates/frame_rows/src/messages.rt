@@ -1,18 +1,18 @@
 //! Messages of every kind, written and read.
 
 ghost use Rattle.std.specs.Prelude.{◌≡◌, []};
+ghost use Rattle.ccp_messages.specs.Messages.{Meets};
 ghost use Rattle.ccp_messages.specs.declared.message.Message.TheVariants.{Install, Fault};
 ghost use Rattle.ccp_base.specs.declared.arithmetic.FaultKind.TheVariants.{Overflow};
 
 use crate::frames::{
-    ACK, ACK_BYTES, CHANGE_8, CREATE, FAULT, FAULT_1, INSTALL, INSTALL_5, MEASURE, MEASURE_WIDE,
-    REFUSED_2, UPDATE,
+    ACK_BYTES, ACK_OF_TIMEOUT, CHANGE_8, CREATE, FAULT, FAULT_1, INSTALL, INSTALL_5, MEASURE,
+    MEASURE_WIDE, REFUSED_2, UPDATE,
 };
-use ccp_base::{FaultKind, FieldReg, Fields, Notice};
+use ccp_base::{Bytes, FaultKind, FieldReg, Fields, Notice, Values};
 use ccp_messages::{Message, Short, Version, decode, encode_into};
 use reg_code::{Code, Event, Implicit, Instr, Op, Reg, Sequence, Start};
-use std::alloc::Global;
-use std::process::Abort;
+use std::alloc::{AllocError, Global};
 use std::test::*;
 
 /// The fault that `FAULT` tells of.
@@ -40,7 +40,13 @@ fn overflow() -> Message
     })
 }
 
-/// What is written of a message that meets the conditions, and how long it is.
+/// Whether what is written of a message is this frame.
+fn is_written(message: &Message, version: Version, out: &mut [u8], frame: &[u8]) -> bool
+    requires { Meets version message.now }
+{
+    encode_into(message, version, out) == Ok(frame.len()) && out.starts_with(frame)
+}
+
 #[test]
 fn messages_are_written(rt: HostRuntime) {
     let mut out = [9; 51];
@@ -49,11 +55,9 @@ fn messages_are_written(rt: HostRuntime) {
         mss: 1448,
         cwnd: 4344,
     };
-    assert_eq!(rt; encode_into(&create, Version::One, &mut out), Ok(28));
-    assert_eq!(rt; &out[..28], CREATE);
-    assert_eq!(rt; out[28], 9);
-    assert_eq!(rt; encode_into(&overflow(), Version::Two, &mut out), Ok(51));
-    assert_eq!(rt; out.as_slice(), FAULT);
+    assert!(rt; is_written(&create, Version::One, &mut out, CREATE));
+    assert!(rt; out[28] == 9);
+    assert!(rt; is_written(&overflow(), Version::Two, &mut out, FAULT));
 }
 
 /// An Install without registers, events and instructions.
@@ -84,96 +88,91 @@ fn short_slices_are_left(rt: HostRuntime) {
         values,
     };
     let mut out = [9; 46];
-    assert_eq!(rt;
-        encode_into(&overflow(), Version::One, &mut out),
-        Err(Short(47))
-    );
-    assert_eq!(rt;
-        encode_into(&change, Version::One, &mut out[..29]),
-        Err(Short(30))
-    );
+    assert!(rt; encode_into(&overflow(), Version::One, &mut out) == Err(Short(47)));
+    assert!(rt; encode_into(&change, Version::One, &mut out[..29]) == Err(Short(30)));
     let install = empty_install(rt.alloc());
-    assert_eq!(rt;
-        encode_into(&install, Version::One, &mut out[..19]),
-        Err(Short(20))
-    );
-    assert_eq!(rt; out, [9; 46]);
-    assert_eq!(rt; encode_into(&install, Version::One, &mut out), Ok(20));
-    assert_eq!(rt; &out[..20], INSTALL_5);
+    assert!(rt; encode_into(&install, Version::One, &mut out[..19]) == Err(Short(20)));
+    assert!(rt; out.iter().all(|byte| *byte == 9));
+    assert!(rt; encode_into(&install, Version::One, &mut out) == Ok(20));
+    assert!(rt; out.starts_with(INSTALL_5));
 }
 
-/// The message that begins the bytes comes back from what is written of it, in the version it came in.
-fn comes_back(rt: &impl Abort, alloc: Global, bytes: &[u8]) {
-    let Ok((message, version, used)) = decode(alloc, bytes) else {
-        panic!(rt; "not read");
-    };
+/// How long the message is that begins the bytes, if it comes back from what is written of it in the version it came in.
+fn back_in(alloc: Global, bytes: &[u8], out: &mut [u8]) -> Option<usize> {
+    let (message, version, used) = decode(alloc, bytes).ok()?;
+    let is_back = encode_into(&message, version, out) == Ok(used)
+        && used <= out.len()
+        && bytes.starts_with(&out[..used]);
+    if is_back { Some(used) } else { None }
+}
+
+fn comes_back(alloc: Global, bytes: &[u8]) -> bool {
     let mut out = [0; ACK_BYTES];
-    assert_eq!(rt; encode_into(&message, version, &mut out), Ok(used));
-    assert!(rt; used <= ACK_BYTES && used <= bytes.len());
-    assert_eq!(rt; &out[..used], &bytes[..used]);
+    back_in(alloc, bytes, &mut out).is_some()
 }
 
 /// Frames of a kind whose frames differ by version.
 const ONE_VERSION: [&[u8]; 4] = [MEASURE, MEASURE_WIDE, FAULT_1, FAULT];
 
 /// Frames of a kind whose frames are the same in both versions but for the version.
-const BOTH_VERSIONS: [&[u8]; 6] = [CREATE, INSTALL_5, INSTALL, UPDATE, CHANGE_8, REFUSED_2];
+const BOTH_VERSIONS: [&[u8]; 7] = [
+    ACK_OF_TIMEOUT,
+    CREATE,
+    INSTALL_5,
+    INSTALL,
+    UPDATE,
+    CHANGE_8,
+    REFUSED_2,
+];
 
 /// Each kind in both versions, with a byte more behind it.
 #[test]
-fn each_kind_comes_back(rt: HostRuntime) {
-    let mut ack = [0; ACK_BYTES];
-    ack.copy_from_slice(ACK);
-    ack[72] = 8;
-    ack[128] = 1;
-    for frame in ONE_VERSION {
-        comes_back(&rt, rt.alloc(), frame);
+fn each_kind_comes_back(rt: HostRuntime) -> Result<(), Fail> {
+    for frame in &ONE_VERSION {
+        assert!(rt; comes_back(rt.alloc(), frame));
     }
-    for version in 1..3 {
-        again_in(&rt, rt.alloc(), &ack, version);
-        for frame in BOTH_VERSIONS {
-            again_in(&rt, rt.alloc(), frame, version);
-        }
+    for frame in &BOTH_VERSIONS {
+        assert!(rt; comes_back_in(rt.alloc(), frame, 1)?);
+        assert!(rt; comes_back_in(rt.alloc(), frame, 2)?);
     }
+    Ok(())
 }
 
 /// The same of a frame of a kind that has one form, in a version by number.
-fn again_in(rt: &impl Abort, alloc: Global, frame: &[u8], version: u8) {
-    assert!(rt; 16 <= frame.len() && frame.len() < 137);
-    let mut bytes = [0; 137];
-    bytes[..frame.len()].copy_from_slice(frame);
-    bytes[1] = version;
-    comes_back(rt, alloc, &bytes);
+fn comes_back_in(alloc: Global, frame: &[u8], version: u8) -> Result<bool, AllocError> {
+    let [kind, _, rest @ ..] = frame else {
+        return Ok(false);
+    };
+    let mut bytes = Bytes::new(alloc);
+    bytes.push(*kind)?;
+    bytes.push(version)?;
+    bytes.extend(rest)?;
+    bytes.push(0)?;
+    Ok(comes_back(alloc, bytes.as_slice()))
 }
 
 /// What the frames above say: each kind but an Install once.
-fn is_said(rt: &impl Abort, message: &Message) {
+fn is_said(message: &Message) -> bool {
     match message {
-        Message::Create { flow, mss, cwnd } => {
-            assert!(rt; *flow == 0 && *mss == 1448 && *cwnd == 4344);
-        }
+        Message::Create { flow, mss, cwnd } => *flow == 0 && *mss == 1448 && *cwnd == 4344,
         Message::Measure(report) => {
-            assert!(rt; report.first == 0 && report.end == 1 && report.now == 0);
-            assert!(rt; report.cwnd == 4344 && report.rate == 0);
-            assert_eq!(rt; report.fields.get(0), Some(7));
-            assert_eq!(rt; report.fields.len(), 1);
+            let is_spanned = report.first == 0 && report.end == 1 && report.now == 0;
+            let is_kept = report.cwnd == 4344 && report.rate == 0;
+            is_spanned && is_kept && report.fields == Values::from_slice(&[7])
         }
         Message::Fault(notice) => {
-            assert_eq!(rt; notice.kind, FaultKind::Overflow);
-            assert!(rt; notice.at == 0 && notice.index == 1);
-            assert!(rt; notice.now == 5 && notice.cwnd == 4344);
+            let is_placed = notice.kind == FaultKind::Overflow && notice.at == 0;
+            is_placed && notice.index == 1 && notice.now == 5 && notice.cwnd == 4344
         }
         Message::Update { flow, values } => {
-            assert_eq!(rt; *flow, 3);
-            assert_eq!(rt; values.get(0), Some((FieldReg::Cwnd, 8688)));
-            assert_eq!(rt; values.len(), 1);
+            *flow == 3 && values.len() == 1 && values.get(0) == Some((FieldReg::Cwnd, 8688))
         }
         Message::Refused {
             flow,
             reason,
             index,
-        } => assert!(rt; *flow == 0 && *reason == 2 && *index == 0),
-        _ => panic!(rt; "another kind"),
+        } => *flow == 0 && *reason == 2 && *index == 0,
+        _ => false,
     }
 }
 
@@ -186,20 +185,24 @@ const SAID: [(&[u8], Version); 5] = [
     (REFUSED_2, Version::One),
 ];
 
+fn is_read(alloc: Global, frame: &[u8], wanted: Version) -> bool {
+    match decode(alloc, frame) {
+        Ok((message, version, used)) => {
+            is_said(&message) && version == wanted && used == frame.len()
+        }
+        Err(_) => false,
+    }
+}
+
 #[test]
 fn frames_are_read(rt: HostRuntime) {
-    for (frame, wanted) in SAID {
-        let Ok((message, version, used)) = decode(rt.alloc(), frame) else {
-            panic!(rt; "not read");
-        };
-        is_said(&rt, &message);
-        assert_eq!(rt; version, wanted);
-        assert_eq!(rt; used, frame.len());
+    for (frame, version) in &SAID {
+        assert!(rt; is_read(rt.alloc(), frame, *version), "{frame:?}");
     }
 }
 
 /// What `INSTALL` says.
-fn is_the_code(rt: &impl Abort, code: &Code) {
+fn is_the_code(code: &Code) -> bool {
     let field = Start {
         volatile: false,
         value: 7,
@@ -208,51 +211,53 @@ fn is_the_code(rt: &impl Abort, code: &Code) {
         condition: 1,
         body: 1,
     };
-    assert_eq!(rt; code.reports.as_slice(), [field].as_slice());
-    assert!(rt; code.controls.is_empty());
-    assert_eq!(rt; code.events.as_slice(), [event].as_slice());
-    assert_eq!(rt; code.instrs.len(), 2);
-    assert_eq!(rt; code.instrs.as_slice()[0].instr(), binds(Implicit::Flag));
-    assert_eq!(rt; code.instrs.as_slice()[1].instr(), binds(Implicit::Send));
+    let is_declared = code.reports.as_slice() == [field].as_slice() && code.controls.is_empty();
+    let [first, second] = code.instrs.as_slice() else {
+        return false;
+    };
+    let is_made = first.instr() == binds(Implicit::Flag) && second.instr() == binds(Implicit::Send);
+    is_declared && code.events.as_slice() == [event].as_slice() && is_made
+}
+
+fn is_the_install(alloc: Global, bytes: &[u8]) -> bool {
+    let Ok((message, version, used)) = decode(alloc, bytes) else {
+        return false;
+    };
+    match &message {
+        Message::Install {
+            flow,
+            program,
+            code,
+        } => {
+            let is_placed = *flow == 0 && *program == 0 && is_the_code(code);
+            is_placed && version == Version::One && used == 89
+        }
+        _ => false,
+    }
 }
 
 /// A code is read whole, from the first of two frames.
 #[test]
-fn a_code_is_read(rt: HostRuntime) {
-    let mut twice = [0; 178];
-    twice[..89].copy_from_slice(INSTALL);
-    twice[89..].copy_from_slice(INSTALL);
-    let Ok((message, version, used)) = decode(rt.alloc(), &twice) else {
-        panic!(rt; "not read");
-    };
-    let Message::Install {
-        flow,
-        program,
-        code,
-    } = &message
-    else {
-        panic!(rt; "no Install");
-    };
-    assert!(rt; *flow == 0 && *program == 0);
-    is_the_code(&rt, code);
-    assert_eq!(rt; version, Version::One);
-    assert_eq!(rt; used, 89);
+fn a_code_is_read(rt: HostRuntime) -> Result<(), Fail> {
+    let mut twice = Bytes::new(rt.alloc());
+    twice.extend(INSTALL)?;
+    twice.extend(INSTALL)?;
+    assert!(rt; is_the_install(rt.alloc(), twice.as_slice()));
+    Ok(())
 }
 
-/// The longest frame: an Install with as many registers, events and instructions as there may be, each byte after its
-/// head 0.
+/// The head of the longest frame, an Install with as many registers, events and instructions as there may be.
+const LARGEST: &[u8] = b"\x03\x02\x40\x40\x40\x00\x00\x01\x00\x00\x00\x00\x94\x21\x00\x00";
+
+/// The longest frame, each byte after its head 0.
 #[test]
-fn the_largest_code_is_read(rt: HostRuntime) {
-    let mut frame = [0; 8596];
-    frame[..8].copy_from_slice(&[3, 2, 64, 64, 64, 0, 0, 1]);
-    frame[12..14].copy_from_slice(&[0x94, 0x21]);
-    let Ok((message, _, used)) = decode(rt.alloc(), &frame) else {
-        panic!(rt; "not read");
-    };
-    assert_eq!(rt; used, 8596);
-    let mut out = [7; 8596];
-    assert_eq!(rt; encode_into(&message, Version::Two, &mut out), Ok(8596));
-    assert_eq!(rt; out.as_slice(), frame.as_slice());
+fn the_largest_code_is_read(rt: HostRuntime) -> Result<(), Fail> {
+    let mut frame = Bytes::new(rt.alloc());
+    frame.extend(LARGEST)?;
+    frame.extend(&vec![in rt.alloc(); 0u8; 8580]?)?;
+    let mut out = vec![in rt.alloc(); 7u8; 8596]?;
+    assert!(rt; back_in(rt.alloc(), frame.as_slice(), &mut out) == Some(8596));
+    Ok(())
 }
 
 /// An implicit register becomes 1.

@@ -1,11 +1,11 @@
 //! Bytes that no frame begins with, and bytes that go on to one, for both decoders.
 use crate::frames::{
-    ACK, ACK_BYTES, CHANGE, CHANGE_3, CREATE, FAULT, INSTALL, INSTALL_5, MEASURE, REFUSED_2, UPDATE,
+    ACK, CHANGE, CHANGE_3, CREATE, FAULT, INSTALL, INSTALL_5, MEASURE, REFUSED_2, UPDATE,
 };
-use ccp_base::Fields;
+use ccp_base::{Bytes, Fields};
 use ccp_messages::{BadKind, DecodeFault, decode};
 use reply_frames::{FrameFault, MOST_OPERATION, decode_fields};
-use std::alloc::Global;
+use std::alloc::{AllocError, Global};
 use std::process::Abort;
 use std::test::*;
 
@@ -17,26 +17,23 @@ fn refusal(alloc: Global, bytes: &[u8]) -> Option<DecodeFault> {
     }
 }
 
+/// Whether the front of a frame says what it goes on to.
+fn is_cut(alloc: Global, frame: &[u8], count: usize) -> bool {
+    if count > frame.len() {
+        return false;
+    }
+    let needed = if count < 16 { 16 } else { frame.len() };
+    let front = &frame[..count];
+    refusal(alloc, front) == Some(DecodeFault::More(needed))
+        && decode_fields(front, &mut Fields::new()) == Err(FrameFault::More(needed))
+}
+
 /// Each proper prefix of a frame says what it goes on to.
 fn cut_everywhere(rt: &impl Abort, alloc: Global, frame: &[u8]) {
-    let mut values = Fields::new();
     for count in 0..frame.len() {
-        let needed = if count < 16 { 16 } else { frame.len() };
-        let front = &frame[..count];
-        assert_eq!(rt;
-            refusal(alloc, front),
-            Some(DecodeFault::More(needed)),
-            "{count} of {}",
-            frame.len()
-        );
-        assert_eq!(rt;
-            decode_fields(front, &mut values),
-            Err(FrameFault::More(needed)),
-            "{count} of {}",
-            frame.len()
-        );
+        assert!(rt; is_cut(alloc, frame, count), "{count} of {frame:?}");
     }
-    assert_eq!(rt; refusal(alloc, frame), None);
+    assert!(rt; refusal(alloc, frame).is_none());
 }
 
 /// Frames that are cut at each place.
@@ -46,28 +43,29 @@ const WHOLE: [&[u8]; 10] = [
 
 #[test]
 fn a_cut_frame_says_what_it_goes_on_to(rt: HostRuntime) {
-    for frame in WHOLE {
+    for frame in &WHOLE {
         cut_everywhere(&rt, rt.alloc(), frame);
     }
 }
 
-/// A frame with this byte at this place is refused there.
-fn bad_at(rt: &impl Abort, alloc: Global, frame: &[u8], place: usize, byte: u8, field: BadKind) {
-    let mut bytes = [0; ACK_BYTES];
-    assert!(rt; frame.len() <= ACK_BYTES && place < frame.len());
-    bytes[..frame.len()].copy_from_slice(frame);
-    bytes[place] = byte;
-    let bytes = &bytes[..frame.len()];
-    assert_eq!(rt;
-        refusal(alloc, bytes),
-        Some(DecodeFault::Bad(field, place)),
-        "{byte} at {place}"
-    );
-    assert_eq!(rt;
-        decode_fields(bytes, &mut Fields::new()),
-        Err(FrameFault::Bad(field, place)),
-        "{byte} at {place}"
-    );
+/// A frame, a place, a byte that can't stand there, and the byte's field.
+type Bad = (&'static [u8], usize, u8, BadKind);
+
+/// Whether a frame with the byte at the place is refused there.
+fn is_bad(alloc: Global, bad: &Bad) -> Result<bool, AllocError> {
+    let (frame, place, byte, field) = *bad;
+    if place >= frame.len() {
+        return Ok(false);
+    }
+    let mut bytes = Bytes::new(alloc);
+    bytes.extend(&frame[..place])?;
+    bytes.push(byte)?;
+    bytes.extend(&frame[place + 1..])?;
+    let read = decode_fields(bytes.as_slice(), &mut Fields::new());
+    Ok(
+        refusal(alloc, bytes.as_slice()) == Some(DecodeFault::Bad(field, place))
+            && read == Err(FrameFault::Bad(field, place)),
+    )
 }
 
 /// The front of an Install of version 2 with as many registers as there may be.
@@ -79,8 +77,7 @@ const FULLER: &[u8] = b"\x03\x02\x40\x40\x00\x00\x01\x00";
 /// The front of an Update of control 0.
 const CONTROL: &[u8] = b"\x04\x01\x01\x00\x00\x00\x00\x00\x00\x00\x00\x00\x1a\x00\x00\x00\x03\x00";
 
-/// Frames, each with a place, a byte that can't stand there, and the byte's field.
-const BAD: [(&[u8], usize, u8, BadKind); 36] = [
+const BAD: [Bad; 36] = [
     (b"\x01", 0, 9, BadKind::Kind),
     (b"\x01", 0, 0, BadKind::Kind),
     (b"\x01\x01", 1, 3, BadKind::Version),
@@ -120,8 +117,9 @@ const BAD: [(&[u8], usize, u8, BadKind); 36] = [
 ];
 
 #[test]
-fn the_first_bad_byte_is_named(rt: HostRuntime) {
-    for (frame, place, byte, field) in BAD {
-        bad_at(&rt, rt.alloc(), frame, place, byte, field);
+fn the_first_bad_byte_is_named(rt: HostRuntime) -> Result<(), Fail> {
+    for (place, bad) in BAD.iter().enumerate() {
+        assert!(rt; is_bad(rt.alloc(), bad)?, "row {place}");
     }
+    Ok(())
 }

@@ -9,9 +9,9 @@ fn an_update_is_written_and_read(rt: HostRuntime) {
     let mut values = Fields::new();
     values.push(FieldReg::Cwnd, 8688);
     let mut out = [7; 30];
-    assert_eq!(rt; encode_update(3, &values, &mut out), Ok(26));
-    assert_eq!(rt; &out[..26], UPDATE);
-    assert_eq!(rt; &out[26..], [7, 7, 7, 7].as_slice());
+    assert!(rt; encode_update(3, &values, &mut out) == Ok(26));
+    assert!(rt; out.starts_with(UPDATE));
+    assert!(rt; out.ends_with(&[7, 7, 7, 7]));
     let mut read = Fields::new();
     let head = Head {
         flow: 3,
@@ -19,8 +19,8 @@ fn an_update_is_written_and_read(rt: HostRuntime) {
         version: Version::One,
         used: 26,
     };
-    assert_eq!(rt; decode_fields(&out, &mut read), Ok(head));
-    assert_eq!(rt; read, values);
+    assert!(rt; decode_fields(&out, &mut read) == Ok(head));
+    assert!(rt; read == values);
 }
 
 #[test]
@@ -28,13 +28,10 @@ fn a_change_is_written_and_read(rt: HostRuntime) {
     let mut values = Fields::new();
     values.push(FieldReg::Cwnd, 2896);
     let mut out = [7; 30];
-    assert_eq!(rt;
-        encode_change(0, 3, &values, &mut out[..29]),
-        Err(Short(30))
-    );
-    assert_eq!(rt; out, [7; 30]);
-    assert_eq!(rt; encode_change(0, 3, &values, &mut out), Ok(30));
-    assert_eq!(rt; out.as_slice(), CHANGE_3);
+    assert!(rt; encode_change(0, 3, &values, &mut out[..29]) == Err(Short(30)));
+    assert!(rt; out.iter().all(|byte| *byte == 7));
+    assert!(rt; encode_change(0, 3, &values, &mut out) == Ok(30));
+    assert!(rt; out.as_slice() == CHANGE_3);
     let mut read = Fields::new();
     let head = Head {
         flow: 0,
@@ -42,16 +39,13 @@ fn a_change_is_written_and_read(rt: HostRuntime) {
         version: Version::One,
         used: 30,
     };
-    assert_eq!(rt; decode_fields(&out, &mut read), Ok(head));
-    assert_eq!(rt; read, values);
+    assert!(rt; decode_fields(&out, &mut read) == Ok(head));
+    assert!(rt; read == values);
 }
 
 #[test]
 fn a_frame_of_another_kind_is_passed_over(rt: HostRuntime) {
     let mut values = Fields::new();
-    assert_eq!(rt;
-        decode_fields(INSTALL_5, &mut values),
-        Err(FrameFault::Other(3))
-    );
+    assert!(rt; decode_fields(INSTALL_5, &mut values) == Err(FrameFault::Other(3)));
     assert!(rt; values.is_empty());
 }

@@ -31,13 +31,13 @@ const BUILDS: [(&str, &str); 8] = [
 /// Asserts that building the text comes to this.
 fn is_built(rt: &impl Abort, alloc: Global, text: &[u8], want: &str) -> Result<(), Fail> {
     let told = built(alloc, text)?;
-    assert_eq!(rt; told.as_slice(), want.as_bytes(), "at {want}");
+    assert!(rt; told.as_slice() == want.as_bytes(), "at {want}");
     Ok(())
 }
 
 #[test]
 fn refusals_come_in_order(rt: HostRuntime) -> Result<(), Fail> {
-    for (text, want) in BUILDS {
+    for (text, want) in &BUILDS {
         is_built(&rt, rt.alloc(), text.as_bytes(), want)?;
     }
     Ok(())
@@ -80,8 +80,8 @@ const LENGTHS: [(u32, &str, &str); 3] = [
 #[test]
 fn codes_may_have_256_instructions(rt: HostRuntime) -> Result<(), Fail> {
     let alloc = rt.alloc();
-    for (count, back, want) in LENGTHS {
-        let text = repeated(alloc, "(def) (when true ", "(report)", count, back)?;
+    for (count, back, want) in &LENGTHS {
+        let text = repeated(alloc, "(def) (when true ", "(report)", *count, back)?;
         is_built(&rt, alloc, text.as_slice(), want)?;
     }
     Ok(())
@@ -129,32 +129,38 @@ fn built_in_texts(rt: HostRuntime) -> Result<(), Fail> {
     let alloc = rt.alloc();
     let controls = "  (cap +infinity) (mss 1))\n";
     let slow_start = joined(alloc, &[FIELDS, controls, FOLD, GROWTH, ONCE_A_ROUND])?;
-    assert_eq!(rt; builtin(0), slow_start.as_slice());
+    assert!(rt; builtin(0) == slow_start.as_slice());
     let avoidance = joined(alloc, &[FIELDS, "  )\n", FOLD, ONCE_A_ROUND])?;
-    assert_eq!(rt; builtin(1), avoidance.as_slice());
+    assert!(rt; builtin(1) == avoidance.as_slice());
     let cubic = joined(alloc, &[FIELDS, "  )\n", FOLD, TWICE_A_ROUND])?;
-    assert_eq!(rt; builtin(2), cubic.as_slice());
+    assert!(rt; builtin(2) == cubic.as_slice());
     Ok(())
 }
 
 /// Of each built-in program its number, its blocks and its control variables.
 const SIZES: [(u32, usize, usize); 3] = [(0, 4, 2), (1, 3, 0), (2, 3, 0)];
 
+fn has_sizes(alloc: Global, number: u32, blocks: usize, controls: usize) -> bool {
+    if number >= 3 {
+        return false;
+    }
+    let Ok(built) = build(alloc, builtin(number)) else {
+        return false;
+    };
+    let code = built.code.code();
+    code.reports.len() == 7
+        && code.controls.len() == controls
+        && code.events.len() == blocks
+        && built.places.len() == code.instrs.len()
+        && look(&built.program).ecn == Some(6)
+}
+
 #[test]
 fn the_built_in_programs_are_built(rt: HostRuntime) {
-    for (number, blocks, controls) in SIZES {
-        if number < 3 {
-            match build(rt.alloc(), builtin(number)) {
-                Ok(built) => {
-                    let code = built.code.code();
-                    assert_eq!(rt; code.reports.len(), 7, "at {number}");
-                    assert_eq!(rt; code.controls.len(), controls, "at {number}");
-                    assert_eq!(rt; code.events.len(), blocks, "at {number}");
-                    assert_eq!(rt; built.places.len(), code.instrs.len(), "at {number}");
-                    assert_eq!(rt; look(&built.program).ecn, Some(6), "at {number}");
-                }
-                Err(fault) => assert_eq!(rt; Some(fault), None, "at {number}"),
-            }
-        }
+    for (number, blocks, controls) in &SIZES {
+        assert!(rt;
+            has_sizes(rt.alloc(), *number, *blocks, *controls),
+            "at {number}"
+        );
     }
 }

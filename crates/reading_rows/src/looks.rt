@@ -6,6 +6,7 @@ use crate::texts::program;
 use ccp_base::Look;
 use portus_build::builtin;
 use portus_build::calls::look;
+use std::alloc::Global;
 use std::test::Fail;
 
 /// A look of the fields of the built-in programs, with these control variables.
@@ -25,19 +26,19 @@ fn builtin_look(cap: Option<u32>, mss: Option<u32>) -> Look
     }
 }
 
+/// Whether a built-in program has this look.
+fn has_look(alloc: Global, number: u32, want: Look) -> Result<bool, Fail> {
+    if number >= 3 {
+        return Ok(false);
+    }
+    Ok(look(&program(alloc, builtin(number))?) == want)
+}
+
 #[test]
 fn looks_of_the_built_in_programs(rt: HostRuntime) -> Result<(), Fail> {
-    let rows = [
-        (0, builtin_look(Some(0), Some(1))),
-        (1, builtin_look(None, None)),
-        (2, builtin_look(None, None)),
-    ];
-    for (number, want) in rows {
-        if number < 3 {
-            let program = program(rt.alloc(), builtin(number))?;
-            assert_eq!(rt; look(&program), want, "at {number}");
-        }
-    }
+    assert!(rt; has_look(rt.alloc(), 0, builtin_look(Some(0), Some(1)))?);
+    assert!(rt; has_look(rt.alloc(), 1, builtin_look(None, None))?);
+    assert!(rt; has_look(rt.alloc(), 2, builtin_look(None, None))?);
     Ok(())
 }
 
@@ -55,6 +56,6 @@ fn a_look_finds_only_declared_names(rt: HostRuntime) -> Result<(), Fail> {
         mss: Some(0),
         ecn: None,
     };
-    assert_eq!(rt; seen, want);
+    assert!(rt; seen == want);
     Ok(())
 }

@@ -41,13 +41,13 @@ const READINGS: [(&str, &str); 21] = [
 /// Asserts that reading the text comes to this.
 fn is_read(rt: &impl Abort, alloc: Global, text: &str, want: &str) -> Result<(), Fail> {
     let told = read(alloc, text.as_bytes())?;
-    assert_eq!(rt; told.as_slice(), want.as_bytes(), "at {text}");
+    assert!(rt; told.as_slice() == want.as_bytes(), "at {text}");
     Ok(())
 }
 
 #[test]
 fn refusals_have_their_places(rt: HostRuntime) -> Result<(), Fail> {
-    for (text, want) in READINGS {
+    for (text, want) in &READINGS {
         is_read(&rt, rt.alloc(), text, want)?;
     }
     Ok(())
@@ -67,10 +67,10 @@ const LIMITS: [(&str, &str, u32, &str, &str); 8] = [
 
 #[test]
 fn limits_of_reading_are_met(rt: HostRuntime) -> Result<(), Fail> {
-    for (front, part, count, back, want) in LIMITS {
-        let text = repeated(rt.alloc(), front, part, count, back)?;
+    for (front, part, count, back, want) in &LIMITS {
+        let text = repeated(rt.alloc(), front, part, *count, back)?;
         let told = read(rt.alloc(), text.as_slice())?;
-        assert_eq!(rt; told.as_slice(), want.as_bytes(), "at {count} of {part}");
+        assert!(rt; told.as_slice() == want.as_bytes(), "at {count} of {part}");
     }
     Ok(())
 }
@@ -79,32 +79,37 @@ fn at(line: u32, column: u32) -> Place {
     Place { line, column }
 }
 
+/// Whether a form's parts are a word, a number and a list at these places.
+fn are_the_parts(parts: &[Tree]) -> bool {
+    match parts {
+        [
+            Tree::Word(head, name),
+            Tree::Num(number, value),
+            Tree::List(inner, _),
+        ] => {
+            let is_word = *head == at(2, 3) && name.as_slice() == b"when".as_slice();
+            let is_number = *number == at(2, 8) && *value == 7;
+            is_word && is_number && *inner == at(2, 12)
+        }
+        _ => false,
+    }
+}
+
+fn are_the_forms(forms: &[Tree]) -> bool {
+    match forms {
+        [Tree::List(first, _), Tree::List(second, parts)] => {
+            *first == at(1, 1) && *second == at(2, 2) && are_the_parts(parts.as_slice())
+        }
+        _ => false,
+    }
+}
+
 #[test]
 fn forms_have_their_places(rt: HostRuntime) -> Result<(), Fail> {
     let source = parse(rt.alloc(), b"(def)\n (when 007\t(x))#")
         .ok()
         .ok_or("not read")?;
-    match source.forms.as_slice() {
-        [Tree::List(first, _), Tree::List(second, parts)] => {
-            assert_eq!(rt; *first, at(1, 1));
-            assert_eq!(rt; *second, at(2, 2));
-            match parts.as_slice() {
-                [
-                    Tree::Word(head, name),
-                    Tree::Num(number, value),
-                    Tree::List(inner, _),
-                ] => {
-                    assert_eq!(rt; *head, at(2, 3));
-                    assert_eq!(rt; name.as_slice(), b"when".as_slice());
-                    assert_eq!(rt; *number, at(2, 8));
-                    assert_eq!(rt; *value, 7);
-                    assert_eq!(rt; *inner, at(2, 12));
-                }
-                _ => return Err("other parts".into()),
-            }
-        }
-        _ => return Err("other forms".into()),
-    }
+    assert!(rt; are_the_forms(source.forms.as_slice()));
     Ok(())
 }
 
@@ -115,12 +120,15 @@ const PRINTED: [(&str, &str); 3] = [
     ("(a)(b\n\t:=)", "(a)\n(b :=)\n"),
 ];
 
+fn is_printed(alloc: Global, text: &str, want: &str) -> Result<bool, Fail> {
+    let source = parse(alloc, text.as_bytes()).ok().ok_or("not read")?;
+    Ok(print_tree(alloc, &source)?.as_slice() == want.as_bytes())
+}
+
 #[test]
 fn texts_are_printed_without_their_spaces_and_comments(rt: HostRuntime) -> Result<(), Fail> {
-    for (text, want) in PRINTED {
-        let source = parse(rt.alloc(), text.as_bytes()).ok().ok_or("not read")?;
-        let printed = print_tree(rt.alloc(), &source)?;
-        assert_eq!(rt; printed.as_slice(), want.as_bytes(), "at {text}");
+    for (text, want) in &PRINTED {
+        assert!(rt; is_printed(rt.alloc(), text, want)?, "at {text}");
     }
     Ok(())
 }

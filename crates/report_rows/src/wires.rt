@@ -25,19 +25,16 @@ fn only(alloc: Global, number: u32, built: Built) -> Result<Builts, Fail> {
 fn an_install_is_written_in_hexadecimal(rt: HostRuntime) -> Result<(), Fail> {
     let alloc = rt.alloc();
     let mut programs = only(alloc, 5, build(alloc, b"(def)")?)?;
-    assert_eq!(rt;
-        wire_text(alloc, &programs)?.as_slice(),
-        b"install 5 0301000000000000000000001400000005000000\n".as_slice()
+    assert!(rt;
+        wire_text(alloc, &programs)?.as_slice()
+            == b"install 5 0301000000000000000000001400000005000000\n".as_slice()
     );
     programs.push((10, build(alloc, b"(def)")?))?;
-    assert_eq!(rt;
-        wire_text(alloc, &programs)?.as_slice(),
-        b"install 5 0301000000000000000000001400000005000000\ninstall 10 030100000000000000000000140000000a000000\n".as_slice()
+    assert!(rt;
+        wire_text(alloc, &programs)?.as_slice()
+            == b"install 5 0301000000000000000000001400000005000000\ninstall 10 030100000000000000000000140000000a000000\n".as_slice()
     );
-    assert_eq!(rt;
-        wire_text(alloc, &Builts::new(alloc))?.as_slice(),
-        b"".as_slice()
-    );
+    assert!(rt; wire_text(alloc, &Builts::new(alloc))?.as_slice() == b"".as_slice());
     Ok(())
 }
 
@@ -63,9 +60,9 @@ fn more_than_32_fields_take_version_2(rt: HostRuntime) -> Result<(), Fail> {
 fn a_program_without_declarations_is_told(rt: HostRuntime) -> Result<(), Fail> {
     let alloc = rt.alloc();
     let built = build(alloc, b"(def)")?;
-    assert_eq!(rt;
-        check_text(alloc, &built)?.as_slice(),
-        b"ok blocks=0 fields=0 controls=0 need=0 count=0\n".as_slice()
+    assert!(rt;
+        check_text(alloc, &built)?.as_slice()
+            == b"ok blocks=0 fields=0 controls=0 need=0 count=0\n".as_slice()
     );
     let end = End {
         acks: 0,
@@ -76,9 +73,9 @@ fn a_program_without_declarations_is_told(rt: HostRuntime) -> Result<(), Fail> {
         fields: Values::new(),
     };
     assert!(rt; built.program.fields.is_empty());
-    assert_eq!(rt;
-        fold_text(alloc, &built, &Reports::new(alloc), None, &end)?.as_slice(),
-        b"end acks=0 reports=0 tail=0..0 stopped=no cwnd=0 rate=0\n".as_slice()
+    assert!(rt;
+        fold_text(alloc, &built, &Reports::new(alloc), None, &end)?.as_slice()
+            == b"end acks=0 reports=0 tail=0..0 stopped=no cwnd=0 rate=0\n".as_slice()
     );
     Ok(())
 }

@@ -15,14 +15,30 @@ pub enum Reader {
     Shared,
 }
 
+fn read_of_agents(alloc: Global, text: &[u8], mode: Mode) -> Result<usize, SceneFault> {
+    Ok(scenario(alloc, text, mode)?.cases.len())
+}
+
+fn read_of_rollout(alloc: Global, text: &[u8]) -> Result<usize, SceneFault> {
+    Ok(rollout_scene(alloc, text)?.len())
+}
+
+fn read_of_shared(alloc: Global, text: &[u8]) -> Result<usize, SceneFault> {
+    Ok(shared_scene(alloc, text)?.scene.cases.len())
+}
+
 /// How many cases a text says, or its refusal.
 fn read(alloc: Global, text: &[u8], reader: Reader) -> Result<usize, SceneFault> {
     match reader {
-        Reader::Live => Ok(scenario(alloc, text, Mode::Live)?.cases.len()),
-        Reader::Campaign => Ok(scenario(alloc, text, Mode::Campaign)?.cases.len()),
-        Reader::Rollout => Ok(rollout_scene(alloc, text)?.len()),
-        Reader::Shared => Ok(shared_scene(alloc, text)?.scene.cases.len()),
+        Reader::Live => read_of_agents(alloc, text, Mode::Live),
+        Reader::Campaign => read_of_agents(alloc, text, Mode::Campaign),
+        Reader::Rollout => read_of_rollout(alloc, text),
+        Reader::Shared => read_of_shared(alloc, text),
     }
+}
+
+fn word(alloc: Global, text: &str) -> Result<String, Fail> {
+    Ok(String::from_str(alloc, text)?)
 }
 
 fn with_path(alloc: Global, cause: &str, path: &Bytes) -> Result<String, Fail> {
@@ -37,7 +53,7 @@ fn with_name(alloc: Global, cause: &str, name: &Name, fault: &str) -> Result<Str
 
 fn fault_line(alloc: Global, fault: &SceneFault) -> Result<String, Fail> {
     match fault {
-        SceneFault::Json => Ok(String::from_str(alloc, "json")?),
+        SceneFault::Json => word(alloc, "json"),
         SceneFault::Missing(path) => with_path(alloc, "missing", path),
         SceneFault::Wrong(path) => with_path(alloc, "wrong", path),
         SceneFault::Range(path) => with_path(alloc, "range", path),
@@ -49,8 +65,8 @@ fn fault_line(alloc: Global, fault: &SceneFault) -> Result<String, Fail> {
             let fault = format!(in alloc; "{fault:?}")?;
             with_name(alloc, "trace", name, fault.as_str())
         }
-        SceneFault::Totals => Ok(String::from_str(alloc, "totals")?),
-        SceneFault::NoMemory => Ok(String::from_str(alloc, "no memory")?),
+        SceneFault::Totals => word(alloc, "totals"),
+        SceneFault::NoMemory => word(alloc, "no memory"),
     }
 }
 
@@ -71,7 +87,7 @@ pub fn comes_to(
     want: &str,
 ) -> Result<(), Fail> {
     let line = line(alloc, text, reader)?;
-    assert_eq!(rt; line.as_str(), want, "{reader:?}");
+    assert!(rt; line.as_str() == want, "{reader:?}");
     Ok(())
 }
 

@@ -46,8 +46,8 @@ const MISSED: [(usize, &str, &str); 11] = [
 
 #[test]
 fn each_needed_member_is_missed(rt: HostRuntime) -> Result<(), Fail> {
-    for (without, agents, rollout) in MISSED {
-        let case = case(rt.alloc(), without, "")?;
+    for (without, agents, rollout) in &MISSED {
+        let case = case(rt.alloc(), *without, "")?;
         let text = scene(rt.alloc(), case.as_str())?;
         agents_come_to(&rt, rt.alloc(), text.as_bytes(), agents)?;
         comes_to(&rt, rt.alloc(), Reader::Rollout, text.as_bytes(), rollout)?;
@@ -244,7 +244,7 @@ const SECOND: [(&str, &str); 4] = [
 #[test]
 fn cases_are_numbered_from_0(rt: HostRuntime) -> Result<(), Fail> {
     let first = case(rt.alloc(), 10, "")?;
-    for (second, want) in SECOND {
+    for (second, want) in &SECOND {
         let cases = format!(in rt.alloc(); "{},{second}", first.as_str())?;
         let text = scene(rt.alloc(), cases.as_str())?;
         all_come_to(&rt, rt.alloc(), text.as_bytes(), want)?;

@@ -155,30 +155,45 @@ const PROGRAM_TEXTS: [(&str, &str); 15] = [
 
 #[test]
 fn texts_of_programs_are_refused(rt: HostRuntime) -> Result<(), Fail> {
-    for (text, want) in PROGRAM_TEXTS {
+    for (text, want) in &PROGRAM_TEXTS {
         is_refused(&rt, rt.alloc(), text, want)?;
     }
     Ok(())
 }
 
+/// Of each long text its beginning, the part that is repeated, how many times, and its end.
+const LONG_TEXTS: [(&str, &str, u32, &str, &str); 4] = [
+    ("", " ", 65_537, "", "program a Parse(SourceTooLong)"),
+    (
+        "",
+        "(",
+        65,
+        "",
+        "program a Parse(Nesting(Place { line: 1, column: 65 }))",
+    ),
+    (
+        "(def) (when true",
+        " (:= Cwnd 1)",
+        256,
+        ")",
+        "program a Compile(CodeTooLong(257))",
+    ),
+    (
+        "(def)",
+        " (when true)",
+        65,
+        "",
+        "program a Scope(TooMany(Place { line: 1, column: 775 }, Blocks))",
+    ),
+];
+
 #[test]
 fn long_texts_of_programs_are_refused(rt: HostRuntime) -> Result<(), Fail> {
-    let alloc = rt.alloc();
-    let text = repeated(alloc, "", " ", 65_537, "")?;
-    is_refused(&rt, alloc, text.as_str(), "program a Parse(SourceTooLong)")?;
-    let text = repeated(alloc, "", "(", 65, "")?;
-    let want = "program a Parse(Nesting(Place { line: 1, column: 65 }))";
-    is_refused(&rt, alloc, text.as_str(), want)?;
-    let text = repeated(alloc, "(def) (when true", " (:= Cwnd 1)", 256, ")")?;
-    is_refused(
-        &rt,
-        alloc,
-        text.as_str(),
-        "program a Compile(CodeTooLong(257))",
-    )?;
-    let text = repeated(alloc, "(def)", " (when true)", 65, "")?;
-    let want = "program a Scope(TooMany(Place { line: 1, column: 775 }, Blocks))";
-    is_refused(&rt, alloc, text.as_str(), want)
+    for (first, part, times, last, want) in &LONG_TEXTS {
+        let text = repeated(rt.alloc(), first, part, *times, last)?;
+        is_refused(&rt, rt.alloc(), text.as_str(), want)?;
+    }
+    Ok(())
 }
 
 /// Programs with names of two digits from 10 on, so many, and no traces.
@@ -192,12 +207,15 @@ fn many_programs(alloc: Global, last: u32) -> Result<String, Fail> {
     Ok(text)
 }
 
+fn programs_come_to(rt: &impl Abort, alloc: Global, last: u32, want: &str) -> Result<(), Fail> {
+    let text = many_programs(alloc, last)?;
+    all_come_to(rt, alloc, text.as_bytes(), want)
+}
+
 #[test]
 fn at_most_13_programs_are_named(rt: HostRuntime) -> Result<(), Fail> {
-    let text = many_programs(rt.alloc(), 22)?;
-    all_come_to(&rt, rt.alloc(), text.as_bytes(), "missing traces")?;
-    let text = many_programs(rt.alloc(), 23)?;
-    all_come_to(&rt, rt.alloc(), text.as_bytes(), "range programs")
+    programs_come_to(&rt, rt.alloc(), 22, "missing traces")?;
+    programs_come_to(&rt, rt.alloc(), 23, "range programs")
 }
 
 /// Traces, and the list of cases.
@@ -336,7 +354,7 @@ const SHARED: [(&str, &str); 25] = [
 
 #[test]
 fn what_flows_share_is_refused(rt: HostRuntime) -> Result<(), Fail> {
-    for (value, want) in SHARED {
+    for (value, want) in &SHARED {
         let text = shared(rt.alloc(), value)?;
         comes_to(&rt, rt.alloc(), Reader::Shared, text.as_bytes(), want)?;
         comes_to(&rt, rt.alloc(), Reader::Live, text.as_bytes(), "ok 1")?;

@@ -2,7 +2,8 @@ use crate::lines::{Reader, all_come_to, comes_to};
 use crate::texts::{case, many, repeated, scene};
 use flow_core::Case;
 use scenario_json::calls::{rollout_scene, scenario, shared_scene, soak};
-use scenario_json::{Mode, OpenCase};
+use scenario_json::{Mode, OpenCase, Scenario};
+use shared_link::{FlowLink, SharedCase};
 use std::alloc::Global;
 use std::process::Abort;
 use std::test::Fail;
@@ -27,9 +28,9 @@ const TOTALS: [(u32, &str, Reader, &str); 14] = [
 
 #[test]
 fn cases_and_acknowledgements_have_limits(rt: HostRuntime) -> Result<(), Fail> {
-    for (cases, more, reader, want) in TOTALS {
-        let text = many(rt.alloc(), cases, more)?;
-        comes_to(&rt, rt.alloc(), reader, text.as_bytes(), want)?;
+    for (cases, more, reader, want) in &TOTALS {
+        let text = many(rt.alloc(), *cases, more)?;
+        comes_to(&rt, rt.alloc(), *reader, text.as_bytes(), want)?;
     }
     Ok(())
 }
@@ -49,8 +50,9 @@ fn arrays_are_open_at_most_127_at_once(rt: HostRuntime) -> Result<(), Fail> {
     all_come_to(&rt, rt.alloc(), text.as_bytes(), "json")
 }
 
-/// A case's programs, as a word.
-fn programs_of(alloc: Global, case: &Case) -> Result<String, Fail> {
+/// The programs of the first case, as a word.
+fn programs_of(alloc: Global, cases: &[Case]) -> Result<String, Fail> {
+    let case = cases.first().ok_or("a case")?;
     let ss = case.ss.role.number;
     let ca = case.ca.role.number;
     Ok(format!(in alloc; "{ss} {ca}")?)
@@ -59,12 +61,19 @@ fn programs_of(alloc: Global, case: &Case) -> Result<String, Fail> {
 /// The programs of the first case of a text's live run.
 fn first_programs(alloc: Global, text: &[u8]) -> Result<String, Fail> {
     match scenario(alloc, text, Mode::Live) {
-        Ok(scene) => match scene.cases.as_slice().first() {
-            Some(case) => programs_of(alloc, case),
-            None => Ok(String::from_str(alloc, "no case")?),
-        },
-        Err(_) => Ok(String::from_str(alloc, "refused")?),
+        Ok(scene) => programs_of(alloc, scene.cases.as_slice()),
+        Err(_) => Err(Fail::from("refused")),
     }
+}
+
+/// The programs of a case with these members, in a text that names `z` first.
+fn numbered(alloc: Global, more: &str) -> Result<String, Fail> {
+    let case = case(alloc, 10, more)?;
+    let text = format!(in alloc;
+        "{{\"version\":1,\"programs\":{{\"z\":\"(def)\",\"b\":\"(def)\"}},\"traces\":{{\"t\":\"10\"}},\"cases\":[{}]}}",
+        case.as_str()
+    )?;
+    first_programs(alloc, text.as_bytes())
 }
 
 /// Members of a case, and the numbers of its programs where `z` and `b` are named in this order.
@@ -78,14 +87,9 @@ const NUMBERED: [(&str, &str); 5] = [
 
 #[test]
 fn programs_are_numbered_in_byte_order_of_names(rt: HostRuntime) -> Result<(), Fail> {
-    for (more, want) in NUMBERED {
-        let case = case(rt.alloc(), 10, more)?;
-        let text = format!(in rt.alloc();
-            "{{\"version\":1,\"programs\":{{\"z\":\"(def)\",\"b\":\"(def)\"}},\"traces\":{{\"t\":\"10\"}},\"cases\":[{}]}}",
-            case.as_str()
-        )?;
-        let programs = first_programs(rt.alloc(), text.as_bytes())?;
-        assert_eq!(rt; programs.as_str(), want, "{more}");
+    for (more, want) in &NUMBERED {
+        let programs = numbered(rt.alloc(), more)?;
+        assert!(rt; programs.as_str() == *want, "{more}");
     }
     Ok(())
 }
@@ -107,12 +111,27 @@ fn open_word(alloc: Global, case: &OpenCase) -> Result<String, Fail> {
     Ok(word)
 }
 
-/// Asserts what a case says, that its copy is equal to it, and whether it is equal to another.
+/// Whether a case's copy is equal to it.
+fn is_copied(alloc: Global, case: &OpenCase) -> Result<bool, Fail> {
+    Ok(case.copy(alloc)?.same(case))
+}
+
+/// Asserts what a case says, and that its copy is equal to it.
 fn says(rt: &impl Abort, alloc: Global, case: &OpenCase, want: &str) -> Result<(), Fail> {
     let word = open_word(alloc, case)?;
-    assert_eq!(rt; word.as_str(), want);
-    let copy = case.copy(alloc)?;
-    assert!(rt; copy.same(case));
+    assert!(rt; word.as_str() == want);
+    assert!(rt; is_copied(alloc, case)?);
+    Ok(())
+}
+
+/// Asserts what the two cases of `STEPS` say, and that one isn't equal to the other.
+fn say_steps(rt: &impl Abort, alloc: Global, cases: &[OpenCase]) -> Result<(), Fail> {
+    let [first, second] = cases else {
+        return Err(Fail::from("two cases"));
+    };
+    says(rt, alloc, first, "0 a 0 4344 1448|(def)|(def) (when x)")?;
+    says(rt, alloc, second, "1 b 2 0 1448|(def) (when x)")?;
+    assert!(rt; !first.same(second));
     Ok(())
 }
 
@@ -122,74 +141,71 @@ const STEPS: &str =
 #[test]
 fn a_rollout_has_the_texts_of_its_steps(rt: HostRuntime) -> Result<(), Fail> {
     match rollout_scene(rt.alloc(), STEPS.as_bytes()) {
-        Ok(cases) => match cases.as_slice() {
-            [first, second] => {
-                says(
-                    &rt,
-                    rt.alloc(),
-                    first,
-                    "0 a 0 4344 1448|(def)|(def) (when x)",
-                )?;
-                says(&rt, rt.alloc(), second, "1 b 2 0 1448|(def) (when x)")?;
-                assert!(rt; !first.same(second));
-            }
-            _ => assert_eq!(rt; "two cases", ""),
-        },
-        Err(_) => assert_eq!(rt; "cases", ""),
+        Ok(cases) => say_steps(&rt, rt.alloc(), cases.as_slice()),
+        Err(_) => Err(Fail::from("cases")),
     }
-    Ok(())
+}
+
+/// A flow's part of a link, as a word.
+fn flow_word(alloc: Global, flow: &FlowLink) -> Result<String, Fail> {
+    let losses = flow.losses.len();
+    Ok(format!(in alloc;
+        "|{} {} {} {losses} {:?}",
+        flow.mss, flow.delay_us, flow.timeout_us, flow.mark
+    )?)
+}
+
+/// A link with its rounds, as a word.
+fn link_word(alloc: Global, link: &SharedCase, rounds: u32) -> Result<String, Fail> {
+    let times = link.trace.as_slice().len();
+    let mut word = format!(in alloc; "{times} {} {} {rounds}", link.queue, link.quantum_us)?;
+    for flow in link.flows.as_slice() {
+        let part = flow_word(alloc, flow)?;
+        word.push_str(part.as_str())?;
+    }
+    Ok(word)
 }
 
 /// The link of a text whose flows share one, as a word.
-fn link_word(alloc: Global, text: &[u8]) -> Result<String, Fail> {
+fn shared_word(alloc: Global, text: &[u8]) -> Result<String, Fail> {
     match shared_scene(alloc, text) {
-        Ok(scene) => {
-            let times = scene.link.trace.as_slice().len();
-            let mut word = format!(in alloc;
-                "{times} {} {} {}",
-                scene.link.queue, scene.link.quantum_us, scene.rounds
-            )?;
-            for flow in scene.link.flows.as_slice() {
-                let losses = flow.losses.len();
-                let part = format!(in alloc;
-                    "|{} {} {} {losses}",
-                    flow.mss, flow.delay_us, flow.timeout_us
-                )?;
-                word.push_str(part.as_str())?;
-                let mark = format!(in alloc; " {:?}", flow.mark)?;
-                word.push_str(mark.as_str())?;
-            }
-            Ok(word)
-        }
-        Err(_) => Ok(String::from_str(alloc, "refused")?),
+        Ok(scene) => link_word(alloc, &scene.link, scene.rounds),
+        Err(_) => Err(Fail::from("refused")),
     }
+}
+
+/// A text of two flows that share a link.
+fn two_flows(alloc: Global) -> Result<String, Fail> {
+    let first = case(alloc, 10, ",\"losses\":[3,5],\"mark\":7")?;
+    let second = case(alloc, 10, ",\"mss\":9,\"delay_us\":0,\"timeout_us\":8")?;
+    let cases = format!(in alloc; "{},{}", first.as_str(), second.as_str())?;
+    scene(alloc, cases.as_str())
 }
 
 #[test]
 fn a_shared_link_has_a_flow_for_each_case(rt: HostRuntime) -> Result<(), Fail> {
-    let first = case(rt.alloc(), 10, ",\"losses\":[3,5],\"mark\":7")?;
-    let second = case(rt.alloc(), 10, ",\"mss\":9,\"delay_us\":0,\"timeout_us\":8")?;
-    let cases = format!(in rt.alloc(); "{},{}", first.as_str(), second.as_str())?;
-    let text = scene(rt.alloc(), cases.as_str())?;
-    let word = link_word(rt.alloc(), text.as_bytes())?;
-    assert_eq!(rt;
-        word.as_str(),
-        "1 10 1000 9|1448 20000 1000000 2 Some(7)|9 0 8 0 None"
-    );
+    let text = two_flows(rt.alloc())?;
+    let word = shared_word(rt.alloc(), text.as_bytes())?;
+    assert!(rt; word.as_str() == "1 10 1000 9|1448 20000 1000000 2 Some(7)|9 0 8 0 None");
     Ok(())
+}
+
+/// Whether there are 64 cases, and the first one's name and acknowledgements are these.
+fn begin_with(cases: &[Case], name: &[u8], acks: u32) -> bool {
+    match cases.first() {
+        Some(case) => cases.len() == 64 && case.acks == acks && case.name.as_slice() == name,
+        None => false,
+    }
+}
+
+/// Whether a scene is the one generated of number 1, by its counts and its first case.
+fn is_of_number_1(scene: &Scenario) -> bool {
+    scene.programs.len() == 3 && begin_with(scene.cases.as_slice(), b"s0", 2584)
 }
 
 #[test]
 fn the_first_generated_case_of_number_1(rt: HostRuntime) -> Result<(), Fail> {
     let scene = soak(rt.alloc(), 1)?;
-    assert_eq!(rt; scene.cases.len(), 64);
-    assert_eq!(rt; scene.programs.len(), 3);
-    match scene.cases.as_slice().first() {
-        Some(case) => {
-            assert_eq!(rt; case.acks, 2584);
-            assert_eq!(rt; case.name.as_slice(), b"s0".as_slice());
-        }
-        None => assert_eq!(rt; "a case", ""),
-    }
+    assert!(rt; is_of_number_1(&scene));
     Ok(())
 }
