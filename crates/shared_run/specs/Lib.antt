@@ -1,5 +1,6 @@
 pub mod SharedHistory
 pub mod SharedBooks
+pub mod WholeRun
 pub mod LiftedRun
 pub mod Lanes
 pub mod Rounds
