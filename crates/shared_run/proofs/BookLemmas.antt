@@ -81,6 +81,6 @@ pub given-of : (core end : CoreState) (given : Given) → end ≡ closed over_co
     → legal_over (over_codes end.case) end.acks end.word ≡ true → is_still (state_of over_codes end) ≡ true
     → IsBookOf (over_codes end.case) (state_of over_codes end) given.book
     → IsGivenOf (closed over_codes core) given
-given-of core end given closes case acks word legal still told =
-    let of_end : IsGivenOf end given = record { case = case; acks = acks; word = word; legal = legal; still = still; told = told } in
+given-of core end given closes case acks word legal still book =
+    let of_end : IsGivenOf end given = record { case = case; acks = acks; word = word; legal = legal; still = still; book = book } in
     subst (λ (one : CoreState). IsGivenOf one given) closes of_end

@@ -3,7 +3,7 @@ use Rattle.std.specs.Prelude.{◌≡◌, ℕ, ◌+◌, ◌<◌, ◌≤◌, Bool,
 use Rattle.ccp_base.specs.declared.ack.Ack.{Ack}
 use Rattle.flow_core.specs.Readings.{over_codes}
 use Rattle.flow_core.specs.Cores.{CoreState}
-use Rattle.shared_flow.specs.RoundLetters.{part}
+use Rattle.shared_flow.specs.RoundLetters.{part, closed}
 use Rattle.shared_run.specs.declared.lane.Lane.{Lane}
 
 abbrev pub flow_in : Lane → CoreState
@@ -11,6 +11,10 @@ flow_in lane = lane.flow
 
 abbrev pub flows_in : List Lane → List CoreState
 flows_in lanes = map flow_in lanes
+
+-- the flows after they have taken and answered until nothing is left
+abbrev pub ends_in : List Lane → List CoreState
+ends_in lanes = map (closed over_codes) (flows_in lanes)
 
 -- memory was short in one of them
 abbrev pub some_short : List Lane → Bool
@@ -44,7 +48,8 @@ DoesAt lists place old new = (acks : List Ack) → Does (slice_index_or lists pl
 -- each flow has as many left as its list has
 abbrev pub MayHaveEach : List (List Ack) → List Lane → Type 0
 MayHaveEach lists lanes =
-    (i : ℕ) (acks : List Ack) (lane : Lane) → i < length lanes → MayHave (slice_index_or lists i acks) (slice_index_or lanes i lane)
+    (i : ℕ) (acks : List Ack) (lane : Lane) → i < length lanes
+    → MayHave (slice_index_or lists i acks) (slice_index_or lanes i lane)
 
 -- each flow's part was done
 abbrev pub DoesEach : List (List Ack) → List Lane → List Lane → Type 0

@@ -18,9 +18,11 @@ pub record StandAs (link : SharedState) (now : List CoreState) (run : Progress) 
 -- one more round was run
 abbrev pub Rounded : SharedState → List CoreState → SharedState → List CoreState → Type 0
 Rounded old flows new after =
-    (history : List (List Ask)) → Stands old history → StandAs new after (after_round old.case over_codes (progress history flows))
+    (history : List (List Ask)) → Stands old history
+    → StandAs new after (after_round old.case over_codes (progress history flows))
 
 -- rounds were run, at most so many
 abbrev pub Ran : ℕ → SharedState → List CoreState → SharedState → List CoreState → Type 0
 Ran rounds old flows new after =
-    (history : List (List Ask)) → Stands old history → StandAs new after (rounds_from old.case over_codes rounds (progress history flows))
+    (history : List (List Ask)) → Stands old history
+    → StandAs new after (rounds_from old.case over_codes rounds (progress history flows))

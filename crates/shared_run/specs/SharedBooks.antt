@@ -15,7 +15,7 @@ pub record IsGivenOf (core : CoreState) (given : Given) : Type 0 where
   pub word : given.book.word ≡ core.word
   pub legal : legal_over (over_codes core.case) core.acks core.word ≡ true
   pub still : is_still (state_of over_codes core) ≡ true
-  pub told : IsBookOf (over_codes core.case) (state_of over_codes core) given.book
+  pub book : IsBookOf (over_codes core.case) (state_of over_codes core) given.book
 
 -- one a flow, in order
 abbrev pub AreGivensOf : List CoreState → List Given → Type 0

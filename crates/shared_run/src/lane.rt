@@ -18,7 +18,8 @@ pub(crate) struct Lane {
 }
 
 impl Lane {
-    /// The flow's part of a round, by this worker. It passes the gate at `InCase` before it and at `AfterCase` after it.
+    /// The flow's part of a round, by this worker. It passes the gate at `InCase` before it and at `AfterCase` after
+    /// it.
     pub(crate) fn part<G: Gate>(&mut self, alloc: Global, worker: u32, acks: &[Ack], gate: &G)
         requires { MayHave acks.now self.old }
         ensures { Does acks.now self.old self.new }

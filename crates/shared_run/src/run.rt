@@ -1,12 +1,11 @@
 //! The run of a scenario's cases over one link.
 ghost use Rattle.std.specs.Prelude.{◌≡◌, ◌≤◌, length, map, IfOk};
 ghost use Rattle.ccp_base.specs.Limits.{most_flows, most_rounds, most_workers};
-ghost use Rattle.flow_core.specs.Readings.{over_codes};
 ghost use Rattle.scenario_json.specs.Cases.{plan_of, AreFlowsFrom};
 ghost use Rattle.scenario_json.specs.SharedScenes.{flow_link_of};
 ghost use Rattle.shared_link.specs.SharedLimits.{IsWithin};
-ghost use Rattle.shared_run.specs.SharedHistory.{most_of, flows_of, shared_rows, shared_counts};
-ghost use Rattle.shared_run.specs.SharedBooks.{AreGivensOf};
+ghost use Rattle.shared_run.specs.SharedHistory.{most_of};
+ghost use Rattle.shared_run.specs.WholeRun.{IsRunOf};
 ghost use Rattle.shared_run.specs.LiftedRun.{IsLifted};
 
 use crate::books::{SharedRun, finished};
@@ -19,13 +18,13 @@ use shared_link::SharedLink;
 use std::alloc::Global;
 use std::thread::Threads;
 
-/// Runs the flows of a scenario over its link, whatever the number of workers, which is 1 to 32. In each round the flows
-/// ask for acknowledgements, the link answers, and each flow's part is done by a worker: worker `w` does those of the flows
-/// whose number leaves `w` when it is divided by the number of workers, in order. As many flows as there are workers do
-/// their parts at once, and then the next ones. A worker passes the gate at `InCase` before a part and at `AfterCase` after
-/// it. Where a thread can't be started the caller does its work. The run ends after the round in which all flows have all
-/// acknowledgements, and at the latest after `rounds` rounds, where 0 flows run none; then each flow takes and answers until
-/// nothing is left.
+/// Runs the flows of a scenario over its link, whatever the number of workers, which is 1 to 32. In each round the
+/// flows ask for acknowledgements, the link answers, and each flow's part is done by a worker: worker `w` does those of
+/// the flows whose number leaves `w` when it is divided by the number of workers, in order. As many flows as there are
+/// workers do their parts at once, and then the next ones. A worker passes the gate at `InCase` before a part and at
+/// `AfterCase` after it. Where a thread can't be started the caller does its work. The run ends after the round in
+/// which all flows have all acknowledgements, and at the latest after `rounds` rounds, where 0 flows run none; then
+/// each flow takes and answers until nothing is left.
 pub fn shared<R: Threads + Sync, G: Gate + Sync>(
     rt: &R,
     alloc: Global,
@@ -39,9 +38,7 @@ pub fn shared<R: Threads + Sync, G: Gate + Sync>(
     requires link { IsWithin scene.link }
     requires links { scene.link.flows ≡ map flow_link_of (map plan_of scene.scene.cases) }
     requires rounds { scene.rounds ≤ most_rounds }
-    ensures givens { IfOk result (λ run. AreGivensOf (flows_of scene.link over_codes scene.scene.cases scene.rounds) run.givens) }
-    ensures rows { IfOk result (λ run. run.rows ≡ shared_rows scene.link over_codes scene.scene.cases scene.rounds) }
-    ensures counts { IfOk result (λ run. run.counts ≡ shared_counts scene.link over_codes scene.scene.cases scene.rounds) }
+    ensures run { IfOk result (IsRunOf scene.link scene.scene.cases scene.rounds) }
     // For all programs that the cases' codes simulate, the run is that of these sources.
     ensures lifted { IsLifted scene.link scene.scene.cases scene.rounds }
 {
@@ -61,9 +58,7 @@ fn run<R: Threads + Sync, G: Gate + Sync>(
     requires link { IsWithin scene.link }
     requires links { scene.link.flows ≡ map flow_link_of (map plan_of scene.scene.cases) }
     requires rounds { scene.rounds ≤ most_rounds }
-    ensures givens { IfOk result (λ run. AreGivensOf (flows_of scene.link over_codes scene.scene.cases scene.rounds) run.givens) }
-    ensures rows { IfOk result (λ run. run.rows ≡ shared_rows scene.link over_codes scene.scene.cases scene.rounds) }
-    ensures counts { IfOk result (λ run. run.counts ≡ shared_counts scene.link over_codes scene.scene.cases scene.rounds) }
+    ensures { IfOk result (IsRunOf scene.link scene.scene.cases scene.rounds) }
 {
     let SharedScene {
         scene,

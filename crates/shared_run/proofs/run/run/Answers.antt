@@ -4,12 +4,12 @@ use Rattle.flow_core.specs.declared.case.Case.{Case}
 use Rattle.flow_core.specs.Readings.{over_codes}
 use Rattle.flow_core.specs.Cores.{CoreState}
 use Rattle.shared_link.specs.declared.shared_case.SharedCase.{SharedCase}
-use Rattle.shared_flow.specs.RoundLetters.{opened, closed}
+use Rattle.shared_flow.specs.RoundLetters.{opened}
 use Rattle.shared_flow.specs.FlowRow.{flow_row, AreRoomy}
 use Rattle.shared_run.specs.declared.lane.Lane.{Lane}
 use Rattle.shared_run.specs.SharedHistory.{run_of, most_of}
 use Rattle.shared_run.specs.SharedBooks.{AreGivensOf}
-use Rattle.shared_run.specs.Lanes.{flows_in}
+use Rattle.shared_run.specs.Lanes.{ends_in, flows_in}
 use Rattle.shared_run.specs.Rounds.{StandAs, Ran}
 use Rattle.shared_run.proofs.RunLemmas.{as-many, came, all-roomy-now, written-whole, flows-are, counts-are}
 use Rattle.shared_run.proofs.run.run.Goals as goal
@@ -40,8 +40,8 @@ finished-requires g c =
     subst (λ (lanes : List Lane). All (λ (core : CoreState). AreRoomy core.acks) (flows_in lanes)) (sym whole)
     (all-roomy-now scene.link c.requires.link cases scene.rounds c.requires.rounds c.rounds.new.link (flows_in c.rounds.new.lanes) stand)
 
-pub returns-clause-givens : goal.returns-clause-givens
-returns-clause-givens g c =
+pub returns : goal.returns
+returns g c =
     let scene = c.args.scene in
     let cases = scene.scene.cases in
     let value = c.as_mut_slice.ensures.value in
@@ -56,42 +56,12 @@ returns-clause-givens g c =
     let whole =
     written-whole c.in_ok-lanes.lanes.len c.rounds.new.lanes c.in_ok-lanes.lanes.items (c.rounds.auto.lanes ∙ c.as_mut_slice.ensures.len)
     (sym (ap (λ (lanes : List Lane). length lanes) value) ∙ c.as_mut_slice.ensures.len) in
-    let ends = ap (λ (lanes : List Lane). map (closed over_codes) (flows_in lanes)) whole
+    let ends = ap ends_in whole
     ∙ flows-are scene.link cases scene.rounds c.rounds.new.link (flows_in c.rounds.new.lanes) stand in
-    subst (λ (cores : List CoreState). AreGivensOf cores c.in_ok-givens.givens) ends c.in_ok-givens.ensures.givens
-
-pub returns-clause-rows : goal.returns-clause-rows
-returns-clause-rows g c =
-    let scene = c.args.scene in
-    let cases = scene.scene.cases in
-    let value = c.as_mut_slice.ensures.value in
-    let begun : flows_in c.as_mut_slice.result.now ≡ map opened cases = ap flows_in value ∙ c.in_ok-lanes.ensures.flows in
-    let most : c.most_of-most.result ≡ most_of cases scene.rounds =
-    c.most_of-most.ensures ∙ ap (λ (list : List Case). most_of list scene.rounds) c.as_slice.ensures in
-    let ran : Ran (most_of cases scene.rounds) c.in_ok-link.link (flows_in c.as_mut_slice.result.now) c.rounds.new.link (flows_in c.rounds.new.lanes) =
-    subst (λ (n : ℕ). Ran n c.in_ok-link.link (flows_in c.as_mut_slice.result.now) c.rounds.new.link (flows_in c.rounds.new.lanes)) most c.in_ok-rounds.ensures.run in
-    let stand : StandAs c.rounds.new.link (flows_in c.rounds.new.lanes) (run_of scene.link over_codes cases scene.rounds) =
-    came scene.link cases scene.rounds c.in_ok-link.link c.rounds.new.link (flows_in c.as_mut_slice.result.now) (flows_in c.rounds.new.lanes)
-    c.in_ok-link.ensures.case c.in_ok-link.ensures.stands begun ran in
-    let whole =
-    written-whole c.in_ok-lanes.lanes.len c.rounds.new.lanes c.in_ok-lanes.lanes.items (c.rounds.auto.lanes ∙ c.as_mut_slice.ensures.len)
-    (sym (ap (λ (lanes : List Lane). length lanes) value) ∙ c.as_mut_slice.ensures.len) in
-    let ends = ap (λ (lanes : List Lane). map (closed over_codes) (flows_in lanes)) whole
-    ∙ flows-are scene.link cases scene.rounds c.rounds.new.link (flows_in c.rounds.new.lanes) stand in
-    c.in_ok-givens.ensures.rows ∙ ap (λ (cores : List CoreState). map (flow_row over_codes) cores) ends
-
-pub returns-clause-counts : goal.returns-clause-counts
-returns-clause-counts g c =
-    let scene = c.args.scene in
-    let cases = scene.scene.cases in
-    let value = c.as_mut_slice.ensures.value in
-    let begun : flows_in c.as_mut_slice.result.now ≡ map opened cases = ap flows_in value ∙ c.in_ok-lanes.ensures.flows in
-    let most : c.most_of-most.result ≡ most_of cases scene.rounds =
-    c.most_of-most.ensures ∙ ap (λ (list : List Case). most_of list scene.rounds) c.as_slice.ensures in
-    let ran : Ran (most_of cases scene.rounds) c.in_ok-link.link (flows_in c.as_mut_slice.result.now) c.rounds.new.link (flows_in c.rounds.new.lanes) =
-    subst (λ (n : ℕ). Ran n c.in_ok-link.link (flows_in c.as_mut_slice.result.now) c.rounds.new.link (flows_in c.rounds.new.lanes)) most c.in_ok-rounds.ensures.run in
-    let stand : StandAs c.rounds.new.link (flows_in c.rounds.new.lanes) (run_of scene.link over_codes cases scene.rounds) =
-    came scene.link cases scene.rounds c.in_ok-link.link c.rounds.new.link (flows_in c.as_mut_slice.result.now) (flows_in c.rounds.new.lanes)
-    c.in_ok-link.ensures.case c.in_ok-link.ensures.stands begun ran in
-    counts-are scene.link cases scene.rounds c.rounds.new.link (flows_in c.rounds.new.lanes) stand c.counts-counts.result
-    (c.in_ok-rounds.ensures.case ∙ c.in_ok-link.ensures.case) c.counts-counts.ensures
+    record {
+      givens = subst (λ (cores : List CoreState). AreGivensOf cores c.in_ok-givens.givens) ends c.in_ok-givens.ensures.givens;
+      rows = c.in_ok-givens.ensures.rows ∙ ap (λ (cores : List CoreState). map (flow_row over_codes) cores) ends;
+      counts =
+          counts-are scene.link cases scene.rounds c.rounds.new.link (flows_in c.rounds.new.lanes) stand c.counts-counts.result
+          (c.in_ok-rounds.ensures.case ∙ c.in_ok-link.ensures.case) c.counts-counts.ensures;
+    }

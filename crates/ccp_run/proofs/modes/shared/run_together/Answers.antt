@@ -16,21 +16,21 @@ use Rattle.ccp_run.proofs.modes.shared.run_together.Goals as goal
 pub table_text-requires-clause-within : goal.table_text-requires-clause-within
 table_text-requires-clause-within g c =
     let scene = c.args.scene in
-    let rows : c.in_ok-made.made.rows ≡ shared_rows scene.link over_codes scene.scene.cases scene.rounds = search rules in
+    let rows : c.in_ok-made.made.rows ≡ shared_rows scene.link over_codes scene.scene.cases scene.rounds = c.in_ok-made.ensures.run.rows in
     let count = rows-count scene.link scene.scene.cases scene.rounds in
     omega (arith, ap length rows, count, c.requires.few)
 
 pub table_text-requires-clause-names : goal.table_text-requires-clause-names
 table_text-requires-clause-names g c =
     let scene = c.args.scene in
-    let rows : c.in_ok-made.made.rows ≡ shared_rows scene.link over_codes scene.scene.cases scene.rounds = search rules in
+    let rows : c.in_ok-made.made.rows ≡ shared_rows scene.link over_codes scene.scene.cases scene.rounds = c.in_ok-made.ensures.run.rows in
     let names : c.in_ok-names.names ≡ case_names scene.scene.cases = c.in_ok-names.ensures ∙ c.requires.names in
     ap length names ∙ length-map scene.scene.cases (λ case. case.name) ∙ sym (ap length rows ∙ rows-count scene.link scene.scene.cases scene.rounds)
 
 pub table_text-requires-clause-agents : goal.table_text-requires-clause-agents
 table_text-requires-clause-agents g c =
     let scene = c.args.scene in
-    let rows : c.in_ok-made.made.rows ≡ shared_rows scene.link over_codes scene.scene.cases scene.rounds = search rules in
+    let rows : c.in_ok-made.made.rows ≡ shared_rows scene.link over_codes scene.scene.cases scene.rounds = c.in_ok-made.ensures.run.rows in
     let agents : c.in_ok-agents.agents ≡ case_agents scene.scene.cases = search rules in
     ap length agents ∙ length-map scene.scene.cases (λ case. case.agent) ∙ sym (ap length rows ∙ rows-count scene.link scene.scene.cases scene.rounds)
 
@@ -44,9 +44,9 @@ returns-clause-text g c =
     c.in_ok-made.ensures.lifted sources (all_simulated programs c.requires.numbered cases c.requires.coded) in
     let names : c.in_ok-names.names ≡ case_names cases = c.in_ok-names.ensures ∙ c.requires.names in
     let agents : c.in_ok-agents.agents ≡ case_agents cases = search rules in
-    let rows : c.in_ok-made.made.rows ≡ shared_rows scene.link sources cases scene.rounds = c.in_ok-made.ensures.rows ∙ one.rows in
+    let rows : c.in_ok-made.made.rows ≡ shared_rows scene.link sources cases scene.rounds = c.in_ok-made.ensures.run.rows ∙ one.rows in
     let counts : c.in_ok-made.made.counts ≡ shared_counts scene.link sources cases scene.rounds =
-    c.in_ok-made.ensures.counts ∙ ap (λ run. counts_of scene.link run.history) one.run in
+    c.in_ok-made.ensures.run.counts ∙ ap (λ run. counts_of scene.link run.history) one.run in
     let table : c.in_ok-text.text ≡ table_text c.in_ok-names.names c.in_ok-agents.agents c.in_ok-made.made.rows = search rules in
     let whole : c.put_line.new.text ≡ c.in_ok-text.text ++ link_line c.in_ok-made.made.counts = search rules in
     whole
