@@ -85,9 +85,11 @@ impl OpenCell {
     pub fn ack<L: Ledger>(&mut self, steps: &mut Steps<L>) -> Result<Option<Acked>, Ended>
         ensures ended { (read : TextReading) → IsReading read → (IsErr result ↔ HasAll read self.old) }
         ensures ok { OnOk result (self.new ≡ record self.old { word = self.old.word ++ OpenLetter.A ∷ [] }) }
-        ensures world { (read : TextReading) → IsReading read → OnOk result (IsAfter read self.old OpenLetter.A self.new) }
+        ensures world { (read : TextReading) → IsReading read
+            → OnOk result (IsAfter read self.old OpenLetter.A self.new) }
         ensures acked { (read : TextReading) → IsReading read → IfOk result (λ answer. Answered read self.old answer) }
-        ensures steps { (read : TextReading) → IsReading read → OnOk result (steps.new ≡ steps.old + ran_at read self.old) }
+        ensures steps { (read : TextReading) → IsReading read
+            → OnOk result (steps.new ≡ steps.old + ran_at read self.old) }
         ensures unchanged { OnErr result (self.new ≡ self.old) }
         ensures idle { OnErr result (steps.new ≡ steps.old) }
     {
@@ -102,7 +104,8 @@ impl OpenCell {
     pub fn install(&mut self, entry: Entry) -> Result<(), Late>
         ensures installed { IsOk result ↔ IsNextEntry self.old entry }
         ensures ok { OnOk result (self.new ≡ with_entry self.old entry) }
-        ensures world { (read : TextReading) → IsReading read → OnOk result (IsAfter read self.old OpenLetter.I self.new) }
+        ensures world { (read : TextReading) → IsReading read
+            → OnOk result (IsAfter read self.old OpenLetter.I self.new) }
         ensures late { IfErr result (λ late. (late.entry ≡ entry) × (late.want ≡ length self.old.entries)) }
         ensures unchanged { OnErr result (self.new ≡ self.old) }
     {
@@ -122,7 +125,8 @@ impl OpenCell {
     pub fn change(&mut self) -> Result<u32, Nothing>
         ensures nothing { (read : TextReading) → IsReading read → (IsErr result ↔ (next_at read self.old ≡ None)) }
         ensures ok { OnOk result (self.new ≡ record self.old { word = self.old.word ++ OpenLetter.G ∷ [] }) }
-        ensures world { (read : TextReading) → IsReading read → OnOk result (IsAfter read self.old OpenLetter.G self.new) }
+        ensures world { (read : TextReading) → IsReading read
+            → OnOk result (IsAfter read self.old OpenLetter.G self.new) }
         ensures step { (read : TextReading) → IsReading read → IfOk result (λ step. next_at read self.old ≡ Some step) }
         ensures unchanged { OnErr result (self.new ≡ self.old) }
     {
