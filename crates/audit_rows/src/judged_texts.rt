@@ -64,9 +64,9 @@ fn comes_to(abort: &impl Abort, alloc: Global, row: &Row<'_>) -> Result<(), Fail
     let mut sink = MemSink::new(alloc, 4096, &[]);
     let mut errors = MemSink::new(alloc, 4096, &[]);
     let outcome = alone(alloc, Alone::Audit, &mut source, &mut sink, &mut errors);
-    assert_eq!(abort; outcome.status, row.status, "{}", row.name);
-    assert_eq!(abort; sink.as_slice(), row.output.as_bytes(), "{}", row.name);
-    assert_eq!(abort; errors.as_slice(), row.errors.as_bytes(), "{}", row.name);
+    assert!(abort; outcome.status == row.status, "{}", row.name);
+    assert!(abort; sink.as_slice() == row.output.as_bytes(), "{}", row.name);
+    assert!(abort; errors.as_slice() == row.errors.as_bytes(), "{}", row.name);
     Ok(())
 }
 

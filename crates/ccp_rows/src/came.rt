@@ -1,6 +1,7 @@
 //! Runs on words.
 use ccp_base::{Bytes, MemSink, MemSource, OpenGate};
-use ccp_run::run;
+use ccp_run::calls::alone;
+use ccp_run::{Alone, Outcome, run};
 use std::alloc::Global;
 use std::process::Abort;
 use std::sync::Wait;
@@ -37,6 +38,40 @@ pub(crate) struct Came {
     pub(crate) errors: Bytes,
 }
 
+impl Came {
+    /// Whether this is what a run came to.
+    pub(crate) fn is(&self, status: u8, output: &[u8], errors: &[u8]) -> bool {
+        self.status == status
+            && self.output.as_slice() == output
+            && self.errors.as_slice() == errors
+    }
+}
+
+// without clauses, so that the proofs of tests don't search what a run promises
+
+/// A run of one mode.
+pub(crate) fn run_alone(
+    alloc: Global,
+    mode: Alone,
+    source: &mut MemSource,
+    sink: &mut MemSink,
+    errors: &mut MemSink,
+) -> Outcome {
+    alone(alloc, mode, source, sink, errors)
+}
+
+/// A run on words.
+pub(crate) fn run_on<R: Threads + Wait + Sync>(
+    rt: &R,
+    alloc: Global,
+    words: Vec<String>,
+    source: &mut MemSource,
+    sink: &mut MemSink,
+    errors: &mut MemSink,
+) -> Outcome {
+    run(rt, alloc, words, source, sink, errors, &OpenGate)
+}
+
 fn copied(alloc: Global, bytes: &[u8]) -> Result<Bytes, Fail> {
     let mut copy = Bytes::new(alloc);
     copy.extend(bytes)?;
@@ -60,15 +95,7 @@ pub(crate) fn comes_to<R: Threads + Wait + Sync>(
     let mut source = MemSource::new(input, ways.most, ways.read);
     let mut sink = MemSink::new(alloc, ways.most, ways.write);
     let mut errors = MemSink::new(alloc, 4096, &[]);
-    let outcome = run(
-        rt,
-        alloc,
-        words,
-        &mut source,
-        &mut sink,
-        &mut errors,
-        &OpenGate,
-    );
+    let outcome = run_on(rt, alloc, words, &mut source, &mut sink, &mut errors);
     Ok(Came {
         status: outcome.status,
         output: copied(alloc, sink.as_slice())?,

@@ -1,5 +1,5 @@
+use crate::came::run_alone;
 use ccp_base::{Bytes, MemSink, MemSource};
-use ccp_run::calls::alone;
 use ccp_run::{Alone, Outcome};
 use portus_build::builtin;
 use std::alloc::Global;
@@ -23,108 +23,95 @@ pub const NEED_8: &str =
 const NEED_9: &str =
     "(def (a 1)) (when true (:= Cwnd (+ (+ a a) (+ (+ a a) (+ (+ a a) (+ (+ a a) (+ (+ a a) (+ (+ a a) (+ (+ a a) (+ (+ a a) (+ a a)))))))))))";
 
-/// Asserts what the row says.
-fn comes_to(rt: &impl Abort, alloc: Global, row: &CheckedText) {
+/// Whether `check` comes to what the row says.
+fn comes_to(alloc: Global, row: &CheckedText) -> bool {
     let mut source = MemSource::new(row.input.as_bytes(), 4096, &[]);
     let mut sink = MemSink::new(alloc, 4096, &[]);
     let mut errors = MemSink::new(alloc, 4096, &[]);
-    let outcome = alone(alloc, Alone::Check, &mut source, &mut sink, &mut errors);
-    let input = row.input;
-    assert_eq!(rt; outcome.status, row.status, "status of {input}");
-    assert!(rt;
-        sink.as_slice().starts_with(row.begins.as_bytes()),
-        "begin of {input}"
-    );
-    assert!(rt;
-        sink.as_slice().ends_with(row.ends.as_bytes()),
-        "end of {input}"
-    );
-    assert_eq!(rt;
-        sink.as_slice().is_empty(),
-        row.status != 0,
-        "output of {input}"
-    );
-    assert_eq!(rt; errors.as_slice(), row.errors.as_bytes(), "{input}");
-    assert_eq!(rt;
-        outcome.programs.len(),
-        usize::from(row.status == 0),
-        "programs of {input}"
-    );
-    assert_eq!(rt; outcome.ran, 0, "{input}");
+    let outcome = run_alone(alloc, Alone::Check, &mut source, &mut sink, &mut errors);
+    outcome.status == row.status
+        && sink.as_slice().starts_with(row.begins.as_bytes())
+        && sink.as_slice().ends_with(row.ends.as_bytes())
+        && sink.as_slice().is_empty() == (row.status != 0)
+        && errors.as_slice() == row.errors.as_bytes()
+        && outcome.programs.len() == usize::from(row.status == 0)
+        && outcome.ran == 0
 }
+
+const SUMMED: [CheckedText; 5] = [
+    CheckedText {
+        input: NEED_8,
+        status: 0,
+        begins: "ok blocks=1 fields=0 controls=1 need=8 count=17\ncontrol 0 fixed 1\nevent 0 condition 0..1 body 1..16\n0 bind flag #1 #0\n",
+        ends: "\n15 add cwnd temp0 temp1\n",
+        errors: "",
+    },
+    CheckedText {
+        input: "(def (Report (x 0))) (when true (:= Report.x (+ 1 2)))",
+        status: 0,
+        begins: "ok blocks=1 fields=1 controls=0 need=1 count=3\nreport 0 fixed 0\nevent 0 condition 0..1 body 1..2\n0 bind flag #1 #0\n",
+        ends: "\n1 bind report0 #3 #0\n",
+        errors: "",
+    },
+    CheckedText {
+        input: "(def (Report (x 0))) (when true (:= Report.x (+ Report.x 1)))",
+        status: 0,
+        begins: "ok blocks=1 fields=1 controls=0 need=1 count=3\n",
+        ends: "\n1 add report0 report0 #1\n",
+        errors: "",
+    },
+    CheckedText {
+        input: "(def (Report (x 0))) (when true (:= Report.x (/ 1 0)))",
+        status: 0,
+        begins: "ok blocks=1 fields=1 controls=0 need=1 count=3\n",
+        ends: "\n1 div report0 #1 #0\n",
+        errors: "",
+    },
+    CheckedText {
+        input: "(def)",
+        status: 0,
+        begins: "ok blocks=0 fields=0 controls=0 need=0 count=0\n",
+        ends: "ok blocks=0 fields=0 controls=0 need=0 count=0\n",
+        errors: "",
+    },
+];
 
 #[test]
 fn programs_are_summed_up_and_listed(rt: HostRuntime) {
-    let rows = [
-        CheckedText {
-            input: NEED_8,
-            status: 0,
-            begins: "ok blocks=1 fields=0 controls=1 need=8 count=17\ncontrol 0 fixed 1\nevent 0 condition 0..1 body 1..16\n0 bind flag #1 #0\n",
-            ends: "\n15 add cwnd temp0 temp1\n",
-            errors: "",
-        },
-        CheckedText {
-            input: "(def (Report (x 0))) (when true (:= Report.x (+ 1 2)))",
-            status: 0,
-            begins: "ok blocks=1 fields=1 controls=0 need=1 count=3\nreport 0 fixed 0\nevent 0 condition 0..1 body 1..2\n0 bind flag #1 #0\n",
-            ends: "\n1 bind report0 #3 #0\n",
-            errors: "",
-        },
-        CheckedText {
-            input: "(def (Report (x 0))) (when true (:= Report.x (+ Report.x 1)))",
-            status: 0,
-            begins: "ok blocks=1 fields=1 controls=0 need=1 count=3\n",
-            ends: "\n1 add report0 report0 #1\n",
-            errors: "",
-        },
-        CheckedText {
-            input: "(def (Report (x 0))) (when true (:= Report.x (/ 1 0)))",
-            status: 0,
-            begins: "ok blocks=1 fields=1 controls=0 need=1 count=3\n",
-            ends: "\n1 div report0 #1 #0\n",
-            errors: "",
-        },
-        CheckedText {
-            input: "(def)",
-            status: 0,
-            begins: "ok blocks=0 fields=0 controls=0 need=0 count=0\n",
-            ends: "ok blocks=0 fields=0 controls=0 need=0 count=0\n",
-            errors: "",
-        },
-    ];
-    for row in &rows {
-        comes_to(&rt, rt.alloc(), row);
+    for row in &SUMMED {
+        assert!(rt; comes_to(rt.alloc(), row), "{}", row.input);
     }
 }
 
+const REFUSED_TEXTS: [(&str, &str); 8] = [
+    (NEED_9, "ccp: input refused: program TooDeep at 1:34\n"),
+    (
+        "(def) (when true (:= Ack.now 1))",
+        "ccp: input refused: program NotWritable at 1:22\n",
+    ),
+    (
+        "(def) (when true (:= Micros 5))",
+        "ccp: input refused: program Micros at 1:29\n",
+    ),
+    (
+        "(def) (when true (:= x 18446744073709551616))",
+        "ccp: input refused: program BadNumeral at 1:24\n",
+    ),
+    ("(def", "ccp: input refused: program Unclosed at 1:1\n"),
+    ("(def) )", "ccp: input refused: program Unexpected at 1:7\n"),
+    (
+        "(def) (when true (:= d 5) (:= e (+ d 1)) (fallthrough)) (when (> d 0))",
+        "ccp: input refused: program Unknown at 1:66\n",
+    ),
+    (
+        "(def)\n---\n",
+        "ccp: input refused: program Unexpected at 2:1\n",
+    ),
+];
+
 #[test]
 fn texts_without_code_are_refused(rt: HostRuntime) {
-    let rows: [(&str, &str); 8] = [
-        (NEED_9, "ccp: input refused: program TooDeep at 1:34\n"),
-        (
-            "(def) (when true (:= Ack.now 1))",
-            "ccp: input refused: program NotWritable at 1:22\n",
-        ),
-        (
-            "(def) (when true (:= Micros 5))",
-            "ccp: input refused: program Micros at 1:29\n",
-        ),
-        (
-            "(def) (when true (:= x 18446744073709551616))",
-            "ccp: input refused: program BadNumeral at 1:24\n",
-        ),
-        ("(def", "ccp: input refused: program Unclosed at 1:1\n"),
-        ("(def) )", "ccp: input refused: program Unexpected at 1:7\n"),
-        (
-            "(def) (when true (:= d 5) (:= e (+ d 1)) (fallthrough)) (when (> d 0))",
-            "ccp: input refused: program Unknown at 1:66\n",
-        ),
-        (
-            "(def)\n---\n",
-            "ccp: input refused: program Unexpected at 2:1\n",
-        ),
-    ];
-    for (input, errors) in rows {
+    for (input, errors) in &REFUSED_TEXTS {
         let row = CheckedText {
             input,
             status: 3,
@@ -132,7 +119,7 @@ fn texts_without_code_are_refused(rt: HostRuntime) {
             ends: "",
             errors,
         };
-        comes_to(&rt, rt.alloc(), &row);
+        assert!(rt; comes_to(rt.alloc(), &row), "{input}");
     }
 }
 
@@ -153,7 +140,7 @@ fn checked(alloc: Global, input: &[u8]) -> (Outcome, MemSink, MemSink) {
     let mut source = MemSource::new(input, 4096, &[]);
     let mut sink = MemSink::new(alloc, 4096, &[]);
     let mut errors = MemSink::new(alloc, 4096, &[]);
-    let outcome = alone(alloc, Alone::Check, &mut source, &mut sink, &mut errors);
+    let outcome = run_alone(alloc, Alone::Check, &mut source, &mut sink, &mut errors);
     (outcome, sink, errors)
 }
 
@@ -161,20 +148,19 @@ fn checked(alloc: Global, input: &[u8]) -> (Outcome, MemSink, MemSink) {
 fn fields_and_instructions_are_counted(rt: HostRuntime) -> Result<(), Fail> {
     let fields = with_fields(rt.alloc(), 64)?;
     let (outcome, sink, _) = checked(rt.alloc(), fields.as_slice());
-    assert_eq!(rt; outcome.status, 0);
+    assert!(rt; outcome.status == 0);
     assert!(rt;
         sink.as_slice()
             .starts_with(b"ok blocks=0 fields=64 controls=0 need=0 count=0\n")
     );
     let fields = with_fields(rt.alloc(), 65)?;
     let (outcome, _, errors) = checked(rt.alloc(), fields.as_slice());
-    assert_eq!(rt; outcome.status, 3);
-    assert_eq!(rt;
-        errors.as_slice(),
-        b"ccp: input refused: program TooMany fields at 1:517\n".as_slice()
+    assert!(rt; outcome.status == 3);
+    assert!(rt;
+        errors.as_slice() == b"ccp: input refused: program TooMany fields at 1:517\n".as_slice()
     );
     let (outcome, sink, _) = checked(rt.alloc(), builtin(0));
-    assert_eq!(rt; outcome.status, 0);
+    assert!(rt; outcome.status == 0);
     assert!(rt;
         sink.as_slice()
             .starts_with(b"ok blocks=4 fields=7 controls=2 need=1 count=31\n")
@@ -197,14 +183,11 @@ fn with_count(alloc: Global, count: usize) -> Result<Bytes, Fail> {
 fn a_code_has_at_most_256_instructions(rt: HostRuntime) -> Result<(), Fail> {
     let text = with_count(rt.alloc(), 256)?;
     let (outcome, sink, _) = checked(rt.alloc(), text.as_slice());
-    assert_eq!(rt; outcome.status, 0);
+    assert!(rt; outcome.status == 0);
     assert!(rt; sink.as_slice().ends_with(b"\n255 bind cwnd #1 #0\n"));
     let text = with_count(rt.alloc(), 257)?;
     let (outcome, _, errors) = checked(rt.alloc(), text.as_slice());
-    assert_eq!(rt; outcome.status, 3);
-    assert_eq!(rt;
-        errors.as_slice(),
-        b"ccp: input refused: program CodeTooLong 257\n".as_slice()
-    );
+    assert!(rt; outcome.status == 3);
+    assert!(rt; errors.as_slice() == b"ccp: input refused: program CodeTooLong 257\n".as_slice());
     Ok(())
 }

@@ -1,6 +1,6 @@
-use ccp_base::{Bytes, MemSink, MemSource, OpenGate};
-use ccp_run::calls::alone;
-use ccp_run::{Alone, run};
+use crate::came::{run_alone, run_on};
+use ccp_base::{Bytes, MemSink, MemSource};
+use ccp_run::Alone;
 use std::alloc::Global;
 use std::process::Abort;
 use std::sync::Wait;
@@ -68,33 +68,20 @@ fn joined(alloc: Global, frames: &[&[u8]]) -> Result<Bytes, Fail> {
     Ok(all)
 }
 
-/// Asserts what a feed comes to whose reads and writes take at most so many bytes.
-fn comes_to(
-    rt: &impl Abort,
-    alloc: Global,
-    name: &str,
-    input: &[u8],
-    most: usize,
-    wanted: Wanted<'_>,
-) {
-    assert!(rt; most > 0);
+/// Whether a feed comes to this whose reads and writes take at most so many bytes.
+fn comes_to(alloc: Global, input: &[u8], most: usize, wanted: Wanted<'_>) -> bool {
+    if most == 0 {
+        return false;
+    }
     let mut source = MemSource::new(input, most, &[]);
     let mut sink = MemSink::new(alloc, most, &[]);
     let mut errors = MemSink::new(alloc, 4096, &[]);
-    let outcome = alone(alloc, Alone::Feed, &mut source, &mut sink, &mut errors);
-    assert_eq!(rt; outcome.status, wanted.status, "status of {name} by {most}");
-    assert_eq!(rt;
-        sink.as_slice(),
-        wanted.output,
-        "output of {name} by {most}"
-    );
-    assert_eq!(rt;
-        errors.as_slice(),
-        wanted.errors,
-        "error line of {name} by {most}"
-    );
-    assert_eq!(rt; outcome.programs.len(), 0, "programs of {name} by {most}");
-    assert_eq!(rt; outcome.ran, 0, "instructions of {name} by {most}");
+    let outcome = run_alone(alloc, Alone::Feed, &mut source, &mut sink, &mut errors);
+    outcome.status == wanted.status
+        && sink.as_slice() == wanted.output
+        && errors.as_slice() == wanted.errors
+        && outcome.programs.len() == 0
+        && outcome.ran == 0
 }
 
 /// Asserts it of pieces of each length from 1 to 20, and of the whole input.
@@ -106,9 +93,9 @@ fn comes_to_in_pieces(
     wanted: Wanted<'_>,
 ) {
     for most in 1..=20 {
-        comes_to(rt, alloc, name, input, most, wanted);
+        assert!(rt; comes_to(alloc, input, most, wanted), "{name} by {most}");
     }
-    comes_to(rt, alloc, name, input, 4096, wanted);
+    assert!(rt; comes_to(alloc, input, 4096, wanted), "{name}");
 }
 
 /// Asserts it of a run on the words.
@@ -126,18 +113,10 @@ fn comes_to_on_words<R: Threads + Wait + Sync>(
     let mut source = MemSource::new(input, 4096, &[]);
     let mut sink = MemSink::new(alloc, 4096, &[]);
     let mut errors = MemSink::new(alloc, 4096, &[]);
-    let outcome = run(
-        rt,
-        alloc,
-        words,
-        &mut source,
-        &mut sink,
-        &mut errors,
-        &OpenGate,
-    );
-    assert_eq!(abort; outcome.status, wanted.status, "status of {name}");
-    assert_eq!(abort; sink.as_slice(), wanted.output, "output of {name}");
-    assert_eq!(abort; errors.as_slice(), wanted.errors, "error line of {name}");
+    let outcome = run_on(rt, alloc, words, &mut source, &mut sink, &mut errors);
+    assert!(abort; outcome.status == wanted.status, "status of {name}");
+    assert!(abort; sink.as_slice() == wanted.output, "output of {name}");
+    assert!(abort; errors.as_slice() == wanted.errors, "error line of {name}");
     Ok(())
 }
 
@@ -206,7 +185,10 @@ fn a_frame_is_cut_at_each_byte(rt: HostRuntime) {
         errors: b"ccp: input refused: frame cut at 0\n",
     };
     for count in 1..=88 {
-        comes_to(&rt, rt.alloc(), "cut", &INSTALL[..count], 4096, wanted);
+        assert!(rt;
+            comes_to(rt.alloc(), &INSTALL[..count], 4096, wanted),
+            "cut at {count}"
+        );
     }
 }
 
@@ -230,7 +212,7 @@ fn a_field_is_named(rt: HostRuntime) {
             output: b"",
             errors,
         };
-        comes_to(&rt, rt.alloc(), "bad", input, 4096, wanted);
+        assert!(rt; comes_to(rt.alloc(), input, 4096, wanted), "{input:?}");
     }
 }
 
@@ -240,12 +222,11 @@ fn read_fails(rt: &impl Abort, alloc: Global, input: &[u8], call: u64, output: &
     let mut source = MemSource::new(input, 16, &failing);
     let mut sink = MemSink::new(alloc, 4096, &[]);
     let mut errors = MemSink::new(alloc, 4096, &[]);
-    let outcome = alone(alloc, Alone::Feed, &mut source, &mut sink, &mut errors);
-    assert_eq!(rt; outcome.status, 4, "read {call}");
-    assert_eq!(rt; sink.as_slice(), output, "read {call}");
-    assert_eq!(rt;
-        errors.as_slice(),
-        b"ccp: read fault\n".as_slice(),
+    let outcome = run_alone(alloc, Alone::Feed, &mut source, &mut sink, &mut errors);
+    assert!(rt; outcome.status == 4, "read {call}");
+    assert!(rt; sink.as_slice() == output, "read {call}");
+    assert!(rt;
+        errors.as_slice() == b"ccp: read fault\n".as_slice(),
         "read {call}"
     );
 }
@@ -256,12 +237,11 @@ fn write_fails(rt: &impl Abort, alloc: Global, input: &[u8], call: u64, output: 
     let mut source = MemSource::new(input, 4096, &[]);
     let mut sink = MemSink::new(alloc, 16, &failing);
     let mut errors = MemSink::new(alloc, 4096, &[]);
-    let outcome = alone(alloc, Alone::Feed, &mut source, &mut sink, &mut errors);
-    assert_eq!(rt; outcome.status, 5, "write {call}");
-    assert_eq!(rt; sink.as_slice(), output, "write {call}");
-    assert_eq!(rt;
-        errors.as_slice(),
-        b"ccp: write fault\n".as_slice(),
+    let outcome = run_alone(alloc, Alone::Feed, &mut source, &mut sink, &mut errors);
+    assert!(rt; outcome.status == 5, "write {call}");
+    assert!(rt; sink.as_slice() == output, "write {call}");
+    assert!(rt;
+        errors.as_slice() == b"ccp: write fault\n".as_slice(),
         "write {call}"
     );
 }

@@ -1,6 +1,6 @@
+use crate::came::run_alone;
 use ccp_base::{MemSink, MemSource};
 use ccp_run::Alone;
-use ccp_run::calls::alone;
 use std::alloc::Global;
 use std::process::Abort;
 use std::test::Fail;
@@ -10,10 +10,10 @@ fn is_refused(rt: &impl Abort, alloc: Global, mode: Alone, input: &[u8], line: &
     let mut source = MemSource::new(input, 65_536, &[]);
     let mut sink = MemSink::new(alloc, 4096, &[]);
     let mut errors = MemSink::new(alloc, 4096, &[]);
-    let outcome = alone(alloc, mode, &mut source, &mut sink, &mut errors);
-    assert_eq!(rt; outcome.status, 3, "status at {line}");
-    assert_eq!(rt; errors.as_slice(), line.as_bytes());
-    assert_eq!(rt; sink.as_slice().len(), 0, "output at {line}");
+    let outcome = run_alone(alloc, mode, &mut source, &mut sink, &mut errors);
+    assert!(rt; outcome.status == 3, "status at {line}");
+    assert!(rt; errors.as_slice() == line.as_bytes());
+    assert!(rt; sink.as_slice().len() == 0, "output at {line}");
 }
 
 #[test]
@@ -102,9 +102,9 @@ fn is_folded(rt: &impl Abort, alloc: Global, input: &[u8], text: &[u8]) {
     let mut source = MemSource::new(input, 65_536, &[]);
     let mut sink = MemSink::new(alloc, 4096, &[]);
     let mut errors = MemSink::new(alloc, 4096, &[]);
-    let outcome = alone(alloc, Alone::Fold, &mut source, &mut sink, &mut errors);
-    assert_eq!(rt; outcome.status, 0);
-    assert_eq!(rt; sink.as_slice(), text);
+    let outcome = run_alone(alloc, Alone::Fold, &mut source, &mut sink, &mut errors);
+    assert!(rt; outcome.status == 0);
+    assert!(rt; sink.as_slice() == text);
 }
 
 #[test]

@@ -5,33 +5,32 @@ use std::test::Fail;
 const ONE_FLOW: &[u8] =
     b"flow 0 case=a agent=reno\nepoch 0 program=0 at=0 cwnd=4344\nticket 0 report program=0 epoch=0 span=0..4 taken=4 answered=4 reply=none now=60000 cwnd=10136 rate=0 acked=5792 sacked=0 loss=0 timeout=0 rtt=30000 inflight=7240 ecn=0\nend acks=4 reports=1 held=0 faults=0 tail=4..4 stopped=no cwnd=10136 rate=0 acked=0 sacked=0 loss=0 timeout=0 rtt=30000 inflight=7240 ecn=0\n";
 
+const ROWS: [(&str, &[&str], &[u8], u8, &[u8], &[u8]); 4] = [
+    ("one case", &["ccp", "live"], ONE_CASE, 0, ONE_FLOW, b""),
+    (
+        "4 and 3 workers",
+        &["ccp", "live", "--datapaths", "4", "--agents=3"],
+        ONE_CASE,
+        0,
+        ONE_FLOW,
+        b"",
+    ),
+    ("no cases", &["ccp", "live"], NO_CASES, 0, b"", b""),
+    (
+        "no JSON",
+        &["ccp", "live"],
+        b"{",
+        3,
+        b"",
+        b"ccp: input refused: json\n",
+    ),
+];
+
 #[test]
 fn a_live_run_is_the_text_of_its_flows(rt: HostRuntime) -> Result<(), Fail> {
-    let rows: [(&str, &[&str], &[u8], u8, &[u8], &[u8]); 4] = [
-        ("one case", &["ccp", "live"], ONE_CASE, 0, ONE_FLOW, b""),
-        (
-            "4 and 3 workers",
-            &["ccp", "live", "--datapaths", "4", "--agents=3"],
-            ONE_CASE,
-            0,
-            ONE_FLOW,
-            b"",
-        ),
-        ("no cases", &["ccp", "live"], NO_CASES, 0, b"", b""),
-        (
-            "no JSON",
-            &["ccp", "live"],
-            b"{",
-            3,
-            b"",
-            b"ccp: input refused: json\n",
-        ),
-    ];
-    for (name, words, input, status, output, errors) in rows {
+    for (name, words, input, status, output, errors) in &ROWS {
         let came = comes_to(&rt, &rt, rt.alloc(), words, input, WHOLE)?;
-        assert_eq!(rt; came.status, status, "status of {name}");
-        assert_eq!(rt; came.output.as_slice(), output, "output of {name}");
-        assert_eq!(rt; came.errors.as_slice(), errors, "error line of {name}");
+        assert!(rt; came.is(*status, output, errors), "{name}");
     }
     Ok(())
 }
@@ -41,7 +40,7 @@ fn the_frames_come_before_the_flows(rt: HostRuntime) -> Result<(), Fail> {
     let words = ["ccp", "live", "--wire"];
     let came = comes_to(&rt, &rt, rt.alloc(), &words, ONE_CASE, WHOLE)?;
     let output = came.output.as_slice();
-    assert_eq!(rt; came.status, 0);
+    assert!(rt; came.status == 0);
     assert!(rt; output.starts_with(b"install 0 0301"), "the first frame");
     assert!(rt; output.ends_with(ONE_FLOW), "the flow");
     Ok(())
@@ -57,11 +56,10 @@ fn each_read_and_each_write_of_a_live_run_fails(rt: HostRuntime) -> Result<(), F
             most: 16,
         };
         let came = comes_to(&rt, &rt, rt.alloc(), &words, ONE_CASE, ways)?;
-        assert_eq!(rt; came.status, 4, "read {call}");
-        assert_eq!(rt; came.output.len(), 0, "read {call}");
-        assert_eq!(rt;
-            came.errors.as_slice(),
-            b"ccp: read fault\n".as_slice(),
+        assert!(rt; came.status == 4, "read {call}");
+        assert!(rt; came.output.len() == 0, "read {call}");
+        assert!(rt;
+            came.errors.as_slice() == b"ccp: read fault\n".as_slice(),
             "read {call}"
         );
     }
@@ -72,15 +70,13 @@ fn each_read_and_each_write_of_a_live_run_fails(rt: HostRuntime) -> Result<(), F
             most: 64,
         };
         let came = comes_to(&rt, &rt, rt.alloc(), &words, ONE_CASE, ways)?;
-        assert_eq!(rt; came.status, 5, "write {call}");
-        assert_eq!(rt;
-            came.output.as_slice(),
-            &ONE_FLOW[..64 * call as usize],
+        assert!(rt; came.status == 5, "write {call}");
+        assert!(rt;
+            came.output.as_slice() == &ONE_FLOW[..64 * call as usize],
             "write {call}"
         );
-        assert_eq!(rt;
-            came.errors.as_slice(),
-            b"ccp: write fault\n".as_slice(),
+        assert!(rt;
+            came.errors.as_slice() == b"ccp: write fault\n".as_slice(),
             "write {call}"
         );
     }

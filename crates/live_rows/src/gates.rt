@@ -23,7 +23,7 @@ fn two_datapaths(rt: HostRuntime) -> Result<(), Fail> {
     };
     let gate = HoldGate::new(hold, hold);
     let books = live(&rt, rt.alloc(), table(rt.alloc(), TWO)?, 2, 1, &gate)?;
-    assert_eq!(rt; gate.held(), Some(1));
+    assert!(rt; gate.held() == Some(1));
     are_reno(&rt, &books, 2)
 }
 
@@ -43,8 +43,8 @@ fn agent_settles_between_acknowledgements(rt: HostRuntime) -> Result<(), Fail> {
     };
     let gate = HoldGate::new(hold, hold);
     let books = live(&rt, rt.alloc(), table(rt.alloc(), LOSING)?, 1, 1, &gate)?;
-    assert_eq!(rt; gate.held(), Some(1));
-    assert_eq!(rt; first_ticket(&books), Some((1, 1)));
+    assert!(rt; gate.held() == Some(1));
+    assert!(rt; first_ticket(&books) == Some((1, 1)));
     Ok(())
 }
 
@@ -61,7 +61,7 @@ fn agent_answers_after_the_last_acknowledgement(rt: HostRuntime) -> Result<(), F
     };
     let gate = HoldGate::new(datapath, agent);
     let books = live(&rt, rt.alloc(), table(rt.alloc(), LOSING)?, 1, 1, &gate)?;
-    assert_eq!(rt; gate.held(), Some(2));
-    assert_eq!(rt; first_ticket(&books), Some((1, 3)));
+    assert!(rt; gate.held() == Some(2));
+    assert!(rt; first_ticket(&books) == Some((1, 3)));
     Ok(())
 }

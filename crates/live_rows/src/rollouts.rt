@@ -34,7 +34,7 @@ fn rollout_installed_and_refused(rt: HostRuntime) -> Result<(), Fail> {
     let text = text(&rt, rt.alloc(), REFUSED, &OpenGate)?;
     let lines: &[u8] =
         b"flow 0 case=a\nstep 0 installed at=0\nstep 1 refused at=0 Unknown at 1:13\nepoch 0 step=0 at=0 cwnd=4344\nend acks=0 reports=0 tail=0..0 stopped=no cwnd=4344 rate=0\n";
-    assert_eq!(rt; text.as_slice(), lines);
+    assert!(rt; text.as_slice() == lines);
     Ok(())
 }
 
@@ -54,7 +54,7 @@ fn rollout_between_acknowledgements(rt: HostRuntime) -> Result<(), Fail> {
     let text = text(&rt, rt.alloc(), ONE_STEP, &gate)?;
     let lines: &[u8] =
         b"epoch 0 step=0 at=1 cwnd=4344\nreport program=0 epoch=0 span=1..2 now=40000 cwnd=4344 rate=0\nend acks=2 reports=1 tail=2..2 stopped=no cwnd=4344 rate=0\n";
-    assert_eq!(rt; gate.held(), Some(2));
+    assert!(rt; gate.held() == Some(2));
     assert!(rt; text.as_slice().ends_with(lines));
     Ok(())
 }
@@ -85,8 +85,8 @@ fn rollout_late_entry(rt: HostRuntime) -> Result<(), Fail> {
     let cases = rollout_scene(rt.alloc(), REFUSED)?;
     let mut cell = cell(rt.alloc(), &cases)?;
     let second = Entry::make(rt.alloc(), 1, b"(def) (when x)")?;
-    assert_eq!(rt; wanted(&mut cell, second), Some(0));
-    assert_eq!(rt; cell.change(), Err(Nothing));
+    assert!(rt; wanted(&mut cell, second) == Some(0));
+    assert!(rt; cell.change() == Err(Nothing));
     Ok(())
 }
 

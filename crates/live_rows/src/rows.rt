@@ -34,20 +34,20 @@ fn is_reno(rt: &impl Abort, book: &Book) -> Result<(), Fail> {
         at: 0,
         cwnd: 4344,
     };
-    assert_eq!(rt; book.tickets.as_slice(), [ticket].as_slice());
-    assert_eq!(rt; book.epochs.as_slice(), [epoch].as_slice());
-    assert_eq!(rt; book.word.len(), 6);
-    assert_eq!(rt; (book.faults.len(), book.held, book.first), (0, 0, 4));
-    assert_eq!(rt; book.machine.cwnd(), 10_136);
+    assert!(rt; book.tickets.as_slice() == [ticket].as_slice());
+    assert!(rt; book.epochs.as_slice() == [epoch].as_slice());
+    assert!(rt; book.word.len() == 6);
+    assert!(rt; (book.faults.len(), book.held, book.first) == (0, 0, 4));
+    assert!(rt; book.machine.cwnd() == 10_136);
     Ok(())
 }
 
 /// Each of so many books is a Reno flow's, in order.
 pub(crate) fn are_reno(rt: &impl Abort, books: &Books, count: usize) -> Result<(), Fail> {
-    assert_eq!(rt; books.len(), count);
+    assert!(rt; books.len() == count);
     let mut flow = 0u32;
     for book in books.as_slice() {
-        assert_eq!(rt; book.case.flow, flow);
+        assert!(rt; book.case.flow == flow);
         is_reno(rt, book)?;
         flow = flow.saturating_add(1);
     }
