@@ -10,6 +10,7 @@ use Rattle.portus_core.specs.Reports.{Epoch, reports_met}
 use Rattle.reg_code.specs.declared.code.Code.{Code}
 use Rattle.fold_machine.specs.declared.acked.Acked.{Acked}
 use Rattle.fold_machine.specs.MachineState.{MachineState}
+use Rattle.fold_machine.specs.Store.{slot_words}
 use Rattle.slot_pool.specs.Pool.{free_of}
 use Rattle.flow_core.specs.declared.state.State.{State}
 use Rattle.flow_core.specs.Readings.{by_code, env_of}
@@ -53,7 +54,7 @@ pub record CanHear (s : State) : Type 0 where
   pub acks : length s.acks.items < most_acks
   pub held : s.held < most_acks
   pub faults : length s.faults.items < s.faults.room
-  pub words : s.machine.further.words ≡ 160
+  pub words : s.machine.further.words ≡ slot_words
   pub owned : AreOwned s.machine.further s.outbox.slots
 
 -- one more report may wait, and a slot is free for it
@@ -64,7 +65,7 @@ HasPlace s = (length s.outbox.slots < s.outbox.size) × (0 < free_of s.machine.f
 pub record PutDown (old new : State) (ack : Ack) (met : Outcome (FaultKind × ℕ) × Env) : Type 0 where
   pub frame : new ≡ record old { machine = new.machine; outbox = new.outbox; first = new.first; faults = new.faults; held = new.held }
   pub machine : new.machine ≡ record old.machine { further = new.machine.further }
-  pub words : new.machine.further.words ≡ 160
+  pub words : new.machine.further.words ≡ slot_words
   pub free : free_of new.machine.further + length new.outbox.slots ≡ free_of old.machine.further + length old.outbox.slots
   pub size : new.outbox.size ≡ old.outbox.size
   pub first : (track : Track) → track.first ≡ old.first → track.count ≡ length old.acks.items → new.first ≡ next_first met.0 track

@@ -19,9 +19,9 @@ empty_outbox size = record { slots = []; untold = None; size = size }
 
 -- ---- reports in slots
 
--- the words of a slot that any report fits in
-abbrev pub slot_words : ℕ
-slot_words = 80
+-- how many words of a slot the longest report takes
+abbrev pub most_report_words : ℕ
+most_report_words = 80
 
 -- the numbers of a report, and how many fields it has
 abbrev pub report_head : Report → List ℕ
@@ -73,7 +73,7 @@ AreOwned pool (slot ∷ rest) = IsOut pool slot × (AreOther slot rest × AreOwn
 -- where a report waits, its slot has the words that any report fits in
 abbrev pub AreWide : PoolState → List ℕ → Type 0
 AreWide pool [] = Unit {0}
-AreWide pool (slot ∷ rest) = slot_words ≤ pool.words
+AreWide pool (slot ∷ rest) = most_report_words ≤ pool.words
 
 -- each waiting report has a slot of its own that is out and whose words begin with the report's
 pub record Lies (pool : PoolState) (slots : List ℕ) (reports : List Report) : Type 0 where

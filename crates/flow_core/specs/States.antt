@@ -5,6 +5,7 @@ use Rattle.portus_core.specs.Epoch.{Outcome, quiet, reported, held, failed, stop
 use Rattle.fold_machine.specs.declared.acked.Acked.{Acked}
 use Rattle.fold_machine.specs.declared.acked.Acked.TheVariants as acked
 use Rattle.fold_machine.specs.MachineState.{Fits}
+use Rattle.fold_machine.specs.Store.{slot_words}
 use Rattle.slot_pool.specs.Pool.{free_of}
 use Rattle.agent_core.specs.Agents.{course_of}
 use Rattle.flow_core.specs.declared.book.EpochLine.{EpochLine}
@@ -77,7 +78,7 @@ pub record Keeps (s : State) (w : World ℕ) : Type 0 where
 -- the machine runs the present program, its further slots are for the waiting reports, and there is room
 pub record IsReady (s : State) : Type 0 where
   pub fits : Fits s.machine (code_at s.case s.program)
-  pub words : s.machine.further.words ≡ 160
+  pub words : s.machine.further.words ≡ slot_words
   pub free : free_of s.machine.further + length s.outbox.slots ≡ s.case.slots
   pub size : s.outbox.size ≡ s.case.slots
   pub ss : (course_of s.agent).ss ≡ s.case.ss.role

@@ -3,6 +3,7 @@ ghost use Rattle.std.specs.Prelude.{◌≡◌, ◌+◌, ◌-◌, ◌<◌, ◌≤
 ghost use Rattle.ccp_base.specs.Limits.{most_acks};
 ghost use Rattle.portus_core.specs.Epoch.{stops};
 ghost use Rattle.fold_machine.specs.MachineState.{Fits};
+ghost use Rattle.fold_machine.specs.Store.{slot_words};
 ghost use Rattle.slot_pool.specs.Pool.{free_of};
 ghost use Rattle.flow_core.specs.Cores.{met_in, acked_as, ran_met};
 ghost use Rattle.flow_core.specs.World.{after_ack};
@@ -39,10 +40,10 @@ pub(crate) fn run<L: Ledger>(
 pub(crate) fn put_report(machine: &mut Machine, outbox: &mut Outbox, report: &Report)
     requires room { length outbox.old.slots < outbox.old.size }
     requires free { 0 < free_of machine.old.further }
-    requires words { machine.old.further.words ≡ 160 }
+    requires words { machine.old.further.words ≡ slot_words }
     requires owned { AreOwned machine.old.further outbox.old.slots }
     ensures machine { machine.new ≡ record machine.old { further = machine.new.further } }
-    ensures words { machine.new.further.words ≡ 160 }
+    ensures words { machine.new.further.words ≡ slot_words }
     ensures free { AreAsMany machine.old.further outbox.old.slots machine.new.further outbox.new.slots }
     ensures lies { Gains report.entry.now machine.old.further outbox.old.slots machine.new.further outbox.new.slots }
     ensures untold { outbox.new.untold ≡ outbox.old.untold }

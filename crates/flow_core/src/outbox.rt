@@ -2,7 +2,7 @@ ghost use Rattle.std.specs.Prelude.{◌≡◌, ◌+◌, ◌<◌, ◌≤◌, ◌�
 ghost use Rattle.ccp_base.specs.Limits.{most_slots};
 ghost use Rattle.ccp_base.specs.declared.exchange.Report.{Report};
 ghost use Rattle.slot_pool.specs.Pool.{words_at, free_of, ChangesSlot};
-ghost use Rattle.flow_core.specs.Outbox.{empty_outbox, slot_words, AreOwned, AreWide, AreAsMany, Gains, LosesFirst, ChangesOnly, newest, GivesFirst, IsToldNext, untold_after};
+ghost use Rattle.flow_core.specs.Outbox.{empty_outbox, most_report_words, AreOwned, AreWide, AreAsMany, Gains, LosesFirst, ChangesOnly, newest, GivesFirst, IsToldNext, untold_after};
 
 use crate::report_words::{store, unload};
 use ccp_base::{NoMemory, Notice, Report, Told};
@@ -70,7 +70,7 @@ impl Outbox {
     pub fn push<P: Slots>(&mut self, slots: &mut P, report: &Report)
         requires room { length self.old.slots < self.old.size }
         requires free { 0 < free_of (P.pool slots.old) }
-        requires words { slot_words ≤ (P.pool slots.old).words }
+        requires words { most_report_words ≤ (P.pool slots.old).words }
         requires owned { AreOwned (P.pool slots.old) self.old.slots }
         ensures slots { self.new.slots ≡ self.old.slots ++ newest self.new.slots ∷ [] }
         ensures was_free { words_at (P.pool slots.old) (newest self.new.slots) ≡ None }

@@ -2,7 +2,7 @@
 ghost use Rattle.std.specs.Prelude.{◌≡◌, ◌+◌, ◌<◌, ◌≤◌, None, length};
 ghost use Rattle.ccp_base.specs.declared.exchange.Report.{Report};
 ghost use Rattle.slot_pool.specs.Pool.{words_at, IsOut, free_of, ChangesSlot};
-ghost use Rattle.flow_core.specs.Outbox.{slot_words, report_head, IsInRange, Holds};
+ghost use Rattle.flow_core.specs.Outbox.{most_report_words, report_head, IsInRange, Holds};
 ghost use Rattle.flow_core.specs.ReportWords.{WritesOver, narrow, report_in};
 
 use ccp_base::{Report, Values};
@@ -19,7 +19,7 @@ const HEAD_WORDS: u32 = 9;
 /// Takes a free slot and writes a report into it.
 pub(crate) fn store<P: Slots>(slots: &mut P, report: &Report) -> Slot
     requires free { 0 < free_of (P.pool slots.old) }
-    requires words { slot_words ≤ (P.pool slots.old).words }
+    requires words { most_report_words ≤ (P.pool slots.old).words }
     ensures was_free { words_at (P.pool slots.old) result ≡ None }
     ensures changed { ChangesSlot (P.pool slots.old) (P.pool slots.new) result (words_at (P.pool slots.new) result) }
     ensures holds { Holds (P.pool slots.new) result report.entry.now }
@@ -56,8 +56,8 @@ fn head(report: &Report) -> [u64; 9]
 /// Writes words into a slot, from a place on. The slot must be out.
 fn write<P: Slots>(slots: &mut P, slot: &Slot, at: u32, words: &[u64])
     requires out { IsOut (P.pool slots.old) slot.now }
-    requires within { at + length words.now ≤ slot_words }
-    requires words { slot_words ≤ (P.pool slots.old).words }
+    requires within { at + length words.now ≤ most_report_words }
+    requires words { most_report_words ≤ (P.pool slots.old).words }
     ensures written { WritesOver slot.now at words.now (P.pool slots.old) (P.pool slots.new) }
     ensures out { IsOut (P.pool slots.new) slot.now }
     ensures counted { free_of (P.pool slots.new) ≡ free_of (P.pool slots.old) }
@@ -75,7 +75,7 @@ fn write<P: Slots>(slots: &mut P, slot: &Slot, at: u32, words: &[u64])
 /// Reads the report of a slot and gives the slot back. It must be out.
 pub(crate) fn unload<P: Slots>(slots: &mut P, slot: Slot) -> Report
     requires out { IsOut (P.pool slots.old) slot }
-    requires words { slot_words ≤ (P.pool slots.old).words }
+    requires words { most_report_words ≤ (P.pool slots.old).words }
     ensures report { (report : Report) → Holds (P.pool slots.old) slot report → result ≡ report }
     ensures given { ChangesSlot (P.pool slots.old) (P.pool slots.new) slot None }
     ensures counted { free_of (P.pool slots.new) ≡ free_of (P.pool slots.old) + 1 }
@@ -88,7 +88,7 @@ pub(crate) fn unload<P: Slots>(slots: &mut P, slot: Slot) -> Report
 
 /// The report that words begin with.
 fn read(words: &[u64]) -> Report
-    requires { slot_words ≤ length words.now }
+    requires { most_report_words ≤ length words.now }
     ensures { result ≡ report_in words.now }
 {
     let first = HEAD_WORDS as usize;

@@ -1,6 +1,7 @@
 //! A report or a fault notice is taken as a ticket.
 ghost use Rattle.std.specs.Prelude.{◌≡◌, ◌+◌, ◌<◌, ◌≤◌, ◌↔◌, ◌∷◌, ◌++◌, true, IfOk, OnOk, OnErr, IsNone, None, Some, [], length, drop};
 ghost use Rattle.ccp_base.specs.Limits.{most_acks};
+ghost use Rattle.fold_machine.specs.Store.{slot_words};
 ghost use Rattle.flow_core.specs.World.{after_take};
 ghost use Rattle.flow_core.specs.Words.{can_take};
 ghost use Rattle.flow_core.specs.Outbox.{AreOwned, AreAsMany, LosesFirst, IsToldNext, untold_after};
@@ -17,12 +18,12 @@ use fold_machine::Machine;
 
 /// Takes out what is told next.
 pub(crate) fn pop_told(machine: &mut Machine, outbox: &mut Outbox) -> Option<Told>
-    requires words { machine.old.further.words ≡ 160 }
+    requires words { machine.old.further.words ≡ slot_words }
     requires owned { AreOwned machine.old.further outbox.old.slots }
     ensures told { IsToldNext result outbox.old.untold machine.old.further outbox.old.slots }
     ensures none { IsNone result ↔ ((outbox.old.slots ≡ []) × (outbox.old.untold ≡ None)) }
     ensures machine { machine.new ≡ record machine.old { further = machine.new.further } }
-    ensures words { machine.new.further.words ≡ 160 }
+    ensures words { machine.new.further.words ≡ slot_words }
     ensures free { AreAsMany machine.old.further outbox.old.slots machine.new.further outbox.new.slots }
     ensures lies { LosesFirst machine.old.further outbox.old.slots machine.new.further outbox.new.slots }
     ensures untold { outbox.new.untold ≡ untold_after outbox.old.slots outbox.old.untold }

@@ -7,7 +7,7 @@ use Rattle.reg_code.specs.CodeStep.{IsKeptOf}
 use Rattle.fold_machine.specs.Store.{StoreState}
 use Rattle.fold_machine.specs.Layout.{kept_in}
 use Rattle.fold_machine.specs.MachineState.{MachineState, Fits}
-use Rattle.fold_machine.specs.Held.{machine_of}
+use Rattle.fold_machine.specs.Whole.{machine_of}
 use Rattle.fold_machine.proofs.LayoutLemmas.{from-length}
 use Rattle.fold_machine.proofs.WorkLemmas.{IsKeptOf-words}
 

@@ -8,5 +8,5 @@ pub mod Ready
 pub mod MachineState
 pub mod Heard
 pub mod RestLaws
-pub mod Held
+pub mod Whole
 pub mod Works

@@ -5,6 +5,7 @@ use Rattle.ccp_base.specs.Acknowledgement.{number_of}
 use Rattle.reg_code.specs.declared.code.Code.{Code}
 use Rattle.reg_code.specs.CodeStep.{Kept, IsKeptOf}
 use Rattle.slot_pool.specs.Pool.{PoolState, pool_code, unused}
+use Rattle.fold_machine.specs.Store.{slot_words}
 
 -- the registers that are kept; whether a program was started, and whether a fault stopped it since; how many
 -- instructions the last acknowledgement since the last start ran; the fields of the last report; and the pool of
@@ -42,7 +43,7 @@ fresh_machine cwnd rate slots = record {
   is_stopped = false;
   ran = 0;
   report = [];
-  further = unused slots 160;
+  further = unused slots slot_words;
 }
 
 -- a program was started, and its numbers of registers are the code's

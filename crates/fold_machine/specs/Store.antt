@@ -4,6 +4,10 @@ use Rattle.std.specs.Coded.{Coded, code_by, coded×, coded_ℕ, coded_list}
 use Rattle.slot_pool.specs.Pool.{PoolState, pool_code, words_at, IsOut, unused}
 use Rattle.slot_pool.specs.Without.{without}
 
+-- how many words a slot has
+abbrev pub slot_words : ℕ
+slot_words = 160
+
 -- the words of the two slots that are the machine's own, and the pool of the further slots
 pub record StoreState : Type 0 where
   pub registers : List ℕ
@@ -31,13 +35,14 @@ further_of pool a b = without (without pool a) b
 abbrev pub store_of : PoolState → ℕ → ℕ → StoreState
 store_of pool a b = record { registers = words_in pool a; report = words_in pool b; further = further_of pool a b }
 
--- two slots of 160 words are out, each another one
+-- two slots of so many words are out, each another one
 pub record IsOwned (pool : PoolState) (a b : ℕ) : Type 0 where
   pub first : IsOut pool a
   pub second : IsOut pool b
   pub apart : b ≢ a
-  pub words : pool.words ≡ 160
+  pub words : pool.words ≡ slot_words
 
 -- the memory as it is made: each word is 0, and no further slot is out
 abbrev pub fresh_store : ℕ → StoreState
-fresh_store slots = record { registers = replicate 160 0; report = replicate 160 0; further = unused slots 160 }
+fresh_store slots =
+    record { registers = replicate slot_words 0; report = replicate slot_words 0; further = unused slots slot_words }

@@ -4,7 +4,8 @@ ghost use Rattle.reg_code.specs.AcceptedCode.{sizes_of};
 ghost use Rattle.reg_code.specs.CodeStep.{reset_of};
 ghost use Rattle.reg_code.specs.CodeStart.{with_value, with_values, declared_kept};
 ghost use Rattle.reg_code.specs.Places.{all_places, reports_at};
-ghost use Rattle.fold_machine.specs.Layout.{slot_words, HasRoom, KeepsOthers, words_from, kept_in};
+ghost use Rattle.fold_machine.specs.Store.{slot_words};
+ghost use Rattle.fold_machine.specs.Layout.{HasRoom, KeepsOthers, words_from, kept_in};
 ghost use Rattle.fold_machine.specs.KeptWords.{declared_words, reset_words};
 ghost use Rattle.fold_machine.specs.Works.{IsDeclared, IsReset};
 

@@ -42,11 +42,11 @@ impl Model for Machine {
 
     ghost coded = { machine_code };
 
-    ghost use Rattle.fold_machine.specs.Held.{machine_of, IsHeld};
+    ghost use Rattle.fold_machine.specs.Whole.{machine_of, IsWhole};
 
     ghost view = { λ m. machine_of m.store m.sizes m.reported m.started m.stopped m.ran };
 
-    ghost invariant = { λ m. IsHeld m.store m.words.items m.sizes m.reported };
+    ghost invariant = { λ m. IsWhole m.store m.words.items m.sizes m.reported };
 }
 
 impl Machine {

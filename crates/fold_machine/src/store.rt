@@ -1,6 +1,6 @@
 ghost use Rattle.std.specs.Prelude.{◌≡◌, ℕ, ◌+◌, ◌<◌, ◌≤◌, ◌≢◌, ◌↔◌, [], length, None, Some, IsErr, IfOk, OnOk, OnErr, replicate, slice_set};
 ghost use Rattle.slot_pool.specs.Pool.{PoolState, words_at, IsOut, free_of, unused, ChangesSlot, TakesZeros, WritesWord, with_run};
-ghost use Rattle.fold_machine.specs.Layout.{slot_words};
+ghost use Rattle.fold_machine.specs.Store.{slot_words};
 ghost use Rattle.fold_machine.specs.Store.{StoreState, fresh_store};
 
 use crate::places::{OWN_SLOTS, WORDS};

@@ -19,7 +19,7 @@ machine_of store sizes reported started stopped ran = record {
   further = store.further;
 }
 
-pub record IsHeld (store : StoreState) (words : List ℕ) (sizes : Sizes) (count : ℕ) : Type 0 where
+pub record IsWhole (store : StoreState) (words : List ℕ) (sizes : Sizes) (count : ℕ) : Type 0 where
   pub ready : IsReady sizes store
   pub frame : length words ≡ all_places
   pub loaded : kept_on sizes words ≡ kept_in sizes store.registers
