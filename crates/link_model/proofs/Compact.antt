@@ -1,11 +1,11 @@
 -- What a link keeps of every packet in flight, step by step.
-use Rattle.std.proofs.Common.{◌≡◌, ℕ, zero, suc, ◌+◌, ◌-◌, ◌≤◌, Bool, true, false, cond, leb, ◌||◌, List, [], ◌∷◌, ◌++◌, length, drop, slice_get, max, refl, ap, sym, ◌∙◌, arith}
+use Rattle.std.proofs.Common.{◌≡◌, ℕ, zero, suc, ◌+◌, ◌-◌, ◌≤◌, Bool, true, false, cond, leb, ◌||◌, List, [], ◌∷◌, ◌++◌, length, drop, slice_get, Some, None, max, refl, ap, sym, ◌∙◌, arith}
 use Rattle.ccp_base.specs.declared.ack.Ack.{Ack}
 use Rattle.link_model.specs.declared.link_case.LinkCase.{LinkCase}
 use Rattle.link_model.specs.declared.arrival.Arrival.{Arrival}
 use Rattle.link_model.specs.Traces.{IsTrace}
 use Rattle.link_model.specs.Chances.{first_chance}
-use Rattle.link_model.specs.Link.{Packet, Fate, Lost, Served, allowance, is_listed, is_marked, arrival_of, arrival_ack, timeout_ack, run_of, ack_after}
+use Rattle.link_model.specs.Link.{Packet, Fate, Lost, Served, allowance, is_listed, is_marked, arrival_of, past_in, arrival_ack, timeout_ack, run_of, ack_after}
 use Rattle.link_model.specs.Standing.{Standing, arrival_by, arrivals_by, arrivals_of, lost_last_by, lost_last, standing_of}
 use Rattle.link_model.specs.Steps.{count_of, with_fate, with_packet, sending, ack_by, acked_by, next_ack, next_standing}
 use Rattle.link_model.proofs.Whole.{Landing, Arrived, AllLost, Whole, whole_of, packet_by, landing, landing_by, staying, with_flight, with_ack, sent_whole, next_whole}
@@ -15,7 +15,7 @@ use Rattle.link_model.proofs.Refinement as refinement
 abbrev pub kept : LinkCase → Whole → Standing
 kept case all = record {
   time = all.time;
-  sample = all.sample;
+  past = all.past;
   arrivals = arrivals_of case 0 all.flight;
   lost = lost_last 0 all.flight;
   chance = all.chance;
@@ -83,7 +83,7 @@ module _ (case : LinkCase) where
   abbrev parts : Whole → List Arrival → ℕ → ℕ → Standing
   parts all arrivals lost chance = record {
     time = all.time;
-    sample = all.sample;
+    past = all.past;
     arrivals = arrivals;
     lost = lost;
     chance = chance;
@@ -144,26 +144,34 @@ module _ (case : LinkCase) where
   lands_as n [] = (refl, refl, refl)
   lands_as n (packet ∷ rest) = lands_by n packet.sent_at packet.fate rest (landing rest (n + 1)) (lands_as (n + 1) rest)
 
-  kept-ack_by : (all : Whole) (l : Landing) → LandsAs 0 all.flight l
-      → whole.ack_by case (with_flight all (staying all.flight)) l ≡ ack_by case (kept case all) (slice_get (arrivals_of case 0 all.flight) 0)
-  kept-ack_by all (AllLost lost) lands =
-      ap (λ stay. timeout_ack case (all.time + case.timeout_us) all.sample lost stay all.acked all.sent) (ap length lands.2)
-      ∙ ap (λ n. timeout_ack case (all.time + case.timeout_us) all.sample n 0 all.acked all.sent) (sym lands.1)
-      ∙ ap (λ xs. ack_by case (kept case all) (slice_get xs 0)) (sym lands.0)
-  kept-ack_by all (Arrived sent_at chance marked lost) lands =
+  kept-timeout : (all : Whole) (lost : ℕ) → LandsAs 0 all.flight (AllLost lost)
+      → whole.ack_by case (with_flight all (staying all.flight)) (AllLost lost) ≡ ack_by case (kept case all) None
+  kept-timeout all lost lands =
+      ap (λ stay. timeout_ack case (all.time + case.timeout_us) all.past lost stay all.acked all.sent) (ap length lands.2)
+      ∙ ap (λ n. timeout_ack case (all.time + case.timeout_us) all.past n 0 all.acked all.sent) (sym lands.1)
+
+  kept-arrival : (all : Whole) (sent_at chance : ℕ) (marked : Bool) (lost : ℕ) → LandsAs 0 all.flight (Arrived sent_at chance marked lost)
+      → whole.ack_by case (with_flight all (staying all.flight)) (Arrived sent_at chance marked lost) ≡ ack_by case (kept case all) (Some (arrival_by case lost sent_at chance marked))
+  kept-arrival all sent_at chance marked lost lands =
       let stay = staying all.flight in
       let count : length stay ≡ count_of (arrivals_of case 0 stay) (lost_last 0 stay) = omega (arith, count-flight 0 stay) in
-      let ack : ℕ → Ack = λ n. arrival_ack case sent_at (arrival_of case chance) marked lost n (all.acked + 1) all.sent in
+      let ack : ℕ → Ack = λ n. arrival_ack case sent_at (arrival_of case chance) marked all.past lost n (all.acked + 1) all.sent in
       let rest : arrivals_of case 0 stay ≡ drop 1 (arrivals_of case 0 all.flight) = sym (ap (drop 1) lands.0) in
       ap ack count
       ∙ ap (λ n. ack (count_of (arrivals_of case 0 stay) n)) (sym lands.1)
       ∙ ap (λ xs. ack (count_of xs (lost_last 0 all.flight))) rest
-      ∙ ap (λ xs. ack_by case (kept case all) (slice_get xs 0)) (sym lands.0)
 
-  abbrev after : Whole → ℕ → ℕ → List Arrival → ℕ → ℕ → Standing
-  after all time sample arrivals lost acked = record {
+  kept-ack_by : (all : Whole) (l : Landing) → LandsAs 0 all.flight l
+      → whole.ack_by case (with_flight all (staying all.flight)) l ≡ ack_by case (kept case all) (slice_get (arrivals_of case 0 all.flight) 0)
+  kept-ack_by all (AllLost lost) lands =
+      kept-timeout all lost lands ∙ ap (λ xs. ack_by case (kept case all) (slice_get xs 0)) (sym lands.0)
+  kept-ack_by all (Arrived sent_at chance marked lost) lands =
+      kept-arrival all sent_at chance marked lost lands ∙ ap (λ xs. ack_by case (kept case all) (slice_get xs 0)) (sym lands.0)
+
+  abbrev after : Whole → ℕ → Ack → List Arrival → ℕ → ℕ → Standing
+  after all time ack arrivals lost acked = record {
     time = time;
-    sample = sample;
+    past = past_in ack;
     arrivals = arrivals;
     lost = lost;
     chance = all.chance;
@@ -177,15 +185,19 @@ module _ (case : LinkCase) where
       ≡ acked_by case (kept case all) (slice_get (arrivals_of case 0 all.flight) 0)
   kept-acked_by all (AllLost lost) lands =
       let same : all.acked + 0 ≡ all.acked = omega arith in
-      ap (λ flight. after all (all.time + case.timeout_us) all.sample (arrivals_of case 0 flight) (lost_last 0 flight) (all.acked + 0)) lands.2
-      ∙ ap (after all (all.time + case.timeout_us) all.sample [] 0) same
+      let ack = whole.ack_by case (with_flight all (staying all.flight)) (AllLost lost) in
+      ap (λ flight. after all (all.time + case.timeout_us) ack (arrivals_of case 0 flight) (lost_last 0 flight) (all.acked + 0)) lands.2
+      ∙ ap (after all (all.time + case.timeout_us) ack [] 0) same
+      ∙ ap (λ a. after all (all.time + case.timeout_us) a [] 0 all.acked) (kept-timeout all lost lands)
       ∙ ap (λ xs. acked_by case (kept case all) (slice_get xs 0)) (sym lands.0)
   kept-acked_by all (Arrived sent_at chance marked lost) lands =
       let stay = staying all.flight in
       let rest : arrivals_of case 0 stay ≡ drop 1 (arrivals_of case 0 all.flight) = sym (ap (drop 1) lands.0) in
       let arrival = arrival_of case chance in
-      ap (λ n. after all arrival (arrival - sent_at) (arrivals_of case 0 stay) n (all.acked + 1)) (sym lands.1)
-      ∙ ap (λ xs. after all arrival (arrival - sent_at) xs (lost_last 0 all.flight) (all.acked + 1)) rest
+      let ack = whole.ack_by case (with_flight all stay) (Arrived sent_at chance marked lost) in
+      ap (λ n. after all arrival ack (arrivals_of case 0 stay) n (all.acked + 1)) (sym lands.1)
+      ∙ ap (λ xs. after all arrival ack xs (lost_last 0 all.flight) (all.acked + 1)) rest
+      ∙ ap (λ a. after all arrival a (drop 1 (arrivals_of case 0 all.flight)) (lost_last 0 all.flight) (all.acked + 1)) (kept-arrival all sent_at chance marked lost lands)
       ∙ ap (λ xs. acked_by case (kept case all) (slice_get xs 0)) (sym lands.0)
 
   -- ---- one call

@@ -3,7 +3,7 @@ use Rattle.std.proofs.Common.{◌≡◌, ℕ, zero, suc, ◌+◌, ◌-◌, ◌�
 use Rattle.link_model.specs.declared.link_case.LinkCase.{LinkCase}
 use Rattle.link_model.specs.Traces.{IsTrace}
 use Rattle.link_model.specs.Chances.{chance_time, first_chance}
-use Rattle.link_model.specs.Link.{Run, Packet, Fate, Lost, Served, Given, Numbered, packets_to, all_below, allowance, waiting, chances_past, is_listed, is_marked, fate_by, packet_after, with_sent, left_by, lost_by, in_flight, time_of, sample_of, acked_of, arrival_of, arrival_ack, timeout_ack, Next, arrives, all_lost, next_of, answer_by, answer_to, sent_by, called, run_from, run_of, ack_after}
+use Rattle.link_model.specs.Link.{Run, Packet, Fate, Lost, Served, Given, Numbered, packets_to, all_below, allowance, waiting, chances_past, is_listed, is_marked, fate_by, packet_after, with_sent, left_by, lost_by, in_flight, time_of, past_in, past_of, acked_of, arrival_of, arrival_ack, timeout_ack, Next, arrives, all_lost, next_of, answer_by, answer_to, sent_by, called, run_from, run_of, ack_after}
 use Rattle.link_model.specs.LinkLaws.{run_from-push}
 use Rattle.link_model.specs.Counts.{served_chances, lost_of}
 use Rattle.link_model.specs.Standing.{packets_of}
@@ -149,7 +149,7 @@ module _ (case : LinkCase) (trace : IsTrace case.trace) (packets : List Packet) 
       let packet = packet_after case (time_of givens) packets in
       let with_parts : List Packet → ℕ → Whole = λ flight sent. record {
         time = time_of givens;
-        sample = sample_of givens;
+        past = past_of givens;
         flight = flight;
         chance = chances_past (packet ∷ packets);
         sent = sent;
@@ -195,14 +195,14 @@ module _ (case : LinkCase) (packets : List Packet) (givens : List Given) where
       let none : length (left_by (all_below (length packets)) flight) ≡ length (staying (packets_of flight)) =
       ap length (left_by-all_below (length packets) flight below) ∙ sym (ap length same.1) in
       let count : length flight ≡ 0 + length flight = omega arith in
-      ap (λ stay. timeout_ack case (time_of givens + case.timeout_us) (sample_of givens) (length flight) stay (acked_of givens) (length packets)) none
-      ∙ ap (λ lost. timeout_ack case (time_of givens + case.timeout_us) (sample_of givens) lost (length (staying (packets_of flight))) (acked_of givens) (length packets)) count
+      ap (λ stay. timeout_ack case (time_of givens + case.timeout_us) (past_of givens) (length flight) stay (acked_of givens) (length packets)) none
+      ∙ ap (λ lost. timeout_ack case (time_of givens + case.timeout_us) (past_of givens) lost (length (staying (packets_of flight))) (acked_of givens) (length packets)) count
       ∙ sym (ap (ack_by case (landed_standing flight)) same.0)
   ack_same flight (arrives number sent_at chance marked) same below =
       let stay : length (left_by (packets_to number) flight) ≡ length (staying (packets_of flight)) = sym (length-packets_of (left_by (packets_to number) flight)) ∙ ap length same.1 in
       let count : lost_by (packets_to number) flight ≡ 0 + lost_by (packets_to number) flight = omega arith in
-      ap (λ n. arrival_ack case sent_at (arrival_of case chance) marked (lost_by (packets_to number) flight) n (acked_of givens + 1) (length packets)) stay
-      ∙ ap (λ lost. arrival_ack case sent_at (arrival_of case chance) marked lost (length (staying (packets_of flight))) (acked_of givens + 1) (length packets)) count
+      ap (λ n. arrival_ack case sent_at (arrival_of case chance) marked (past_of givens) (lost_by (packets_to number) flight) n (acked_of givens + 1) (length packets)) stay
+      ∙ ap (λ lost. arrival_ack case sent_at (arrival_of case chance) marked (past_of givens) lost (length (staying (packets_of flight))) (acked_of givens + 1) (length packets)) count
       ∙ sym (ap (ack_by case (landed_standing flight)) same.0)
 
   stay_same : (flight : List Numbered) (next : Next) → MatchNext flight 0 0 next → AllBelow (length packets) flight
@@ -269,7 +269,7 @@ module _ (case : LinkCase) (trace : IsTrace case.trace) (packets : List Packet) 
       let ack = (answer_to case packets givens).ack in
       let with_parts : List Packet → ℕ → ℕ → Whole = λ flight acked calls. record {
         time = ack.now;
-        sample = ack.rtt_sample_us;
+        past = past_in ack;
         flight = flight;
         chance = chances_past packets;
         sent = length packets;

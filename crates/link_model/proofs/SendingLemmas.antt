@@ -73,7 +73,7 @@ neither false b not_a not_b = not_b
 abbrev with_counts : Standing → ℕ → ℕ → Standing
 with_counts standing lost sent = record {
   time = standing.time;
-  sample = standing.sample;
+  past = standing.past;
   arrivals = standing.arrivals;
   lost = lost;
   chance = standing.chance;
@@ -125,7 +125,7 @@ module _ (case : LinkCase) where
 abbrev pub served_as : Standing → List Arrival → ℕ → Standing
 served_as standing arrivals chance = record {
   time = standing.time;
-  sample = standing.sample;
+  past = standing.past;
   arrivals = arrivals;
   lost = 0;
   chance = chance;

@@ -2,8 +2,9 @@
 use Rattle.std.proofs.Common.{ℕ, zero, suc, ◌+◌, ◌-◌, max, Bool, List, [], ◌∷◌, ◌++◌, length}
 use Rattle.ccp_base.specs.declared.ack.Ack.{Ack}
 use Rattle.link_model.specs.declared.link_case.LinkCase.{LinkCase}
+use Rattle.link_model.specs.declared.past.Past.{Past}
 use Rattle.link_model.specs.Chances.{first_chance}
-use Rattle.link_model.specs.Link.{Run, Packet, Fate, Lost, Served, allowance, chance_past, chances_past, fate_by, in_flight, time_of, sample_of, acked_of, arrival_of, arrival_ack, timeout_ack}
+use Rattle.link_model.specs.Link.{Run, Packet, Fate, Lost, Served, allowance, chance_past, chances_past, fate_by, in_flight, time_of, past_in, past_of, acked_of, arrival_of, arrival_ack, timeout_ack}
 use Rattle.link_model.specs.Standing.{packets_of}
 
 -- what comes of the packets in flight: the first one that isn't lost arrives after so many lost ones, or all are lost
@@ -14,7 +15,7 @@ pub data Landing : Type 0 where
 -- what a link would keep that kept every packet in flight
 pub record Whole : Type 0 where
   pub time : ℕ
-  pub sample : ℕ
+  pub past : Past
   pub flight : List Packet
   pub chance : ℕ
   pub sent : ℕ
@@ -25,7 +26,7 @@ pub record Whole : Type 0 where
 abbrev pub whole_of : Run → Whole
 whole_of run = record {
   time = time_of run.givens;
-  sample = sample_of run.givens;
+  past = past_of run.givens;
   flight = packets_of (in_flight run.packets run.givens);
   chance = chances_past run.packets;
   sent = length run.packets;
@@ -46,7 +47,7 @@ packet_by case standing due later = record {
 abbrev pub with_packet : Whole → Packet → Whole
 with_packet standing packet = record {
   time = standing.time;
-  sample = standing.sample;
+  past = standing.past;
   flight = standing.flight ++ packet ∷ [];
   chance = chance_past packet.fate standing.chance;
   sent = standing.sent + 1;
@@ -87,14 +88,14 @@ staying (packet ∷ rest) = staying_by packet.fate rest (staying rest)
 -- the acknowledgement of what landed, where the standing has the packets that stay
 abbrev pub ack_by : LinkCase → Whole → Landing → Ack
 ack_by case standing (Arrived sent_at chance marked lost) =
-    arrival_ack case sent_at (arrival_of case chance) marked lost (length standing.flight) (standing.acked + 1) standing.sent
+    arrival_ack case sent_at (arrival_of case chance) marked standing.past lost (length standing.flight) (standing.acked + 1) standing.sent
 ack_by case standing (AllLost lost) =
-    timeout_ack case (standing.time + case.timeout_us) standing.sample lost (length standing.flight) standing.acked standing.sent
+    timeout_ack case (standing.time + case.timeout_us) standing.past lost (length standing.flight) standing.acked standing.sent
 
 abbrev pub with_flight : Whole → List Packet → Whole
 with_flight standing flight = record {
   time = standing.time;
-  sample = standing.sample;
+  past = standing.past;
   flight = flight;
   chance = standing.chance;
   sent = standing.sent;
@@ -106,7 +107,7 @@ with_flight standing flight = record {
 abbrev pub with_ack : Whole → Ack → Whole
 with_ack standing ack = record {
   time = ack.now;
-  sample = ack.rtt_sample_us;
+  past = past_in ack;
   flight = standing.flight;
   chance = standing.chance;
   sent = standing.sent;

@@ -2,6 +2,7 @@
 use Rattle.std.specs.Prelude.{ℕ, zero, suc, ◌+◌, ◌-◌, ◌*◌, ◌/◌, max, min, Bool, true, false, ◌||◌, ◌&&◌, ◌==◌, nat_lt, nat_le, Option, Some, None, if◌then◌else◌, List, [], ◌∷◌, ◌++◌, length}
 use Rattle.ccp_base.specs.declared.ack.Ack.{Ack}
 use Rattle.link_model.specs.declared.link_case.LinkCase.{LinkCase}
+use Rattle.link_model.specs.declared.past.Past.{Past}
 use Rattle.ccp_base.specs.Limits.{most_flight}
 use Rattle.link_model.specs.Chances.{chance_time, first_chance}
 
@@ -133,10 +134,18 @@ abbrev pub time_of : List Given → ℕ
 time_of [] = 0
 time_of (given ∷ earlier) = given.ack.now
 
--- the last round-trip sample
-abbrev pub sample_of : List Given → ℕ
-sample_of [] = 0
-sample_of (given ∷ earlier) = given.ack.rtt_sample_us
+-- what later acknowledgements take from earlier ones: from this one, where it is the last
+abbrev pub past_in : Ack → Past
+past_in ack = record { rtt_sample_us = ack.rtt_sample_us }
+
+-- where nothing was acknowledged yet
+abbrev pub no_past : Past
+no_past = record { rtt_sample_us = 0 }
+
+-- after these
+abbrev pub past_of : List Given → Past
+past_of [] = no_past
+past_of (given ∷ earlier) = past_in given.ack
 
 -- how many packets were acknowledged
 abbrev pub acked_of : List Given → ℕ
@@ -158,10 +167,10 @@ where_lost lost number = if lost == 0 then 0 else number
 abbrev pub arrival_of : LinkCase → ℕ → ℕ
 arrival_of case chance = chance_time case.trace chance + case.delay_us
 
--- the acknowledgement of a packet of this size with this sending time, arrival and mark, where so many lost packets
--- leave, so many stay in flight, and so many were acknowledged and sent so far
-abbrev pub arrival_ack_of : ℕ → ℕ → ℕ → Bool → ℕ → ℕ → ℕ → ℕ → Ack
-arrival_ack_of mss sent_at arrival marked lost stay acked sent = record {
+-- the acknowledgement of a packet of this size with this sending time, arrival and mark after this past, where so many
+-- lost packets leave, so many stay in flight, and so many were acknowledged and sent so far
+abbrev pub arrival_ack_of : ℕ → ℕ → ℕ → Bool → Past → ℕ → ℕ → ℕ → ℕ → Ack
+arrival_ack_of mss sent_at arrival marked past lost stay acked sent = record {
   bytes_acked = mss;
   packets_acked = 1;
   bytes_misordered = where_lost lost mss;
@@ -179,13 +188,13 @@ arrival_ack_of mss sent_at arrival marked lost stay acked sent = record {
   was_timeout = false;
 }
 
-abbrev pub arrival_ack : LinkCase → ℕ → ℕ → Bool → ℕ → ℕ → ℕ → ℕ → Ack
-arrival_ack case sent_at arrival marked lost stay acked sent =
-    arrival_ack_of case.mss sent_at arrival marked lost stay acked sent
+abbrev pub arrival_ack : LinkCase → ℕ → ℕ → Bool → Past → ℕ → ℕ → ℕ → ℕ → Ack
+arrival_ack case sent_at arrival marked past lost stay acked sent =
+    arrival_ack_of case.mss sent_at arrival marked past lost stay acked sent
 
--- the acknowledgement at a timeout at this time, with the last sample, where so many packets of this size leave
-abbrev pub timeout_ack_of : ℕ → ℕ → ℕ → ℕ → ℕ → ℕ → ℕ → Ack
-timeout_ack_of mss now sample lost stay acked sent = record {
+-- the acknowledgement at a timeout at this time after this past, where so many packets of this size leave
+abbrev pub timeout_ack_of : ℕ → ℕ → Past → ℕ → ℕ → ℕ → ℕ → Ack
+timeout_ack_of mss now past lost stay acked sent = record {
   bytes_acked = 0;
   packets_acked = 0;
   bytes_misordered = 0;
@@ -199,12 +208,12 @@ timeout_ack_of mss now sample lost stay acked sent = record {
   bytes_pending = 0;
   rate_incoming = byte_rate mss acked now;
   rate_outgoing = byte_rate mss sent now;
-  rtt_sample_us = sample;
+  rtt_sample_us = past.rtt_sample_us;
   was_timeout = true;
 }
 
-abbrev pub timeout_ack : LinkCase → ℕ → ℕ → ℕ → ℕ → ℕ → ℕ → Ack
-timeout_ack case now sample lost stay acked sent = timeout_ack_of case.mss now sample lost stay acked sent
+abbrev pub timeout_ack : LinkCase → ℕ → Past → ℕ → ℕ → ℕ → ℕ → Ack
+timeout_ack case now past lost stay acked sent = timeout_ack_of case.mss now past lost stay acked sent
 
 -- the lowest packet in flight that isn't lost, or that all are lost
 pub data Next : Type 0 where
@@ -223,12 +232,13 @@ next_of (sent ∷ rest) = next_by sent.number sent.packet.sent_at sent.packet.fa
 abbrev pub answer_by : LinkCase → List Packet → List Given → List Numbered → Next → Given
 answer_by case packets givens flight (arrives number sent_at chance marked) = record {
   taking = packets_to number;
-  ack = arrival_ack case sent_at (arrival_of case chance) marked (lost_by (packets_to number) flight)
-      (length (left_by (packets_to number) flight)) (acked_of givens + 1) (length packets);
+  ack = arrival_ack case sent_at (arrival_of case chance) marked (past_of givens)
+      (lost_by (packets_to number) flight) (length (left_by (packets_to number) flight)) (acked_of givens + 1)
+      (length packets);
 }
 answer_by case packets givens flight all_lost = record {
   taking = all_below (length packets);
-  ack = timeout_ack case (time_of givens + case.timeout_us) (sample_of givens) (length flight)
+  ack = timeout_ack case (time_of givens + case.timeout_us) (past_of givens) (length flight)
       (length (left_by (all_below (length packets)) flight)) (acked_of givens) (length packets);
 }
 

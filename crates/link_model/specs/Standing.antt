@@ -3,14 +3,15 @@ use Rattle.std.specs.Prelude.{◌≡◌, ℕ, ◌+◌, Bool, List, [], ◌∷◌
 use Rattle.ccp_base.specs.declared.ack.Ack.{Ack}
 use Rattle.link_model.specs.declared.link_case.LinkCase.{LinkCase}
 use Rattle.link_model.specs.declared.arrival.Arrival.{Arrival}
-use Rattle.link_model.specs.Link.{Run, Packet, Fate, Lost, Served, Numbered, chances_past, in_flight, time_of, sample_of, acked_of, arrival_of, arrival_ack, run_of, ack_after}
+use Rattle.link_model.specs.declared.past.Past.{Past}
+use Rattle.link_model.specs.Link.{Run, Packet, Fate, Lost, Served, Numbered, chances_past, in_flight, time_of, past_of, acked_of, arrival_of, arrival_ack, run_of, ack_after}
 
--- what a link keeps: its time, the last round-trip sample, the packets in flight that aren't lost, how many lost ones
--- lie after them, the first chance after all that were given, and how many packets were sent, how many acknowledged
--- and how many calls were made
+-- what a link keeps: its time, what later acknowledgements take from earlier ones, the packets in flight that aren't
+-- lost, how many lost ones lie after them, the first chance after all that were given, and how many packets were sent,
+-- how many acknowledged and how many calls were made
 pub record Standing : Type 0 where
   pub time : ℕ
-  pub sample : ℕ
+  pub past : Past
   pub arrivals : List Arrival
   pub lost : ℕ
   pub chance : ℕ
@@ -55,7 +56,7 @@ lost_last lost (packet ∷ rest) = lost_last_by packet.fate (lost_last (lost + 1
 abbrev pub standing_of : LinkCase → Run → Standing
 standing_of case run = record {
   time = time_of run.givens;
-  sample = sample_of run.givens;
+  past = past_of run.givens;
   arrivals = arrivals_of case 0 (packets_of (in_flight run.packets run.givens));
   lost = lost_last 0 (packets_of (in_flight run.packets run.givens));
   chance = chances_past run.packets;
@@ -85,7 +86,8 @@ IsAnswer link window ack = (windows : List ℕ) → Stands link windows → ack 
 abbrev pub StandsOn : LinkState → ℕ → LinkState → Type 0
 StandsOn old window new = (windows : List ℕ) → Stands old windows → Stands new (windows ++ window ∷ [])
 
--- the acknowledgement of a packet, where so many stay in flight, and so many were acknowledged and sent so far
-abbrev pub ack_at : LinkCase → Arrival → ℕ → ℕ → ℕ → Ack
-ack_at case arrival stay acked sent =
-    arrival_ack case arrival.sent_at arrival.at arrival.marked arrival.lost stay acked sent
+-- the acknowledgement of a packet after this past, where so many stay in flight, and so many were acknowledged and
+-- sent so far
+abbrev pub ack_at : LinkCase → Arrival → Past → ℕ → ℕ → ℕ → Ack
+ack_at case arrival past stay acked sent =
+    arrival_ack case arrival.sent_at arrival.at arrival.marked past arrival.lost stay acked sent

@@ -6,7 +6,7 @@ use Rattle.link_model.specs.declared.arrival.Arrival.{Arrival}
 use Rattle.link_model.specs.declared.traffic.Traffic.{Traffic}
 use Rattle.link_model.specs.declared.queue.Queue.{Queue}
 use Rattle.link_model.specs.Chances.{first_chance, number_of}
-use Rattle.link_model.specs.Link.{Fate, Lost, Served, allowance, is_marked, fate_by, timeout_ack}
+use Rattle.link_model.specs.Link.{Fate, Lost, Served, allowance, is_marked, fate_by, past_in, timeout_ack}
 use Rattle.link_model.specs.Standing.{Standing, arrival_by, ack_at}
 
 -- how many packets are in flight
@@ -18,7 +18,7 @@ count_of (arrival ∷ rest) lost = arrival.lost + 1 + count_of rest lost
 abbrev pub standing_in : List ℕ → Traffic → Standing
 standing_in times traffic = record {
   time = traffic.time;
-  sample = traffic.sample;
+  past = traffic.past;
   arrivals = traffic.flight.items;
   lost = traffic.lost;
   chance = number_of times traffic.next;
@@ -33,7 +33,7 @@ standing_in times traffic = record {
 abbrev pub with_lost : ℕ → Standing → Standing
 with_lost more standing = record {
   time = standing.time;
-  sample = standing.sample;
+  past = standing.past;
   arrivals = standing.arrivals;
   lost = standing.lost + more;
   chance = standing.chance;
@@ -46,7 +46,7 @@ with_lost more standing = record {
 abbrev pub with_served : LinkCase → ℕ → Bool → Standing → Standing
 with_served case chance marked standing = record {
   time = standing.time;
-  sample = standing.sample;
+  past = standing.past;
   arrivals = standing.arrivals ++ arrival_by case standing.lost standing.time chance marked ∷ [];
   lost = 0;
   chance = chance + 1;
@@ -93,15 +93,16 @@ pub record IsQueue (case : LinkCase) (standing : Standing) (queue : Queue) : Typ
 -- the acknowledgement of the first packet that isn't lost, or where there is none the timeout
 abbrev pub ack_by : LinkCase → Standing → Option Arrival → Ack
 ack_by case standing None =
-    timeout_ack case (standing.time + case.timeout_us) standing.sample standing.lost 0 standing.acked standing.sent
+    timeout_ack case (standing.time + case.timeout_us) standing.past standing.lost 0 standing.acked standing.sent
 ack_by case standing (Some arrival) =
-    ack_at case arrival (count_of (drop 1 standing.arrivals) standing.lost) (standing.acked + 1) standing.sent
+    ack_at case arrival standing.past (count_of (drop 1 standing.arrivals) standing.lost) (standing.acked + 1)
+    standing.sent
 
 -- the standing after it
 abbrev pub acked_by : LinkCase → Standing → Option Arrival → Standing
 acked_by case standing None = record {
   time = standing.time + case.timeout_us;
-  sample = standing.sample;
+  past = past_in (ack_by case standing None);
   arrivals = [];
   lost = 0;
   chance = standing.chance;
@@ -111,7 +112,7 @@ acked_by case standing None = record {
 }
 acked_by case standing (Some arrival) = record {
   time = arrival.at;
-  sample = arrival.at - arrival.sent_at;
+  past = past_in (ack_by case standing (Some arrival));
   arrivals = drop 1 standing.arrivals;
   lost = standing.lost;
   chance = standing.chance;

@@ -7,6 +7,7 @@ ghost use Rattle.link_model.specs.Counts.{AreOnce, AddUp};
 
 use crate::arrival::Arrival;
 use crate::link_case::LinkCase;
+use crate::past::Past;
 use crate::traffic::PACKETS;
 use ccp_base::Ack;
 
@@ -48,27 +49,27 @@ impl LinkCase {
         is_at(self.losses.as_slice(), place, number)
     }
 
-    /// The acknowledgement of a packet, where so many packets stay in flight, and so many were acknowledged and sent,
-    /// this one counted.
+    /// The acknowledgement of a packet after this past, where so many packets stay in flight, and so many were
+    /// acknowledged and sent, this one counted.
     #[inline]
-    pub fn arrival_ack(&self, arrival: Arrival, stay: u64, acked: u64, sent: u64) -> Ack
+    pub fn arrival_ack(&self, arrival: Arrival, past: Past, stay: u64, acked: u64, sent: u64) -> Ack
         requires order { arrival.sent_at ≤ arrival.at }
         requires stay { stay ≤ most_flight }
         requires acked { acked ≤ 2 ^ 28 }
         requires sent { sent ≤ 2 ^ 28 }
-        ensures { result ≡ ack_at self.now arrival stay acked sent }
+        ensures { result ≡ ack_at self.now arrival past stay acked sent }
     {
-        arrival_ack(self.mss, arrival, stay, acked, sent)
+        arrival_ack(self.mss, arrival, past, stay, acked, sent)
     }
 
-    /// The acknowledgement at a timeout at this time, with the last round-trip sample, where all of so many packets are
-    /// lost, and so many were acknowledged and sent.
-    pub fn timeout_ack(&self, now: u64, sample: u64, lost: u64, acked: u64, sent: u64) -> Ack
+    /// The acknowledgement at a timeout at this time after this past, where all of so many packets are lost, and so many
+    /// were acknowledged and sent.
+    pub fn timeout_ack(&self, now: u64, past: Past, lost: u64, acked: u64, sent: u64) -> Ack
         requires acked { acked ≤ 2 ^ 28 }
         requires sent { sent ≤ 2 ^ 28 }
-        ensures { result ≡ timeout_ack self.now now sample lost 0 acked sent }
+        ensures { result ≡ timeout_ack self.now now past lost 0 acked sent }
     {
-        timeout_ack(self.mss, now, sample, lost, acked, sent)
+        timeout_ack(self.mss, now, past, lost, acked, sent)
     }
 
     /// What holds after every list of windows: no chance serves two packets, and each packet that was sent was
@@ -115,17 +116,18 @@ pub fn is_marked(mark: Option<u32>, queued: u128) -> bool
     }
 }
 
-/// The acknowledgement of a packet of this size, in bytes, where so many packets stay in flight, and so many were
-/// acknowledged and sent, this one counted.
+/// The acknowledgement of a packet of this size, in bytes, after this past, where so many packets stay in flight, and so
+/// many were acknowledged and sent, this one counted.
 #[inline]
-pub fn arrival_ack(mss: u32, arrival: Arrival, stay: u64, acked: u64, sent: u64) -> Ack
+pub fn arrival_ack(mss: u32, arrival: Arrival, past: Past, stay: u64, acked: u64, sent: u64) -> Ack
     requires mss { mss ≤ most_segment_bytes }
     requires order { arrival.sent_at ≤ arrival.at }
     requires stay { stay ≤ most_flight }
     requires acked { acked ≤ 2 ^ 28 }
     requires sent { sent ≤ 2 ^ 28 }
-    ensures { result ≡ arrival_ack_of mss arrival.sent_at arrival.at arrival.marked arrival.lost stay acked sent }
+    ensures { result ≡ arrival_ack_of mss arrival.sent_at arrival.at arrival.marked past arrival.lost stay acked sent }
 {
+    let _ = past;
     let bytes = u64::from(mss);
     Ack {
         bytes_acked: bytes,
@@ -146,20 +148,20 @@ pub fn arrival_ack(mss: u32, arrival: Arrival, stay: u64, acked: u64, sent: u64)
     }
 }
 
-/// The acknowledgement at a timeout at this time, with the last round-trip sample, where all of so many packets of this
-/// size, in bytes, are lost, and so many were acknowledged and sent.
-pub fn timeout_ack(mss: u32, now: u64, sample: u64, lost: u64, acked: u64, sent: u64) -> Ack
+/// The acknowledgement at a timeout at this time after this past, where all of so many packets of this size, in bytes, are
+/// lost, and so many were acknowledged and sent.
+pub fn timeout_ack(mss: u32, now: u64, past: Past, lost: u64, acked: u64, sent: u64) -> Ack
     requires mss { mss ≤ most_segment_bytes }
     requires acked { acked ≤ 2 ^ 28 }
     requires sent { sent ≤ 2 ^ 28 }
-    ensures { result ≡ timeout_ack_of mss now sample lost 0 acked sent }
+    ensures { result ≡ timeout_ack_of mss now past lost 0 acked sent }
 {
     Ack {
         lost_pkts_sample: lost,
         now,
         rate_incoming: rate(mss, acked, now),
         rate_outgoing: rate(mss, sent, now),
-        rtt_sample_us: sample,
+        rtt_sample_us: past.rtt_sample_us,
         was_timeout: true,
         ..Ack::default()
     }

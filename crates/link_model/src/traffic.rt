@@ -7,6 +7,7 @@ ghost use Rattle.link_model.specs.Horizon.{IsKept, IsCounted};
 use crate::arrival::Arrival;
 use crate::chance::Chance;
 use crate::link_case::LinkCase;
+use crate::past::Past;
 use crate::queue::Queue;
 use ccp_base::Ack;
 use circular_buffer::HeapCircularBuffer;
@@ -20,8 +21,8 @@ pub(crate) const PACKETS: usize = 4096;
 pub(crate) struct Traffic {
     /// The link's time, in microseconds.
     pub(crate) time: u64,
-    /// The last round-trip sample, in microseconds.
-    pub(crate) sample: u64,
+    /// What later acknowledgements take from earlier ones.
+    pub(crate) past: Past,
     /// The packets in flight that aren't lost, in the order of their numbers.
     pub(crate) flight: HeapCircularBuffer<Arrival>,
     /// How many lost packets lie after them.
@@ -54,7 +55,7 @@ impl Traffic {
         let flight = HeapCircularBuffer::with_capacity(alloc, PACKETS)?;
         Ok(Traffic {
             time: 0,
-            sample: 0,
+            past: Past::none(),
             flight,
             lost: 0,
             in_flight: 0,
@@ -198,8 +199,9 @@ impl Traffic {
         self.acked += 1;
         self.calls += 1;
         self.time = arrival.at;
-        self.sample = arrival.at - arrival.sent_at;
-        case.arrival_ack(arrival, self.in_flight, self.acked, self.sent)
+        let ack = case.arrival_ack(arrival, self.past, self.in_flight, self.acked, self.sent);
+        self.past = Past::after(&ack);
+        ack
     }
 
     /// Times out: all packets in flight are lost.
@@ -223,7 +225,9 @@ impl Traffic {
         self.in_flight = 0;
         self.calls += 1;
         self.time = now;
-        case.timeout_ack(now, self.sample, lost, self.acked, self.sent)
+        let ack = case.timeout_ack(now, self.past, lost, self.acked, self.sent);
+        self.past = Past::after(&ack);
+        ack
     }
 }
 

@@ -1,11 +1,11 @@
 -- What is kept of a flow goes on as the definition does.
-use Rattle.std.proofs.Common.{◌≡◌, ℕ, zero, suc, ◌+◌, ◌-◌, ◌<◌, Bool, true, false, cond, ltb, eqb, ◌&&◌, List, [], ◌∷◌, ◌++◌, length, drop, slice_get, max, refl, ap, sym, ◌∙◌, subst, arith, add_comm, append_assoc}
+use Rattle.std.proofs.Common.{◌≡◌, ℕ, zero, suc, ◌+◌, ◌<◌, Bool, true, false, cond, ltb, eqb, ◌&&◌, List, [], ◌∷◌, ◌++◌, length, drop, slice_get, max, refl, ap, sym, ◌∙◌, subst, arith, add_comm, append_assoc}
 use Rattle.std.proofs.lemmas.Bool.Decides.{nat_tests}
 use Rattle.ccp_base.specs.declared.ack.Ack.{Ack}
 use Rattle.link_model.specs.declared.arrival.Arrival.{Arrival}
 use Rattle.link_model.specs.Traces.{IsTrace}
 use Rattle.link_model.specs.Chances.{chance_time}
-use Rattle.link_model.specs.Link.{Packet, Fate, Lost, Served, Given, Numbered, packets_to, all_below, is_lost, left_by, lost_by, in_flight, time_of, sample_of, acked_of, arrival_ack_of, timeout_ack_of, Next, arrives, all_lost, next_of}
+use Rattle.link_model.specs.Link.{Packet, Fate, Lost, Served, Given, Numbered, packets_to, all_below, is_lost, left_by, lost_by, in_flight, time_of, past_in, past_of, acked_of, arrival_ack_of, timeout_ack_of, Next, arrives, all_lost, next_of}
 use Rattle.link_model.specs.Link as model
 use Rattle.link_model.specs.Counts.{lost_of}
 use Rattle.link_model.specs.Standing.{packets_of}
@@ -109,7 +109,7 @@ pub kept-sent : (times : List ℕ) (trace : IsTrace times) (link : FlowLink) (pa
 kept-sent times trace link past packets givens settled packet =
     let with_parts : Flight → ℕ → FlowStanding = λ flight sent. record {
       time = time_of givens;
-      sample = sample_of givens;
+      past = past_of givens;
       flight = flight;
       sent = sent;
       acked = acked_of givens;
@@ -157,10 +157,11 @@ module _ (times : List ℕ) (trace : IsTrace times) (link : FlowLink) (end past 
   abbrev Adds : List Ack → List Given → Answered → List Given → Type 0
   Adds acks givens after more = after ≡ record { acks = acks ++ acks_in more; standing = flow_standing times link packets (with_givens more givens) }
 
-  abbrev parts : List Ack → ℕ → ℕ → Flight → ℕ → ℕ → Answered
-  parts acks time sample flight acked gone = record {
-    acks = acks;
-    standing = record { time = time; sample = sample; flight = flight; sent = length packets; acked = acked; gone = gone };
+  -- a flow right after this acknowledgement
+  abbrev parts : List Ack → ℕ → Ack → Flight → ℕ → ℕ → Answered
+  parts acks time ack flight acked gone = record {
+    acks = acks ++ ack ∷ [];
+    standing = record { time = time; past = past_in ack; flight = flight; sent = length packets; acked = acked; gone = gone };
   }
 
   module _ (acks : List Ack) (givens : List Given) (settled : FlowSettled times link.delay_us past packets givens) where
@@ -178,8 +179,8 @@ module _ (times : List ℕ) (trace : IsTrace times) (link : FlowLink) (end past 
         let at = chance_time times chance + link.delay_us in
         let stays = packets_of (left_by (packets_to number) flight) in
         let rest = with_packets times link.delay_us (staying (packets_of flight)) no_flight in
-        let ack : ℕ → ℕ → Ack = λ lost stay. arrival_ack_of link.mss sent_at at marked lost stay (acked_of givens + 1) (length packets) in
-        let with_stay : ℕ → Flight → ℕ → ℕ → Answered = λ stay left acked gone. parts (acks ++ ack n stay ∷ []) at (at - sent_at) left acked gone in
+        let ack : ℕ → ℕ → Ack = λ lost stay. arrival_ack_of link.mss sent_at at marked (past_of givens) lost stay (acked_of givens + 1) (length packets) in
+        let with_stay : ℕ → Flight → ℕ → ℕ → Answered = λ stay left acked gone. parts acks at (ack n stay) left acked gone in
         let count : count_of rest.arrivals rest.lost ≡ length (left_by (packets_to number) flight) =
         ap (λ ps. count_of (with_packets times link.delay_us ps no_flight).arrivals (with_packets times link.delay_us ps no_flight).lost) (sym same.1)
         ∙ (let c : count_of (with_packets times link.delay_us stays no_flight).arrivals (with_packets times link.delay_us stays no_flight).lost ≡ 0 + length stays = count-packets times link.delay_us stays no_flight in
@@ -187,9 +188,9 @@ module _ (times : List ℕ) (trace : IsTrace times) (link : FlowLink) (end past 
         ap (λ f. with_stay (count_of (drop 1 f.arrivals) f.lost) (record { arrivals = drop 1 f.arrivals; lost = f.lost; since = f.since }) (acked_of givens + 1) (lost_of givens + n)) kept
         ∙ ap (λ stay. with_stay stay rest (acked_of givens + 1) (lost_of givens + n)) count
         ∙ ap (λ ps. with_stay (length (left_by (packets_to number) flight)) (with_packets times link.delay_us ps no_flight) (acked_of givens + 1) (lost_of givens + n)) (sym same.1)
-        ∙ ap (λ m. parts (acks ++ ack m (length (left_by (packets_to number) flight)) ∷ []) at (at - sent_at) (with_packets times link.delay_us stays no_flight) (acked_of givens + 1) (lost_of givens + m)) n_is
-        ∙ ap (λ acked. parts (acks ++ ack (lost_by (packets_to number) flight) (length (left_by (packets_to number) flight)) ∷ []) at (at - sent_at) (with_packets times link.delay_us stays no_flight) acked (lost_of givens + lost_by (packets_to number) flight)) (add_comm (acked_of givens) 1)
-        ∙ ap (parts (acks ++ ack (lost_by (packets_to number) flight) (length (left_by (packets_to number) flight)) ∷ []) at (at - sent_at) (with_packets times link.delay_us stays no_flight) (1 + acked_of givens)) (add_comm (lost_of givens) (lost_by (packets_to number) flight))
+        ∙ ap (λ m. parts acks at (ack m (length (left_by (packets_to number) flight))) (with_packets times link.delay_us stays no_flight) (acked_of givens + 1) (lost_of givens + m)) n_is
+        ∙ ap (λ acked. parts acks at (ack (lost_by (packets_to number) flight) (length (left_by (packets_to number) flight))) (with_packets times link.delay_us stays no_flight) acked (lost_of givens + lost_by (packets_to number) flight)) (add_comm (acked_of givens) 1)
+        ∙ ap (parts acks at (ack (lost_by (packets_to number) flight) (length (left_by (packets_to number) flight))) (with_packets times link.delay_us stays no_flight) (1 + acked_of givens)) (add_comm (lost_of givens) (lost_by (packets_to number) flight))
 
     -- the timeout
     timeout : (now lost : ℕ) → flight_kept.lost ≡ lost → lost ≡ length (in_flight packets givens)
@@ -198,11 +199,11 @@ module _ (times : List ℕ) (trace : IsTrace times) (link : FlowLink) (end past 
     timeout now lost lost_is count =
         let flight = in_flight packets givens in
         let none : left_by (all_below (length packets)) flight ≡ [] = left_by-all_below (length packets) flight settled.below in
-        let ack : ℕ → ℕ → Ack = λ n stay. timeout_ack_of link.mss now (sample_of givens) n stay (acked_of givens) (length packets) in
-        ap (λ n. parts (acks ++ ack n 0 ∷ []) now (sample_of givens) no_flight (acked_of givens) (lost_of givens + n)) (lost_is ∙ count)
-        ∙ ap (λ xs. parts (acks ++ ack (length flight) (length xs) ∷ []) now (sample_of givens) (with_packets times link.delay_us (packets_of xs) no_flight) (acked_of givens) (lost_of givens + length flight)) (sym none)
-        ∙ ap (parts (acks ++ ack (length flight) (length (left_by (all_below (length packets)) flight)) ∷ []) now (sample_of givens) (with_packets times link.delay_us (packets_of (left_by (all_below (length packets)) flight)) no_flight) (acked_of givens)) (add_comm (lost_of givens) (length flight))
-        ∙ ap (λ acked. parts (acks ++ ack (length flight) (length (left_by (all_below (length packets)) flight)) ∷ []) now (sample_of givens) (with_packets times link.delay_us (packets_of (left_by (all_below (length packets)) flight)) no_flight) acked (length flight + lost_of givens)) (let e : acked_of givens ≡ 0 + acked_of givens = omega arith in e)
+        let ack : ℕ → ℕ → Ack = λ n stay. timeout_ack_of link.mss now (past_of givens) n stay (acked_of givens) (length packets) in
+        ap (λ n. parts acks now (ack n 0) no_flight (acked_of givens) (lost_of givens + n)) (lost_is ∙ count)
+        ∙ ap (λ xs. parts acks now (ack (length flight) (length xs)) (with_packets times link.delay_us (packets_of xs) no_flight) (acked_of givens) (lost_of givens + length flight)) (sym none)
+        ∙ ap (parts acks now (ack (length flight) (length (left_by (all_below (length packets)) flight))) (with_packets times link.delay_us (packets_of (left_by (all_below (length packets)) flight)) no_flight) (acked_of givens)) (add_comm (lost_of givens) (length flight))
+        ∙ ap (λ acked. parts acks now (ack (length flight) (length (left_by (all_below (length packets)) flight))) (with_packets times link.delay_us (packets_of (left_by (all_below (length packets)) flight)) no_flight) acked (length flight + lost_of givens)) (let e : acked_of givens ≡ 0 + acked_of givens = omega arith in e)
 
     -- what these givens come to
     abbrev come_to : List Given → Answered

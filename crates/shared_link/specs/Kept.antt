@@ -6,7 +6,7 @@ use Rattle.link_model.specs.declared.arrival.Arrival.{Arrival}
 use Rattle.link_model.specs.declared.chance.Chance.{Chance}
 use Rattle.link_model.specs.Traces.{IsTrace}
 use Rattle.link_model.specs.Chances.{number_of, chance_time, first_chance}
-use Rattle.link_model.specs.Link.{Fate, Served, Given, chance_past, chances_past, is_marked, fate_of, arrival_ack_of, timeout_ack_of}
+use Rattle.link_model.specs.Link.{Fate, Served, Given, chance_past, chances_past, is_marked, fate_of, past_in, arrival_ack_of, timeout_ack_of}
 use Rattle.link_model.specs.Steps.{count_of}
 use Rattle.link_model.specs.Horizon.{ArriveWithin}
 use Rattle.shared_link.specs.declared.shared_case.FlowLink.{FlowLink}
@@ -23,7 +23,7 @@ use Rattle.shared_link.specs.Reached.{Settled}
 abbrev pub flow_in : FlowTraffic → FlowStanding
 flow_in flow = record {
   time = flow.time;
-  sample = flow.sample;
+  past = flow.past;
   flight = record { arrivals = flow.flight.items; lost = flow.lost; since = flow.since };
   sent = flow.sent;
   acked = flow.acked;
@@ -51,7 +51,7 @@ pub record IsFlowKept (link : FlowLink) (flow : FlowTraffic) : Type 0 where
 abbrev pub with_one : List ℕ → ℕ → ℕ → Fate → FlowStanding → FlowStanding
 with_one times delay now fate standing = record {
   time = standing.time;
-  sample = standing.sample;
+  past = standing.past;
   flight = with_fate times delay now fate standing.flight;
   sent = standing.sent + 1;
   acked = standing.acked;
@@ -98,14 +98,17 @@ abbrev pub answered_in : FlowTraffic → Answered
 answered_in flow = record { acks = flow.acks.items; standing = flow_in flow }
 
 -- the acknowledgement of the first packet in flight that isn't lost
+abbrev pub arrival_ack_to : FlowLink → Arrival → FlowStanding → Ack
+arrival_ack_to link arrival standing =
+    arrival_ack_of link.mss arrival.sent_at arrival.at arrival.marked standing.past arrival.lost
+    (count_of (drop 1 standing.flight.arrivals) standing.flight.lost) (standing.acked + 1) standing.sent
+
 abbrev pub with_arrival : FlowLink → Arrival → Answered → Answered
 with_arrival link arrival answered = record {
-  acks = answered.acks ++ arrival_ack_of link.mss arrival.sent_at arrival.at arrival.marked arrival.lost
-      (count_of (drop 1 answered.standing.flight.arrivals) answered.standing.flight.lost)
-      (answered.standing.acked + 1) answered.standing.sent ∷ [];
+  acks = answered.acks ++ arrival_ack_to link arrival answered.standing ∷ [];
   standing = record {
     time = arrival.at;
-    sample = arrival.at - arrival.sent_at;
+    past = past_in (arrival_ack_to link arrival answered.standing);
     flight = record {
       arrivals = drop 1 answered.standing.flight.arrivals;
       lost = answered.standing.flight.lost;
@@ -118,13 +121,16 @@ with_arrival link arrival answered = record {
 }
 
 -- the timeout at this time, where all packets in flight are lost
+abbrev pub timeout_ack_to : FlowLink → ℕ → FlowStanding → Ack
+timeout_ack_to link now standing =
+    timeout_ack_of link.mss now standing.past standing.flight.lost 0 standing.acked standing.sent
+
 abbrev pub with_timeout : FlowLink → ℕ → Answered → Answered
 with_timeout link now answered = record {
-  acks = answered.acks ++ timeout_ack_of link.mss now answered.standing.sample answered.standing.flight.lost 0
-      answered.standing.acked answered.standing.sent ∷ [];
+  acks = answered.acks ++ timeout_ack_to link now answered.standing ∷ [];
   standing = record {
     time = now;
-    sample = answered.standing.sample;
+    past = past_in (timeout_ack_to link now answered.standing);
     flight = no_flight;
     sent = answered.standing.sent;
     acked = answered.standing.acked;

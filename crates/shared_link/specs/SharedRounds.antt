@@ -3,7 +3,7 @@ use Rattle.std.specs.Prelude.{ℕ, zero, suc, ◌+◌, ◌*◌, max, Bool, true,
 use Rattle.ccp_base.specs.declared.ack.Ack.{Ack}
 use Rattle.ccp_base.specs.Limits.{most_flight}
 use Rattle.link_model.specs.Chances.{chance_time, first_chance}
-use Rattle.link_model.specs.Link.{Packet, Fate, Lost, Served, Given, packets_to, all_below, Numbered, Next, arrives, all_lost, allowance_of, waiting, chances_past, fate_of, is_lost, left_by, lost_by, in_flight, time_of, sample_of, acked_of, arrival_ack_of, timeout_ack_of}
+use Rattle.link_model.specs.Link.{Packet, Fate, Lost, Served, Given, packets_to, all_below, Numbered, Next, arrives, all_lost, allowance_of, waiting, chances_past, fate_of, is_lost, left_by, lost_by, in_flight, time_of, past_of, acked_of, arrival_ack_of, timeout_ack_of}
 use Rattle.link_model.specs.Counts.{lost_of}
 use Rattle.shared_link.specs.declared.shared_case.FlowLink.{FlowLink}
 use Rattle.shared_link.specs.declared.shared_case.SharedCase.{SharedCase}
@@ -123,7 +123,7 @@ next_before times delay end (sent ∷ rest) =
 abbrev pub arrival_given : List ℕ → FlowLink → List Packet → List Given → List Numbered → ℕ → ℕ → ℕ → Bool → Given
 arrival_given times link packets givens flight number sent_at chance marked = record {
   taking = packets_to number;
-  ack = arrival_ack_of link.mss sent_at (chance_time times chance + link.delay_us) marked
+  ack = arrival_ack_of link.mss sent_at (chance_time times chance + link.delay_us) marked (past_of givens)
       (lost_by (packets_to number) flight) (length (left_by (packets_to number) flight)) (acked_of givens + 1)
       (length packets);
 }
@@ -136,7 +136,7 @@ are_lost (sent ∷ rest) = is_lost sent.packet.fate && are_lost rest
 abbrev pub timeout_given : FlowLink → List Packet → List Given → List Numbered → ℕ → Given
 timeout_given link packets givens flight now = record {
   taking = all_below (length packets);
-  ack = timeout_ack_of link.mss now (sample_of givens) (length flight)
+  ack = timeout_ack_of link.mss now (past_of givens) (length flight)
       (length (left_by (all_below (length packets)) flight)) (acked_of givens) (length packets);
 }
 

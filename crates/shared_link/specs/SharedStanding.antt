@@ -1,8 +1,9 @@
 -- How a shared link stands after a list of rounds: what it keeps of all the packets and acknowledgements.
 use Rattle.std.specs.Prelude.{◌≡◌, ℕ, ◌+◌, ◌<◌, ◌==◌, if◌then◌else◌, List, [], ◌∷◌, ◌++◌, length, get_or}
 use Rattle.link_model.specs.declared.arrival.Arrival.{Arrival}
+use Rattle.link_model.specs.declared.past.Past.{Past}
 use Rattle.link_model.specs.Chances.{chance_time}
-use Rattle.link_model.specs.Link.{Packet, Fate, Lost, Served, Given, chances_past, in_flight, time_of, sample_of, acked_of}
+use Rattle.link_model.specs.Link.{Packet, Fate, Lost, Served, Given, chances_past, in_flight, time_of, past_of, acked_of}
 use Rattle.link_model.specs.Standing.{packets_of}
 use Rattle.link_model.specs.Counts.{lost_of}
 use Rattle.shared_link.specs.declared.shared_case.FlowLink.{FlowLink}
@@ -17,11 +18,11 @@ pub record Flight : Type 0 where
   pub lost : ℕ
   pub since : ℕ
 
--- what a link keeps of a flow: the time of its last acknowledgement, its last round-trip sample, its flight, and how
--- many of its packets were sent, were acknowledged and left as lost
+-- what a link keeps of a flow: the time of its last acknowledgement, what its later ones take from earlier ones, its
+-- flight, and how many of its packets were sent, were acknowledged and left as lost
 pub record FlowStanding : Type 0 where
   pub time : ℕ
-  pub sample : ℕ
+  pub past : Past
   pub flight : Flight
   pub sent : ℕ
   pub acked : ℕ
@@ -57,7 +58,7 @@ with_packets times delay (packet ∷ rest) flight =
 abbrev pub flow_standing : List ℕ → FlowLink → List Packet → List Given → FlowStanding
 flow_standing times link packets givens = record {
   time = time_of givens;
-  sample = sample_of givens;
+  past = past_of givens;
   flight = with_packets times link.delay_us (packets_of (in_flight packets givens)) no_flight;
   sent = length packets;
   acked = acked_of givens;

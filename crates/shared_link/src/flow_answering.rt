@@ -7,7 +7,7 @@ use crate::flow_sending::PACKETS;
 use crate::flow_traffic::FlowTraffic;
 use crate::shared_case::FlowLink;
 use ccp_base::{Acks, NoMemory, Sequence};
-use link_model::{Arrival, arrival_ack, timeout_ack};
+use link_model::{Arrival, Past, arrival_ack, timeout_ack};
 use std::alloc::Global;
 
 impl FlowTraffic {
@@ -114,8 +114,15 @@ impl FlowTraffic {
         self.acked += 1;
         self.gone += arrival.lost;
         self.time = arrival.at;
-        self.sample = arrival.at - arrival.sent_at;
-        let ack = arrival_ack(link.mss, arrival, self.in_flight, self.acked, self.sent);
+        let ack = arrival_ack(
+            link.mss,
+            arrival,
+            self.past,
+            self.in_flight,
+            self.acked,
+            self.sent,
+        );
+        self.past = Past::after(&ack);
         self.acks.push_reserved(ack);
     }
 
@@ -144,7 +151,8 @@ impl FlowTraffic {
         self.since = 0;
         self.in_flight = 0;
         self.gone += lost;
-        let ack = timeout_ack(link.mss, now, self.sample, lost, self.acked, self.sent);
+        let ack = timeout_ack(link.mss, now, self.past, lost, self.acked, self.sent);
+        self.past = Past::after(&ack);
         self.acks.push_reserved(ack);
     }
 }

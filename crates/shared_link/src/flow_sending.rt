@@ -10,7 +10,7 @@ use crate::flow_traffic::FlowTraffic;
 use crate::sending::Sending;
 use crate::shared_case::FlowLink;
 use circular_buffer::HeapCircularBuffer;
-use link_model::{Arrival, Trace, is_at, is_marked, next_loss};
+use link_model::{Arrival, Past, Trace, is_at, is_marked, next_loss};
 use std::alloc::{AllocError, Global};
 
 /// The most packets in flight.
@@ -33,7 +33,7 @@ impl FlowTraffic {
         let flight = HeapCircularBuffer::with_capacity(alloc, PACKETS)?;
         Ok(FlowTraffic {
             time: 0,
-            sample: 0,
+            past: Past::none(),
             flight,
             lost: 0,
             since: 0,

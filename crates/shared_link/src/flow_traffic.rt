@@ -1,14 +1,14 @@
 use ccp_base::Ack;
 use circular_buffer::HeapCircularBuffer;
-use link_model::Arrival;
+use link_model::{Arrival, Past};
 
 /// What is under way of a flow.
 #[derive(Drop)]
 pub(crate) struct FlowTraffic {
     /// The time of its last acknowledgement, in microseconds.
     pub(crate) time: u64,
-    /// Its last round-trip sample, in microseconds.
-    pub(crate) sample: u64,
+    /// What its later acknowledgements take from earlier ones.
+    pub(crate) past: Past,
     /// Its packets in flight that aren't lost, in the order of their numbers.
     pub(crate) flight: HeapCircularBuffer<Arrival>,
     /// How many lost packets lie after them.

@@ -1,0 +1,31 @@
+ghost use Rattle.std.specs.Prelude.{◌≡◌};
+ghost use Rattle.link_model.specs.Link.{no_past, past_in};
+
+use ccp_base::Ack;
+
+/// What later acknowledgements take from earlier ones.
+#[derive(Clone, Copy, PartialEq, Eq, Debug)]
+pub struct Past {
+    /// The last round-trip sample, in microseconds, 0 where there was none.
+    pub rtt_sample_us: u64,
+}
+
+impl Past {
+    /// Nothing was acknowledged yet.
+    #[inline]
+    pub fn none() -> Past
+        ensures { result ≡ no_past }
+    {
+        Past { rtt_sample_us: 0 }
+    }
+
+    /// What those after this acknowledgement take.
+    #[inline(always)]
+    pub fn after(ack: &Ack) -> Past
+        ensures { result ≡ past_in ack.entry.now }
+    {
+        Past {
+            rtt_sample_us: ack.rtt_sample_us,
+        }
+    }
+}
