@@ -7,7 +7,7 @@ use Rattle.link_model.specs.Traces.{period, IsTrace}
 use Rattle.link_model.specs.Chances.{chance_time, first_chance}
 use Rattle.link_model.specs.Standing.{Standing, arrival_by}
 use Rattle.link_model.specs.Steps.{count_of, with_lost, with_served, chance_now}
-use Rattle.link_model.specs.Horizon.{horizon, ArriveWithin, IsTimely}
+use Rattle.link_model.specs.Horizon.{horizon, ArriveWithin, ArriveInOrder, IsTimely}
 use Rattle.link_model.proofs.ChanceLemmas.{chance_time_rises, chance_time-suc, first_chance_soon, le_first_chance}
 
 pub ArriveWithin-more : (limit more : ℕ) (arrivals : List Arrival) → limit ≤ more → ArriveWithin limit arrivals → ArriveWithin more arrivals
@@ -17,6 +17,12 @@ ArriveWithin-more limit more (arrival ∷ rest) order within = (within.0, omega 
 pub ArriveWithin-push : (limit : ℕ) (arrivals : List Arrival) (last : Arrival) → ArriveWithin limit arrivals → last.sent_at ≤ last.at → last.at ≤ limit → ArriveWithin limit (arrivals ++ last ∷ [])
 ArriveWithin-push limit [] last within order bound = (order, bound, tt)
 ArriveWithin-push limit (arrival ∷ rest) last within order bound = (within.0, within.1, ArriveWithin-push limit rest last within.2 order bound)
+
+-- one more packet that arrives after all others
+pub ArriveInOrder-push : (from limit more : ℕ) (arrivals : List Arrival) (last : Arrival) → ArriveInOrder from limit arrivals → from ≤ last.at → limit ≤ last.at → last.at ≤ more → ArriveInOrder from more (arrivals ++ last ∷ [])
+ArriveInOrder-push from limit more [] last order early after bound = (early, bound, tt)
+ArriveInOrder-push from limit more (arrival ∷ rest) last order early after bound =
+    (order.0, omega (arith, order.1, after, bound), ArriveInOrder-push arrival.at limit more rest last order.2 (omega (arith, order.1, after)) after bound)
 
 -- each packet that isn't lost is in flight
 pub length_le_count : (arrivals : List Arrival) (lost : ℕ) → length arrivals + lost ≤ count_of arrivals lost

@@ -12,4 +12,5 @@ pub mod Compact
 pub mod LossLemmas
 pub mod HorizonLemmas
 pub mod SendingLemmas
+pub mod LineLemmas
 mod WorkedRows

@@ -5,13 +5,13 @@ use Rattle.std.proofs.lemmas.Bool.Decides.{nat_tests}
 use Rattle.link_model.specs.declared.link_case.LinkCase.{LinkCase}
 use Rattle.link_model.specs.declared.arrival.Arrival.{Arrival}
 use Rattle.link_model.specs.declared.chance.Chance.{Chance}
-use Rattle.link_model.specs.declared.queue.Queue.{Queue}
+use Rattle.link_model.specs.declared.line.Line.{Line}
 use Rattle.link_model.specs.declared.traffic.Traffic.{Traffic}
 use Rattle.link_model.specs.Traces.{IsTrace}
 use Rattle.link_model.specs.Chances.{number_of, chance_time, first_chance}
 use Rattle.link_model.specs.Link.{Lost, Served, is_listed, is_marked, arrival_of}
 use Rattle.link_model.specs.Standing.{Standing}
-use Rattle.link_model.specs.Steps.{standing_in, with_lost, with_served, with_fate, with_packet, waiting_now, chance_now, sending, IsQueue}
+use Rattle.link_model.specs.Steps.{standing_in, with_lost, with_served, with_fate, with_packet, waiting_now, chance_now, sending}
 use Rattle.link_model.proofs.ChanceLemmas.{first_chance_le, le_first_chance}
 
 -- ---- the queue at one time, by when a chance comes
@@ -134,45 +134,21 @@ served_as standing arrivals chance = record {
   calls = standing.calls;
 }
 
-module _ (case : LinkCase) (old : Traffic) (queue : Queue) (is : IsQueue case (standing_in case.trace old) queue) where
-  pub served_standing : (own : ℕ) (marked : Bool) (arrivals : List Arrival) (next : Chance) → own ≡ chance_time case.trace (number_of case.trace queue.next)
-      → marked ≡ is_marked case.mark queue.waiting → arrivals ≡ old.flight.items ++ record { lost = old.lost; sent_at = old.time; at = own + case.delay_us; marked = marked } ∷ []
-      → number_of case.trace next ≡ number_of case.trace queue.next + 1
-      → served_as (standing_in case.trace old) arrivals (number_of case.trace next)
-      ≡ with_served case (chance_now case (standing_in case.trace old)) (is_marked case.mark (waiting_now case (standing_in case.trace old))) (standing_in case.trace old)
-  served_standing own marked arrivals next own_is marked_is arrivals_are next_is =
-      let standing = standing_in case.trace old in
-      let chance = chance_now case standing in
-      let last : ℕ → Bool → List Arrival = λ at m. old.flight.items ++ record { lost = old.lost; sent_at = old.time; at = at; marked = m } ∷ [] in
-      let at_is : own + case.delay_us ≡ arrival_of case chance = ap (λ t. t + case.delay_us) own_is ∙ ap (arrival_of case) is.next in
-      let m_is : marked ≡ is_marked case.mark (waiting_now case standing) = marked_is ∙ ap (is_marked case.mark) is.waiting in
-      let number : number_of case.trace next ≡ chance + 1 = next_is ∙ ap (λ k. k + 1) is.next in
-      ap (λ xs. served_as standing xs (number_of case.trace next)) (arrivals_are ∙ ap (λ t. last t marked) at_is ∙ ap (last (arrival_of case chance)) m_is)
-      ∙ ap (served_as standing (last (arrival_of case chance) (is_marked case.mark (waiting_now case standing)))) number
-
-  pub served_next : (next : Chance) → number_of case.trace next ≡ number_of case.trace queue.next + 1
-      → number_of case.trace next ≡ max (number_of case.trace next) (first_chance case.trace old.time 0)
-  served_next next next_is = omega (arith, is.next)
-
-  pub served_more : IsTrace case.trace → (next : Chance) → number_of case.trace next ≡ number_of case.trace queue.next + 1 → old.time < chance_time case.trace (number_of case.trace queue.next)
-      → queue.waiting + 1 ≡ number_of case.trace next - first_chance case.trace (old.time + 1) 0
-  served_more trace next next_is late =
-      let chance = number_of case.trace old.next in
-      let late_now = subst (λ k. old.time < chance_time case.trace k) is.next late in
-      let more = one_more case.trace trace old.time chance late_now in
-      let waits = is.waiting in
-      let own = is.next in
-      omega (arith, more, waits, own, next_is)
-
-  pub served_no_more : IsTrace case.trace → (next : Chance) → number_of case.trace next ≡ number_of case.trace queue.next + 1 → chance_time case.trace (number_of case.trace queue.next) ≤ old.time
-      → queue.waiting ≡ number_of case.trace next - first_chance case.trace (old.time + 1) 0
-  served_no_more trace next next_is early =
-      let chance = number_of case.trace old.next in
-      let early_now = subst (λ k. chance_time case.trace k ≤ old.time) is.next early in
-      let more = no_more case.trace trace old.time chance early_now in
-      let waits = is.waiting in
-      let own = is.next in
-      omega (arith, more, waits, own, next_is)
+pub served_standing : (case : LinkCase) (old : Traffic) (line : Line) (marked : Bool) (arrivals : List Arrival) (next : Chance)
+    → line.next.at ≡ chance_time case.trace (number_of case.trace line.next.chance) → number_of case.trace line.next.chance ≡ chance_now case (standing_in case.trace old) → line.waiting ≡ waiting_now case (standing_in case.trace old)
+    → marked ≡ is_marked case.mark line.waiting → arrivals ≡ old.flight.items ++ record { lost = old.lost; sent_at = old.time; at = line.next.at + case.delay_us; marked = marked } ∷ []
+    → number_of case.trace next ≡ number_of case.trace line.next.chance + 1
+    → served_as (standing_in case.trace old) arrivals (number_of case.trace next)
+    ≡ with_served case (chance_now case (standing_in case.trace old)) (is_marked case.mark (waiting_now case (standing_in case.trace old))) (standing_in case.trace old)
+served_standing case old line marked arrivals next own_is chance_is waits marked_is arrivals_are next_is =
+    let standing = standing_in case.trace old in
+    let chance = chance_now case standing in
+    let last : ℕ → Bool → List Arrival = λ at m. old.flight.items ++ record { lost = old.lost; sent_at = old.time; at = at; marked = m } ∷ [] in
+    let at_is : line.next.at + case.delay_us ≡ arrival_of case chance = ap (λ t. t + case.delay_us) own_is ∙ ap (arrival_of case) chance_is in
+    let m_is : marked ≡ is_marked case.mark (waiting_now case standing) = marked_is ∙ ap (is_marked case.mark) waits in
+    let number : number_of case.trace next ≡ chance + 1 = next_is ∙ ap (λ k. k + 1) chance_is in
+    ap (λ xs. served_as standing xs (number_of case.trace next)) (arrivals_are ∙ ap (λ t. last t marked) at_is ∙ ap (last (arrival_of case chance)) m_is)
+    ∙ ap (served_as standing (last (arrival_of case chance) (is_marked case.mark (waiting_now case standing)))) number
 
 -- ---- an acknowledgement
 

@@ -6,6 +6,7 @@ use Rattle.link_model.specs.declared.arrival.Arrival.{Arrival}
 use Rattle.link_model.specs.declared.traffic.Traffic.{Traffic}
 use Rattle.link_model.specs.Traces.{IsTrace}
 use Rattle.link_model.specs.Chances.{chance_time}
+use Rattle.link_model.specs.Lines.{IsLine}
 use Rattle.link_model.specs.Standing.{Standing}
 use Rattle.link_model.specs.Steps.{count_of, standing_in}
 
@@ -18,18 +19,24 @@ abbrev pub ArriveWithin : ℕ → List Arrival → Type 0
 ArriveWithin limit [] = Unit {0}
 ArriveWithin limit (arrival ∷ rest) = (arrival.sent_at ≤ arrival.at) × (arrival.at ≤ limit) × ArriveWithin limit rest
 
+-- the packets arrive one after another, from one time on up to another
+abbrev pub ArriveInOrder : ℕ → ℕ → List Arrival → Type 0
+ArriveInOrder from limit [] = Unit {0}
+ArriveInOrder from limit (arrival ∷ rest) = (from ≤ arrival.at) × (arrival.at ≤ limit) × ArriveInOrder arrival.at limit rest
+
 -- the times of a link are within its horizon
 pub record IsTimely (case : LinkCase) (standing : Standing) : Type 0 where
   pub time : standing.time ≤ horizon standing.sent standing.calls
   pub chances : (k : ℕ) → k < standing.chance → chance_time case.trace k ≤ horizon standing.sent standing.calls
   pub arrivals : ArriveWithin (horizon standing.sent standing.calls + case.delay_us) standing.arrivals
 
--- what a link keeps beside how it stands: the room for packets, how many are in flight, and how many of the losses
--- listed have numbers below the next packet's
+-- what a link keeps beside how it stands: the room for packets, the line of those that wait, how many are in flight, and
+-- how many of the losses listed have numbers below the next packet's; the next packet arrives after those in flight
 pub record IsKept (case : LinkCase) (traffic : Traffic) : Type 0 where
   pub valid : IsTrace case.trace
   pub capacity : traffic.flight.capacity ≡ most_flight
-  pub place : traffic.next.place < length case.trace
+  pub line : IsLine case.trace traffic.time traffic.line
+  pub order : ArriveInOrder traffic.time (traffic.line.next.at + case.delay_us) traffic.flight.items
   pub count : traffic.in_flight ≡ count_of traffic.flight.items traffic.lost
   pub few : traffic.in_flight ≤ most_flight
   pub passed : (i : ℕ) → i < traffic.passed → slice_index case.losses i < traffic.sent

@@ -2,6 +2,7 @@
 pub mod Chances
 pub mod Counts
 pub mod Horizon
+pub mod Lines
 pub mod Link
 pub mod LinkLaws
 pub mod Standing

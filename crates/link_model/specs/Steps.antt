@@ -4,7 +4,6 @@ use Rattle.ccp_base.specs.declared.ack.Ack.{Ack}
 use Rattle.link_model.specs.declared.link_case.LinkCase.{LinkCase}
 use Rattle.link_model.specs.declared.arrival.Arrival.{Arrival}
 use Rattle.link_model.specs.declared.traffic.Traffic.{Traffic}
-use Rattle.link_model.specs.declared.queue.Queue.{Queue}
 use Rattle.link_model.specs.Chances.{first_chance, number_of}
 use Rattle.link_model.specs.Link.{Fate, Lost, Served, allowance, is_marked, fate_by, past_in, timeout_ack}
 use Rattle.link_model.specs.Standing.{Standing, arrival_by, ack_at}
@@ -21,7 +20,7 @@ standing_in times traffic = record {
   past = traffic.past;
   arrivals = traffic.flight.items;
   lost = traffic.lost;
-  chance = number_of times traffic.next;
+  chance = number_of times traffic.line.next.chance;
   sent = traffic.sent;
   acked = traffic.acked;
   calls = traffic.calls;
@@ -81,12 +80,6 @@ with_packet case standing =
 abbrev pub sending : LinkCase → ℕ → Standing → Standing
 sending case zero standing = standing
 sending case (suc more) standing = sending case more (with_packet case standing)
-
--- the queue as a link stands
-pub record IsQueue (case : LinkCase) (standing : Standing) (queue : Queue) : Type 0 where
-  pub place : queue.next.place < length case.trace
-  pub next : number_of case.trace queue.next ≡ chance_now case standing
-  pub waiting : queue.waiting ≡ waiting_now case standing
 
 -- ---- acknowledging
 

@@ -1,6 +1,7 @@
 ghost use Rattle.std.specs.Prelude.{IsTrue, ◌≡◌, ◌+◌, ◌-◌, ◌*◌, ◌%◌, ◌^◌, ◌<◌, ◌≤◌, ℕ, length, slice_index};
 ghost use Rattle.link_model.specs.Traces.{IsTrace, period};
 ghost use Rattle.link_model.specs.Chances.{number_of, IsFirstChance, chance_time, first_chance};
+ghost use Rattle.link_model.specs.Lines.{IsComing};
 
 use crate::trace::Trace;
 
@@ -9,6 +10,14 @@ use crate::trace::Trace;
 pub struct Chance {
     pub turn: u64,
     pub place: usize,
+}
+
+/// A chance, and when it comes.
+#[derive(Clone, Copy, PartialEq, Eq, Debug)]
+pub(crate) struct Coming {
+    pub(crate) chance: Chance,
+    /// In microseconds.
+    pub(crate) at: u64,
 }
 
 impl Trace {
@@ -32,6 +41,48 @@ impl Trace {
         ensures place { result.place < length self.now }
     {
         after(self.as_slice(), chance)
+    }
+
+    /// The chance after one whose time is known, and its time.
+    #[inline(always)]
+    pub(crate) fn coming_after(&self, coming: Coming) -> Coming
+        requires coming { IsComing self.now coming }
+        requires fits { chance_time self.now (number_of self.now coming.chance + 1) < 2 ^ 64 }
+        ensures coming { IsComing self.now result }
+        ensures number { number_of self.now result.chance ≡ number_of self.now coming.chance + 1 }
+    {
+        coming_after(self.as_slice(), coming)
+    }
+
+    /// The first chance at or after a time, in microseconds, where this one comes before it. The one after that is
+    /// looked at first.
+    #[inline(always)]
+    pub(crate) fn due(&self, coming: Coming, now: u64) -> Coming
+        requires valid { IsTrace self.now }
+        requires coming { IsComing self.now coming }
+        requires early { coming.at < now }
+        requires time { now + 3600001000 < 2 ^ 64 }
+        ensures coming { IsComing self.now result }
+        ensures first { IsFirstChance self.now now 0 (number_of self.now result.chance) }
+    {
+        let after = self.coming_after(coming);
+        if after.at >= now {
+            return after;
+        }
+        self.searched(now, coming.chance.place)
+    }
+
+    /// The first chance at or after a time, in microseconds. It is looked for at the place `near` first.
+    #[inline(never)]
+    fn searched(&self, now: u64, near: usize) -> Coming
+        requires valid { IsTrace self.now }
+        requires time { now + 3600001000 < 2 ^ 64 }
+        ensures coming { IsComing self.now result }
+        ensures first { IsFirstChance self.now now 0 (number_of self.now result.chance) }
+    {
+        let chance = self.first_chance(now, near);
+        let at = self.time_of(chance);
+        Coming { chance, at }
     }
 
     /// How many chances there are from one on, up to another one that isn't before it.
@@ -103,6 +154,33 @@ fn after(times: &[u32], chance: Chance) -> Chance
     Chance {
         turn: chance.turn + 1,
         place: 0,
+    }
+}
+
+/// The chance after one whose time is known, and its time.
+#[inline(always)]
+fn coming_after(times: &[u32], coming: Coming) -> Coming
+    requires valid { IsTrace times.now }
+    requires coming { IsComing times.now coming }
+    requires fits { chance_time times.now (number_of times.now coming.chance + 1) < 2 ^ 64 }
+    ensures coming { IsComing times.now result }
+    ensures number { number_of times.now result.chance ≡ number_of times.now coming.chance + 1 }
+{
+    let turn = coming.chance.turn;
+    let place = coming.chance.place + 1;
+    if place < times.len() {
+        let gap = times[place] - times[coming.chance.place];
+        return Coming {
+            chance: Chance { turn, place },
+            at: coming.at + 1000 * u64::from(gap),
+        };
+    }
+    Coming {
+        chance: Chance {
+            turn: turn + 1,
+            place: 0,
+        },
+        at: coming.at + 1000 * u64::from(times[0]),
     }
 }
 

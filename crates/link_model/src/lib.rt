@@ -3,6 +3,7 @@
 
 mod arrival;
 mod chance;
+mod line;
 mod link;
 mod link_case;
 mod past;

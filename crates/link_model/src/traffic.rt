@@ -1,14 +1,14 @@
 ghost use Rattle.std.specs.Prelude.{◌≡◌, ℕ, ◌+◌, ◌-◌, ◌*◌, ◌^◌, ◌<◌, ◌≤◌, [], ◌∷◌, ◌++◌, length, IfOk};
 ghost use Rattle.ccp_base.specs.Limits.{most_flight, most_acks};
 ghost use Rattle.link_model.specs.Standing.{first_standing};
-ghost use Rattle.link_model.specs.Steps.{standing_in, TakesStep, SendsOn, with_lost, served_now, sending, IsQueue, ack_of, after_ack};
+ghost use Rattle.link_model.specs.Steps.{standing_in, TakesStep, SendsOn, with_lost, served_now, sending, ack_of, after_ack};
+ghost use Rattle.link_model.specs.Lines.{IsMovedTo};
 ghost use Rattle.link_model.specs.Horizon.{IsKept, IsCounted};
 
 use crate::arrival::Arrival;
-use crate::chance::Chance;
+use crate::line::Line;
 use crate::link_case::LinkCase;
 use crate::past::Past;
-use crate::queue::Queue;
 use ccp_base::Ack;
 use circular_buffer::HeapCircularBuffer;
 use std::alloc::{AllocError, Global};
@@ -29,8 +29,8 @@ pub(crate) struct Traffic {
     pub(crate) lost: u64,
     /// How many packets are in flight, lost ones counted.
     pub(crate) in_flight: u64,
-    /// The chance after the last one that a packet got.
-    pub(crate) next: Chance,
+    /// The packets that wait for their chances, and the chance after the last one that a packet got.
+    pub(crate) line: Line,
     /// How many packets were sent.
     pub(crate) sent: u64,
     /// How many packets were acknowledged.
@@ -39,8 +39,6 @@ pub(crate) struct Traffic {
     pub(crate) calls: u32,
     /// How many of the losses listed have numbers below the next packet's; it may lag behind.
     pub(crate) passed: usize,
-    /// The place in the trace of the last chance that was searched.
-    pub(crate) near: usize,
 }
 
 impl Traffic {
@@ -51,7 +49,7 @@ impl Traffic {
         ensures standing { IfOk result (λ t. standing_in case.now.trace t ≡ first_standing case.now) }
         ensures calls { IfOk result (λ t. t.calls ≡ 0) }
     {
-        let times = case.trace.as_slice();
+        let _ = case.trace.as_slice();
         let flight = HeapCircularBuffer::with_capacity(alloc, PACKETS)?;
         Ok(Traffic {
             time: 0,
@@ -59,12 +57,11 @@ impl Traffic {
             flight,
             lost: 0,
             in_flight: 0,
-            next: Chance { turn: 0, place: 0 },
+            line: Line::new(&case.trace),
             sent: 0,
             acked: 0,
             calls: 0,
             passed: 0,
-            near: times.len() - 1,
         })
     }
 
@@ -85,26 +82,25 @@ impl Traffic {
         if more == 0 {
             return;
         }
-        let mut queue = case.trace.queue(self.next, self.time, self.near);
-        self.near = queue.near;
+        self.line = self.line.moved_to(&case.trace, self.time);
         let mut left = more;
         while left > 0 {
-            left = self.send_some(case, &mut queue, left);
+            left = self.send_some(case, left);
         }
     }
 
     /// Sends one packet of so many, or all of them where the queue is full. Answers how many are left to be sent.
     #[inline(always)]
-    fn send_some(&mut self, case: &LinkCase, queue: &mut Queue, left: u64) -> u64
+    fn send_some(&mut self, case: &LinkCase, left: u64) -> u64
         requires kept { IsKept case.now self.old }
-        requires queue { IsQueue case.now (standing_in case.now.trace self.old) queue.old }
+        requires moved { IsMovedTo self.old.time self.old.line }
         requires some { 0 < left }
         requires room { self.old.in_flight + left ≤ most_flight }
         requires sent { self.old.sent + left ≤ 2 ^ 28 }
         requires calls { self.old.calls ≤ most_acks }
         ensures sending { SendsOn case.now left self.old result self.new }
         ensures kept { IsKept case.now self.new }
-        ensures queue { IsQueue case.now (standing_in case.now.trace self.new) queue.new }
+        ensures moved { IsMovedTo self.new.time self.new.line }
         ensures fewer { result < left }
         ensures in_flight { self.new.in_flight + result ≡ self.old.in_flight + left }
         ensures sent { self.new.sent + result ≡ self.old.sent + left }
@@ -116,11 +112,11 @@ impl Traffic {
             self.lose(case, 1);
             return left - 1;
         }
-        if queue.waiting >= u128::from(case.queue) {
+        if self.line.waiting >= u64::from(case.queue) {
             self.lose(case, left);
             return 0;
         }
-        self.serve(case, queue);
+        self.serve(case);
         left - 1
     }
 
@@ -132,6 +128,8 @@ impl Traffic {
         requires sent { self.old.sent + more ≤ 2 ^ 28 }
         ensures standing { TakesStep case.now (with_lost more) self.old self.new }
         ensures kept { IsKept case.now self.new }
+        ensures line { self.new.line ≡ self.old.line }
+        ensures time { self.new.time ≡ self.old.time }
         ensures in_flight { self.new.in_flight ≡ self.old.in_flight + more }
         ensures sent { self.new.sent ≡ self.old.sent + more }
         ensures acked { self.new.acked ≡ self.old.acked }
@@ -143,39 +141,35 @@ impl Traffic {
         self.sent += more;
     }
 
-    /// Sends a packet that gets the queue's next chance.
+    /// Sends a packet that gets the next chance of the line.
     #[inline(always)]
-    fn serve(&mut self, case: &LinkCase, queue: &mut Queue)
+    fn serve(&mut self, case: &LinkCase)
         requires kept { IsKept case.now self.old }
-        requires queue { IsQueue case.now (standing_in case.now.trace self.old) queue.old }
-        requires waiting { queue.old.waiting < most_flight }
+        requires moved { IsMovedTo self.old.time self.old.line }
+        requires few { self.old.line.waiting < most_flight }
         requires room { self.old.in_flight + 1 ≤ most_flight }
         requires sent { self.old.sent + 1 ≤ 2 ^ 28 }
         requires calls { self.old.calls ≤ most_acks }
         ensures standing { TakesStep case.now (served_now case.now) self.old self.new }
         ensures kept { IsKept case.now self.new }
-        ensures queue { IsQueue case.now (standing_in case.now.trace self.new) queue.new }
+        ensures moved { IsMovedTo self.new.time self.new.line }
         ensures in_flight { self.new.in_flight ≡ self.old.in_flight + 1 }
         ensures sent { self.new.sent ≡ self.old.sent + 1 }
         ensures acked { self.new.acked ≡ self.old.acked }
         ensures calls { self.new.calls ≡ self.old.calls }
     {
-        let own = case.trace.time_of(queue.next);
+        let line = self.line.due(&case.trace, self.time);
         let arrival = Arrival {
             lost: self.lost,
             sent_at: self.time,
-            at: own + case.delay_us,
-            marked: case.marks(queue.waiting),
+            at: line.next.at + case.delay_us,
+            marked: case.marks(u128::from(line.waiting)),
         };
         put(&mut self.flight, arrival);
         self.lost = 0;
         self.in_flight += 1;
         self.sent += 1;
-        self.next = case.trace.after(queue.next);
-        queue.next = self.next;
-        if own > self.time {
-            queue.waiting += 1;
-        }
+        self.line = line.taken(&case.trace, self.time);
     }
 
     /// Acknowledges the first packet in flight that isn't lost, or times out where there is none.

@@ -1,8 +1,9 @@
 use Rattle.std.proofs.Common.{◌≤◌, ◌+◌, List, drop, ap, subst, sym, ◌∙◌, arith}
 use Rattle.link_model.specs.declared.arrival.Arrival.{Arrival}
 use Rattle.link_model.specs.Steps.{count_of}
-use Rattle.link_model.specs.Horizon.{horizon, ArriveWithin}
+use Rattle.link_model.specs.Horizon.{horizon, ArriveWithin, ArriveInOrder}
 use Rattle.link_model.proofs.HorizonLemmas.{ArriveWithin-more}
+use Rattle.link_model.proofs.LineLemmas.{is_line-later}
 use Rattle.link_model.proofs.SendingLemmas.{first_of}
 use Rattle.link_model.proofs.traffic.Traffic.acknowledge.Goals as goal
 
@@ -19,11 +20,13 @@ returns-clause-kept c =
     let all = first_of old.flight.items first (sym c.pop_front.ensures.value ∙ c.in-Some.is) in
     let count = ap (λ xs. count_of xs old.lost) all in
     let within = subst (λ (xs : List Arrival). ArriveWithin limit xs) all kept.timely.arrivals in
+    let order = subst (λ (xs : List Arrival). ArriveInOrder old.time (old.line.next.at + case.delay_us) xs) all kept.order in
     let later : limit ≤ horizon old.sent (old.calls + 1) = omega (arith, case.delay_within) in
     record {
       valid = kept.valid;
       capacity = ap (λ b. b.capacity) buffer ∙ kept.capacity;
-      place = kept.place;
+      line = is_line-later case.trace old.time first.at old.line order.0 kept.line;
+      order = subst (λ (xs : List Arrival). ArriveInOrder first.at (old.line.next.at + case.delay_us) xs) (sym items) order.2;
       count = omega (arith, kept.count, count, ap (λ xs. count_of xs old.lost) items);
       few = omega (arith, kept.few);
       passed = kept.passed;

@@ -15,7 +15,8 @@ returns-clause-kept c =
     record {
       valid = kept.valid;
       capacity = kept.capacity;
-      place = kept.place;
+      line = kept.line;
+      order = kept.order;
       count = omega (arith, kept.count, count-lost old.flight.items old.lost c.args.more);
       few = c.requires.room;
       passed = λ i below. omega (arith, kept.passed i below);

@@ -1,107 +1,61 @@
-use Rattle.std.proofs.Common.{◌+◌, refl, ap, subst, sym, arith}
+use Rattle.std.proofs.Common.{List, ◌+◌, ◌∙◌, refl, ap, subst, sym, arith}
 use Rattle.link_model.specs.declared.arrival.Arrival.{Arrival}
 use Rattle.link_model.specs.Chances.{chance_time}
 use Rattle.link_model.specs.Link.{is_marked}
 use Rattle.link_model.specs.Standing.{Standing}
 use Rattle.link_model.specs.Steps.{count_of, standing_in, waiting_now}
-use Rattle.link_model.specs.Horizon.{IsTimely}
-use Rattle.link_model.proofs.ChanceLemmas.{turn_below}
-use Rattle.link_model.proofs.HorizonLemmas.{length_le_count, count-push, now_soon, is_timely-served}
-use Rattle.link_model.proofs.SendingLemmas.{served_standing, served_next, served_more, served_no_more}
+use Rattle.link_model.specs.Horizon.{ArriveInOrder, IsTimely}
+use Rattle.link_model.proofs.HorizonLemmas.{length_le_count, count-push, now_soon, is_timely-served, ArriveInOrder-push}
+use Rattle.link_model.proofs.LineLemmas.{waiting_is}
+use Rattle.link_model.proofs.SendingLemmas.{served_standing}
 use Rattle.link_model.proofs.traffic.Traffic.serve.Goals as goal
-
-pub time_of-own-requires-clause-fits : goal.time_of-own-requires-clause-fits
-time_of-own-requires-clause-fits c =
-    let case = c.args.case.now in
-    let same = ap (chance_time case.trace) c.requires.queue.next in
-    omega (arith, same, now_soon case c.requires.kept.valid (standing_in case.trace c.args.self.now) c.requires.kept.timely, c.requires.sent, c.requires.calls)
 
 pub overflow_add-arrival : goal.overflow_add-arrival
 overflow_add-arrival c =
     let case = c.args.case.now in
-    let same = ap (chance_time case.trace) c.requires.queue.next in
-    omega (arith, c.time_of-own.ensures.time, same, case.delay_within, now_soon case c.requires.kept.valid (standing_in case.trace c.args.self.now) c.requires.kept.timely, c.requires.sent, c.requires.calls)
+    let same = ap (chance_time case.trace) c.due-line.ensures.next in
+    omega (arith, c.due-line.ensures.line.next.at, same, case.delay_within, now_soon case c.requires.kept.valid (standing_in case.trace c.args.self.now) c.requires.kept.timely, c.requires.sent, c.requires.calls)
 
 pub put-requires-clause-room : goal.put-requires-clause-room
 put-requires-clause-room c =
     let old = c.args.self.now in
     omega (arith, length_le_count old.flight.items old.lost, c.requires.kept.count, c.requires.room)
 
-pub after-self-requires-clause-fits : goal.after-self-requires-clause-fits
-after-self-requires-clause-fits c =
+pub taken-self-requires-clause-time : goal.taken-self-requires-clause-time
+taken-self-requires-clause-time c =
     let case = c.args.case.now in
-    let next = c.args.queue.now.next in
-    let same = ap (chance_time case.trace) c.requires.queue.next in
-    omega (arith, same, turn_below case.trace c.requires.kept.valid next.turn next.place c.requires.queue.place, now_soon case c.requires.kept.valid (standing_in case.trace c.args.self.now) c.requires.kept.timely, c.requires.sent, c.requires.calls)
+    let same = ap (chance_time case.trace) c.due-line.ensures.next in
+    omega (arith, c.due-line.ensures.line.next.at, same, now_soon case c.requires.kept.valid (standing_in case.trace c.args.self.now) c.requires.kept.timely, c.requires.sent, c.requires.calls)
 
-pub returns-then-own-self-clause-standing : goal.returns-then-own-self-clause-standing
-returns-then-own-self-clause-standing c =
+pub returns-clause-standing : goal.returns-clause-standing
+returns-clause-standing c =
     let case = c.args.case.now in
     let old = c.args.self.now in
-    served_standing case old c.args.queue.now c.requires.queue c.time_of-own.result c.marks.result c.put.new.flight.items c.after-self.result
-    c.time_of-own.ensures.time c.marks.ensures c.put.ensures.items c.after-self.ensures.number
+    let waits = c.due-line.ensures.waiting ∙ waiting_is case.trace c.requires.kept.valid old.time old.line c.requires.kept.line c.requires.moved in
+    served_standing case old c.due-line.result c.marks.result c.put.new.flight.items c.taken-self.result.next.chance
+    c.due-line.ensures.line.next.at c.due-line.ensures.next waits (c.marks.ensures ∙ ap (is_marked case.mark) c.from.ensures) c.put.ensures.items c.taken-self.ensures.next
 
-pub returns-then-own-self-clause-kept : goal.returns-then-own-self-clause-kept
-returns-then-own-self-clause-kept c =
+pub returns-clause-kept : goal.returns-clause-kept
+returns-clause-kept c =
     let case = c.args.case.now in
     let old = c.args.self.now in
     let kept = c.requires.kept in
+    let line = c.due-line.result in
     let standing = standing_in case.trace old in
-    let last : Arrival = record { lost = old.lost; sent_at = old.time; at = c.time_of-own.result + case.delay_us; marked = c.marks.result } in
-    let same = served_standing case old c.args.queue.now c.requires.queue c.time_of-own.result c.marks.result c.put.new.flight.items c.after-self.result
-    c.time_of-own.ensures.time c.marks.ensures c.put.ensures.items c.after-self.ensures.number in
+    let last : Arrival = record { lost = old.lost; sent_at = old.time; at = line.next.at + case.delay_us; marked = c.marks.result } in
+    let waits = c.due-line.ensures.waiting ∙ waiting_is case.trace kept.valid old.time old.line kept.line c.requires.moved in
+    let same = served_standing case old line c.marks.result c.put.new.flight.items c.taken-self.result.next.chance
+    c.due-line.ensures.line.next.at c.due-line.ensures.next waits (c.marks.ensures ∙ ap (is_marked case.mark) c.from.ensures) c.put.ensures.items c.taken-self.ensures.next in
+    let limit = c.taken-self.result.next.at + case.delay_us in
+    let after = ArriveInOrder-push old.time (old.line.next.at + case.delay_us) limit old.flight.items last kept.order
+    (omega (arith, c.due-line.ensures.late)) (omega (arith, c.due-line.ensures.order)) (omega (arith, c.taken-self.ensures.order)) in
     record {
       valid = kept.valid;
       capacity = c.put.ensures.capacity;
-      place = c.after-self.ensures.place;
+      line = c.taken-self.ensures.line;
+      order = subst (λ (xs : List Arrival). ArriveInOrder old.time limit xs) (sym c.put.ensures.items) after;
       count = omega (arith, kept.count, ap (λ xs. count_of xs 0) c.put.ensures.items, count-push old.flight.items last old.lost refl);
       few = c.requires.room;
       passed = λ i below. omega (arith, kept.passed i below);
       timely = subst (λ (s : Standing). IsTimely case s) (sym same) (is_timely-served case c.requires.kept.valid standing kept.timely (is_marked case.mark (waiting_now case standing)));
-    }
-
-pub returns-then-own-self-clause-queue : goal.returns-then-own-self-clause-queue
-returns-then-own-self-clause-queue c =
-    let case = c.args.case.now in
-    let old = c.args.self.now in
-    record {
-      place = c.after-self.ensures.place;
-      next = served_next case old c.args.queue.now c.requires.queue c.after-self.result c.after-self.ensures.number;
-      waiting = served_more case old c.args.queue.now c.requires.queue c.requires.kept.valid c.after-self.result c.after-self.ensures.number (omega (arith, c.if-own-self.true, c.time_of-own.ensures.time));
-    }
-
-pub returns-else-own-self-clause-standing : goal.returns-else-own-self-clause-standing
-returns-else-own-self-clause-standing c =
-    let case = c.args.case.now in
-    let old = c.args.self.now in
-    served_standing case old c.args.queue.now c.requires.queue c.time_of-own.result c.marks.result c.put.new.flight.items c.after-self.result
-    c.time_of-own.ensures.time c.marks.ensures c.put.ensures.items c.after-self.ensures.number
-
-pub returns-else-own-self-clause-kept : goal.returns-else-own-self-clause-kept
-returns-else-own-self-clause-kept c =
-    let case = c.args.case.now in
-    let old = c.args.self.now in
-    let kept = c.requires.kept in
-    let standing = standing_in case.trace old in
-    let last : Arrival = record { lost = old.lost; sent_at = old.time; at = c.time_of-own.result + case.delay_us; marked = c.marks.result } in
-    let same = served_standing case old c.args.queue.now c.requires.queue c.time_of-own.result c.marks.result c.put.new.flight.items c.after-self.result
-    c.time_of-own.ensures.time c.marks.ensures c.put.ensures.items c.after-self.ensures.number in
-    record {
-      valid = kept.valid;
-      capacity = c.put.ensures.capacity;
-      place = c.after-self.ensures.place;
-      count = omega (arith, kept.count, ap (λ xs. count_of xs 0) c.put.ensures.items, count-push old.flight.items last old.lost refl);
-      few = c.requires.room;
-      passed = λ i below. omega (arith, kept.passed i below);
-      timely = subst (λ (s : Standing). IsTimely case s) (sym same) (is_timely-served case c.requires.kept.valid standing kept.timely (is_marked case.mark (waiting_now case standing)));
-    }
-
-pub returns-else-own-self-clause-queue : goal.returns-else-own-self-clause-queue
-returns-else-own-self-clause-queue c =
-    let case = c.args.case.now in
-    let old = c.args.self.now in
-    record {
-      place = c.after-self.ensures.place;
-      next = served_next case old c.args.queue.now c.requires.queue c.after-self.result c.after-self.ensures.number;
-      waiting = served_no_more case old c.args.queue.now c.requires.queue c.requires.kept.valid c.after-self.result c.after-self.ensures.number (omega (arith, c.if-own-self.false, c.time_of-own.ensures.time));
     }

@@ -1,0 +1,21 @@
+-- The line of the packets that wait at a link: which chances are gone by, and which packets have.
+use Rattle.std.specs.Prelude.{◌≡◌, ℕ, ◌+◌, ◌<◌, ◌≤◌, List, length}
+use Rattle.link_model.specs.declared.chance.Coming.{Coming}
+use Rattle.link_model.specs.declared.line.Line.{Line}
+use Rattle.link_model.specs.Chances.{number_of, chance_time}
+
+-- a chance of a trace with its time
+pub record IsComing (times : List ℕ) (coming : Coming) : Type 0 where
+  pub place : coming.chance.place < length times
+  pub at : coming.at ≡ chance_time times (number_of times coming.chance)
+
+-- a line of a trace at a time: the chances before its later one are gone by then
+pub record IsLine (times : List ℕ) (time : ℕ) (line : Line) : Type 0 where
+  pub next : IsComing times line.next
+  pub later : IsComing times line.later
+  pub waiting : number_of times line.later.chance + line.waiting ≡ number_of times line.next.chance
+  pub gone : (j : ℕ) → j < number_of times line.later.chance → chance_time times j ≤ time
+
+-- all chances of the line are later than this time
+abbrev pub IsMovedTo : ℕ → Line → Type 0
+IsMovedTo time line = 0 < line.waiting → time < line.later.at
