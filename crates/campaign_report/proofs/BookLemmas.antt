@@ -25,7 +25,7 @@ use Rattle.flow_core.specs.WordLaws.{acks_in}
 use Rattle.flow_core.specs.World.{Failure, Era, Answered, World, told_as, track_of}
 use Rattle.flow_core.proofs.LinkWordLemmas.{length-world}
 use Rattle.campaign_report.specs.BookText.{account_in, ack_count, book_text, books_text, end_in, failure_of, fault_text, fault_texts, is_faulted, last_program, sources_of}
-use Rattle.campaign_report.specs.ToldBooks.{answered_of, content_of, flows_of, IsRead, read_flow, read_world}
+use Rattle.campaign_report.specs.BooksRead.{answered_of, content_of, flows_of, IsRead, read_flow, read_world}
 use Rattle.campaign_report.proofs.StopLemmas.{fails_in, stopped-where}
 
 ack_count-acks_in : (word : List Letter) → ack_count word ≡ acks_in word

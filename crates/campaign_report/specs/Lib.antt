@@ -5,4 +5,4 @@ pub mod WireText
 pub mod TableText
 pub mod Columns
 pub mod BookText
-pub mod ToldBooks
+pub mod BooksRead

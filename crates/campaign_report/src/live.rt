@@ -2,7 +2,7 @@ ghost use Rattle.std.specs.Prelude.{◌≡◌, ◌≤◌, ◌++◌, IfOk, OnOk, 
 ghost use Rattle.std.specs.List.{All};
 ghost use Rattle.flow_core.specs.LiveText.{epoch_lines, fault_lines, flow_line};
 ghost use Rattle.campaign_report.specs.BookText.{ack_count, acks_at, book_text, books_text, end_in, epoch_text, failure_of, fault_text, fault_texts, is_faulted, last_line, last_program};
-ghost use Rattle.campaign_report.specs.ToldBooks.{IsRead, read_text};
+ghost use Rattle.campaign_report.specs.BooksRead.{IsRead, read_text};
 
 use crate::agent_text::agent_text;
 use crate::programs::{fields_of, place_of};

@@ -22,10 +22,10 @@ use Rattle.flow_table.specs.Tables.{AreNumbered}
 use Rattle.agent_loop.specs.LiveBooks.{IsWhole, AreBooksOf}
 use Rattle.campaign_gate.proofs.LiftedRowLemmas.{track-lifts}
 use Rattle.campaign_report.specs.BookText.{failure_of, places_of}
-use Rattle.campaign_report.specs.ToldBooks.{content_of, answered_of, read_flow, read_world, IsRead}
+use Rattle.campaign_report.specs.BooksRead.{content_of, answered_of, read_flow, read_world, IsRead}
 use Rattle.scenario_json.specs.Cases.{IsCoded, AreFlowsFrom, AreNumberedFrom}
 use Rattle.scenario_json.specs.ScenePrograms.{forms_of}
-use Rattle.ccp_run.specs.Live.{IsTold, book_cases}
+use Rattle.ccp_run.specs.Live.{IsRightBook, book_cases}
 use Rattle.ccp_run.proofs.CodedLemmas.{at_zero, one_some, no_some, simulated}
 
 -- ---- cases in order
@@ -109,28 +109,28 @@ module _ (programs : List (ℕ × Built)) (numbered : AreNumberedFrom 0 programs
     stopped = whole.told.stopped ∙ ap (λ (t : Track). t.is_stopped) tracks;
   }
 
-  book_told : IsTold programs book
-  book_told = record {
+  right_book : IsRightBook programs book
+  right_book = record {
     legal = sym (legal-lift case ss ca ss_places ca_places ss_simulates ca_simulates case.link book.word) ∙ whole.legal;
     complete = sym (complete-lift case ss ca ss_places ca_places ss_simulates ca_simulates case.link book.word) ∙ whole.complete;
-    told = told;
+    read = told;
   }
 
 -- each book of coded cases tells of its word
-pub books_told : (programs : List (ℕ × Built)) → AreNumberedFrom 0 programs → (books : List Book) → All IsWhole books
-    → All (IsCoded programs) (book_cases books) → All (IsTold programs) books
-books_told programs numbered [] whole coded = All-nil (IsTold programs)
-books_told programs numbered (book ∷ rest) whole coded =
-    All-cons (IsTold programs) book rest
-    (book_told programs numbered book (whole 0 book (omega arith)) (coded 0 book.case (omega arith)))
-    (books_told programs numbered rest (λ k d h. whole (suc k) d (omega (arith, h))) (λ k d h. coded (suc k) d (omega (arith, h))))
+pub right_books : (programs : List (ℕ × Built)) → AreNumberedFrom 0 programs → (books : List Book) → All IsWhole books
+    → All (IsCoded programs) (book_cases books) → All (IsRightBook programs) books
+right_books programs numbered [] whole coded = All-nil (IsRightBook programs)
+right_books programs numbered (book ∷ rest) whole coded =
+    All-cons (IsRightBook programs) book rest
+    (right_book programs numbered book (whole 0 book (omega arith)) (coded 0 book.case (omega arith)))
+    (right_books programs numbered rest (λ k d h. whole (suc k) d (omega (arith, h))) (λ k d h. coded (suc k) d (omega (arith, h))))
 
 -- what each book tells, without its word's being legal and complete
-pub books_read : (programs : List (ℕ × Built)) (books : List Book) → All (IsTold programs) books → All (IsRead programs) books
-books_read programs books told = λ k d h. (told k d h).told
+pub books_read : (programs : List (ℕ × Built)) (books : List Book) → All (IsRightBook programs) books → All (IsRead programs) books
+books_read programs books told = λ k d h. (told k d h).read
 
 -- the books of a table of coded cases
 pub books_of : (programs : List (ℕ × Built)) → AreNumberedFrom 0 programs → (cases table : List Case) (books : List Book)
-    → All (IsCoded programs) cases → table ≡ cases → AreBooksOf table books → All (IsTold programs) books
+    → All (IsCoded programs) cases → table ≡ cases → AreBooksOf table books → All (IsRightBook programs) books
 books_of programs numbered cases table books coded same are =
-    books_told programs numbered books are.1 (subst (λ (cs : List Case). All (IsCoded programs) cs) (sym (are.0 ∙ same)) coded)
+    right_books programs numbered books are.1 (subst (λ (cs : List Case). All (IsCoded programs) cs) (sym (are.0 ∙ same)) coded)

@@ -6,14 +6,14 @@ use Rattle.scenario_json.specs.declared.open_case.OpenCase.{OpenCase}
 use Rattle.scenario_json.specs.ScenePrograms.{TextReading}
 use Rattle.open_flow.specs.declared.letter.OpenLetter.{OpenLetter}
 use Rattle.open_flow.specs.declared.book.OpenBook.{OpenBook}
-use Rattle.live_install.specs.WholeBooks.{IsHistory, flow_of, flows_of, case_in, IsTold, IsWhole}
+use Rattle.live_install.specs.WholeBooks.{IsHistory, flow_of, flows_of, case_in, IsRightBook, IsWhole}
 
 pub flow_cases : (books : List OpenBook) → map (λ (flow : OpenCase × List OpenLetter). flow.0) (flows_of books) ≡ map case_in books
 flow_cases [] = refl
 flow_cases (book ∷ rest) = ap (λ (cases : List OpenCase). book.case ∷ cases) (flow_cases rest)
 
-pub all_told : (read : TextReading) (books : List OpenBook) → All (IsWhole read) books → All (IsTold read) books
-all_told read books whole = λ k book h. (whole k book h).told
+pub all_right : (read : TextReading) (books : List OpenBook) → All (IsWhole read) books → All (IsRightBook read) books
+all_right read books whole = λ k book h. (whole k book h).right
 
 pub all_histories : (read : TextReading) (books : List OpenBook) → All (IsWhole read) books → All (IsHistory read) (flows_of books)
 all_histories read books whole = All-map (IsHistory read) flow_of books (λ k book h. (whole k book h).history)

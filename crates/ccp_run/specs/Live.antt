@@ -7,7 +7,7 @@ use Rattle.flow_core.specs.declared.book.Book.{Book}
 use Rattle.flow_core.specs.declared.case.Case.{Case}
 use Rattle.flow_core.specs.LiveText.{live_text}
 use Rattle.flow_core.specs.Words.{legal, is_complete}
-use Rattle.campaign_report.specs.ToldBooks.{IsRead, read_flow, read_world, flows_of}
+use Rattle.campaign_report.specs.BooksRead.{IsRead, read_flow, read_world, flows_of}
 use Rattle.scenario_json.specs.declared.mode.Mode.TheVariants as scene
 use Rattle.scenario_json.specs.ScenePrograms.{forms_of}
 use Rattle.ccp_run.specs.declared.outcome.ModeOutput.{ModeOutput}
@@ -18,10 +18,10 @@ use Rattle.ccp_run.specs.Scenes.{IsScenario, IsNoScenario, SaysSomething, Says}
 
 -- the book's word is legal and complete for its case, and the book tells what the word came to, all read over the
 -- sources of these programs
-pub record IsTold (programs : List (ℕ × Built)) (book : Book) : Type 0 where
+pub record IsRightBook (programs : List (ℕ × Built)) (book : Book) : Type 0 where
   pub legal : legal (read_flow programs book) book.case.link book.word ≡ true
   pub complete : is_complete (read_flow programs book) (read_world programs book) ≡ true
-  pub told : IsRead programs book
+  pub read : IsRead programs book
 
 -- the cases that books are of, in order
 abbrev pub book_cases : List Book → List Case
@@ -37,7 +37,7 @@ pub record IsLiveOutput (wire : Bool) (bytes : List ℕ) (output : ModeOutput) :
   pub cases : List Case
   pub scenario : IsScenario scene.Live bytes output.programs cases
   pub books : book_cases output.books ≡ cases
-  pub told : All (IsTold output.programs) output.books
+  pub right : All (IsRightBook output.programs) output.books
   pub written : output.text ≡ books_written wire output.programs output.books
   pub idle : output.ran ≡ 0
 

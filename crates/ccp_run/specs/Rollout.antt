@@ -34,7 +34,7 @@ pub record TellsRollout (cases : List OpenCase) (output : ModeOutput) : Type 0 w
 pub record IsRolloutOutput (bytes : List ℕ) (output : ModeOutput) : Type 0 where
   pub cases : List OpenCase
   pub scenario : IsRolloutScenario bytes cases
-  pub told : TellsRollout cases output
+  pub tells : TellsRollout cases output
 
 -- bytes are no rollout's scenario, and this is the first fault
 abbrev pub HasRolloutFault : List ℕ → SceneFault → Type 0

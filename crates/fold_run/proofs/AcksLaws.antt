@@ -78,6 +78,6 @@ read number before (line ∷ rest) accepted few =
 
 pub acks-law : AcksLaw
 acks-law next lines acks = (
-  (λ is. let s = said next [] lines acks (omega arith) is in record { accepted = s.accepted; told = s.whole; few = s.few }),
-  (λ are. read next [] lines are.accepted (subst (λ (xs : List Ack). length xs ≤ most_acks) are.told are.few) ∙ sym (ap Ok are.told)),
+  (λ is. let s = said next [] lines acks (omega arith) is in record { accepted = s.accepted; given = s.whole; few = s.few }),
+  (λ are. read next [] lines are.accepted (subst (λ (xs : List Ack). length xs ≤ most_acks) are.given are.few) ∙ sym (ap Ok are.given)),
 )

@@ -40,7 +40,7 @@ given_by (refused ∷ rest) = given_by rest
 -- no line is refused, and these are the acknowledgements of the lines, at most 65,536
 pub record AreAcks (lines : List (List ℕ)) (acks : List Ack) : Type 0 where
   pub accepted : list_all is_accepted (said_by lines) ≡ true
-  pub told : acks ≡ given_by (said_by lines)
+  pub given : acks ≡ given_by (said_by lines)
   pub few : length acks ≤ most_acks
 
 abbrev pub AcksLaw : Type 0

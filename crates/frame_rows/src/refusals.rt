@@ -1,6 +1,6 @@
 //! Bytes that no frame begins with, and bytes that go on to one, for both decoders.
 use crate::frames::{
-    ACK, CHANGE, CHANGE_3, CREATE, FAULT, INSTALL, INSTALL_5, MEASURE, REFUSED_2, UPDATE,
+    ACK, ACK_BYTES, CHANGE, CHANGE_3, CREATE, FAULT, INSTALL, INSTALL_5, MEASURE, REFUSED_2, UPDATE,
 };
 use ccp_base::{Bytes, Fields};
 use ccp_messages::{BadKind, DecodeFault, decode};
@@ -107,8 +107,8 @@ const BAD: [Bad; 36] = [
     (CONTROL, 17, 64, BadKind::Index),
     (FAULT, 32, 3, BadKind::FaultKind),
     (FAULT, 12, 47, BadKind::Length),
-    (ACK, 128, 2, BadKind::Flag),
-    (ACK, 135, 1, BadKind::Flag),
+    (ACK, ACK_BYTES - 8, 2, BadKind::Flag),
+    (ACK, ACK_BYTES - 1, 1, BadKind::Flag),
     (ACK, 6, 1, BadKind::Count),
     (REFUSED_2, 16, 0, BadKind::Kind),
     (REFUSED_2, 16, 10, BadKind::Kind),

@@ -18,7 +18,7 @@ use Rattle.open_flow.specs.OpenWorld.{OpenWorld, eras_of, track_now}
 use Rattle.open_flow.specs.OpenWords.{install_world}
 use Rattle.live_install.specs.RolloutText.{OpenAccount, account_of, account_text, end_of, fault_lines, open_part, rollout_text}
 use Rattle.live_install.specs.BookText.{account_in, book_text, books_text, end_in, failures_in, is_faulted, notice_lines, placed, placed_line}
-use Rattle.live_install.specs.WholeBooks.{IsTold, flows_of}
+use Rattle.live_install.specs.WholeBooks.{IsRightBook, flows_of}
 use Rattle.live_install.proofs.StopLemmas.{fails_in, stopped-where}
 
 -- ---- faults and their places
@@ -65,7 +65,7 @@ module _ (entries : List EntryState) (flow : ℕ) where
 
 -- ---- a book
 
-module _ (read : TextReading) (book : OpenBook) (told : IsTold read book) where
+module _ (read : TextReading) (book : OpenBook) (told : IsRightBook read book) where
   abbrev w : OpenWorld
   w = install_world read book.case book.word
 
@@ -103,7 +103,7 @@ module _ (read : TextReading) (book : OpenBook) (told : IsTold read book) where
   book-part = ap (λ (account : OpenAccount). account_text book.case account) accounts
 
 -- the text of books that tell what their words came to
-pub books-rollout : (read : TextReading) (books : List OpenBook) → All (IsTold read) books → books_text books ≡ rollout_text read (flows_of books)
+pub books-rollout : (read : TextReading) (books : List OpenBook) → All (IsRightBook read) books → books_text books ≡ rollout_text read (flows_of books)
 books-rollout read [] told = refl
 books-rollout read (book ∷ rest) told =
     let first = book-part read book (told 0 book (omega arith)) in

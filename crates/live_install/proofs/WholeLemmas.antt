@@ -23,7 +23,7 @@ whole read cell book case word complete legal_word told =
         legal = subst (λ (f : OpenCase × List OpenLetter). legal read f.0 f.1 ≡ true) same legal_word;
         complete = subst (λ (f : OpenCase × List OpenLetter). is_complete f.0 (install_world read f.0 f.1) ≡ true) same complete;
       };
-      told = subst (λ (f : OpenCase × List OpenLetter). IsOpenBookOf (install_world read f.0 f.1) book) same told;
+      right = subst (λ (f : OpenCase × List OpenLetter). IsOpenBookOf (install_world read f.0 f.1) book) same told;
     }
 
 -- the book of the first flow that is left goes to the end

@@ -19,13 +19,13 @@ flow_of book = (book.case, book.word)
 abbrev pub flows_of : List OpenBook → List (OpenCase × List OpenLetter)
 flows_of books = map flow_of books
 
--- the book tells what its word came to
-abbrev pub IsTold : TextReading → OpenBook → Type 0
-IsTold read book = IsOpenBookOf (install_world read book.case book.word) book
+-- the book has what its word came to
+abbrev pub IsRightBook : TextReading → OpenBook → Type 0
+IsRightBook read book = IsOpenBookOf (install_world read book.case book.word) book
 
 pub record IsWhole (read : TextReading) (book : OpenBook) : Type 0 where
   pub history : IsHistory read (flow_of book)
-  pub told : IsTold read book
+  pub right : IsRightBook read book
 
 abbrev pub case_in : OpenBook → OpenCase
 case_in book = book.case

@@ -4,7 +4,7 @@ ghost use Rattle.scenario_json.specs.ScenePrograms.{TextReading, IsReading};
 ghost use Rattle.open_flow.specs.Entries.{installed_of, place_at};
 ghost use Rattle.live_install.specs.RolloutText.{fault_lines, fields_at, fields_of, flow_line, last_fields, last_line, rollout_text, shown_lines};
 ghost use Rattle.live_install.specs.BookText.{account_in, book_text, books_text, end_in, failures_in, is_faulted, notice_lines, placed_line};
-ghost use Rattle.live_install.specs.WholeBooks.{IsTold, flows_of};
+ghost use Rattle.live_install.specs.WholeBooks.{IsRightBook, flows_of};
 
 use crate::OpenBooks;
 use crate::entry_lines::{put_changes, put_entries};
@@ -20,7 +20,7 @@ use std::alloc::Global;
 /// word came to, it is the rollout text of these words.
 pub fn rollout_text(alloc: Global, books: &OpenBooks) -> Result<Bytes, NoMemory>
     ensures text { IfOk result (λ text. text ≡ books_text books.now) }
-    ensures rollout { (read : TextReading) → All (IsTold read) books.now
+    ensures rollout { (read : TextReading) → All (IsRightBook read) books.now
         → IfOk result (λ text. text ≡ rollout_text read (flows_of books.now)) }
 {
     books_text(alloc, books)

@@ -38,7 +38,7 @@ impl State {
         ensures case { self.new.case ≡ self.old.case }
         ensures entries { self.new.entries ≡ self.old.entries }
         ensures word { self.new.word.items ≡ self.old.word.items ++ OpenLetter.A ∷ [] }
-        ensures told { (read : TextReading) → IsReading read → Answered read (cell_of self.old) result }
+        ensures answered { (read : TextReading) → IsReading read → Answered read (cell_of self.old) result }
         ensures steps { (read : TextReading) → IsReading read → steps.new ≡ steps.old + ran_at read (cell_of self.old) }
     {
         match self.hearer() {
@@ -59,7 +59,7 @@ impl State {
         ensures case { self.new.case ≡ self.old.case }
         ensures entries { self.new.entries ≡ self.old.entries }
         ensures word { self.new.word.items ≡ self.old.word.items ++ OpenLetter.A ∷ [] }
-        ensures told { (read : TextReading) → IsReading read → (world_of read self.old).present ≡ None }
+        ensures answered { (read : TextReading) → IsReading read → (world_of read self.old).present ≡ None }
     {
         let window = self.machine.cwnd();
         let ack = self.link.next(window);
@@ -77,7 +77,7 @@ impl State {
         ensures case { self.new.case ≡ self.old.case }
         ensures entries { self.new.entries ≡ self.old.entries }
         ensures word { self.new.word.items ≡ self.old.word.items ++ OpenLetter.A ∷ [] }
-        ensures told { (read : TextReading) → IsReading read → Answered read (cell_of self.old) (Some result) }
+        ensures answered { (read : TextReading) → IsReading read → Answered read (cell_of self.old) (Some result) }
         ensures steps { (read : TextReading) → IsReading read → steps.new ≡ steps.old + ran_at read (cell_of self.old) }
     {
         let window = self.machine.cwnd();

@@ -3,7 +3,7 @@ ghost use Rattle.std.specs.List.{All};
 ghost use Rattle.ccp_base.specs.Limits.{most_flows, most_workers};
 ghost use Rattle.scenario_json.specs.Cases.{IsCoded, AreFlowsFrom, AreNumberedFrom};
 ghost use Rattle.ccp_run.specs.Attempts.{IsAnswer, IsAttempt};
-ghost use Rattle.ccp_run.specs.Live.{IsTold, book_cases, books_written};
+ghost use Rattle.ccp_run.specs.Live.{IsRightBook, book_cases, books_written};
 ghost use Rattle.ccp_run.specs.Streams.{over};
 ghost use Rattle.ccp_run.specs.Modes.{Task};
 
@@ -80,7 +80,7 @@ fn lived<R: Threads + Wait + Sync, G: Gate + Sync>(
     requires coded { All (IsCoded scene.programs) scene.cases }
     ensures text { IfOk result (λ output. output.text ≡ books_written wire scene.programs output.books) }
     ensures books { IfOk result (λ output. book_cases output.books ≡ scene.cases) }
-    ensures told { IfOk result (λ output. All (IsTold scene.programs) output.books) }
+    ensures right { IfOk result (λ output. All (IsRightBook scene.programs) output.books) }
     ensures programs { IfOk result (λ output. output.programs ≡ scene.programs) }
     ensures ran { IfOk result (λ output. output.ran ≡ 0) }
 {
@@ -96,7 +96,7 @@ fn lived<R: Threads + Wait + Sync, G: Gate + Sync>(
 
 /// The text of books that tell of their words, after the programs' frames where they are asked for.
 fn written(alloc: Global, wire: bool, books: &Books, programs: &Builts) -> Result<Bytes, NoMemory>
-    requires { All (IsTold programs.now) books.now }
+    requires { All (IsRightBook programs.now) books.now }
     ensures { IfOk result (λ text. text ≡ books_written wire programs.now books.now) }
 {
     let mut text = frames(alloc, wire, programs)?;

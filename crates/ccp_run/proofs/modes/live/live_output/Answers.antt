@@ -2,7 +2,7 @@ use Rattle.std.proofs.Common.{◌∙◌, List, ℕ, ap, sym, subst}
 use Rattle.std.specs.List.{All}
 use Rattle.reg_compiler.specs.declared.built.Built.{Built}
 use Rattle.scenario_json.specs.declared.mode.Mode.TheVariants as scene
-use Rattle.ccp_run.specs.Live.{IsTold, books_written}
+use Rattle.ccp_run.specs.Live.{IsRightBook, books_written}
 use Rattle.ccp_run.specs.Scenes.{IsScenario}
 use Rattle.ccp_run.proofs.modes.live.live_output.Goals as goal
 
@@ -15,7 +15,7 @@ returns g c =
       cases = cases;
       scenario = subst (λ (programs : List (ℕ × Built)). IsScenario scene.Live c.args.bytes.now programs cases) (sym made.programs) c.in_ok-scene.ensures.found;
       books = made.books;
-      told = subst (λ (programs : List (ℕ × Built)). All (IsTold programs) output.books) (sym made.programs) made.told;
+      right = subst (λ (programs : List (ℕ × Built)). All (IsRightBook programs) output.books) (sym made.programs) made.right;
       written = made.text ∙ ap (λ (programs : List (ℕ × Built)). books_written c.args.wire programs output.books) (sym made.programs);
       idle = made.ran;
     }

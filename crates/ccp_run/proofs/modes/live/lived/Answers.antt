@@ -9,7 +9,7 @@ written-requires g c =
     let scene = c.args.scene in
     books_of scene.programs c.requires.numbered scene.cases c.in_ok-table.table c.in_ok-books.books c.requires.coded c.in_ok-table.ensures c.in_ok-books.ensures
 
-pub returns-clause-told : goal.returns-clause-told
-returns-clause-told g c =
+pub returns-clause-right : goal.returns-clause-right
+returns-clause-right g c =
     let scene = c.args.scene in
     books_of scene.programs c.requires.numbered scene.cases c.in_ok-table.table c.in_ok-books.books c.requires.coded c.in_ok-table.ensures c.in_ok-books.ensures

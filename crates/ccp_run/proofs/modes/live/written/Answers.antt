@@ -2,7 +2,7 @@ use Rattle.std.proofs.Common.{◌≡◌, ◌∙◌, ◌++◌, List, rules, ap, s
 use Rattle.std.specs.List.{All}
 use Rattle.flow_core.specs.declared.book.Book.{Book}
 use Rattle.flow_core.specs.LiveText.{live_text}
-use Rattle.campaign_report.specs.ToldBooks.{IsRead, flows_of}
+use Rattle.campaign_report.specs.BooksRead.{IsRead, flows_of}
 use Rattle.scenario_json.specs.ScenePrograms.{forms_of}
 use Rattle.ccp_run.specs.Campaign.{frames_shown}
 use Rattle.ccp_run.proofs.LiveLemmas.{books_read}

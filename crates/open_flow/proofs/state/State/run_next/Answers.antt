@@ -30,8 +30,8 @@ returns-clause-open_state g c =
     (λ form is_form shape. heard-by s.entries.items (turn_of s c.args.step) s.machine machine s.account account built c.next-ack.result answer is c.run-acked.ensures.met c.run-acked.ensures.stopped down form is_form shape)
     (λ form is_form shape. told s.entries.items (turn_of s c.args.step) s.machine machine s.account account built c.next-ack.result answer is c.run-acked.ensures.met c.run-acked.ensures.stopped down form is_form shape)
 
-pub returns-clause-told : goal.returns-clause-told
-returns-clause-told g c = λ read reading.
+pub returns-clause-answered : goal.returns-clause-answered
+returns-clause-answered g c = λ read reading.
     let s = c.args.self.now in
     let built = c.in-Some.built.now in
     let machine = c.run-acked.new.machine in
