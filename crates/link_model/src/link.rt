@@ -48,8 +48,9 @@ impl Link {
     }
 
     /// Gives the link a window, in bytes, and answers the acknowledgement. At most 65,536 windows are given. A
-    /// call takes a step for each packet that it serves and one for all further ones where the queue is full; a packet
-    /// that is listed as lost takes a step, too. A chance is found by at most one search in the trace.
+    /// call takes a step for each packet that it serves or that is listed as lost, one for all further ones where the
+    /// queue is full, and one for each chance of an earlier packet that went by since the call before, so over all
+    /// calls at most one more a packet. The trace is searched at most once, and only after an idle time.
     #[inline(always)]
     pub fn next(&mut self, window: u64) -> Ack
         requires { self.old.standing.calls < most_acks }
