@@ -9,7 +9,7 @@ use cubic_agent::Cubic;
 use reno_agent::Reno;
 
 /// A congestion control agent of one flow.
-#[derive(Clone, Copy, PartialEq, Eq, Debug)]
+#[derive(Clone, Copy, PartialEq, Eq)]
 pub enum Agent {
     Reno(Reno),
     Cubic(Cubic),

@@ -9,7 +9,7 @@ use std::marker::Model;
 
 /// An agent's answer to a ticket: the ticket, the agent after it, its reply, and the frame that tells the datapath.
 /// Contracts see an answer as its ticket, which determines the others.
-#[derive(Clone, Copy, PartialEq, Eq, Debug)]
+#[derive(Clone, Copy)]
 pub struct Answer {
     ticket: Ticket,
     after: Agent,

@@ -7,7 +7,7 @@ use reply_frames::{Version, encode_change, encode_update};
 use std::marker::Model;
 
 /// The bytes of a frame, held in place.
-#[derive(Clone, Copy, PartialEq, Eq, Debug)]
+#[derive(Clone, Copy)]
 pub struct Frame {
     bytes: [u8; 64],
     count: usize,

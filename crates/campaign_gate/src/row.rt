@@ -1,7 +1,7 @@
 use ccp_base::Sequence;
 
 /// What a case's flow came to on its campaign word.
-#[derive(Clone, Copy, PartialEq, Eq, Debug)]
+#[derive(Clone, Copy, PartialEq, Eq)]
 pub struct Row {
     /// The acknowledgements.
     pub acks: u64,

@@ -4,7 +4,7 @@ ghost use Rattle.campaign_gate.specs.Walks.{sums_of, with_ack, AreRoomy};
 use ccp_base::Ack;
 
 /// What is summed over a flow's acknowledgements.
-#[derive(Clone, Copy, PartialEq, Eq, Debug)]
+#[derive(Clone, Copy)]
 pub(crate) struct Sums {
     pub(crate) lost: u64,
     pub(crate) timeouts: u64,

@@ -6,7 +6,7 @@ ghost use Rattle.campaign_report.specs.Columns.{number_in};
 use campaign_gate::Row;
 
 /// A column whose sum a total has.
-#[derive(Clone, Copy, PartialEq, Eq, Debug)]
+#[derive(Clone, Copy)]
 pub(crate) enum Column {
     Acks,
     Reports,

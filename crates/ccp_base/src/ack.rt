@@ -9,7 +9,7 @@ use crate::sequence::Sequence;
 pub const PRIMITIVES: u32 = 15;
 
 /// One acknowledgement, as the datapath sees it. Times are in microseconds and rates in bytes a second.
-#[derive(Clone, Copy, Debug, PartialEq, Eq, Default)]
+#[derive(Clone, Copy, PartialEq, Eq, Default)]
 pub struct Ack {
     pub bytes_acked: u64,
     pub packets_acked: u64,

@@ -5,7 +5,7 @@ use crate::exchange::Reply;
 use crate::look::Role;
 
 /// Which of its two programs an agent has started last.
-#[derive(Clone, Copy, PartialEq, Eq, Debug)]
+#[derive(Clone, Copy, PartialEq, Eq)]
 pub enum Phase {
     SlowStart,
     /// Congestion avoidance.
@@ -13,7 +13,7 @@ pub enum Phase {
 }
 
 /// The programs of an agent, and how far it went with them.
-#[derive(Clone, Copy, PartialEq, Eq, Debug)]
+#[derive(Clone, Copy, PartialEq, Eq)]
 pub struct Course {
     /// The program of slow start.
     pub ss: Role,

@@ -8,7 +8,7 @@ use std::marker::Model;
 pub const PAIRS: u32 = 66;
 
 /// What a change or an update of a program can write.
-#[derive(Clone, Copy, PartialEq, Eq, Debug)]
+#[derive(Clone, Copy, PartialEq, Eq)]
 pub enum FieldReg {
     /// The congestion window, in bytes.
     Cwnd,
@@ -31,7 +31,7 @@ impl FieldReg {
 }
 
 /// A list of at most 66 values to be written, each with what it is written to, held in place.
-#[derive(Clone, Copy, PartialEq, Eq, Debug)]
+#[derive(Clone, Copy, PartialEq, Eq)]
 pub struct Fields {
     pairs: [(FieldReg, u64); 66],
     count: u32,

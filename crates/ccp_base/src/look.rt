@@ -3,7 +3,7 @@ ghost use Rattle.std.specs.Option.{ForSome};
 
 /// Where a program keeps the fields and control variables that agents read and write: the number of each in
 /// order of declaration, or None where the program doesn't declare it. Each number is below 64.
-#[derive(Clone, Copy, PartialEq, Eq, Debug)]
+#[derive(Clone, Copy, PartialEq, Eq)]
 pub struct Look {
     /// The field of the bytes acknowledged.
     pub acked: Option<u32>,
@@ -32,7 +32,7 @@ pub struct Look {
 }
 
 /// A program that an agent can start: its number, and where it keeps what the agent reads and writes.
-#[derive(Clone, Copy, PartialEq, Eq, Debug)]
+#[derive(Clone, Copy, PartialEq, Eq)]
 pub struct Role {
     pub number: u32,
     pub look: Look,

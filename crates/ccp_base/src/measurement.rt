@@ -6,7 +6,7 @@ use crate::look::Look;
 use crate::values::Values;
 
 /// What an agent reads of a report. A field that the report's program doesn't have reads as 0.
-#[derive(Clone, Copy, PartialEq, Eq, Debug)]
+#[derive(Clone, Copy)]
 pub struct Measurement {
     /// The time of the reporting acknowledgement, in microseconds.
     pub now: u64,

@@ -18,7 +18,7 @@ fn is_listed(failing: &[u64], calls: &mut u64) -> bool
 }
 
 /// A source in memory, with reads that fail exactly where they are told to.
-#[derive(Clone, Copy, Debug)]
+#[derive(Clone, Copy)]
 pub struct MemSource<'a> {
     left: &'a [u8],
     most: usize,
@@ -89,7 +89,7 @@ impl Source for MemSource<'_> {
 
 /// A sink in memory, with calls that fail where they are told to. A finish fails there alone; a write also fails where
 /// there is no memory for its bytes.
-#[derive(Debug, Drop)]
+#[derive(Drop)]
 pub struct MemSink<'a> {
     bytes: Bytes,
     most: usize,

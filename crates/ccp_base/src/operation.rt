@@ -8,7 +8,7 @@ use crate::ack::{bool_number, is_true};
 use crate::arithmetic::{FaultKind, add, div, mul, sub};
 
 /// A binary operation of the language and of its code.
-#[derive(Clone, Copy, PartialEq, Eq, Debug)]
+#[derive(Clone, Copy, PartialEq, Eq)]
 pub enum Op2 {
     /// The sum, where it is a value.
     Add,

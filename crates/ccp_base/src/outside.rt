@@ -5,7 +5,7 @@ ghost use Rattle.ccp_base.specs.declared.outside.ReadFault.TheVariants as read_f
 use std::alloc::{AllocError, AllocFailed};
 
 /// That memory was wanted and not found.
-#[derive(Clone, Copy, Debug, PartialEq, Eq)]
+#[derive(Clone, Copy, Debug)]
 pub struct NoMemory;
 
 impl From<AllocError> for NoMemory {
@@ -25,7 +25,7 @@ impl<T: Drop> From<AllocFailed<T>> for NoMemory {
 }
 
 /// That a read or a write failed.
-#[derive(Clone, Copy, Debug, PartialEq, Eq)]
+#[derive(Clone, Copy, PartialEq, Eq)]
 pub struct Failed;
 
 /// Counts a fault, up to 2^64-1.
@@ -39,7 +39,7 @@ pub(crate) fn fault(faults: &mut u64) -> Failed
 }
 
 /// Why a source wasn't read to its end.
-#[derive(Clone, Copy, Debug, PartialEq, Eq)]
+#[derive(Clone, Copy)]
 pub enum ReadFault {
     /// A read failed.
     Read,

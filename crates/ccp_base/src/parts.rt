@@ -2,7 +2,7 @@ ghost use Rattle.std.specs.Prelude.{◌≡◌, ◌+◌, ◌<◌, ◌≤◌, ◌�
 ghost use Rattle.ccp_base.specs.Parts.{separates, parts_of, IsSplit, without_last};
 
 /// What ends a part of a text.
-#[derive(Clone, Copy, PartialEq, Eq, Debug)]
+#[derive(Clone, Copy)]
 pub enum Separator {
     /// LF, which ends a line.
     LineFeed,

@@ -52,7 +52,7 @@ fn flush_answer(answer: io::Result<()>, faults: &mut u64) -> Result<(), Failed>
 
 /// The process's standard input, which tells nothing of its bytes. A read fails exactly where the system's read
 /// does.
-#[derive(Debug, Drop)]
+#[derive(Drop)]
 pub struct StdIn {
     stream: Stdin,
     faults: u64,
@@ -80,7 +80,7 @@ impl Source for StdIn {
 
 /// The process's standard output, which tells nothing of its bytes. A write fails exactly where the system's write
 /// does or takes none of some bytes, and a finish exactly where the system's flush does.
-#[derive(Debug, Drop)]
+#[derive(Drop)]
 pub struct StdOut {
     stream: Stdout,
     faults: u64,
@@ -112,7 +112,7 @@ impl Sink for StdOut {
 }
 
 /// The process's standard error, which tells nothing of its bytes, and fails where `StdOut` would.
-#[derive(Debug, Drop)]
+#[derive(Drop)]
 pub struct StdErr {
     stream: Stderr,
     faults: u64,

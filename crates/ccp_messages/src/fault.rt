@@ -5,7 +5,7 @@ use reply_frames::{BadKind, Stop};
 use std::alloc::{AllocError, AllocFailed};
 
 /// Why bytes don't give a message.
-#[derive(Clone, Copy, PartialEq, Eq, Debug)]
+#[derive(Clone, Copy, PartialEq, Eq)]
 pub enum DecodeFault {
     /// They are a proper prefix of a frame, which goes on to this many bytes at least: to the 16 of a head, or to
     /// the frame's length where the head is there.
@@ -16,7 +16,7 @@ pub enum DecodeFault {
 }
 
 /// Why a part of a frame isn't read.
-#[derive(Clone, Copy, PartialEq, Eq, Debug)]
+#[derive(Clone, Copy)]
 pub enum Halt {
     /// Where its bytes stop.
     Stopped(Stop),

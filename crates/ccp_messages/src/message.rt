@@ -2,7 +2,7 @@ use ccp_base::{Ack, Fields, Notice, Report};
 use reg_code::Code;
 
 /// What agent and datapath tell one another of a flow.
-#[derive(Debug, Drop)]
+#[derive(Drop)]
 pub enum Message {
     /// The flow begins.
     Create {

@@ -8,7 +8,7 @@ use scenario_json::{SceneFault, put_scene_refusal};
 use std::alloc::Global;
 
 /// How long an input may be.
-#[derive(Clone, Copy, PartialEq, Eq, Debug)]
+#[derive(Clone, Copy)]
 pub enum Limit {
     /// 1,048,576 bytes, in every mode but `audit`, and before the separator there.
     Input,
@@ -44,7 +44,7 @@ impl Limit {
 }
 
 /// Why an input is refused.
-#[derive(Debug, Drop)]
+#[derive(Drop)]
 pub enum Refusal {
     /// It has more bytes than this.
     TooLong(Limit),

@@ -2,7 +2,7 @@ use crate::refusal::Refusal;
 use ccp_base::NoMemory;
 
 /// Why a mode has no output.
-#[derive(Debug, Drop)]
+#[derive(Drop)]
 pub enum Stop {
     Refused(Refusal),
     ReadFailed,

@@ -4,7 +4,7 @@ ghost use Rattle.ccp_words.specs.Modes.{mode_named, mode_names};
 use std::str::FromStr;
 
 /// A mode whose work is done by its caller alone, over one source.
-#[derive(Clone, Copy, PartialEq, Eq, Debug)]
+#[derive(Clone, Copy)]
 pub enum Alone {
     /// A program's summary and the listing of its code.
     Check,
@@ -17,7 +17,7 @@ pub enum Alone {
 }
 
 /// What the tool can be asked for.
-#[derive(Clone, Copy, PartialEq, Eq, Debug)]
+#[derive(Clone, Copy)]
 pub enum ToolMode {
     Alone(Alone),
     /// A scenario on datapath and agent threads.
@@ -33,7 +33,7 @@ pub enum ToolMode {
 }
 
 /// A name that no mode has.
-#[derive(Clone, Copy, PartialEq, Eq, Debug)]
+#[derive(Clone, Copy)]
 pub struct NoMode;
 
 /// The names of the modes that the tool has.

@@ -10,7 +10,7 @@ use clap::{Arg, ArgAction, ArgMatches, Command};
 use std::alloc::{AllocError, Global};
 
 /// Why words ask for nothing.
-#[derive(Clone, Copy, PartialEq, Eq, Debug)]
+#[derive(Clone, Copy)]
 pub enum Unasked {
     /// They aren't accepted.
     Refused,
@@ -29,7 +29,7 @@ impl From<AllocError> for Unasked {
 }
 
 /// What accepted words ask for: the mode, and the options of all modes, each with its default where it isn't given.
-#[derive(Clone, Copy, PartialEq, Eq, Debug)]
+#[derive(Clone, Copy)]
 pub struct Asked {
     pub mode: ToolMode,
     /// Datapath workers, 1 to 32.

@@ -11,7 +11,7 @@ use crate::tables::{Tables, mark, no_tables};
 use reg_code::{CONTROLS, Checked, Code, EVENTS, Event, FIELDS, INSTRS, Packed, Part, Rule, Sizes};
 
 /// A code that isn't accepted.
-#[derive(Debug, Drop)]
+#[derive(Drop)]
 pub struct Rejected {
     /// The code, as it was handed in.
     pub code: Code,

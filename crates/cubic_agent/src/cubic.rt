@@ -17,7 +17,7 @@ const MILLISECOND: u64 = 1000;
 
 /// The window, and what CUBIC keeps of a loss event for the growth after it. Windows are in thousandths of a
 /// segment.
-#[derive(Clone, Copy, PartialEq, Eq, Debug)]
+#[derive(Clone, Copy, PartialEq, Eq)]
 pub struct Growth {
     /// The RFC's cwnd.
     pub window: u64,
@@ -34,7 +34,7 @@ pub struct Growth {
 }
 
 /// The state of a CUBIC agent. Windows are in thousandths of a segment where nothing else is said.
-#[derive(Clone, Copy, PartialEq, Eq, Debug)]
+#[derive(Clone, Copy, PartialEq, Eq)]
 pub struct Cubic {
     /// The segment's size, in bytes.
     mss: u32,

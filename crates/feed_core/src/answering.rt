@@ -19,7 +19,7 @@ use std::alloc::Global;
 const ANSWER: usize = 576;
 
 /// Why an answer wasn't written.
-#[derive(Clone, Copy, PartialEq, Eq, Debug)]
+#[derive(Clone, Copy)]
 pub enum Unanswered {
     /// A write failed; a front of the answer was written.
     Write,

@@ -3,7 +3,7 @@
 use reply_frames::BadKind;
 
 /// How a feed ends.
-#[derive(Clone, Copy, PartialEq, Eq, Debug)]
+#[derive(Clone, Copy, PartialEq, Eq)]
 pub enum FeedEnd {
     /// The source was read to its end, and its frames are whole.
     Whole,

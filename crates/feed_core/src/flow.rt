@@ -16,7 +16,7 @@ use std::marker::Brand;
 use std::sync::ledger::{Blank, Ledger};
 
 /// A program that was started on a flow.
-#[derive(Clone, Copy, PartialEq, Eq, Debug)]
+#[derive(Clone, Copy)]
 pub struct Epoch {
     pub program: u32,
     /// How many changes of program the flow had before.

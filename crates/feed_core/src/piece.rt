@@ -1,7 +1,7 @@
 //! What a read of a source brings.
 
 /// What a read brought.
-#[derive(Clone, Copy, PartialEq, Eq, Debug)]
+#[derive(Clone, Copy)]
 pub enum Piece {
     /// So many bytes, at least one.
     Bytes(usize),

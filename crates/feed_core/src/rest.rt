@@ -11,7 +11,7 @@ use ccp_base::Source;
 const LONGEST: usize = 8596;
 
 /// The bytes that were read and that no whole frame has taken, which are kept in place.
-#[derive(Clone, Copy, Debug)]
+#[derive(Clone, Copy)]
 pub struct Rest {
     bytes: [u8; LONGEST],
     start: usize,

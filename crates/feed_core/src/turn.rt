@@ -12,7 +12,7 @@ use ccp_messages::{BadKind, DecodeFault, decode};
 use std::alloc::Global;
 
 /// What the bytes after the frames that were answered came to.
-#[derive(Clone, Copy, PartialEq, Eq, Debug)]
+#[derive(Clone, Copy)]
 pub enum Turn {
     /// They began with a frame of this length, and it was answered.
     Answered(usize),

@@ -5,7 +5,7 @@ use fold_machine::Machine;
 
 /// A ticket that was answered: what it told, at how many acknowledgements it was taken and at how many its answer was
 /// applied, and the agent's reply.
-#[derive(Clone, Copy, PartialEq, Eq, Debug)]
+#[derive(Clone, Copy, PartialEq, Eq)]
 pub struct TicketLine {
     pub told: Told,
     pub taken: u32,

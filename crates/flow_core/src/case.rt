@@ -10,7 +10,7 @@ use reg_code::{Checked, Code, Event, Instr, Packed, Start};
 use std::alloc::Global;
 
 /// A program as an agent's role has it: its number, where it keeps what the agent reads and writes, and its code.
-#[derive(Debug, Drop)]
+#[derive(Drop)]
 pub struct Coded {
     pub role: Role,
     pub code: Checked,
@@ -104,7 +104,7 @@ fn same_checked(this: &Checked, other: &Checked) -> bool
 
 /// What a flow is: its programs and its agent, its link, how many acknowledgements come, how many reports may wait, and
 /// for how many acknowledgements a campaign's answers are late.
-#[derive(Debug, Drop)]
+#[derive(Drop)]
 pub struct Case {
     pub flow: u32,
     pub name: Name,

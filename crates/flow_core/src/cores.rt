@@ -41,7 +41,7 @@ impl From<NoMemory> for TakeFault {
 
 /// The answer's ticket isn't the one that is out. The answer is handed back, with the number of the ticket that is
 /// out, if one is.
-#[derive(Debug, Drop)]
+#[derive(Drop)]
 pub struct Stale {
     pub answer: Answer,
     pub out: Option<u32>,

@@ -1,7 +1,7 @@
 use ccp_base::Sequence;
 
 /// One step of a flow's history.
-#[derive(Clone, Copy, PartialEq, Eq, Debug)]
+#[derive(Clone, Copy)]
 pub enum Letter {
     /// An acknowledgement.
     A,

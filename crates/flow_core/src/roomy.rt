@@ -5,7 +5,7 @@ use std::alloc::Global;
 use std::marker::Model;
 
 /// A list with room kept for so many items, so that a later push takes no memory.
-#[derive(Debug, Drop)]
+#[derive(Drop)]
 pub struct Roomy<T> {
     items: Vec<T>,
 }

@@ -17,5 +17,5 @@ pub enum Acked {
 
 /// The pair at this place of the values, counted from 0, is the first that names a control variable which the
 /// code doesn't have.
-#[derive(Clone, Copy, PartialEq, Eq, Debug)]
+#[derive(Clone, Copy, PartialEq, Eq)]
 pub struct BadRegister(pub u32);

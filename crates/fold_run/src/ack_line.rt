@@ -13,7 +13,7 @@ use ccp_base::Separator;
 use memchr::memchr;
 
 /// What a line below the separator says.
-#[derive(Clone, Copy, PartialEq, Eq, Debug)]
+#[derive(Clone, Copy)]
 pub enum LineKind {
     /// The line is blank.
     Nothing,

@@ -17,7 +17,7 @@ use std::alloc::{AllocError, Global};
 const MOST_ACKS: usize = 65_536;
 
 /// Why lines have no acknowledgements.
-#[derive(Clone, Copy, PartialEq, Eq, Debug)]
+#[derive(Clone, Copy, PartialEq, Eq)]
 pub enum LineFault {
     /// The line of this number in the whole input is no acknowledgement and isn't blank.
     Line(u64),

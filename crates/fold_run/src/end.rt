@@ -1,7 +1,7 @@
 use ccp_base::Values;
 
 /// How a fold ended.
-#[derive(Clone, Copy, PartialEq, Eq, Debug)]
+#[derive(Clone, Copy)]
 pub struct End {
     /// How many acknowledgements there were.
     pub acks: u64,

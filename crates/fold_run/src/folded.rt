@@ -2,7 +2,7 @@ use crate::end::End;
 use ccp_base::{Notice, Reports};
 
 /// What a program's fold over acknowledgements comes to.
-#[derive(Debug, Drop)]
+#[derive(Drop)]
 pub struct Folded {
     /// The reports in the order in which they were made.
     pub reports: Reports,

@@ -9,7 +9,7 @@ use ccp_base::{PRIMITIVES, is_flag};
 const VALUES: usize = PRIMITIVES as usize;
 
 /// The values that a line gives, each at the number of its primitive.
-#[derive(Clone, Copy, Debug)]
+#[derive(Clone, Copy)]
 pub struct LineValues {
     /// The values, 0 where the line gives none.
     pub numbers: [u64; VALUES],

@@ -16,7 +16,7 @@ const PLACES: usize = LINE_BEGIN + 1;
 
 /// Which name followed each name last, and a line's begin: lines mostly name the same values in the same order, so the
 /// name that is looked for first is mostly the right one.
-#[derive(Clone, Copy, Debug)]
+#[derive(Clone, Copy)]
 pub struct Followers {
     numbers: [usize; PLACES],
 }

@@ -7,7 +7,7 @@ use crate::first_line::first_line;
 use ccp_base::without_return;
 
 /// A text that is cut in two at its first line `---`.
-#[derive(Clone, Copy, Debug)]
+#[derive(Clone, Copy)]
 pub struct Separated<'a> {
     /// The bytes before that line, with the LF that ends the line before it.
     pub program: &'a [u8],

@@ -1,5 +1,5 @@
 /// A packet in flight that isn't lost.
-#[derive(Clone, Copy, PartialEq, Eq, Debug)]
+#[derive(Clone, Copy)]
 pub struct Arrival {
     /// How many lost packets lie between the one before and this one.
     pub lost: u64,

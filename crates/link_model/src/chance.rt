@@ -6,14 +6,14 @@ ghost use Rattle.link_model.specs.Lines.{IsComing};
 use crate::trace::Trace;
 
 /// A chance of a trace: a turn of the trace, and a place in it. Both count from 0.
-#[derive(Clone, Copy, PartialEq, Eq, Debug)]
+#[derive(Clone, Copy)]
 pub struct Chance {
     pub turn: u64,
     pub place: usize,
 }
 
 /// A chance, and when it comes.
-#[derive(Clone, Copy, PartialEq, Eq, Debug)]
+#[derive(Clone, Copy)]
 pub(crate) struct Coming {
     pub(crate) chance: Chance,
     /// In microseconds.

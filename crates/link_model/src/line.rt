@@ -8,7 +8,7 @@ use crate::chance::{Chance, Coming};
 use crate::trace::Trace;
 
 /// The line of the packets that wait for their chances.
-#[derive(Clone, Copy, PartialEq, Eq, Debug)]
+#[derive(Clone, Copy)]
 pub(crate) struct Line {
     /// The chance after the last one that a packet got.
     pub(crate) next: Coming,

@@ -8,7 +8,7 @@ use ccp_base::{NoMemory, Sequence};
 use std::alloc::Global;
 
 /// What a link is: its trace, its queue, its delays and which packets it loses.
-#[derive(Debug, Drop)]
+#[derive(Drop)]
 pub struct LinkCase {
     /// When the link has a chance to send a packet.
     pub trace: Trace,

@@ -4,7 +4,7 @@ ghost use Rattle.link_model.specs.Link.{no_past, past_in};
 use ccp_base::Ack;
 
 /// What later acknowledgements take from earlier ones.
-#[derive(Clone, Copy, PartialEq, Eq, Debug)]
+#[derive(Clone, Copy)]
 pub struct Past {
     /// The last round-trip sample, in microseconds, 0 where there was none.
     pub rtt_sample_us: u64,

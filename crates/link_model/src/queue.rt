@@ -5,7 +5,7 @@ use crate::chance::Chance;
 use crate::trace::Trace;
 
 /// The queue at one time.
-#[derive(Clone, Copy, PartialEq, Eq, Debug)]
+#[derive(Clone, Copy)]
 pub struct Queue {
     /// The first chance that isn't before that time and that no packet has.
     pub next: Chance,

@@ -7,7 +7,7 @@ use ccp_base::{Separator, first_part, numeral, without_return};
 use std::alloc::Global;
 
 /// What one line of a trace text says.
-#[derive(Clone, Copy, PartialEq, Eq, Debug)]
+#[derive(Clone, Copy)]
 pub(crate) enum TraceLine {
     /// The line is blank.
     Nothing,

@@ -13,7 +13,7 @@ use std::test::Fail;
 const CALLS: u32 = 65_536;
 
 /// The numbers of a link beside its trace and its losses.
-#[derive(Clone, Copy, Debug)]
+#[derive(Clone, Copy)]
 struct Numbers {
     mss: u32,
     queue: u32,

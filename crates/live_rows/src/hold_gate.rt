@@ -9,7 +9,7 @@ const TURNS: u32 = 2_000_000;
 const LOADS: u32 = 1000;
 
 /// A worker's passing of a point, by how often it passed there, from 1 on.
-#[derive(Clone, Copy, PartialEq, Eq, Debug)]
+#[derive(Clone, Copy, PartialEq, Eq)]
 pub(crate) struct Moment {
     pub(crate) worker: u32,
     pub(crate) point: Point,
@@ -17,7 +17,7 @@ pub(crate) struct Moment {
 }
 
 /// A worker waits at one moment until another moment has come.
-#[derive(Clone, Copy, PartialEq, Eq, Debug)]
+#[derive(Clone, Copy)]
 pub(crate) struct Hold {
     pub(crate) at: Moment,
     pub(crate) until: Moment,

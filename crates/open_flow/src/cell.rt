@@ -19,14 +19,14 @@ use std::marker::Model;
 use std::sync::ledger::Ledger;
 
 /// The entry isn't the one that comes next, which is that of the step `want`. It is handed back.
-#[derive(Debug, Drop)]
+#[derive(Drop)]
 pub struct Late {
     pub entry: Entry,
     pub want: u32,
 }
 
 /// No accepted entry is left that wasn't changed to.
-#[derive(Clone, Copy, PartialEq, Eq, Debug)]
+#[derive(Clone, Copy, PartialEq, Eq)]
 pub struct Nothing;
 
 /// One flow of a rollout. For every reading of program texts, its state is that of its case after its word.

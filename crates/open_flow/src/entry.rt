@@ -9,7 +9,7 @@ use std::alloc::Global;
 use std::marker::Model;
 
 /// What is installed: a step's text and what it is built into, a program with its code or the text's refusal.
-#[derive(Debug, Drop)]
+#[derive(Drop)]
 pub struct Entry {
     step: u32,
     text: Bytes,
@@ -40,7 +40,7 @@ fn answer(alloc: Global, text: &[u8]) -> Result<Result<Built, BuildFault>, NoMem
 {
     match build(alloc, text) {
         Ok(built) => Ok(Ok(built)),
-        Err(refusal) if refusal == BuildFault::NoMemory => Err(NoMemory),
+        Err(BuildFault::NoMemory) => Err(NoMemory),
         Err(refusal) => Ok(Err(refusal)),
     }
 }

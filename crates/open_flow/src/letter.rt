@@ -1,7 +1,7 @@
 use ccp_base::Sequence;
 
 /// One step of the history of a flow of a rollout.
-#[derive(Clone, Copy, PartialEq, Eq, Debug)]
+#[derive(Clone, Copy)]
 pub enum OpenLetter {
     /// An acknowledgement.
     A,

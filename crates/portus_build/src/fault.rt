@@ -8,7 +8,7 @@ use thiserror::Error;
 
 /// Why a text is built into no code: the first step that refuses it, with its refusal. Want of memory in any step is
 /// `NoMemory`.
-#[derive(Clone, Copy, PartialEq, Eq, Debug, Error)]
+#[derive(Clone, Copy, Debug, Error)]
 pub enum BuildFault {
     /// The text can't be read.
     #[error("the text can't be read: {0:?}")]

@@ -4,7 +4,7 @@ use ccp_base::{FaultKind, NoMemory, Numbers, Place, Values};
 use std::alloc::{AllocError, Global};
 
 /// What a program keeps from one acknowledgement to the next.
-#[derive(Debug, Drop)]
+#[derive(Drop)]
 pub struct Env {
     /// The report fields in order of declaration.
     pub fields: Numbers,
@@ -40,7 +40,7 @@ fn copy_of(alloc: Global, numbers: &Numbers) -> Result<Numbers, NoMemory>
 }
 
 /// What an acknowledgement comes to.
-#[derive(Clone, Copy, PartialEq, Eq, Debug)]
+#[derive(Clone, Copy, PartialEq, Eq)]
 pub enum Mean {
     /// No report was asked for.
     Quiet,

@@ -5,7 +5,7 @@ ghost use Rattle.portus_core.specs.ValidPrograms.{is_declared, is_valid};
 use ccp_base::{Name, Op2, Place};
 
 /// What a name of a program stands for, each kind by its number in order of declaration.
-#[derive(Clone, Copy, PartialEq, Eq, Debug)]
+#[derive(Clone, Copy)]
 pub enum Var {
     Field(u32),
     Control(u32),
@@ -22,7 +22,7 @@ pub enum Var {
 }
 
 /// An expression. An operation has the place of its head atom.
-#[derive(Debug, Drop)]
+#[derive(Drop)]
 pub enum Expr {
     Num(u64),
     Truth(bool),
@@ -31,7 +31,7 @@ pub enum Expr {
 }
 
 /// A command of a block's body. `if`, `!if` and `ewma` have the place of their head atom.
-#[derive(Debug, Drop)]
+#[derive(Drop)]
 pub enum Cmd {
     /// Assigns a value.
     Set(Var, Expr),
@@ -50,7 +50,7 @@ pub enum Cmd {
 }
 
 /// The declaration of a field or a control variable.
-#[derive(Clone, Copy, PartialEq, Eq, Debug)]
+#[derive(Clone, Copy)]
 pub struct Decl {
     pub name: Name,
     /// Whether a report resets it to its declared value.
@@ -62,7 +62,7 @@ pub struct Decl {
 }
 
 /// A block: its body runs where its condition is true.
-#[derive(Debug, Drop)]
+#[derive(Drop)]
 pub struct Block {
     pub condition: Expr,
     pub body: Vec<Cmd>,
@@ -73,7 +73,7 @@ pub struct Block {
 /// A program: what it declares, in order, and its blocks. Its names are words that may be declared, none twice in a
 /// class, a Bool is declared as 0 or 1, its blocks are well scoped and typed, and all is within the limits of 64
 /// fields, 64 control variables, 64 blocks and 8 locals a body.
-#[derive(Debug, Drop)]
+#[derive(Drop)]
 pub struct Program {
     pub fields: Vec<Decl>,
     pub controls: Vec<Decl>,

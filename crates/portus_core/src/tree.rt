@@ -3,7 +3,7 @@ ghost use Rattle.portus_core.specs.Trees.{nodes_of, SplitsInto};
 use ccp_base::{Name, Place};
 
 /// A part of a program's text: a numeral, a word or a list, each with its place.
-#[derive(Debug, Drop)]
+#[derive(Drop)]
 pub enum Tree {
     Num(Place, u64),
     Word(Place, Name),
@@ -11,7 +11,7 @@ pub enum Tree {
 }
 
 /// A program's text as its forms.
-#[derive(Debug, Drop)]
+#[derive(Drop)]
 pub struct Source {
     pub forms: Vec<Tree>,
 }

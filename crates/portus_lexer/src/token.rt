@@ -6,7 +6,7 @@ use std::alloc::AllocError;
 
 /// A parenthesis or an atom of a text: its place, and its bytes from `start` to `end`, which is left out.
 /// `start` and `end` count the text's bytes from 0.
-#[derive(Clone, Copy, Debug, PartialEq, Eq)]
+#[derive(Clone, Copy, PartialEq, Eq)]
 pub struct Token {
     pub place: Place,
     pub start: u32,
@@ -17,7 +17,7 @@ pub struct Token {
 pub type Tokens = Sequence<Token>;
 
 /// Why a text has no tokens.
-#[derive(Clone, Copy, Debug, PartialEq, Eq)]
+#[derive(Clone, Copy, PartialEq, Eq, Debug)]
 pub enum LexFault {
     /// A byte outside comments isn't tab, LF, CR or one of 0x20 to 0x7E. The place is that of the first one.
     NotText(Place),

@@ -8,7 +8,7 @@ use std::alloc::{AllocError, AllocFailed};
 
 /// Why a text can't be read. The first cause in this order is the one that is answered; of the four from
 /// `Unexpected` to `Nesting` it is the first in the text, and `Unexpected` where two have one place.
-#[derive(Clone, Copy, Debug, PartialEq, Eq)]
+#[derive(Clone, Copy, Debug)]
 pub enum ParseFault {
     /// The text is longer than 65,536 bytes.
     SourceTooLong,

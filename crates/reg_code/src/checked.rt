@@ -7,7 +7,7 @@ use ccp_base::NoMemory;
 use std::alloc::Global;
 
 /// A code that each rule of acceptance accepts.
-#[derive(Debug, Drop)]
+#[derive(Drop)]
 pub struct Checked {
     pub code: Code,
     pub ghost accepted: { IsAccepted code },

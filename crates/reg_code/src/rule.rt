@@ -1,19 +1,19 @@
 /// A part of an event.
-#[derive(Clone, Copy, PartialEq, Eq, Debug)]
+#[derive(Clone, Copy)]
 pub enum Part {
     Condition,
     Body,
 }
 
 /// How many report fields and control variables a code has.
-#[derive(Clone, Copy, PartialEq, Eq, Debug)]
+#[derive(Clone, Copy)]
 pub struct Sizes {
     pub reports: usize,
     pub controls: usize,
 }
 
 /// A rule of acceptance.
-#[derive(Clone, Copy, PartialEq, Eq, Debug)]
+#[derive(Clone, Copy, PartialEq, Eq)]
 pub enum Rule {
     /// There are at most 64 reports, 64 controls, 64 events and 256 instructions.
     Counts,

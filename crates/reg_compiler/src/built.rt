@@ -11,7 +11,7 @@ use reg_code::Checked;
 /// room, the code comes to the same outcome with the same fields, and leaves the same state. Where the program faults,
 /// the code faults at an instruction with the same place, and the other way round. The compiler refuses no such
 /// program.
-#[derive(Debug, Drop)]
+#[derive(Drop)]
 pub struct Built {
     pub program: Program,
     pub code: Checked,

@@ -5,7 +5,7 @@ use ccp_base::{Place, Sequence};
 use reg_code::{Instr, Op, Reg};
 
 /// An instruction with the place of the source that it faults for.
-#[derive(Clone, Copy, PartialEq, Eq, Debug)]
+#[derive(Clone, Copy)]
 pub struct Line {
     pub instr: Instr,
     pub place: Place,

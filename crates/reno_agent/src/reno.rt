@@ -12,7 +12,7 @@ const WINDOW_SEGMENTS: u64 = 4096;
 const THRESHOLD_SEGMENTS: u64 = 2;
 
 /// The state of a Reno agent.
-#[derive(Clone, Copy, PartialEq, Eq, Debug)]
+#[derive(Clone, Copy, PartialEq, Eq)]
 pub struct Reno {
     /// The segment's size, in bytes.
     mss: u32,

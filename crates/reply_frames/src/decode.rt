@@ -15,7 +15,7 @@ use crate::values::{change, update};
 use ccp_base::Fields;
 
 /// What an Update or a Change says beside its values.
-#[derive(Clone, Copy, PartialEq, Eq, Debug)]
+#[derive(Clone, Copy, PartialEq, Eq)]
 pub struct Head {
     /// The flow.
     pub flow: u32,

@@ -1,5 +1,5 @@
 /// The field of a frame in which a byte is bad.
-#[derive(Clone, Copy, PartialEq, Eq, Debug)]
+#[derive(Clone, Copy, PartialEq, Eq)]
 pub enum BadKind {
     /// The kind, or the reason of a Refused frame.
     Kind,
@@ -22,7 +22,7 @@ pub enum BadKind {
 }
 
 /// Where the reading of a part of a frame stopped.
-#[derive(Clone, Copy, PartialEq, Eq, Debug)]
+#[derive(Clone, Copy)]
 pub enum Stop {
     /// At the end of the bytes, where the part goes on.
     Cut,
@@ -31,7 +31,7 @@ pub enum Stop {
 }
 
 /// Why bytes don't begin with an Update or a Change.
-#[derive(Clone, Copy, PartialEq, Eq, Debug)]
+#[derive(Clone, Copy, PartialEq, Eq)]
 pub enum FrameFault {
     /// They are a proper prefix of a frame, which goes on to this many bytes at least: to the 16 of a head, or to
     /// the frame's length where the head is there.
@@ -43,5 +43,5 @@ pub enum FrameFault {
 }
 
 /// The bytes that were handed in are fewer than the frame needs, which is this many.
-#[derive(Clone, Copy, PartialEq, Eq, Debug)]
+#[derive(Clone, Copy, PartialEq, Eq)]
 pub struct Short(pub usize);

@@ -7,7 +7,7 @@ ghost use Rattle.reply_frames.specs.Kinds.{number_of, kind_of, version_number, v
 use ccp_base::PRIMITIVES;
 
 /// What a frame is for.
-#[derive(Clone, Copy, PartialEq, Eq, Debug)]
+#[derive(Clone, Copy)]
 pub enum FrameKind {
     /// A flow begins.
     Create,
@@ -28,14 +28,14 @@ pub enum FrameKind {
 }
 
 /// The versions of frames: in the second one a report has more fields, and counts of acknowledgements are wider.
-#[derive(Clone, Copy, PartialEq, Eq, Debug)]
+#[derive(Clone, Copy, PartialEq, Eq)]
 pub enum Version {
     One,
     Two,
 }
 
 /// The counts of a frame's head; those that its kind doesn't use are 0.
-#[derive(Clone, Copy, PartialEq, Eq, Debug)]
+#[derive(Clone, Copy)]
 pub struct Counts {
     /// The fields of a Measure, the reports of an Install, the values of an Update or a Change.
     pub n1: u8,
@@ -48,7 +48,7 @@ pub struct Counts {
 }
 
 /// The head of a frame; the frame's length follows from it.
-#[derive(Clone, Copy, PartialEq, Eq, Debug)]
+#[derive(Clone, Copy)]
 pub struct Outline {
     pub kind: FrameKind,
     pub version: Version,

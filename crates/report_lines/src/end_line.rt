@@ -7,7 +7,7 @@ use portus_core::Decl;
 use std::alloc::Global;
 
 /// How a flow stands at its end.
-#[derive(Clone, Copy, PartialEq, Eq, Debug)]
+#[derive(Clone, Copy)]
 pub struct End {
     /// How many acknowledgements there were.
     pub acks: u64,

@@ -2,7 +2,7 @@ use ccp_base::Sequence;
 use flow_core::Letter;
 
 /// A letter of a ticket, and at how many acknowledgements it stands.
-#[derive(Clone, Copy, PartialEq, Eq, Debug)]
+#[derive(Clone, Copy)]
 pub struct Mark {
     pub at: u64,
     pub letter: Letter,

@@ -1,5 +1,5 @@
 /// What is said of a text as the live text of a scenario.
-#[derive(Clone, Copy, PartialEq, Eq, Debug)]
+#[derive(Clone, Copy)]
 pub enum Verdict {
     /// It is the text of the scenario's flows, for some histories.
     Yes,

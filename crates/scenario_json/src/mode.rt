@@ -2,7 +2,7 @@ ghost use Rattle.std.specs.Prelude.{◌≡◌};
 ghost use Rattle.scenario_json.specs.Scene.{most_cases_of};
 
 /// What a scenario is read for.
-#[derive(Clone, Copy, PartialEq, Eq, Debug)]
+#[derive(Clone, Copy)]
 pub enum Mode {
     /// A live run: at most 64 cases, with at most 262,144 acknowledgements in all.
     Live,

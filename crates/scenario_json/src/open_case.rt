@@ -10,7 +10,7 @@ pub type StepTexts = Sequence<Bytes>;
 
 /// What a flow of a rollout is: its link, how many acknowledgements come, its window at first, and the texts that are
 /// installed one after another.
-#[derive(Debug, Drop)]
+#[derive(Drop)]
 pub struct OpenCase {
     pub flow: u32,
     pub name: Name,

@@ -16,7 +16,7 @@ use serde_json::{Map, Value};
 use std::alloc::Global;
 
 /// The text of a program under its name.
-#[derive(Debug, Drop)]
+#[derive(Drop)]
 pub(crate) struct OpenText {
     pub name: Name,
     pub text: Bytes,

@@ -2,14 +2,14 @@ use ccp_base::{Name, Sequence};
 use link_model::Trace;
 
 /// Which agent a case has.
-#[derive(Clone, Copy, PartialEq, Eq, Debug)]
+#[derive(Clone, Copy)]
 pub enum Kind {
     Reno,
     Cubic,
 }
 
 /// The numbers that every case gives.
-#[derive(Clone, Copy, PartialEq, Eq, Debug)]
+#[derive(Clone, Copy)]
 pub struct Measures {
     /// A packet's size, in bytes.
     pub mss: u32,
@@ -24,21 +24,21 @@ pub struct Measures {
 }
 
 /// How many reports may wait, and for how many acknowledgements an answer is late.
-#[derive(Clone, Copy, PartialEq, Eq, Debug)]
+#[derive(Clone, Copy)]
 pub struct Waits {
     pub slots: u32,
     pub lag: u32,
 }
 
 /// Which packets are lost whatever the queue, and from how many waiting packets on a packet is marked.
-#[derive(Debug, Drop)]
+#[derive(Drop)]
 pub struct Fates {
     pub losses: Sequence<u32>,
     pub mark: Option<u32>,
 }
 
 /// The numbers of a case's programs.
-#[derive(Clone, Copy, PartialEq, Eq, Debug)]
+#[derive(Clone, Copy)]
 pub struct Programs {
     /// The program of slow start.
     pub ss: u32,
@@ -47,7 +47,7 @@ pub struct Programs {
 }
 
 /// What a case says.
-#[derive(Debug, Drop)]
+#[derive(Drop)]
 pub struct Plan {
     pub name: Name,
     pub kind: Kind,

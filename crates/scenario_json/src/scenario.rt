@@ -11,7 +11,7 @@ use reg_compiler::Builts;
 use std::alloc::Global;
 
 /// What is run: all programs with their numbers, and the cases with their names, in order. Case i is flow i.
-#[derive(Debug, Drop)]
+#[derive(Drop)]
 pub struct Scenario {
     pub programs: Builts,
     pub names: Names,

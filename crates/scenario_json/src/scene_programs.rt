@@ -24,14 +24,14 @@ use std::alloc::Global;
 const NAMED_PROGRAMS: usize = 13;
 
 /// A program under its name.
-#[derive(Debug, Drop)]
+#[derive(Drop)]
 pub(crate) struct NamedProgram {
     pub name: Name,
     pub built: Built,
 }
 
 /// All programs of a scenario with their numbers, and the names of those that it names.
-#[derive(Debug, Drop)]
+#[derive(Drop)]
 pub(crate) struct SceneProgramList {
     pub names: Names,
     pub builts: Builts,

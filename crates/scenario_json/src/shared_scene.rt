@@ -3,7 +3,7 @@ use shared_link::SharedCase;
 
 /// What is run where flows share one link: the scenario, the link with one flow for each case in order, and the most
 /// rounds.
-#[derive(Debug, Drop)]
+#[derive(Drop)]
 pub struct SharedScene {
     pub scene: Scenario,
     pub link: SharedCase,

@@ -21,7 +21,7 @@ use shared_link::{FlowLink, FlowLinks};
 use std::alloc::Global;
 
 /// What the member `shared` says.
-#[derive(Debug, Drop)]
+#[derive(Drop)]
 pub(crate) struct Shares {
     pub trace: Trace,
     pub queue: u32,

@@ -8,7 +8,7 @@ use ccp_base::{Bytes, NoMemory};
 use std::alloc::{AllocError, Global};
 
 /// Where a value stands in a scenario.
-#[derive(Clone, Copy, PartialEq, Eq, Debug)]
+#[derive(Clone, Copy)]
 pub(crate) enum Spot {
     Whole,
     /// A member of the whole.

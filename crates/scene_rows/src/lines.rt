@@ -7,7 +7,7 @@ use std::process::Abort;
 use std::test::Fail;
 
 /// A call that reads scenarios.
-#[derive(Clone, Copy, PartialEq, Eq, Debug)]
+#[derive(Clone, Copy, Debug)]
 pub enum Reader {
     Live,
     Campaign,

@@ -21,14 +21,14 @@ use std::alloc::Global;
 const BLOCKS: usize = 64;
 
 /// A block, and the names after it.
-#[derive(Debug, Drop)]
+#[derive(Drop)]
 pub(crate) struct Built {
     pub block: Block,
     pub names: Names,
 }
 
 /// Blocks, and the names after them.
-#[derive(Debug, Drop)]
+#[derive(Drop)]
 pub(crate) struct Blocks {
     pub all: Vec<Block>,
     pub names: Names,

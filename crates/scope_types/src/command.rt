@@ -15,7 +15,7 @@ use portus_core::{Cmd, Parts, Tree, Var, take_apart};
 use std::alloc::Global;
 
 /// The commands of a body, and the names after them.
-#[derive(Debug, Drop)]
+#[derive(Drop)]
 pub(crate) struct Body {
     pub commands: Vec<Cmd>,
     pub names: Names,

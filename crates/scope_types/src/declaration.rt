@@ -17,7 +17,7 @@ use portus_core::{Decl, Parts, Tree, is_name_shaped, take_apart};
 const CONTROLS: usize = 64;
 
 /// A declared value.
-#[derive(Clone, Copy, PartialEq, Eq, Debug)]
+#[derive(Clone, Copy)]
 pub(crate) struct Start {
     pub value: u64,
     /// Whether it is a Bool.
@@ -25,14 +25,14 @@ pub(crate) struct Start {
 }
 
 /// A declaration, with the place of its word.
-#[derive(Clone, Copy, PartialEq, Eq, Debug)]
+#[derive(Clone, Copy)]
 pub(crate) struct Declaration {
     pub at: Place,
     pub decl: Decl,
 }
 
 /// What the parts of `def` so far declare.
-#[derive(Debug, Drop)]
+#[derive(Drop)]
 pub(crate) struct Declared {
     pub names: Names,
     /// Whether the group of fields was there.

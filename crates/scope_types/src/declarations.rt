@@ -13,7 +13,7 @@ use std::hash::{Hash, Hasher};
 use std::marker::Model;
 
 /// A declaration, which its name alone tells from the others.
-#[derive(Debug, Drop)]
+#[derive(Drop)]
 struct Named {
     decl: Decl,
 }
@@ -64,7 +64,7 @@ impl Equivalent<Named> for &[u8] {
 }
 
 /// Declarations in order, each found by its name without a walk over the others. Contracts see them as a list.
-#[derive(Debug, Drop)]
+#[derive(Drop)]
 pub(crate) struct Declarations {
     all: IndexSet<Named>,
 }

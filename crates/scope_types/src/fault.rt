@@ -2,7 +2,7 @@ use ccp_base::Place;
 use std::alloc::{AllocError, AllocFailed};
 
 /// What a program has more of than it may.
-#[derive(Clone, Copy, PartialEq, Eq, Debug)]
+#[derive(Clone, Copy, Debug)]
 pub enum What {
     Fields,
     Controls,
@@ -11,7 +11,7 @@ pub enum What {
 }
 
 /// Why a text's forms are no program, with the place of the part that is refused.
-#[derive(Clone, Copy, PartialEq, Eq, Debug)]
+#[derive(Clone, Copy, Debug)]
 pub enum ScopeFault {
     /// A word stands for nothing.
     Unknown(Place),

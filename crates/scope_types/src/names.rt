@@ -5,7 +5,7 @@ use crate::declarations::Declarations;
 use ccp_base::{Name, Sequence};
 
 /// A local of a block's body.
-#[derive(Clone, Copy, PartialEq, Eq, Debug)]
+#[derive(Clone, Copy)]
 pub(crate) struct Local {
     pub name: Name,
     /// Whether it is a Bool.
@@ -13,7 +13,7 @@ pub(crate) struct Local {
 }
 
 /// The names that have a meaning beside those of the language.
-#[derive(Debug, Drop)]
+#[derive(Drop)]
 pub(crate) struct Names {
     pub fields: Declarations,
     pub controls: Declarations,

@@ -12,7 +12,7 @@ use ccp_base::{Name, Place};
 use portus_core::{Tree, Var};
 
 /// What an assignment names.
-#[derive(Clone, Copy, PartialEq, Eq, Debug)]
+#[derive(Clone, Copy)]
 pub(crate) enum Target {
     /// A name with a meaning.
     Known(Place, Var),

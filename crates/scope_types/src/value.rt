@@ -22,7 +22,7 @@ use std::alloc::Global;
 const LOCALS: usize = 8;
 
 /// A command, and the names after it.
-#[derive(Debug, Drop)]
+#[derive(Drop)]
 pub(crate) struct Step {
     pub command: Cmd,
     pub names: Names,

@@ -1,5 +1,5 @@
 /// What a flow asks for in a round.
-#[derive(Clone, Copy, PartialEq, Eq, Debug)]
+#[derive(Clone, Copy)]
 pub struct Ask {
     /// Its window, in bytes.
     pub window: u64,
@@ -8,7 +8,7 @@ pub struct Ask {
 }
 
 /// Packets of all flows after some rounds.
-#[derive(Clone, Copy, PartialEq, Eq, Debug)]
+#[derive(Clone, Copy)]
 pub struct Counts {
     /// How many rounds there were.
     pub rounds: u64,

@@ -7,7 +7,7 @@ ghost use Rattle.shared_link.specs.Kept.{span, IsSending};
 use link_model::{Chance, Queue, Trace};
 
 /// The sending of a round.
-#[derive(Clone, Copy, PartialEq, Eq, Debug)]
+#[derive(Clone, Copy)]
 pub(crate) struct Sending {
     /// How many rounds there were before.
     pub(crate) rounds: u32,

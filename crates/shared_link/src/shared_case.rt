@@ -2,7 +2,7 @@ use ccp_base::Sequence;
 use link_model::Trace;
 
 /// What a flow has of its own on a link that several flows share.
-#[derive(Debug, Drop)]
+#[derive(Drop)]
 pub struct FlowLink {
     /// A packet's size, in bytes.
     pub mss: u32,
@@ -20,7 +20,7 @@ pub struct FlowLink {
 pub type FlowLinks = Sequence<FlowLink>;
 
 /// What a link of several flows is.
-#[derive(Debug, Drop)]
+#[derive(Drop)]
 pub struct SharedCase {
     /// When the link has a chance to send a packet.
     pub trace: Trace,

@@ -5,7 +5,7 @@ use std::marker::Model;
 /// A slot of a pool that was taken and not yet given back. It is seen as its number, from 0.
 ///
 /// It can't be copied, so a slot has one holder.
-#[derive(Debug, Drop)]
+#[derive(Drop)]
 pub struct Slot {
     number: usize,
 }
@@ -35,5 +35,5 @@ impl Slot {
 }
 
 /// Every slot is out.
-#[derive(Clone, Copy, Debug, PartialEq, Eq)]
+#[derive(Clone, Copy, Debug)]
 pub struct Full;

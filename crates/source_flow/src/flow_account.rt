@@ -3,7 +3,7 @@ use flow_core::{EpochLine, TicketLine};
 use report_lines::End;
 
 /// A fault of a flow, with its place in the source.
-#[derive(Clone, Copy, PartialEq, Eq, Debug)]
+#[derive(Clone, Copy)]
 pub struct SourceFault {
     pub program: u32,
     pub epoch: u32,
@@ -19,7 +19,7 @@ pub struct SourceFault {
 }
 
 /// What a flow's history comes to by the meaning of its programs' sources.
-#[derive(Debug, Drop)]
+#[derive(Drop)]
 pub struct FlowAccount {
     /// The epochs in order, the opening one first.
     pub epochs: Sequence<EpochLine>,
