@@ -1,29 +1,13 @@
 -- How long the frames of an answer are, and what a buffer holds that one was written over.
-use Rattle.std.proofs.Common.{◌≡◌, ℕ, ◌+◌, ◌*◌, ◌≤◌, List, [], ◌∷◌, ◌++◌, length, take, drop, refl, ap, sym, subst, ◌∙◌, arith, length-append}
+use Rattle.std.proofs.Common.{◌≡◌, ℕ, ◌+◌, ◌*◌, ◌≤◌, List, ◌++◌, length, take, drop, ap, sym, subst, ◌∙◌, arith}
 use Rattle.std.specs.Prelude.{replicate}
-use Rattle.std.specs.Int.{w64, to_le_bytes}
 use Rattle.std.proofs.Math.Seq.{take-append_seam}
 use Rattle.std.proofs.lemmas.List.{drop-replicate}
-use Rattle.ccp_base.specs.declared.fields.FieldReg.{FieldReg}
-use Rattle.ccp_base.specs.declared.fields.FieldReg.TheVariants.{Cwnd, Rate, Control}
 use Rattle.ccp_base.specs.FieldReg.{Pair}
 use Rattle.ccp_base.specs.InPlace.{IsPadded, padded, IsPadded-padded}
 use Rattle.reply_frames.specs.declared.outline.Version.TheVariants.{One}
-use Rattle.reply_frames.specs.Spelling.{target_bytes, value_bytes, values_bytes, update_bytes, change_bytes}
-
-length-target_bytes : (reg : FieldReg) → length (target_bytes reg) ≡ 2
-length-target_bytes Cwnd = refl
-length-target_bytes Rate = refl
-length-target_bytes (Control number) = refl
-
-length-value_bytes : (value : Pair) → length (value_bytes value) ≡ 10
-length-value_bytes value =
-    length-append (target_bytes value.0) (to_le_bytes w64 value.1) ∙ ap (λ n. n + 8) (length-target_bytes value.0)
-
-length-values_bytes : (values : List Pair) → length (values_bytes values) ≡ 10 * length values
-length-values_bytes [] = refl
-length-values_bytes (value ∷ rest) =
-    omega (arith, length-append (value_bytes value) (values_bytes rest), length-value_bytes value, length-values_bytes rest)
+use Rattle.reply_frames.specs.Spelling.{update_bytes, change_bytes}
+use Rattle.reply_frames.proofs.Placing.{length-values_bytes}
 
 pub length-update_bytes : (flow : ℕ) (values : List Pair) → length (update_bytes One flow values) ≡ 16 + 10 * length values
 length-update_bytes flow values = omega (arith, length-values_bytes values)

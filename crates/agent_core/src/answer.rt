@@ -30,7 +30,12 @@ impl Model for Answer {
 
     ghost inverse = { λ t. record { ticket = t; after = after_of t; reply = reply_of t; frame = frame_of t } };
 
-    ghost inverse_ok = { λ a h. λ i. record { ticket = a.ticket; after = h.agent i; reply = h.said i; frame = h.bytes i } };
+    ghost inverse_ok = { λ a h. λ i. record {
+      ticket = a.ticket;
+      after = h.agent i;
+      reply = h.said i;
+      frame = h.bytes i;
+    } };
 }
 
 impl Answer {

@@ -25,7 +25,10 @@ impl Model for Frame {
 
     ghost inverse = { λ xs. record { bytes = padded 64 0 xs; count = length xs } };
 
-    ghost inverse_ok = { λ a h. λ i. record { bytes = padded-held 64 0 a.bytes a.count h i; count = length-held 64 0 a.bytes a.count h i } };
+    ghost inverse_ok = { λ a h. λ i. record {
+      bytes = padded-held 64 0 a.bytes a.count h i;
+      count = length-held 64 0 a.bytes a.count h i;
+    } };
 }
 
 impl Frame {

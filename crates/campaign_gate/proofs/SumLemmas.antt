@@ -3,7 +3,7 @@ use Rattle.std.specs.Prelude.{◌≡◌, ℕ, zero, suc, ◌+◌, ◌-◌, ◌*�
 use Rattle.std.proofs.Common.{arith, sym, ◌∙◌, subst, length-append}
 use Rattle.ccp_base.specs.declared.ack.Ack.{Ack}
 use Rattle.link_model.specs.declared.link_case.LinkCase.{LinkCase}
-use Rattle.link_model.specs.Link.{Packet, Taking, Numbered, Given, Run, packets_to, time_of, Next, arrives, all_lost, allowance, is_lost, packet_after, with_sent, takes, left_by, lost_by, numbered, in_flight, next_of, answer_by, answer_to, sent_by, called, run_from, run_of, acks_in_order, acks_of}
+use Rattle.link_model.specs.Link.{Packet, Taking, Numbered, GivenAck, Run, packet_and_lost_below, time_of, Next, arrives, all_lost, allowance, is_lost, packet_after, with_sent, takes, left_by, lost_by, numbered, in_flight, next_of, answer_by, answer_to, sent_by, called, run_from, run_of, acks_in_order, acks_of}
 use Rattle.flow_core.specs.declared.letter.Letter.{Letter}
 use Rattle.flow_core.specs.Readings.{Flow}
 use Rattle.flow_core.specs.Words.{world}
@@ -58,17 +58,17 @@ lost-most taking [] = omega arith
 lost-most taking (sent ∷ rest) =
     omega (arith, lost-most taking rest, lost-one (takes taking sent && is_lost sent.packet.fate) (lost_by taking rest))
 
-flight-most : (packets : List Packet) (givens : List Given) → length (in_flight packets givens) ≤ length packets
+flight-most : (packets : List Packet) (givens : List GivenAck) → length (in_flight packets givens) ≤ length packets
 flight-most packets [] = omega (arith, length-numbered packets)
 flight-most packets (given ∷ earlier) =
     omega (arith, flight-most packets earlier, left-most given.taking (in_flight packets earlier))
 
-answer-lost : (case : LinkCase) (packets : List Packet) (givens : List Given) (flight : List Numbered) (next : Next)
+answer-lost : (case : LinkCase) (packets : List Packet) (givens : List GivenAck) (flight : List Numbered) (next : Next)
     → (answer_by case packets givens flight next).ack.lost_pkts_sample ≤ length flight
-answer-lost case packets givens flight (arrives number sent_at chance marked) = lost-most (packets_to number) flight
+answer-lost case packets givens flight (arrives number sent_at chance marked) = lost-most (packet_and_lost_below number) flight
 answer-lost case packets givens flight all_lost = omega arith
 
-answer-acked : (case : LinkCase) (packets : List Packet) (givens : List Given) (flight : List Numbered) (next : Next)
+answer-acked : (case : LinkCase) (packets : List Packet) (givens : List GivenAck) (flight : List Numbered) (next : Next)
     → (answer_by case packets givens flight next).ack.bytes_acked ≤ case.mss
 answer-acked case packets givens flight (arrives number sent_at chance marked) = omega arith
 answer-acked case packets givens flight all_lost = omega arith

@@ -45,7 +45,8 @@ pub record CubicState : Type 0 where
   pub course : Course
   -- cwnd
   pub window : ℕ
-  -- W_max: the window at the last loss event, less where it had shrunk since the one before
+  -- W_max: the window at the last loss event, less where it had shrunk since the one before; or the window where
+  -- congestion avoidance began after slow start, where that came later
   pub w_max : ℕ
   -- cwnd_prior: the window at the last loss event
   pub w_prior : ℕ
@@ -65,15 +66,30 @@ abbrev pub growth_of : CubicState → Growth
 growth_of s =
     record { window = s.window; w_max = s.w_max; w_prior = s.w_prior; w_est = s.w_est; k = s.k; start = s.start }
 
--- the ranges of a state
-pub record IsInRange (mss window w_max w_prior w_est : ℕ) : Type 0 where
+-- the state of these parts: the segment's size, the course, the growth, the threshold and until when it is calm
+abbrev pub state_of : ℕ → Course → Growth → ℕ → ℕ → CubicState
+state_of mss course growth ssthresh calm = record {
+  mss = mss;
+  course = course;
+  window = growth.window;
+  w_max = growth.w_max;
+  w_prior = growth.w_prior;
+  w_est = growth.w_est;
+  k = growth.k;
+  start = growth.start;
+  ssthresh = ssthresh;
+  calm = calm;
+}
+
+-- the ranges of a segment's size and of the windows
+pub record IsInRange (mss : ℕ) (growth : Growth) : Type 0 where
   pub segment : 1 ≤ mss
   pub segment_most : mss ≤ most_segment_bytes
-  pub window_least : 1000 ≤ window
-  pub window_most : window ≤ most_window
-  pub w_max_most : w_max ≤ most_window
-  pub w_prior_most : w_prior ≤ most_window
-  pub w_est_most : w_est ≤ most_window
+  pub window_least : 1000 ≤ growth.window
+  pub window_most : growth.window ≤ most_window
+  pub w_max_most : growth.w_max ≤ most_window
+  pub w_prior_most : growth.w_prior ≤ most_window
+  pub w_est_most : growth.w_est ≤ most_window
 
 -- what a state becomes, and the reply
 abbrev pub Turn : Type 0
@@ -146,7 +162,8 @@ estimate_of acked s =
     let fast = (1000 *ˢ acked) / s.window in
     min (s.w_est +ˢ (if nat_lt s.w_est s.w_prior then slow else fast)) most_window
 
--- the window one round-trip time from now, from the window to half as much again (RFC 9438, section 4.2)
+-- the window of the curve, t milliseconds into the epoch, from the window to half as much again; the RFC's target is
+-- that of one round-trip time from now, and `grown` adds that time (RFC 9438, section 4.2)
 abbrev pub target_of : ℕ → CubicState → ℕ
 target_of t s = clamped s.window (s.window +ˢ s.window / 2) (w_cubic s.w_max s.k t)
 

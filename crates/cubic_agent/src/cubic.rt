@@ -21,7 +21,8 @@ const MILLISECOND: u64 = 1000;
 pub struct Growth {
     /// The RFC's cwnd.
     pub window: u64,
-    /// W_max: the window at the last loss event, less where it had shrunk since the one before.
+    /// W_max: the window at the last loss event, less where it had shrunk since the one before; or the window where
+    /// congestion avoidance began after slow start, where that came later.
     pub w_max: u64,
     /// The RFC's cwnd_prior: the window at the last loss event.
     pub w_prior: u64,
@@ -47,19 +48,26 @@ pub struct Cubic {
 }
 
 impl Model for Cubic {
-    ghost use Rattle.cubic_agent.specs.Cubic.{CubicState, IsInRange};
+    ghost use Rattle.cubic_agent.specs.Cubic.{CubicState, IsInRange, growth_of, state_of};
 
     ghost Value = { CubicState };
 
-    ghost view = { λ c. record { mss = c.mss; course = c.course; window = c.growth.window; w_max = c.growth.w_max; w_prior = c.growth.w_prior; w_est = c.growth.w_est; k = c.growth.k; start = c.growth.start; ssthresh = c.ssthresh; calm = c.calm } };
+    ghost view = { λ c. state_of c.mss c.course c.growth c.ssthresh c.calm };
 
-    ghost invariant = { λ c. IsInRange c.mss c.growth.window c.growth.w_max c.growth.w_prior c.growth.w_est };
+    ghost invariant = { λ c. IsInRange c.mss c.growth };
 
-    ghost inverse = { λ s. record { mss = s.mss; course = s.course; growth = record { window = s.window; w_max = s.w_max; w_prior = s.w_prior; w_est = s.w_est; k = s.k; start = s.start }; ssthresh = s.ssthresh; calm = s.calm } };
+    ghost inverse = { λ s. record {
+      mss = s.mss;
+      course = s.course;
+      growth = growth_of s;
+      ssthresh = s.ssthresh;
+      calm = s.calm;
+    } };
 }
 
 impl Cubic {
     ghost use Rattle.cubic_agent.specs.Cubic.{cubic, first_cubic, growth_of, window_told, after_timeout, after_loss, in_slow_start, in_avoidance, after_measurement, after_fault, acked_of, estimate_of, target_of, grown};
+    ghost use Rattle.cubic_agent.specs.Window.{most_window};
     ghost use Rattle.ccp_base.specs.Course.{opening_of};
 
     /// An agent that was told nothing yet, of a flow whose segments have `mss` bytes, with its programs of slow
@@ -267,7 +275,7 @@ impl Cubic {
     }
 
     /// The window that the curve asks for, `t` milliseconds into the epoch, from the window to half as much
-    /// again (RFC 9438, section 4.2).
+    /// again. The RFC's target is that of one round-trip time from now, which `t` has in it (RFC 9438, section 4.2).
     fn target(&self, t: u64) -> u64
         ensures { result ≡ target_of t self.now }
     {
@@ -282,7 +290,7 @@ impl Cubic {
     fn grown(&self, acked: u64, t: u64, rtt: u64) -> u64
         ensures value { result ≡ grown acked t rtt self.now }
         ensures least { 1000 ≤ result }
-        ensures most { result ≤ 4096000 }
+        ensures most { result ≤ most_window }
     {
         // the Reno-friendly region (RFC 9438, section 4.3)
         if w_cubic(self.growth.w_max, self.growth.k, t) < self.growth.w_est {

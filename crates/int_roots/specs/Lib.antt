@@ -1,3 +1,2 @@
--- The definitions of int_roots, a file each; files named ..Laws have what follows from them.
+-- The definitions of int_roots, a file each.
 pub mod Roots
-pub mod RootLaws

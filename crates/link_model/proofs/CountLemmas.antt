@@ -4,7 +4,7 @@ use Rattle.std.proofs.lemmas.Bool.{cases_lt}
 use Rattle.std.proofs.lemmas.List.{get_or_append_left}
 use Rattle.std.proofs.Math.Seq.{get_or-append_seam}
 use Rattle.std.specs.List.Sorted.{IsStrictlyIncreasing}
-use Rattle.link_model.specs.Link.{Packet, Fate, Lost, Served, Numbered, Next, arrives, all_lost, packets_to, all_below, left_by, lost_by, chances_past}
+use Rattle.link_model.specs.Link.{Packet, Fate, Lost, Served, Numbered, Next, arrives, all_lost, packet_and_lost_below, all_below, left_by, lost_by, chances_past}
 use Rattle.link_model.specs.Counts.{served_chances}
 use Rattle.link_model.specs.Standing.{packets_of}
 use Rattle.link_model.proofs.Whole.{Landing, Arrived, AllLost, landing, landing_by, staying}
@@ -72,7 +72,7 @@ counts_as n (packet ∷ rest) = counts_by n packet.sent_at packet.fate rest (lan
 
 -- the packets in flight are the one that is acknowledged, the lost ones that leave, and those that stay
 abbrev pub CountNext : ℕ → List Numbered → Next → Type 0
-CountNext bound flight (arrives number sent_at chance marked) = length flight ≡ 1 + lost_by (packets_to number) flight + length (left_by (packets_to number) flight)
+CountNext bound flight (arrives number sent_at chance marked) = length flight ≡ 1 + lost_by (packet_and_lost_below number) flight + length (left_by (packet_and_lost_below number) flight)
 CountNext bound flight all_lost = length (left_by (all_below bound) flight) ≡ 0
 
 pub count_next : (bound : ℕ) (flight : List Numbered) (next : Next) → MatchNext flight 0 0 next → AllBelow bound flight → CountNext bound flight next
@@ -80,4 +80,4 @@ count_next bound flight all_lost same below = ap length (left_by-all_below bound
 count_next bound flight (arrives number sent_at chance marked) same below =
     let counts = subst (λ (l : Landing). CountsAs 0 (packets_of flight) l) same.0 (counts_as 0 (packets_of flight)) in
     let stay = ap length same.1 in
-    omega (arith, counts, stay, length-packets_of flight, length-packets_of (left_by (packets_to number) flight))
+    omega (arith, counts, stay, length-packets_of flight, length-packets_of (left_by (packet_and_lost_below number) flight))

@@ -1,7 +1,7 @@
 -- The packets in flight of the definition against those that a link keeps.
 use Rattle.std.proofs.Common.{◌≡◌, ℕ, suc, ◌+◌, ◌<◌, ◌≤◌, Bool, true, false, cond, eqb, ltb, ◌||◌, ◌&&◌, List, [], ◌∷◌, ◌++◌, length, refl, ap, ◌∙◌, arith}
 use Rattle.std.proofs.lemmas.Bool.Decides.{nat_tests}
-use Rattle.link_model.specs.Link.{Packet, Fate, Lost, Served, Taking, packets_to, all_below, Given, Numbered, takes, left_by, lost_by, is_lost, in_flight, Next, arrives, all_lost, next_by, next_of}
+use Rattle.link_model.specs.Link.{Packet, Fate, Lost, Served, Taking, packet_and_lost_below, all_below, GivenAck, Numbered, takes, left_by, lost_by, is_lost, in_flight, Next, arrives, all_lost, next_by, next_of}
 use Rattle.link_model.specs.Standing.{packets_of}
 use Rattle.link_model.proofs.Whole.{Arrived, AllLost, landing, staying}
 
@@ -54,18 +54,18 @@ AllBelow-left_by taking bound (sent ∷ rest) below = below_if (takes taking sen
 
 -- what was taken away was sent before
 abbrev pub TakesBelow : ℕ → Taking → Type 0
-TakesBelow bound (packets_to number) = number < bound
+TakesBelow bound (packet_and_lost_below number) = number < bound
 TakesBelow bound (all_below sent) = sent ≤ bound
 
-abbrev pub AllTakeBelow : ℕ → List Given → Type 0
+abbrev pub AllTakeBelow : ℕ → List GivenAck → Type 0
 AllTakeBelow bound [] = Unit {0}
 AllTakeBelow bound (given ∷ earlier) = TakesBelow bound given.taking × AllTakeBelow bound earlier
 
 takes_below-more : (bound more : ℕ) (taking : Taking) → bound ≤ more → TakesBelow bound taking → TakesBelow more taking
-takes_below-more bound more (packets_to number) order below = omega (arith, below)
+takes_below-more bound more (packet_and_lost_below number) order below = omega (arith, below)
 takes_below-more bound more (all_below sent) order below = omega (arith, below)
 
-pub all_take_below-more : (bound more : ℕ) (givens : List Given) → bound ≤ more → AllTakeBelow bound givens → AllTakeBelow more givens
+pub all_take_below-more : (bound more : ℕ) (givens : List GivenAck) → bound ≤ more → AllTakeBelow bound givens → AllTakeBelow more givens
 all_take_below-more bound more [] order below = tt
 all_take_below-more bound more (given ∷ earlier) order below =
     (takes_below-more bound more given.taking order below.0, all_take_below-more bound more earlier order below.1)
@@ -83,7 +83,7 @@ not_under a b order = grind (arith, nat_tests)
 
 -- a later packet isn't taken away
 pub not_taken : (taking : Taking) (sent : Numbered) → TakesBelow sent.number taking → takes taking sent ≡ false
-not_taken (packets_to number) sent below =
+not_taken (packet_and_lost_below number) sent below =
     not_either (eqb sent.number number) (is_lost sent.packet.fate) (ltb sent.number number) (apart number sent.number below) (not_under number sent.number (omega arith))
 not_taken (all_below count) sent below = not_under count sent.number below
 
@@ -94,7 +94,7 @@ left_by-append taking (sent ∷ rest) ys =
     ∙ elim (takes taking sent) as (λ b. cond b (left_by taking rest ++ left_by taking ys) (sent ∷ (left_by taking rest ++ left_by taking ys)) ≡ cond b (left_by taking rest) (sent ∷ left_by taking rest) ++ left_by taking ys)
     [ true ↦ refl | false ↦ refl ]
 
-pub in_flight-sent : (packets : List Packet) (packet : Packet) (givens : List Given) → AllTakeBelow (length packets) givens
+pub in_flight-sent : (packets : List Packet) (packet : Packet) (givens : List GivenAck) → AllTakeBelow (length packets) givens
     → in_flight (packet ∷ packets) givens ≡ in_flight packets givens ++ record { number = length packets; packet = packet } ∷ []
 in_flight-sent packets packet [] below = refl
 in_flight-sent packets packet (given ∷ earlier) below =
@@ -123,24 +123,24 @@ left_by-all_below bound (sent ∷ rest) below =
     ap (λ b. cond b (left_by (all_below bound) rest) (sent ∷ left_by (all_below bound) rest)) (below_is sent.number bound below.0) ∙ left_by-all_below bound rest below.1
 
 -- an acknowledgement takes nothing later away
-left_by-later : (number from : ℕ) (flight : List Numbered) → RisesFrom from flight → number < from → left_by (packets_to number) flight ≡ flight
+left_by-later : (number from : ℕ) (flight : List Numbered) → RisesFrom from flight → number < from → left_by (packet_and_lost_below number) flight ≡ flight
 left_by-later number from [] rises order = refl
 left_by-later number from (sent ∷ rest) rises order =
-    ap (λ b. cond b (left_by (packets_to number) rest) (sent ∷ left_by (packets_to number) rest)) (not_taken (packets_to number) sent (omega (arith, rises.0)))
+    ap (λ b. cond b (left_by (packet_and_lost_below number) rest) (sent ∷ left_by (packet_and_lost_below number) rest)) (not_taken (packet_and_lost_below number) sent (omega (arith, rises.0)))
     ∙ ap (λ xs. sent ∷ xs) (left_by-later number (sent.number + 1) rest rises.1 (omega (arith, rises.0)))
 
-lost_by-later : (number from : ℕ) (flight : List Numbered) → RisesFrom from flight → number < from → lost_by (packets_to number) flight ≡ 0
+lost_by-later : (number from : ℕ) (flight : List Numbered) → RisesFrom from flight → number < from → lost_by (packet_and_lost_below number) flight ≡ 0
 lost_by-later number from [] rises order = refl
 lost_by-later number from (sent ∷ rest) rises order =
-    ap (λ b. cond (b && is_lost sent.packet.fate) (lost_by (packets_to number) rest + 1) (lost_by (packets_to number) rest)) (not_taken (packets_to number) sent (omega (arith, rises.0)))
+    ap (λ b. cond (b && is_lost sent.packet.fate) (lost_by (packet_and_lost_below number) rest + 1) (lost_by (packet_and_lost_below number) rest)) (not_taken (packet_and_lost_below number) sent (omega (arith, rises.0)))
     ∙ lost_by-later number (sent.number + 1) rest rises.1 (omega (arith, rises.0))
 
 -- what the definition acknowledges is what lands of the packets that the link keeps, after so many lost ones
 abbrev pub MatchNext : List Numbered → ℕ → ℕ → Next → Type 0
 MatchNext flight from lost all_lost = (landing (packets_of flight) lost ≡ AllLost (lost + length flight)) × (staying (packets_of flight) ≡ [])
 MatchNext flight from lost (arrives number sent_at chance marked) =
-    (landing (packets_of flight) lost ≡ Arrived sent_at chance marked (lost + lost_by (packets_to number) flight))
-    × (packets_of (left_by (packets_to number) flight) ≡ staying (packets_of flight))
+    (landing (packets_of flight) lost ≡ Arrived sent_at chance marked (lost + lost_by (packet_and_lost_below number) flight))
+    × (packets_of (left_by (packet_and_lost_below number) flight) ≡ staying (packets_of flight))
     × (from ≤ number)
 
 or_right : (a b : Bool) → b ≡ true → a || b ≡ true
@@ -160,12 +160,12 @@ match_lost sent_number sent_at from lost rest all_lost order same =
     (same.0 ∙ ap AllLost (let e : lost + 1 + length rest ≡ lost + suc (length rest) = omega arith in e), same.1)
 match_lost sent_number sent_at from lost rest (arrives number sent_at' chance marked) order same =
     let sent : Numbered = record { number = sent_number; packet = record { sent_at = sent_at; fate = Lost } } in
-    let taken : takes (packets_to number) sent ≡ true = or_right (eqb sent_number number) (ltb sent_number number) (below_is sent_number number (omega (arith, same.2))) in
-    let lost_is : lost_by (packets_to number) (sent ∷ rest) ≡ lost_by (packets_to number) rest + 1 =
-    ap (λ b. cond (b && true) (lost_by (packets_to number) rest + 1) (lost_by (packets_to number) rest)) taken in
-    let left_is : left_by (packets_to number) (sent ∷ rest) ≡ left_by (packets_to number) rest =
-    ap (λ b. cond b (left_by (packets_to number) rest) (sent ∷ left_by (packets_to number) rest)) taken in (
-      same.0 ∙ ap (Arrived sent_at' chance marked) (let e : lost + 1 + lost_by (packets_to number) rest ≡ lost + lost_by (packets_to number) (sent ∷ rest) = omega (arith, lost_is) in e),
+    let taken : takes (packet_and_lost_below number) sent ≡ true = or_right (eqb sent_number number) (ltb sent_number number) (below_is sent_number number (omega (arith, same.2))) in
+    let lost_is : lost_by (packet_and_lost_below number) (sent ∷ rest) ≡ lost_by (packet_and_lost_below number) rest + 1 =
+    ap (λ b. cond (b && true) (lost_by (packet_and_lost_below number) rest + 1) (lost_by (packet_and_lost_below number) rest)) taken in
+    let left_is : left_by (packet_and_lost_below number) (sent ∷ rest) ≡ left_by (packet_and_lost_below number) rest =
+    ap (λ b. cond b (left_by (packet_and_lost_below number) rest) (sent ∷ left_by (packet_and_lost_below number) rest)) taken in (
+      same.0 ∙ ap (Arrived sent_at' chance marked) (let e : lost + 1 + lost_by (packet_and_lost_below number) rest ≡ lost + lost_by (packet_and_lost_below number) (sent ∷ rest) = omega (arith, lost_is) in e),
       ap packets_of left_is ∙ same.1,
       omega (arith, same.2),
     )
@@ -174,13 +174,13 @@ match_served : (number sent_at chance from lost : ℕ) (marked : Bool) (rest : L
     → MatchNext (record { number = number; packet = record { sent_at = sent_at; fate = Served chance marked } } ∷ rest) from lost (arrives number sent_at chance marked)
 match_served number sent_at chance from lost marked rest order rises =
     let sent : Numbered = record { number = number; packet = record { sent_at = sent_at; fate = Served chance marked } } in
-    let taken : takes (packets_to number) sent ≡ true = or_left (eqb number number) (false && ltb number number) (same_is number) in
-    let lost_is : lost_by (packets_to number) (sent ∷ rest) ≡ lost_by (packets_to number) rest =
-    elim (takes (packets_to number) sent) as (λ b. cond (b && false) (lost_by (packets_to number) rest + 1) (lost_by (packets_to number) rest) ≡ lost_by (packets_to number) rest)
+    let taken : takes (packet_and_lost_below number) sent ≡ true = or_left (eqb number number) (false && ltb number number) (same_is number) in
+    let lost_is : lost_by (packet_and_lost_below number) (sent ∷ rest) ≡ lost_by (packet_and_lost_below number) rest =
+    elim (takes (packet_and_lost_below number) sent) as (λ b. cond (b && false) (lost_by (packet_and_lost_below number) rest + 1) (lost_by (packet_and_lost_below number) rest) ≡ lost_by (packet_and_lost_below number) rest)
     [ true ↦ refl | false ↦ refl ] in
-    let left_is : left_by (packets_to number) (sent ∷ rest) ≡ left_by (packets_to number) rest =
-    ap (λ b. cond b (left_by (packets_to number) rest) (sent ∷ left_by (packets_to number) rest)) taken in (
-      ap (Arrived sent_at chance marked) (let e : lost ≡ lost + lost_by (packets_to number) (sent ∷ rest) = omega (arith, lost_is, lost_by-later number (number + 1) rest rises (omega arith)) in e),
+    let left_is : left_by (packet_and_lost_below number) (sent ∷ rest) ≡ left_by (packet_and_lost_below number) rest =
+    ap (λ b. cond b (left_by (packet_and_lost_below number) rest) (sent ∷ left_by (packet_and_lost_below number) rest)) taken in (
+      ap (Arrived sent_at chance marked) (let e : lost ≡ lost + lost_by (packet_and_lost_below number) (sent ∷ rest) = omega (arith, lost_is, lost_by-later number (number + 1) rest rises (omega arith)) in e),
       ap packets_of (left_is ∙ left_by-later number (number + 1) rest rises (omega arith)),
       order,
     )

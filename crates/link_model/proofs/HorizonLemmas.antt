@@ -3,7 +3,7 @@ use Rattle.std.proofs.Common.{◌≡◌, ℕ, ◌+◌, ◌-◌, ◌*◌, ◌≤�
 use Rattle.std.proofs.lemmas.Bool.{cases_lt}
 use Rattle.link_model.specs.declared.link_case.LinkCase.{LinkCase}
 use Rattle.link_model.specs.declared.arrival.Arrival.{Arrival}
-use Rattle.link_model.specs.Traces.{period, IsTrace}
+use Rattle.link_model.specs.Traces.{longest_period, period, IsTrace}
 use Rattle.link_model.specs.Chances.{chance_time, first_chance}
 use Rattle.link_model.specs.Standing.{Standing, arrival_by}
 use Rattle.link_model.specs.Steps.{count_of, with_lost, with_served, chance_now}
@@ -38,13 +38,13 @@ count-lost [] lost more = omega arith
 count-lost (arrival ∷ rest) lost more = omega (arith, count-lost rest lost more)
 
 module _ (case : LinkCase) (trace : IsTrace case.trace) (standing : Standing) (timely : IsTimely case standing) where
-  period_within : 1000 * period case.trace ≤ 3600000000
+  period_within : 1000 * period case.trace ≤ longest_period
   period_within = omega (arith, trace.within (length case.trace - 1))
 
   -- the chance that follows those that were given comes within a period
-  pub next_soon : chance_time case.trace standing.chance ≤ horizon standing.sent standing.calls + 3600000000
+  pub next_soon : chance_time case.trace standing.chance ≤ horizon standing.sent standing.calls + longest_period
   next_soon =
-      elim (cases_lt 0 standing.chance) as (λ _. chance_time case.trace standing.chance ≤ horizon standing.sent standing.calls + 3600000000) [
+      elim (cases_lt 0 standing.chance) as (λ _. chance_time case.trace standing.chance ≤ horizon standing.sent standing.calls + longest_period) [
         | inl some ↦
             (let last = timely.chances (standing.chance - 1) (omega arith) in
             let step = chance_time-suc case.trace trace (standing.chance - 1) in
@@ -57,15 +57,15 @@ module _ (case : LinkCase) (trace : IsTrace case.trace) (standing : Standing) (t
             omega (arith, period_within))
       ]
 
-  due_soon : chance_time case.trace (first_chance case.trace standing.time 0) ≤ horizon standing.sent standing.calls + 3600000000
+  due_soon : chance_time case.trace (first_chance case.trace standing.time 0) ≤ horizon standing.sent standing.calls + longest_period
   due_soon =
       let soon = first_chance_soon case.trace trace standing.time in
       omega (arith, period_within, timely.time)
 
-  pub now_soon : chance_time case.trace (chance_now case standing) ≤ horizon standing.sent standing.calls + 3600000000
+  pub now_soon : chance_time case.trace (chance_now case standing) ≤ horizon standing.sent standing.calls + longest_period
   now_soon =
       let due = first_chance case.trace standing.time 0 in
-      elim (cases_lt standing.chance due) as (λ _. chance_time case.trace (max standing.chance due) ≤ horizon standing.sent standing.calls + 3600000000) [
+      elim (cases_lt standing.chance due) as (λ _. chance_time case.trace (max standing.chance due) ≤ horizon standing.sent standing.calls + longest_period) [
         | inl before ↦
             (let same : max standing.chance due ≡ due = omega arith in
             let again : chance_time case.trace (max standing.chance due) ≡ chance_time case.trace due = ap (chance_time case.trace) same in

@@ -1,11 +1,10 @@
 -- The line of the packets that wait: how many do, and which chances are gone by as it is moved on.
 use Rattle.std.proofs.Common.{◌≡◌, ℕ, ◌+◌, ◌-◌, ◌*◌, ◌<◌, ◌≤◌, List, length, get_or, ap, arith, inl, inr}
-use Rattle.std.proofs.Math.Nat.{mul-le-mul_left}
 use Rattle.std.proofs.lemmas.Nat.{mul-le}
 use Rattle.std.proofs.lemmas.Bool.{cases_lt}
 use Rattle.link_model.specs.declared.chance.Coming.{Coming}
 use Rattle.link_model.specs.declared.line.Line.{Line}
-use Rattle.link_model.specs.Traces.{period, IsTrace}
+use Rattle.link_model.specs.Traces.{longest_period, period, IsTrace}
 use Rattle.link_model.specs.Chances.{number_of, IsFirstChance, chance_time, first_chance}
 use Rattle.link_model.specs.Lines.{IsComing, IsLine, IsMovedTo}
 use Rattle.link_model.proofs.ChanceLemmas.{chance_time_rises, chance_time-suc, first_chance_at, first_chance_is, first_chance_soon, time_at}
@@ -25,13 +24,13 @@ module _ (times : List ℕ) (trace : IsTrace times) where
       let turns : 1 * turn ≤ period times * turn = mul-le 1 turn (period times) turn trace.period (omega arith) in
       omega (arith, time_at times trace turn place inside)
 
-  period_within : 1000 * period times ≤ 3600000000
+  period_within : 1000 * period times ≤ longest_period
   period_within = omega (arith, trace.within (length times - 1))
 
-  pub due_soon : (time : ℕ) → chance_time times (first_chance times time 0) ≤ time + 3600000000
+  pub due_soon : (time : ℕ) → chance_time times (first_chance times time 0) ≤ time + longest_period
   due_soon time = omega (arith, period_within, first_chance_soon times trace time)
 
-  pub after_soon : (k : ℕ) → chance_time times (k + 1) ≤ chance_time times k + 3600000000
+  pub after_soon : (k : ℕ) → chance_time times (k + 1) ≤ chance_time times k + longest_period
   after_soon k = omega (arith, period_within, chance_time-suc times trace k)
 
   -- a chance of a later number doesn't come earlier

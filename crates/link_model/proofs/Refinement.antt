@@ -3,7 +3,7 @@ use Rattle.std.proofs.Common.{◌≡◌, ℕ, zero, suc, ◌+◌, ◌-◌, ◌�
 use Rattle.link_model.specs.declared.link_case.LinkCase.{LinkCase}
 use Rattle.link_model.specs.Traces.{IsTrace}
 use Rattle.link_model.specs.Chances.{chance_time, first_chance}
-use Rattle.link_model.specs.Link.{Run, Packet, Fate, Lost, Served, Given, Numbered, packets_to, all_below, allowance, waiting, chances_past, is_listed, is_marked, fate_by, packet_after, with_sent, left_by, lost_by, in_flight, time_of, past_in, past_of, acked_of, arrival_of, arrival_ack, timeout_ack, Next, arrives, all_lost, next_of, answer_by, answer_to, sent_by, called, run_from, run_of, ack_after}
+use Rattle.link_model.specs.Link.{Run, Packet, Fate, Lost, Served, GivenAck, Numbered, packet_and_lost_below, all_below, allowance, waiting, chances_past, is_listed, is_marked, fate_by, packet_after, with_sent, left_by, lost_by, in_flight, time_of, past_in, past_of, acked_of, arrival_of, arrival_ack, timeout_ack, Next, arrives, all_lost, next_of, answer_by, answer_to, sent_by, called, run_from, run_of, ack_after}
 use Rattle.link_model.specs.LinkLaws.{run_from-push}
 use Rattle.link_model.specs.Counts.{served_chances, lost_of}
 use Rattle.link_model.specs.Standing.{packets_of}
@@ -64,7 +64,7 @@ module _ (case : LinkCase) (trace : IsTrace case.trace) where
 
 -- ---- what holds after each list of windows
 
-pub record Settled (case : LinkCase) (packets : List Packet) (givens : List Given) : Type 0 where
+pub record Settled (case : LinkCase) (packets : List Packet) (givens : List GivenAck) : Type 0 where
   pub takings : AllTakeBelow (length packets) givens
   pub rises : RisesFrom 0 (in_flight packets givens)
   pub below : AllBelow (length packets) (in_flight packets givens)
@@ -88,7 +88,7 @@ settled_at_first case = record {
 
 -- ---- one more packet
 
-module _ (case : LinkCase) (trace : IsTrace case.trace) (packets : List Packet) (givens : List Given) (settled : Settled case packets givens) where
+module _ (case : LinkCase) (trace : IsTrace case.trace) (packets : List Packet) (givens : List GivenAck) (settled : Settled case packets givens) where
   served_by : (b marked : Bool) (now own : ℕ) (flight : List Packet) → chances_past packets ≤ own → now ≤ chance_time case.trace own → AllServedWithin case.trace (chances_past packets) flight
       → AllServedWithin case.trace (chances_past (record { sent_at = now; fate = cond b Lost (Served own marked) } ∷ packets)) (flight ++ record { sent_at = now; fate = cond b Lost (Served own marked) } ∷ [])
   served_by true marked now own flight order not_before within =
@@ -164,12 +164,12 @@ module _ (case : LinkCase) (trace : IsTrace case.trace) (packets : List Packet) 
 -- ---- the sending of a call
 
 module _ (case : LinkCase) (trace : IsTrace case.trace) where
-  pub settled-with_sent : (more : ℕ) (packets : List Packet) (givens : List Given) → Settled case packets givens → Settled case (with_sent case (time_of givens) more packets) givens
+  pub settled-with_sent : (more : ℕ) (packets : List Packet) (givens : List GivenAck) → Settled case packets givens → Settled case (with_sent case (time_of givens) more packets) givens
   settled-with_sent zero packets givens settled = settled
   settled-with_sent (suc more) packets givens settled =
       settled-with_sent more (packet_after case (time_of givens) packets ∷ packets) givens (settled-sent case trace packets givens settled)
 
-  sending_same : (more : ℕ) (packets : List Packet) (givens : List Given) → Settled case packets givens
+  sending_same : (more : ℕ) (packets : List Packet) (givens : List GivenAck) → Settled case packets givens
       → whole_of (record { packets = with_sent case (time_of givens) more packets; givens = givens })
       ≡ sending case (first_chance case.trace (time_of givens) 0) (first_chance case.trace (time_of givens + 1) 0) more (whole_of (record { packets = packets; givens = givens }))
   sending_same zero packets givens settled = refl
@@ -185,7 +185,7 @@ module _ (case : LinkCase) (trace : IsTrace case.trace) where
 
 -- ---- the acknowledgement of a call
 
-module _ (case : LinkCase) (packets : List Packet) (givens : List Given) where
+module _ (case : LinkCase) (packets : List Packet) (givens : List GivenAck) where
   abbrev landed_standing : List Numbered → Whole
   landed_standing flight = with_flight (whole_of (record { packets = packets; givens = givens })) (staying (packets_of flight))
 
@@ -199,9 +199,9 @@ module _ (case : LinkCase) (packets : List Packet) (givens : List Given) where
       ∙ ap (λ lost. timeout_ack case (time_of givens + case.timeout_us) (past_of givens) lost (length (staying (packets_of flight))) (acked_of givens) (length packets)) count
       ∙ sym (ap (ack_by case (landed_standing flight)) same.0)
   ack_same flight (arrives number sent_at chance marked) same below =
-      let stay : length (left_by (packets_to number) flight) ≡ length (staying (packets_of flight)) = sym (length-packets_of (left_by (packets_to number) flight)) ∙ ap length same.1 in
-      let count : lost_by (packets_to number) flight ≡ 0 + lost_by (packets_to number) flight = omega arith in
-      ap (λ n. arrival_ack case sent_at (arrival_of case chance) marked (past_of givens) (lost_by (packets_to number) flight) n (acked_of givens + 1) (length packets)) stay
+      let stay : length (left_by (packet_and_lost_below number) flight) ≡ length (staying (packets_of flight)) = sym (length-packets_of (left_by (packet_and_lost_below number) flight)) ∙ ap length same.1 in
+      let count : lost_by (packet_and_lost_below number) flight ≡ 0 + lost_by (packet_and_lost_below number) flight = omega arith in
+      ap (λ n. arrival_ack case sent_at (arrival_of case chance) marked (past_of givens) (lost_by (packet_and_lost_below number) flight) n (acked_of givens + 1) (length packets)) stay
       ∙ ap (λ lost. arrival_ack case sent_at (arrival_of case chance) marked (past_of givens) lost (length (staying (packets_of flight))) (acked_of givens + 1) (length packets)) count
       ∙ sym (ap (ack_by case (landed_standing flight)) same.0)
 
@@ -234,7 +234,7 @@ module _ (case : LinkCase) (packets : List Packet) (givens : List Given) where
 
 -- ---- one call
 
-module _ (case : LinkCase) (trace : IsTrace case.trace) (packets : List Packet) (givens : List Given) (settled : Settled case packets givens) where
+module _ (case : LinkCase) (trace : IsTrace case.trace) (packets : List Packet) (givens : List GivenAck) (settled : Settled case packets givens) where
   matches : MatchNext (in_flight packets givens) 0 0 (next_of (in_flight packets givens))
   matches = match_next (in_flight packets givens) 0 0 settled.rises
 

@@ -1,18 +1,22 @@
 -- How far the times of a link can come: bounds by the packets sent and the calls made, so that its numbers fit.
-use Rattle.std.specs.Prelude.{◌≡◌, ℕ, ◌+◌, ◌*◌, ◌<◌, ◌≤◌, List, [], ◌∷◌, length, slice_index}
-use Rattle.ccp_base.specs.Limits.{most_flight, most_acks}
+use Rattle.std.specs.Prelude.{◌≡◌, ℕ, ◌+◌, ◌*◌, ◌<◌, ◌≤◌, List, [], ◌∷◌, slice_index}
+use Rattle.ccp_base.specs.Limits.{most_flight, most_acks, most_delay_us, most_timeout_us}
 use Rattle.link_model.specs.declared.link_case.LinkCase.{LinkCase}
 use Rattle.link_model.specs.declared.arrival.Arrival.{Arrival}
 use Rattle.link_model.specs.declared.traffic.Traffic.{Traffic}
-use Rattle.link_model.specs.Traces.{IsTrace}
+use Rattle.link_model.specs.Traces.{longest_period, IsTrace}
 use Rattle.link_model.specs.Chances.{chance_time}
 use Rattle.link_model.specs.Lines.{IsLine}
 use Rattle.link_model.specs.Standing.{Standing}
 use Rattle.link_model.specs.Steps.{count_of, standing_in}
 
--- each packet takes at most an hour, and each call at most a delay and a timeout, in microseconds
+-- the longest that a call may take beside its packets, in microseconds: a delay and a timeout
+abbrev pub longest_call : ℕ
+longest_call = most_delay_us + most_timeout_us
+
+-- how far the times come: each packet takes at most a period, and each call its longest
 abbrev pub horizon : ℕ → ℕ → ℕ
-horizon sent calls = 3600000000 * sent + 70000000 * calls
+horizon sent calls = longest_period * sent + longest_call * calls
 
 -- the packets were sent before they arrive, and arrive up to this time
 abbrev pub ArriveWithin : ℕ → List Arrival → Type 0
@@ -22,7 +26,8 @@ ArriveWithin limit (arrival ∷ rest) = (arrival.sent_at ≤ arrival.at) × (arr
 -- the packets arrive one after another, from one time on up to another
 abbrev pub ArriveInOrder : ℕ → ℕ → List Arrival → Type 0
 ArriveInOrder from limit [] = Unit {0}
-ArriveInOrder from limit (arrival ∷ rest) = (from ≤ arrival.at) × (arrival.at ≤ limit) × ArriveInOrder arrival.at limit rest
+ArriveInOrder from limit (arrival ∷ rest) =
+    (from ≤ arrival.at) × (arrival.at ≤ limit) × ArriveInOrder arrival.at limit rest
 
 -- the times of a link are within its horizon
 pub record IsTimely (case : LinkCase) (standing : Standing) : Type 0 where
@@ -42,7 +47,7 @@ pub record IsKept (case : LinkCase) (traffic : Traffic) : Type 0 where
   pub passed : (i : ℕ) → i < traffic.passed → slice_index case.losses i < traffic.sent
   pub timely : IsTimely case (standing_in case.trace traffic)
 
--- the counts are within the bounds of 65,536 calls
+-- the counts are within the bounds of the most calls
 pub record IsCounted (traffic : Traffic) : Type 0 where
   pub calls : traffic.calls ≤ most_acks
   pub sent : traffic.sent ≤ most_flight * traffic.calls

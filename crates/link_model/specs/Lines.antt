@@ -1,8 +1,8 @@
 -- The line of the packets that wait at a link: which chances are gone by, and which packets have.
-use Rattle.std.specs.Prelude.{◌≡◌, ℕ, ◌+◌, ◌<◌, ◌≤◌, List, length}
+use Rattle.std.specs.Prelude.{◌≡◌, ℕ, ◌+◌, ◌<◌, ◌≤◌, max, List, length}
 use Rattle.link_model.specs.declared.chance.Coming.{Coming}
 use Rattle.link_model.specs.declared.line.Line.{Line}
-use Rattle.link_model.specs.Chances.{number_of, chance_time}
+use Rattle.link_model.specs.Chances.{number_of, chance_time, first_chance}
 
 -- a chance of a trace with its time
 pub record IsComing (times : List ℕ) (coming : Coming) : Type 0 where
@@ -15,6 +15,10 @@ pub record IsLine (times : List ℕ) (time : ℕ) (line : Line) : Type 0 where
   pub later : IsComing times line.later
   pub waiting : number_of times line.later.chance + line.waiting ≡ number_of times line.next.chance
   pub gone : (j : ℕ) → j < number_of times line.later.chance → chance_time times j ≤ time
+
+-- the number of the next chance of a line that isn't before this time
+abbrev pub due_number : List ℕ → Line → ℕ → ℕ
+due_number times line now = max (number_of times line.next.chance) (first_chance times now 0)
 
 -- all chances of the line are later than this time
 abbrev pub IsMovedTo : ℕ → Line → Type 0

@@ -16,20 +16,21 @@ pub record Packet : Type 0 where
   pub sent_at : ℕ
   pub fate : Fate
 
--- what an acknowledgement takes away: a packet and the lost ones below it, or at a timeout all so many packets
+-- what an acknowledgement takes away: the packet of this number and the lost ones below it, or at a timeout all packets
+-- below this number
 pub data Taking : Type 0 where
-  packets_to : ℕ → Taking
+  packet_and_lost_below : ℕ → Taking
   all_below : ℕ → Taking
 
--- an acknowledgement with what it takes away
-pub record Given : Type 0 where
+-- an acknowledgement that was given, with what it takes away
+pub record GivenAck : Type 0 where
   pub taking : Taking
   pub ack : Ack
 
 -- a run of the link: every packet ever sent and every acknowledgement given, the latest first
 pub record Run : Type 0 where
   pub packets : List Packet
-  pub givens : List Given
+  pub givens : List GivenAck
 
 -- a packet with its number; packets are numbered from 0 as they are sent
 pub record Numbered : Type 0 where
@@ -88,7 +89,8 @@ fate_by case number queued chance = fate_of case.losses case.queue case.mark num
 abbrev pub packet_after : LinkCase → ℕ → List Packet → Packet
 packet_after case now earlier = record {
   sent_at = now;
-  fate = fate_by case (length earlier) (waiting case.trace now earlier) (first_chance case.trace now (chances_past earlier));
+  fate = fate_by case (length earlier) (waiting case.trace now earlier)
+      (first_chance case.trace now (chances_past earlier));
 }
 
 -- so many more packets are sent at this time
@@ -103,7 +105,7 @@ is_lost Lost = true
 is_lost (Served chance marked) = false
 
 abbrev pub takes : Taking → Numbered → Bool
-takes (packets_to number) sent = (sent.number == number) || (is_lost sent.packet.fate && nat_lt sent.number number)
+takes (packet_and_lost_below number) sent = (sent.number == number) || (is_lost sent.packet.fate && nat_lt sent.number number)
 takes (all_below sent_count) sent = nat_lt sent.number sent_count
 
 -- the packets that are left
@@ -123,14 +125,14 @@ numbered [] = []
 numbered (packet ∷ earlier) = numbered earlier ++ record { number = length earlier; packet = packet } ∷ []
 
 -- the packets in flight: those sent and not taken away, the first one first
-abbrev pub in_flight : List Packet → List Given → List Numbered
+abbrev pub in_flight : List Packet → List GivenAck → List Numbered
 in_flight packets [] = numbered packets
 in_flight packets (given ∷ earlier) = left_by given.taking (in_flight packets earlier)
 
 -- ---- acknowledgements
 
 -- the link's time: that of the last acknowledgement
-abbrev pub time_of : List Given → ℕ
+abbrev pub time_of : List GivenAck → ℕ
 time_of [] = 0
 time_of (given ∷ earlier) = given.ack.now
 
@@ -143,12 +145,12 @@ abbrev pub no_past : Past
 no_past = record { rtt_sample_us = 0 }
 
 -- after these
-abbrev pub past_of : List Given → Past
+abbrev pub past_of : List GivenAck → Past
 past_of [] = no_past
 past_of (given ∷ earlier) = past_in given.ack
 
 -- how many packets were acknowledged
-abbrev pub acked_of : List Given → ℕ
+abbrev pub acked_of : List GivenAck → ℕ
 acked_of [] = 0
 acked_of (given ∷ earlier) = given.ack.packets_acked + acked_of earlier
 
@@ -159,9 +161,9 @@ byte_rate mss packets now = if now == 0 then 0 else mss * packets * 1000000 / no
 abbrev pub rate_of : LinkCase → ℕ → ℕ → ℕ
 rate_of case packets now = byte_rate case.mss packets now
 
--- a number, or 0 where none were lost
-abbrev pub where_lost : ℕ → ℕ → ℕ
-where_lost lost number = if lost == 0 then 0 else number
+-- a number where something is so, and 0 where it isn't
+abbrev pub number_if : Bool → ℕ → ℕ
+number_if truth number = if truth then number else 0
 
 -- when the acknowledgement of a packet arrives
 abbrev pub arrival_of : LinkCase → ℕ → ℕ
@@ -173,10 +175,10 @@ abbrev pub arrival_ack_of : ℕ → ℕ → ℕ → Bool → Past → ℕ → �
 arrival_ack_of mss sent_at arrival marked past lost stay acked sent = record {
   bytes_acked = mss;
   packets_acked = 1;
-  bytes_misordered = where_lost lost mss;
-  packets_misordered = where_lost lost 1;
-  ecn_bytes = if marked then mss else 0;
-  ecn_packets = if marked then 1 else 0;
+  bytes_misordered = number_if (nat_lt 0 lost) mss;
+  packets_misordered = number_if (nat_lt 0 lost) 1;
+  ecn_bytes = number_if marked mss;
+  ecn_packets = number_if marked 1;
   lost_pkts_sample = lost;
   now = arrival;
   bytes_in_flight = mss * stay;
@@ -229,11 +231,11 @@ next_of [] = all_lost
 next_of (sent ∷ rest) = next_by sent.number sent.packet.sent_at sent.packet.fate (next_of rest)
 
 -- that packet's acknowledgement, or where all are lost the timeout
-abbrev pub answer_by : LinkCase → List Packet → List Given → List Numbered → Next → Given
+abbrev pub answer_by : LinkCase → List Packet → List GivenAck → List Numbered → Next → GivenAck
 answer_by case packets givens flight (arrives number sent_at chance marked) = record {
-  taking = packets_to number;
+  taking = packet_and_lost_below number;
   ack = arrival_ack case sent_at (arrival_of case chance) marked (past_of givens)
-      (lost_by (packets_to number) flight) (length (left_by (packets_to number) flight)) (acked_of givens + 1)
+      (lost_by (packet_and_lost_below number) flight) (length (left_by (packet_and_lost_below number) flight)) (acked_of givens + 1)
       (length packets);
 }
 answer_by case packets givens flight all_lost = record {
@@ -242,7 +244,7 @@ answer_by case packets givens flight all_lost = record {
       (length (left_by (all_below (length packets)) flight)) (acked_of givens) (length packets);
 }
 
-abbrev pub answer_to : LinkCase → List Packet → List Given → Given
+abbrev pub answer_to : LinkCase → List Packet → List GivenAck → GivenAck
 answer_to case packets givens =
     answer_by case packets givens (in_flight packets givens) (next_of (in_flight packets givens))
 
@@ -273,7 +275,7 @@ abbrev pub ack_after : LinkCase → List ℕ → ℕ → Ack
 ack_after case windows window =
     (answer_to case (sent_by case window (run_of case windows)) (run_of case windows).givens).ack
 
-abbrev pub acks_in_order : List Given → List Ack
+abbrev pub acks_in_order : List GivenAck → List Ack
 acks_in_order [] = []
 acks_in_order (given ∷ earlier) = acks_in_order earlier ++ given.ack ∷ []
 

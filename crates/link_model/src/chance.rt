@@ -1,5 +1,5 @@
 ghost use Rattle.std.specs.Prelude.{IsTrue, ◌≡◌, ◌+◌, ◌-◌, ◌*◌, ◌%◌, ◌^◌, ◌<◌, ◌≤◌, ℕ, length, slice_index};
-ghost use Rattle.link_model.specs.Traces.{IsTrace, period};
+ghost use Rattle.link_model.specs.Traces.{IsTrace, period, search_reach};
 ghost use Rattle.link_model.specs.Chances.{number_of, IsFirstChance, chance_time, first_chance};
 ghost use Rattle.link_model.specs.Lines.{IsComing};
 
@@ -61,7 +61,7 @@ impl Trace {
         requires valid { IsTrace self.now }
         requires coming { IsComing self.now coming }
         requires early { coming.at < now }
-        requires time { now + 3600001000 < 2 ^ 64 }
+        requires time { now + search_reach < 2 ^ 64 }
         ensures coming { IsComing self.now result }
         ensures first { IsFirstChance self.now now 0 (number_of self.now result.chance) }
     {
@@ -76,18 +76,18 @@ impl Trace {
     #[inline(never)]
     fn searched(&self, now: u64, near: usize) -> Coming
         requires valid { IsTrace self.now }
-        requires time { now + 3600001000 < 2 ^ 64 }
+        requires time { now + search_reach < 2 ^ 64 }
         ensures coming { IsComing self.now result }
         ensures first { IsFirstChance self.now now 0 (number_of self.now result.chance) }
     {
-        let chance = self.first_chance(now, near);
+        let chance = self.find_first_chance(now, near);
         let at = self.time_of(chance);
         Coming { chance, at }
     }
 
     /// How many chances there are from one on, up to another one that isn't before it.
     #[inline]
-    pub fn between(&self, from: Chance, to: Chance) -> u128
+    pub(crate) fn between(&self, from: Chance, to: Chance) -> u128
         requires from { from.place < length self.now }
         requires to { to.place < length self.now }
         requires order { number_of self.now from ≤ number_of self.now to }
@@ -99,14 +99,14 @@ impl Trace {
     /// The first chance that comes at or after a time in microseconds. It goes straight to the turn of the trace in
     /// which that chance comes, and there looks at the place `near` first, whatever that is.
     #[inline(always)]
-    pub fn first_chance(&self, at: u64, near: usize) -> Chance
+    pub(crate) fn find_first_chance(&self, at: u64, near: usize) -> Chance
         requires { at + 1000 < 2 ^ 64 }
         ensures number { number_of self.now result ≡ first_chance self.now at 0 }
         ensures first { IsFirstChance self.now at 0 (number_of self.now result) }
         ensures place { result.place < length self.now }
         ensures turn { result.turn ≤ at }
     {
-        first_chance(self.as_slice(), at, near)
+        find_first_chance(self.as_slice(), at, near)
     }
 
     /// The first chance is what its name says, from every number on.
@@ -198,7 +198,7 @@ fn between(times: &[u32], from: Chance, to: Chance) -> u128
 /// The first chance of a trace that comes at or after a time in microseconds. It goes straight to the turn of the
 /// trace in which that chance comes, and there looks at the place `near` first, whatever that is.
 #[inline(always)]
-fn first_chance(times: &[u32], at: u64, near: usize) -> Chance
+fn find_first_chance(times: &[u32], at: u64, near: usize) -> Chance
     requires valid { IsTrace times.now }
     requires fits { at + 1000 < 2 ^ 64 }
     ensures number { number_of times.now result ≡ first_chance times.now at 0 }

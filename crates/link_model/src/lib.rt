@@ -19,5 +19,5 @@ pub use link::Link;
 pub use link_case::LinkCase;
 pub use past::Past;
 pub use queue::Queue;
-pub use rules::{allowance, arrival_ack, is_at, is_marked, next_loss, rate, timeout_ack};
-pub use trace::{LONGEST_MS, Trace, TraceFault};
+pub use rules::{allowance, arrival_ack, is_at, is_marked, next_loss, timeout_ack};
+pub use trace::{Trace, TraceFault};

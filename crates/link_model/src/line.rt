@@ -1,8 +1,8 @@
-ghost use Rattle.std.specs.Prelude.{◌≡◌, ◌+◌, ◌^◌, ◌<◌, ◌≤◌, max};
+ghost use Rattle.std.specs.Prelude.{◌≡◌, ◌+◌, ◌^◌, ◌<◌, ◌≤◌};
 ghost use Rattle.ccp_base.specs.Limits.{most_flight};
-ghost use Rattle.link_model.specs.Traces.{IsTrace};
-ghost use Rattle.link_model.specs.Chances.{number_of, first_chance};
-ghost use Rattle.link_model.specs.Lines.{IsLine, IsMovedTo};
+ghost use Rattle.link_model.specs.Traces.{IsTrace, search_reach};
+ghost use Rattle.link_model.specs.Chances.{number_of};
+ghost use Rattle.link_model.specs.Lines.{IsLine, IsMovedTo, due_number};
 
 use crate::chance::{Chance, Coming};
 use crate::trace::Trace;
@@ -76,10 +76,10 @@ impl Line {
         requires valid { IsTrace trace.now }
         requires line { IsLine trace.now now self }
         requires moved { IsMovedTo now self }
-        requires time { now + 3600001000 < 2 ^ 64 }
+        requires time { now + search_reach < 2 ^ 64 }
         ensures line { IsLine trace.now now result }
         ensures moved { IsMovedTo now result }
-        ensures next { number_of trace.now result.next.chance ≡ max (number_of trace.now self.next.chance) (first_chance trace.now now 0) }
+        ensures next { number_of trace.now result.next.chance ≡ due_number trace.now self now }
         ensures waiting { result.waiting ≡ self.waiting }
         ensures late { now ≤ result.next.at }
         ensures order { self.next.at ≤ result.next.at }
@@ -102,7 +102,7 @@ impl Line {
         requires line { IsLine trace.now now self }
         requires moved { IsMovedTo now self }
         requires late { now ≤ self.next.at }
-        requires time { self.next.at + 3600001000 < 2 ^ 64 }
+        requires time { self.next.at + search_reach < 2 ^ 64 }
         requires few { self.waiting < most_flight }
         ensures line { IsLine trace.now now result }
         ensures moved { IsMovedTo now result }

@@ -38,7 +38,7 @@ impl LinkCase {
         ensures { IfOk result (λ case. case ≡ self.now) }
     {
         let trace = self.trace.copy(alloc)?;
-        let losses = Sequence::from_vec(self.losses.as_slice().to_vec(alloc)?);
+        let losses = copy_of(alloc, &self.losses)?;
         Ok(LinkCase {
             trace,
             mss: self.mss,
@@ -68,6 +68,14 @@ impl LinkCase {
         }
         same_mark(self.mark, other.mark)
     }
+}
+
+/// An equal list.
+fn copy_of(alloc: Global, numbers: &Sequence<u32>) -> Result<Sequence<u32>, NoMemory>
+    ensures { IfOk result (λ copy. copy ≡ numbers.now) }
+{
+    let items = numbers.as_slice().to_vec(alloc)?;
+    Ok(Sequence::from_vec(items))
 }
 
 fn same_numbers(these: &[u32], others: &[u32]) -> bool

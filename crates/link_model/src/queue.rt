@@ -29,7 +29,7 @@ impl Trace {
     {
         let own = self.time_of(next);
         if own > now {
-            let later = self.first_chance(now + 1, near);
+            let later = self.find_first_chance(now + 1, near);
             return Queue {
                 next,
                 waiting: self.between(later, next),
@@ -37,7 +37,7 @@ impl Trace {
             };
         }
         if own < now {
-            let due = self.first_chance(now, near);
+            let due = self.find_first_chance(now, near);
             return Queue {
                 next: due,
                 waiting: 0,

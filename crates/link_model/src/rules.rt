@@ -1,9 +1,9 @@
-ghost use Rattle.std.specs.Prelude.{◌≡◌, ℕ, ◌^◌, ◌<◌, ◌≤◌, List, length, slice_index, if◌then◌else◌};
+ghost use Rattle.std.specs.Prelude.{◌≡◌, ℕ, ◌<◌, ◌≤◌, List, length, slice_index};
 ghost use Rattle.std.specs.List.Sorted.{IsStrictlyIncreasing};
 ghost use Rattle.ccp_base.specs.Limits.{most_flight, most_segment_bytes};
-ghost use Rattle.link_model.specs.Link.{allowance_of, allowance, byte_rate, is_marked, is_listed, arrival_ack_of, timeout_ack_of, timeout_ack, run_of};
+ghost use Rattle.link_model.specs.Link.{allowance_of, allowance, byte_rate, is_marked, is_listed, number_if, arrival_ack_of, timeout_ack_of, timeout_ack, run_of};
 ghost use Rattle.link_model.specs.Standing.{ack_at};
-ghost use Rattle.link_model.specs.Counts.{AreOnce, AddUp};
+ghost use Rattle.link_model.specs.Counts.{AreOnce, AddUp, most_packets};
 
 use crate::arrival::Arrival;
 use crate::link_case::LinkCase;
@@ -14,7 +14,7 @@ use ccp_base::Ack;
 impl LinkCase {
     /// How many packets a window allows to be in flight: one at least, and 4,096 at most.
     #[inline]
-    pub fn allowance(&self, window: u64) -> u64
+    pub(crate) fn allowance(&self, window: u64) -> u64
         ensures value { result ≡ allowance self.now window }
         ensures within { result ≤ most_flight }
     {
@@ -23,7 +23,7 @@ impl LinkCase {
 
     /// Whether a packet is marked, where so many packets wait.
     #[inline]
-    pub fn marks(&self, queued: u128) -> bool
+    pub(crate) fn marks(&self, queued: u128) -> bool
         ensures { result ≡ is_marked self.now.mark queued }
     {
         is_marked(self.mark, queued)
@@ -31,7 +31,7 @@ impl LinkCase {
 
     /// The place of the first listed loss from this number on, where those before a place are below the number.
     #[inline]
-    pub fn next_loss(&self, passed: usize, number: u64) -> usize
+    pub(crate) fn next_loss(&self, passed: usize, number: u64) -> usize
         requires { (i : ℕ) → i < passed → slice_index self.now.losses i < number }
         ensures before { (i : ℕ) → i < result → slice_index self.now.losses i < number }
         ensures from { result < length self.now.losses → number ≤ slice_index self.now.losses result }
@@ -41,7 +41,7 @@ impl LinkCase {
 
     /// Whether a number is listed, where the losses before a place are below it, and the one there isn't.
     #[inline]
-    pub fn loses(&self, place: usize, number: u64) -> bool
+    pub(crate) fn loses(&self, place: usize, number: u64) -> bool
         requires before { (i : ℕ) → i < place → slice_index self.now.losses i < number }
         requires from { place < length self.now.losses → number ≤ slice_index self.now.losses place }
         ensures { result ≡ is_listed number self.now.losses }
@@ -52,21 +52,28 @@ impl LinkCase {
     /// The acknowledgement of a packet after this past, where so many packets stay in flight, and so many were
     /// acknowledged and sent, this one counted.
     #[inline]
-    pub fn arrival_ack(&self, arrival: Arrival, past: Past, stay: u64, acked: u64, sent: u64) -> Ack
+    pub(crate) fn arrival_ack(
+        &self,
+        arrival: Arrival,
+        past: Past,
+        stay: u64,
+        acked: u64,
+        sent: u64,
+    ) -> Ack
         requires order { arrival.sent_at ≤ arrival.at }
         requires stay { stay ≤ most_flight }
-        requires acked { acked ≤ 2 ^ 28 }
-        requires sent { sent ≤ 2 ^ 28 }
+        requires acked { acked ≤ most_packets }
+        requires sent { sent ≤ most_packets }
         ensures { result ≡ ack_at self.now arrival past stay acked sent }
     {
         arrival_ack(self.mss, arrival, past, stay, acked, sent)
     }
 
-    /// The acknowledgement at a timeout at this time after this past, where all of so many packets are lost, and so many
-    /// were acknowledged and sent.
-    pub fn timeout_ack(&self, now: u64, past: Past, lost: u64, acked: u64, sent: u64) -> Ack
-        requires acked { acked ≤ 2 ^ 28 }
-        requires sent { sent ≤ 2 ^ 28 }
+    /// The acknowledgement at a timeout at this time after this past, where all of so many packets are lost, and so
+    /// many were acknowledged and sent.
+    pub(crate) fn timeout_ack(&self, now: u64, past: Past, lost: u64, acked: u64, sent: u64) -> Ack
+        requires acked { acked ≤ most_packets }
+        requires sent { sent ≤ most_packets }
         ensures { result ≡ timeout_ack self.now now past lost 0 acked sent }
     {
         timeout_ack(self.mss, now, past, lost, acked, sent)
@@ -94,9 +101,9 @@ pub fn allowance(mss: u32, window: u64) -> u64
 
 /// Bytes a second: that many packets of this size, in bytes, up to now, or 0 at time 0.
 #[inline]
-pub fn rate(mss: u32, packets: u64, now: u64) -> u64
+fn rate(mss: u32, packets: u64, now: u64) -> u64
     requires mss { mss ≤ most_segment_bytes }
-    requires packets { packets ≤ 2 ^ 28 }
+    requires packets { packets ≤ most_packets }
     ensures { result ≡ byte_rate mss packets now }
 {
     if now == 0 {
@@ -116,15 +123,15 @@ pub fn is_marked(mark: Option<u32>, queued: u128) -> bool
     }
 }
 
-/// The acknowledgement of a packet of this size, in bytes, after this past, where so many packets stay in flight, and so
-/// many were acknowledged and sent, this one counted.
+/// The acknowledgement of a packet of this size, in bytes, after this past, where so many packets stay in flight, and
+/// so many were acknowledged and sent, this one counted.
 #[inline]
 pub fn arrival_ack(mss: u32, arrival: Arrival, past: Past, stay: u64, acked: u64, sent: u64) -> Ack
     requires mss { mss ≤ most_segment_bytes }
     requires order { arrival.sent_at ≤ arrival.at }
     requires stay { stay ≤ most_flight }
-    requires acked { acked ≤ 2 ^ 28 }
-    requires sent { sent ≤ 2 ^ 28 }
+    requires acked { acked ≤ most_packets }
+    requires sent { sent ≤ most_packets }
     ensures { result ≡ arrival_ack_of mss arrival.sent_at arrival.at arrival.marked past arrival.lost stay acked sent }
 {
     let _ = past;
@@ -132,8 +139,8 @@ pub fn arrival_ack(mss: u32, arrival: Arrival, past: Past, stay: u64, acked: u64
     Ack {
         bytes_acked: bytes,
         packets_acked: 1,
-        bytes_misordered: number_if(arrival.lost != 0, bytes),
-        packets_misordered: number_if(arrival.lost != 0, 1),
+        bytes_misordered: number_if(arrival.lost > 0, bytes),
+        packets_misordered: number_if(arrival.lost > 0, 1),
         ecn_bytes: number_if(arrival.marked, bytes),
         ecn_packets: number_if(arrival.marked, 1),
         lost_pkts_sample: arrival.lost,
@@ -148,12 +155,12 @@ pub fn arrival_ack(mss: u32, arrival: Arrival, past: Past, stay: u64, acked: u64
     }
 }
 
-/// The acknowledgement at a timeout at this time after this past, where all of so many packets of this size, in bytes, are
-/// lost, and so many were acknowledged and sent.
+/// The acknowledgement at a timeout at this time after this past, where all of so many packets of this size, in bytes,
+/// are lost, and so many were acknowledged and sent.
 pub fn timeout_ack(mss: u32, now: u64, past: Past, lost: u64, acked: u64, sent: u64) -> Ack
     requires mss { mss ≤ most_segment_bytes }
-    requires acked { acked ≤ 2 ^ 28 }
-    requires sent { sent ≤ 2 ^ 28 }
+    requires acked { acked ≤ most_packets }
+    requires sent { sent ≤ most_packets }
     ensures { result ≡ timeout_ack_of mss now past lost 0 acked sent }
 {
     Ack {
@@ -198,10 +205,10 @@ pub fn is_at(losses: &[u32], place: usize, number: u64) -> bool
     u64::from(losses[place]) == number
 }
 
-/// A number, or 0.
+/// A number where something is so, and 0 where it isn't.
 #[inline]
 fn number_if(truth: bool, number: u64) -> u64
-    ensures { result ≡ (if truth then number else 0) }
+    ensures { result ≡ number_if truth number }
 {
     if truth { number } else { 0 }
 }

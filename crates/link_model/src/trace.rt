@@ -6,7 +6,7 @@ use std::alloc::{AllocError, AllocFailed, Global};
 use std::marker::Model;
 
 /// The longest time of a trace, in milliseconds: an hour.
-pub const LONGEST_MS: u32 = 3_600_000;
+pub(crate) const LONGEST_MS: u32 = 3_600_000;
 
 /// Why a text is no trace. Lines count from 1.
 #[derive(Clone, Copy, PartialEq, Eq, Debug)]

@@ -1,5 +1,6 @@
-ghost use Rattle.std.specs.Prelude.{◌≡◌, ℕ, ◌+◌, ◌-◌, ◌*◌, ◌^◌, ◌<◌, ◌≤◌, [], ◌∷◌, ◌++◌, length, IfOk};
+ghost use Rattle.std.specs.Prelude.{◌≡◌, ℕ, ◌+◌, ◌-◌, ◌*◌, ◌<◌, ◌≤◌, [], ◌∷◌, ◌++◌, length, IfOk};
 ghost use Rattle.ccp_base.specs.Limits.{most_flight, most_acks};
+ghost use Rattle.link_model.specs.Counts.{most_packets};
 ghost use Rattle.link_model.specs.Standing.{first_standing};
 ghost use Rattle.link_model.specs.Steps.{standing_in, TakesStep, SendsOn, with_lost, served_now, sending, ack_of, after_ack};
 ghost use Rattle.link_model.specs.Lines.{IsMovedTo};
@@ -70,7 +71,7 @@ impl Traffic {
     pub(crate) fn send(&mut self, case: &LinkCase, more: u64)
         requires kept { IsKept case.now self.old }
         requires room { self.old.in_flight + more ≤ most_flight }
-        requires sent { self.old.sent + more ≤ 2 ^ 28 }
+        requires sent { self.old.sent + more ≤ most_packets }
         requires calls { self.old.calls ≤ most_acks }
         ensures sending { TakesStep case.now (sending case.now more) self.old self.new }
         ensures kept { IsKept case.now self.new }
@@ -96,7 +97,7 @@ impl Traffic {
         requires moved { IsMovedTo self.old.time self.old.line }
         requires some { 0 < left }
         requires room { self.old.in_flight + left ≤ most_flight }
-        requires sent { self.old.sent + left ≤ 2 ^ 28 }
+        requires sent { self.old.sent + left ≤ most_packets }
         requires calls { self.old.calls ≤ most_acks }
         ensures sending { SendsOn case.now left self.old result self.new }
         ensures kept { IsKept case.now self.new }
@@ -125,7 +126,7 @@ impl Traffic {
     fn lose(&mut self, case: &LinkCase, more: u64)
         requires kept { IsKept case.now self.old }
         requires room { self.old.in_flight + more ≤ most_flight }
-        requires sent { self.old.sent + more ≤ 2 ^ 28 }
+        requires sent { self.old.sent + more ≤ most_packets }
         ensures standing { TakesStep case.now (with_lost more) self.old self.new }
         ensures kept { IsKept case.now self.new }
         ensures line { self.new.line ≡ self.old.line }
@@ -148,7 +149,7 @@ impl Traffic {
         requires moved { IsMovedTo self.old.time self.old.line }
         requires few { self.old.line.waiting < most_flight }
         requires room { self.old.in_flight + 1 ≤ most_flight }
-        requires sent { self.old.sent + 1 ≤ 2 ^ 28 }
+        requires sent { self.old.sent + 1 ≤ most_packets }
         requires calls { self.old.calls ≤ most_acks }
         ensures standing { TakesStep case.now (served_now case.now) self.old self.new }
         ensures kept { IsKept case.now self.new }
@@ -176,7 +177,7 @@ impl Traffic {
     #[inline(always)]
     pub(crate) fn acknowledge(&mut self, case: &LinkCase) -> Ack
         requires kept { IsKept case.now self.old }
-        requires sent { self.old.sent ≤ 2 ^ 28 }
+        requires sent { self.old.sent ≤ most_packets }
         requires acked { self.old.acked ≤ self.old.calls }
         requires calls { self.old.calls < most_acks }
         ensures ack { result ≡ ack_of case.now (standing_in case.now.trace self.old) }
@@ -203,7 +204,7 @@ impl Traffic {
     fn time_out(&mut self, case: &LinkCase) -> Ack
         requires kept { IsKept case.now self.old }
         requires none { self.old.flight.items ≡ [] }
-        requires sent { self.old.sent ≤ 2 ^ 28 }
+        requires sent { self.old.sent ≤ most_packets }
         requires acked { self.old.acked ≤ self.old.calls }
         requires calls { self.old.calls < most_acks }
         ensures ack { result ≡ ack_of case.now (standing_in case.now.trace self.old) }

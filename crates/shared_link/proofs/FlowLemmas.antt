@@ -3,7 +3,7 @@ use Rattle.std.proofs.Common.{◌≡◌, ℕ, suc, ◌+◌, ◌<◌, ◌≤◌, 
 use Rattle.std.proofs.lemmas.Bool.Decides.{nat_tests}
 use Rattle.link_model.specs.Traces.{IsTrace}
 use Rattle.link_model.specs.Chances.{chance_time}
-use Rattle.link_model.specs.Link.{Packet, Fate, Lost, Served, Given, Numbered, packets_to, all_below, chance_past, left_by, lost_by, in_flight, acked_of, Next, arrives, all_lost, next_of}
+use Rattle.link_model.specs.Link.{Packet, Fate, Lost, Served, GivenAck, Numbered, packet_and_lost_below, all_below, chance_past, left_by, lost_by, in_flight, acked_of, Next, arrives, all_lost, next_of}
 use Rattle.link_model.specs.Link as link
 use Rattle.link_model.specs.Standing.{packets_of}
 use Rattle.link_model.proofs.Whole.{staying, staying_by}
@@ -118,7 +118,7 @@ flow_settled-first times delay past = record {
 }
 
 -- other flows may get chances
-pub flow_settled-more : (times : List ℕ) (delay past more : ℕ) (packets : List Packet) (givens : List Given) → past ≤ more → FlowSettled times delay past packets givens → FlowSettled times delay more packets givens
+pub flow_settled-more : (times : List ℕ) (delay past more : ℕ) (packets : List Packet) (givens : List GivenAck) → past ≤ more → FlowSettled times delay past packets givens → FlowSettled times delay more packets givens
 flow_settled-more times delay past more packets givens order settled = record {
   takings = settled.takings;
   rises = settled.rises;
@@ -130,7 +130,7 @@ flow_settled-more times delay past more packets givens order settled = record {
 
 -- ---- one more packet
 
-module _ (times : List ℕ) (trace : IsTrace times) (delay past : ℕ) (packets : List Packet) (givens : List Given) (settled : FlowSettled times delay past packets givens) where
+module _ (times : List ℕ) (trace : IsTrace times) (delay past : ℕ) (packets : List Packet) (givens : List GivenAck) (settled : FlowSettled times delay past packets givens) where
   served_by : (b marked : Bool) (now own : ℕ) (flight : List Packet) → past ≤ own → now ≤ chance_time times own → AllServedWithin times past flight
       → AllServedWithin times (chance_past (cond b Lost (Served own marked)) past) (flight ++ record { sent_at = now; fate = cond b Lost (Served own marked) } ∷ [])
   served_by true marked now own flight order not_before within =
@@ -169,7 +169,7 @@ module _ (times : List ℕ) (trace : IsTrace times) (delay past : ℕ) (packets 
 
 -- ---- an acknowledgement
 
-module _ (times : List ℕ) (trace : IsTrace times) (link : FlowLink) (past : ℕ) (packets : List Packet) (givens : List Given) (settled : FlowSettled times link.delay_us past packets givens) where
+module _ (times : List ℕ) (trace : IsTrace times) (link : FlowLink) (past : ℕ) (packets : List Packet) (givens : List GivenAck) (settled : FlowSettled times link.delay_us past packets givens) where
   flight_now : List Numbered
   flight_now = in_flight packets givens
 
@@ -183,8 +183,8 @@ module _ (times : List ℕ) (trace : IsTrace times) (link : FlowLink) (past : �
       let counted = count_next (length packets) flight (arrives number sent_at chance marked) same settled.below in
       record {
         takings = (before, settled.takings);
-        rises = RisesFrom-left_by (packets_to number) 0 flight settled.rises;
-        below = AllBelow-left_by (packets_to number) (length packets) flight settled.below;
+        rises = RisesFrom-left_by (packet_and_lost_below number) 0 flight settled.rises;
+        below = AllBelow-left_by (packet_and_lost_below number) (length packets) flight settled.below;
         served = subst (AllServedWithin times past) (sym same.1) (all_served_within-staying times past (packets_of flight) settled.served);
         arriving = subst (ArriveFrom times link.delay_us 0) (sym same.1) (ArriveFrom-staying times trace link.delay_us 0 (packets_of flight) settled.arriving);
         counts = omega (arith, counted, settled.counts);

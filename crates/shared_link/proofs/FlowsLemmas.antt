@@ -7,7 +7,7 @@ use Rattle.ccp_base.specs.declared.ack.Ack.{Ack}
 use Rattle.ccp_base.specs.Limits.{most_flight}
 use Rattle.link_model.specs.Traces.{IsTrace}
 use Rattle.link_model.specs.Chances.{number_of, first_chance}
-use Rattle.link_model.specs.Link.{Fate, Given, chance_past, chances_past, waiting, fate_of}
+use Rattle.link_model.specs.Link.{Fate, GivenAck, chance_past, chances_past, waiting, fate_of}
 use Rattle.link_model.proofs.ChanceLemmas.{first_chance_max}
 use Rattle.shared_link.specs.declared.flow_traffic.FlowTraffic.{FlowTraffic}
 use Rattle.shared_link.specs.declared.sending.Sending.{Sending}
@@ -65,7 +65,7 @@ apart_is a b apart = grind (arith, nat_tests)
 same_is : (a : ℕ) → eqb a a ≡ true
 same_is a = grind (arith, nat_tests)
 
-module _ (case : SharedCase) (trace : IsTrace case.trace) (flows : List FlowTraffic) (sending : Sending) (sent : List Sent) (givens : ℕ → List Given) (follows : Follows case flows sending sent givens)
+module _ (case : SharedCase) (trace : IsTrace case.trace) (flows : List FlowTraffic) (sending : Sending) (sent : List Sent) (givens : ℕ → List GivenAck) (follows : Follows case flows sending sent givens)
     (is : IsSending case.trace sending) (at : ℕ) (within : at < length flows) (old : FlowTraffic) (old_is : old ≡ get_or flows at old) where
   stands : flow_in old ≡ flow_standing case.trace (flow_at case at) (own_packets at sent) (givens at)
   stands = ap flow_in old_is ∙ follows.traffic at old within
@@ -128,7 +128,7 @@ module _ (case : SharedCase) (trace : IsTrace case.trace) (asks : List Ask) (end
     (count : length after ≡ length flows)
     (others : (flow : ℕ) (other : FlowTraffic) → flow ≢ at → get_or after flow other ≡ get_or flows flow other)
     (answered : (other : FlowTraffic) → ◌≡◌ {A = Answered} (record { acks = acks; standing = flow_in (get_or after at other) }) (answered_all (flow_at case at) end (ask_at asks at).left (record { acks = []; standing = flow_in (get_or flows at other) })))
-    (sent : List Sent) (givens : ℕ → List Given) (settled : Settled case now sent givens) (so_far : AnsweredTo case asks end flows answers at sent givens) where
+    (sent : List Sent) (givens : ℕ → List GivenAck) (settled : Settled case now sent givens) (so_far : AnsweredTo case asks end flows answers at sent givens) where
   own_answers : (other : FlowTraffic)
       → ◌≡◌ {A = Answered} (record { acks = acks; standing = flow_in (get_or after at other) })
       (record { acks = acks_in (answers_of case asks end sent givens at); standing = flow_standing case.trace (flow_at case at) (own_packets at sent) (with_givens (answers_of case asks end sent givens at) (givens at)) })

@@ -5,7 +5,7 @@ use Rattle.ccp_base.specs.declared.ack.Ack.{Ack}
 use Rattle.link_model.specs.declared.arrival.Arrival.{Arrival}
 use Rattle.link_model.specs.Traces.{IsTrace}
 use Rattle.link_model.specs.Chances.{chance_time}
-use Rattle.link_model.specs.Link.{Packet, Fate, Lost, Served, Given, Numbered, packets_to, all_below, is_lost, left_by, lost_by, in_flight, time_of, past_in, past_of, acked_of, arrival_ack_of, timeout_ack_of, Next, arrives, all_lost, next_of}
+use Rattle.link_model.specs.Link.{Packet, Fate, Lost, Served, GivenAck, Numbered, packet_and_lost_below, all_below, is_lost, left_by, lost_by, in_flight, time_of, past_in, past_of, acked_of, arrival_ack_of, timeout_ack_of, Next, arrives, all_lost, next_of}
 use Rattle.link_model.specs.Link as model
 use Rattle.link_model.specs.Counts.{lost_of}
 use Rattle.link_model.specs.Standing.{packets_of}
@@ -104,7 +104,7 @@ module _ (times : List ℕ) (delay : ℕ) where
 
 -- ---- one more packet
 
-pub kept-sent : (times : List ℕ) (trace : IsTrace times) (link : FlowLink) (past : ℕ) (packets : List Packet) (givens : List Given) → FlowSettled times link.delay_us past packets givens
+pub kept-sent : (times : List ℕ) (trace : IsTrace times) (link : FlowLink) (past : ℕ) (packets : List Packet) (givens : List GivenAck) → FlowSettled times link.delay_us past packets givens
     → (packet : Packet) → flow_standing times link (packet ∷ packets) givens ≡ with_one times link.delay_us packet.sent_at packet.fate (flow_standing times link packets givens)
 kept-sent times trace link past packets givens settled packet =
     let with_parts : Flight → ℕ → FlowStanding = λ flight sent. record {
@@ -121,7 +121,7 @@ kept-sent times trace link past packets givens settled packet =
     ∙ ap (with_parts (with_fate times link.delay_us packet.sent_at packet.fate (with_packets times link.delay_us (packets_of (in_flight packets givens)) no_flight))) more
 
 -- the packets in flight are counted
-pub kept-count : (times : List ℕ) (link : FlowLink) (packets : List Packet) (givens : List Given)
+pub kept-count : (times : List ℕ) (link : FlowLink) (packets : List Packet) (givens : List GivenAck)
     → count_of (flow_standing times link packets givens).flight.arrivals (flow_standing times link packets givens).flight.lost ≡ length (in_flight packets givens)
 kept-count times link packets givens =
     let flight = in_flight packets givens in
@@ -150,11 +150,11 @@ append_none [] = refl
 append_none (ack ∷ rest) = ap (λ xs. ack ∷ xs) (append_none rest)
 
 module _ (times : List ℕ) (trace : IsTrace times) (link : FlowLink) (end past : ℕ) (packets : List Packet) where
-  abbrev pub state : List Ack → List Given → Answered
+  abbrev pub state : List Ack → List GivenAck → Answered
   state acks givens = record { acks = acks; standing = flow_standing times link packets givens }
 
   -- the acknowledgements that these givens add
-  abbrev Adds : List Ack → List Given → Answered → List Given → Type 0
+  abbrev Adds : List Ack → List GivenAck → Answered → List GivenAck → Type 0
   Adds acks givens after more = after ≡ record { acks = acks ++ acks_in more; standing = flow_standing times link packets (with_givens more givens) }
 
   -- a flow right after this acknowledgement
@@ -164,33 +164,33 @@ module _ (times : List ℕ) (trace : IsTrace times) (link : FlowLink) (end past 
     standing = record { time = time; past = past_in ack; flight = flight; sent = length packets; acked = acked; gone = gone };
   }
 
-  module _ (acks : List Ack) (givens : List Given) (settled : FlowSettled times link.delay_us past packets givens) where
+  module _ (acks : List Ack) (givens : List GivenAck) (settled : FlowSettled times link.delay_us past packets givens) where
     abbrev flight_kept : Flight
     flight_kept = with_packets times link.delay_us (packets_of (in_flight packets givens)) no_flight
 
     -- the packet that arrives
     arrived : (number sent_at chance : ℕ) (marked : Bool) → MatchNext (in_flight packets givens) 0 0 (arrives number sent_at chance marked)
-        → (n : ℕ) → n ≡ lost_by (packets_to number) (in_flight packets givens)
+        → (n : ℕ) → n ≡ lost_by (packet_and_lost_below number) (in_flight packets givens)
         → flight_kept ≡ with_first (record { lost = n; sent_at = sent_at; at = chance_time times chance + link.delay_us; marked = marked }) (with_packets times link.delay_us (staying (packets_of (in_flight packets givens))) no_flight)
         → with_arrival link (record { lost = n; sent_at = sent_at; at = chance_time times chance + link.delay_us; marked = marked }) (state acks givens)
         ≡ state (acks ++ (arrival_given times link packets givens (in_flight packets givens) number sent_at chance marked).ack ∷ []) (arrival_given times link packets givens (in_flight packets givens) number sent_at chance marked ∷ givens)
     arrived number sent_at chance marked same n n_is kept =
         let flight = in_flight packets givens in
         let at = chance_time times chance + link.delay_us in
-        let stays = packets_of (left_by (packets_to number) flight) in
+        let stays = packets_of (left_by (packet_and_lost_below number) flight) in
         let rest = with_packets times link.delay_us (staying (packets_of flight)) no_flight in
         let ack : ℕ → ℕ → Ack = λ lost stay. arrival_ack_of link.mss sent_at at marked (past_of givens) lost stay (acked_of givens + 1) (length packets) in
         let with_stay : ℕ → Flight → ℕ → ℕ → Answered = λ stay left acked gone. parts acks at (ack n stay) left acked gone in
-        let count : count_of rest.arrivals rest.lost ≡ length (left_by (packets_to number) flight) =
+        let count : count_of rest.arrivals rest.lost ≡ length (left_by (packet_and_lost_below number) flight) =
         ap (λ ps. count_of (with_packets times link.delay_us ps no_flight).arrivals (with_packets times link.delay_us ps no_flight).lost) (sym same.1)
         ∙ (let c : count_of (with_packets times link.delay_us stays no_flight).arrivals (with_packets times link.delay_us stays no_flight).lost ≡ 0 + length stays = count-packets times link.delay_us stays no_flight in
-        let e : 0 + length stays ≡ length (left_by (packets_to number) flight) = omega (arith, length-packets_of (left_by (packets_to number) flight)) in c ∙ e) in
+        let e : 0 + length stays ≡ length (left_by (packet_and_lost_below number) flight) = omega (arith, length-packets_of (left_by (packet_and_lost_below number) flight)) in c ∙ e) in
         ap (λ f. with_stay (count_of (drop 1 f.arrivals) f.lost) (record { arrivals = drop 1 f.arrivals; lost = f.lost; since = f.since }) (acked_of givens + 1) (lost_of givens + n)) kept
         ∙ ap (λ stay. with_stay stay rest (acked_of givens + 1) (lost_of givens + n)) count
-        ∙ ap (λ ps. with_stay (length (left_by (packets_to number) flight)) (with_packets times link.delay_us ps no_flight) (acked_of givens + 1) (lost_of givens + n)) (sym same.1)
-        ∙ ap (λ m. parts acks at (ack m (length (left_by (packets_to number) flight))) (with_packets times link.delay_us stays no_flight) (acked_of givens + 1) (lost_of givens + m)) n_is
-        ∙ ap (λ acked. parts acks at (ack (lost_by (packets_to number) flight) (length (left_by (packets_to number) flight))) (with_packets times link.delay_us stays no_flight) acked (lost_of givens + lost_by (packets_to number) flight)) (add_comm (acked_of givens) 1)
-        ∙ ap (parts acks at (ack (lost_by (packets_to number) flight) (length (left_by (packets_to number) flight))) (with_packets times link.delay_us stays no_flight) (1 + acked_of givens)) (add_comm (lost_of givens) (lost_by (packets_to number) flight))
+        ∙ ap (λ ps. with_stay (length (left_by (packet_and_lost_below number) flight)) (with_packets times link.delay_us ps no_flight) (acked_of givens + 1) (lost_of givens + n)) (sym same.1)
+        ∙ ap (λ m. parts acks at (ack m (length (left_by (packet_and_lost_below number) flight))) (with_packets times link.delay_us stays no_flight) (acked_of givens + 1) (lost_of givens + m)) n_is
+        ∙ ap (λ acked. parts acks at (ack (lost_by (packet_and_lost_below number) flight) (length (left_by (packet_and_lost_below number) flight))) (with_packets times link.delay_us stays no_flight) acked (lost_of givens + lost_by (packet_and_lost_below number) flight)) (add_comm (acked_of givens) 1)
+        ∙ ap (parts acks at (ack (lost_by (packet_and_lost_below number) flight) (length (left_by (packet_and_lost_below number) flight))) (with_packets times link.delay_us stays no_flight) (1 + acked_of givens)) (add_comm (lost_of givens) (lost_by (packet_and_lost_below number) flight))
 
     -- the timeout
     timeout : (now lost : ℕ) → flight_kept.lost ≡ lost → lost ≡ length (in_flight packets givens)
@@ -206,7 +206,7 @@ module _ (times : List ℕ) (trace : IsTrace times) (link : FlowLink) (end past 
         ∙ ap (λ acked. parts acks now (ack (length flight) (length (left_by (all_below (length packets)) flight))) (with_packets times link.delay_us (packets_of (left_by (all_below (length packets)) flight)) no_flight) acked (length flight + lost_of givens)) (let e : acked_of givens ≡ 0 + acked_of givens = omega arith in e)
 
     -- what these givens come to
-    abbrev come_to : List Given → Answered
+    abbrev come_to : List GivenAck → Answered
     come_to more = record { acks = acks ++ acks_in more; standing = flow_standing times link packets (with_givens more givens) }
 
     nothing_more : state acks givens ≡ come_to []
@@ -252,15 +252,15 @@ module _ (times : List ℕ) (trace : IsTrace times) (link : FlowLink) (end past 
         ap (λ b. cond (b && ltb (timeout_at link givens first.packet) end) (timeout_given link packets givens (first ∷ rest) (timeout_at link givens first.packet) ∷ []) []) are
 
   -- the acknowledgements that come after one
-  abbrev GoesOn : ℕ → List Given → Type 0
+  abbrev GoesOn : ℕ → List GivenAck → Type 0
   GoesOn left givens =
-      (acks : List Ack) (given : Given) → FlowSettled times link.delay_us past packets (given ∷ givens)
+      (acks : List Ack) (given : GivenAck) → FlowSettled times link.delay_us past packets (given ∷ givens)
       → Adds acks (given ∷ givens) (answered_all link end left (state acks (given ∷ givens))) (answers times link end packets left (given ∷ givens))
 
-  kept-arrives : (b : Bool) (left : ℕ) (acks : List Ack) (givens : List Given) (settled : FlowSettled times link.delay_us past packets givens) → GoesOn left givens
+  kept-arrives : (b : Bool) (left : ℕ) (acks : List Ack) (givens : List GivenAck) (settled : FlowSettled times link.delay_us past packets givens) → GoesOn left givens
       → (number sent_at chance : ℕ) (marked : Bool) → next_of (in_flight packets givens) ≡ arrives number sent_at chance marked
       → MatchNext (in_flight packets givens) 0 0 (arrives number sent_at chance marked) → number < length packets
-      → cond b (answered_all link end left (with_arrival link (record { lost = 0 + lost_by (packets_to number) (in_flight packets givens); sent_at = sent_at; at = chance_time times chance + link.delay_us; marked = marked }) (state acks givens))) (state acks givens)
+      → cond b (answered_all link end left (with_arrival link (record { lost = 0 + lost_by (packet_and_lost_below number) (in_flight packets givens); sent_at = sent_at; at = chance_time times chance + link.delay_us; marked = marked }) (state acks givens))) (state acks givens)
       ≡ record {
         acks = acks ++ acks_in (answers_after times link end packets givens (in_flight packets givens) (cond b (arrives number sent_at chance marked) all_lost) (λ given. given ∷ answers times link end packets left (given ∷ givens)));
         standing = flow_standing times link packets (with_givens (answers_after times link end packets givens (in_flight packets givens) (cond b (arrives number sent_at chance marked) all_lost) (λ given. given ∷ answers times link end packets left (given ∷ givens))) givens);
@@ -270,8 +270,8 @@ module _ (times : List ℕ) (trace : IsTrace times) (link : FlowLink) (end past 
       let given = arrival_given times link packets givens flight number sent_at chance marked in
       let more = answers times link end packets left (given ∷ givens) in
       ap (answered_all link end left)
-      (arrived acks givens settled number sent_at chance marked same (0 + lost_by (packets_to number) flight) (let e : 0 + lost_by (packets_to number) flight ≡ lost_by (packets_to number) flight = omega arith in e)
-      (lands times link.delay_us (packets_of flight) (Arrived sent_at chance marked (0 + lost_by (packets_to number) flight)) same.0))
+      (arrived acks givens settled number sent_at chance marked same (0 + lost_by (packet_and_lost_below number) flight) (let e : 0 + lost_by (packet_and_lost_below number) flight ≡ lost_by (packet_and_lost_below number) flight = omega arith in e)
+      (lands times link.delay_us (packets_of flight) (Arrived sent_at chance marked (0 + lost_by (packet_and_lost_below number) flight)) same.0))
       ∙ go_on (acks ++ given.ack ∷ []) given (flow_settled-arrived times trace link past packets givens settled number sent_at chance marked same below)
       ∙ ap (λ xs. record { acks = xs; standing = flow_standing times link packets (with_givens more (given ∷ givens)) }) (append_assoc acks (given.ack ∷ []) (acks_in more))
   kept-arrives false left acks givens settled go_on number sent_at chance marked is same below =
@@ -279,13 +279,13 @@ module _ (times : List ℕ) (trace : IsTrace times) (link : FlowLink) (end past 
       nothing_more acks givens settled
       ∙ ap (come_to acks givens settled) (sym (no_timeout acks givens settled flight (are_lost_as flight ∙ ap is_none is)))
 
-  kept-next : (left : ℕ) (acks : List Ack) (givens : List Given) (settled : FlowSettled times link.delay_us past packets givens) → GoesOn left givens
+  kept-next : (left : ℕ) (acks : List Ack) (givens : List GivenAck) (settled : FlowSettled times link.delay_us past packets givens) → GoesOn left givens
       → (next : Next) → next_of (in_flight packets givens) ≡ next → MatchNext (in_flight packets givens) 0 0 next → IsNextBelow (length packets) next
       → answered_by link end (state acks givens) (slice_get (flight_kept acks givens settled).arrivals 0) (answered_all link end left)
       ≡ come_to acks givens settled (answers_after times link end packets givens (in_flight packets givens) (earlier times link.delay_us end next) (λ given. given ∷ answers times link end packets left (given ∷ givens)))
   kept-next left acks givens settled go_on (arrives number sent_at chance marked) is same below =
       let flight = in_flight packets givens in
-      let kept = lands times link.delay_us (packets_of flight) (Arrived sent_at chance marked (0 + lost_by (packets_to number) flight)) same.0 in
+      let kept = lands times link.delay_us (packets_of flight) (Arrived sent_at chance marked (0 + lost_by (packet_and_lost_below number) flight)) same.0 in
       ap (λ f. answered_by link end (state acks givens) (slice_get f.arrivals 0) (answered_all link end left)) kept
       ∙ kept-arrives (ltb (chance_time times chance + link.delay_us) end) left acks givens settled go_on number sent_at chance marked is same below
   kept-next left acks givens settled go_on all_lost is same below =
@@ -295,13 +295,13 @@ module _ (times : List ℕ) (trace : IsTrace times) (link : FlowLink) (end past 
       ∙ kept-timeouts acks givens settled flight refl same.0 (are_lost_as flight ∙ ap is_none is)
 
   -- what is kept of the flow answers as the definition does
-  pub kept-answers : (left : ℕ) (acks : List Ack) (givens : List Given) → FlowSettled times link.delay_us past packets givens
+  pub kept-answers : (left : ℕ) (acks : List Ack) (givens : List GivenAck) → FlowSettled times link.delay_us past packets givens
       → answered_all link end left (state acks givens)
       ≡ record { acks = acks ++ acks_in (answers times link end packets left givens); standing = flow_standing times link packets (with_givens (answers times link end packets left givens) givens) }
   kept-answers zero acks givens settled = nothing_more acks givens settled
   kept-answers (suc left) acks givens settled =
       let flight = in_flight packets givens in
-      let go : Given → List Given = λ given. given ∷ answers times link end packets left (given ∷ givens) in
+      let go : GivenAck → List GivenAck = λ given. given ∷ answers times link end packets left (given ∷ givens) in
       kept-next left acks givens settled (λ more given after. kept-answers left more (given ∷ givens) after) (next_of flight) refl
       (matches times trace link past packets givens settled) (next_below (length packets) flight settled.below)
       ∙ ap (λ n. come_to acks givens settled (answers_after times link end packets givens flight n go)) (sym (next_before_of times trace link.delay_us end 0 flight settled.arriving))

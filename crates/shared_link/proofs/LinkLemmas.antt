@@ -6,21 +6,18 @@ use Rattle.ccp_base.specs.Limits.{most_flight}
 use Rattle.link_model.specs.declared.chance.Chance.{Chance}
 use Rattle.link_model.specs.Traces.{IsTrace}
 use Rattle.link_model.specs.Chances.{number_of}
-use Rattle.link_model.specs.Link.{Given}
+use Rattle.link_model.specs.Link.{GivenAck}
 use Rattle.shared_link.specs.declared.flow_traffic.FlowTraffic.{FlowTraffic}
 use Rattle.shared_link.specs.declared.sending.Sending.{Sending}
 use Rattle.shared_link.specs.declared.shared_case.SharedCase.{SharedCase}
 use Rattle.shared_link.specs.declared.round.Ask.{Ask}
 use Rattle.shared_link.specs.SharedRounds.{Sent, SharedRun, allowed, turns_of, round_time, sent_by, shared_run_of, acks_after}
 use Rattle.shared_link.specs.SharedLaws.{shared_run_of-push}
-use Rattle.shared_link.specs.SharedStanding.{SharedState, StandsAt, Stands}
+use Rattle.shared_link.specs.SharedStanding.{StandsAt, Stands}
 use Rattle.shared_link.specs.Reached.{Settled}
-use Rattle.shared_link.specs.Kept.{flow_in, FlowsFollow, Follows, AnsweredTo}
+use Rattle.shared_link.specs.Kept.{flow_in, state_of, FlowsFollow, Follows, AnsweredTo}
 use Rattle.shared_link.proofs.RoundLemmas.{settled-run}
 use Rattle.shared_link.proofs.FlowsLemmas.{some_of}
-
-abbrev pub state_of : SharedCase → ℕ → Chance → List FlowTraffic → SharedState
-state_of case rounds next flows = record { case = case; rounds = rounds; chance = number_of case.trace next; flows = map flow_in flows }
 
 -- the flows of a link that stands for rounds
 pub stands-follow : (case : SharedCase) (rounds : ℕ) (next : Chance) (flows : List FlowTraffic) (run : SharedRun) → length flows ≡ length case.flows → StandsAt (state_of case rounds next flows) run
@@ -32,8 +29,8 @@ module _ (case : SharedCase) (trace : IsTrace case.trace) (asks : List Ask) (bef
     (count : length first ≡ length case.flows) (last_count : length last ≡ length case.flows)
     (same : map flow_in first ≡ map flow_in flows)
     (now_is : at.now ≡ before * case.quantum_us) (next_is : at.next ≡ next) (end_is : end ≡ before * case.quantum_us + case.quantum_us)
-    (sending : (sent : List Sent) (givens : ℕ → List Given) → Follows case first at sent givens → Follows case sent_flows after (turns_of case at.now (allowed case asks) givens most_flight sent) givens)
-    (answering : (now : ℕ) (sent : List Sent) (givens : ℕ → List Given) → Settled case now sent givens → FlowsFollow case sent_flows sent givens → AnsweredTo case asks end last answers (length last) sent givens)
+    (sending : (sent : List Sent) (givens : ℕ → List GivenAck) → Follows case first at sent givens → Follows case sent_flows after (turns_of case at.now (allowed case asks) givens most_flight sent) givens)
+    (answering : (now : ℕ) (sent : List Sent) (givens : ℕ → List GivenAck) → Settled case now sent givens → FlowsFollow case sent_flows sent givens → AnsweredTo case asks end last answers (length last) sent givens)
     (rounds : List (List Ask)) (stands : Stands (state_of case before next flows) rounds) where
   run : SharedRun
   run = shared_run_of case rounds

@@ -4,7 +4,7 @@ use Rattle.std.proofs.lemmas.Bool.Decides.{nat_tests}
 use Rattle.ccp_base.specs.Limits.{most_flight}
 use Rattle.link_model.specs.Traces.{IsTrace}
 use Rattle.link_model.specs.Chances.{chance_time, first_chance}
-use Rattle.link_model.specs.Link.{Packet, Lost, Served, Given, Numbered, chance_past, chances_past, waiting, is_listed, is_marked, in_flight, Next, arrives, all_lost, next_of}
+use Rattle.link_model.specs.Link.{Packet, Lost, Served, GivenAck, Numbered, chance_past, chances_past, waiting, is_listed, is_marked, in_flight, Next, arrives, all_lost, next_of}
 use Rattle.link_model.proofs.ChanceLemmas.{first_chance_from, first_chance_at, first_chance_max}
 use Rattle.link_model.proofs.FlightLemmas.{MatchNext, IsNextBelow, next_below}
 use Rattle.link_model.proofs.CountLemmas.{rise_below-none, rise_below-sent}
@@ -19,38 +19,38 @@ use Rattle.shared_link.proofs.FlowLemmas.{earlier, next_before_of, flow_settled-
 -- ---- a flow's acknowledgements in a round
 
 module _ (times : List ℕ) (trace : IsTrace times) (link : FlowLink) (end past : ℕ) (packets : List Packet) where
-  abbrev pub Holds : List Given → Type 0
+  abbrev pub Holds : List GivenAck → Type 0
   Holds givens = FlowSettled times link.delay_us past packets givens
 
-  timed_out_if : (b : Bool) (now : ℕ) (givens : List Given) (flight : List Numbered) → flight ≡ in_flight packets givens → Holds givens
+  timed_out_if : (b : Bool) (now : ℕ) (givens : List GivenAck) (flight : List Numbered) → flight ≡ in_flight packets givens → Holds givens
       → Holds (with_givens (cond b (timeout_given link packets givens flight now ∷ []) []) givens)
   timed_out_if true now givens flight same holds =
       subst (λ (xs : List Numbered). Holds (timeout_given link packets givens xs now ∷ givens)) (sym same) (flow_settled-timed_out times trace link past packets givens holds now)
   timed_out_if false now givens flight same holds = holds
 
-  settled-timeouts : (givens : List Given) (flight : List Numbered) → flight ≡ in_flight packets givens → Holds givens → Holds (with_givens (timeouts link end packets givens flight) givens)
+  settled-timeouts : (givens : List GivenAck) (flight : List Numbered) → flight ≡ in_flight packets givens → Holds givens → Holds (with_givens (timeouts link end packets givens flight) givens)
   settled-timeouts givens [] same holds = holds
   settled-timeouts givens (first ∷ rest) same holds =
       timed_out_if (are_lost (first ∷ rest) && ltb (timeout_at link givens first.packet) end) (timeout_at link givens first.packet) givens (first ∷ rest) same holds
 
-  settled-if : (b : Bool) (givens : List Given) (number sent_at chance : ℕ) (marked : Bool) (then_ : Given → List Given) → Holds givens
+  settled-if : (b : Bool) (givens : List GivenAck) (number sent_at chance : ℕ) (marked : Bool) (then_ : GivenAck → List GivenAck) → Holds givens
       → MatchNext (in_flight packets givens) 0 0 (arrives number sent_at chance marked) → number < length packets
-      → ((given : Given) → Holds (given ∷ givens) → Holds (with_givens (then_ given) givens))
+      → ((given : GivenAck) → Holds (given ∷ givens) → Holds (with_givens (then_ given) givens))
       → Holds (with_givens (answers_after times link end packets givens (in_flight packets givens) (cond b (arrives number sent_at chance marked) all_lost) then_) givens)
   settled-if true givens number sent_at chance marked then_ holds same below go_on =
       go_on (arrival_given times link packets givens (in_flight packets givens) number sent_at chance marked)
       (flow_settled-arrived times trace link past packets givens holds number sent_at chance marked same below)
   settled-if false givens number sent_at chance marked then_ holds same below go_on = settled-timeouts givens (in_flight packets givens) refl holds
 
-  settled-after : (givens : List Given) (next : Next) (then_ : Given → List Given) → Holds givens
+  settled-after : (givens : List GivenAck) (next : Next) (then_ : GivenAck → List GivenAck) → Holds givens
       → MatchNext (in_flight packets givens) 0 0 next → IsNextBelow (length packets) next
-      → ((given : Given) → Holds (given ∷ givens) → Holds (with_givens (then_ given) givens))
+      → ((given : GivenAck) → Holds (given ∷ givens) → Holds (with_givens (then_ given) givens))
       → Holds (with_givens (answers_after times link end packets givens (in_flight packets givens) (earlier times link.delay_us end next) then_) givens)
   settled-after givens (arrives number sent_at chance marked) then_ holds same below go_on =
       settled-if (ltb (chance_time times chance + link.delay_us) end) givens number sent_at chance marked then_ holds same below go_on
   settled-after givens all_lost then_ holds same below go_on = settled-timeouts givens (in_flight packets givens) refl holds
 
-  pub settled-answers : (left : ℕ) (givens : List Given) → Holds givens → Holds (with_givens (answers times link end packets left givens) givens)
+  pub settled-answers : (left : ℕ) (givens : List GivenAck) → Holds givens → Holds (with_givens (answers times link end packets left givens) givens)
   settled-answers zero givens holds = holds
   settled-answers (suc left) givens holds =
       let flight = in_flight packets givens in
@@ -69,7 +69,7 @@ past_grows : (b marked : Bool) (own past : ℕ) → past ≤ chance_past (cond b
 past_grows true marked own past = omega arith
 past_grows false marked own past = omega arith
 
-module _ (case : SharedCase) (trace : IsTrace case.trace) (now : ℕ) (givens : ℕ → List Given) where
+module _ (case : SharedCase) (trace : IsTrace case.trace) (now : ℕ) (givens : ℕ → List GivenAck) where
   -- one more packet, as each flow sees it
   flow_sees : (e b marked : Bool) (own flow sender : ℕ) (sent : List Sent) → eqb sender flow ≡ e → chances_past (every_packet sent) ≤ own → now ≤ chance_time case.trace own
       → FlowSettled case.trace (flow_at case flow).delay_us (chances_past (every_packet sent)) (own_packets flow sent) (givens flow)
@@ -117,7 +117,7 @@ module _ (case : SharedCase) (trace : IsTrace case.trace) (now : ℕ) (givens : 
       settled-turns_if (some_lacks may givens (length case.flows) sent) (turns_of case now may givens turns (turn_of case now may givens (length case.flows) sent)) sent
       (settled-turns may turns (turn_of case now may givens (length case.flows) sent) (settled-turn may (length case.flows) sent settled)) settled
 
-pub settled-later : (case : SharedCase) (now then_ : ℕ) (sent : List Sent) (givens : ℕ → List Given) → now ≤ then_ → Settled case now sent givens → Settled case then_ sent givens
+pub settled-later : (case : SharedCase) (now then_ : ℕ) (sent : List Sent) (givens : ℕ → List GivenAck) → now ≤ then_ → Settled case now sent givens → Settled case then_ sent givens
 settled-later case now then_ sent givens order settled = record {
   queued = IsQueued-later case.trace now then_ (every_packet sent) order settled.queued;
   once = settled.once;

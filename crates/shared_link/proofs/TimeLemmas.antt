@@ -4,7 +4,7 @@ use Rattle.std.proofs.lemmas.Bool.{cases_lt}
 use Rattle.ccp_base.specs.Limits.{most_queue}
 use Rattle.link_model.specs.declared.arrival.Arrival.{Arrival}
 use Rattle.link_model.specs.declared.chance.Chance.{Chance}
-use Rattle.link_model.specs.Traces.{period, IsTrace}
+use Rattle.link_model.specs.Traces.{longest_period, period, IsTrace}
 use Rattle.link_model.specs.Chances.{number_of, chance_time, first_chance}
 use Rattle.link_model.specs.Steps.{count_of}
 use Rattle.link_model.proofs.ChanceLemmas.{chance_time_rises, chance_time-suc, first_chance_soon, le_first_chance, turn_below}
@@ -13,11 +13,11 @@ use Rattle.shared_link.specs.declared.sending.Sending.{Sending}
 use Rattle.shared_link.specs.Kept.{IsSending, span}
 
 module _ (times : List ℕ) (trace : IsTrace times) where
-  pub hour : 1000 * period times ≤ 3600000000
+  pub hour : 1000 * period times ≤ longest_period
   hour = omega (arith, trace.within (length times - 1))
 
   -- so many chances later, at most so many hours later
-  pub chance_time-more : (n k : ℕ) → chance_time times (k + n) ≤ chance_time times k + n * 3600000000
+  pub chance_time-more : (n k : ℕ) → chance_time times (k + n) ≤ chance_time times k + n * longest_period
   chance_time-more zero k = omega (arith, chance_time_rises times trace (k + 0) k (omega arith))
   chance_time-more (suc n) k =
       let step = chance_time-suc times trace (k + n) in
@@ -25,7 +25,7 @@ module _ (times : List ℕ) (trace : IsTrace times) where
       let again : chance_time times (k + n + 1) ≡ chance_time times (k + suc n) = ap (chance_time times) same in
       omega (arith, chance_time-more n k, hour, step, again)
 
-  pub due_soon : (now : ℕ) → chance_time times (first_chance times now 0) ≤ now + 3600000000
+  pub due_soon : (now : ℕ) → chance_time times (first_chance times now 0) ≤ now + longest_period
   due_soon now = omega (arith, first_chance_soon times trace now, hour)
 
   module _ (sending : Sending) (is : IsSending times sending) (waits : sending.queue.waiting < most_queue) where

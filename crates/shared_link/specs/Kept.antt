@@ -1,12 +1,12 @@
 -- What a shared link keeps, step by step: one more packet of a flow, and a flow's acknowledgements in a round.
-use Rattle.std.specs.Prelude.{min, vec_capacity, ◌≡◌, ℕ, zero, suc, ◌+◌, ◌-◌, ◌*◌, ◌<◌, ◌≤◌, max, ◌&&◌, nat_lt, Option, Some, None, if◌then◌else◌, List, [], ◌∷◌, ◌++◌, length, drop, get_or, slice_get, slice_index}
+use Rattle.std.specs.Prelude.{map, min, vec_capacity, ◌≡◌, ℕ, zero, suc, ◌+◌, ◌-◌, ◌*◌, ◌<◌, ◌≤◌, max, ◌&&◌, nat_lt, Option, Some, None, if◌then◌else◌, List, [], ◌∷◌, ◌++◌, length, drop, get_or, slice_get, slice_index}
 use Rattle.ccp_base.specs.declared.ack.Ack.{Ack}
 use Rattle.ccp_base.specs.Limits.{most_flight, most_rounds, most_quantum_us}
 use Rattle.link_model.specs.declared.arrival.Arrival.{Arrival}
 use Rattle.link_model.specs.declared.chance.Chance.{Chance}
 use Rattle.link_model.specs.Traces.{IsTrace}
 use Rattle.link_model.specs.Chances.{number_of, chance_time, first_chance}
-use Rattle.link_model.specs.Link.{Fate, Served, Given, chance_past, chances_past, is_marked, fate_of, past_in, arrival_ack_of, timeout_ack_of}
+use Rattle.link_model.specs.Link.{Fate, Served, GivenAck, chance_past, chances_past, is_marked, fate_of, past_in, arrival_ack_of, timeout_ack_of}
 use Rattle.link_model.specs.Steps.{count_of}
 use Rattle.link_model.specs.Horizon.{ArriveWithin}
 use Rattle.shared_link.specs.declared.shared_case.FlowLink.{FlowLink}
@@ -15,7 +15,7 @@ use Rattle.shared_link.specs.declared.round.Ask.{Ask}
 use Rattle.shared_link.specs.declared.flow_traffic.FlowTraffic.{FlowTraffic}
 use Rattle.shared_link.specs.declared.sending.Sending.{Sending}
 use Rattle.shared_link.specs.SharedRounds.{Sent, flow_at, ask_at, every_packet, own_packets, allowed, turns_of, answers, with_givens, acks_in, each_flow}
-use Rattle.shared_link.specs.SharedStanding.{FlowStanding, no_flight, with_fate, flow_standing}
+use Rattle.shared_link.specs.SharedStanding.{FlowStanding, SharedState, no_flight, with_fate, flow_standing}
 use Rattle.shared_link.specs.SharedLimits.{IsWithin}
 use Rattle.shared_link.specs.Reached.{Settled}
 
@@ -28,6 +28,15 @@ flow_in flow = record {
   sent = flow.sent;
   acked = flow.acked;
   gone = flow.gone;
+}
+
+-- a link of these parts, by the numbers of the trace's chances
+abbrev pub state_of : SharedCase → ℕ → Chance → List FlowTraffic → SharedState
+state_of case rounds next flows = record {
+  case = case;
+  rounds = rounds;
+  chance = number_of case.trace next;
+  flows = map flow_in flows;
 }
 
 -- times are below this one, in microseconds
@@ -161,14 +170,14 @@ answered_all link end (suc left) answered =
 -- ---- all flows
 
 -- what is under way of each flow after these packets and acknowledgements
-abbrev pub FlowsFollow : SharedCase → List FlowTraffic → List Sent → (ℕ → List Given) → Type 0
+abbrev pub FlowsFollow : SharedCase → List FlowTraffic → List Sent → (ℕ → List GivenAck) → Type 0
 FlowsFollow case flows sent givens =
     (flow : ℕ) (other : FlowTraffic) → flow < length flows
     → flow_in (get_or flows flow other)
     ≡ flow_standing case.trace (flow_at case flow) (own_packets flow sent) (givens flow)
 
 -- the sending of a round after these packets and acknowledgements
-pub record Follows (case : SharedCase) (flows : List FlowTraffic) (sending : Sending) (sent : List Sent) (givens : ℕ → List Given) : Type 0 where
+pub record Follows (case : SharedCase) (flows : List FlowTraffic) (sending : Sending) (sent : List Sent) (givens : ℕ → List GivenAck) : Type 0 where
   pub settled : Settled case sending.now sent givens
   pub chance : number_of case.trace sending.next ≡ chances_past (every_packet sent)
   pub traffic : FlowsFollow case flows sent givens
@@ -191,19 +200,19 @@ HaveRoom asks first flows =
     → min (ask_at asks flow).left most_flight ≤ vec_capacity (get_or flows flow other).acks
 
 -- some turns of a round's sending were made: the packets sent so far, after which so many turns more come to all
-pub record Turned (case : SharedCase) (asks : List Ask) (flows : List FlowTraffic) (sending : Sending) (left : ℕ) (sent : List Sent) (givens : ℕ → List Given) : Type 0 where
+pub record Turned (case : SharedCase) (asks : List Ask) (flows : List FlowTraffic) (sending : Sending) (left : ℕ) (sent : List Sent) (givens : ℕ → List GivenAck) : Type 0 where
   pub so_far : List Sent
   pub follows : Follows case flows sending so_far givens
   pub rest : turns_of case sending.now (allowed case asks) givens left so_far
       ≡ turns_of case sending.now (allowed case asks) givens most_flight sent
 
 -- the acknowledgements of a flow before a time
-abbrev pub answers_of : SharedCase → List Ask → ℕ → List Sent → (ℕ → List Given) → ℕ → List Given
+abbrev pub answers_of : SharedCase → List Ask → ℕ → List Sent → (ℕ → List GivenAck) → ℕ → List GivenAck
 answers_of case asks end sent givens flow =
     answers case.trace (flow_at case flow) end (own_packets flow sent) (ask_at asks flow).left (givens flow)
 
 -- the first flows, so many, were answered
-pub record AnsweredTo (case : SharedCase) (asks : List Ask) (end : ℕ) (flows : List FlowTraffic) (answers : List (List Ack)) (first : ℕ) (sent : List Sent) (givens : ℕ → List Given) : Type 0 where
+pub record AnsweredTo (case : SharedCase) (asks : List Ask) (end : ℕ) (flows : List FlowTraffic) (answers : List (List Ack)) (first : ℕ) (sent : List Sent) (givens : ℕ → List GivenAck) : Type 0 where
   pub acks : answers ≡ each_flow first (λ flow. acks_in (answers_of case asks end sent givens flow))
   pub done : (flow : ℕ) (other : FlowTraffic) → flow < first
       → flow_in (get_or flows flow other)

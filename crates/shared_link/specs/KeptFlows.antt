@@ -2,7 +2,7 @@
 use Rattle.std.specs.Prelude.{vec_capacity, ◌≡◌, ◌≢◌, ℕ, ◌≤◌, min, Bool, if◌then◌else◌, List, [], length, get_or}
 use Rattle.ccp_base.specs.declared.ack.Ack.{Ack}
 use Rattle.ccp_base.specs.Limits.{most_flight}
-use Rattle.link_model.specs.Link.{Given}
+use Rattle.link_model.specs.Link.{GivenAck}
 use Rattle.shared_link.specs.declared.shared_case.SharedCase.{SharedCase}
 use Rattle.shared_link.specs.declared.round.Ask.{Ask}
 use Rattle.shared_link.specs.declared.round.Counts.{Counts}
@@ -18,27 +18,27 @@ use Rattle.shared_link.specs.Kept.{flow_in, answered_all, IsFlowReady, AnsweredT
 -- the answer says whether the flow has fewer packets in flight than it may have, whatever was sent
 abbrev pub TellsLack : SharedCase → List Ask → Flows → ℕ → Bool → Type 0
 TellsLack case asks flows flow answer =
-    (sent : List Sent) (givens : ℕ → List Given) → FlowsFollow case flows.traffic.items sent givens
+    (sent : List Sent) (givens : ℕ → List GivenAck) → FlowsFollow case flows.traffic.items sent givens
     → answer ≡ lacks (allowed case asks) givens flow sent
 
 -- the answer says whether some flow has
 abbrev pub TellsSomeLack : SharedCase → List Ask → Flows → Bool → Type 0
 TellsSomeLack case asks flows answer =
-    (sent : List Sent) (givens : ℕ → List Given) → FlowsFollow case flows.traffic.items sent givens
+    (sent : List Sent) (givens : ℕ → List GivenAck) → FlowsFollow case flows.traffic.items sent givens
     → answer ≡ some_lacks (allowed case asks) givens (length case.flows) sent
 
 -- the counts are those of what was sent and acknowledged in so many rounds, whatever that was
 abbrev pub TellsCounts : SharedCase → ℕ → Flows → Counts → Type 0
 TellsCounts case rounds flows counts =
-    (sent : List Sent) (givens : ℕ → List Given) → FlowsFollow case flows.traffic.items sent givens
+    (sent : List Sent) (givens : ℕ → List GivenAck) → FlowsFollow case flows.traffic.items sent givens
     → counts ≡ counts_in case (record { sent = sent; givens = givens; rounds = rounds })
 
 -- ---- what is sent
 
 -- the sending goes on: whatever packets and acknowledgements it was after, it is then after these packets
-abbrev pub SendsOn : SharedCase → Flows → Sending → Flows → Sending → ((ℕ → List Given) → List Sent → List Sent) → Type 0
+abbrev pub SendsOn : SharedCase → Flows → Sending → Flows → Sending → ((ℕ → List GivenAck) → List Sent → List Sent) → Type 0
 SendsOn case old from new to more =
-    (sent : List Sent) (givens : ℕ → List Given) → Follows case old.traffic.items from sent givens
+    (sent : List Sent) (givens : ℕ → List GivenAck) → Follows case old.traffic.items from sent givens
     → Follows case new.traffic.items to (more givens sent) givens
 
 -- by one packet of a flow that has fewer in flight than it may have
@@ -84,6 +84,6 @@ AnswersAt case asks end flow old new acks =
 -- these are all flows' acknowledgements before a time, whatever was sent and acknowledged before
 abbrev pub AnswersAll : SharedCase → List Ask → ℕ → Flows → Flows → List (List Ack) → Type 0
 AnswersAll case asks end old new answers =
-    (now : ℕ) (sent : List Sent) (givens : ℕ → List Given) → Settled case now sent givens
+    (now : ℕ) (sent : List Sent) (givens : ℕ → List GivenAck) → Settled case now sent givens
     → FlowsFollow case old.traffic.items sent givens
     → AnsweredTo case asks end new.traffic.items answers (length new.traffic.items) sent givens

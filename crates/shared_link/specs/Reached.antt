@@ -1,7 +1,7 @@
 -- What holds of the packets and acknowledgements of a shared link at every moment.
 use Rattle.std.specs.Prelude.{◌≡◌, ℕ, ◌+◌, ◌≤◌, List, [], ◌∷◌, length}
 use Rattle.link_model.specs.Chances.{chance_time}
-use Rattle.link_model.specs.Link.{Packet, Fate, Lost, Served, Given, chances_past, in_flight, acked_of}
+use Rattle.link_model.specs.Link.{Packet, Fate, Lost, Served, GivenAck, chances_past, in_flight, acked_of}
 use Rattle.link_model.specs.Counts.{served_chances, lost_of}
 use Rattle.link_model.specs.Standing.{packets_of}
 use Rattle.link_model.proofs.ServedLemmas.{AllServedWithin}
@@ -28,7 +28,7 @@ ArriveFrom times delay from (packet ∷ rest) =
 -- what holds of a flow with these packets and acknowledgements, where all chances that were given are below a number:
 -- what was taken away was sent, the numbers of the packets in flight rise, their chances were given, they arrive one
 -- after another, and the packets add up
-pub record FlowSettled (times : List ℕ) (delay past : ℕ) (packets : List Packet) (givens : List Given) : Type 0 where
+pub record FlowSettled (times : List ℕ) (delay past : ℕ) (packets : List Packet) (givens : List GivenAck) : Type 0 where
   pub takings : AllTakeBelow (length packets) givens
   pub rises : RisesFrom 0 (in_flight packets givens)
   pub below : AllBelow (length packets) (in_flight packets givens)
@@ -38,7 +38,7 @@ pub record FlowSettled (times : List ℕ) (delay past : ℕ) (packets : List Pac
 
 -- what holds of the link at a time: packets that wait have the last chances that were given, chances rise, and each
 -- flow is settled
-pub record Settled (case : SharedCase) (now : ℕ) (sent : List Sent) (givens : ℕ → List Given) : Type 0 where
+pub record Settled (case : SharedCase) (now : ℕ) (sent : List Sent) (givens : ℕ → List GivenAck) : Type 0 where
   pub queued : IsQueued case.trace now (every_packet sent)
   pub once : RiseBelow (chances_past (every_packet sent)) (served_chances (every_packet sent))
   pub flows : (flow : ℕ)

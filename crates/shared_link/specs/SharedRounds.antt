@@ -3,7 +3,7 @@ use Rattle.std.specs.Prelude.{ℕ, zero, suc, ◌+◌, ◌*◌, max, Bool, true,
 use Rattle.ccp_base.specs.declared.ack.Ack.{Ack}
 use Rattle.ccp_base.specs.Limits.{most_flight}
 use Rattle.link_model.specs.Chances.{chance_time, first_chance}
-use Rattle.link_model.specs.Link.{Packet, Fate, Lost, Served, Given, packets_to, all_below, Numbered, Next, arrives, all_lost, allowance_of, waiting, chances_past, fate_of, is_lost, left_by, lost_by, in_flight, time_of, past_of, acked_of, arrival_ack_of, timeout_ack_of}
+use Rattle.link_model.specs.Link.{Packet, Fate, Lost, Served, GivenAck, packet_and_lost_below, all_below, Numbered, Next, arrives, all_lost, allowance_of, waiting, chances_past, fate_of, is_lost, left_by, lost_by, in_flight, time_of, past_of, acked_of, arrival_ack_of, timeout_ack_of}
 use Rattle.link_model.specs.Counts.{lost_of}
 use Rattle.shared_link.specs.declared.shared_case.FlowLink.{FlowLink}
 use Rattle.shared_link.specs.declared.shared_case.SharedCase.{SharedCase}
@@ -19,7 +19,7 @@ pub record Sent : Type 0 where
 -- many rounds there were
 pub record SharedRun : Type 0 where
   pub sent : List Sent
-  pub givens : ℕ → List Given
+  pub givens : ℕ → List GivenAck
   pub rounds : ℕ
 
 abbrev pub no_flow : FlowLink
@@ -46,7 +46,7 @@ own_packets flow (sent ∷ earlier) =
     if sent.flow == flow then sent.packet ∷ own_packets flow earlier else own_packets flow earlier
 
 -- the packets of one flow that are in flight, the first one first
-abbrev pub own_flight : ℕ → List Sent → List Given → List Numbered
+abbrev pub own_flight : ℕ → List Sent → List GivenAck → List Numbered
 own_flight flow sent givens = in_flight (own_packets flow sent) givens
 
 -- ---- sending
@@ -69,16 +69,16 @@ abbrev pub with_packet : SharedCase → ℕ → ℕ → List Sent → List Sent
 with_packet case now flow sent = record { flow = flow; packet = packet_after case now flow sent } ∷ sent
 
 -- a flow has fewer packets in flight than it may have
-abbrev pub lacks : (ℕ → ℕ) → (ℕ → List Given) → ℕ → List Sent → Bool
+abbrev pub lacks : (ℕ → ℕ) → (ℕ → List GivenAck) → ℕ → List Sent → Bool
 lacks may givens flow sent = nat_lt (length (own_flight flow sent (givens flow))) (may flow)
 
 -- some of the first flows, so many, has fewer
-abbrev pub some_lacks : (ℕ → ℕ) → (ℕ → List Given) → ℕ → List Sent → Bool
+abbrev pub some_lacks : (ℕ → ℕ) → (ℕ → List GivenAck) → ℕ → List Sent → Bool
 some_lacks may givens zero sent = false
 some_lacks may givens (suc flow) sent = lacks may givens flow sent || some_lacks may givens flow sent
 
 -- each of the first flows, so many, sends a packet in turn where it has fewer
-abbrev pub turn_of : SharedCase → ℕ → (ℕ → ℕ) → (ℕ → List Given) → ℕ → List Sent → List Sent
+abbrev pub turn_of : SharedCase → ℕ → (ℕ → ℕ) → (ℕ → List GivenAck) → ℕ → List Sent → List Sent
 turn_of case now may givens zero sent = sent
 turn_of case now may givens (suc flow) sent =
     if lacks may givens flow (turn_of case now may givens flow sent)
@@ -86,7 +86,7 @@ turn_of case now may givens (suc flow) sent =
     else turn_of case now may givens flow sent
 
 -- turn after turn until no flow has fewer packets in flight than it may have, at most so many turns
-abbrev pub turns_of : SharedCase → ℕ → (ℕ → ℕ) → (ℕ → List Given) → ℕ → List Sent → List Sent
+abbrev pub turns_of : SharedCase → ℕ → (ℕ → ℕ) → (ℕ → List GivenAck) → ℕ → List Sent → List Sent
 turns_of case now may givens zero sent = sent
 turns_of case now may givens (suc turns) sent =
     if some_lacks may givens (length case.flows) sent
@@ -120,11 +120,11 @@ next_before times delay end (sent ∷ rest) =
     next_where times delay end sent.number sent.packet.sent_at sent.packet.fate (next_before times delay end rest)
 
 -- the acknowledgement of a packet of a flow
-abbrev pub arrival_given : List ℕ → FlowLink → List Packet → List Given → List Numbered → ℕ → ℕ → ℕ → Bool → Given
+abbrev pub arrival_given : List ℕ → FlowLink → List Packet → List GivenAck → List Numbered → ℕ → ℕ → ℕ → Bool → GivenAck
 arrival_given times link packets givens flight number sent_at chance marked = record {
-  taking = packets_to number;
+  taking = packet_and_lost_below number;
   ack = arrival_ack_of link.mss sent_at (chance_time times chance + link.delay_us) marked (past_of givens)
-      (lost_by (packets_to number) flight) (length (left_by (packets_to number) flight)) (acked_of givens + 1)
+      (lost_by (packet_and_lost_below number) flight) (length (left_by (packet_and_lost_below number) flight)) (acked_of givens + 1)
       (length packets);
 }
 
@@ -133,7 +133,7 @@ are_lost [] = true
 are_lost (sent ∷ rest) = is_lost sent.packet.fate && are_lost rest
 
 -- the acknowledgement of a flow's timeout at this time
-abbrev pub timeout_given : FlowLink → List Packet → List Given → List Numbered → ℕ → Given
+abbrev pub timeout_given : FlowLink → List Packet → List GivenAck → List Numbered → ℕ → GivenAck
 timeout_given link packets givens flight now = record {
   taking = all_below (length packets);
   ack = timeout_ack_of link.mss now (past_of givens) (length flight)
@@ -142,11 +142,11 @@ timeout_given link packets givens flight now = record {
 
 -- when a flow times out: so long after the later of its last acknowledgement and the sending of its lowest packet in
 -- flight
-abbrev pub timeout_at : FlowLink → List Given → Packet → ℕ
+abbrev pub timeout_at : FlowLink → List GivenAck → Packet → ℕ
 timeout_at link givens first = max (time_of givens) first.sent_at + link.timeout_us
 
 -- the timeout of a flow before a time, where it has packets in flight and all of them are lost
-abbrev pub timeouts : FlowLink → ℕ → List Packet → List Given → List Numbered → List Given
+abbrev pub timeouts : FlowLink → ℕ → List Packet → List GivenAck → List Numbered → List GivenAck
 timeouts link end packets givens [] = []
 timeouts link end packets givens (first ∷ rest) =
     if are_lost (first ∷ rest) && nat_lt (timeout_at link givens first.packet) end
@@ -155,14 +155,14 @@ timeouts link end packets givens (first ∷ rest) =
 
 -- what comes of the next packet that arrives: its acknowledgement and those after it, or where there is none the
 -- timeout
-abbrev pub answers_after : List ℕ → FlowLink → ℕ → List Packet → List Given → List Numbered → Next → (Given → List Given) → List Given
+abbrev pub answers_after : List ℕ → FlowLink → ℕ → List Packet → List GivenAck → List Numbered → Next → (GivenAck → List GivenAck) → List GivenAck
 answers_after times link end packets givens flight (arrives number sent_at chance marked) then_ =
     then_ (arrival_given times link packets givens flight number sent_at chance marked)
 answers_after times link end packets givens flight all_lost then_ = timeouts link end packets givens flight
 
 -- the acknowledgements of a flow before a time, in order, at most so many: those of the packets that arrive, and
 -- then, where one is left, that of its timeout
-abbrev pub answers : List ℕ → FlowLink → ℕ → List Packet → ℕ → List Given → List Given
+abbrev pub answers : List ℕ → FlowLink → ℕ → List Packet → ℕ → List GivenAck → List GivenAck
 answers times link end packets zero givens = []
 answers times link end packets (suc left) givens =
     answers_after times link end packets givens (in_flight packets givens)
@@ -170,7 +170,7 @@ answers times link end packets (suc left) givens =
     (λ given. given ∷ answers times link end packets left (given ∷ givens))
 
 -- the acknowledgements of a flow in one more round, where these packets were sent
-abbrev pub round_givens : SharedCase → List Ask → SharedRun → List Sent → ℕ → List Given
+abbrev pub round_givens : SharedCase → List Ask → SharedRun → List Sent → ℕ → List GivenAck
 round_givens case asks run sent flow =
     answers case.trace (flow_at case flow) (round_time case (run.rounds + 1)) (own_packets flow sent)
     (ask_at asks flow).left (run.givens flow)
@@ -178,7 +178,7 @@ round_givens case asks run sent flow =
 -- ---- rounds
 
 -- acknowledgements in order, put before those that were given earlier
-abbrev pub with_givens : List Given → List Given → List Given
+abbrev pub with_givens : List GivenAck → List GivenAck → List GivenAck
 with_givens [] givens = givens
 with_givens (given ∷ later) givens = with_givens later (given ∷ givens)
 
@@ -201,7 +201,7 @@ first_run = record { sent = []; givens = λ flow. []; rounds = 0 }
 abbrev pub shared_run_of : SharedCase → List (List Ask) → SharedRun
 shared_run_of case rounds = shared_run_from case first_run rounds
 
-abbrev pub acks_in : List Given → List Ack
+abbrev pub acks_in : List GivenAck → List Ack
 acks_in [] = []
 acks_in (given ∷ later) = given.ack ∷ acks_in later
 

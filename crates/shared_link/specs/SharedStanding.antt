@@ -3,7 +3,7 @@ use Rattle.std.specs.Prelude.{◌≡◌, ℕ, ◌+◌, ◌<◌, ◌==◌, if◌t
 use Rattle.link_model.specs.declared.arrival.Arrival.{Arrival}
 use Rattle.link_model.specs.declared.past.Past.{Past}
 use Rattle.link_model.specs.Chances.{chance_time}
-use Rattle.link_model.specs.Link.{Packet, Fate, Lost, Served, Given, chances_past, in_flight, time_of, past_of, acked_of}
+use Rattle.link_model.specs.Link.{Packet, Fate, Lost, Served, GivenAck, chances_past, in_flight, time_of, past_of, acked_of}
 use Rattle.link_model.specs.Standing.{packets_of}
 use Rattle.link_model.specs.Counts.{lost_of}
 use Rattle.shared_link.specs.declared.shared_case.FlowLink.{FlowLink}
@@ -55,7 +55,7 @@ with_packets times delay (packet ∷ rest) flight =
     with_packets times delay rest (with_fate times delay packet.sent_at packet.fate flight)
 
 -- what is kept of a flow with these packets and acknowledgements
-abbrev pub flow_standing : List ℕ → FlowLink → List Packet → List Given → FlowStanding
+abbrev pub flow_standing : List ℕ → FlowLink → List Packet → List GivenAck → FlowStanding
 flow_standing times link packets givens = record {
   time = time_of givens;
   past = past_of givens;

@@ -1,5 +1,6 @@
-ghost use Rattle.std.specs.Prelude.{◌≡◌, ℕ, ◌+◌, ◌-◌, ◌*◌, ◌^◌, ◌<◌, ◌≤◌, min, suc, [], ◌∷◌, ◌++◌, length, slice_get, Some, None, vec_capacity, IfOk, OnOk, IsTrue, IsFalse};
+ghost use Rattle.std.specs.Prelude.{◌≡◌, ℕ, ◌+◌, ◌-◌, ◌*◌, ◌<◌, ◌≤◌, min, suc, [], ◌∷◌, ◌++◌, length, slice_get, Some, None, vec_capacity, IfOk, OnOk, IsTrue, IsFalse};
 ghost use Rattle.ccp_base.specs.Limits.{most_flight, most_rounds, most_quantum_us};
+ghost use Rattle.link_model.specs.Counts.{most_packets};
 ghost use Rattle.shared_link.specs.SharedLimits.{IsFlowWithin};
 ghost use Rattle.shared_link.specs.Kept.{flow_in, answered_in, IsFlowKept, with_arrival, timed_out, answered_all};
 
@@ -52,7 +53,7 @@ impl FlowTraffic {
         requires link { IsFlowWithin link.now }
         requires kept { IsFlowKept link.now self.old }
         requires end { end ≤ most_rounds * most_quantum_us }
-        requires sent { self.old.sent ≤ 2 ^ 28 }
+        requires sent { self.old.sent ≤ most_packets }
         requires room { length self.old.acks.items + min left self.old.in_flight ≤ vec_capacity self.old.acks }
         ensures kept { IsFlowKept link.now self.new }
         ensures answered { answered_in self.new ≡ answered_all link.now end left (answered_in self.old) }
@@ -73,7 +74,7 @@ impl FlowTraffic {
         requires link { IsFlowWithin link.now }
         requires kept { IsFlowKept link.now self.old }
         requires end { end ≤ most_rounds * most_quantum_us }
-        requires sent { self.old.sent ≤ 2 ^ 28 }
+        requires sent { self.old.sent ≤ most_packets }
         requires some { 0 < left }
         requires room { length self.old.acks.items + min left self.old.in_flight ≤ vec_capacity self.old.acks }
         ensures kept { IsFlowKept link.now self.new }
@@ -101,7 +102,7 @@ impl FlowTraffic {
         requires link { IsFlowWithin link.now }
         requires kept { IsFlowKept link.now self.old }
         requires first { slice_get self.old.flight.items 0 ≡ Some arrival }
-        requires sent { self.old.sent ≤ 2 ^ 28 }
+        requires sent { self.old.sent ≤ most_packets }
         requires room { length self.old.acks.items < vec_capacity self.old.acks }
         ensures kept { IsFlowKept link.now self.new }
         ensures answered { answered_in self.new ≡ with_arrival link.now arrival (answered_in self.old) }
@@ -132,7 +133,7 @@ impl FlowTraffic {
         requires kept { IsFlowKept link.now self.old }
         requires none { self.old.flight.items ≡ [] }
         requires end { end ≤ most_rounds * most_quantum_us }
-        requires sent { self.old.sent ≤ 2 ^ 28 }
+        requires sent { self.old.sent ≤ most_packets }
         requires room { 0 < self.old.in_flight → length self.old.acks.items < vec_capacity self.old.acks }
         ensures kept { IsFlowKept link.now self.new }
         ensures answered { answered_in self.new ≡ timed_out link.now end (answered_in self.old) }

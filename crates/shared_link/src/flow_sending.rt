@@ -1,6 +1,7 @@
 ghost use Rattle.std.specs.Prelude.{◌≡◌, ℕ, ◌+◌, ◌^◌, ◌<◌, ◌≤◌, [], ◌∷◌, ◌++◌, length, if◌then◌else◌, ◌==◌, IfOk};
 ghost use Rattle.ccp_base.specs.Limits.{most_flight, most_queue};
 ghost use Rattle.link_model.specs.Chances.{number_of};
+ghost use Rattle.link_model.specs.Counts.{most_packets};
 ghost use Rattle.link_model.specs.Link.{Lost};
 ghost use Rattle.shared_link.specs.SharedLimits.{IsFlowWithin};
 ghost use Rattle.shared_link.specs.SharedStanding.{flow_standing};
@@ -53,7 +54,7 @@ impl FlowTraffic {
         requires sending { IsSending trace.now sending.old }
         requires queue { room ≤ most_queue }
         requires room { self.old.in_flight < most_flight }
-        requires sent { self.old.sent < 2 ^ 28 }
+        requires sent { self.old.sent < most_packets }
         ensures kept { IsFlowKept link.now self.new }
         ensures standing { flow_in self.new ≡ with_one trace.now link.now.delay_us sending.old.now
             (fate_now trace.now link.now room self.old.sent sending.old) (flow_in self.old) }
@@ -78,7 +79,7 @@ impl FlowTraffic {
     fn lose(&mut self, link: &FlowLink, now: u64)
         requires kept { IsFlowKept link.now self.old }
         requires room { self.old.in_flight < most_flight }
-        requires sent { self.old.sent < 2 ^ 28 }
+        requires sent { self.old.sent < most_packets }
         requires now { now ≤ 2 ^ 34 }
         ensures kept { IsFlowKept link.now self.new }
         ensures standing { flow_in self.new ≡ with_one [] 0 now Lost (flow_in self.old) }
@@ -100,7 +101,7 @@ impl FlowTraffic {
         requires sending { IsSending trace.now sending.old }
         requires waiting { sending.old.queue.waiting < most_queue }
         requires room { self.old.in_flight < most_flight }
-        requires sent { self.old.sent < 2 ^ 28 }
+        requires sent { self.old.sent < most_packets }
         ensures kept { IsFlowKept link.now self.new }
         ensures standing { flow_in self.new ≡ with_one trace.now link.now.delay_us sending.old.now
             (served_now trace.now link.now sending.old) (flow_in self.old) }

@@ -31,14 +31,12 @@ pub struct SharedLink {
 }
 
 impl Model for SharedLink {
-    ghost use Rattle.std.specs.Prelude.{map};
-    ghost use Rattle.link_model.specs.Chances.{number_of};
     ghost use Rattle.shared_link.specs.SharedStanding.{SharedState};
-    ghost use Rattle.shared_link.specs.Kept.{flow_in, IsLinkKept};
+    ghost use Rattle.shared_link.specs.Kept.{state_of, IsLinkKept};
 
     ghost Value = { SharedState };
 
-    ghost view = { λ l. record { case = l.case; rounds = l.rounds; chance = number_of l.case.trace l.next; flows = map flow_in l.flows.traffic.items } };
+    ghost view = { λ l. state_of l.case l.rounds l.next l.flows.traffic.items };
 
     ghost invariant = { λ l. IsLinkKept l.case l.rounds l.next l.flows.traffic.items };
 }

@@ -3,7 +3,7 @@ use Rattle.std.specs.Prelude.{◌≡◌, ◌<◌, ◌≤◌, ℕ, zero, suc, ◌
 use Rattle.std.specs.List.{All}
 use Rattle.std.proofs.Common.{arith, ap, sym, ◌∙◌, length-append}
 use Rattle.ccp_base.specs.declared.ack.Ack.{Ack}
-use Rattle.link_model.specs.Link.{Packet, Given, Taking, packets_to, Numbered, Next, arrives, all_lost, is_lost, takes, left_by, lost_by, numbered, in_flight}
+use Rattle.link_model.specs.Link.{Packet, GivenAck, Taking, packet_and_lost_below, Numbered, Next, arrives, all_lost, is_lost, takes, left_by, lost_by, numbered, in_flight}
 use Rattle.shared_link.specs.declared.round.Ask.{Ask}
 use Rattle.shared_link.specs.declared.shared_case.FlowLink.{FlowLink}
 use Rattle.shared_link.specs.declared.shared_case.SharedCase.{SharedCase}
@@ -12,11 +12,11 @@ use Rattle.shared_link.specs.SharedRounds.{Sent, SharedRun, flow_at, no_flow, as
 
 -- ---- how many
 
-length-one : (b : Bool) (given : Given) → length (if b then given ∷ [] else []) ≤ 1
+length-one : (b : Bool) (given : GivenAck) → length (if b then given ∷ [] else []) ≤ 1
 length-one true given = omega arith
 length-one false given = omega arith
 
-acks-length : (list : List Given) → length (acks_in list) ≡ length list
+acks-length : (list : List GivenAck) → length (acks_in list) ≡ length list
 acks-length [] = refl
 acks-length (given ∷ rest) = ap suc (acks-length rest)
 
@@ -53,26 +53,26 @@ lost-most taking [] = omega arith
 lost-most taking (sent ∷ rest) =
     omega (arith, lost-most taking rest, lost-one (takes taking sent && is_lost sent.packet.fate) (lost_by taking rest))
 
-flight-most : (packets : List Packet) (givens : List Given) → length (in_flight packets givens) ≤ length packets
+flight-most : (packets : List Packet) (givens : List GivenAck) → length (in_flight packets givens) ≤ length packets
 flight-most packets [] = omega (arith, length-numbered packets)
 flight-most packets (given ∷ earlier) = omega (arith, flight-most packets earlier, left-most given.taking (in_flight packets earlier))
 
 module _ (times : List ℕ) (link : FlowLink) (end : ℕ) (packets : List Packet) where
-  timeouts-few : (givens : List Given) (flight : List Numbered) → length (timeouts link end packets givens flight) ≤ 1
+  timeouts-few : (givens : List GivenAck) (flight : List Numbered) → length (timeouts link end packets givens flight) ≤ 1
   timeouts-few givens [] = omega arith
   timeouts-few givens (first ∷ rest) =
       length-one (are_lost (first ∷ rest) && nat_lt (timeout_at link givens first.packet) end)
       (timeout_given link packets givens (first ∷ rest) (timeout_at link givens first.packet))
 
-  after-few : (left : ℕ) (givens : List Given) (flight : List Numbered) (next : Next) (rest : Given → List Given)
-      → ((given : Given) → length (rest given) ≤ suc left)
+  after-few : (left : ℕ) (givens : List GivenAck) (flight : List Numbered) (next : Next) (rest : GivenAck → List GivenAck)
+      → ((given : GivenAck) → length (rest given) ≤ suc left)
       → length (answers_after times link end packets givens flight next rest) ≤ suc left
   after-few left givens flight (arrives number sent_at chance marked) rest few =
       few (arrival_given times link packets givens flight number sent_at chance marked)
   after-few left givens flight all_lost rest few = omega (arith, timeouts-few givens flight)
 
   -- no more than are left
-  pub answers-few : (left : ℕ) (givens : List Given) → length (answers times link end packets left givens) ≤ left
+  pub answers-few : (left : ℕ) (givens : List GivenAck) → length (answers times link end packets left givens) ≤ left
   answers-few zero givens = omega arith
   answers-few (suc left) givens =
       after-few left givens (in_flight packets givens) (next_before times link.delay_us end (in_flight packets givens))
@@ -80,26 +80,26 @@ module _ (times : List ℕ) (link : FlowLink) (end : ℕ) (packets : List Packet
       (λ given. let fewer = answers-few left (given ∷ givens) in omega (arith, fewer))
 
   module _ (most : ℕ) (size : link.mss ≤ 65535) (few : length packets ≤ most) where
-    one-small : (b : Bool) (given : Given) → IsSmall most given.ack → AreSmall most (acks_in (if b then given ∷ [] else []))
+    one-small : (b : Bool) (given : GivenAck) → IsSmall most given.ack → AreSmall most (acks_in (if b then given ∷ [] else []))
     one-small true given small = (small, tt)
     one-small false given small = tt
 
-    timeouts-small : (givens : List Given) (flight : List Numbered) → length flight ≤ most → AreSmall most (acks_in (timeouts link end packets givens flight))
+    timeouts-small : (givens : List GivenAck) (flight : List Numbered) → length flight ≤ most → AreSmall most (acks_in (timeouts link end packets givens flight))
     timeouts-small givens [] within = tt
     timeouts-small givens (first ∷ rest) within =
         one-small (are_lost (first ∷ rest) && nat_lt (timeout_at link givens first.packet) end)
         (timeout_given link packets givens (first ∷ rest) (timeout_at link givens first.packet))
         (within, omega arith)
 
-    after-small : (givens : List Given) (flight : List Numbered) (next : Next) (rest : Given → List Given) → length flight ≤ most
-        → ((given : Given) → IsSmall most given.ack → AreSmall most (acks_in (rest given)))
+    after-small : (givens : List GivenAck) (flight : List Numbered) (next : Next) (rest : GivenAck → List GivenAck) → length flight ≤ most
+        → ((given : GivenAck) → IsSmall most given.ack → AreSmall most (acks_in (rest given)))
         → AreSmall most (acks_in (answers_after times link end packets givens flight next rest))
     after-small givens flight (arrives number sent_at chance marked) rest within small =
         small (arrival_given times link packets givens flight number sent_at chance marked)
-        (let lost = lost-most (packets_to number) flight in omega (arith, lost, within), size)
+        (let lost = lost-most (packet_and_lost_below number) flight in omega (arith, lost, within), size)
     after-small givens flight all_lost rest within small = timeouts-small givens flight within
 
-    pub answers-small : (left : ℕ) (givens : List Given) → AreSmall most (acks_in (answers times link end packets left givens))
+    pub answers-small : (left : ℕ) (givens : List GivenAck) → AreSmall most (acks_in (answers times link end packets left givens))
     answers-small zero givens = tt
     answers-small (suc left) givens =
         let flight = flight-most packets givens in
@@ -122,7 +122,7 @@ sent-where : (b : Bool) (one : Sent) (sent : List Sent) → length (if b then on
 sent-where true one sent = omega arith
 sent-where false one sent = omega arith
 
-module _ (case : SharedCase) (now : ℕ) (may : ℕ → ℕ) (givens : ℕ → List Given) where
+module _ (case : SharedCase) (now : ℕ) (may : ℕ → ℕ) (givens : ℕ → List GivenAck) where
   turn-few : (n : ℕ) (sent : List Sent) → length (turn_of case now may givens n sent) ≤ length sent + n
   turn-few zero sent = omega arith
   turn-few (suc flow) sent =

@@ -1,6 +1,6 @@
 -- The number that the loop ends at is a cube root, and a number has only one.
 use Rattle.std.proofs.Common.{rules}
-use Rattle.int_roots.specs.RootLaws.{IsCubeRoot-is_root}
+use Rattle.int_roots.proofs.RootLemmas.{IsCubeRoot-is_root}
 use Rattle.int_roots.proofs.cbrt.Goals as goal
 
 pub returns-clause-value : goal.returns-clause-value

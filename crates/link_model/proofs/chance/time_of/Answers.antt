@@ -16,3 +16,8 @@ pub overflow_mul-result-2 : goal.overflow_mul-result-2
 overflow_mul-result-2 c =
     let turns = ap (λ p. p * c.args.chance.turn) c.period.ensures in
     omega (arith, turns, time_at c.args.times.now c.requires.valid c.args.chance.turn c.args.chance.place c.requires.place, c.requires.fits)
+
+pub returns : goal.returns
+returns c =
+    let turns = ap (λ p. p * c.args.chance.turn) c.period.ensures in
+    omega (arith, turns, time_at c.args.times.now c.requires.valid c.args.chance.turn c.args.chance.place c.requires.place, c.from.ensures)

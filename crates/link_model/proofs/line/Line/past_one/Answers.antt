@@ -1,7 +1,19 @@
 use Rattle.std.proofs.Common.{arith}
-use Rattle.link_model.proofs.LineLemmas.{later_soon}
+use Rattle.link_model.proofs.LineLemmas.{later_soon, gone_past}
 use Rattle.link_model.proofs.line.Line.past_one.Goals as goal
 
 pub coming_after-requires-clause-fits : goal.coming_after-requires-clause-fits
 coming_after-requires-clause-fits c =
     omega (arith, later_soon c.args.trace.now c.requires.valid c.args.now c.args.self c.requires.line c.requires.some, c.ranges)
+
+pub returns-clause-line : goal.returns-clause-line
+returns-clause-line c =
+    let times = c.args.trace.now in
+    record {
+      next = c.requires.line.next;
+      later = c.coming_after.ensures.coming;
+      waiting = omega (arith, c.coming_after.ensures.number, c.requires.line.waiting, c.requires.some);
+      gone = λ j under.
+          gone_past times c.requires.valid c.args.now c.args.self c.requires.line c.requires.gone j
+          (omega (arith, under, c.coming_after.ensures.number));
+    }

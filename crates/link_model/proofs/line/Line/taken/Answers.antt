@@ -1,4 +1,4 @@
-use Rattle.std.proofs.Common.{◌≤◌, ◌+◌, arith}
+use Rattle.std.proofs.Common.{arith}
 use Rattle.link_model.specs.Chances.{number_of}
 use Rattle.link_model.proofs.ChanceLemmas.{chance_time_rises}
 use Rattle.link_model.proofs.LineLemmas.{after_soon, coming_rises}

@@ -13,7 +13,7 @@ pub returns-then-own-now-2-clause-next : goal.returns-then-own-now-2-clause-next
 returns-then-own-now-2-clause-next c =
     let times = c.args.self.now in
     let chance = number_of times c.args.next in
-    c.first_chance-due.ensures.number ∙ sym (before_due times c.time_of-own.ensures.valid c.args.now chance (omega (arith, c.time_of-own.ensures.time)))
+    c.find_first_chance-due.ensures.number ∙ sym (before_due times c.time_of-own.ensures.valid c.args.now chance (omega (arith, c.time_of-own.ensures.time)))
 
 pub returns-then-own-now-2-clause-waiting : goal.returns-then-own-now-2-clause-waiting
 returns-then-own-now-2-clause-waiting c =

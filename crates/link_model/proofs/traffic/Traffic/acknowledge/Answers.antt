@@ -1,6 +1,7 @@
-use Rattle.std.proofs.Common.{◌≤◌, ◌+◌, List, drop, ap, subst, sym, ◌∙◌, arith}
+use Rattle.std.proofs.Common.{◌≡◌, ◌≤◌, ◌+◌, ◌-◌, ℕ, List, Option, Some, slice_get, drop, ap, subst, sym, ◌∙◌, arith}
 use Rattle.link_model.specs.declared.arrival.Arrival.{Arrival}
-use Rattle.link_model.specs.Steps.{count_of}
+use Rattle.link_model.specs.Standing.{ack_at}
+use Rattle.link_model.specs.Steps.{count_of, standing_in, ack_by}
 use Rattle.link_model.specs.Horizon.{horizon, ArriveWithin, ArriveInOrder}
 use Rattle.link_model.proofs.HorizonLemmas.{ArriveWithin-more}
 use Rattle.link_model.proofs.LineLemmas.{is_line-later}
@@ -37,3 +38,16 @@ returns-clause-kept c =
             (ArriveWithin-more limit (horizon old.sent (old.calls + 1) + case.delay_us) rest (omega (arith, later)) within.2);
       };
     }
+
+-- the packet that leaves is the first one, and those that stay are counted
+pub returns-clause-ack : goal.returns-clause-ack
+returns-clause-ack c =
+    let case = c.args.case.now in
+    let old = c.args.self.now in
+    let first = c.in-Some.arrival in
+    let is : slice_get old.flight.items 0 ≡ Some first = sym c.pop_front.ensures.value ∙ c.in-Some.is in
+    let count = ap (λ xs. count_of xs old.lost) (first_of old.flight.items first is) in
+    let stay : old.in_flight - (first.lost + 1) ≡ count_of (drop 1 old.flight.items) old.lost = omega (arith, c.requires.kept.count, count) in
+    c.arrival_ack-ack.ensures
+    ∙ ap (λ (n : ℕ). ack_at case first old.past n (old.acked + 1) old.sent) stay
+    ∙ sym (ap (λ (next : Option Arrival). ack_by case (standing_in case.trace old) next) is)

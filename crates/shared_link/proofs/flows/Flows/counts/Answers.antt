@@ -1,6 +1,6 @@
 use Rattle.std.proofs.Common.{◌≡◌, ◌≤◌, ◌<◌, length, subst, ap, sym, ◌∙◌, arith}
 use Rattle.link_model.specs.Link.{acked_of}
-use Rattle.link_model.specs.Counts.{lost_of}
+use Rattle.link_model.specs.Counts.{most_packets, lost_of}
 use Rattle.link_model.specs.Steps.{count_of}
 use Rattle.shared_link.specs.declared.flow_traffic.FlowTraffic.{FlowTraffic}
 use Rattle.shared_link.specs.SharedRounds.{flow_at, own_packets, own_flight, sum_of}
@@ -18,7 +18,7 @@ loop-flow-preserved c =
     let inv = c.loop-flow.invariant in
     let within : f < length flows = omega (arith, c.loop-flow-test.true, c.len.ensures) in
     let ready = subst (λ (x : FlowTraffic). IsFlowReady (flow_at case f) c.args.rounds x) (sym c.index-traffic.ensures) (c.requires.ready.each f t within) in
-    let sent_few : t.sent ≤ 268435456 = omega (arith, ready.sent, ready.kept.few, c.requires.rounds) in
+    let sent_few : t.sent ≤ most_packets = omega (arith, ready.sent, ready.kept.few, c.requires.rounds) in
     let sum = ready.kept.sum in (
       omega (arith, within),
       omega (arith, inv.1, sent_few),

@@ -1,6 +1,6 @@
 use Rattle.std.proofs.Common.{◌/◌, sym, refl}
 use Rattle.link_model.proofs.ChanceLemmas.{turn_chance, place_inside}
-use Rattle.link_model.proofs.chance.first_chance.Goals as goal
+use Rattle.link_model.proofs.chance.find_first_chance.Goals as goal
 
 pub returns-clause-number : goal.returns-clause-number
 returns-clause-number c =

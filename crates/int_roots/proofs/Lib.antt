@@ -1,0 +1,2 @@
+-- The lemmas of int_roots, a file a topic.
+pub mod RootLemmas
