@@ -11,7 +11,7 @@ use Rattle.scenario_json.specs.declared.spot.Spot.{Spot}
 use Rattle.scenario_json.specs.declared.spot.Spot.TheVariants.{Top, Case, In, Item}
 use Rattle.scenario_json.specs.declared.plan.Measures.{Measures}
 use Rattle.scenario_json.specs.declared.plan.Fates.{Fates}
-use Rattle.scenario_json.specs.declared.mode.Mode.TheVariants.{Live}
+use Rattle.scenario_json.specs.declared.mode.SceneMode.TheVariants.{Live}
 use Rattle.scenario_json.specs.Paths.{path_of}
 use Rattle.scenario_json.specs.Values.{member_of, needed, of_kind, text_in, list_in, object_in}
 use Rattle.scenario_json.specs.CaseWalk.{Table, case_name, case_trace, case_number, case_measures, case_fates}
