@@ -1,4 +1,5 @@
--- A scenario of a rollout: its cases with the texts of their steps, or the first refusal in the order of the text's parts.
+-- A scenario of a rollout: its cases with the texts of their steps, or the first refusal in the order of the text's
+-- parts.
 use Rattle.std.specs.Prelude.{ℕ, ◌+◌, ◌&&◌, nat_le, if◌then◌else◌, Option, Some, None, Result, Ok, Err, List, [], ◌∷◌, ◌++◌, length, bytes_eq}
 use Rattle.serde_json.specs.Data.{Data, Items, no_items, item, Members, no_members, member}
 use Rattle.serde_json.specs.Events.{items_len}
