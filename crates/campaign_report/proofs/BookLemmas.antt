@@ -11,7 +11,7 @@ use Rattle.ccp_base.specs.Text.{◌⧺◌}
 use Rattle.portus_core.specs.declared.env.Env.{Env}
 use Rattle.portus_core.specs.Epoch.{Track}
 use Rattle.reg_compiler.specs.declared.built.Built.{Built}
-use Rattle.report_lines.specs.EndLine.{end_head, end_tail}
+use Rattle.report_lines.specs.EndLine.{end_head, end_tail, is_faulted}
 use Rattle.flow_core.specs.declared.book.Book.{Book}
 use Rattle.flow_core.specs.declared.book.EpochLine.{EpochLine}
 use Rattle.flow_core.specs.declared.book.TicketLine.{TicketLine}
@@ -24,7 +24,7 @@ use Rattle.flow_core.specs.Readings.{Flow}
 use Rattle.flow_core.specs.WordLaws.{acks_in}
 use Rattle.flow_core.specs.World.{Failure, Era, Answered, World, told_as, track_of}
 use Rattle.flow_core.proofs.LinkWordLemmas.{length-world}
-use Rattle.campaign_report.specs.BookText.{account_in, ack_count, book_text, books_text, end_in, failure_of, fault_text, fault_texts, is_faulted, last_program, sources_of}
+use Rattle.campaign_report.specs.BookText.{account_in, ack_count, book_text, books_text, end_in, failure_of, fault_text, fault_texts, last_program, sources_of}
 use Rattle.campaign_report.specs.BooksRead.{answered_of, content_of, flows_of, IsRead, read_flow, read_world}
 use Rattle.campaign_report.proofs.StopLemmas.{fails_in, stopped-where}
 

@@ -1,5 +1,5 @@
 -- The text of books: of each the account that it tells, read over the sources of programs with their places.
-use Rattle.std.specs.Prelude.{ℕ, ◌+◌, ◌-◌, ◌==◌, ◌||◌, Bool, false, if◌then◌else◌, List, [], ◌∷◌, length, map, codes, decimal}
+use Rattle.std.specs.Prelude.{ℕ, ◌+◌, ◌-◌, if◌then◌else◌, List, [], ◌∷◌, length, map, codes, decimal}
 use Rattle.ccp_base.specs.declared.exchange.Notice.{Notice}
 use Rattle.ccp_base.specs.declared.place.Place.{Place}
 use Rattle.ccp_base.specs.Text.{◌⧺◌}
@@ -7,6 +7,7 @@ use Rattle.portus_core.specs.ProgramForm.{form_of}
 use Rattle.reg_compiler.specs.declared.built.Built.{Built}
 use Rattle.report_lines.specs.declared.end_line.End.{End}
 use Rattle.report_lines.specs.FaultLine.{fault_line}
+use Rattle.report_lines.specs.EndLine.{is_faulted}
 use Rattle.flow_core.specs.declared.book.Book.{Book}
 use Rattle.flow_core.specs.declared.book.EpochLine.{EpochLine}
 use Rattle.flow_core.specs.declared.book.TicketLine.{TicketLine}
@@ -60,11 +61,6 @@ failure_of programs case notice = record {
   now = notice.now;
   cwnd = notice.cwnd;
 }
-
--- one of the faults is of the epoch with this number
-abbrev pub is_faulted : ℕ → List Notice → Bool
-is_faulted number [] = false
-is_faulted number (notice ∷ rest) = (notice.epoch == number) || is_faulted number rest
 
 -- how the flow stands after the letters of its word; a fault stops its epoch
 abbrev pub end_in : Book → End

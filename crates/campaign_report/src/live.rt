@@ -1,7 +1,8 @@
 ghost use Rattle.std.specs.Prelude.{◌≡◌, ◌≤◌, ◌++◌, IfOk, OnOk, map};
 ghost use Rattle.std.specs.List.{All};
 ghost use Rattle.flow_core.specs.LiveText.{epoch_lines, fault_lines, flow_line};
-ghost use Rattle.campaign_report.specs.BookText.{ack_count, acks_at, book_text, books_text, end_in, epoch_text, failure_of, fault_text, fault_texts, is_faulted, last_line, last_program};
+ghost use Rattle.campaign_report.specs.BookText.{ack_count, acks_at, book_text, books_text, end_in, epoch_text};
+ghost use Rattle.campaign_report.specs.BookText.{failure_of, fault_text, fault_texts, last_line, last_program};
 ghost use Rattle.campaign_report.specs.BooksRead.{IsRead, read_text};
 
 use crate::agent_text::agent_text;
@@ -10,7 +11,7 @@ use crate::tickets::{put_tickets, report_count};
 use ccp_base::{Bytes, NoMemory, Notice};
 use flow_core::{Book, Case, EpochLine, Letter};
 use reg_compiler::{Built, Builts};
-use report_lines::{End, put_end_head, put_end_tail, put_fault, put_flow_head};
+use report_lines::{End, is_faulted, put_end_head, put_end_tail, put_fault, put_flow_head};
 use std::alloc::Global;
 
 /// The text of a live run: of each book its flow, its epochs, its faults with their places, its tickets, and how the
@@ -168,20 +169,6 @@ fn end_in(book: &Book) -> End
         rate: book.machine.rate(),
         fields: book.machine.fields(),
     }
-}
-
-/// Whether one of the faults is of the epoch with this number.
-fn is_faulted(number: usize, faults: &[Notice]) -> bool
-    ensures { result ≡ is_faulted number faults.now }
-{
-    let mut left = faults;
-    while let Some((notice, rest)) = left.split_first() {
-        if notice.epoch as usize == number {
-            return true;
-        }
-        left = rest;
-    }
-    false
 }
 
 /// The program of the last epoch, 0 where there is none.

@@ -1,7 +1,9 @@
 ghost use Rattle.std.specs.Prelude.{◌≡◌, ◌≤◌, ◌++◌, IfOk, OnOk, codes, length};
 ghost use Rattle.ccp_base.specs.Limits.{most_cases};
 ghost use Rattle.ccp_base.specs.Text.{◌⧺◌};
-ghost use Rattle.campaign_report.specs.TableText.{after_space, columns, first_totals, last_totals, named, row_head, row_line, row_lines, soak_head, soak_text, spaced, table_text, total_line};
+ghost use Rattle.campaign_report.specs.TableText.{after_space, columns, first_totals, last_totals, named, row_head};
+ghost use Rattle.campaign_report.specs.TableText.{row_line, row_lines, soak_head, soak_text, spaced, table_text};
+ghost use Rattle.campaign_report.specs.TableText.{total_line};
 
 use crate::agent_text::agent_text;
 use crate::sums::{Column, sum};

@@ -1,7 +1,8 @@
 ghost use Rattle.std.specs.Prelude.{◌≡◌, ◌++◌, IfOk, OnOk, length};
 ghost use Rattle.ccp_messages.specs.Messages.{Meets, frame_bytes};
 ghost use Rattle.ccp_messages.specs.declared.message.Message.TheVariants.{Install};
-ghost use Rattle.campaign_report.specs.WireText.{hex_line, install_frame, install_head, install_line, version_for, wire_text};
+ghost use Rattle.campaign_report.specs.WireText.{hex_line, install_frame, install_head, install_line, version_for};
+ghost use Rattle.campaign_report.specs.WireText.{wire_text};
 
 use ccp_base::{Bytes, NoMemory};
 use ccp_messages::{Message, Short, Version, encode_into};

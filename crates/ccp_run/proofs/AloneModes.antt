@@ -7,7 +7,7 @@ use Rattle.ccp_base.specs.Parts.{parts_of, without_last}
 use Rattle.std.proofs.lemmas.Bool.Decides.{leb_tells}
 use Rattle.feed_core.proofs.FeedBegins.{no-answers}
 use Rattle.scenario_json.specs.declared.fault.SceneFault.{SceneFault}
-use Rattle.scenario_json.specs.declared.mode.Mode.TheVariants as scene
+use Rattle.scenario_json.specs.declared.mode.SceneMode.TheVariants as scene
 use Rattle.scenario_json.specs.Scene.{Scene, scene_of}
 use Rattle.portus_core.specs.Programs.{Form}
 use Rattle.portus_core.specs.ProgramForm.{form_of}

@@ -4,7 +4,7 @@ use Rattle.portus_core.specs.Programs.{Form}
 use Rattle.portus_build.specs.declared.fault.BuildFault.{BuildFault}
 use Rattle.portus_build.proofs.SettledTexts.{settled_text}
 use Rattle.scenario_json.specs.declared.fault.SceneFault.{SceneFault}
-use Rattle.scenario_json.specs.ScenePrograms.{TextReading, ComesTo, IsReading}
+use Rattle.scenario_json.specs.ScenePrograms.{TextReading, ComesTo, ReadsTexts}
 use Rattle.scenario_json.proofs.ReadingLemmas.{some_reading}
 use Rattle.ccp_run.specs.declared.refusal.Refusal.{Refusal}
 use Rattle.ccp_run.specs.declared.refusal.Refusal.TheVariants.{TooLong, NoSeparator, Program, Line, TooManyAcks, Scene as SceneRefused, Frame, FrameCut}
@@ -19,7 +19,7 @@ one_outcome text (Err e) (Ok f) p q = absurd ((settled_text text).apart f e q p)
 one_outcome text (Err d) (Err e) p q = ap Err ((settled_text text).one_refusal d e p q)
 
 -- there is one reading
-one_reading : (left right : TextReading) → IsReading left → IsReading right → left ≡ right
+one_reading : (left right : TextReading) → ReadsTexts left → ReadsTexts right → left ≡ right
 one_reading left right l r = λ i text. one_outcome text (left text) (right text) (l.at text) (r.at text) i
 
 -- ---- what is said, or the fault
@@ -55,16 +55,16 @@ module _ {Said : Type 0} (found : TextReading → Result Said SceneFault) where
   now = found some_reading.0
 
   -- what holds of one reading holds of all
-  for_all : (came : Result Said SceneFault) → now ≡ came → (read : TextReading) → IsReading read → found read ≡ came
+  for_all : (came : Result Said SceneFault) → now ≡ came → (read : TextReading) → ReadsTexts read → found read ≡ came
   for_all came is read reading = ap found (one_reading read some_reading.0 reading some_reading.1) ∙ is
 
   some_read : (came : Result Said SceneFault) → now ≡ came
-      → SaysSomething (λ said. (read : TextReading) → IsReading read → found read ≡ Ok said)
-      ⊎ ((fault : SceneFault) × ((read : TextReading) → IsReading read → found read ≡ Err fault))
+      → SaysSomething (λ said. (read : TextReading) → ReadsTexts read → found read ≡ Ok said)
+      ⊎ ((fault : SceneFault) × ((read : TextReading) → ReadsTexts read → found read ≡ Err fault))
   some_read (Ok said) is = inl (said, for_all (Ok said) is)
   some_read (Err fault) is = inr (fault, for_all (Err fault) is)
 
-  pub by_readings : AreApart (λ (said : Said). (read : TextReading) → IsReading read → found read ≡ Ok said) (λ fault. (read : TextReading) → IsReading read → found read ≡ Err fault)
+  pub by_readings : AreApart (λ (said : Said). (read : TextReading) → ReadsTexts read → found read ≡ Ok said) (λ fault. (read : TextReading) → ReadsTexts read → found read ≡ Err fault)
   by_readings = record {
     some = some_read now refl;
     apart = λ said fault says has. ok_or_err now said fault (says some_reading.0 some_reading.1) (has some_reading.0 some_reading.1);

@@ -1,7 +1,7 @@
 -- The modes that have workers have what the theorem asks of a mode, and so has every task.
 use Rattle.std.proofs.Common.{◌≡◌, refl, inl, ℕ, Bool, List}
-use Rattle.scenario_json.specs.declared.mode.Mode.{Mode as SceneMode}
-use Rattle.scenario_json.specs.declared.mode.Mode.TheVariants as scene
+use Rattle.scenario_json.specs.declared.mode.SceneMode.{SceneMode}
+use Rattle.scenario_json.specs.declared.mode.SceneMode.TheVariants as scene
 use Rattle.scenario_json.specs.Rollout.{rollout_of}
 use Rattle.scenario_json.specs.Scene.{scene_of}
 use Rattle.scenario_json.specs.SharedScenes.{shared_scene_of}

@@ -5,7 +5,7 @@ use Rattle.reg_compiler.specs.declared.built.Built.{Built}
 use Rattle.flow_core.specs.declared.case.Case.{Case}
 use Rattle.fold_run.specs.Separated.{Cut, cut_of}
 use Rattle.scenario_json.specs.declared.fault.SceneFault.{SceneFault}
-use Rattle.scenario_json.specs.declared.mode.Mode.TheVariants as scene
+use Rattle.scenario_json.specs.declared.mode.SceneMode.TheVariants as scene
 use Rattle.scenario_json.specs.Scene.{Scene}
 use Rattle.scenario_json.specs.ScenePrograms.{forms_of}
 use Rattle.run_audit.specs.declared.verdict.Verdict.{Verdict}
@@ -24,8 +24,8 @@ abbrev pub verdict_text : Verdict → List ℕ
 verdict_text Yes = codes "yes\n"
 verdict_text (No flow) = codes "no flow " ⧺ decimal flow ⧺ codes "\n"
 
--- bytes are cut here: the scenario's text before the separator, no longer than an input of the other modes, and the text
--- to be judged after it
+-- bytes are cut here: the scenario's text before the separator, no longer than an input of the other modes, and the
+-- text to be judged after it
 pub record IsCutAt (bytes : List ℕ) (cut : Cut) : Type 0 where
   pub at_separator : cut_of bytes ≡ Some cut
   pub short : length cut.program ≤ most_bytes limit.Input

@@ -6,11 +6,11 @@ ghost use Rattle.ccp_run.specs.Scenes.{IsScenario, StopsScene};
 use crate::refusal::Refusal;
 use crate::stop::Stop;
 use scenario_json::calls::scenario;
-use scenario_json::{Mode, Scenario, SceneFault};
+use scenario_json::{Scenario, SceneFault, SceneMode};
 use std::alloc::Global;
 
 /// The scenario that the bytes stand for.
-pub fn scene(alloc: Global, bytes: &[u8], mode: Mode) -> Result<Scenario, Stop>
+pub fn scene(alloc: Global, bytes: &[u8], mode: SceneMode) -> Result<Scenario, Stop>
     ensures found { IfOk result (λ s. IsScenario mode bytes.now s.programs s.cases) }
     ensures numbered { IfOk result (λ s. AreNumberedFrom 0 s.programs) }
     ensures names { IfOk result (λ s. s.names ≡ case_names s.cases) }

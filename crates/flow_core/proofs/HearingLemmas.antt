@@ -18,7 +18,7 @@ use Rattle.flow_core.specs.declared.state.State.{State}
 use Rattle.flow_core.specs.Readings.{env_of, by_code, code_at}
 use Rattle.flow_core.specs.World.{Failure, World, track_of, failures_met, untold_after, held_met, has_room, with_met, after_ack, notice_of}
 use Rattle.flow_core.specs.Roomy.{RoomyState}
-use Rattle.flow_core.specs.Outbox.{Lies, AreHeld}
+use Rattle.flow_core.specs.Outbox.{Lies, AreStored}
 use Rattle.flow_core.specs.Books.{epoch_line}
 use Rattle.flow_core.specs.Cores.{acked_as, met_in, ran_by, ran_met}
 use Rattle.flow_core.specs.States.{outcome_by, flow_of, Keeps, IsReady}
@@ -26,11 +26,11 @@ use Rattle.flow_core.specs.Hearing.{epoch_of, reporter, failures_of, CanHear, Pu
 use Rattle.flow_core.proofs.CountLemmas.{IsCounted-met}
 
 -- as many slots as reports
-pub AreHeld-length : (pool : _) (slots : List ℕ) (reports : List Report) → AreHeld pool slots reports → length slots ≡ length reports
-AreHeld-length pool [] [] lie = refl
-AreHeld-length pool [] (report ∷ reports) lie = absurd lie
-AreHeld-length pool (slot ∷ slots) [] lie = absurd lie
-AreHeld-length pool (slot ∷ slots) (report ∷ reports) lie = ap suc (AreHeld-length pool slots reports lie.1)
+pub AreStored-length : (pool : _) (slots : List ℕ) (reports : List Report) → AreStored pool slots reports → length slots ≡ length reports
+AreStored-length pool [] [] lie = refl
+AreStored-length pool [] (report ∷ reports) lie = absurd lie
+AreStored-length pool (slot ∷ slots) [] lie = absurd lie
+AreStored-length pool (slot ∷ slots) (report ∷ reports) lie = ap suc (AreStored-length pool slots reports lie.1)
 
 -- an answer is that of its outcome
 pub acked-by : (answer : Acked) (report : List ℕ) → acked_as (outcome_by answer report) ≡ answer
@@ -42,7 +42,7 @@ acked-by acked.Stopped report = refl
 
 module _ (s : State) (w : World ℕ) (keeps : Keeps s w) where
   pub waiting-length : length s.outbox.slots ≡ length w.waiting
-  waiting-length = AreHeld-length s.machine.further s.outbox.slots w.waiting keeps.lies.held
+  waiting-length = AreStored-length s.machine.further s.outbox.slots w.waiting keeps.lies.stored
 
   pub epochs-length : length s.epochs.items ≡ length w.past + 1
   epochs-length =

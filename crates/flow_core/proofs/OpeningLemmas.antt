@@ -58,7 +58,7 @@ module _ (s : State) (opens : IsOpen s) where
     stopped = ap (λ (m : MachineState). m.is_stopped) opens.machine;
     first = opens.first;
     count = refl;
-    lies = subst (λ (o : OutboxState). Lies s.machine.further o.slots []) (sym opens.outbox) (record { owned = tt; held = tt });
+    lies = subst (λ (o : OutboxState). Lies s.machine.further o.slots []) (sym opens.outbox) (record { owned = tt; stored = tt });
     untold = ap (λ (o : OutboxState). o.untold) opens.outbox;
     agent = opens.agent;
     out = opens.out;

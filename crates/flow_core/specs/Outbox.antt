@@ -37,7 +37,7 @@ report_head report =
     ∷ length report.fields
     ∷ []
 
--- the words that hold a report
+-- the words that a report is stored as
 abbrev pub report_words : Report → List ℕ
 report_words report = report_head report ++ report.fields
 
@@ -49,16 +49,16 @@ pub record IsInRange (report : Report) : Type 0 where
   pub fields : length report.fields ≤ most_fields
 
 -- the slot is out, and its words begin with the report's
-pub record Holds (pool : PoolState) (slot : ℕ) (report : Report) : Type 0 where
+pub record Stores (pool : PoolState) (slot : ℕ) (report : Report) : Type 0 where
   pub begins : option_map (take (length (report_words report))) (words_at pool slot) ≡ Some (report_words report)
   pub in_range : IsInRange report
 
--- each of the slots holds the report at its place in the list
-abbrev pub AreHeld : PoolState → List ℕ → List Report → Type 0
-AreHeld pool [] [] = Unit {0}
-AreHeld pool (slot ∷ slots) (report ∷ reports) = Holds pool slot report × AreHeld pool slots reports
-AreHeld pool [] (report ∷ reports) = ⊥
-AreHeld pool (slot ∷ slots) [] = ⊥
+-- each of the slots stores the report at its place in the list
+abbrev pub AreStored : PoolState → List ℕ → List Report → Type 0
+AreStored pool [] [] = Unit {0}
+AreStored pool (slot ∷ slots) (report ∷ reports) = Stores pool slot report × AreStored pool slots reports
+AreStored pool [] (report ∷ reports) = ⊥
+AreStored pool (slot ∷ slots) [] = ⊥
 
 -- none of the slots is this one
 abbrev pub AreOther : ℕ → List ℕ → Type 0
@@ -78,7 +78,7 @@ AreWide pool (slot ∷ rest) = most_report_words ≤ pool.words
 -- each waiting report has a slot of its own that is out and whose words begin with the report's
 pub record Lies (pool : PoolState) (slots : List ℕ) (reports : List Report) : Type 0 where
   pub owned : AreOwned pool slots
-  pub held : AreHeld pool slots reports
+  pub stored : AreStored pool slots reports
 
 -- ---- what a call changes of a pool and of the slots of the waiting reports
 

@@ -5,8 +5,8 @@ use Rattle.slot_pool.specs.Pool.{PoolState, words_at, ChangesSlot}
 
 -- the words of a slot, with these written over them from a place on
 abbrev pub written_over : Option (List ℕ) → ℕ → List ℕ → Option (List ℕ)
-written_over held at [] = held
-written_over held at (word ∷ rest) = written_over (option_map (λ words. slice_set words at word) held) (at + 1) rest
+written_over kept at [] = kept
+written_over kept at (word ∷ rest) = written_over (option_map (λ words. slice_set words at word) kept) (at + 1) rest
 
 -- these words are written into a slot, from a place on, and no other slot changes
 abbrev pub WritesOver : ℕ → ℕ → List ℕ → PoolState → PoolState → Type 0

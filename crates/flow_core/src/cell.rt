@@ -1,8 +1,10 @@
-ghost use Rattle.std.specs.Prelude.{◌≡◌, ◌+◌, ◌-◌, ◌≤◌, ◌↔◌, ◌∷◌, [], ◌++◌, ℕ, true, Some, Err, slice_get, length, IsOk, IsErr, IfOk, IfErr, OnOk, OnErr};
+ghost use Rattle.std.specs.Prelude.{◌≡◌, ◌+◌, ◌-◌, ◌≤◌, ◌↔◌, ◌∷◌, [], ◌++◌, ℕ, true, Some, Err, slice_get, length};
+ghost use Rattle.std.specs.Prelude.{IsOk, IsErr, IfOk, IfErr, OnOk, OnErr};
 ghost use Rattle.flow_core.specs.World.{track_of, after_take, after_answer};
 ghost use Rattle.flow_core.specs.Words.{is_still, legal, is_complete};
 ghost use Rattle.flow_core.specs.Books.{IsBookOf};
-ghost use Rattle.flow_core.specs.Cells.{flow_at, world_at, heard_at, acked_at, ran_at, out_at, out_number_at, IsComplete, IsLifted};
+ghost use Rattle.flow_core.specs.Cells.{flow_at, world_at, heard_at, acked_at, ran_at, out_at, out_number_at};
+ghost use Rattle.flow_core.specs.Cells.{IsComplete, IsLifted};
 
 use crate::book::Book;
 use crate::case::Case;
@@ -36,8 +38,8 @@ impl Model for Cell {
 }
 
 impl Cell {
-    /// A flow without a letter. The word, the acknowledgements, the outbox, the link's packets in flight and a place for
-    /// one fault per acknowledgement of the case are reserved here.
+    /// A flow without a letter. The word, the acknowledgements, the outbox, the link's packets in flight and a place
+    /// for one fault per acknowledgement of the case are reserved here.
     pub fn new(alloc: Global, case: Case) -> Result<Cell, NoMemory>
         ensures { IfOk result (λ cell. cell ≡ record { case = case; word = [] }) }
     {
@@ -46,8 +48,8 @@ impl Cell {
         Ok(Cell { core, link })
     }
 
-    /// Takes the link's next acknowledgement. Ended exactly where all acknowledgements are in; then nothing has changed.
-    /// `steps` counts the instructions that are run.
+    /// Takes the link's next acknowledgement. Ended exactly where all acknowledgements are in; then nothing has
+    /// changed. `steps` counts the instructions that are run.
     pub fn ack<L: Ledger>(&mut self, steps: &mut Steps<L>) -> Result<Acked, Ended>
         ensures ended { IsErr result ↔ (self.old.case.acks ≤ length (world_at self.old).acks) }
         ensures ok { OnOk result (self.new ≡ record self.old { word = self.old.word ++ Letter.A ∷ [] }) }
@@ -82,8 +84,8 @@ impl Cell {
         self.core.take(alloc)
     }
 
-    /// Applies the answer to the ticket that is out. Stale exactly where the answer's ticket isn't that one; then nothing
-    /// has changed.
+    /// Applies the answer to the ticket that is out. Stale exactly where the answer's ticket isn't that one; then
+    /// nothing has changed.
     pub fn settle(&mut self, answer: Answer) -> Result<(), Stale>
         ensures settled { IsOk result ↔ (out_at self.old ≡ Some answer) }
         ensures ok { OnOk result (self.new ≡ record self.old { word = self.old.word ++ Letter.C ∷ [] }) }

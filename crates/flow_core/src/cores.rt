@@ -1,4 +1,5 @@
-ghost use Rattle.std.specs.Prelude.{◌≡◌, ◌+◌, ◌-◌, ◌≤◌, ◌↔◌, ◌∷◌, [], ◌++◌, ℕ, true, Some, option_map, slice_get, length, Err, IsOk, IsErr, IfOk, IfErr, OnOk, OnErr};
+ghost use Rattle.std.specs.Prelude.{◌≡◌, ◌+◌, ◌-◌, ◌≤◌, ◌↔◌, ◌∷◌, [], ◌++◌, ℕ, true, Some, option_map, slice_get};
+ghost use Rattle.std.specs.Prelude.{length, Err, IsOk, IsErr, IfOk, IfErr, OnOk, OnErr};
 ghost use Rattle.flow_core.specs.World.{track_of, after_take, after_answer};
 ghost use Rattle.flow_core.specs.Words.{is_still, legal_over};
 ghost use Rattle.flow_core.specs.Books.{IsBookOf};
@@ -114,8 +115,8 @@ impl Core {
         Ok(self.state.take()?)
     }
 
-    /// Applies the answer to the ticket that is out. Stale exactly where the answer's ticket isn't that one; then nothing
-    /// has changed.
+    /// Applies the answer to the ticket that is out. Stale exactly where the answer's ticket isn't that one; then
+    /// nothing has changed.
     pub fn settle(&mut self, answer: Answer) -> Result<(), Stale>
         ensures settled { IsOk result ↔ (out_in self.old ≡ Some answer) }
         ensures ok { OnOk result (self.new ≡ record self.old { word = self.old.word ++ Letter.C ∷ [] }) }

@@ -1,8 +1,10 @@
-ghost use Rattle.std.specs.Prelude.{◌≡◌, ◌+◌, ◌<◌, ◌≤◌, ◌↔◌, nat_lt, List, [], ◌∷◌, ◌++◌, length, drop, None, Some, IsNone, IsTrue, IfOk};
+ghost use Rattle.std.specs.Prelude.{◌≡◌, ◌+◌, ◌<◌, ◌≤◌, ◌↔◌, nat_lt, List, [], ◌∷◌, ◌++◌, length, drop, None, Some};
+ghost use Rattle.std.specs.Prelude.{IsNone, IsTrue, IfOk};
 ghost use Rattle.ccp_base.specs.Limits.{most_slots};
 ghost use Rattle.ccp_base.specs.declared.exchange.Report.{Report};
 ghost use Rattle.slot_pool.specs.Pool.{words_at, free_of, ChangesSlot};
-ghost use Rattle.flow_core.specs.Outbox.{empty_outbox, most_report_words, AreOwned, AreWide, AreAsMany, Gains, LosesFirst, ChangesOnly, newest, GivesFirst, IsToldNext, untold_after};
+ghost use Rattle.flow_core.specs.Outbox.{empty_outbox, most_report_words, AreOwned, AreWide, AreAsMany, Gains};
+ghost use Rattle.flow_core.specs.Outbox.{LosesFirst, ChangesOnly, newest, GivesFirst, IsToldNext, untold_after};
 
 use crate::report_words::{store, unload};
 use ccp_base::{NoMemory, Notice, Report, Told};

@@ -2,7 +2,7 @@
 ghost use Rattle.std.specs.Prelude.{◌≡◌, ◌+◌, ◌<◌, ◌≤◌, None, length};
 ghost use Rattle.ccp_base.specs.declared.exchange.Report.{Report};
 ghost use Rattle.slot_pool.specs.Pool.{words_at, IsOut, free_of, ChangesSlot};
-ghost use Rattle.flow_core.specs.Outbox.{most_report_words, report_head, IsInRange, Holds};
+ghost use Rattle.flow_core.specs.Outbox.{most_report_words, report_head, IsInRange, Stores};
 ghost use Rattle.flow_core.specs.ReportWords.{WritesOver, narrow, report_in};
 
 use ccp_base::{Report, Values};
@@ -22,7 +22,7 @@ pub(crate) fn store<P: Slots>(slots: &mut P, report: &Report) -> Slot
     requires words { most_report_words ≤ (P.pool slots.old).words }
     ensures was_free { words_at (P.pool slots.old) result ≡ None }
     ensures changed { ChangesSlot (P.pool slots.old) (P.pool slots.new) result (words_at (P.pool slots.new) result) }
-    ensures holds { Holds (P.pool slots.new) result report.entry.now }
+    ensures stored { Stores (P.pool slots.new) result report.entry.now }
     ensures counted { free_of (P.pool slots.new) + 1 ≡ free_of (P.pool slots.old) }
     ensures rest { P.rest slots.new ≡ P.rest slots.old }
 {
@@ -76,7 +76,7 @@ fn write<P: Slots>(slots: &mut P, slot: &Slot, at: u32, words: &[u64])
 pub(crate) fn unload<P: Slots>(slots: &mut P, slot: Slot) -> Report
     requires out { IsOut (P.pool slots.old) slot }
     requires words { most_report_words ≤ (P.pool slots.old).words }
-    ensures report { (report : Report) → Holds (P.pool slots.old) slot report → result ≡ report }
+    ensures report { (report : Report) → Stores (P.pool slots.old) slot report → result ≡ report }
     ensures given { ChangesSlot (P.pool slots.old) (P.pool slots.new) slot None }
     ensures counted { free_of (P.pool slots.new) ≡ free_of (P.pool slots.old) + 1 }
     ensures rest { P.rest slots.new ≡ P.rest slots.old }

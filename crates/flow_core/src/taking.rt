@@ -1,5 +1,6 @@
 //! A report or a fault notice is taken as a ticket.
-ghost use Rattle.std.specs.Prelude.{◌≡◌, ◌+◌, ◌<◌, ◌≤◌, ◌↔◌, ◌∷◌, ◌++◌, true, IfOk, OnOk, OnErr, IsNone, None, Some, [], length, drop};
+ghost use Rattle.std.specs.Prelude.{◌≡◌, ◌+◌, ◌<◌, ◌≤◌, ◌↔◌, ◌∷◌, ◌++◌, true, IfOk, OnOk, OnErr, IsNone, None, Some};
+ghost use Rattle.std.specs.Prelude.{[], length, drop};
 ghost use Rattle.ccp_base.specs.Limits.{most_acks};
 ghost use Rattle.fold_machine.specs.Store.{slot_words};
 ghost use Rattle.flow_core.specs.World.{after_take};

@@ -1,6 +1,6 @@
 //! The flows that the tests take, each the only case of a scenario.
 use flow_core::{Case, Cell, Core};
-use scenario_json::Mode;
+use scenario_json::SceneMode;
 use scenario_json::calls::scenario;
 use std::alloc::Global;
 use std::test::Fail;
@@ -35,7 +35,7 @@ fn first(alloc: Global, cases: &[Case]) -> Result<Case, Fail> {
 
 /// The case of a scenario.
 pub(crate) fn case(alloc: Global, text: &[u8]) -> Result<Case, Fail> {
-    let scene = scenario(alloc, text, Mode::Live)?;
+    let scene = scenario(alloc, text, SceneMode::Live)?;
     first(alloc, scene.cases.as_slice())
 }
 

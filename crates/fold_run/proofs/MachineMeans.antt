@@ -21,7 +21,7 @@ use Rattle.fold_machine.specs.Heard.{acked_of, after_made, heard, heard_where, r
 use Rattle.fold_machine.specs.MachineState.{MachineState, Fits}
 use Rattle.reg_compiler.specs.Simulation.{Simulates, seen, start_of}
 use Rattle.fold_run.specs.Fold.{place_at}
-use Rattle.fold_run.specs.Told.{mean_of, IsPlaced}
+use Rattle.fold_run.specs.AnswerMeaning.{mean_of, IsPlaced}
 use Rattle.fold_run.specs.Folding.{env_of}
 
 there : (places : List Place) (kind : FaultKind) (index : ℕ) (m : Mean) → option_map (λ place. mean.Fault kind place) (slice_get places index) ≡ Some m

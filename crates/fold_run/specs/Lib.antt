@@ -6,6 +6,6 @@ pub mod AckLine
 pub mod Acknowledgements
 pub mod Ran
 pub mod Fold
-pub mod Told
+pub mod AnswerMeaning
 pub mod Folding
 pub mod ReadingLaws

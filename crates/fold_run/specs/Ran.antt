@@ -13,14 +13,14 @@ pub record Running : Type 0 where
   pub is_stopped : Bool
   pub ran : ℕ
 
--- an instruction that faulted was run too
-abbrev pub after_made : Made → Running → Running
-after_made made running = record { kept = made.kept; is_stopped = stops made.outcome; ran = running.ran + made.ran }
+-- what an acknowledgement made is kept, and its instructions are counted; one that faulted was run too
+abbrev pub with_made : Made → Running → Running
+with_made made running = record { kept = made.kept; is_stopped = stops made.outcome; ran = running.ran + made.ran }
 
 -- a stopped code runs no acknowledgement
 abbrev pub running_where : Bool → Code → Running → Ack → Running
 running_where true code running ack = running
-running_where false code running ack = after_made (one_by_code code running.kept ack true) running
+running_where false code running ack = with_made (one_by_code code running.kept ack true) running
 
 abbrev pub running_after : Code → Running → Ack → Running
 running_after code running ack = running_where running.is_stopped code running ack

@@ -4,7 +4,8 @@ ghost use Rattle.ccp_base.specs.declared.parts.Separator.TheVariants.{Blank};
 ghost use Rattle.ccp_base.specs.Limits.{primitive_count};
 ghost use Rattle.ccp_base.specs.Parts.{separates, parts_of};
 ghost use Rattle.fold_run.specs.FirstPart.{first_of, after_of};
-ghost use Rattle.fold_run.specs.AckLine.{with_word, with_words, some_if, no_values, begins_blank, ends_blank, line_told, line_of};
+ghost use Rattle.fold_run.specs.AckLine.{with_word, with_words, some_if, no_values, begins_blank, ends_blank};
+ghost use Rattle.fold_run.specs.AckLine.{line_told, line_of};
 
 use crate::line_number::read_number;
 use crate::line_values::LineValues;

@@ -4,8 +4,10 @@ ghost use Rattle.portus_core.specs.ProgramForm.{form_of};
 ghost use Rattle.fold_machine.specs.MachineState.{Fits};
 ghost use Rattle.fold_machine.specs.Heard.{is_fault, stops};
 ghost use Rattle.fold_run.specs.Fold.{fold_start};
-ghost use Rattle.fold_run.specs.Told.{mean_of, IsPlaced};
-ghost use Rattle.fold_run.specs.Folding.{env_of, track_of, running_of, IsFoldOf, KeepsNotice, by_code, by_program, code_after, end_with, fault_after, fault_in, notice_of, reported_by, reports_after, track_after};
+ghost use Rattle.fold_run.specs.AnswerMeaning.{mean_of, IsPlaced};
+ghost use Rattle.fold_run.specs.Folding.{env_of, track_of, running_of, IsFoldOf, KeepsNotice, by_code, by_program};
+ghost use Rattle.fold_run.specs.Folding.{code_after, end_with, fault_after, fault_in, notice_of, reported_by};
+ghost use Rattle.fold_run.specs.Folding.{reports_after, track_after};
 ghost use Rattle.fold_run.specs.Ran.{running_start};
 
 use crate::end::End;

@@ -1,10 +1,11 @@
 -- The text of books: of each the account that it tells, with the places of its entries.
-use Rattle.std.specs.Prelude.{ℕ, ◌-◌, ◌==◌, ◌||◌, Bool, false, Option, Some, None, List, [], ◌∷◌, ◌++◌, length, map}
+use Rattle.std.specs.Prelude.{ℕ, ◌-◌, Option, Some, None, List, [], ◌∷◌, ◌++◌, length, map}
 use Rattle.ccp_base.specs.declared.exchange.Notice.{Notice}
 use Rattle.ccp_base.specs.declared.place.Place.{Place}
 use Rattle.ccp_base.specs.Text.{◌⧺◌}
 use Rattle.report_lines.specs.declared.end_line.End.{End}
 use Rattle.report_lines.specs.FaultLine.{fault_line}
+use Rattle.report_lines.specs.EndLine.{is_faulted}
 use Rattle.flow_core.specs.World.{Failure}
 use Rattle.open_flow.specs.declared.book.OpenBook.{OpenBook}
 use Rattle.open_flow.specs.BuiltTexts.{EntryState}
@@ -21,11 +22,6 @@ placed notice (Some place) = failure_at notice place ∷ []
 abbrev pub failures_in : List EntryState → List Notice → List (Failure Place)
 failures_in entries [] = []
 failures_in entries (notice ∷ rest) = placed notice (place_at entries notice.program notice.index) ++ failures_in entries rest
-
--- one of the faults is of the epoch with this number
-abbrev pub is_faulted : ℕ → List Notice → Bool
-is_faulted number [] = false
-is_faulted number (notice ∷ rest) = (notice.epoch == number) || is_faulted number rest
 
 -- how the flow stands; a fault stops its epoch
 abbrev pub end_in : OpenBook → End

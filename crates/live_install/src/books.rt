@@ -1,6 +1,6 @@
 ghost use Rattle.std.specs.Prelude.{◌≡◌, ◌<◌, map, IfOk};
 ghost use Rattle.std.specs.List.{All};
-ghost use Rattle.scenario_json.specs.ScenePrograms.{TextReading, IsReading};
+ghost use Rattle.scenario_json.specs.ScenePrograms.{TextReading, ReadsTexts};
 ghost use Rattle.open_flow.specs.OpenCells.{IsComplete};
 ghost use Rattle.live_install.specs.Tables.{case_of};
 ghost use Rattle.live_install.specs.WholeBooks.{IsWhole, case_in};
@@ -17,7 +17,7 @@ use std::sync::ledger::{Blank, Ledger};
 /// The books of flows, in order.
 pub(crate) fn books(alloc: Global, cells: OpenCells) -> Result<OpenBooks, NoMemory>
     ensures cases { IfOk result (λ books. map case_in books ≡ map case_of cells) }
-    ensures whole { (read : TextReading) → IsReading read → IfOk result (λ books. All (IsWhole read) books) }
+    ensures whole { (read : TextReading) → ReadsTexts read → IfOk result (λ books. All (IsWhole read) books) }
 {
     counted::<Brand>(alloc, cells, Blank::new(1))
 }
@@ -28,7 +28,7 @@ fn counted<L: Ledger>(alloc: Global, cells: OpenCells, blank: Blank) -> Result<O
     requires parts { blank.parts ≡ L.parts }
     requires some { 0 < blank.parts }
     ensures cases { IfOk result (λ books. map case_in books ≡ map case_of cells) }
-    ensures whole { (read : TextReading) → IsReading read → IfOk result (λ books. All (IsWhole read) books) }
+    ensures whole { (read : TextReading) → ReadsTexts read → IfOk result (λ books. All (IsWhole read) books) }
 {
     let mut steps = Steps::<L>::new(blank);
     let mut left = cells.into_vec();
@@ -47,7 +47,7 @@ fn finished<L: Ledger>(
     steps: &mut Steps<L>,
 ) -> Result<OpenBook, NoMemory>
     ensures case { IfOk result (λ book. book.case ≡ cell.case) }
-    ensures whole { (read : TextReading) → IsReading read → IfOk result (λ book. IsWhole read book) }
+    ensures whole { (read : TextReading) → ReadsTexts read → IfOk result (λ book. IsWhole read book) }
 {
     let mut cell = cell;
     while !cell.is_complete() {
@@ -58,9 +58,9 @@ fn finished<L: Ledger>(
 
 /// The book of a flow whose word is complete.
 fn closed(cell: OpenCell) -> OpenBook
-    requires { (read : TextReading) → IsReading read → IsComplete read cell }
+    requires { (read : TextReading) → ReadsTexts read → IsComplete read cell }
     ensures case { result.case ≡ cell.case }
-    ensures whole { (read : TextReading) → IsReading read → IsWhole read result }
+    ensures whole { (read : TextReading) → ReadsTexts read → IsWhole read result }
 {
     cell.finish()
 }

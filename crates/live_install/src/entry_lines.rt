@@ -2,7 +2,8 @@
 
 ghost use Rattle.std.specs.Prelude.{◌≡◌, ◌++◌, OnOk, Err, map};
 ghost use Rattle.open_flow.specs.Entries.{installed_of};
-ghost use Rattle.live_install.specs.RolloutText.{change_line, change_lines, entry_line, entry_lines, installed_line, refused_head};
+ghost use Rattle.live_install.specs.RolloutText.{change_line, change_lines, entry_line, entry_lines, installed_line};
+ghost use Rattle.live_install.specs.RolloutText.{refused_head};
 
 use ccp_base::{Bytes, NoMemory};
 use flow_core::EpochLine;

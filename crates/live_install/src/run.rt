@@ -2,7 +2,7 @@ ghost use Rattle.std.specs.Prelude.{◌≡◌, ◌≤◌, IfOk, length, map};
 ghost use Rattle.std.specs.List.{All};
 ghost use Rattle.ccp_base.specs.Limits.{most_flows, most_workers};
 ghost use Rattle.scenario_json.specs.OpenCases.{AreOpenFlowsFrom};
-ghost use Rattle.scenario_json.specs.ScenePrograms.{TextReading, IsReading};
+ghost use Rattle.scenario_json.specs.ScenePrograms.{TextReading, ReadsTexts};
 ghost use Rattle.live_install.specs.WholeBooks.{IsWhole, case_in};
 
 use crate::OpenBooks;
@@ -22,10 +22,10 @@ use std::thread::Threads;
 ///
 /// Datapath worker `d` takes the acknowledgements of the flows `f` with `f mod datapaths = d`, one of each in turn. It
 /// passes the gate at `BeforeAck` and `AfterAck` without a lock and at `InAck` with the flow's. Installer `a`, whose
-/// worker number is `datapaths + a`, builds the texts of the flows `f` with `f mod agents = a`, without a lock, installs
-/// each in the flow's library and passes `AfterTake`, and changes the flow to it, where it is a program, and passes
-/// `AfterSettle`. What they leave is done by the caller at the end, and so is the work of a worker whose thread can't be
-/// started.
+/// worker number is `datapaths + a`, builds the texts of the flows `f` with `f mod agents = a`, without a lock,
+/// installs each in the flow's library and passes `AfterTake`, and changes the flow to it, where it is a program, and
+/// passes `AfterSettle`. What they leave is done by the caller at the end, and so is the work of a worker whose thread
+/// can't be started.
 pub fn rollout<R: Threads + Wait + Sync, G: Gate + Sync>(
     rt: &R,
     alloc: Global,
@@ -39,10 +39,10 @@ pub fn rollout<R: Threads + Wait + Sync, G: Gate + Sync>(
     requires few { length cases ≤ most_flows }
     requires numbered { AreOpenFlowsFrom 0 cases }
     // There is a reading of program texts: each text comes to a program, or to its first refusal.
-    ensures readable { (read : TextReading) × IsReading read }
+    ensures readable { (read : TextReading) × ReadsTexts read }
     // The books are those of the cases, and over every reading each tells of a legal and complete word.
     ensures cases { IfOk result (λ books. map case_in books ≡ cases) }
-    ensures whole { (read : TextReading) → IsReading read → IfOk result (λ books. All (IsWhole read) books) }
+    ensures whole { (read : TextReading) → ReadsTexts read → IfOk result (λ books. All (IsWhole read) books) }
 {
     let table = OpenTable::new(alloc, cases)?;
     work(rt, alloc, &table, datapaths, agents, gate);

@@ -1,9 +1,11 @@
 ghost use Rattle.std.specs.Prelude.{◌≡◌, ◌≤◌, ◌++◌, IfOk, OnOk, [], map};
 ghost use Rattle.std.specs.List.{All};
-ghost use Rattle.scenario_json.specs.ScenePrograms.{TextReading, IsReading};
+ghost use Rattle.scenario_json.specs.ScenePrograms.{TextReading, ReadsTexts};
 ghost use Rattle.open_flow.specs.Entries.{installed_of, place_at};
-ghost use Rattle.live_install.specs.RolloutText.{fault_lines, fields_at, fields_of, flow_line, last_fields, last_line, rollout_text, shown_lines};
-ghost use Rattle.live_install.specs.BookText.{account_in, book_text, books_text, end_in, failures_in, is_faulted, notice_lines, placed_line};
+ghost use Rattle.live_install.specs.RolloutText.{fault_lines, fields_at, fields_of, flow_line, last_fields, last_line};
+ghost use Rattle.live_install.specs.RolloutText.{rollout_text, shown_lines};
+ghost use Rattle.live_install.specs.BookText.{account_in, book_text, books_text, end_in, failures_in, notice_lines};
+ghost use Rattle.live_install.specs.BookText.{placed_line};
 ghost use Rattle.live_install.specs.WholeBooks.{IsRightBook, flows_of};
 
 use crate::OpenBooks;
@@ -12,7 +14,7 @@ use ccp_base::{Bytes, NoMemory, Notice, Place, Report};
 use flow_core::EpochLine;
 use open_flow::{Entry, OpenBook};
 use portus_core::Decl;
-use report_lines::{End, put_end, put_fault, put_flow_head, put_report};
+use report_lines::{End, is_faulted, put_end, put_fault, put_flow_head, put_report};
 use std::alloc::Global;
 
 /// The text of a rollout: of each book its flow, its entries, its changes, its faults with their places, its reports,
@@ -186,18 +188,4 @@ fn end_in(book: &OpenBook) -> End
         rate: book.machine.rate(),
         fields: book.machine.fields(),
     }
-}
-
-/// Whether one of the faults is of the epoch with this number.
-fn is_faulted(number: usize, faults: &[Notice]) -> bool
-    ensures { result ≡ is_faulted number faults.now }
-{
-    let mut left = faults;
-    while let Some((notice, rest)) = left.split_first() {
-        if notice.epoch as usize == number {
-            return true;
-        }
-        left = rest;
-    }
-    false
 }

@@ -1,5 +1,5 @@
 ghost use Rattle.std.specs.Prelude.{◌≡◌, ◌<◌, Ok, Some, true, false, length, slice_get, IfOk, OnOk};
-ghost use Rattle.scenario_json.specs.ScenePrograms.{TextReading, IsReading};
+ghost use Rattle.scenario_json.specs.ScenePrograms.{TextReading, ReadsTexts};
 ghost use Rattle.open_flow.specs.declared.letter.OpenLetter.TheVariants as letters;
 ghost use Rattle.open_flow.specs.OpenWords.{is_complete, is_legal};
 ghost use Rattle.open_flow.specs.OpenCells.{world_at};
@@ -18,8 +18,8 @@ pub(crate) fn next<L: Ledger>(
     cell: &mut OpenCell,
     steps: &mut Steps<L>,
 ) -> Result<(), NoMemory>
-    requires { (read : TextReading) → IsReading read → is_complete cell.old.case (world_at read cell.old) ≡ false }
-    ensures { (read : TextReading) → IsReading read → OnOk result (IsNearer read cell.old cell.new) }
+    requires { (read : TextReading) → ReadsTexts read → is_complete cell.old.case (world_at read cell.old) ≡ false }
+    ensures { (read : TextReading) → ReadsTexts read → OnOk result (IsNearer read cell.old cell.new) }
 {
     if change(cell) {
         return Ok(());
@@ -33,9 +33,9 @@ pub(crate) fn next<L: Ledger>(
 
 /// Changes the flow where an accepted entry is left, and says whether it did.
 fn change(cell: &mut OpenCell) -> bool
-    ensures made { result ≡ true → (read : TextReading) → IsReading read → IsNearer read cell.old cell.new }
+    ensures made { result ≡ true → (read : TextReading) → ReadsTexts read → IsNearer read cell.old cell.new }
     ensures not { result ≡ false → cell.new ≡ cell.old }
-    ensures none { result ≡ false → (read : TextReading) → IsReading read
+    ensures none { result ≡ false → (read : TextReading) → ReadsTexts read
         → is_legal cell.old.case (world_at read cell.old) letters.G ≡ false }
 {
     match cell.change() {
@@ -46,9 +46,9 @@ fn change(cell: &mut OpenCell) -> bool
 
 /// Installs the entry of the next step where one is left, and says whether it did.
 fn install(alloc: Global, cell: &mut OpenCell) -> Result<bool, NoMemory>
-    ensures made { result ≡ Ok true → (read : TextReading) → IsReading read → IsNearer read cell.old cell.new }
+    ensures made { result ≡ Ok true → (read : TextReading) → ReadsTexts read → IsNearer read cell.old cell.new }
     ensures not { result ≡ Ok false → cell.new ≡ cell.old }
-    ensures none { result ≡ Ok false → (read : TextReading) → IsReading read
+    ensures none { result ≡ Ok false → (read : TextReading) → ReadsTexts read
         → is_legal cell.old.case (world_at read cell.old) letters.I ≡ false }
 {
     let step = cell.entries().len();
@@ -63,8 +63,8 @@ fn install(alloc: Global, cell: &mut OpenCell) -> Result<bool, NoMemory>
 fn put(alloc: Global, cell: &mut OpenCell, step: u32) -> Result<(), NoMemory>
     requires next { step ≡ length cell.old.entries }
     requires more { step < length cell.old.case.steps }
-    requires world { (read : TextReading) → IsReading read → length (world_at read cell.old).entries ≡ step }
-    ensures { (read : TextReading) → IsReading read → OnOk result (IsNearer read cell.old cell.new) }
+    requires world { (read : TextReading) → ReadsTexts read → length (world_at read cell.old).entries ≡ step }
+    ensures { (read : TextReading) → ReadsTexts read → OnOk result (IsNearer read cell.old cell.new) }
 {
     let entry = entry_of(alloc, cell.case(), step)?;
     let Ok(()) = cell.install(entry) else {
@@ -84,8 +84,8 @@ fn entry_of(alloc: Global, case: &OpenCase, step: u32) -> Result<Entry, NoMemory
 
 /// Takes the next acknowledgement.
 fn hear<L: Ledger>(cell: &mut OpenCell, steps: &mut Steps<L>)
-    requires { (read : TextReading) → IsReading read → length (world_at read cell.old).acks < cell.old.case.acks }
-    ensures { (read : TextReading) → IsReading read → IsNearer read cell.old cell.new }
+    requires { (read : TextReading) → ReadsTexts read → length (world_at read cell.old).acks < cell.old.case.acks }
+    ensures { (read : TextReading) → ReadsTexts read → IsNearer read cell.old cell.new }
 {
     let Ok(_) = cell.ack(steps) else {
         unreachable!()

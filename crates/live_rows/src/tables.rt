@@ -4,7 +4,7 @@ ghost use Rattle.std.specs.Prelude.{◌≡◌, ◌<◌};
 use flow_core::Cell;
 use flow_table::{Cells, FlowTable};
 use fold_machine::Steps;
-use scenario_json::Mode;
+use scenario_json::SceneMode;
 use scenario_json::calls::scenario;
 use std::alloc::Global;
 use std::marker::Brand;
@@ -30,7 +30,7 @@ pub(crate) const LOSING: &[u8] =
 
 /// The table of a scenario's flows.
 pub(crate) fn table(alloc: Global, text: &[u8]) -> Result<FlowTable, Fail> {
-    let scene = scenario(alloc, text, Mode::Live)?;
+    let scene = scenario(alloc, text, SceneMode::Live)?;
     Ok(FlowTable::new(alloc, scene.cases)?)
 }
 

@@ -6,7 +6,7 @@ use Rattle.portus_build.specs.Settled.{IsSettled}
 use Rattle.portus_build.specs.Texts.{IsNoProgram, IsBuiltFrom}
 use Rattle.portus_build.specs.declared.fault.BuildFault.{BuildFault}
 use Rattle.portus_build.specs.declared.fault.BuildFault.TheVariants.{NoMemory}
-use Rattle.scenario_json.specs.ScenePrograms.{TextReading, IsReading}
+use Rattle.scenario_json.specs.ScenePrograms.{TextReading, ReadsTexts}
 use Rattle.scenario_json.proofs.ReadingLemmas.{some_reading, read_ok, read_err}
 use Rattle.open_flow.specs.BuiltTexts.{IsEntry}
 
@@ -25,5 +25,5 @@ is_entry text settled (Err e) some found refused =
     }
 
 -- there is a reading of program texts
-pub readable : (read : TextReading) × IsReading read
+pub readable : (read : TextReading) × ReadsTexts read
 readable = some_reading

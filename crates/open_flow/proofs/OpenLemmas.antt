@@ -17,7 +17,7 @@ use Rattle.link_model.specs.Standing.{LinkState, Stands}
 use Rattle.flow_core.specs.declared.book.EpochLine.{EpochLine}
 use Rattle.flow_core.specs.Roomy.{RoomyState}
 use Rattle.flow_core.specs.Cores.{ran_by}
-use Rattle.scenario_json.specs.ScenePrograms.{TextReading, IsReading}
+use Rattle.scenario_json.specs.ScenePrograms.{TextReading, ReadsTexts}
 use Rattle.scenario_json.proofs.ReadingLemmas.{some_reading}
 use Rattle.open_flow.specs.declared.account.Account.{Account}
 use Rattle.open_flow.specs.declared.entry.Entry.{Entry}
@@ -29,7 +29,7 @@ use Rattle.open_flow.specs.OpenWorld.{Running, OpenWorld, track_of, cwnd_of, aft
 use Rattle.open_flow.specs.OpenWords.{after_letter, install_world, next_ack, is_legal, legal}
 use Rattle.open_flow.specs.BuiltTexts.{Answers}
 use Rattle.open_flow.specs.Entries.{installed_of, built_at, AreStepsFrom}
-use Rattle.open_flow.specs.OpenCells.{Tells, AnswersTo, ran_of, ran_in, next_at}
+use Rattle.open_flow.specs.OpenCells.{Tells, AnswersTo, ran_with, ran_in, next_at}
 use Rattle.open_flow.specs.States.{cell_of, world_of, kept_track, next_from, RunsAs, Runs, FitsAt, FitsBuilt, faults_left, turn_of, form_at, Keeps, IsFit, IsOpen}
 use Rattle.open_flow.proofs.LetterLemmas.{world-append, legal-append}
 use Rattle.open_flow.proofs.KeepsLemmas.{counted_state, keeps-counted, keeps-heard, put_state, keeps-put, fits-more, started_state, keeps-started}
@@ -40,8 +40,8 @@ use Rattle.open_flow.proofs.NextLemmas.{left-found, next-entry, next-late, none-
 
 pub open-letter : (s new : State) (letter : OpenLetter) → IsOpen s → new.case ≡ s.case → new.word.items ≡ s.word.items ++ letter ∷ []
     → IsFit new
-    → ((read : TextReading) → IsReading read → Keeps new (after_letter read s.case (world_of read s) letter))
-    → ((read : TextReading) → IsReading read → is_legal s.case (world_of read s) letter ≡ true)
+    → ((read : TextReading) → ReadsTexts read → Keeps new (after_letter read s.case (world_of read s) letter))
+    → ((read : TextReading) → ReadsTexts read → is_legal s.case (world_of read s) letter ≡ true)
     → IsOpen new
 open-letter s new letter opens case word fit keeps is_legal_now = record {
   fit = fit;
@@ -63,20 +63,20 @@ module _ (s : State) (opens : IsOpen s) (left : s.acks < s.case.acks) (window : 
     (stands : (windows : List ℕ) → Stands s.link windows → Stands link (windows ++ window ∷ []))
     (case_same : link.case ≡ s.link.case) (calls : link.standing.calls ≡ s.link.standing.calls + 1)
     (pushed : word.items ≡ s.word.items ++ A ∷ []) (room : word.room ≡ s.word.room) where
-  cwnd-same : (read : TextReading) → IsReading read → window ≡ cwnd_of s.case (world_of read s)
+  cwnd-same : (read : TextReading) → ReadsTexts read → window ≡ cwnd_of s.case (world_of read s)
   cwnd-same read reading = is_window ∙ ap (λ (t : Track). t.env.cwnd) (opens.keeps read reading).track
 
-  pub ack-same : (read : TextReading) → IsReading read → ack ≡ next_ack s.case (world_of read s)
+  pub ack-same : (read : TextReading) → ReadsTexts read → ack ≡ next_ack s.case (world_of read s)
   ack-same read reading =
       is_ack (world_of read s).windows (opens.keeps read reading).stands
       ∙ (λ i. ack_after (opens.fit.link i) (world_of read s).windows (cwnd-same read reading i))
 
-  stands-same : (read : TextReading) → IsReading read → Stands link ((world_of read s).windows ++ cwnd_of s.case (world_of read s) ∷ [])
+  stands-same : (read : TextReading) → ReadsTexts read → Stands link ((world_of read s).windows ++ cwnd_of s.case (world_of read s) ∷ [])
   stands-same read reading =
       subst (λ (n : ℕ). Stands link ((world_of read s).windows ++ n ∷ [])) (cwnd-same read reading)
       (stands (world_of read s).windows (opens.keeps read reading).stands)
 
-  legal-now : (read : TextReading) → IsReading read → is_legal s.case (world_of read s) A ≡ true
+  legal-now : (read : TextReading) → ReadsTexts read → is_legal s.case (world_of read s) A ≡ true
   legal-now read reading =
       let acks = (opens.keeps read reading).acks in
       lt-ltb (length (world_of read s).acks) s.case.acks (omega (arith, acks, left))
@@ -116,7 +116,7 @@ module _ (s : State) (opens : IsOpen s) (left : s.acks < s.case.acks) (window : 
   none-runs None none (Some r) runs = absurd runs
   none-runs (Some step) none present runs = absurd (none-some step (sym none))
 
-  pub present-none : s.running ≡ None → (read : TextReading) → IsReading read → (world_of read s).present ≡ None
+  pub present-none : s.running ≡ None → (read : TextReading) → ReadsTexts read → (world_of read s).present ≡ None
   present-none none read reading = none-runs s.running none (world_of read s).present (opens.keeps read reading).runs
 
   pub open-counted : s.running ≡ None → IsOpen (counted_state s link ack word)
@@ -148,13 +148,13 @@ module _ (s : State) (opens : IsOpen s) (left : s.acks < s.case.acks) (window : 
       → Heard s.entries.items form (turn_of s step) s.machine machine s.account account ack)
       (told : (form : Form) → form_at s.entries.items step ≡ Some form → IsEnvOf form (kept_track s).env
       → Tells (built_at s.entries.items step) answer (met_in form (kept_track s) ack).0) where
-    running-at : (read : TextReading) → IsReading read → (r : Running) × (((world_of read s).present ≡ Some r) × Runs s.entries.items step r)
+    running-at : (read : TextReading) → ReadsTexts read → (r : Running) × (((world_of read s).present ≡ Some r) × Runs s.entries.items step r)
     running-at read reading = some-runs s.running step some (world_of read s).present (opens.keeps read reading).runs
 
     abbrev pub run_state : State
     run_state = record (counted_state s link ack word) { machine = machine; account = account }
 
-    module _ (read : TextReading) (reading : IsReading read) where
+    module _ (read : TextReading) (reading : ReadsTexts read) where
       abbrev r : Running
       r = (running-at read reading).0
 
@@ -229,7 +229,7 @@ module _ (s : State) (opens : IsOpen s) (left : s.acks < s.case.acks) (window : 
       pub ran-run : ran_by s.machine.is_stopped built.code.code (kept_track s).env ack true ≡ ran_in s.entries.items w.present (next_ack s.case w)
       ran-run =
           (λ i. ran_by (track_same i).is_stopped built.code.code (track_same i).env ack true)
-          ∙ ap (λ (b : Option Built). ran_of b r ack) (sym (ap (built_at s.entries.items) runs.program ∙ is_built))
+          ∙ ap (λ (b : Option Built). ran_with b r ack) (sym (ap (built_at s.entries.items) runs.program ∙ is_built))
           ∙ (λ i. ran_in s.entries.items (sym is_present i) (ack-same read reading i))
 
     pub open-run : IsOpen run_state
@@ -282,8 +282,8 @@ open-put s entry entries installed word opens is_step is_text answers pushed roo
 -- ---- a change
 
 module _ (s : State) (opens : IsOpen s) (step : ℕ)
-    (next : (read : TextReading) → IsReading read → next_at read (cell_of s) ≡ Some step) where
-  found-at : (read : TextReading) → IsReading read → (form : Form) × (next_of (world_of read s) ≡ Some (step, form))
+    (next : (read : TextReading) → ReadsTexts read → next_at read (cell_of s) ≡ Some step) where
+  found-at : (read : TextReading) → ReadsTexts read → (form : Form) × (next_of (world_of read s) ≡ Some (step, form))
   found-at read reading = left-found step (next_of (world_of read s)) (next read reading)
 
   -- the step is one of the entries, past those that were looked at

@@ -1,4 +1,5 @@
--- What the machine makes of an acknowledgement is what the source makes of it, where an instruction stands for its place.
+-- What the machine makes of an acknowledgement is what the source makes of it, where an instruction stands for its
+-- place.
 use Rattle.std.specs.Prelude.{◌≡◌, ℕ, Bool, true, false, Option, Some, None, option_map, List, [], ◌∷◌, map, slice_get, refl}
 use Rattle.std.proofs.Common.{ap, ◌∙◌, subst}
 use Rattle.std.proofs.lemmas.Option.{none-some}

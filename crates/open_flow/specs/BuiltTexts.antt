@@ -4,7 +4,7 @@ use Rattle.portus_core.specs.ProgramForm.{form_of}
 use Rattle.reg_compiler.specs.declared.built.Built.{Built}
 use Rattle.portus_build.specs.declared.fault.BuildFault.{BuildFault}
 use Rattle.portus_build.specs.Settled.{is_want_of_memory}
-use Rattle.scenario_json.specs.ScenePrograms.{TextReading, IsReading}
+use Rattle.scenario_json.specs.ScenePrograms.{TextReading, ReadsTexts}
 use Rattle.open_flow.specs.OpenWorld.{Installed}
 
 -- the program of what was built, or the refusal
@@ -23,7 +23,7 @@ is_wanting (Err refusal) = is_want_of_memory refusal
 
 -- it is what the text comes to in every reading of program texts
 abbrev pub Answers : List ℕ → Result Built BuildFault → Type 0
-Answers text answer = (read : TextReading) → IsReading read → read text ≡ came_of answer
+Answers text answer = (read : TextReading) → ReadsTexts read → read text ≡ came_of answer
 
 abbrev pub built_of : Result Built BuildFault → Option Built
 built_of (Ok built) = Some built

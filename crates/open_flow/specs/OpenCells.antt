@@ -87,13 +87,13 @@ abbrev pub Answered : TextReading → OpenState → Option Acked → Type 0
 Answered read cell answer = AnswersTo cell.entries (ack_at read cell) (world_at read cell).present answer
 
 -- how many instructions an acknowledgement runs, none before the first change
-abbrev pub ran_of : Option Built → Running → Ack → ℕ
-ran_of None running ack = 0
-ran_of (Some built) running ack = ran_by (track_of running).is_stopped built.code.code (track_of running).env ack true
+abbrev pub ran_with : Option Built → Running → Ack → ℕ
+ran_with None running ack = 0
+ran_with (Some built) running ack = ran_by (track_of running).is_stopped built.code.code (track_of running).env ack true
 
 abbrev pub ran_in : List Entry → Option Running → Ack → ℕ
 ran_in entries None ack = 0
-ran_in entries (Some running) ack = ran_of (built_at entries running.era.program) running ack
+ran_in entries (Some running) ack = ran_with (built_at entries running.era.program) running ack
 
 abbrev pub ran_at : TextReading → OpenState → ℕ
 ran_at read cell = ran_in cell.entries (world_at read cell).present (ack_at read cell)

@@ -10,7 +10,7 @@ use Rattle.link_model.specs.Standing.{Stands}
 use Rattle.flow_core.specs.Readings.{env_of}
 use Rattle.flow_core.specs.World.{Era, time_of}
 use Rattle.flow_core.specs.Books.{epoch_line}
-use Rattle.scenario_json.specs.ScenePrograms.{TextReading, IsReading}
+use Rattle.scenario_json.specs.ScenePrograms.{TextReading, ReadsTexts}
 use Rattle.open_flow.specs.declared.entry.Entry.{Entry}
 use Rattle.open_flow.specs.declared.state.State.{State}
 use Rattle.open_flow.specs.declared.account.Turn.{Turn}
@@ -135,8 +135,8 @@ pub record IsFit (s : State) : Type 0 where
 -- the flow is that of its case and its word, in every reading of program texts
 pub record IsOpen (s : State) : Type 0 where
   pub fit : IsFit s
-  pub keeps : (read : TextReading) → IsReading read → Keeps s (world_of read s)
-  pub legal : (read : TextReading) → IsReading read → legal read s.case s.word.items ≡ true
+  pub keeps : (read : TextReading) → ReadsTexts read → Keeps s (world_of read s)
+  pub legal : (read : TextReading) → ReadsTexts read → legal read s.case s.word.items ≡ true
 
 -- the present epoch's number
 abbrev pub epoch_of : State → ℕ

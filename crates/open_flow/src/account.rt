@@ -21,7 +21,8 @@ pub(crate) struct Account {
     pub(crate) faults: Roomy<Notice>,
 }
 
-/// An acknowledgement's place in a flow: the running step, its epoch's number, and how many acknowledgements came before.
+/// An acknowledgement's place in a flow: the running step, its epoch's number, and how many acknowledgements came
+/// before.
 #[derive(Clone, Copy)]
 pub(crate) struct Turn {
     pub(crate) flow: u32,

@@ -1,5 +1,5 @@
 ghost use Rattle.std.specs.Prelude.{◌≡◌, false, IfOk, option_copied};
-ghost use Rattle.scenario_json.specs.ScenePrograms.{TextReading, IsReading};
+ghost use Rattle.scenario_json.specs.ScenePrograms.{TextReading, ReadsTexts};
 ghost use Rattle.open_flow.specs.BuiltTexts.{is_accepted, is_wanting, Answers, IsEntry, built_of};
 
 use ccp_base::{Bytes, NoMemory, Sequence};
@@ -35,7 +35,7 @@ impl Model for Entry {
 /// What a text is built into.
 #[tactic(auto, using(crate::proofs::EntryLemmas::is_entry, crate::proofs::EntryLemmas::readable))]
 fn answer(alloc: Global, text: &[u8]) -> Result<Result<Built, BuildFault>, NoMemory>
-    ensures readable { (read : TextReading) × IsReading read }
+    ensures readable { (read : TextReading) × ReadsTexts read }
     ensures entry { IfOk result (λ answer. IsEntry text.now answer) }
 {
     match build(alloc, text) {
@@ -52,7 +52,7 @@ impl Entry {
     /// Builds the text of a step.
     pub fn make(alloc: Global, step: u32, text: &[u8]) -> Result<Entry, NoMemory>
         // There is a reading of program texts: each text comes to a program, or to its first refusal.
-        ensures readable { (read : TextReading) × IsReading read }
+        ensures readable { (read : TextReading) × ReadsTexts read }
         ensures step { IfOk result (λ entry. entry.step ≡ step) }
         ensures text { IfOk result (λ entry. entry.text ≡ text.now) }
     {
@@ -76,8 +76,8 @@ impl Entry {
         self.text.as_slice()
     }
 
-    /// What the text is built into: its program, which it comes to in every reading, or its first refusal, which is never
-    /// want of memory.
+    /// What the text is built into: its program, which it comes to in every reading, or its first refusal, which is
+    /// never want of memory.
     pub fn answer(&self) -> &Result<Built, BuildFault>
         ensures answer { result.now ≡ self.now.answer }
         ensures answers { Answers self.now.text self.now.answer }

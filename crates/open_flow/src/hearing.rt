@@ -1,6 +1,6 @@
 //! An acknowledgement: it is counted, and run where a program runs.
 ghost use Rattle.std.specs.Prelude.{◌≡◌, ◌+◌, ◌<◌, Some, None, option_copied, ◌∷◌, [], ◌++◌};
-ghost use Rattle.scenario_json.specs.ScenePrograms.{TextReading, IsReading};
+ghost use Rattle.scenario_json.specs.ScenePrograms.{TextReading, ReadsTexts};
 ghost use Rattle.open_flow.specs.Entries.{built_at};
 ghost use Rattle.open_flow.specs.OpenCells.{ran_at, Answered};
 ghost use Rattle.open_flow.specs.States.{cell_of, world_of, step_in, IsOpen};
@@ -25,7 +25,7 @@ impl State {
     fn hearer(&self) -> Option<u32>
         requires { IsOpen self.now }
         ensures kept { result ≡ self.now.running }
-        ensures present { (read : TextReading) → IsReading read → result ≡ step_in (world_of read self.now).present }
+        ensures present { (read : TextReading) → ReadsTexts read → result ≡ step_in (world_of read self.now).present }
     {
         self.running
     }
@@ -38,8 +38,9 @@ impl State {
         ensures case { self.new.case ≡ self.old.case }
         ensures entries { self.new.entries ≡ self.old.entries }
         ensures word { self.new.word.items ≡ self.old.word.items ++ OpenLetter.A ∷ [] }
-        ensures answered { (read : TextReading) → IsReading read → Answered read (cell_of self.old) result }
-        ensures steps { (read : TextReading) → IsReading read → steps.new ≡ steps.old + ran_at read (cell_of self.old) }
+        ensures answered { (read : TextReading) → ReadsTexts read → Answered read (cell_of self.old) result }
+        ensures steps { (read : TextReading) → ReadsTexts read
+            → steps.new ≡ steps.old + ran_at read (cell_of self.old) }
     {
         match self.hearer() {
             Some(step) => Some(self.run_next(step, steps)),
@@ -59,7 +60,7 @@ impl State {
         ensures case { self.new.case ≡ self.old.case }
         ensures entries { self.new.entries ≡ self.old.entries }
         ensures word { self.new.word.items ≡ self.old.word.items ++ OpenLetter.A ∷ [] }
-        ensures answered { (read : TextReading) → IsReading read → (world_of read self.old).present ≡ None }
+        ensures answered { (read : TextReading) → ReadsTexts read → (world_of read self.old).present ≡ None }
     {
         let window = self.machine.cwnd();
         let ack = self.link.next(window);
@@ -77,8 +78,9 @@ impl State {
         ensures case { self.new.case ≡ self.old.case }
         ensures entries { self.new.entries ≡ self.old.entries }
         ensures word { self.new.word.items ≡ self.old.word.items ++ OpenLetter.A ∷ [] }
-        ensures answered { (read : TextReading) → IsReading read → Answered read (cell_of self.old) (Some result) }
-        ensures steps { (read : TextReading) → IsReading read → steps.new ≡ steps.old + ran_at read (cell_of self.old) }
+        ensures answered { (read : TextReading) → ReadsTexts read → Answered read (cell_of self.old) (Some result) }
+        ensures steps { (read : TextReading) → ReadsTexts read
+            → steps.new ≡ steps.old + ran_at read (cell_of self.old) }
     {
         let window = self.machine.cwnd();
         let ack = self.link.next(window);

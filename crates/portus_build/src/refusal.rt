@@ -1,5 +1,6 @@
 ghost use Rattle.std.specs.Prelude.{◌≡◌, ◌++◌, Some, OnOk};
-ghost use Rattle.portus_build.specs.RefusalText.{parse_name, parse_place, too_many_name, scope_name, scope_place, place_text, compile_text, refusal_text};
+ghost use Rattle.portus_build.specs.RefusalText.{parse_name, parse_place, too_many_name, scope_name, scope_place};
+ghost use Rattle.portus_build.specs.RefusalText.{place_text, compile_text, refusal_text};
 
 use crate::fault::BuildFault;
 use ccp_base::{Bytes, NoMemory, Place};

@@ -16,7 +16,7 @@ use Rattle.portus_build.specs.Settled.{IsSettled}
 use Rattle.portus_build.specs.Texts.{IsNoProgram, IsBuiltFrom}
 use Rattle.portus_build.specs.declared.fault.BuildFault.{BuildFault}
 use Rattle.portus_build.specs.declared.fault.BuildFault.TheVariants.{Parse, Scope, Compile, NoMemory}
-use Rattle.scenario_json.specs.ScenePrograms.{TextReading, ComesTo, IsReading}
+use Rattle.scenario_json.specs.ScenePrograms.{TextReading, ComesTo, ReadsTexts}
 
 -- what a text comes to
 abbrev Outcome : List ℕ → Type 0
@@ -39,7 +39,7 @@ outcome_of text = elim (IsSettled-always text).some [
 ]
 
 -- there is a reading of program texts
-pub some_reading : (read : TextReading) × IsReading read
+pub some_reading : (read : TextReading) × ReadsTexts read
 some_reading = (λ text. (outcome_of text).0, record { at = λ text. (outcome_of text).1 })
 
 -- ---- what a reading gives for a text that is built, and for one that isn't
@@ -53,11 +53,11 @@ same_err text settled (Ok form) comes fault refused = absurd (settled.apart form
 same_err text settled (Err other) comes fault refused = ap Err (settled.one_refusal other fault comes refused)
 
 pub read_ok : (text : List ℕ) → IsSettled text → (result : Result Built BuildFault) → IfOk result (λ b. IsBuiltFrom text (form_of b.program))
-    → (read : TextReading) → IsReading read → IfOk result (λ b. read text ≡ Ok (form_of b.program))
+    → (read : TextReading) → ReadsTexts read → IfOk result (λ b. read text ≡ Ok (form_of b.program))
 read_ok text settled (Ok b) found read reading = same_ok text settled (read text) (reading.at text) (form_of b.program) found
 read_ok text settled (Err e) found read reading = tt
 
 pub read_err : (text : List ℕ) → IsSettled text → (result : Result Built BuildFault) → IfErr result (λ e. e ≢ NoMemory → IsNoProgram text e)
-    → (read : TextReading) → IsReading read → IfErr result (λ e. e ≢ NoMemory → read text ≡ Err e)
+    → (read : TextReading) → ReadsTexts read → IfErr result (λ e. e ≢ NoMemory → read text ≡ Err e)
 read_err text settled (Ok b) refused read reading = tt
 read_err text settled (Err e) refused read reading = λ other. same_err text settled (read text) (reading.at text) e (refused other)

@@ -1,4 +1,5 @@
--- What the cases of a scenario are: what they say, with agents that are told nothing yet and the codes of their programs.
+-- What the cases of a scenario are: what they say, with agents that are told nothing yet and the codes of their
+-- programs.
 use Rattle.std.specs.Prelude.{◌≡◌, ℕ, ◌+◌, Option, Some, option_map, List, [], ◌∷◌, map, slice_get, ⊤}
 use Rattle.ccp_base.specs.declared.look.Role.{Role}
 use Rattle.portus_core.specs.ProgramForm.{form_of}

@@ -1,4 +1,5 @@
--- A scenario of a rollout: its cases with the texts of their steps, or the first refusal in the order of the text's parts.
+-- A scenario of a rollout: its cases with the texts of their steps, or the first refusal in the order of the text's
+-- parts.
 use Rattle.std.specs.Prelude.{ℕ, ◌+◌, ◌&&◌, nat_le, if◌then◌else◌, Option, Some, None, Result, Ok, Err, List, [], ◌∷◌, ◌++◌, length, bytes_eq}
 use Rattle.serde_json.specs.Data.{Data, Items, no_items, item, Members, no_members, member}
 use Rattle.serde_json.specs.Events.{items_len}
@@ -11,7 +12,7 @@ use Rattle.scenario_json.specs.declared.spot.Spot.{Spot}
 use Rattle.scenario_json.specs.declared.spot.Spot.TheVariants.{Top, Case, In, Item}
 use Rattle.scenario_json.specs.declared.plan.Measures.{Measures}
 use Rattle.scenario_json.specs.declared.plan.Fates.{Fates}
-use Rattle.scenario_json.specs.declared.mode.Mode.TheVariants.{Live}
+use Rattle.scenario_json.specs.declared.mode.SceneMode.TheVariants.{Live}
 use Rattle.scenario_json.specs.Paths.{path_of}
 use Rattle.scenario_json.specs.Values.{member_of, needed, of_kind, text_in, list_in, object_in}
 use Rattle.scenario_json.specs.CaseWalk.{Table, case_name, case_trace, case_number, case_measures, case_fates}

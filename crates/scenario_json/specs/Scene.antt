@@ -11,8 +11,8 @@ use Rattle.scenario_json.specs.declared.fault.SceneFault.TheVariants.{Json, Rang
 use Rattle.scenario_json.specs.declared.key.Key.TheVariants as key
 use Rattle.scenario_json.specs.declared.spot.Spot.TheVariants.{Whole, Top}
 use Rattle.scenario_json.specs.declared.plan.Plan.{Plan}
-use Rattle.scenario_json.specs.declared.mode.Mode.{Mode}
-use Rattle.scenario_json.specs.declared.mode.Mode.TheVariants.{Live, Campaign}
+use Rattle.scenario_json.specs.declared.mode.SceneMode.{SceneMode}
+use Rattle.scenario_json.specs.declared.mode.SceneMode.TheVariants.{Live, Campaign}
 use Rattle.scenario_json.specs.Paths.{path_of}
 use Rattle.scenario_json.specs.Values.{member_of, needed, list_in, object_in, needed_number}
 use Rattle.scenario_json.specs.CaseWalk.{Table, cases_from}
@@ -43,15 +43,15 @@ all_programs reading member =
 
 -- ---- cases
 
-abbrev pub most_cases_of : Mode → ℕ
+abbrev pub most_cases_of : SceneMode → ℕ
 most_cases_of Live = most_flows
 most_cases_of Campaign = most_cases
 
-abbrev pub few_items : Mode → Items → Result Items SceneFault
+abbrev pub few_items : SceneMode → Items → Result Items SceneFault
 few_items mode items =
     if nat_le (items_len items) (most_cases_of mode) then Ok items else Err (Range (path_of (Top key.Cases)))
 
-abbrev pub cases_in : Mode → List (List ℕ) → Table → Data → Result (List Plan) SceneFault
+abbrev pub cases_in : SceneMode → List (List ℕ) → Table → Data → Result (List Plan) SceneFault
 cases_in mode names traces whole =
     then_do (needed (Top key.Cases) (member_of key.Cases whole)) (λ value.
     then_do (list_in (Top key.Cases) value) (λ items.
@@ -62,7 +62,7 @@ abbrev pub acks_of : List Plan → ℕ
 acks_of [] = 0
 acks_of (plan ∷ rest) = plan.measures.acks + acks_of rest
 
-abbrev pub within_total : Mode → List Plan → Result (List Plan) SceneFault
+abbrev pub within_total : SceneMode → List Plan → Result (List Plan) SceneFault
 within_total Campaign cases = Ok cases
 within_total Live cases = if nat_le (acks_of cases) most_acks_in_all then Ok cases else Err Totals
 
@@ -74,7 +74,7 @@ opening_in whole =
     then_do (object_in Whole whole) (λ members. needed_number (Top key.Version) key.Version whole)
 
 -- what a value says, over what each program text comes to
-abbrev pub parts_in : TextReading → Mode → Data → Result Parts SceneFault
+abbrev pub parts_in : TextReading → SceneMode → Data → Result Parts SceneFault
 parts_in reading mode whole =
     then_do (opening_in whole) (λ version.
     then_do (all_programs reading (member_of key.Programs whole)) (λ programs.
@@ -94,7 +94,7 @@ abbrev pub scene_with : Forms → List Plan → Scene
 scene_with programs cases = record { programs = programs; cases = cases }
 
 -- the scene of a text
-abbrev pub scene_of : TextReading → Mode → List ℕ → Result Scene SceneFault
+abbrev pub scene_of : TextReading → SceneMode → List ℕ → Result Scene SceneFault
 scene_of reading mode text =
     then_do (value_in text) (λ whole.
     then_do (parts_in reading mode whole) (λ parts. Ok (scene_with parts.programs parts.cases)))

@@ -28,7 +28,7 @@ ComesTo text (Ok form) = IsBuiltFrom text form
 ComesTo text (Err fault) = IsNoProgram text fault
 
 -- a reading gives for each text what the text comes to
-pub record IsReading (read : TextReading) : Type 0 where
+pub record ReadsTexts (read : TextReading) : Type 0 where
   pub at : (text : List ℕ) → ComesTo text (read text)
 
 -- programs with their numbers

@@ -8,7 +8,7 @@ use Rattle.scenario_json.specs.declared.fault.SceneFault.{SceneFault}
 use Rattle.scenario_json.specs.declared.key.Key.{Key}
 use Rattle.scenario_json.specs.declared.key.Key.TheVariants as key
 use Rattle.scenario_json.specs.declared.spot.Spot.TheVariants.{Top, Shared}
-use Rattle.scenario_json.specs.declared.mode.Mode.TheVariants.{Live}
+use Rattle.scenario_json.specs.declared.mode.SceneMode.TheVariants.{Live}
 use Rattle.scenario_json.specs.declared.plan.Plan.{Plan}
 use Rattle.scenario_json.specs.declared.shares.Shares.{Shares}
 use Rattle.scenario_json.specs.Values.{member_of, needed, object_in, needed_number}

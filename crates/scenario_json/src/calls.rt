@@ -1,7 +1,7 @@
 ghost use Rattle.std.specs.Prelude.{◌≡◌, ◌≢◌, ◌≤◌, IfOk, IfErr, Ok, Err, length, map};
 ghost use Rattle.std.specs.List.{All};
 ghost use Rattle.ccp_base.specs.Limits.{most_flows, most_queue, most_quantum_us, most_rounds};
-ghost use Rattle.scenario_json.specs.ScenePrograms.{TextReading, IsReading, forms_of};
+ghost use Rattle.scenario_json.specs.ScenePrograms.{TextReading, ReadsTexts, forms_of};
 ghost use Rattle.scenario_json.specs.Scene.{scene_with, scene_of, most_cases_of};
 ghost use Rattle.scenario_json.specs.Soak.{gen};
 ghost use Rattle.scenario_json.specs.Rollout.{rollout_of};
@@ -14,7 +14,7 @@ use crate::draft::{Draft, draft_in};
 use crate::draws::plans;
 use crate::fault::SceneFault;
 use crate::json::value_in;
-use crate::mode::Mode;
+use crate::mode::SceneMode;
 use crate::open_case::OpenCases;
 use crate::open_cases::open_plans_in;
 use crate::scenario::{Scenario, put_together};
@@ -28,14 +28,14 @@ use std::alloc::Global;
 /// Reads a scenario: a JSON object with its programs, traces and cases. The refusals are those of `SceneFault`, the
 /// first one in the order of the scenario's parts.
 #[tactic(auto, using(crate::proofs::ReadingLemmas::some_reading))]
-pub fn scenario(alloc: Global, text: &[u8], mode: Mode) -> Result<Scenario, SceneFault>
+pub fn scenario(alloc: Global, text: &[u8], mode: SceneMode) -> Result<Scenario, SceneFault>
     // There is a reading of program texts: each text comes to a program, or to its first refusal.
-    ensures readable { (read : TextReading) × IsReading read }
+    ensures readable { (read : TextReading) × ReadsTexts read }
 
     // The answer is the scene of the text, and each refusal the text's first one, over every reading.
-    ensures found { (read : TextReading) → IsReading read → IfOk result (λ s.
+    ensures found { (read : TextReading) → ReadsTexts read → IfOk result (λ s.
         scene_of read mode text.now ≡ Ok (scene_with (forms_of s.programs) (map plan_of s.cases))) }
-    ensures refused { (read : TextReading) → IsReading read
+    ensures refused { (read : TextReading) → ReadsTexts read
         → IfErr result (λ e. e ≢ fault.NoMemory → scene_of read mode text.now ≡ Err e) }
 
     // The programs' numbers are their places, from 0 on.
@@ -59,7 +59,7 @@ pub fn scenario(alloc: Global, text: &[u8], mode: Mode) -> Result<Scenario, Scen
 
 /// Generates the scenario of a number: 64 cases of the built-in programs, by draws from the number.
 pub fn soak(alloc: Global, number: u32) -> Result<Scenario, NoMemory>
-    ensures found { (read : TextReading) → IsReading read → IfOk result (λ s.
+    ensures found { (read : TextReading) → ReadsTexts read → IfOk result (λ s.
         scene_with (forms_of s.programs) (map plan_of s.cases) ≡ gen read number) }
     ensures numbered { IfOk result (λ s. AreNumberedFrom 0 s.programs) }
     ensures coded { IfOk result (λ s. All (IsCoded s.programs) s.cases) }
@@ -91,9 +91,9 @@ pub fn rollout_scene(alloc: Global, text: &[u8]) -> Result<OpenCases, SceneFault
 /// for each case, in order. The refusals of a live run come first, then those of `shared`.
 pub fn shared_scene(alloc: Global, text: &[u8]) -> Result<SharedScene, SceneFault>
     // The answer is the scene of the text with its link, and each refusal the text's first one, over every reading.
-    ensures found { (read : TextReading) → IsReading read → IfOk result (λ s. shared_scene_of read text.now
+    ensures found { (read : TextReading) → ReadsTexts read → IfOk result (λ s. shared_scene_of read text.now
         ≡ Ok (shared_with (scene_with (forms_of s.scene.programs) (map plan_of s.scene.cases)) s.link s.rounds)) }
-    ensures refused { (read : TextReading) → IsReading read
+    ensures refused { (read : TextReading) → ReadsTexts read
         → IfErr result (λ e. e ≢ fault.NoMemory → shared_scene_of read text.now ≡ Err e) }
 
     // The programs' numbers are their places, from 0 on.
@@ -116,7 +116,7 @@ pub fn shared_scene(alloc: Global, text: &[u8]) -> Result<SharedScene, SceneFaul
         programs,
         traces,
         plans,
-    } = draft_in(alloc, Mode::Live, &whole)?;
+    } = draft_in(alloc, SceneMode::Live, &whole)?;
     let Shares {
         trace,
         queue,

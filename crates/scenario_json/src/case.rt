@@ -2,7 +2,8 @@ ghost use Rattle.std.specs.Prelude.{◌≡◌, ◌≢◌, ◌≤◌, ◌+◌, If
 ghost use Rattle.std.specs.List.{All};
 ghost use Rattle.serde_json.specs.View.{view};
 ghost use Rattle.ccp_base.specs.Limits.{most_named_programs};
-ghost use Rattle.scenario_json.specs.CaseWalk.{case_name, kind_named, case_kind, trace_in, case_trace, case_members, case_in};
+ghost use Rattle.scenario_json.specs.CaseWalk.{case_name, kind_named, case_kind, trace_in, case_trace, case_members};
+ghost use Rattle.scenario_json.specs.CaseWalk.{case_in};
 ghost use Rattle.scenario_json.specs.Drafts.{plans_in};
 ghost use Rattle.scenario_json.specs.Traces.{table_of};
 ghost use Rattle.scenario_json.specs.Plans.{IsPlan};

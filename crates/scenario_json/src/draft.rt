@@ -7,15 +7,16 @@ ghost use Rattle.scenario_json.specs.Cases.{AreNumberedFrom};
 ghost use Rattle.scenario_json.specs.Drafts.{parts_said, programs_said};
 ghost use Rattle.scenario_json.specs.Plans.{IsPlan};
 ghost use Rattle.scenario_json.specs.Traces.{table_of};
-ghost use Rattle.scenario_json.specs.ScenePrograms.{TextReading, IsReading};
-ghost use Rattle.scenario_json.specs.Scene.{all_programs, most_cases_of, few_items, cases_in, acks_of, within_total, opening_in, parts_in};
+ghost use Rattle.scenario_json.specs.ScenePrograms.{TextReading, ReadsTexts};
+ghost use Rattle.scenario_json.specs.Scene.{all_programs, most_cases_of, few_items, cases_in, acks_of, within_total};
+ghost use Rattle.scenario_json.specs.Scene.{opening_in, parts_in};
 ghost use Rattle.scenario_json.specs.declared.fault.SceneFault.TheVariants as fault;
 ghost use Rattle.scenario_json.specs.declared.key.Key.TheVariants as key;
 
 use crate::case::cases_from;
 use crate::fault::SceneFault;
 use crate::key::Key;
-use crate::mode::Mode;
+use crate::mode::SceneMode;
 use crate::plan::{Plan, Plans};
 use crate::scene_programs::{SceneProgramList, built_ins, few_members, programs_in};
 use crate::spot::Spot;
@@ -38,12 +39,12 @@ pub(crate) struct Draft {
 
 /// All programs of a scenario.
 fn all_programs(alloc: Global, whole: &Value) -> Result<SceneProgramList, SceneFault>
-    ensures ok { (read : TextReading) → IsReading read
+    ensures ok { (read : TextReading) → ReadsTexts read
         → IfOk result (λ p. all_programs read (member_of key.Programs (view whole.now)) ≡ Ok (programs_said p)) }
     ensures numbered { IfOk result (λ p. AreNumberedFrom 0 p.builts) }
     ensures count { IfOk result (λ p. length p.builts ≡ length p.names + 3) }
     ensures few { IfOk result (λ p. length p.names ≤ most_named_programs) }
-    ensures err { (read : TextReading) → IsReading read → IfErr result (λ e. e ≢ fault.NoMemory
+    ensures err { (read : TextReading) → ReadsTexts read → IfErr result (λ e. e ≢ fault.NoMemory
         → all_programs read (member_of key.Programs (view whole.now)) ≡ Err e) }
 {
     let Some(value) = member(whole, Key::Programs) else {
@@ -59,7 +60,7 @@ fn all_programs(alloc: Global, whole: &Value) -> Result<SceneProgramList, SceneF
 
 /// A list that doesn't have more items than there may be cases.
 #[tactic(auto, using(crate::proofs::ProgramLemmas::items_count))]
-pub(crate) fn few_items(alloc: Global, mode: Mode, items: &[Value]) -> Result<(), SceneFault>
+pub(crate) fn few_items(alloc: Global, mode: SceneMode, items: &[Value]) -> Result<(), SceneFault>
     ensures ok { OnOk result (few_items mode (items_view items.now) ≡ Ok (items_view items.now)) }
     ensures count { OnOk result (length items.now ≤ most_cases_of mode) }
     ensures err { IfErr result (λ e. e ≢ fault.NoMemory → few_items mode (items_view items.now) ≡ Err e) }
@@ -74,7 +75,7 @@ pub(crate) fn few_items(alloc: Global, mode: Mode, items: &[Value]) -> Result<()
 /// The cases of a scenario.
 fn cases_in(
     alloc: Global,
-    mode: Mode,
+    mode: SceneMode,
     names: &[Name],
     traces: &Traces,
     whole: &Value,
@@ -107,14 +108,14 @@ fn acks_of(plans: &[Plan]) -> u64
     total
 }
 
-fn within_total(mode: Mode, plans: Plans) -> Result<Plans, SceneFault>
+fn within_total(mode: SceneMode, plans: Plans) -> Result<Plans, SceneFault>
     requires { length plans ≤ 1024 }
     ensures ok { IfOk result (λ ps. within_total mode plans ≡ Ok ps) }
     ensures same { IfOk result (λ ps. ps ≡ plans) }
     ensures err { IfErr result (λ e. within_total mode plans ≡ Err e) }
 {
     match mode {
-        Mode::Live if acks_of(plans.as_slice()) > ACKS_IN_ALL => Err(SceneFault::Totals),
+        SceneMode::Live if acks_of(plans.as_slice()) > ACKS_IN_ALL => Err(SceneFault::Totals),
         _ => Ok(plans),
     }
 }
@@ -129,13 +130,13 @@ pub(crate) fn opening(alloc: Global, whole: &Value) -> Result<u64, SceneFault>
 }
 
 /// What a value says.
-pub(crate) fn draft_in(alloc: Global, mode: Mode, whole: &Value) -> Result<Draft, SceneFault>
-    ensures ok { (read : TextReading) → IsReading read
+pub(crate) fn draft_in(alloc: Global, mode: SceneMode, whole: &Value) -> Result<Draft, SceneFault>
+    ensures ok { (read : TextReading) → ReadsTexts read
         → IfOk result (λ d. parts_in read mode (view whole.now) ≡ Ok (parts_said d)) }
     ensures numbered { IfOk result (λ d. AreNumberedFrom 0 d.programs.builts) }
     ensures within { IfOk result (λ d. All (IsPlan (length d.programs.builts)) d.plans) }
     ensures count { IfOk result (λ d. length d.plans ≤ most_cases_of mode) }
-    ensures err { (read : TextReading) → IsReading read
+    ensures err { (read : TextReading) → ReadsTexts read
         → IfErr result (λ e. e ≢ fault.NoMemory → parts_in read mode (view whole.now) ≡ Err e) }
 {
     opening(alloc, whole)?;

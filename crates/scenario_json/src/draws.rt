@@ -5,7 +5,8 @@ ghost use Rattle.ccp_base.specs.Limits.{most_flows};
 ghost use Rattle.ccp_base.specs.Text.{◌⧺◌};
 ghost use Rattle.scenario_json.specs.CaseWalk.{avoidance_of};
 ghost use Rattle.scenario_json.specs.Plans.{IsPlan, AreMeasures, AreWaits};
-ghost use Rattle.scenario_json.specs.Soak.{draw, segment, drawn_measures, drawn_losses, drawn_fates, drawn_waits, kind_at, text_at, times_at, drawn_plan, drawn_plans};
+ghost use Rattle.scenario_json.specs.Soak.{draw, segment, drawn_measures, drawn_losses, drawn_fates, drawn_waits};
+ghost use Rattle.scenario_json.specs.Soak.{kind_at, text_at, times_at, drawn_plan, drawn_plans};
 
 use crate::case_programs::avoidance_of;
 use crate::plan::{Fates, Kind, Measures, Plan, Plans, Programs, Waits};

@@ -29,7 +29,7 @@ mod traces;
 mod values;
 
 pub use fault::{Path, SceneFault};
-pub use mode::Mode;
+pub use mode::SceneMode;
 pub use open_case::{OpenCase, OpenCases, StepTexts};
 pub use plan::{Fates, Kind, Measures, Plan, Plans, Programs, Waits};
 pub use refusal::put_scene_refusal;

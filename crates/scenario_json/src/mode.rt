@@ -3,21 +3,21 @@ ghost use Rattle.scenario_json.specs.Scene.{most_cases_of};
 
 /// What a scenario is read for.
 #[derive(Clone, Copy)]
-pub enum Mode {
+pub enum SceneMode {
     /// A live run: at most 64 cases, with at most 262,144 acknowledgements in all.
     Live,
     /// A campaign: at most 1,024 cases.
     Campaign,
 }
 
-impl Mode {
+impl SceneMode {
     /// The most cases of a scenario.
     pub(crate) fn most_cases(self) -> usize
         ensures { result ≡ most_cases_of self }
     {
         match self {
-            Mode::Live => 64,
-            Mode::Campaign => 1024,
+            SceneMode::Live => 64,
+            SceneMode::Campaign => 1024,
         }
     }
 }

@@ -2,7 +2,8 @@ ghost use Rattle.std.specs.Prelude.{◌≡◌, ◌≢◌, ◌≤◌, IfOk, IfErr
 ghost use Rattle.serde_json.specs.View.{view};
 ghost use Rattle.ccp_base.specs.Limits.{most_flows};
 ghost use Rattle.scenario_json.specs.Traces.{table_of};
-ghost use Rattle.scenario_json.specs.Rollout.{open_members, open_case_in, open_cases_in, open_acks_of, within_open_total, open_plans_in};
+ghost use Rattle.scenario_json.specs.Rollout.{open_members, open_case_in, open_cases_in, open_acks_of};
+ghost use Rattle.scenario_json.specs.Rollout.{within_open_total, open_plans_in};
 ghost use Rattle.scenario_json.specs.OpenCases.{open_plan_of, AreOpenFlowsFrom, texts_of};
 ghost use Rattle.scenario_json.specs.Drafts.{open_plans};
 ghost use Rattle.scenario_json.specs.declared.fault.SceneFault.TheVariants as fault;
@@ -13,7 +14,7 @@ use crate::case_numbers::{case_number, measures};
 use crate::draft::{ACKS_IN_ALL, few_items, opening};
 use crate::fault::SceneFault;
 use crate::key::Key;
-use crate::mode::Mode;
+use crate::mode::SceneMode;
 use crate::open_case::{OpenCase, OpenCases};
 use crate::open_steps::case_steps;
 use crate::open_texts::{OpenText, texts_in};
@@ -122,7 +123,7 @@ fn open_cases_in(
     let spot = Spot::Top(Key::Cases);
     let value = needed(alloc, spot, whole, Key::Cases)?;
     let items = list(alloc, spot, value)?;
-    few_items(alloc, Mode::Live, items.as_slice())?;
+    few_items(alloc, SceneMode::Live, items.as_slice())?;
     open_cases_from(alloc, texts, traces, items.as_slice())
 }
 

@@ -1,4 +1,5 @@
-ghost use Rattle.std.specs.Prelude.{◌≡◌, ◌≢◌, ◌≤◌, ◌<◌, ◌+◌, ◌++◌, ◌∷◌, [], IfOk, IfErr, OnOk, Ok, Err, length, option_map};
+ghost use Rattle.std.specs.Prelude.{◌≡◌, ◌≢◌, ◌≤◌, ◌<◌, ◌+◌, ◌++◌, ◌∷◌, [], IfOk, IfErr, OnOk, Ok, Err, length};
+ghost use Rattle.std.specs.Prelude.{option_map};
 ghost use Rattle.serde_json.specs.View.{view, members_view};
 ghost use Rattle.serde_json.specs.Events.{members_len};
 ghost use Rattle.ccp_base.specs.Limits.{most_named_programs};
@@ -6,7 +7,8 @@ ghost use Rattle.portus_core.specs.ProgramForm.{form_of};
 ghost use Rattle.portus_build.specs.Builtins.{builtin_text};
 ghost use Rattle.portus_build.specs.declared.fault.BuildFault.TheVariants as build_fault;
 ghost use Rattle.scenario_json.specs.Cases.{AreNumberedFrom};
-ghost use Rattle.scenario_json.specs.ScenePrograms.{TextReading, IsReading, named_program, programs_in, built_in, built_ins, few_members, names_of, forms_of};
+ghost use Rattle.scenario_json.specs.ScenePrograms.{TextReading, ReadsTexts, named_program, programs_in, built_in};
+ghost use Rattle.scenario_json.specs.ScenePrograms.{built_ins, few_members, names_of, forms_of};
 ghost use Rattle.scenario_json.specs.declared.fault.SceneFault.TheVariants as fault;
 
 use crate::fault::SceneFault;
@@ -39,8 +41,8 @@ pub(crate) struct SceneProgramList {
 
 /// What a text is built into: what every reading gives for it.
 fn built(alloc: Global, text: &[u8]) -> Result<Built, BuildFault>
-    ensures ok { (read : TextReading) → IsReading read → IfOk result (λ b. read text.now ≡ Ok (form_of b.program)) }
-    ensures err { (read : TextReading) → IsReading read
+    ensures ok { (read : TextReading) → ReadsTexts read → IfOk result (λ b. read text.now ≡ Ok (form_of b.program)) }
+    ensures err { (read : TextReading) → ReadsTexts read
         → IfErr result (λ e. e ≢ build_fault.NoMemory → read text.now ≡ Err e) }
 {
     build(alloc, text)
@@ -49,7 +51,7 @@ fn built(alloc: Global, text: &[u8]) -> Result<Built, BuildFault>
 /// A built-in program. Its text is one of a program, so that it is refused only for want of memory.
 fn built_in(alloc: Global, number: u32) -> Result<Built, NoMemory>
     requires { number < 3 }
-    ensures { (read : TextReading) → IsReading read
+    ensures { (read : TextReading) → ReadsTexts read
         → IfOk result (λ b. built_in number (read (builtin_text number)) ≡ (number, form_of b.program) ∷ []) }
 {
     match built(alloc, builtin(number)) {
@@ -60,7 +62,7 @@ fn built_in(alloc: Global, number: u32) -> Result<Built, NoMemory>
 
 /// The built-in programs.
 pub(crate) fn built_ins(alloc: Global) -> Result<Builts, NoMemory>
-    ensures forms { (read : TextReading) → IsReading read → IfOk result (λ builts. forms_of builts ≡ built_ins read) }
+    ensures forms { (read : TextReading) → ReadsTexts read → IfOk result (λ builts. forms_of builts ≡ built_ins read) }
     ensures numbered { IfOk result (AreNumberedFrom 0) }
     ensures count { IfOk result (λ builts. length builts ≡ 3) }
 {
@@ -72,10 +74,10 @@ pub(crate) fn built_ins(alloc: Global) -> Result<Builts, NoMemory>
 }
 
 fn named_program(alloc: Global, name: &str, value: &Value) -> Result<NamedProgram, SceneFault>
-    ensures ok { (read : TextReading) → IsReading read
+    ensures ok { (read : TextReading) → ReadsTexts read
         → IfOk result (λ p. named_program read name.now (view value.now) ≡ Ok (form_of p.built.program)) }
     ensures name { IfOk result (λ p. p.name ≡ name.now) }
-    ensures err { (read : TextReading) → IsReading read
+    ensures err { (read : TextReading) → ReadsTexts read
         → IfErr result (λ e. e ≢ fault.NoMemory → named_program read name.now (view value.now) ≡ Err e) }
 {
     let named = named_text(alloc, Key::Programs, name, value)?;
@@ -109,13 +111,13 @@ pub(crate) fn programs_in(
     members: &Map<String, Value>,
 ) -> Result<SceneProgramList, SceneFault>
     requires { members_len (members_view members.now.entries) ≤ most_named_programs }
-    ensures ok { (read : TextReading) → IsReading read
+    ensures ok { (read : TextReading) → ReadsTexts read
         → IfOk result (λ p. programs_in read (members_view members.now.entries) ≡ Ok (forms_of p.builts)) }
     ensures names { IfOk result (λ p. p.names ≡ names_of (members_view members.now.entries)) }
     ensures numbered { IfOk result (λ p. AreNumberedFrom 0 p.builts) }
     ensures count { IfOk result (λ p. length p.builts ≡ length p.names + 3) }
     ensures few { IfOk result (λ p. length p.names ≤ most_named_programs) }
-    ensures err { (read : TextReading) → IsReading read
+    ensures err { (read : TextReading) → ReadsTexts read
         → IfErr result (λ e. e ≢ fault.NoMemory → programs_in read (members_view members.now.entries) ≡ Err e) }
 {
     let mut names = Sequence::new(alloc);

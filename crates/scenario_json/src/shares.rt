@@ -4,7 +4,8 @@ ghost use Rattle.ccp_base.specs.Limits.{most_queue, most_quantum_us, most_rounds
 ghost use Rattle.scenario_json.specs.Keys.{least_of, most_of};
 ghost use Rattle.scenario_json.specs.Traces.{table_of};
 ghost use Rattle.scenario_json.specs.Cases.{plan_of};
-ghost use Rattle.scenario_json.specs.SharedScenes.{shared_trace, shared_number, shared_members, shares_in, flow_link_of};
+ghost use Rattle.scenario_json.specs.SharedScenes.{shared_trace, shared_number, shared_members, shares_in};
+ghost use Rattle.scenario_json.specs.SharedScenes.{flow_link_of};
 ghost use Rattle.scenario_json.specs.declared.fault.SceneFault.TheVariants as fault;
 
 use crate::case::trace_in;

@@ -1,7 +1,8 @@
 ghost use Rattle.std.specs.Prelude.{◌≡◌, ◌≢◌, ◌≤◌, IfOk, IfErr, Ok, Err, option_map};
 ghost use Rattle.serde_json.specs.View.{view, items_view, members_view};
 ghost use Rattle.scenario_json.specs.Keys.{least_of, most_of};
-ghost use Rattle.scenario_json.specs.Values.{member_of, needed, in_range, number_in, text_in, list_in, object_in, needed_number, number_or};
+ghost use Rattle.scenario_json.specs.Values.{member_of, needed, in_range, number_in, text_in, list_in, object_in};
+ghost use Rattle.scenario_json.specs.Values.{needed_number, number_or};
 ghost use Rattle.scenario_json.specs.declared.fault.SceneFault.TheVariants as fault;
 
 use crate::fault::SceneFault;

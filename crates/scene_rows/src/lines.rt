@@ -1,7 +1,7 @@
 //! What a scenario comes to, as a line.
 use ccp_base::{Bytes, Name};
 use scenario_json::calls::{rollout_scene, scenario, shared_scene};
-use scenario_json::{Mode, SceneFault};
+use scenario_json::{SceneFault, SceneMode};
 use std::alloc::Global;
 use std::process::Abort;
 use std::test::Fail;
@@ -15,7 +15,7 @@ pub enum Reader {
     Shared,
 }
 
-fn read_of_agents(alloc: Global, text: &[u8], mode: Mode) -> Result<usize, SceneFault> {
+fn read_of_agents(alloc: Global, text: &[u8], mode: SceneMode) -> Result<usize, SceneFault> {
     Ok(scenario(alloc, text, mode)?.cases.len())
 }
 
@@ -30,8 +30,8 @@ fn read_of_shared(alloc: Global, text: &[u8]) -> Result<usize, SceneFault> {
 /// How many cases a text says, or its refusal.
 fn read(alloc: Global, text: &[u8], reader: Reader) -> Result<usize, SceneFault> {
     match reader {
-        Reader::Live => read_of_agents(alloc, text, Mode::Live),
-        Reader::Campaign => read_of_agents(alloc, text, Mode::Campaign),
+        Reader::Live => read_of_agents(alloc, text, SceneMode::Live),
+        Reader::Campaign => read_of_agents(alloc, text, SceneMode::Campaign),
         Reader::Rollout => read_of_rollout(alloc, text),
         Reader::Shared => read_of_shared(alloc, text),
     }

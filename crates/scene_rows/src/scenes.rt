@@ -2,7 +2,7 @@ use crate::lines::{Reader, all_come_to, comes_to};
 use crate::texts::{case, many, repeated, scene};
 use flow_core::Case;
 use scenario_json::calls::{rollout_scene, scenario, shared_scene, soak};
-use scenario_json::{Mode, OpenCase, Scenario};
+use scenario_json::{OpenCase, Scenario, SceneMode};
 use shared_link::{FlowLink, SharedCase};
 use std::alloc::Global;
 use std::process::Abort;
@@ -60,7 +60,7 @@ fn programs_of(alloc: Global, cases: &[Case]) -> Result<String, Fail> {
 
 /// The programs of the first case of a text's live run.
 fn first_programs(alloc: Global, text: &[u8]) -> Result<String, Fail> {
-    match scenario(alloc, text, Mode::Live) {
+    match scenario(alloc, text, SceneMode::Live) {
         Ok(scene) => programs_of(alloc, scene.cases.as_slice()),
         Err(_) => Err(Fail::from("refused")),
     }

@@ -18,7 +18,7 @@ use ccp_words::Alone;
 use fold_run::separate;
 use reg_compiler::Builts;
 use run_audit::{Verdict, audit};
-use scenario_json::{Mode, Scenario};
+use scenario_json::{Scenario, SceneMode};
 use std::alloc::Global;
 
 /// What is said of the text below the separator as the live text of the scenario above it, or the first refusal: of the
@@ -32,7 +32,7 @@ pub fn audit_output(alloc: Global, bytes: &[u8]) -> Result<ModeOutput, Stop>
     if cut.program.len() > Limit::Input.bytes() {
         return Err(Stop::Refused(Refusal::TooLong(Limit::Input)));
     }
-    let scene = scene(alloc, cut.program, Mode::Live)?;
+    let scene = scene(alloc, cut.program, SceneMode::Live)?;
     let verdict = judged(alloc, &scene, cut.rest)?;
     Ok(verdict_output(alloc, verdict)?)
 }

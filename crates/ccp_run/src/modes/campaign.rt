@@ -19,7 +19,7 @@ use campaign_report::{Agents, table_text, wire_text};
 use ccp_base::{Bytes, Gate, NoMemory, Source};
 use flow_core::Case;
 use reg_compiler::Builts;
-use scenario_json::{Mode, Scenario};
+use scenario_json::{Scenario, SceneMode};
 use std::alloc::Global;
 use std::sync::Wait;
 use std::thread::Threads;
@@ -55,7 +55,7 @@ fn campaign<R: Threads + Wait + Sync, G: Gate + Sync>(
     requires workers { (1 ≤ workers) × (workers ≤ most_workers) }
     ensures { IsAnswer (Task.Campaign wire) bytes.now result }
 {
-    let scene = scene(alloc, bytes, Mode::Campaign)?;
+    let scene = scene(alloc, bytes, SceneMode::Campaign)?;
     Ok(campaigned(rt, alloc, workers, wire, scene, gate)?)
 }
 

@@ -18,7 +18,7 @@ use campaign_report::live_text;
 use ccp_base::{Bytes, Gate, NoMemory, Source};
 use flow_table::FlowTable;
 use reg_compiler::Builts;
-use scenario_json::{Mode, Scenario};
+use scenario_json::{Scenario, SceneMode};
 use std::alloc::Global;
 use std::sync::Wait;
 use std::thread::Threads;
@@ -58,7 +58,7 @@ fn live_output<R: Threads + Wait + Sync, G: Gate + Sync>(
     requires agents { (1 ≤ agents) × (agents ≤ most_workers) }
     ensures { IsAnswer (Task.Live wire) bytes.now result }
 {
-    let scene = scene(alloc, bytes, Mode::Live)?;
+    let scene = scene(alloc, bytes, SceneMode::Live)?;
     Ok(lived(rt, alloc, datapaths, agents, wire, scene, gate)?)
 }
 

@@ -2,8 +2,8 @@ use Rattle.slot_pool.specs.Pool.{words_at}
 use Rattle.flow_core.proofs.ReportWordLemmas.{written_report}
 use Rattle.flow_core.proofs.report_words.store.Goals as goal
 
-pub returns-clause-holds : goal.returns-clause-holds
-returns-clause-holds g c =
+pub returns-clause-stored : goal.returns-clause-stored
+returns-clause-stored g c =
     let slot = c.in-Ok.slot in
     record {
       begins =

@@ -1,6 +1,6 @@
 use Rattle.std.proofs.Common.{◌∙◌, List, ℕ, ap, sym, subst}
 use Rattle.reg_compiler.specs.declared.built.Built.{Built}
-use Rattle.scenario_json.specs.declared.mode.Mode.TheVariants as scene
+use Rattle.scenario_json.specs.declared.mode.SceneMode.TheVariants as scene
 use Rattle.ccp_run.specs.Campaign.{campaign_text}
 use Rattle.ccp_run.specs.Scenes.{IsScenario}
 use Rattle.ccp_run.proofs.modes.campaign.campaign.Goals as goal

@@ -1,7 +1,7 @@
 use Rattle.std.proofs.Common.{◌∙◌, List, ℕ, ap, sym, subst}
 use Rattle.std.specs.List.{All}
 use Rattle.reg_compiler.specs.declared.built.Built.{Built}
-use Rattle.scenario_json.specs.declared.mode.Mode.TheVariants as scene
+use Rattle.scenario_json.specs.declared.mode.SceneMode.TheVariants as scene
 use Rattle.ccp_run.specs.Live.{IsRightBook, books_written}
 use Rattle.ccp_run.specs.Scenes.{IsScenario}
 use Rattle.ccp_run.proofs.modes.live.live_output.Goals as goal

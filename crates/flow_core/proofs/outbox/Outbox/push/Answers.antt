@@ -14,7 +14,7 @@ returns-clause-owned g c =
     c.requires.room c.push_back.ensures.items in
     subst (λ (xs : List ℕ). AreOwned new xs) (sym whole)
     (owned-pushed_report (g.P.Slots.pool c.args.slots.now) new slot (words_at new slot) c.args.self.now.slots c.args.report.now
-    c.store-slot.ensures.was_free c.store-slot.ensures.changed c.store-slot.ensures.holds c.requires.owned)
+    c.store-slot.ensures.was_free c.store-slot.ensures.changed c.store-slot.ensures.stored c.requires.owned)
 
 pub returns-clause-lies : goal.returns-clause-lies
 returns-clause-lies g c = λ reports lies.
@@ -26,4 +26,4 @@ returns-clause-lies g c = λ reports lies.
     c.requires.room c.push_back.ensures.items in
     subst (λ (xs : List ℕ). Lies new xs (reports ++ c.args.report.now ∷ [])) (sym whole)
     (lies-pushed (g.P.Slots.pool c.args.slots.now) new slot (words_at new slot) c.args.self.now.slots c.args.report.now reports
-    c.store-slot.ensures.was_free c.store-slot.ensures.changed c.store-slot.ensures.holds lies)
+    c.store-slot.ensures.was_free c.store-slot.ensures.changed c.store-slot.ensures.stored lies)
