@@ -3,8 +3,6 @@
 #![tactic(auto)]
 
 #[cfg(test)]
-mod acknowledgement_lines;
-#[cfg(test)]
 mod came;
 #[cfg(test)]
 mod faults;
