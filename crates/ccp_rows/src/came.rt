@@ -1,7 +1,6 @@
-//! Runs of one mode, and on words.
-use ccp_base::{Bytes, Gate, MemSink, MemSource, OpenGate};
-use ccp_run::calls::alone;
-use ccp_run::{Alone, Outcome, run};
+//! Runs on words.
+use ccp_base::{Gate, MemSink, MemSource, OpenGate};
+use ccp_run::{Outcome, run};
 use std::alloc::Global;
 use std::sync::Wait;
 use std::test::Fail;
@@ -33,17 +32,17 @@ pub(crate) const WHOLE: Ways<'static> = Ways {
     most: 4096,
 };
 
-/// What a run came to: its status, what was written, the error line, and how many programs and instructions it tells.
-#[derive(Debug, Drop)]
-pub(crate) struct Came {
+/// What a run came to: its status, what was written and told, and how many programs and instructions it had.
+#[derive(Drop)]
+pub(crate) struct Came<'a> {
     pub(crate) status: u8,
-    pub(crate) output: Bytes,
-    pub(crate) errors: Bytes,
+    pub(crate) output: MemSink<'a>,
+    pub(crate) errors: MemSink<'a>,
     pub(crate) programs: usize,
     pub(crate) ran: u64,
 }
 
-impl Came {
+impl Came<'_> {
     /// Whether this is what a run came to.
     pub(crate) fn is(&self, status: u8, output: &[u8], errors: &[u8]) -> bool {
         self.status == status
@@ -52,93 +51,68 @@ impl Came {
     }
 }
 
-// without clauses, so that the proofs of tests don't search what a run promises
-
-fn run_alone(
-    alloc: Global,
-    mode: Alone,
-    source: &mut MemSource,
-    sink: &mut MemSink,
-    errors: &mut MemSink,
-) -> Outcome {
-    alone(alloc, mode, source, sink, errors)
-}
-
+/// A run, without clauses, so that the proofs of tests don't search what it promises.
 fn run_on<R: Threads + Wait + Sync, G: Gate + Sync>(
     rt: &R,
     alloc: Global,
     words: Vec<String>,
-    source: &mut MemSource,
-    sink: &mut MemSink,
-    errors: &mut MemSink,
+    source: &mut MemSource<'_>,
+    sink: &mut MemSink<'_>,
+    errors: &mut MemSink<'_>,
     gate: &G,
 ) -> Outcome {
     run(rt, alloc, words, source, sink, errors, gate)
 }
 
-fn copied(alloc: Global, bytes: &[u8]) -> Result<Bytes, Fail> {
-    let mut copy = Bytes::new(alloc);
-    copy.extend(bytes)?;
-    Ok(copy)
+fn words_of(alloc: Global, given: &[&str]) -> Result<Vec<String>, Fail> {
+    let mut words = Vec::new(alloc);
+    for word in given {
+        words.push(String::from_str(alloc, word)?)?;
+    }
+    Ok(words)
 }
 
-fn gathered(alloc: Global, outcome: &Outcome, sink: &MemSink, errors: &MemSink) -> Result<Came, Fail> {
+/// What a run on these words comes to under a gate.
+pub(crate) fn held_comes_to<'a, R: Threads + Wait + Sync, G: Gate + Sync>(
+    rt: &R,
+    alloc: Global,
+    given: &[&str],
+    input: &[u8],
+    ways: Ways<'a>,
+    gate: &G,
+) -> Result<Came<'a>, Fail> {
+    if ways.most == 0 {
+        return Err("a call takes no bytes".into());
+    }
+    let words = words_of(alloc, given)?;
+    let mut source = MemSource::new(input, ways.most, ways.read);
+    let mut output = MemSink::new(alloc, ways.most, ways.write);
+    let mut errors = MemSink::new(alloc, 4096, ways.tell);
+    let outcome = run_on(
+        rt,
+        alloc,
+        words,
+        &mut source,
+        &mut output,
+        &mut errors,
+        gate,
+    );
     Ok(Came {
         status: outcome.status,
-        output: copied(alloc, sink.as_slice())?,
-        errors: copied(alloc, errors.as_slice())?,
+        output,
+        errors,
         programs: outcome.programs.len(),
         ran: outcome.ran,
     })
 }
 
-/// What a run of one mode comes to.
-pub(crate) fn alone_comes_to(
-    alloc: Global,
-    mode: Alone,
-    input: &[u8],
-    ways: Ways<'_>,
-) -> Result<Came, Fail> {
-    if ways.most == 0 {
-        return Err("a call takes no bytes".into());
-    }
-    let mut source = MemSource::new(input, ways.most, ways.read);
-    let mut sink = MemSink::new(alloc, ways.most, ways.write);
-    let mut errors = MemSink::new(alloc, 4096, ways.tell);
-    let outcome = run_alone(alloc, mode, &mut source, &mut sink, &mut errors);
-    gathered(alloc, &outcome, &sink, &errors)
-}
-
-/// What a run on these words comes to under a gate.
-pub(crate) fn held_comes_to<R: Threads + Wait + Sync, G: Gate + Sync>(
-    rt: &R,
-    alloc: Global,
-    given: &[&str],
-    input: &[u8],
-    ways: Ways<'_>,
-    gate: &G,
-) -> Result<Came, Fail> {
-    if ways.most == 0 {
-        return Err("a call takes no bytes".into());
-    }
-    let mut words = Vec::new(alloc);
-    for word in given {
-        words.push(String::from_str(alloc, word)?)?;
-    }
-    let mut source = MemSource::new(input, ways.most, ways.read);
-    let mut sink = MemSink::new(alloc, ways.most, ways.write);
-    let mut errors = MemSink::new(alloc, 4096, ways.tell);
-    let outcome = run_on(rt, alloc, words, &mut source, &mut sink, &mut errors, gate);
-    gathered(alloc, &outcome, &sink, &errors)
-}
-
 /// What a run on these words comes to.
-pub(crate) fn comes_to<R: Threads + Wait + Sync>(
+pub(crate) fn comes_to<'a, R: Threads + Wait + Sync>(
     rt: &R,
     alloc: Global,
     given: &[&str],
     input: &[u8],
-    ways: Ways<'_>,
-) -> Result<Came, Fail> {
+    ways: Ways<'a>,
+) -> Result<Came<'a>, Fail> {
     held_comes_to(rt, alloc, given, input, ways, &OpenGate)
 }

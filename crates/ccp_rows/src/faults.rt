@@ -1,7 +1,6 @@
-//! Each read and each write of a run fails in turn.
-use crate::came::{Came, FIRST_REPORT, ONE_CASE, WHOLE, Ways, alone_comes_to, comes_to};
-use crate::feeds::{MEASURE, reporting};
-use ccp_run::Alone;
+//! Each read and each write of a run fails in turn, where a call takes 16 bytes.
+use crate::came::{FIRST_REPORT, ONE_CASE, WHOLE, Ways, comes_to};
+use crate::feeds::{MEASURE, REPORTING};
 use std::alloc::Global;
 use std::process::Abort;
 use std::sync::Wait;
@@ -12,142 +11,154 @@ use std::thread::Threads;
 const NEED_8: &[u8] =
     b"(def (a 1)) (when true (:= Cwnd (+ (+ a a) (+ (+ a a) (+ (+ a a) (+ (+ a a) (+ (+ a a) (+ (+ a a) (+ (+ a a) (+ a a))))))))))";
 
-/// Calls of so many bytes, of which the read of this number fails.
-fn failing_read(call: &[u64], most: usize) -> Ways<'_> {
-    Ways {
-        read: call,
+/// The words of a run, and its input.
+#[derive(Clone, Copy)]
+struct Given<'a> {
+    words: &'a [&'a str],
+    input: &'a [u8],
+}
+
+const GIVEN: [Given<'static>; 4] = [
+    Given {
+        words: &["ccp", "fold"],
+        input: FIRST_REPORT,
+    },
+    Given {
+        words: &["ccp", "check"],
+        input: NEED_8,
+    },
+    Given {
+        words: &["ccp", "campaign"],
+        input: ONE_CASE,
+    },
+    Given {
+        words: &["ccp", "live"],
+        input: ONE_CASE,
+    },
+];
+
+const FEED: Given<'static> = Given {
+    words: &["ccp", "feed"],
+    input: REPORTING,
+};
+
+/// Whether a run whose read of this number fails ends so, and has written this.
+fn is_read_fault<R: Threads + Wait + Sync>(
+    rt: &R,
+    alloc: Global,
+    given: Given<'_>,
+    call: u64,
+    output: &[u8],
+) -> Result<bool, Fail> {
+    let failing = [call];
+    let ways = Ways {
+        read: &failing,
         write: &[],
         tell: &[],
-        most,
-    }
+        most: 16,
+    };
+    let came = comes_to(rt, alloc, given.words, given.input, ways)?;
+    Ok(came.is(4, output, b"ccp: read fault\n") && came.programs == 0)
 }
 
-/// Calls of so many bytes, of which the write of this number fails.
-fn failing_write(call: &[u64], most: usize) -> Ways<'_> {
-    Ways {
+/// Whether a run whose write of this number fails ends so, and has written what came before, where this is the output.
+fn is_write_fault<R: Threads + Wait + Sync>(
+    rt: &R,
+    alloc: Global,
+    given: Given<'_>,
+    call: u64,
+    output: &[u8],
+) -> Result<bool, Fail> {
+    let failing = [call];
+    let ways = Ways {
         read: &[],
-        write: call,
+        write: &failing,
         tell: &[],
-        most,
+        most: 16,
+    };
+    let front = &output[..output.len().min((call as usize).saturating_mul(16))];
+    let came = comes_to(rt, alloc, given.words, given.input, ways)?;
+    Ok(came.is(5, front, b"ccp: write fault\n") && came.programs == 0)
+}
+
+/// Lets each read fail.
+fn reads_fail<R: Threads + Wait + Sync>(
+    rt: &R,
+    abort: &impl Abort,
+    alloc: Global,
+    given: Given<'_>,
+) -> Result<(), Fail> {
+    for call in 0..=given.input.len().div_ceil(16) {
+        assert!(abort;
+            is_read_fault(rt, alloc, given, call as u64, b"")?,
+            "read {call}"
+        );
     }
+    Ok(())
 }
 
-/// The first bytes of an output, those of so many writes before one that fails.
-fn front(output: &[u8], call: u64, most: usize) -> &[u8] {
-    &output[..output.len().min((call as usize).saturating_mul(most))]
-}
-
-/// Whether a run ended at a fault of its source, and this was written.
-fn is_read_fault(came: &Came, output: &[u8]) -> bool {
-    came.is(4, output, b"ccp: read fault\n") && came.programs == 0
-}
-
-/// Whether a run ended at a fault of its sink, and this was written.
-fn is_write_fault(came: &Came, output: &[u8]) -> bool {
-    came.is(5, output, b"ccp: write fault\n") && came.programs == 0
-}
-
-/// Lets each read and each write of 16 bytes of a run of one mode fail.
-fn each_call_fails(rt: &impl Abort, alloc: Global, mode: Alone, input: &[u8]) -> Result<(), Fail> {
-    let whole = alone_comes_to(alloc, mode, input, WHOLE)?;
-    assert!(rt; whole.status == 0);
-    for call in 0..=input.len().div_ceil(16) {
-        let came = alone_comes_to(alloc, mode, input, failing_read(&[call as u64], 16))?;
-        assert!(rt; is_read_fault(&came, b""), "read {call}");
-    }
-    let output = whole.output.as_slice();
+/// Lets each write of this output fail.
+fn writes_fail<R: Threads + Wait + Sync>(
+    rt: &R,
+    abort: &impl Abort,
+    alloc: Global,
+    given: Given<'_>,
+    output: &[u8],
+) -> Result<(), Fail> {
     for call in 0..output.len().div_ceil(16) {
-        let call = call as u64;
-        let came = alone_comes_to(alloc, mode, input, failing_write(&[call], 16))?;
-        assert!(rt;
-            is_write_fault(&came, front(output, call, 16)),
+        assert!(abort;
+            is_write_fault(rt, alloc, given, call as u64, output)?,
             "write {call}"
         );
     }
     Ok(())
+}
+
+/// Lets each write of a run fail that ends well otherwise.
+fn writes_fail_after_a_run<R: Threads + Wait + Sync>(
+    rt: &R,
+    abort: &impl Abort,
+    alloc: Global,
+    given: Given<'_>,
+) -> Result<(), Fail> {
+    let whole = comes_to(rt, alloc, given.words, given.input, WHOLE)?;
+    if whole.status != 0 {
+        return Err("the run doesn't end well".into());
+    }
+    writes_fail(rt, abort, alloc, given, whole.output.as_slice())
 }
 
 #[test]
 fn each_read_and_each_write_fails(rt: HostRuntime) -> Result<(), Fail> {
-    each_call_fails(&rt, rt.alloc(), Alone::Fold, FIRST_REPORT)?;
-    each_call_fails(&rt, rt.alloc(), Alone::Check, NEED_8)
-}
-
-/// Lets each read and each write of a run on words fail.
-fn each_call_on_words_fails<R: Threads + Wait + Sync>(
-    rt: &R,
-    abort: &impl Abort,
-    alloc: Global,
-    words: &[&str],
-    most: usize,
-) -> Result<(), Fail> {
-    let whole = comes_to(rt, alloc, words, ONE_CASE, WHOLE)?;
-    assert!(abort; whole.status == 0);
-    if most == 0 {
-        return Ok(());
-    }
-    for call in 0..=ONE_CASE.len().div_ceil(most) {
-        let came = comes_to(
-            rt,
-            alloc,
-            words,
-            ONE_CASE,
-            failing_read(&[call as u64], most),
-        )?;
-        assert!(abort; is_read_fault(&came, b""), "read {call}");
-    }
-    let output = whole.output.as_slice();
-    for call in 0..output.len().div_ceil(most) {
-        let call = call as u64;
-        let came = comes_to(rt, alloc, words, ONE_CASE, failing_write(&[call], most))?;
-        assert!(abort;
-            is_write_fault(&came, front(output, call, most)),
-            "write {call}"
-        );
+    for given in &GIVEN {
+        reads_fail(&rt, &rt, rt.alloc(), *given)?;
+        writes_fail_after_a_run(&rt, &rt, rt.alloc(), *given)?;
     }
     Ok(())
 }
 
-#[test]
-fn each_read_and_each_write_of_runs_with_workers_fails(rt: HostRuntime) -> Result<(), Fail> {
-    each_call_on_words_fails(&rt, &rt, rt.alloc(), &["ccp", "campaign"], 64)?;
-    each_call_on_words_fails(&rt, &rt, rt.alloc(), &["ccp", "live"], 64)
-}
-
-/// Asserts what a feed comes to whose read of this number fails, where 16 bytes come at a time.
-fn feed_read_fails(
-    rt: &impl Abort,
-    alloc: Global,
-    input: &[u8],
-    call: u64,
-    output: &[u8],
-) -> Result<(), Fail> {
-    let failing = [call];
-    let ways = failing_read(&failing, 16);
-    let came = alone_comes_to(alloc, Alone::Feed, input, ways)?;
-    assert!(rt; is_read_fault(&came, output), "read {call}");
-    Ok(())
-}
-
+/// The 273 bytes come by 18 reads, and the report is answered before the next one.
 #[test]
 fn each_read_of_a_feed_fails(rt: HostRuntime) -> Result<(), Fail> {
-    let input = reporting(rt.alloc())?;
     for call in 0..18 {
-        feed_read_fails(&rt, rt.alloc(), input.as_slice(), call, b"")?;
+        assert!(rt;
+            is_read_fault(&rt, rt.alloc(), FEED, call, b"")?,
+            "read {call}"
+        );
     }
-    feed_read_fails(&rt, rt.alloc(), input.as_slice(), 18, MEASURE)
+    assert!(rt;
+        is_read_fault(&rt, rt.alloc(), FEED, 18, MEASURE)?,
+        "the last read"
+    );
+    Ok(())
 }
 
-/// The fifth call after the four writes of 16 bytes is the flush, and the sixth that of the end.
+/// Two flushes follow the four writes of the answer.
 #[test]
 fn each_write_of_a_feed_fails(rt: HostRuntime) -> Result<(), Fail> {
-    let input = reporting(rt.alloc())?;
     for call in 0..6 {
-        let failing = [call];
-        let ways = failing_write(&failing, 16);
-        let came = alone_comes_to(rt.alloc(), Alone::Feed, input.as_slice(), ways)?;
         assert!(rt;
-            is_write_fault(&came, front(MEASURE, call, 16)),
+            is_write_fault(&rt, rt.alloc(), FEED, call, MEASURE)?,
             "write {call}"
         );
     }

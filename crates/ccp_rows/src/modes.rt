@@ -1,6 +1,8 @@
 //! Runs that end well, one a mode whose work is of another kind, and what they tell beside their output.
-use crate::came::{ONE_CASE, WHOLE, alone_comes_to, comes_to};
-use ccp_run::Alone;
+use crate::came::{FIRST_REPORT, ONE_CASE, WHOLE, comes_to};
+use ccp_base::{MemSink, MemSource};
+use ccp_run::calls::alone;
+use ccp_run::{Alone, Outcome};
 use std::alloc::Global;
 use std::sync::Wait;
 use std::test::Fail;
@@ -48,42 +50,97 @@ fn each_mode_runs(rt: HostRuntime) -> Result<(), Fail> {
     Ok(())
 }
 
-/// Whether a fold has run so many instructions of its one program.
-fn is_counted(alloc: Global, input: &[u8], ran: u64) -> Result<bool, Fail> {
-    let came = alone_comes_to(alloc, Alone::Fold, input, WHOLE)?;
-    Ok(came.status == 0 && came.ran == ran && came.programs == 1)
+/// A mode with an input, the status of its run, and how many programs and instructions it tells.
+struct Told {
+    mode: &'static str,
+    input: &'static [u8],
+    status: u8,
+    programs: usize,
+    ran: u64,
 }
 
-const COUNTED: [(&[u8], u64); 4] = [
-    (b"(def) (when true (report))\n---\nnow=1\nnow=2\n", 4),
-    (b"(def) (when true (report))\n---\n", 0),
-    (
-        b"(def) (when false (report))\n---\nnow=1\nnow=2\nnow=3\n",
-        3,
-    ),
-    (
-        b"(def (Report (x 0))) (when true (:= Report.x (/ 1 0)) (report))\n---\nnow=1\nnow=2\n",
-        2,
-    ),
+const TOLD: [Told; 6] = [
+    Told {
+        mode: "fold",
+        input: b"(def) (when true (report))\n---\nnow=1\nnow=2\n",
+        status: 0,
+        programs: 1,
+        ran: 4,
+    },
+    Told {
+        mode: "fold",
+        input: b"(def) (when true (report))\n---\n",
+        status: 0,
+        programs: 1,
+        ran: 0,
+    },
+    Told {
+        mode: "fold",
+        input: b"(def) (when false (report))\n---\nnow=1\nnow=2\nnow=3\n",
+        status: 0,
+        programs: 1,
+        ran: 3,
+    },
+    Told {
+        mode: "fold",
+        input: b"(def (Report (x 0))) (when true (:= Report.x (/ 1 0)) (report))\n---\nnow=1\nnow=2\n",
+        status: 0,
+        programs: 1,
+        ran: 2,
+    },
+    Told {
+        mode: "check",
+        input: b"(def)",
+        status: 0,
+        programs: 1,
+        ran: 0,
+    },
+    Told {
+        mode: "check",
+        input: b"(def",
+        status: 3,
+        programs: 0,
+        ran: 0,
+    },
 ];
 
+/// Whether a run tells what the row says.
+fn is_told<R: Threads + Wait + Sync>(rt: &R, alloc: Global, row: &Told) -> Result<bool, Fail> {
+    let came = comes_to(rt, alloc, &["ccp", row.mode], row.input, WHOLE)?;
+    Ok(came.status == row.status && came.programs == row.programs && came.ran == row.ran)
+}
+
 #[test]
-fn instructions_are_counted(rt: HostRuntime) -> Result<(), Fail> {
-    for (input, ran) in &COUNTED {
-        assert!(rt; is_counted(rt.alloc(), input, *ran)?, "{input:?}");
+fn programs_and_instructions_are_told(rt: HostRuntime) -> Result<(), Fail> {
+    for row in &TOLD {
+        assert!(rt; is_told(&rt, rt.alloc(), row)?, "{:?}", row.input);
     }
     Ok(())
 }
 
-/// Whether `check` tells so many programs of the text, and no instruction.
-fn is_told(alloc: Global, input: &[u8], status: u8, programs: usize) -> Result<bool, Fail> {
-    let came = alone_comes_to(alloc, Alone::Check, input, WHOLE)?;
-    Ok(came.status == status && came.programs == programs && came.ran == 0)
+/// A fold by the call that waits for nobody, without its clause.
+fn fold_alone(
+    alloc: Global,
+    source: &mut MemSource<'_>,
+    sink: &mut MemSink<'_>,
+    errors: &mut MemSink<'_>,
+) -> Outcome {
+    alone(alloc, Alone::Fold, source, sink, errors)
+}
+
+/// Whether it writes its report.
+fn is_folded_alone(alloc: Global) -> bool {
+    let mut source = MemSource::new(FIRST_REPORT, 4096, &[]);
+    let mut sink = MemSink::new(alloc, 4096, &[]);
+    let mut errors = MemSink::new(alloc, 4096, &[]);
+    let outcome = fold_alone(alloc, &mut source, &mut sink, &mut errors);
+    outcome.status == 0
+        && sink
+            .as_slice()
+            .starts_with(b"report program=0 epoch=0 span=0..2 ")
 }
 
 #[test]
-fn a_checked_program_is_told(rt: HostRuntime) -> Result<(), Fail> {
-    assert!(rt; is_told(rt.alloc(), b"(def)", 0, 1)?);
-    assert!(rt; is_told(rt.alloc(), b"(def", 3, 0)?);
-    Ok(())
+fn a_mode_runs_alone(rt: HostRuntime) {
+    assert!(rt; is_folded_alone(rt.alloc()));
 }
