@@ -2,8 +2,6 @@
 #![tactic(auto)]
 
 mod exit;
-#[cfg(test)]
-mod tests;
 mod words;
 
 use ccp_base::{StdErr, StdIn, StdOut};

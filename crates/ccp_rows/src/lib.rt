@@ -1,21 +1,18 @@
-//! Rows of the whole tool: inputs, and what `run` and `alone` make of them.
+//! Tests of the whole tool that its process can't show: streams that fail, inputs in pieces, workers that are held, and
+//! values of a run that aren't printed. Its inputs and outputs are the rows of `rows/` at the top.
 #![tactic(auto)]
 
 #[cfg(test)]
-mod acknowledgement_lines;
-#[cfg(test)]
 mod came;
 #[cfg(test)]
-mod campaigns;
-#[cfg(test)]
-mod checked_programs;
+mod faults;
 #[cfg(test)]
 mod feeds;
 #[cfg(test)]
-mod limits;
+mod held_workers;
 #[cfg(test)]
-mod lives;
+mod hold_gate;
 #[cfg(test)]
-mod refused_programs;
+mod modes;
 #[cfg(test)]
-mod runs;
+mod words;

@@ -1,0 +1,166 @@
+//! Each read and each write of a run fails in turn, where a call takes 16 bytes.
+use crate::came::{FIRST_REPORT, ONE_CASE, WHOLE, Ways, comes_to};
+use crate::feeds::{MEASURE, REPORTING};
+use std::alloc::Global;
+use std::process::Abort;
+use std::sync::Wait;
+use std::test::Fail;
+use std::thread::Threads;
+
+/// A program that needs 8 temporaries.
+const NEED_8: &[u8] =
+    b"(def (a 1)) (when true (:= Cwnd (+ (+ a a) (+ (+ a a) (+ (+ a a) (+ (+ a a) (+ (+ a a) (+ (+ a a) (+ (+ a a) (+ a a))))))))))";
+
+/// The words of a run, and its input.
+#[derive(Clone, Copy)]
+struct Given<'a> {
+    words: &'a [&'a str],
+    input: &'a [u8],
+}
+
+const GIVEN: [Given<'static>; 4] = [
+    Given {
+        words: &["ccp", "fold"],
+        input: FIRST_REPORT,
+    },
+    Given {
+        words: &["ccp", "check"],
+        input: NEED_8,
+    },
+    Given {
+        words: &["ccp", "campaign"],
+        input: ONE_CASE,
+    },
+    Given {
+        words: &["ccp", "live"],
+        input: ONE_CASE,
+    },
+];
+
+const FEED: Given<'static> = Given {
+    words: &["ccp", "feed"],
+    input: REPORTING,
+};
+
+/// Whether a run whose read of this number fails ends so, and has written this.
+fn is_read_fault<R: Threads + Wait + Sync>(
+    rt: &R,
+    alloc: Global,
+    given: Given<'_>,
+    call: u64,
+    output: &[u8],
+) -> Result<bool, Fail> {
+    let failing = [call];
+    let ways = Ways {
+        read: &failing,
+        write: &[],
+        tell: &[],
+        most: 16,
+    };
+    let came = comes_to(rt, alloc, given.words, given.input, ways)?;
+    Ok(came.is(4, output, b"ccp: read fault\n") && came.programs == 0)
+}
+
+/// Whether a run whose write of this number fails ends so, and has written what came before, where this is the output.
+fn is_write_fault<R: Threads + Wait + Sync>(
+    rt: &R,
+    alloc: Global,
+    given: Given<'_>,
+    call: u64,
+    output: &[u8],
+) -> Result<bool, Fail> {
+    let failing = [call];
+    let ways = Ways {
+        read: &[],
+        write: &failing,
+        tell: &[],
+        most: 16,
+    };
+    let front = &output[..output.len().min((call as usize).saturating_mul(16))];
+    let came = comes_to(rt, alloc, given.words, given.input, ways)?;
+    Ok(came.is(5, front, b"ccp: write fault\n") && came.programs == 0)
+}
+
+/// Lets each read fail.
+fn reads_fail<R: Threads + Wait + Sync>(
+    rt: &R,
+    abort: &impl Abort,
+    alloc: Global,
+    given: Given<'_>,
+) -> Result<(), Fail> {
+    for call in 0..=given.input.len().div_ceil(16) {
+        assert!(abort;
+            is_read_fault(rt, alloc, given, call as u64, b"")?,
+            "read {call}"
+        );
+    }
+    Ok(())
+}
+
+/// Lets each write of this output fail.
+fn writes_fail<R: Threads + Wait + Sync>(
+    rt: &R,
+    abort: &impl Abort,
+    alloc: Global,
+    given: Given<'_>,
+    output: &[u8],
+) -> Result<(), Fail> {
+    for call in 0..output.len().div_ceil(16) {
+        assert!(abort;
+            is_write_fault(rt, alloc, given, call as u64, output)?,
+            "write {call}"
+        );
+    }
+    Ok(())
+}
+
+/// Lets each write of a run fail that ends well otherwise.
+fn writes_fail_after_a_run<R: Threads + Wait + Sync>(
+    rt: &R,
+    abort: &impl Abort,
+    alloc: Global,
+    given: Given<'_>,
+) -> Result<(), Fail> {
+    let whole = comes_to(rt, alloc, given.words, given.input, WHOLE)?;
+    if whole.status != 0 {
+        return Err("the run doesn't end well".into());
+    }
+    writes_fail(rt, abort, alloc, given, whole.output.as_slice())
+}
+
+#[test]
+fn each_read_and_each_write_fails(rt: HostRuntime) -> Result<(), Fail> {
+    for given in &GIVEN {
+        reads_fail(&rt, &rt, rt.alloc(), *given)?;
+        writes_fail_after_a_run(&rt, &rt, rt.alloc(), *given)?;
+    }
+    Ok(())
+}
+
+/// The 273 bytes come by 18 reads, and the report is answered before the next one.
+#[test]
+fn each_read_of_a_feed_fails(rt: HostRuntime) -> Result<(), Fail> {
+    for call in 0..18 {
+        assert!(rt;
+            is_read_fault(&rt, rt.alloc(), FEED, call, b"")?,
+            "read {call}"
+        );
+    }
+    assert!(rt;
+        is_read_fault(&rt, rt.alloc(), FEED, 18, MEASURE)?,
+        "the last read"
+    );
+    Ok(())
+}
+
+/// Two flushes follow the four writes of the answer.
+#[test]
+fn each_write_of_a_feed_fails(rt: HostRuntime) -> Result<(), Fail> {
+    for call in 0..6 {
+        assert!(rt;
+            is_write_fault(&rt, rt.alloc(), FEED, call, MEASURE)?,
+            "write {call}"
+        );
+    }
+    Ok(())
+}
