@@ -9,7 +9,8 @@ use Rattle.ccp_base.specs.declared.fields.FieldReg.TheVariants.{Cwnd, Rate, Cont
 use Rattle.ccp_base.specs.FieldReg.{Pair}
 use Rattle.ccp_base.specs.InPlace.{IsPadded, padded, IsPadded-padded}
 use Rattle.reply_frames.specs.declared.outline.Version.TheVariants.{One}
-use Rattle.reply_frames.specs.Spelling.{target_bytes, value_bytes, values_bytes, update_bytes, change_bytes}
+use Rattle.reply_frames.specs.ValueBytes.{target_bytes, value_bytes, values_bytes}
+use Rattle.reply_frames.specs.Replies.{update_bytes, change_bytes}
 
 length-target_bytes : (reg : FieldReg) → length (target_bytes reg) ≡ 2
 length-target_bytes Cwnd = refl

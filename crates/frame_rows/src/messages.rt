@@ -97,7 +97,8 @@ fn short_slices_are_left(rt: HostRuntime) {
     assert!(rt; out.starts_with(INSTALL_5));
 }
 
-/// How long the message is that begins the bytes, if it comes back from what is written of it in the version it came in.
+/// How long the message is that begins the bytes, if it comes back from what is written of it in the version it came
+/// in.
 fn back_in(alloc: Global, bytes: &[u8], out: &mut [u8]) -> Option<usize> {
     let (message, version, used) = decode(alloc, bytes).ok()?;
     let is_back = encode_into(&message, version, out) == Ok(used)

@@ -1,7 +1,7 @@
 //! Updates and Changes, written and read in place.
 use crate::frames::{CHANGE_3, INSTALL_5, UPDATE};
 use ccp_base::{FieldReg, Fields};
-use reply_frames::{FrameFault, Head, Short, Version, decode_fields, encode_change, encode_update};
+use reply_frames::{FrameFault, ReplyHead, Short, Version, decode_fields, encode_change, encode_update};
 use std::test::*;
 
 #[test]
@@ -13,7 +13,7 @@ fn an_update_is_written_and_read(rt: HostRuntime) {
     assert!(rt; out.starts_with(UPDATE));
     assert!(rt; out.ends_with(&[7, 7, 7, 7]));
     let mut read = Fields::new();
-    let head = Head {
+    let head = ReplyHead {
         flow: 3,
         program: None,
         version: Version::One,
@@ -33,7 +33,7 @@ fn a_change_is_written_and_read(rt: HostRuntime) {
     assert!(rt; encode_change(0, 3, &values, &mut out) == Ok(30));
     assert!(rt; out.as_slice() == CHANGE_3);
     let mut read = Fields::new();
-    let head = Head {
+    let head = ReplyHead {
         flow: 0,
         program: Some(3),
         version: Version::One,
