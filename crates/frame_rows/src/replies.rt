@@ -1,7 +1,9 @@
 //! Updates and Changes, written and read in place.
 use crate::frames::{CHANGE_3, INSTALL_5, UPDATE};
 use ccp_base::{FieldReg, Fields};
-use reply_frames::{FrameFault, ReplyHead, Short, Version, decode_fields, encode_change, encode_update};
+use reply_frames::{
+    FrameFault, ReplyHead, Short, Version, decode_fields, encode_change, encode_update,
+};
 use std::test::*;
 
 #[test]
