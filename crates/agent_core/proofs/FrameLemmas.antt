@@ -6,7 +6,7 @@ use Rattle.std.proofs.lemmas.List.{drop-replicate}
 use Rattle.ccp_base.specs.FieldReg.{Pair}
 use Rattle.ccp_base.specs.InPlace.{IsPadded, padded, IsPadded-padded}
 use Rattle.reply_frames.specs.declared.outline.Version.TheVariants.{One}
-use Rattle.reply_frames.specs.Spelling.{update_bytes, change_bytes}
+use Rattle.reply_frames.specs.Replies.{update_bytes, change_bytes}
 use Rattle.reply_frames.proofs.Placing.{length-values_bytes}
 
 pub length-update_bytes : (flow : ℕ) (values : List Pair) → length (update_bytes One flow values) ≡ 16 + 10 * length values

@@ -3,7 +3,7 @@ use Rattle.std.specs.Prelude.{◌≡◌, ℕ, List, []}
 use Rattle.ccp_base.specs.declared.exchange.Reply.{Reply}
 use Rattle.ccp_base.specs.declared.exchange.Reply.TheVariants.{Nothing, Update, Change}
 use Rattle.reply_frames.specs.declared.outline.Version.TheVariants.{One}
-use Rattle.reply_frames.specs.Spelling.{update_bytes, change_bytes}
+use Rattle.reply_frames.specs.Replies.{update_bytes, change_bytes}
 use Rattle.agent_core.specs.declared.agent.Agent.{Agent}
 use Rattle.agent_core.specs.declared.ticket.Ticket.{Ticket}
 use Rattle.agent_core.specs.Agents.{replied, values_of}

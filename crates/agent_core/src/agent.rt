@@ -1,7 +1,7 @@
 ghost use Rattle.std.specs.Prelude.{◌≡◌, ◌++◌, ◌+◌, ◌<◌, ◌≤◌, ◌↔◌, IsTrue, length};
 ghost use Rattle.agent_core.specs.Agents.{begun, replied, course_of, mss_of, cap_of, segment_of, window_pair, control_pair, values_of};
 ghost use Rattle.std.specs.Option.{ForSome};
-ghost use Rattle.reply_frames.specs.Spelling.{AreTargets};
+ghost use Rattle.reply_frames.specs.ValueBytes.{AreTargets};
 
 use crate::same::same_agent;
 use ccp_base::{Course, FieldReg, Fields, Reply, Told};

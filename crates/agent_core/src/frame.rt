@@ -1,6 +1,7 @@
 ghost use Rattle.std.specs.Prelude.{◌≡◌, ◌≤◌, [], length};
 ghost use Rattle.ccp_base.specs.Limits.{most_answer_bytes};
-ghost use Rattle.reply_frames.specs.Spelling.{AreTargets, update_bytes, change_bytes};
+ghost use Rattle.reply_frames.specs.Replies.{update_bytes, change_bytes};
+ghost use Rattle.reply_frames.specs.ValueBytes.{AreTargets};
 
 use ccp_base::Fields;
 use reply_frames::{Version, encode_change, encode_update};

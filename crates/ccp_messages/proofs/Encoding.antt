@@ -6,13 +6,14 @@ use Rattle.std.specs.Int.{w32, to_le_bytes}
 use Rattle.std.proofs.lemmas.List.Folds.{flat_map-map}
 use Rattle.reg_code.specs.declared.code.Code.{Code}
 use Rattle.reply_frames.specs.declared.outline.Version.{Version}
+use Rattle.reply_frames.specs.declared.outline.Version.TheVariants.{One}
 use Rattle.reply_frames.specs.Kinds.{size_of}
 use Rattle.reply_frames.specs.FrameBytes.{start_bytes, event_bytes, instruction_bytes, body_bytes, kind_of_body, counts_of}
 use Rattle.reply_frames.proofs.FrameSizes.{HasPrimitives, length-spelled}
 use Rattle.ccp_messages.specs.declared.message.Message.{Message}
 use Rattle.ccp_messages.specs.declared.message.Message.TheVariants.{Create, Measure, Install, Update, Change, Fault, Refused}
 use Rattle.ccp_messages.specs.declared.message.Message.TheVariants as message
-use Rattle.ccp_messages.specs.CodeParts.{start_part, event_part, instruction_part, starts_bytes, events_bytes, instrs_bytes}
+use Rattle.ccp_messages.specs.CodeParts.{start_part, event_part, instruction_part, starts_bytes, events_bytes, instrs_bytes, code_body}
 use Rattle.ccp_messages.specs.Messages.{flow_of, body_of, frame_bytes}
 
 has-primitives : (m : Message) → HasPrimitives (body_of m)
@@ -28,9 +29,9 @@ has-primitives (Refused flow reason index) = tt
 pub length-frame : (version : Version) (m : Message) → length (frame_bytes version m) ≡ size_of (kind_of_body (body_of m)) version (counts_of (body_of m))
 length-frame version m = length-spelled version (flow_of m) (body_of m) (has-primitives m)
 
-pub code-bytes : (version : Version) (flow program : ℕ) (code : Code)
-    → to_le_bytes w32 program ++ starts_bytes code.reports ++ starts_bytes code.controls ++ events_bytes code.events ++ instrs_bytes code.instrs ≡ body_bytes version (body_of (Install flow program code))
-code-bytes version flow program code =
+pub code-bytes : (program : ℕ) (code : Code)
+    → to_le_bytes w32 program ++ starts_bytes code.reports ++ starts_bytes code.controls ++ events_bytes code.events ++ instrs_bytes code.instrs ≡ body_bytes One (code_body program code)
+code-bytes program code =
     let front = to_le_bytes w32 program in
     ap (λ xs. front ++ xs ++ starts_bytes code.controls ++ events_bytes code.events ++ instrs_bytes code.instrs) (sym (flat_map-map start_bytes start_part code.reports))
     ∙ ap (λ xs. front ++ flat_map start_bytes (map start_part code.reports) ++ xs ++ events_bytes code.events ++ instrs_bytes code.instrs) (sym (flat_map-map start_bytes start_part code.controls))

@@ -1,7 +1,6 @@
 -- The parts of a code as an Install frame has them, and back.
-use Rattle.std.specs.Prelude.{ℕ, ◌+◌, ◌*◌, ◌==◌, if◌then◌else◌, List, ◌++◌, length}
+use Rattle.std.specs.Prelude.{ℕ, ◌+◌, ◌*◌, ◌==◌, if◌then◌else◌, List, length, map}
 use Rattle.ccp_base.specs.Acknowledgement.{number_of}
-use Rattle.std.specs.Int.{w32, to_le_bytes}
 use Rattle.reg_code.specs.declared.code.Code.{Code}
 use Rattle.reg_code.specs.declared.code.Event.{Event}
 use Rattle.reg_code.specs.declared.code.Implicit.{Implicit}
@@ -15,6 +14,7 @@ use Rattle.std.specs.List.{flat_map}
 use Rattle.reply_frames.specs.declared.outline.Counts.{Counts}
 use Rattle.reply_frames.specs.declared.outline.Register.{Register}
 use Rattle.reply_frames.specs.declared.outline.Instruction.{Instruction}
+use Rattle.reply_frames.specs.Frames.{Body, Install}
 use Rattle.reply_frames.specs.Frames as parts
 use Rattle.reply_frames.specs.FrameBytes.{counts, start_bytes, event_bytes, instruction_bytes}
 
@@ -72,6 +72,11 @@ instruction_part i = record { op = op_number i.op; to = register_part i.to; left
 abbrev pub instr_of : Instruction → Instr
 instr_of i = record { op = op_numbered i.op; to = reg_of i.to; left = reg_of i.left; right = reg_of i.right }
 
+-- what an Install says after its head
+abbrev pub code_body : ℕ → Code → Body
+code_body program code =
+    Install program (map start_part code.reports) (map start_part code.controls) (map event_part code.events) (map instruction_part code.instrs)
+
 -- the counts of the head before a code
 abbrev pub code_counts : Code → Counts
 code_counts code = counts (length code.reports) (length code.controls) (length code.events) (length code.instrs)
@@ -87,10 +92,6 @@ events_bytes events = flat_map (λ event. event_bytes (event_part event)) events
 abbrev pub instrs_bytes : List Instr → List ℕ
 instrs_bytes instrs = flat_map (λ instr. instruction_bytes (instruction_part instr)) instrs
 
--- a program's number and its code, after the head of its Install
-abbrev pub code_bytes : ℕ → Code → List ℕ
-code_bytes program code = to_le_bytes w32 program ++ starts_bytes code.reports ++ starts_bytes code.controls ++ events_bytes code.events ++ instrs_bytes code.instrs
-
--- how many bytes they are
+-- how many bytes a program's number and its code are, after the head of their Install
 abbrev pub code_size : Code → ℕ
 code_size code = 4 + 9 * length code.reports + 9 * length code.controls + 4 * length code.events + 28 * length code.instrs

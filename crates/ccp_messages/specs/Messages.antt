@@ -20,47 +20,51 @@ use Rattle.reply_frames.specs.Frames.{Body}
 use Rattle.reply_frames.specs.Frames as body
 use Rattle.reply_frames.specs.Bodies.{fault_kind_of, report_body, notice_body, ack_body}
 use Rattle.reply_frames.specs.ValueBytes.{AreTargets, IsValue}
-use Rattle.reply_frames.specs.FrameBytes.{kind_of_body, counts_of, spelled, IsNumber}
+use Rattle.reply_frames.specs.FrameBytes.{kind_of_body, counts_of, spelled, IsNumber, IsCount}
 use Rattle.reply_frames.specs.Writing.{WroteFront}
 use Rattle.ccp_messages.specs.declared.message.Message.{Message}
 use Rattle.ccp_messages.specs.declared.message.Message.TheVariants.{Create, Measure, Install, Update, Change, Fault, Refused}
 use Rattle.ccp_messages.specs.declared.message.Message.TheVariants as message
-use Rattle.ccp_messages.specs.CodeParts.{start_part, start_of, event_part, event_of, instruction_part, instr_of}
+use Rattle.ccp_messages.specs.CodeParts.{start_of, event_of, instr_of, code_body}
 
 -- ---- the conditions of the encoder
 
--- a count of acknowledgements that version 1 has room for
+-- a count of acknowledgements that the version has room for; version 2 has for every one
 abbrev pub IsShortCount : Version → ℕ → Type 0
-IsShortCount One n = n < 2 ^ 32
+IsShortCount One n = IsCount One n
 IsShortCount Two n = Unit {0}
 
--- so many fields or reports are few enough for version 1
+-- so many fields or reports are few enough for the version; for version 2 all are that a message holds
 abbrev pub AreFew : Version → ℕ → Type 0
 AreFew One n = n ≤ most_short_fields
 AreFew Two n = Unit {0}
 
-abbrev pub Meets : Version → Message → Type 0
-Meets version (Create flow mss cwnd) = Unit {0}
-Meets version (Measure report) = IsShortCount version report.first × IsShortCount version report.end × AreFew version (length report.fields)
-Meets version (Install flow program code) =
-    (length code.reports ≤ most_fields) × (length code.controls ≤ most_controls) × (length code.events ≤ most_blocks)
-    × (length code.instrs ≤ most_instrs) × AreFew version (length code.reports)
-Meets version (Update flow values) = AreTargets values
-Meets version (Change flow program values) = AreTargets values
-Meets version (Fault notice) = IsShortCount version notice.at
-Meets version (message.Ack flow ack) = Unit {0}
-Meets version (Refused flow reason index) = (1 ≤ reason) × (reason ≤ 9)
+-- its counts of acknowledgements, its fields and its reports are narrow enough for the version
+abbrev pub IsNarrowFor : Version → Message → Type 0
+IsNarrowFor version (Create flow mss cwnd) = Unit {0}
+IsNarrowFor version (Measure report) = IsShortCount version report.first × IsShortCount version report.end × AreFew version (length report.fields)
+IsNarrowFor version (Install flow program code) = AreFew version (length code.reports)
+IsNarrowFor version (Update flow values) = Unit {0}
+IsNarrowFor version (Change flow program values) = Unit {0}
+IsNarrowFor version (Fault notice) = IsShortCount version notice.at
+IsNarrowFor version (message.Ack flow ack) = Unit {0}
+IsNarrowFor version (Refused flow reason index) = Unit {0}
 
 -- its counts of acknowledgements are below 2^32, and it has at most 32 fields or reports
 abbrev pub IsNarrow : Message → Type 0
-IsNarrow (Create flow mss cwnd) = Unit {0}
-IsNarrow (Measure report) = IsShortCount One report.first × IsShortCount One report.end × AreFew One (length report.fields)
-IsNarrow (Install flow program code) = AreFew One (length code.reports)
-IsNarrow (Update flow values) = Unit {0}
-IsNarrow (Change flow program values) = Unit {0}
-IsNarrow (Fault notice) = IsShortCount One notice.at
-IsNarrow (message.Ack flow ack) = Unit {0}
-IsNarrow (Refused flow reason index) = Unit {0}
+IsNarrow message = IsNarrowFor One message
+
+abbrev pub Meets : Version → Message → Type 0
+Meets version (Create flow mss cwnd) = Unit {0}
+Meets version (Measure report) = IsNarrowFor version (Measure report)
+Meets version (Install flow program code) =
+    (length code.reports ≤ most_fields) × (length code.controls ≤ most_controls) × (length code.events ≤ most_blocks)
+    × (length code.instrs ≤ most_instrs) × IsNarrowFor version (Install flow program code)
+Meets version (Update flow values) = AreTargets values
+Meets version (Change flow program values) = AreTargets values
+Meets version (Fault notice) = IsNarrowFor version (Fault notice)
+Meets version (message.Ack flow ack) = Unit {0}
+Meets version (Refused flow reason index) = (1 ≤ reason) × (reason ≤ 9)
 
 -- ---- the frame of a message
 
@@ -78,8 +82,7 @@ flow_of (Refused flow reason index) = flow
 abbrev pub body_of : Message → Body
 body_of (Create flow mss cwnd) = body.Create cwnd mss
 body_of (Measure report) = report_body report
-body_of (Install flow program code) =
-    body.Install program (map start_part code.reports) (map start_part code.controls) (map event_part code.events) (map instruction_part code.instrs)
+body_of (Install flow program code) = code_body program code
 body_of (Update flow values) = body.Update values
 body_of (Change flow program values) = body.Change program values
 body_of (Fault notice) = notice_body notice

@@ -5,7 +5,8 @@ ghost use Rattle.reply_frames.specs.Frames.{frame_at};
 ghost use Rattle.reply_frames.specs.Decoding.{needed_of};
 ghost use Rattle.reply_frames.specs.Whole.{IsCut, IsBadIn};
 ghost use Rattle.ccp_messages.specs.declared.message.Message.{Message};
-ghost use Rattle.ccp_messages.specs.Decoding.{Begins, Answers, found_from, fault_of, decoded_of, IsAnswer, IsBad, BeginsInstall};
+ghost use Rattle.ccp_messages.specs.Decoding.{Begins, Answers, found_from, fault_of};
+ghost use Rattle.ccp_messages.specs.Decoding.{decoded_of, IsAnswer, IsBad, BeginsInstall};
 
 use crate::fault::{DecodeFault, Halt};
 use crate::message::Message;

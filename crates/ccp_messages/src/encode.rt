@@ -4,7 +4,8 @@ ghost use Rattle.reply_frames.specs.FrameBytes.{outline_of, body_bytes};
 ghost use Rattle.reply_frames.specs.Writing.{Wrote};
 ghost use Rattle.ccp_messages.specs.CodeParts.{code_counts};
 ghost use Rattle.ccp_messages.specs.Laws.{HasOneFrame};
-ghost use Rattle.ccp_messages.specs.Messages.{Meets, flow_of, body_of, size_in, frame_bytes, WroteFrame, IsFrameOf, IsTypedBody, IsTyped};
+ghost use Rattle.ccp_messages.specs.Messages.{Meets, flow_of, body_of, size_in, frame_bytes};
+ghost use Rattle.ccp_messages.specs.Messages.{WroteFrame, IsFrameOf, IsTypedBody, IsTyped};
 
 use crate::encode_body::{
     put_ack, put_change, put_create, put_fault, put_measure, put_refused, put_values,

@@ -9,7 +9,8 @@ ghost use Rattle.reply_frames.specs.ValueBytes.{values_bytes};
 ghost use Rattle.reply_frames.specs.FrameBytes.{count_width, body_bytes};
 ghost use Rattle.reply_frames.specs.Writing.{Wrote};
 ghost use Rattle.ccp_messages.specs.declared.message.Message.TheVariants as message;
-ghost use Rattle.ccp_messages.specs.Messages.{IsShortCount, body_of, AreTypedPairs, IsTypedReport, IsTypedNotice, IsTypedAck};
+ghost use Rattle.ccp_messages.specs.Messages.{IsShortCount, body_of, AreTypedPairs};
+ghost use Rattle.ccp_messages.specs.Messages.{IsTypedReport, IsTypedNotice, IsTypedAck};
 
 use crate::writing::{put_count, put_numbers, put8, put16, put32, put64};
 use ccp_base::{Ack, Fields, Notice, PRIMITIVES, Report, bool_number, primitives};

@@ -1,11 +1,13 @@
 //! The parts of a code, put at a place of bytes. Each call gives the place after what it put.
 
-ghost use Rattle.std.specs.Prelude.{◌≡◌, ◌+◌, ◌*◌, ◌^◌, ◌<◌, ◌≤◌, ◌++◌, length};
+ghost use Rattle.std.specs.Prelude.{◌≡◌, ◌+◌, ◌*◌, ◌^◌, ◌<◌, ◌≤◌, length};
 ghost use Rattle.std.specs.List.{AllByRecursion};
-ghost use Rattle.std.specs.Int.{w32, to_le_bytes};
-ghost use Rattle.reply_frames.specs.FrameBytes.{start_bytes, event_bytes, register_bytes, instruction_bytes};
+ghost use Rattle.reply_frames.specs.declared.outline.Version.TheVariants.{One};
+ghost use Rattle.reply_frames.specs.FrameBytes.{start_bytes, event_bytes, register_bytes};
+ghost use Rattle.reply_frames.specs.FrameBytes.{instruction_bytes, body_bytes};
 ghost use Rattle.reply_frames.specs.Writing.{Wrote};
-ghost use Rattle.ccp_messages.specs.CodeParts.{start_part, event_part, register_part, instruction_part, starts_bytes, events_bytes, instrs_bytes, code_bytes, code_size};
+ghost use Rattle.ccp_messages.specs.CodeParts.{start_part, event_part, register_part, instruction_part};
+ghost use Rattle.ccp_messages.specs.CodeParts.{starts_bytes, events_bytes, instrs_bytes, code_body, code_size};
 ghost use Rattle.ccp_messages.specs.Messages.{IsTypedStart, IsTypedEvent, IsTypedReg, IsTypedInstr, IsTypedCode};
 
 use crate::code_parts::register_numbers;
@@ -101,7 +103,7 @@ fn put_instrs(out: &mut [u8], at: usize, instrs: &[Packed]) -> usize
 pub fn put_code(out: &mut [u8], at: usize, program: u32, code: &Code) -> usize
     requires { at + code_size code.now ≤ length out.old }
     ensures typed { (program < 2 ^ 32) × IsTypedCode code.now }
-    ensures wrote { Wrote at (code_bytes program code.now) out.old out.new result }
+    ensures wrote { Wrote at (body_bytes One (code_body program code.now)) out.old out.new result }
 {
     let end = put32(out, at, program);
     let end = put_starts(out, end, code.reports.as_slice());

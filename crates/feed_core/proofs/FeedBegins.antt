@@ -15,7 +15,7 @@ with-none f = refl
 
 -- where a feed begins
 pub feeding-first : (source sink : Known) (state : FeedState) (rest : List ℕ) → state ≡ no_flows → IsFeed state → rest ≡ [] → IsFeeding source source sink sink state 0 rest
-feeding-first source sink state rest first held none = record {
+feeding-first source sink state rest first is_feed none = record {
   front = [];
   answers = [];
   taken = subst (Takes source source) (sym none) (takes-nothing source);
@@ -26,7 +26,7 @@ feeding-first source sink state rest first held none = record {
       with-none (fed most_input_bytes 0 no_flows more)
       ∙ ap (λ n. with_answers [] (fed n 0 no_flows more)) all
       ∙ ap (λ (s : FeedState). with_answers [] (fed (most_input_bytes - s.messages) 0 s more)) (sym first);
-  held = held;
+  is_feed = is_feed;
   few = omega (arith, ap (λ (s : FeedState). s.messages) first);
   within = omega (arith, ap length none);
 }

@@ -35,7 +35,7 @@ module _ (source source' sink sink' after : Known) (state : FeedState) (eaten : 
   pub eats : (next : FeedState) → (answered state message version).1 ≡ next → IsFeed next → next.messages ≡ state.messages + 1
       → Appends sink' after (answer_bytes (answered state message version).0)
       → IsFeeding source source' sink after next (eaten + used) (drop used rest)
-  eats next is held one appended =
+  eats next is is_feed one appended =
       let frame = frame_bytes version message in
       let drops : drop used rest ≡ begins.rest = ap (λ n. drop n rest) begins.used_is ∙ ap (drop (length frame)) begins.parts ∙ drop-append_seam frame begins.rest in
       let whole : feeding.front ++ rest ≡ (feeding.front ++ frame) ++ drop used rest =
@@ -60,7 +60,7 @@ module _ (source source' sink sink' after : Known) (state : FeedState) (eaten : 
             ∙ ap (λ n. with_answers (answer_bytes (answered state message version).0) (fed (most_input_bytes - next.messages) (eaten + n) (answered state message version).1 more)) (sym begins.used_is)
             ∙ ap (λ s. with_answers (answer_bytes (answered state message version).0) (fed (most_input_bytes - next.messages) (eaten + used) s more)) is)
             ∙ with-with feeding.answers (answer_bytes (answered state message version).0) (fed (most_input_bytes - next.messages) (eaten + used) next more);
-        held = held;
+        is_feed = is_feed;
         few = omega (arith, one, feeding.few, some);
         within = omega (arith, room, feeding.within);
       }
@@ -75,7 +75,7 @@ takes-more source source' source'' sink sink' state eaten rest piece feeding tak
   eaten_is = feeding.eaten_is;
   written = feeding.written;
   goes = feeding.goes;
-  held = feeding.held;
+  is_feed = feeding.is_feed;
   few = feeding.few;
   within = omega (arith, fits, length-append rest piece);
 }

@@ -27,8 +27,8 @@ use Rattle.fold_machine.specs.MachineState.{MachineState, Fits}
 use Rattle.fold_machine.specs.Heard.{heard, heard_where, after_made, started_by, updated_by}
 use Rattle.feed_core.specs.declared.flow.Epoch.{Epoch}
 use Rattle.feed_core.specs.declared.flow.Flow.{Flow}
-use Rattle.feed_core.specs.Feed.{FeedState, there, Answer, Answered, refused, with_flow, fresh_flow, created_at, installed_as, installed_at, next_epoch, changed_flow, is_too_wide, changed_with, changed_to, changed_at, code_of, updated_flow, updated_with, updated_on, updated_at, counted_flow, first_after, flow_after, told_of, in_version, acked_on, acked_at, told}
-use Rattle.feed_core.specs.FeedHolds.{RunsOn, IsFlow, IsFlowThere, IsAcceptedThere, AreHeld, IsFeed, HasFrame}
+use Rattle.feed_core.specs.Feed.{FeedState, there, Answer, Answered, refused, with_flow, fresh_flow, created_at, installed_as, installed_at, next_epoch, changed_flow, is_too_wide, changed_with, changed_to, changed_at, code_of, updated_flow, updated_with, updated_on, updated_at, counted_flow, first_after, flow_after, told_of, in_version, acked_on, acked_at, handled}
+use Rattle.feed_core.specs.FeedHolds.{RunsOn, IsFlow, IsFlowThere, IsAcceptedThere, AreFeedParts, IsFeed, HasFrame}
 
 -- ---- lists of places
 
@@ -123,7 +123,7 @@ module _ (code : Code) (ack : Ack) (n : ℕ) (epoch : Epoch) (flow : Flow) (firs
 
 -- what holds after a message: of the fields, and of the answer
 abbrev pub IsKept : ℕ → Answered → Type 0
-IsKept messages (answer, state) = AreHeld state.flows state.programs messages × HasFrame answer
+IsKept messages (answer, state) = AreFeedParts state.flows state.programs messages × HasFrame answer
 
 kept-if : (messages : ℕ) (b : Bool) (x y : Answered) → IsKept messages x → IsKept messages y → IsKept messages (cond b x y)
 kept-if messages true x y p q = p
@@ -134,14 +134,14 @@ later : (programs : List (Option Code)) (messages : ℕ) (flow : Option Flow) �
 later programs messages None is = tt
 later programs messages (Some flow) is = record { counted = omega (arith, is.counted); spanned = is.spanned; changed = omega (arith, is.changed); runs = is.runs }
 
-module _ (state : FeedState) (held : IsFeed state) where
+module _ (state : FeedState) (is_feed : IsFeed state) where
   kept-same : (answer : Answer) → HasFrame answer → IsKept (state.messages + 1) (answer, state)
   kept-same answer framed = (
     record {
-      flows_full = held.flows_full;
-      programs_full = held.programs_full;
-      accepted = held.accepted;
-      each = each-too (IsFlowThere state.programs state.messages) (IsFlowThere state.programs (state.messages + 1)) (later state.programs state.messages) state.flows held.each;
+      flows_full = is_feed.flows_full;
+      programs_full = is_feed.programs_full;
+      accepted = is_feed.accepted;
+      each = each-too (IsFlowThere state.programs state.messages) (IsFlowThere state.programs (state.messages + 1)) (later state.programs state.messages) state.flows is_feed.each;
     },
     framed,
   )
@@ -152,20 +152,20 @@ module _ (state : FeedState) (held : IsFeed state) where
   kept-flow : (n : ℕ) (flow : Flow) (answer : Answer) → IsFlow state.programs (state.messages + 1) flow → HasFrame answer → IsKept (state.messages + 1) (answer, with_flow state n flow)
   kept-flow n flow answer is framed = (
     record {
-      flows_full = length-set state.flows n (Some flow) ∙ held.flows_full;
-      programs_full = held.programs_full;
-      accepted = held.accepted;
+      flows_full = length-set state.flows n (Some flow) ∙ is_feed.flows_full;
+      programs_full = is_feed.programs_full;
+      accepted = is_feed.accepted;
       each = each-set (IsFlowThere state.programs (state.messages + 1)) state.flows n (Some flow) is
-          (each-too (IsFlowThere state.programs state.messages) (IsFlowThere state.programs (state.messages + 1)) (later state.programs state.messages) state.flows held.each);
+          (each-too (IsFlowThere state.programs state.messages) (IsFlowThere state.programs (state.messages + 1)) (later state.programs state.messages) state.flows is_feed.each);
     },
     framed,
   )
 
   flow-there : (n : ℕ) → IsFlowThere state.programs state.messages (there state.flows n)
-  flow-there n = each-there (IsFlowThere state.programs state.messages) tt state.flows n held.each
+  flow-there n = each-there (IsFlowThere state.programs state.messages) tt state.flows n is_feed.each
 
   accepted-there : (p : ℕ) (code : Code) → there state.programs p ≡ Some code → IsAccepted code
-  accepted-there p code is = subst IsAcceptedThere is (each-there IsAcceptedThere tt state.programs p held.accepted)
+  accepted-there p code is = subst IsAcceptedThere is (each-there IsAcceptedThere tt state.programs p is_feed.accepted)
 
   -- ---- Create
 
@@ -202,10 +202,10 @@ module _ (state : FeedState) (held : IsFeed state) where
   kept-as version n program code free (Some refusal) is = kept-refused version n 7 refusal.1 (omega arith) (omega arith)
   kept-as version n program code free None is = (
     record {
-      flows_full = held.flows_full;
-      programs_full = length-set state.programs program (Some code) ∙ held.programs_full;
-      accepted = each-set IsAcceptedThere state.programs program (Some code) is held.accepted;
-      each = each-too (IsFlowThere state.programs state.messages) (IsFlowThere (slice_set state.programs program (Some code)) (state.messages + 1)) (flow-stays program code free) state.flows held.each;
+      flows_full = is_feed.flows_full;
+      programs_full = length-set state.programs program (Some code) ∙ is_feed.programs_full;
+      accepted = each-set IsAcceptedThere state.programs program (Some code) is is_feed.accepted;
+      each = each-too (IsFlowThere state.programs state.messages) (IsFlowThere (slice_set state.programs program (Some code)) (state.messages + 1)) (flow-stays program code free) state.flows is_feed.each;
     },
     tt,
   )
@@ -318,16 +318,16 @@ module _ (state : FeedState) (held : IsFeed state) where
   kept-acked version n ack small None is = kept-refused version n 3 0 (omega arith) (omega arith)
   kept-acked version n ack small (Some flow) is = kept-acked-on n flow is small ack flow.epoch refl
 
-  pub told-kept : (message : Message) (version : Version) → state.messages < most_messages → IsKept (state.messages + 1) (told state message version)
-  told-kept (Create n mss cwnd) version small =
+  pub handled-kept : (message : Message) (version : Version) → state.messages < most_messages → IsKept (state.messages + 1) (handled state message version)
+  handled-kept (Create n mss cwnd) version small =
       kept-if (state.messages + 1) (nat_lt n most_flows) (created_at (there state.flows n) state version n cwnd) (refused state version n 1 0)
       (kept-created (there state.flows n) version n cwnd) (kept-refused version n 1 0 (omega arith) (omega arith))
-  told-kept (Install n program code) version small =
+  handled-kept (Install n program code) version small =
       kept-if (state.messages + 1) (nat_lt program most_kept_programs) (installed_at (there state.programs program) state version n program code) (refused state version n 4 program)
       (kept-installed version n program code (there state.programs program) refl) (kept-refused version n 4 program (omega arith) (omega arith))
-  told-kept (Change n program values) version small = kept-changed version n program values (there state.flows n) (flow-there n)
-  told-kept (Update n values) version small = kept-updated version n values (there state.flows n) (flow-there n)
-  told-kept (message.Ack n ack) version small = kept-acked version n ack small (there state.flows n) (flow-there n)
-  told-kept (Measure report) version small = kept-same None tt
-  told-kept (Fault notice) version small = kept-same None tt
-  told-kept (Refused n reason index) version small = kept-same None tt
+  handled-kept (Change n program values) version small = kept-changed version n program values (there state.flows n) (flow-there n)
+  handled-kept (Update n values) version small = kept-updated version n values (there state.flows n) (flow-there n)
+  handled-kept (message.Ack n ack) version small = kept-acked version n ack small (there state.flows n) (flow-there n)
+  handled-kept (Measure report) version small = kept-same None tt
+  handled-kept (Fault notice) version small = kept-same None tt
+  handled-kept (Refused n reason index) version small = kept-same None tt

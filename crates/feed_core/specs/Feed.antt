@@ -193,19 +193,19 @@ acked_by state version n ack = acked_at (there state.flows n) state version n ac
 
 -- ---- a message of any kind
 
-abbrev pub told : FeedState → Message → Version → Answered
-told state (Create n mss cwnd) version = created state version n cwnd
-told state (Install n program code) version = installed state version n program code
-told state (Change n program values) version = changed state version n program values
-told state (Update n values) version = updated state version n values
-told state (message.Ack n ack) version = acked_by state version n ack
-told state (Measure report) version = (None, state)
-told state (Fault notice) version = (None, state)
-told state (Refused n reason index) version = (None, state)
+abbrev pub handled : FeedState → Message → Version → Answered
+handled state (Create n mss cwnd) version = created state version n cwnd
+handled state (Install n program code) version = installed state version n program code
+handled state (Change n program values) version = changed state version n program values
+handled state (Update n values) version = updated state version n values
+handled state (message.Ack n ack) version = acked_by state version n ack
+handled state (Measure report) version = (None, state)
+handled state (Fault notice) version = (None, state)
+handled state (Refused n reason index) version = (None, state)
 
 abbrev pub counted : Answered → Answered
 counted (answer, state) = (answer, record state { messages = state.messages + 1 })
 
 -- the answer to a message, and the state after it; every message counts
 abbrev pub answered : FeedState → Message → Version → Answered
-answered state message version = counted (told state message version)
+answered state message version = counted (handled state message version)

@@ -61,6 +61,6 @@ pub record IsFeeding (source source' sink sink' : Known) (state : FeedState) (ea
   pub eaten_is : length front ≡ eaten
   pub written : Appends sink sink' answers
   pub goes : (more : List ℕ) → fed most_input_bytes 0 no_flows (front ++ more) ≡ with_answers answers (fed (most_input_bytes - state.messages) eaten state more)
-  pub held : IsFeed state
+  pub is_feed : IsFeed state
   pub few : state.messages ≤ eaten
   pub within : eaten + length rest ≤ most_input_bytes

@@ -45,14 +45,14 @@ abbrev pub IsAcceptedThere : Option Code → Type 0
 IsAcceptedThere None = Unit {0}
 IsAcceptedThere (Some code) = IsAccepted code
 
-pub record AreHeld (flows : List (Option Flow)) (programs : List (Option Code)) (messages : ℕ) : Type 0 where
+pub record AreFeedParts (flows : List (Option Flow)) (programs : List (Option Code)) (messages : ℕ) : Type 0 where
   pub flows_full : length flows ≡ most_flows
   pub programs_full : length programs ≡ most_kept_programs
   pub accepted : AllByRecursion IsAcceptedThere programs
   pub each : AllByRecursion (IsFlowThere programs messages) flows
 
 abbrev pub IsFeed : FeedState → Type 0
-IsFeed state = AreHeld state.flows state.programs state.messages
+IsFeed state = AreFeedParts state.flows state.programs state.messages
 
 -- the answer has a frame
 abbrev pub HasFrame : Answer → Type 0

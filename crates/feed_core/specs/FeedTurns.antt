@@ -23,7 +23,7 @@ pub record AnswersOne (old new : Known) (state state' : FeedState) (bytes : List
   pub next : (answered state message version).1 ≡ state'
   pub counted : state'.messages ≡ state.messages + 1
   pub written : Appends old new (answer_bytes (answered state message version).0)
-  pub held : IsFeed state'
+  pub is_feed : IsFeed state'
 
 -- a frame begins the bytes, and a write of its answer failed
 pub record FailsOne (before now : ℕ) (old new : Known) (state : FeedState) (bytes : List ℕ) : Type 0 where

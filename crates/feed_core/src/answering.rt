@@ -46,12 +46,12 @@ pub fn answer<K: Sink>(
     sink: &mut K,
 ) -> Result<(), Unanswered>
     requires few { feed.old.messages < most_messages }
-    requires held { IsFeed (state_of feed.old) }
+    requires is_feed { IsFeed (state_of feed.old) }
     ensures state { OnOk result (state_of feed.new ≡ (answered (state_of feed.old) message version).1) }
     ensures one { OnOk result (feed.new.messages ≡ feed.old.messages + 1) }
     ensures written { OnOk result
         (Appends (K.written sink.old) (K.written sink.new) (answer_to (state_of feed.old) message version)) }
-    ensures held { IsFeed (state_of feed.new) }
+    ensures is_feed { IsFeed (state_of feed.new) }
     ensures counted { K.faults sink.old ≤ K.faults sink.new }
     ensures err { IfErr result (StopsAnswer (K.faults sink.old) (K.faults sink.new)
         (K.written sink.old) (K.written sink.new) (answer_to (state_of feed.old) message version)) }

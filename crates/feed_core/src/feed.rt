@@ -1,10 +1,12 @@
 //! A datapath over a stream of frames: flows and programs by number, and the answer to each message.
 
-ghost use Rattle.std.specs.Prelude.{◌≡◌, ℕ, ◌+◌, ◌<◌, ◌≤◌, None, Some, IfOk, OnOk, OnErr, IsTrue, ◌↔◌, true, option_map, map, replicate, length, List};
+ghost use Rattle.std.specs.Prelude.{◌≡◌, ℕ, ◌+◌, ◌<◌, ◌≤◌, None, Some, IfOk, OnOk};
+ghost use Rattle.std.specs.Prelude.{OnErr, IsTrue, ◌↔◌, true, option_map, map, replicate, length, List};
 ghost use Rattle.ccp_base.specs.Limits.{most_messages};
 ghost use Rattle.reg_code.specs.declared.checked.Checked.{Checked};
-ghost use Rattle.feed_core.specs.Feed.{no_flows, there, refused, created, installed, is_too_wide, changed, code_of, updated, in_version, acked_by, told, answered};
-ghost use Rattle.feed_core.specs.FeedHolds.{state_of, codes_in, AreHeld, IsFeed, HasFrame};
+ghost use Rattle.feed_core.specs.Feed.{no_flows, there, refused, created, installed, is_too_wide, changed};
+ghost use Rattle.feed_core.specs.Feed.{code_of, updated, in_version, acked_by, handled, answered};
+ghost use Rattle.feed_core.specs.FeedHolds.{state_of, codes_in, AreFeedParts, IsFeed, HasFrame};
 
 use crate::flow::{Epoch, Flow};
 use ccp_base::{Ack, Fields, NoMemory};
@@ -100,7 +102,7 @@ impl Feed {
     /// No flows and no programs.
     pub fn new(alloc: Global) -> Result<Feed, NoMemory>
         ensures state { IfOk result (λ feed. state_of feed ≡ no_flows) }
-        ensures held { IfOk result (λ feed. IsFeed (state_of feed)) }
+        ensures is_feed { IfOk result (λ feed. IsFeed (state_of feed)) }
     {
         Ok(Feed {
             flows: places(alloc, FLOWS)?,
@@ -124,29 +126,30 @@ impl Feed {
         version: Version,
     ) -> Result<Option<(Message, Version)>, NoMemory>
         requires few { self.old.messages < most_messages }
-        requires held { IsFeed (state_of self.old) }
+        requires is_feed { IsFeed (state_of self.old) }
         ensures answered { IfOk result (λ answer.
             (answer, state_of self.new) ≡ answered (state_of self.old) message version) }
         ensures unchanged { OnErr result (state_of self.new ≡ state_of self.old) }
         ensures counted { OnOk result (self.new.messages ≡ self.old.messages + 1) }
-        ensures held { IsFeed (state_of self.new) }
+        ensures is_feed { IsFeed (state_of self.new) }
         ensures frame { IfOk result HasFrame }
     {
-        let answer = self.told(alloc, message, version)?;
+        let answer = self.handle(alloc, message, version)?;
         self.messages += 1;
         Ok(answer)
     }
 
     /// The answer to a message that isn't counted yet.
-    fn told(
+    fn handle(
         &mut self,
         alloc: Global,
         message: Message,
         version: Version,
     ) -> Result<Option<(Message, Version)>, NoMemory>
         requires few { self.old.messages < most_messages }
-        requires held { IsFeed (state_of self.old) }
-        ensures told { IfOk result (λ answer. (answer, state_of self.new) ≡ told (state_of self.old) message version) }
+        requires is_feed { IsFeed (state_of self.old) }
+        ensures handled { IfOk result (λ answer.
+            (answer, state_of self.new) ≡ handled (state_of self.old) message version) }
         ensures messages { self.new.messages ≡ self.old.messages }
         ensures unchanged { OnErr result (state_of self.new ≡ state_of self.old) }
     {
@@ -176,8 +179,8 @@ impl Feed {
         n: u32,
         cwnd: u64,
     ) -> Result<Option<(Message, Version)>, NoMemory>
-        requires held { IsFeed (state_of self.old) }
-        ensures told { IfOk result (λ answer.
+        requires is_feed { IsFeed (state_of self.old) }
+        ensures handled { IfOk result (λ answer.
             (answer, state_of self.new) ≡ created (state_of self.old) version n cwnd) }
         ensures messages { self.new.messages ≡ self.old.messages }
         ensures unchanged { OnErr result (state_of self.new ≡ state_of self.old) }
@@ -201,8 +204,8 @@ impl Feed {
         program: u32,
         code: Code,
     ) -> Option<(Message, Version)>
-        requires held { IsFeed (state_of self.old) }
-        ensures told { (result, state_of self.new) ≡ installed (state_of self.old) version n program code }
+        requires is_feed { IsFeed (state_of self.old) }
+        ensures handled { (result, state_of self.new) ≡ installed (state_of self.old) version n program code }
         ensures messages { self.new.messages ≡ self.old.messages }
     {
         let at = program as usize;
@@ -230,8 +233,8 @@ impl Feed {
         values: &Fields,
     ) -> Option<(Message, Version)>
         requires few { self.old.messages < most_messages }
-        requires held { IsFeed (state_of self.old) }
-        ensures told { (result, state_of self.new) ≡ changed (state_of self.old) version n program values.now }
+        requires is_feed { IsFeed (state_of self.old) }
+        ensures handled { (result, state_of self.new) ≡ changed (state_of self.old) version n program values.now }
         ensures messages { self.new.messages ≡ self.old.messages }
     {
         let at = n as usize;
@@ -258,8 +261,8 @@ impl Feed {
 
     /// Writes values of the program that was started on a flow.
     fn update(&mut self, version: Version, n: u32, values: &Fields) -> Option<(Message, Version)>
-        requires held { IsFeed (state_of self.old) }
-        ensures told { (result, state_of self.new) ≡ updated (state_of self.old) version n values.now }
+        requires is_feed { IsFeed (state_of self.old) }
+        ensures handled { (result, state_of self.new) ≡ updated (state_of self.old) version n values.now }
         ensures messages { self.new.messages ≡ self.old.messages }
     {
         let at = n as usize;
@@ -281,8 +284,8 @@ impl Feed {
     /// Runs an acknowledgement of a flow.
     fn ack(&mut self, version: Version, n: u32, ack: &Ack) -> Option<(Message, Version)>
         requires few { self.old.messages < most_messages }
-        requires held { IsFeed (state_of self.old) }
-        ensures told { (result, state_of self.new) ≡ acked_by (state_of self.old) version n ack.entry.now }
+        requires is_feed { IsFeed (state_of self.old) }
+        ensures handled { (result, state_of self.new) ≡ acked_by (state_of self.old) version n ack.entry.now }
         ensures messages { self.new.messages ≡ self.old.messages }
     {
         let at = n as usize;

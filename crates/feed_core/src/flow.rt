@@ -4,7 +4,8 @@ ghost use Rattle.std.specs.Prelude.{◌≡◌, ◌+◌, ◌<◌, ◌^◌, true, 
 ghost use Rattle.fold_machine.specs.MachineState.{Fits};
 ghost use Rattle.fold_machine.specs.Heard.{heard};
 ghost use Rattle.ccp_base.specs.FieldReg.{first_bad};
-ghost use Rattle.feed_core.specs.Feed.{fresh_flow, next_epoch, changed_flow, updated_flow, counted_flow, flow_after, told_of};
+ghost use Rattle.feed_core.specs.Feed.{fresh_flow, next_epoch, changed_flow, updated_flow};
+ghost use Rattle.feed_core.specs.Feed.{counted_flow, flow_after, told_of};
 
 use ccp_base::{Ack, Fields, NoMemory, Notice, Report};
 use ccp_messages::Message;

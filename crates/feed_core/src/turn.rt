@@ -39,7 +39,7 @@ fn without_frame(fault: DecodeFault) -> Turn
 /// Answers the frame that the bytes begin with.
 pub fn next_frame<K: Sink>(alloc: Global, feed: &mut Feed, bytes: &[u8], sink: &mut K) -> Turn
     requires few { feed.old.messages + length bytes.now ≤ most_messages }
-    requires held { IsFeed (state_of feed.old) }
+    requires is_feed { IsFeed (state_of feed.old) }
     ensures counted { K.faults sink.old ≤ K.faults sink.new }
     ensures turn { IsTurn (K.faults sink.old) (K.faults sink.new) (K.written sink.old) (K.written sink.new)
         (state_of feed.old) (state_of feed.new) bytes.now result }

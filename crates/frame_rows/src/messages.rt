@@ -4,6 +4,7 @@ ghost use Rattle.std.specs.Prelude.{◌≡◌, []};
 ghost use Rattle.ccp_messages.specs.Messages.{Meets};
 ghost use Rattle.ccp_messages.specs.declared.message.Message.TheVariants.{Install, Fault};
 ghost use Rattle.ccp_base.specs.declared.arithmetic.FaultKind.TheVariants.{Overflow};
+ghost use Rattle.reply_frames.specs.declared.outline.Version.TheVariants.{One};
 
 use crate::frames::{
     ACK_BYTES, ACK_OF_TIMEOUT, CHANGE_8, CREATE, FAULT, FAULT_1, INSTALL, INSTALL_5, MEASURE,
@@ -77,27 +78,43 @@ fn empty_install(alloc: Global) -> Message
     }
 }
 
-/// What is short gets nothing.
-#[test]
-fn short_slices_are_left(rt: HostRuntime) {
+/// The Change of flow 0 to program 3 with a window.
+fn change() -> Message
+    ensures { Meets One result }
+{
     let mut values = Fields::new();
     values.push(FieldReg::Cwnd, 2896);
-    let change = Message::Change {
+    Message::Change {
         flow: 0,
         program: 3,
         values,
-    };
-    let mut out = [9; 46];
-    assert!(rt; encode_into(&overflow(), Version::One, &mut out) == Err(Short(47)));
-    assert!(rt; encode_into(&change, Version::One, &mut out[..29]) == Err(Short(30)));
-    let install = empty_install(rt.alloc());
-    assert!(rt; encode_into(&install, Version::One, &mut out[..19]) == Err(Short(20)));
-    assert!(rt; out.iter().all(|byte| *byte == 9));
-    assert!(rt; encode_into(&install, Version::One, &mut out) == Ok(20));
-    assert!(rt; out.starts_with(INSTALL_5));
+    }
 }
 
-/// How long the message is that begins the bytes, if it comes back from what is written of it in the version it came in.
+/// Whether a message whose frame has this size is short in the bytes, of which none is written.
+fn is_short(message: &Message, out: &mut [u8], size: usize) -> bool
+    requires { Meets One message.now }
+{
+    encode_into(message, Version::One, out) == Err(Short(size)) && out.iter().all(|byte| *byte == 9)
+}
+
+/// What is short gets nothing.
+#[test]
+fn short_slices_are_left(rt: HostRuntime) {
+    let mut out = [9; 46];
+    assert!(rt; is_short(&overflow(), &mut out, 47));
+    assert!(rt; is_short(&change(), &mut out[..29], 30));
+    assert!(rt; is_short(&empty_install(rt.alloc()), &mut out[..19], 20));
+}
+
+#[test]
+fn an_install_of_nothing_is_written(rt: HostRuntime) {
+    let mut out = [9; 46];
+    assert!(rt; is_written(&empty_install(rt.alloc()), Version::One, &mut out, INSTALL_5));
+}
+
+/// How long the message is that begins the bytes, if it comes back from what is written of it in the version it came
+/// in.
 fn back_in(alloc: Global, bytes: &[u8], out: &mut [u8]) -> Option<usize> {
     let (message, version, used) = decode(alloc, bytes).ok()?;
     let is_back = encode_into(&message, version, out) == Ok(used)

@@ -19,7 +19,8 @@ pub enum Rule {
     Counts,
     /// Each condition has an instruction, and the events have all the instructions that there are.
     Events,
-    /// Each number of a register is one of those that the code, or every code, has.
+    /// Each register is there: the number of a report or of a control is below how many the code has, that of a
+    /// primitive below how many there are, that of a local or of a temporary below 8.
     Range,
     /// `Flag`, `Fall` and `Send` aren't read.
     Readable,

@@ -10,7 +10,7 @@ use Rattle.reply_frames.specs.declared.fault.FrameFault.TheVariants.{More, Bad, 
 use Rattle.reply_frames.specs.declared.outline.FrameKind.{FrameKind}
 use Rattle.reply_frames.specs.declared.outline.FrameKind.TheVariants as kinds
 use Rattle.reply_frames.specs.declared.outline.Outline.{Outline}
-use Rattle.reply_frames.specs.declared.decode.Head.{Head}
+use Rattle.reply_frames.specs.declared.decode.ReplyHead.{ReplyHead}
 use Rattle.reply_frames.specs.Parts.{Read}
 use Rattle.reply_frames.specs.Kinds.{number_of}
 use Rattle.reply_frames.specs.Frames.{Frame, frame_at, Body, Update, Change}
@@ -132,36 +132,36 @@ refused-read bytes (Err (stops.Bad field left)) e none whole = (field, left, e)
 
 -- ---- the same of what a call answers
 
-pub told_more : (bytes : List ℕ) (result : Result Head FrameFault) → IfErr result (λ fault. decoded_of bytes ≡ Err fault) → (n : ℕ) → result ≡ Err (More n) → IsCut bytes × (n ≡ needed_of bytes)
+pub told_more : (bytes : List ℕ) (result : Result ReplyHead FrameFault) → IfErr result (λ fault. decoded_of bytes ≡ Err fault) → (n : ℕ) → result ≡ Err (More n) → IsCut bytes × (n ≡ needed_of bytes)
 told_more bytes (Ok head) told n e = absurd cc
 told_more bytes (Err fault) told n e =
     let same : fault ≡ More n = cc in
     let cut : IsCut bytes = more_is bytes n (told ∙ ap Err same) in
-    let both : ◌≡◌ {A = Result (Head × List Pair) FrameFault} (Err (More n)) (Err (More (needed_of bytes))) = sym (told ∙ ap Err same) ∙ is_more bytes cut in
+    let both : ◌≡◌ {A = Result (ReplyHead × List Pair) FrameFault} (Err (More n)) (Err (More (needed_of bytes))) = sym (told ∙ ap Err same) ∙ is_more bytes cut in
     let is : n ≡ needed_of bytes = cc in
     (cut, is)
 
-pub told_bad : (bytes : List ℕ) (result : Result Head FrameFault) → IfErr result (λ fault. decoded_of bytes ≡ Err fault) → (field : BadKind) (place : ℕ) → result ≡ Err (Bad field place) → IsBadIn bytes field place
+pub told_bad : (bytes : List ℕ) (result : Result ReplyHead FrameFault) → IfErr result (λ fault. decoded_of bytes ≡ Err fault) → (field : BadKind) (place : ℕ) → result ≡ Err (Bad field place) → IsBadIn bytes field place
 told_bad bytes (Ok head) told field place e = absurd cc
 told_bad bytes (Err fault) told field place e = let same : fault ≡ Bad field place = cc in bad_in_is bytes field place (told ∙ ap Err same)
 
-pub told_refused : (bytes : List ℕ) (result : Result Head FrameFault) (values : List Pair) → IfOk result (λ head. decoded_of bytes ≡ Ok (head, values)) → IfErr result (λ fault. decoded_of bytes ≡ Err fault)
+pub told_refused : (bytes : List ℕ) (result : Result ReplyHead FrameFault) (values : List Pair) → IfOk result (λ head. decoded_of bytes ≡ Ok (head, values)) → IfErr result (λ fault. decoded_of bytes ≡ Err fault)
     → ((frame : Frame) → ¬ BeginsWith bytes frame) → ¬ IsCut bytes → IsBad result
 told_refused bytes (Ok head) values found told none whole =
     let r = refused-read bytes (frame_at bytes) refl none whole in
-    let clash : ◌≡◌ {A = Result (Head × List Pair) FrameFault} (Ok (head, values)) (Err (Bad r.0 (length bytes - r.1))) = sym found ∙ ap (decoded_from bytes) r.2 in
+    let clash : ◌≡◌ {A = Result (ReplyHead × List Pair) FrameFault} (Ok (head, values)) (Err (Bad r.0 (length bytes - r.1))) = sym found ∙ ap (decoded_from bytes) r.2 in
     absurd cc
 told_refused bytes (Err fault) values found told none whole =
     let r = refused-read bytes (frame_at bytes) refl none whole in
-    let same : ◌≡◌ {A = Result (Head × List Pair) FrameFault} (Err fault) (Err (Bad r.0 (length bytes - r.1))) = sym told ∙ ap (decoded_from bytes) r.2 in
+    let same : ◌≡◌ {A = Result (ReplyHead × List Pair) FrameFault} (Err fault) (Err (Bad r.0 (length bytes - r.1))) = sym told ∙ ap (decoded_from bytes) r.2 in
     let faults : fault ≡ Bad r.0 (length bytes - r.1) = cc in
     subst (λ (f : FrameFault). IsBad (Err f)) (sym faults) tt
 
-pub told_cut : (bytes : List ℕ) (result : Result Head FrameFault) (values : List Pair) → IfOk result (λ head. decoded_of bytes ≡ Ok (head, values)) → IfErr result (λ fault. decoded_of bytes ≡ Err fault) → IsCut bytes → result ≡ Err (More (needed_of bytes))
+pub told_cut : (bytes : List ℕ) (result : Result ReplyHead FrameFault) (values : List Pair) → IfOk result (λ head. decoded_of bytes ≡ Ok (head, values)) → IfErr result (λ fault. decoded_of bytes ≡ Err fault) → IsCut bytes → result ≡ Err (More (needed_of bytes))
 told_cut bytes (Ok head) values found told cut =
-    let clash : ◌≡◌ {A = Result (Head × List Pair) FrameFault} (Ok (head, values)) (Err (More (needed_of bytes))) = sym found ∙ is_more bytes cut in
+    let clash : ◌≡◌ {A = Result (ReplyHead × List Pair) FrameFault} (Ok (head, values)) (Err (More (needed_of bytes))) = sym found ∙ is_more bytes cut in
     absurd cc
 told_cut bytes (Err fault) values found told cut =
-    let same : ◌≡◌ {A = Result (Head × List Pair) FrameFault} (Err fault) (Err (More (needed_of bytes))) = sym told ∙ is_more bytes cut in
+    let same : ◌≡◌ {A = Result (ReplyHead × List Pair) FrameFault} (Err fault) (Err (More (needed_of bytes))) = sym told ∙ is_more bytes cut in
     let faults : fault ≡ More (needed_of bytes) = cc in
     ap Err faults

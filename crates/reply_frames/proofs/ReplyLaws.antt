@@ -11,11 +11,10 @@ use Rattle.reply_frames.specs.declared.fault.Stop.TheVariants as stops
 use Rattle.reply_frames.specs.declared.outline.Version.{Version}
 use Rattle.reply_frames.specs.declared.outline.Version.TheVariants.{One}
 use Rattle.reply_frames.specs.declared.outline.Outline.{Outline}
-use Rattle.reply_frames.specs.declared.decode.Head.{Head}
+use Rattle.reply_frames.specs.declared.decode.ReplyHead.{ReplyHead}
 use Rattle.reply_frames.specs.Parts.{Read}
 use Rattle.reply_frames.specs.Frames.{Body, Create, Measure, Install, Update, Change, Fault, Ack, Refused, Frame, frame_at}
-use Rattle.reply_frames.specs.Replies.{reply_bytes, reply_head, IsReply}
-use Rattle.reply_frames.specs.Spelling.{update_bytes, change_bytes}
+use Rattle.reply_frames.specs.Replies.{update_bytes, change_bytes, reply_bytes, reply_head, IsReply}
 use Rattle.reply_frames.specs.ValueBytes.{AreTargets, IsValue, IsSendable}
 use Rattle.reply_frames.specs.Writing.{over}
 use Rattle.reply_frames.specs.Decoding.{head_of, answer_of, decoded_from, decoded_of, IsOther}
@@ -45,34 +44,34 @@ reply-decoded bytes rest version flow (Some program) used values parts len fits 
     ap decoded_of parts ∙ spelled-decoded version flow (Change program values) rest (fits, (few, omega arith, omega arith, omega arith), (program_fits, sendable))
     ∙ ap (λ used. Ok (record { flow = flow; program = Some program; version = version; used = used }, values)) (sym len)
 
-pub is_reply : (bytes : List ℕ) (head : Head) (values : List Pair) → IsReply bytes head values → decoded_of bytes ≡ Ok (head, values)
+pub is_reply : (bytes : List ℕ) (head : ReplyHead) (values : List Pair) → IsReply bytes head values → decoded_of bytes ≡ Ok (head, values)
 is_reply bytes head values r = reply-decoded bytes r.rest head.version head.flow head.program head.used values r.parts r.used r.flow r.program r.few r.values_fit
 
-pub told_only : (bytes : List ℕ) (result : Result Head FrameFault) (values : List Pair) → IfOk result (λ head. decoded_of bytes ≡ Ok (head, values)) → IfErr result (λ fault. decoded_of bytes ≡ Err fault)
-    → (head : Head) (pairs : List Pair) → IsReply bytes head pairs → (result ≡ Ok head) × (values ≡ pairs)
+pub told_only : (bytes : List ℕ) (result : Result ReplyHead FrameFault) (values : List Pair) → IfOk result (λ head. decoded_of bytes ≡ Ok (head, values)) → IfErr result (λ fault. decoded_of bytes ≡ Err fault)
+    → (head : ReplyHead) (pairs : List Pair) → IsReply bytes head pairs → (result ≡ Ok head) × (values ≡ pairs)
 told_only bytes (Ok other) values found told head pairs reply =
-    let same : ◌≡◌ {A = Result (Head × List Pair) FrameFault} (Ok (other, values)) (Ok (head, pairs)) = sym found ∙ is_reply bytes head pairs reply in
-    let both : ◌≡◌ {A = Head × List Pair} (other, values) (head, pairs) = cc in
-    (ap (λ (p : Head × List Pair). Ok p.0) both, ap (λ (p : Head × List Pair). p.1) both)
+    let same : ◌≡◌ {A = Result (ReplyHead × List Pair) FrameFault} (Ok (other, values)) (Ok (head, pairs)) = sym found ∙ is_reply bytes head pairs reply in
+    let both : ◌≡◌ {A = ReplyHead × List Pair} (other, values) (head, pairs) = cc in
+    (ap (λ (p : ReplyHead × List Pair). Ok p.0) both, ap (λ (p : ReplyHead × List Pair). p.1) both)
 told_only bytes (Err fault) values found told head pairs reply =
-    let clash : ◌≡◌ {A = Result (Head × List Pair) FrameFault} (Err fault) (Ok (head, pairs)) = sym told ∙ is_reply bytes head pairs reply in
+    let clash : ◌≡◌ {A = Result (ReplyHead × List Pair) FrameFault} (Err fault) (Ok (head, pairs)) = sym told ∙ is_reply bytes head pairs reply in
     absurd cc
 
 -- ---- what is read is spelled
 
-body-is_reply : (bytes rest : List ℕ) (version : Version) (flow used : ℕ) (body : Body) (head : Head) (values : List Pair) → bytes ≡ spelled version flow body ++ rest → used ≡ length (spelled version flow body) → IsSpellable version flow body
+body-is_reply : (bytes rest : List ℕ) (version : Version) (flow used : ℕ) (body : Body) (head : ReplyHead) (values : List Pair) → bytes ≡ spelled version flow body ++ rest → used ≡ length (spelled version flow body) → IsSpellable version flow body
     → answer_of (kind_of_body body) (outline_of version flow body) body used ≡ Ok (head, values) → IsReply bytes head values
 body-is_reply bytes rest version flow used (Update pairs) head values parts len ok e =
-    let made : Head × List Pair = (head_of (outline_of version flow (Update pairs)) None used, pairs) in
+    let made : ReplyHead × List Pair = (head_of (outline_of version flow (Update pairs)) None used, pairs) in
     let both : made ≡ (head, values) = cc in
-    subst (λ (p : Head × List Pair). IsReply bytes p.0 p.1) both (record { rest = rest; parts = parts; used = len; flow = ok.0; program = tt; few = ok.1.0; values_fit = ok.2 })
+    subst (λ (p : ReplyHead × List Pair). IsReply bytes p.0 p.1) both (record { rest = rest; parts = parts; used = len; flow = ok.0; program = tt; few = ok.1.0; values_fit = ok.2 })
 body-is_reply bytes rest version flow used (Change program pairs) head values parts len ok e =
-    let made : Head × List Pair = (head_of (outline_of version flow (Change program pairs)) (Some program) used, pairs) in
+    let made : ReplyHead × List Pair = (head_of (outline_of version flow (Change program pairs)) (Some program) used, pairs) in
     let both : made ≡ (head, values) = cc in
-    subst (λ (p : Head × List Pair). IsReply bytes p.0 p.1) both (record { rest = rest; parts = parts; used = len; flow = ok.0; program = ok.2.0; few = ok.1.0; values_fit = ok.2.1 })
+    subst (λ (p : ReplyHead × List Pair). IsReply bytes p.0 p.1) both (record { rest = rest; parts = parts; used = len; flow = ok.0; program = ok.2.0; few = ok.1.0; values_fit = ok.2.1 })
 body-is_reply bytes rest version flow used body head values parts len ok e = absurd cc
 
-read-is_reply : (bytes : List ℕ) (read : Read Frame) (head : Head) (values : List Pair) → AllBytes bytes → frame_at bytes ≡ read → decoded_from bytes read ≡ Ok (head, values) → IsReply bytes head values
+read-is_reply : (bytes : List ℕ) (read : Read Frame) (head : ReplyHead) (values : List Pair) → AllBytes bytes → frame_at bytes ≡ read → decoded_from bytes read ≡ Ok (head, values) → IsReply bytes head values
 read-is_reply bytes (Err stop) head values fits e d = absurd cc
 read-is_reply bytes (Ok (frame, rest)) head values fits e d =
     let r = frame-reads bytes (frame, rest) fits e in
@@ -84,10 +83,10 @@ read-is_reply bytes (Ok (frame, rest)) head values fits e d =
     ap (λ (o : Outline). answer_of o.kind o frame.body (length bytes - length rest)) (sym r.1.1) ∙ d in
     body-is_reply bytes rest version flow (length bytes - length rest) frame.body head values r.0.parts used r.1.0 d'
 
-pub reply_is : (bytes : List ℕ) (head : Head) (values : List Pair) → AllBytes bytes → decoded_of bytes ≡ Ok (head, values) → IsReply bytes head values
+pub reply_is : (bytes : List ℕ) (head : ReplyHead) (values : List Pair) → AllBytes bytes → decoded_of bytes ≡ Ok (head, values) → IsReply bytes head values
 reply_is bytes head values fits e = read-is_reply bytes (frame_at bytes) head values fits refl e
 
-pub told_reply : (bytes : List ℕ) (result : Result Head FrameFault) (values : List Pair) → AllBytes bytes → IfOk result (λ head. decoded_of bytes ≡ Ok (head, values)) → IfOk result (λ head. IsReply bytes head values)
+pub told_reply : (bytes : List ℕ) (result : Result ReplyHead FrameFault) (values : List Pair) → AllBytes bytes → IfOk result (λ head. decoded_of bytes ≡ Ok (head, values)) → IfOk result (λ head. IsReply bytes head values)
 told_reply bytes (Ok head) values fits found = reply_is bytes head values fits found
 told_reply bytes (Err fault) values fits found = tt
 
@@ -172,15 +171,15 @@ is_other bytes n o =
     ∙ answer-other frame.outline.kind frame.outline frame.body (length bytes - length o.begins.rest) o.no_update o.no_change
     ∙ ap (λ n. Err (Other n)) (sym o.number_is)
 
-pub told_other : (bytes : List ℕ) (result : Result Head FrameFault) → AllBytes bytes → IfErr result (λ fault. decoded_of bytes ≡ Err fault) → (n : ℕ) → result ≡ Err (Other n) → IsOther bytes n
+pub told_other : (bytes : List ℕ) (result : Result ReplyHead FrameFault) → AllBytes bytes → IfErr result (λ fault. decoded_of bytes ≡ Err fault) → (n : ℕ) → result ≡ Err (Other n) → IsOther bytes n
 told_other bytes (Ok head) fits told n e = absurd cc
 told_other bytes (Err fault) fits told n e = let same : fault ≡ Other n = cc in other-frame bytes (frame_at bytes) n fits refl (told ∙ ap Err same)
 
-pub told_passed : (bytes : List ℕ) (result : Result Head FrameFault) (values : List Pair) → IfOk result (λ head. decoded_of bytes ≡ Ok (head, values)) → IfErr result (λ fault. decoded_of bytes ≡ Err fault) → (n : ℕ) → IsOther bytes n → result ≡ Err (Other n)
+pub told_passed : (bytes : List ℕ) (result : Result ReplyHead FrameFault) (values : List Pair) → IfOk result (λ head. decoded_of bytes ≡ Ok (head, values)) → IfErr result (λ fault. decoded_of bytes ≡ Err fault) → (n : ℕ) → IsOther bytes n → result ≡ Err (Other n)
 told_passed bytes (Ok head) values found told n other =
-    let clash : ◌≡◌ {A = Result (Head × List Pair) FrameFault} (Ok (head, values)) (Err (Other n)) = sym found ∙ is_other bytes n other in
+    let clash : ◌≡◌ {A = Result (ReplyHead × List Pair) FrameFault} (Ok (head, values)) (Err (Other n)) = sym found ∙ is_other bytes n other in
     absurd cc
 told_passed bytes (Err fault) values found told n other =
-    let same : ◌≡◌ {A = Result (Head × List Pair) FrameFault} (Err fault) (Err (Other n)) = sym told ∙ is_other bytes n other in
+    let same : ◌≡◌ {A = Result (ReplyHead × List Pair) FrameFault} (Err fault) (Err (Other n)) = sym told ∙ is_other bytes n other in
     let faults : fault ≡ Other n = cc in
     ap Err faults

@@ -9,7 +9,7 @@ use Rattle.reply_frames.specs.declared.fault.FrameFault.TheVariants.{More, Bad, 
 use Rattle.reply_frames.specs.declared.outline.FrameKind.{FrameKind}
 use Rattle.reply_frames.specs.declared.outline.FrameKind.TheVariants as kinds
 use Rattle.reply_frames.specs.declared.outline.Outline.{Outline}
-use Rattle.reply_frames.specs.declared.decode.Head.{Head}
+use Rattle.reply_frames.specs.declared.decode.ReplyHead.{ReplyHead}
 use Rattle.reply_frames.specs.Parts.{Read}
 use Rattle.reply_frames.specs.Kinds.{number_of}
 use Rattle.reply_frames.specs.Whole.{BeginsWith}
@@ -24,21 +24,21 @@ abbrev pub fault_of : List ℕ → Stop → FrameFault
 fault_of bytes stops.Cut = More (needed_of bytes)
 fault_of bytes (stops.Bad kind left) = Bad kind (length bytes - left)
 
-abbrev pub head_of : Outline → Option ℕ → ℕ → Head
+abbrev pub head_of : Outline → Option ℕ → ℕ → ReplyHead
 head_of outline program used = record { flow = outline.flow; program = program; version = outline.version; used = used }
 
 -- what a whole frame is to a reader of Update and Change
-abbrev pub answer_of : FrameKind → Outline → Body → ℕ → Result (Head × List Pair) FrameFault
+abbrev pub answer_of : FrameKind → Outline → Body → ℕ → Result (ReplyHead × List Pair) FrameFault
 answer_of kinds.Update outline (Update values) used = Ok (head_of outline None used, values)
 answer_of kinds.Change outline (Change program values) used = Ok (head_of outline (Some program) used, values)
 answer_of kind outline body used = Err (Other (number_of kind))
 
-abbrev pub decoded_from : List ℕ → Read Frame → Result (Head × List Pair) FrameFault
+abbrev pub decoded_from : List ℕ → Read Frame → Result (ReplyHead × List Pair) FrameFault
 decoded_from bytes (Ok (frame, rest)) = answer_of frame.outline.kind frame.outline frame.body (length bytes - length rest)
 decoded_from bytes (Err stop) = Err (fault_of bytes stop)
 
 -- the head and the values of the Update or the Change that begins the bytes, or what they are instead
-abbrev pub decoded_of : List ℕ → Result (Head × List Pair) FrameFault
+abbrev pub decoded_of : List ℕ → Result (ReplyHead × List Pair) FrameFault
 decoded_of bytes = decoded_from bytes (frame_at bytes)
 
 -- the bytes begin with a whole frame of another kind, which has this number
@@ -50,7 +50,7 @@ pub record IsOther (bytes : List ℕ) (number : ℕ) : Type 0 where
   pub number_is : number ≡ number_of frame.outline.kind
 
 -- it refuses a byte
-abbrev pub IsBad : Result Head FrameFault → Type 0
+abbrev pub IsBad : Result ReplyHead FrameFault → Type 0
 IsBad (Ok head) = ⊥
 IsBad (Err (More needed)) = ⊥
 IsBad (Err (Bad field place)) = Unit {0}

@@ -5,7 +5,6 @@ pub mod Frames
 pub mod Bodies
 pub mod ValueBytes
 pub mod FrameBytes
-pub mod Spelling
 pub mod Writing
 pub mod Whole
 pub mod Decoding

@@ -6,7 +6,8 @@ ghost use Rattle.ccp_base.specs.Acknowledgement.{flag_number};
 ghost use Rattle.ccp_base.specs.Limits.{most_fields};
 ghost use Rattle.reply_frames.specs.Kinds.{most_n1};
 ghost use Rattle.reply_frames.specs.Parts.{Gives, passed, number_at, repeated_at};
-ghost use Rattle.reply_frames.specs.Frames.{Create, Refused, count_at, create_at, measure_at, fault_at, ack_at, refused_at, body_at};
+ghost use Rattle.reply_frames.specs.Frames.{Create, Refused, count_at, create_at, measure_at};
+ghost use Rattle.reply_frames.specs.Frames.{fault_at, ack_at, refused_at, body_at};
 ghost use Rattle.reply_frames.specs.Frames as body;
 ghost use Rattle.reply_frames.specs.Bodies.{report_body, notice_body, ack_body};
 

@@ -2,7 +2,7 @@ ghost use Rattle.std.specs.Prelude.{◌≡◌, ℕ, ◌-◌, List, length, Optio
 ghost use Rattle.reply_frames.specs.declared.fault.BadKind.{BadKind};
 ghost use Rattle.ccp_base.specs.FieldReg.{Pair};
 ghost use Rattle.reply_frames.specs.Replies.{IsReply};
-ghost use Rattle.reply_frames.specs.declared.decode.Head.{Head};
+ghost use Rattle.reply_frames.specs.declared.decode.ReplyHead.{ReplyHead};
 ghost use Rattle.reply_frames.specs.Frames.{Frame};
 ghost use Rattle.reply_frames.specs.Whole.{IsCut, IsBadIn, BeginsWith};
 ghost use Rattle.reply_frames.specs.Decoding.{needed_of, fault_of, head_of, decoded_of, IsOther, IsBad};
@@ -16,7 +16,7 @@ use ccp_base::Fields;
 
 /// What an Update or a Change says beside its values.
 #[derive(Clone, Copy, PartialEq, Eq)]
-pub struct Head {
+pub struct ReplyHead {
     /// The flow.
     pub flow: u32,
     /// The program that is to run; None for an Update.
@@ -51,10 +51,10 @@ fn stopped(bytes: &[u8], stop: Stop) -> FrameFault
 }
 
 /// The head with this program, of a frame after which these bytes stand.
-fn headed(head: Outline, program: Option<u32>, bytes: &[u8], rest: &[u8]) -> Head
+fn headed(head: Outline, program: Option<u32>, bytes: &[u8], rest: &[u8]) -> ReplyHead
     ensures { result ≡ head_of head program (length bytes.now - length rest.now) }
 {
-    Head {
+    ReplyHead {
         flow: head.flow,
         program,
         version: head.version,
@@ -64,7 +64,7 @@ fn headed(head: Outline, program: Option<u32>, bytes: &[u8], rest: &[u8]) -> Hea
 
 /// The head and the values of the Update or the Change at the front of bytes.
 #[tactic(auto, unfolding(crate::specs::Frames::frame_at))]
-fn found(bytes: &[u8]) -> Result<(Head, Fields), FrameFault>
+fn found(bytes: &[u8]) -> Result<(ReplyHead, Fields), FrameFault>
     ensures { result ≡ decoded_of bytes.now }
 {
     let (head, rest) = outline(bytes).map_err(|stop| stopped(bytes, stop))?;
@@ -90,13 +90,13 @@ fn found(bytes: &[u8]) -> Result<(Head, Fields), FrameFault>
 
 /// Reads the Update or the Change at the front of bytes: its values go into `values`, which are as before where the
 /// answer isn't Ok. The faults are those of `FrameFault`.
-pub fn decode_fields(bytes: &[u8], values: &mut Fields) -> Result<Head, FrameFault>
+pub fn decode_fields(bytes: &[u8], values: &mut Fields) -> Result<ReplyHead, FrameFault>
     ensures found { IfOk result (λ head. decoded_of bytes.now ≡ Ok (head, values.new)) }
     ensures fault { IfErr result (λ fault. decoded_of bytes.now ≡ Err fault) }
 
     // What is read is spelled so, and what is spelled so is read.
     ensures spelled { IfOk result (λ head. IsReply bytes.now head values.new) }
-    ensures only { (head : Head) (pairs : List Pair) → IsReply bytes.now head pairs
+    ensures only { (head : ReplyHead) (pairs : List Pair) → IsReply bytes.now head pairs
         → (result ≡ Ok head) × (values.new ≡ pairs) }
 
     // More comes exactly where the bytes are a proper prefix of a frame.

@@ -3,8 +3,7 @@
 ghost use Rattle.std.specs.Prelude.{◌≡◌, ◌+◌, ◌*◌, ◌<◌, ◌≤◌, ◌↔◌, length, Some, None, IfOk, IfErr, OnOk, OnErr, IsErr};
 ghost use Rattle.ccp_base.specs.FieldReg.{pair_of};
 ghost use Rattle.reply_frames.specs.declared.outline.Version.TheVariants.{One};
-ghost use Rattle.reply_frames.specs.Replies.{reply_head, IsReply};
-ghost use Rattle.reply_frames.specs.Spelling.{update_bytes, change_bytes};
+ghost use Rattle.reply_frames.specs.Replies.{update_bytes, change_bytes, reply_head, IsReply};
 ghost use Rattle.reply_frames.specs.ValueBytes.{target_bytes, value_bytes, values_bytes, AreTargets, IsValue};
 ghost use Rattle.std.specs.List.{AllByRecursion};
 ghost use Rattle.reply_frames.specs.FrameBytes.{outline_bytes};

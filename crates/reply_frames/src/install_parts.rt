@@ -4,7 +4,8 @@ ghost use Rattle.std.specs.Prelude.{◌≡◌, ◌<◌, ℕ, IfOk};
 ghost use Rattle.ccp_base.specs.Acknowledgement.{number_of};
 ghost use Rattle.reply_frames.specs.declared.fault.BadKind.TheVariants.{Flag};
 ghost use Rattle.reply_frames.specs.Parts.{Gives, passed, byte_at, repeated_at};
-ghost use Rattle.reply_frames.specs.Frames.{start_at, event_at, register_number_at, IsSmall, register_at, instruction_at, install_at};
+ghost use Rattle.reply_frames.specs.Frames.{start_at, event_at, register_number_at, IsSmall};
+ghost use Rattle.reply_frames.specs.Frames.{register_at, instruction_at, install_at};
 
 use crate::fault::{BadKind, Stop};
 use crate::outline::{Counts, Instruction, Register};

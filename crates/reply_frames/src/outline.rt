@@ -2,7 +2,8 @@
 
 ghost use Rattle.std.specs.Prelude.{◌≡◌, ℕ, ◌+◌, ◌*◌, ◌<◌, ◌≤◌};
 ghost use Rattle.reply_frames.specs.FrameBytes.{counts};
-ghost use Rattle.reply_frames.specs.Kinds.{number_of, kind_of, version_number, version_of, most_n1, most_n2, most_n3, most_n4, size_of};
+ghost use Rattle.reply_frames.specs.Kinds.{number_of, kind_of, version_number, version_of, most_n1};
+ghost use Rattle.reply_frames.specs.Kinds.{most_n2, most_n3, most_n4, size_of};
 
 use ccp_base::PRIMITIVES;
 

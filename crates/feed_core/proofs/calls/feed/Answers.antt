@@ -18,7 +18,7 @@ loop-used-init g c = record {
   reads = omega arith;
   writes = omega arith;
   feeding = feeding-first (g.S.Source.remaining c.args.source.now) (g.K.Sink.written c.args.sink.now) (state_of c.in-Ok.feed)
-      (between c.new-rest.result.bytes c.new-rest.result.start c.new-rest.result.end) c.in-Ok.ensures.state c.in-Ok.ensures.held c.new-rest.ensures;
+      (between c.new-rest.result.bytes c.new-rest.result.start c.new-rest.result.end) c.in-Ok.ensures.state c.in-Ok.ensures.is_feed c.new-rest.ensures;
 }
 
 pub loop-used-preserved-in-Answered : goal.loop-used-preserved-in-Answered

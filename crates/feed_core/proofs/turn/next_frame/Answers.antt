@@ -17,7 +17,7 @@ returns-in-Ok-answer-clause-turn g c =
       next = sym c.in-Ok-answer.ensures.state;
       counted = c.in-Ok-answer.ensures.one;
       written = c.in-Ok-answer.ensures.written;
-      held = c.in-Ok-answer.ensures.held;
+      is_feed = c.in-Ok-answer.ensures.is_feed;
     }
 
 pub returns-in-Err-clause-turn : goal.returns-in-Err-clause-turn

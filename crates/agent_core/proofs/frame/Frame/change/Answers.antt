@@ -1,6 +1,6 @@
 use Rattle.std.proofs.Common.{◌≡◌, ◌≤◌, length, sym, ◌∙◌, arith}
 use Rattle.reply_frames.specs.declared.outline.Version.TheVariants.{One}
-use Rattle.reply_frames.specs.Spelling.{change_bytes}
+use Rattle.reply_frames.specs.Replies.{change_bytes}
 use Rattle.agent_core.proofs.FrameLemmas.{length-change_bytes, IsPadded-written, take-written}
 use Rattle.agent_core.proofs.frame.Frame.change.Goals as goal
 

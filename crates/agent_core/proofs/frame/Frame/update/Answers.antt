@@ -1,6 +1,6 @@
 use Rattle.std.proofs.Common.{◌≡◌, ◌≤◌, length, sym, ◌∙◌, arith}
 use Rattle.reply_frames.specs.declared.outline.Version.TheVariants.{One}
-use Rattle.reply_frames.specs.Spelling.{update_bytes}
+use Rattle.reply_frames.specs.Replies.{update_bytes}
 use Rattle.agent_core.proofs.FrameLemmas.{length-update_bytes, IsPadded-written, take-written}
 use Rattle.agent_core.proofs.frame.Frame.update.Goals as goal
 

@@ -7,38 +7,38 @@ use Rattle.feed_core.proofs.feed.Feed.ack.Goals as goal
 pub returns-in_default : goal.returns-in_default
 returns-in_default c =
     let feed = c.args.self.now in
-    let lt : c.args.n < length feed.flows.items = omega (arith, c.requires.held.flows_full) in
+    let lt : c.args.n < length feed.flows.items = omega (arith, c.requires.is_feed.flows_full) in
     let none : c.index_mut.result.now ≡ None = search rules in
     record {
       messages = refl;
-      told = ack-absent feed.flows.items (codes_in feed.programs.items) feed.messages c.args.n c.args.version c.index_mut.result.now lt c.index_mut.ensures.value
+      handled = ack-absent feed.flows.items (codes_in feed.programs.items) feed.messages c.args.n c.args.version c.index_mut.result.now lt c.index_mut.ensures.value
           c.args.ack.now c.index_mut.result.now c.refused-in_default.result none refl c.refused-in_default.ensures;
     }
 
 pub returns-in_default-code_of : goal.returns-in_default-code_of
 returns-in_default-code_of c =
     let feed = c.args.self.now in
-    let lt : c.args.n < length feed.flows.items = omega (arith, c.requires.held.flows_full) in
+    let lt : c.args.n < length feed.flows.items = omega (arith, c.requires.is_feed.flows_full) in
     let none : c.code_of.result ≡ None = search rules in
     let runs : code_of c.in-Some.flow.epoch (codes_in feed.programs.items) ≡ None =
     ap (λ ps. code_of c.in-Some.flow.epoch (codes_in ps)) (sym c.as_slice.ensures.value) ∙ sym c.code_of.ensures ∙ ap (option_map _) none in
     record {
       messages = refl;
-      told = ack-counted feed.flows.items (codes_in feed.programs.items) feed.messages c.args.n c.args.version c.index_mut.result.now lt c.index_mut.ensures.value
+      handled = ack-counted feed.flows.items (codes_in feed.programs.items) feed.messages c.args.n c.args.version c.index_mut.result.now lt c.index_mut.ensures.value
           c.args.ack.now c.in-Some.flow c.pass.new.self c.in-Some.is runs c.pass.ensures;
     }
 
 pub returns : goal.returns
 returns c =
     let feed = c.args.self.now in
-    let lt : c.args.n < length feed.flows.items = omega (arith, c.requires.held.flows_full) in
+    let lt : c.args.n < length feed.flows.items = omega (arith, c.requires.is_feed.flows_full) in
     let epoch = c.in-Some-code_of.epoch in
     let code = c.in-Some-code_of.code.now.code in
     let runs : code_of c.in-Some.flow.epoch (codes_in feed.programs.items) ≡ Some (epoch, code) =
     ap (λ ps. code_of c.in-Some.flow.epoch (codes_in ps)) (sym c.as_slice.ensures.value) ∙ sym c.code_of.ensures ∙ ap (option_map _) c.in-Some-code_of.is in
     record {
       messages = refl;
-      told = ack-heard feed.flows.items (codes_in feed.programs.items) feed.messages c.args.n c.args.version c.index_mut.result.now lt c.index_mut.ensures.value
+      handled = ack-heard feed.flows.items (codes_in feed.programs.items) feed.messages c.args.n c.args.version c.index_mut.result.now lt c.index_mut.ensures.value
           c.args.ack.now c.in-Some.flow c.ack.new.self epoch code c.in_version.result c.in-Some.is runs c.ack.ensures.after
           (c.in_version.ensures ∙ ap (in_version c.in-Some.flow.version) c.ack.ensures.told);
     }

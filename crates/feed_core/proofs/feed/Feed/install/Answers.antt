@@ -16,7 +16,7 @@ returns-in-Err c =
     let free : there (codes_in feed.programs.items) c.args.program ≡ None =
     ap (λ ps. there (codes_in ps) c.args.program) (sym c.as_slice.ensures.value) ∙ sym c.program_at.ensures ∙ ap (option_map _) none in
     record {
-      told = install-rejected feed.flows.items (codes_in feed.programs.items) feed.messages c.args.n c.args.version c.args.program c.args.code below free
+      handled = install-rejected feed.flows.items (codes_in feed.programs.items) feed.messages c.args.n c.args.version c.args.program c.args.code below free
           (c.in-Err.rejected.rule, c.in-Err.rejected.index) c.refused-in-Err.result c.in-Err.ensures.rejected c.refused-in-Err.ensures;
       messages = refl;
     }
@@ -30,7 +30,7 @@ returns-in-Ok c =
     ap (λ ps. there (codes_in ps) c.args.program) (sym c.as_slice.ensures.value) ∙ sym c.program_at.ensures ∙ ap (option_map _) none in
     let accepted : IsAccepted c.args.code = c.verify.ensures.accepted.0 (search rules) in
     record {
-      told = install-kept feed.flows.items (codes_in feed.programs.items) feed.messages c.args.n c.args.version c.args.program c.args.code below free _ accepted
+      handled = install-kept feed.flows.items (codes_in feed.programs.items) feed.messages c.args.n c.args.version c.args.program c.args.code below free _ accepted
           (map-set code_in feed.programs.items c.args.program (Some c.in-Ok.checked)
           ∙ ap (λ k. slice_set (codes_in feed.programs.items) c.args.program (Some k)) c.in-Ok.ensures.code);
       messages = refl;
