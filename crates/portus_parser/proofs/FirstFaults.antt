@@ -8,7 +8,7 @@ use Rattle.ccp_base.specs.declared.place.Place.{Place}
 use Rattle.portus_core.specs.Trees.{Node, list, collected}
 use Rattle.portus_lexer.specs.Lexemes.{Lexeme}
 use Rattle.portus_parser.specs.declared.fault.ParseFault.{ParseFault}
-use Rattle.portus_parser.specs.declared.fault.ParseFault.TheVariants.{Unexpected, Nesting}
+use Rattle.portus_parser.specs.declared.fault.ParseFault.TheVariants.{Unexpected, Nesting, Unclosed}
 use Rattle.portus_parser.specs.Atoms.{atom_of}
 use Rattle.std.specs.Result.{result_err}
 use Rattle.portus_parser.specs.Refusals.{is_opening, is_closing, first_fault, unopened, last_unclosed, refusal_of}
