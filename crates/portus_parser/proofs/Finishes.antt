@@ -13,7 +13,7 @@ use Rattle.portus_parser.specs.Atoms.{atom_of}
 use Rattle.portus_parser.specs.Spelling.{SpellsAtom, IsListAround, SpellsNode, SpellsParts}
 use Rattle.portus_parser.specs.Refusals.{is_opening, is_closing}
 use Rattle.portus_parser.specs.Readings.{Opened, Reading, read, unread, with_part, closed_over, opened_at, put_in}
-use Rattle.portus_parser.proofs.Frames.{read-Err}
+use Rattle.portus_parser.proofs.OpenLists.{read-Err}
 use Rattle.portus_parser.proofs.Joins.{ends_atom-front}
 use Rattle.portus_parser.proofs.Turns.{is_opening-true, is_closing-true, is_atom-other, is_list, is_list-atom}
 

@@ -1,6 +1,6 @@
 -- The lemmas of portus_parser, a file a topic.
 pub mod Numerals
-pub mod Frames
+pub mod OpenLists
 pub mod Joins
 pub mod Turns
 pub mod Spelled

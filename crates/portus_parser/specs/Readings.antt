@@ -9,7 +9,7 @@ use Rattle.portus_lexer.specs.declared.token.Token.{Token}
 use Rattle.portus_lexer.specs.Lexemes.{Lexeme, slice_of}
 use Rattle.portus_parser.specs.declared.fault.ParseFault.{ParseFault}
 use Rattle.portus_parser.specs.declared.fault.ParseFault.TheVariants.{Unexpected, Nesting, Unclosed, NoMemory}
-use Rattle.portus_parser.specs.declared.frame.Frame.{Frame}
+use Rattle.portus_parser.specs.declared.open_list.OpenList.{OpenList}
 use Rattle.portus_parser.specs.Atoms.{atom_of}
 use Rattle.portus_parser.specs.Refusals.{is_opening, is_closing}
 
@@ -69,17 +69,17 @@ read reading (lexeme ∷ rest) = read (turn_on reading lexeme) rest
 abbrev pub unread : Result Reading ParseFault
 unread = Ok (record { opens = []; parts = [] })
 
-abbrev pub opened_of : Frame → Opened
-opened_of frame = record { place = frame.place; before = map node_of frame.before.items }
+abbrev pub opened_of : OpenList → Opened
+opened_of open_list = record { place = open_list.place; before = map node_of open_list.before.items }
 
--- frames as open lists, before others
-abbrev pub stacked : List Opened → List Frame → List Opened
+-- the code's open lists, the innermost one last there, before others
+abbrev pub stacked : List Opened → List OpenList → List Opened
 stacked opens [] = opens
-stacked opens (frame ∷ rest) = stacked (opened_of frame ∷ opens) rest
+stacked opens (open_list ∷ rest) = stacked (opened_of open_list ∷ opens) rest
 
--- what frames and the parts so far stand for
-abbrev pub reading_of : List Frame → List Tree → Reading
-reading_of frames parts = record { opens = stacked [] frames; parts = map node_of parts }
+-- what open lists and the parts so far stand for
+abbrev pub reading_of : List OpenList → List Tree → Reading
+reading_of open_lists parts = record { opens = stacked [] open_lists; parts = map node_of parts }
 
 -- a token with its bytes
 abbrev pub lexeme_in : List ℕ → Token → Lexeme

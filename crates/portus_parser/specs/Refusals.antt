@@ -1,10 +1,10 @@
 -- The first refusal of a text.
-use Rattle.std.specs.Prelude.{◌≡◌, ℕ, ◌+◌, ◌-◌, ◌<◌, ◌≤◌, Bool, ◌==◌, nat_le, Option, Some, None, Result, Ok, Err, if◌then◌else◌, List, [], ◌∷◌, length, codes}
-use Rattle.std.specs.Option.{option_or}
+use Rattle.std.specs.Prelude.{◌≡◌, ℕ, ◌+◌, ◌-◌, ◌<◌, ◌≤◌, Bool, ◌==◌, nat_le, Option, Some, None, if◌then◌else◌, List, [], ◌∷◌, length, codes}
+use Rattle.std.specs.Option.{option_or, option_map}
+use Rattle.std.specs.Result.{result_err}
 use Rattle.std.specs.Str.{bytes_eq}
 use Rattle.ccp_base.specs.Limits.{most_lists, most_text_bytes}
 use Rattle.ccp_base.specs.declared.place.Place.{Place}
-use Rattle.portus_core.specs.Trees.{Node}
 use Rattle.portus_lexer.specs.Strays.{stray_of}
 use Rattle.portus_lexer.specs.Lexemes.{Lexeme, AreLexemesOf}
 use Rattle.portus_parser.specs.declared.fault.ParseFault.{ParseFault}
@@ -21,10 +21,6 @@ is_closing text = bytes_eq text (codes ")")
 abbrev pub open_after : ℕ → List ℕ → ℕ
 open_after open_lists text = if is_opening text then open_lists + 1 else (if is_closing text then open_lists - 1 else open_lists)
 
-abbrev pub fault_in : Result Node ParseFault → Option ParseFault
-fault_in (Ok node) = None
-fault_in (Err fault) = Some fault
-
 -- what is wrong with a lexeme inside this many open lists
 abbrev pub fault_of : ℕ → Lexeme → Option ParseFault
 fault_of open_lists lexeme =
@@ -32,7 +28,7 @@ fault_of open_lists lexeme =
     then (if nat_le most_lists open_lists then Some (Nesting lexeme.place) else None)
     else (if open_lists == 0
     then Some (Unexpected lexeme.place)
-    else (if is_closing lexeme.text then None else fault_in (atom_of lexeme.place lexeme.text)))
+    else (if is_closing lexeme.text then None else result_err (atom_of lexeme.place lexeme.text)))
 
 -- the first lexeme that is wrong
 abbrev pub first_fault : ℕ → List Lexeme → Option ParseFault
@@ -52,13 +48,9 @@ last_unclosed [] = None
 last_unclosed (lexeme ∷ rest) =
     option_or (last_unclosed rest) (if is_opening lexeme.text then (if unopened rest == 0 then Some lexeme.place else None) else None)
 
-abbrev pub unclosed_at : Option Place → Option ParseFault
-unclosed_at (Some place) = Some (Unclosed place)
-unclosed_at None = None
-
 -- the first lexeme that is wrong, or else the last list that is left open
 abbrev pub refusal_of : List Lexeme → Option ParseFault
-refusal_of lexemes = option_or (first_fault 0 lexemes) (unclosed_at (last_unclosed lexemes))
+refusal_of lexemes = option_or (first_fault 0 lexemes) (option_map Unclosed (last_unclosed lexemes))
 
 -- a text of a length that may be read has lexemes, and this is their refusal
 pub record RefusesLexemes (text : List ℕ) (fault : ParseFault) : Type 0 where

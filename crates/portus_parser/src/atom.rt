@@ -1,26 +1,18 @@
 ghost use Rattle.std.specs.Prelude.{◌≡◌, ◌&&◌, IsTrue, IfOk, IfErr, Ok, Err, Some, None, if◌then◌else◌};
 ghost use Rattle.std.specs.Str.{bytes_eq};
 ghost use Rattle.portus_core.specs.Trees.{node_of};
-ghost use Rattle.ccp_base.specs.Numerals.{is_digit};
 ghost use Rattle.portus_parser.specs.Atoms.{is_mark, is_word, begins_with_digit, atom_of};
 
 use crate::fault::ParseFault;
 use ccp_base::{Name, Place, is_operation_mark, numeral};
 use portus_core::{Tree, is_name_shaped};
 
-/// Whether the byte is a decimal digit.
-fn is_digit(byte: u8) -> bool
-    ensures { result ≡ is_digit byte }
-{
-    byte >= b'0' && byte <= b'9'
-}
-
 /// Whether the text begins with a digit.
 fn begins_with_digit(text: &[u8]) -> bool
     ensures { result ≡ begins_with_digit text.now }
 {
     match text.first() {
-        Some(first) => is_digit(*first),
+        Some(first) => first.is_ascii_digit(),
         None => false,
     }
 }

@@ -3,7 +3,7 @@
 
 mod atom;
 mod fault;
-mod frame;
+mod open_list;
 mod printing_law;
 mod reading;
 mod turn;

@@ -10,7 +10,7 @@ ghost use Rattle.portus_parser.specs.Outcomes.{ReadsAs, RefusesAs, IsExact, IsSe
 ghost use Rattle.portus_parser.specs.Readings.{read, unread, lexeme_in, EndsReading};
 
 use crate::fault::ParseFault;
-use crate::frame::Frame;
+use crate::open_list::OpenList;
 use crate::turn::turn;
 use portus_core::{Source, Tree};
 use portus_lexer::Token;
@@ -35,16 +35,22 @@ fn read(alloc: Global, text: &[u8], tokens: &[Token]) -> Result<Source, ParseFau
         read unread (map (lexeme_in text.now) tokens.now) ≡ Ok (map node_of source.forms.items)) }
     ensures refused { IfErr result (EndsReading (read unread (map (lexeme_in text.now) tokens.now))) }
 {
-    let mut frames: Vec<Frame> = Vec::new(alloc);
+    let mut open_lists: Vec<OpenList> = Vec::new(alloc);
     let mut parts: Vec<Tree> = Vec::new(alloc);
     for token in tokens {
-        match turn(alloc, &mut frames, parts, token.place, lexeme(text, token)) {
+        match turn(
+            alloc,
+            &mut open_lists,
+            parts,
+            token.place,
+            lexeme(text, token),
+        ) {
             Ok(own) => parts = own,
             Err(fault) => return Err(fault),
         }
     }
-    match frames.pop() {
-        Some(frame) => Err(ParseFault::Unclosed(frame.place)),
+    match open_lists.pop() {
+        Some(open_list) => Err(ParseFault::Unclosed(open_list.place)),
         None => Ok(Source { forms: parts }),
     }
 }

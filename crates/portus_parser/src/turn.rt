@@ -5,7 +5,7 @@ ghost use Rattle.portus_parser.specs.Readings.{opened_at, closed_over, put_in, t
 
 use crate::atom::{atom, same};
 use crate::fault::ParseFault;
-use crate::frame::Frame;
+use crate::open_list::OpenList;
 use ccp_base::Place;
 use portus_core::Tree;
 use std::alloc::Global;
@@ -13,21 +13,21 @@ use std::alloc::Global;
 /// The most lists that may lie inside one another.
 pub const DEPTH: usize = 64;
 
-/// Opens a list: the parts so far wait in a frame, and the list's own ones begin.
+/// Opens a list: the parts so far wait beside it, and the list's own ones begin.
 fn open(
     alloc: Global,
-    frames: &mut Vec<Frame>,
+    open_lists: &mut Vec<OpenList>,
     parts: Vec<Tree>,
     place: Place,
 ) -> Result<Vec<Tree>, ParseFault>
-    ensures ok { IfOk result (λ own.
-        opened_at place (reading_of frames.old.items parts.items) ≡ Ok (reading_of frames.new.items own.items)) }
-    ensures err { IfErr result (EndsTurn (opened_at place (reading_of frames.old.items parts.items))) }
+    ensures ok { let reading = reading_of open_lists.old.items parts.items in
+        IfOk result (λ own. opened_at place reading ≡ Ok (reading_of open_lists.new.items own.items)) }
+    ensures err { IfErr result (EndsTurn (opened_at place (reading_of open_lists.old.items parts.items))) }
 {
-    if frames.len() >= DEPTH {
+    if open_lists.len() >= DEPTH {
         return Err(ParseFault::Nesting(place));
     }
-    frames.push(Frame {
+    open_lists.push(OpenList {
         place,
         before: parts,
     })?;
@@ -35,19 +35,23 @@ fn open(
 }
 
 /// Closes the list that was opened last: it becomes a part of its own list.
-fn close(frames: &mut Vec<Frame>, parts: Vec<Tree>, place: Place) -> Result<Vec<Tree>, ParseFault>
-    ensures ok { let reading = reading_of frames.old.items parts.items in
+fn close(
+    open_lists: &mut Vec<OpenList>,
+    parts: Vec<Tree>,
+    place: Place,
+) -> Result<Vec<Tree>, ParseFault>
+    ensures ok { let reading = reading_of open_lists.old.items parts.items in
         IfOk result (λ own.
-        closed_over place reading.opens reading.parts ≡ Ok (reading_of frames.new.items own.items)) }
-    ensures err { let reading = reading_of frames.old.items parts.items in
+        closed_over place reading.opens reading.parts ≡ Ok (reading_of open_lists.new.items own.items)) }
+    ensures err { let reading = reading_of open_lists.old.items parts.items in
         IfErr result (EndsTurn (closed_over place reading.opens reading.parts)) }
 {
-    match frames.pop() {
-        Some(frame) => {
-            let Frame {
+    match open_lists.pop() {
+        Some(open_list) => {
+            let OpenList {
                 place: opened,
                 mut before,
-            } = frame;
+            } = open_list;
             before.push(Tree::List(opened, parts))?;
             Ok(before)
         }
@@ -57,17 +61,17 @@ fn close(frames: &mut Vec<Frame>, parts: Vec<Tree>, place: Place) -> Result<Vec<
 
 /// Puts an atom at the end of the parts of the list that was opened last.
 fn put(
-    frames: &[Frame],
+    open_lists: &[OpenList],
     mut parts: Vec<Tree>,
     place: Place,
     text: &[u8],
 ) -> Result<Vec<Tree>, ParseFault>
-    ensures ok { let reading = reading_of frames.now parts.items in
-        IfOk result (λ own. put_in place text.now reading reading.opens ≡ Ok (reading_of frames.now own.items)) }
-    ensures err { let reading = reading_of frames.now parts.items in
+    ensures ok { let reading = reading_of open_lists.now parts.items in
+        IfOk result (λ own. put_in place text.now reading reading.opens ≡ Ok (reading_of open_lists.now own.items)) }
+    ensures err { let reading = reading_of open_lists.now parts.items in
         IfErr result (EndsTurn (put_in place text.now reading reading.opens)) }
 {
-    if frames.is_empty() {
+    if open_lists.is_empty() {
         return Err(ParseFault::Unexpected(place));
     }
     match atom(place, text) {
@@ -79,24 +83,24 @@ fn put(
     }
 }
 
-/// Reads a token, given the frames of the open lists and the parts so far of the list that was opened last.
+/// Reads a token, given the open lists and the parts so far of the list that was opened last.
 pub fn turn(
     alloc: Global,
-    frames: &mut Vec<Frame>,
+    open_lists: &mut Vec<OpenList>,
     parts: Vec<Tree>,
     place: Place,
     text: &[u8],
 ) -> Result<Vec<Tree>, ParseFault>
     ensures ok { IfOk result (λ own.
-        turn_of (reading_of frames.old.items parts.items) place text.now
-        ≡ Ok (reading_of frames.new.items own.items)) }
-    ensures err { IfErr result (EndsTurn (turn_of (reading_of frames.old.items parts.items) place text.now)) }
+        turn_of (reading_of open_lists.old.items parts.items) place text.now
+        ≡ Ok (reading_of open_lists.new.items own.items)) }
+    ensures err { IfErr result (EndsTurn (turn_of (reading_of open_lists.old.items parts.items) place text.now)) }
 {
     if same(text, b"(") {
-        open(alloc, frames, parts, place)
+        open(alloc, open_lists, parts, place)
     } else if same(text, b")") {
-        close(frames, parts, place)
+        close(open_lists, parts, place)
     } else {
-        put(frames.as_slice(), parts, place, text)
+        put(open_lists.as_slice(), parts, place, text)
     }
 }

@@ -14,11 +14,13 @@ use Rattle.scope_types.specs.declared.target.Target.TheVariants.{Known as Meant,
 use Rattle.portus_core.specs.Words.{variable_of, is_name_shaped, is_heading, is_constant, is_reserved, is_field_use, is_primitive_use}
 use Rattle.ccp_base.specs.Operations.{operator_of}
 use Rattle.scope_types.specs.Scope.{Scope, known_in, with_local}
-use Rattle.scope_types.specs.Names.{decl_from, local_from, named, meaning_of}
-use Rattle.scope_types.specs.Walk.{place_of, and_then}
+use Rattle.scope_types.specs.Names.{decl_from, local_from, variable_or, meaning_of}
+use Rattle.scope_types.specs.Cuts.{place_of}
+use Rattle.scope_types.specs.WalkResults.{and_then}
 use Rattle.scope_types.specs.ExpressionWalk.{expression_walk}
 use Rattle.scope_types.specs.CommandWalk as walk
-use Rattle.scope_types.specs.WellScoped.{NamesVariable, IsTerm, FitsKind, IsPlain, IsChoice, IsWeight, IsEwma, IsSpecial, IsValue, IsZero, IsZeroAssignment, IsKnownAssignment, IsFresh, IsFirstAssignment, IsAssignment, IsCommand, IsBody}
+use Rattle.scope_types.specs.ExpressionRules.{NamesVariable, IsTerm}
+use Rattle.scope_types.specs.CommandRules.{FitsKind, IsPlain, IsChoice, IsWeight, IsEwma, IsSpecial, IsValue, IsZero, IsZeroAssignment, IsKnownAssignment, IsFresh, IsFirstAssignment, IsAssignment, IsCommand, IsBody}
 use Rattle.scope_types.proofs.ScopedExpressions.{truth_of, spelt, variable_kind, IsProper}
 use Rattle.scope_types.proofs.GivenExpressions.{outside_fields, meaning_given, expression_given}
 use Rattle.scope_types.proofs.ProperScopes.{fresh_local, fresh_control, fresh_primitive}
@@ -178,9 +180,9 @@ unreserved_variable w h =
 fresh_meaning : (scope : Scope) (w : List ℕ) → IsFresh scope w → meaning_of scope w ≡ None
 fresh_meaning scope w f =
     outside_fields scope w f.no_field
-    ∙ ap (λ n. named var.Prim n (named var.Control (decl_from 0 scope.controls w) (named var.Local (local_from 0 scope.locals w) None))) (fresh_primitive scope w f)
-    ∙ ap (λ n. named var.Control n (named var.Local (local_from 0 scope.locals w) None)) (fresh_control scope w f)
-    ∙ ap (λ n. named var.Local n None) (fresh_local scope w f)
+    ∙ ap (λ n. variable_or var.Prim n (variable_or var.Control (decl_from 0 scope.controls w) (variable_or var.Local (local_from 0 scope.locals w) None))) (fresh_primitive scope w f)
+    ∙ ap (λ n. variable_or var.Control n (variable_or var.Local (local_from 0 scope.locals w) None)) (fresh_control scope w f)
+    ∙ ap (λ n. variable_or var.Local n None) (fresh_local scope w f)
 
 unclaimed : (a b : Bool) → a ≡ false → b ≡ false → (a || b) ≡ false
 unclaimed false b e f = f

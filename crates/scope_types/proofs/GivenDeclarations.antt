@@ -11,7 +11,7 @@ use Rattle.portus_core.specs.Words.{is_field_name, is_control_name}
 use Rattle.scope_types.specs.Scope.{Scope}
 use Rattle.scope_types.specs.Names.{decl_from}
 use Rattle.scope_types.specs.DeclarationWalk as walk
-use Rattle.scope_types.specs.WellScoped.{IsStart, IsDeclarationOf, Declares, AreFields, IsGroup, AreParts, AreDistinct}
+use Rattle.scope_types.specs.DeclarationRules.{IsStart, IsDeclarationOf, Declares, AreFields, IsGroup, AreParts, AreDistinct}
 use Rattle.scope_types.proofs.ScopedExpressions.{spelt, spells, decl_found}
 use Rattle.scope_types.proofs.ProperScopes.{nowhere}
 use Rattle.scope_types.proofs.GivenCommands.{then_given, if_false, if_true}

@@ -17,9 +17,9 @@ use Rattle.ccp_base.specs.Operations.{operator_of}
 use Rattle.ccp_base.specs.PrimitiveNames.{primitive_named}
 use Rattle.scope_types.specs.ValueWords.{constant_of, constant_truth}
 use Rattle.scope_types.specs.Scope.{Scope, known_in}
-use Rattle.scope_types.specs.Names.{decl_from, local_from, named, meaning_of}
+use Rattle.scope_types.specs.Names.{decl_from, local_from, variable_or, meaning_of}
 use Rattle.scope_types.specs.ExpressionWalk.{or_refused, name_walk, variable_walk, word_walk, pair_walk, expression_walk}
-use Rattle.scope_types.specs.WellScoped.{IsDeclared, IsField, IsLocal, IsPrimitive, Means, NamesVariable, IsWord, IsTerm}
+use Rattle.scope_types.specs.ExpressionRules.{IsDeclared, IsField, IsLocal, IsPrimitive, Means, NamesVariable, IsWord, IsTerm}
 use Rattle.scope_types.proofs.ScopedExpressions.{truth_of, slice_get-map, IsControl, IsOwnLocal, IsProper, primitive_word, variable_kind, constant_kind}
 
 -- the look-up of a word gives this variable, of this kind
@@ -27,15 +27,15 @@ pub record IsMeaning (scope : Scope) (w : List ℕ) (v : Var) (truth : Bool) : T
   pub gives : meaning_of scope w ≡ Some v
   pub kind : truth ≡ truth_of scope v
 
-pub outside_fields : (scope : Scope) (w : List ℕ) → is_field_use w ≡ false → meaning_of scope w ≡ named var.Prim (primitive_named w) (named var.Control (decl_from 0 scope.controls w) (named var.Local (local_from 0 scope.locals w) None))
-outside_fields scope w h = ap (λ b. if b then named var.Field (decl_from 0 scope.fields (drop 7 w)) None else named var.Prim (primitive_named w) (named var.Control (decl_from 0 scope.controls w) (named var.Local (local_from 0 scope.locals w) None))) h
+pub outside_fields : (scope : Scope) (w : List ℕ) → is_field_use w ≡ false → meaning_of scope w ≡ variable_or var.Prim (primitive_named w) (variable_or var.Control (decl_from 0 scope.controls w) (variable_or var.Local (local_from 0 scope.locals w) None))
+outside_fields scope w h = ap (λ b. if b then variable_or var.Field (decl_from 0 scope.fields (drop 7 w)) None else variable_or var.Prim (primitive_named w) (variable_or var.Control (decl_from 0 scope.controls w) (variable_or var.Local (local_from 0 scope.locals w) None))) h
 
 field_given : (scope : Scope) (i : ℕ) (w : List ℕ) (truth : Bool) → IsProper scope → IsField scope.fields i w truth → IsMeaning scope w (var.Field i) truth
 field_given scope i w truth p f = record {
   gives =
       ap (meaning_of scope) f.spelt
-      ∙ ap (λ r. named var.Field (decl_from 0 scope.fields r) None) (sym f.declared.named)
-      ∙ ap (λ n. named var.Field n None) (p.fields i f.declared.decl f.declared.there);
+      ∙ ap (λ r. variable_or var.Field (decl_from 0 scope.fields r) None) (sym f.declared.named)
+      ∙ ap (λ n. variable_or var.Field n None) (p.fields i f.declared.decl f.declared.there);
   kind = f.declared.kind ∙ sym (ap declares_truth f.declared.there);
 }
 
@@ -45,8 +45,8 @@ control_given scope i w truth p f =
     record {
       gives =
           outside_fields scope w c.no_field
-          ∙ ap (λ n. named var.Prim n (named var.Control (decl_from 0 scope.controls w) (named var.Local (local_from 0 scope.locals w) None))) c.no_primitive
-          ∙ ap (λ n. named var.Control n (named var.Local (local_from 0 scope.locals w) None)) c.found;
+          ∙ ap (λ n. variable_or var.Prim n (variable_or var.Control (decl_from 0 scope.controls w) (variable_or var.Local (local_from 0 scope.locals w) None))) c.no_primitive
+          ∙ ap (λ n. variable_or var.Control n (variable_or var.Local (local_from 0 scope.locals w) None)) c.found;
       kind = f.kind ∙ sym (ap declares_truth f.there);
     }
 
@@ -56,9 +56,9 @@ local_given scope i w truth p f =
     record {
       gives =
           outside_fields scope w c.no_field
-          ∙ ap (λ n. named var.Prim n (named var.Control (decl_from 0 scope.controls w) (named var.Local (local_from 0 scope.locals w) None))) c.no_primitive
-          ∙ ap (λ n. named var.Control n (named var.Local (local_from 0 scope.locals w) None)) c.no_control
-          ∙ ap (λ n. named var.Local n None) c.found;
+          ∙ ap (λ n. variable_or var.Prim n (variable_or var.Control (decl_from 0 scope.controls w) (variable_or var.Local (local_from 0 scope.locals w) None))) c.no_primitive
+          ∙ ap (λ n. variable_or var.Control n (variable_or var.Local (local_from 0 scope.locals w) None)) c.no_control
+          ∙ ap (λ n. variable_or var.Local n None) c.found;
       kind = f.kind ∙ sym (slice_get-map scope.locals i ∙ ap (λ (o : Option Local). is_bool_there (let truth : Option Bool = elim o [ Some l ↦ Some l.truth | None ↦ None ] in truth)) f.there);
     }
 
@@ -66,7 +66,7 @@ primitive_given : (scope : Scope) (n : ℕ) (w : List ℕ) (truth : Bool) → Is
 primitive_given scope n w truth f =
     let c = subst (λ (o : Option ℕ). IfSome o (λ _. (is_field_use w ≡ false) × (is_primitive_use w ≡ true))) f.spelt (primitive_word w) in
     record {
-      gives = outside_fields scope w c.0 ∙ ap (λ n. named var.Prim n (named var.Control (decl_from 0 scope.controls w) (named var.Local (local_from 0 scope.locals w) None))) f.spelt;
+      gives = outside_fields scope w c.0 ∙ ap (λ n. variable_or var.Prim n (variable_or var.Control (decl_from 0 scope.controls w) (variable_or var.Local (local_from 0 scope.locals w) None))) f.spelt;
       kind = f.kind;
     }
 

@@ -7,12 +7,13 @@ use Rattle.portus_core.specs.Programs.{Term, Part, Form}
 use Rattle.portus_core.specs.Trees.{Node, Nodes, none, more, word, list}
 use Rattle.scope_types.specs.declared.fault.ScopeFault.{ScopeFault}
 use Rattle.scope_types.specs.Scope.{Scope}
-use Rattle.scope_types.specs.Walk.{place_of}
+use Rattle.scope_types.specs.Cuts.{place_of}
 use Rattle.scope_types.specs.ExpressionWalk.{expression_walk}
 use Rattle.scope_types.specs.DeclarationWalk.{Declaring, parts_walk}
 use Rattle.scope_types.specs.CommandWalk.{body_walk}
 use Rattle.scope_types.specs.ProgramWalk.{nothing_declared, without_locals, condition_walk, inner_walk, form_walk, blocks_walk, def_walk, source_walk}
-use Rattle.scope_types.specs.WellScoped.{IsTerm, IsBlock, IsWhen, AreBlocks, IsProgram, IsScoped, first_names}
+use Rattle.scope_types.specs.ExpressionRules.{IsTerm}
+use Rattle.scope_types.specs.WellScoped.{IsBlock, IsWhen, AreBlocks, IsProgram, IsScoped, first_names}
 use Rattle.scope_types.proofs.ScopedExpressions.{spells, IsProper}
 use Rattle.scope_types.proofs.ScopedDeclarations.{AddsParts, parts_scoped}
 use Rattle.scope_types.proofs.ScopedSource.{nothing_proper, same_start}

@@ -8,7 +8,7 @@ use Rattle.ccp_base.specs.PrimitiveNames.{primitive_named}
 use Rattle.scope_types.specs.DeclarationWalk.{with_field, with_control}
 use Rattle.scope_types.specs.Scope.{Scope, with_local}
 use Rattle.scope_types.specs.Names.{decl_from, local_from}
-use Rattle.scope_types.specs.WellScoped.{IsFresh}
+use Rattle.scope_types.specs.CommandRules.{IsFresh}
 use Rattle.scope_types.proofs.ScopedExpressions.{spells, decl_found, declared_of, local_found, local_of, prim_means, IsProper, primitive_word}
 
 pub nowhere : {A : Type 0} (o : Option A) (P : A → Type 0) → IfSome o P → ((a : A) → P a → ⊥) → o ≡ None

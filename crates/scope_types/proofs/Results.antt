@@ -1,6 +1,6 @@
 -- What holds of the answers of a choice, and of two walks one after the other.
 use Rattle.std.proofs.Common.{◌≡◌, Bool, true, false, ◌&&◌, refl, Result, Ok, Err, IfOk, IfErr, if◌then◌else◌}
-use Rattle.scope_types.specs.Walk.{and_then}
+use Rattle.scope_types.specs.WalkResults.{and_then}
 
 -- what holds of a choice's answer holds in each branch
 pub if_ok : {A E : Type 0} (b : Bool) (r s : Result A E) (P : A → Type 0) → (b ≡ true → IfOk r P) → (b ≡ false → IfOk s P) → IfOk (if b then r else s) P

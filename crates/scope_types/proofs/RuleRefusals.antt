@@ -15,7 +15,8 @@ use Rattle.scope_types.specs.declared.target.Target.{Target}
 use Rattle.scope_types.specs.declared.target.Target.TheVariants.{Known, Fresh}
 use Rattle.scope_types.specs.Names.{meaning_of, decl_from}
 use Rattle.scope_types.specs.Scope.{Scope}
-use Rattle.scope_types.specs.Walk.{place_of, and_then}
+use Rattle.scope_types.specs.Cuts.{place_of}
+use Rattle.scope_types.specs.WalkResults.{and_then}
 use Rattle.portus_core.specs.Words.{variable_of, is_reserved, is_field_use, is_primitive_use, is_field_name, is_control_name}
 use Rattle.ccp_base.specs.Operations.{operator_of}
 use Rattle.scope_types.specs.ValueWords.{constant_of}

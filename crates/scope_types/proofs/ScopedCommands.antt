@@ -14,7 +14,8 @@ use Rattle.scope_types.specs.Scope.{Scope, known_in}
 use Rattle.scope_types.specs.Names.{meaning_of}
 use Rattle.scope_types.specs.ExpressionWalk.{expression_walk}
 use Rattle.scope_types.specs.CommandWalk as walk
-use Rattle.scope_types.specs.WellScoped.{Means, NamesVariable, IsTerm, FitsKind, IsPlain, IsChoice, IsWeight, IsEwma, IsValue, IsFresh, IsFirstAssignment, IsAssignment, IsCommand, IsBody}
+use Rattle.scope_types.specs.ExpressionRules.{Means, NamesVariable, IsTerm}
+use Rattle.scope_types.specs.CommandRules.{FitsKind, IsPlain, IsChoice, IsWeight, IsEwma, IsValue, IsFresh, IsFirstAssignment, IsAssignment, IsCommand, IsBody}
 use Rattle.scope_types.proofs.Results.{if_ok, then_ok, ok_map}
 use Rattle.scope_types.proofs.ScopedExpressions.{truth_of, some_case, spelt, meaning_means, expression_scoped, IsProper}
 use Rattle.scope_types.proofs.GivenExpressions.{meaning_given}

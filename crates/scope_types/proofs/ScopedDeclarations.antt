@@ -9,7 +9,7 @@ use Rattle.portus_core.specs.Words.{is_field_name, is_control_name}
 use Rattle.scope_types.specs.Scope.{Scope}
 use Rattle.scope_types.specs.Names.{decl_from}
 use Rattle.scope_types.specs.DeclarationWalk as walk
-use Rattle.scope_types.specs.WellScoped.{IsStart, IsDeclarationOf, Declares, AreFields, IsGroup, AreParts}
+use Rattle.scope_types.specs.DeclarationRules.{IsStart, IsDeclarationOf, Declares, AreFields, IsGroup, AreParts}
 use Rattle.scope_types.proofs.Results.{if_ok, then_ok, ok_map}
 use Rattle.scope_types.proofs.ScopedExpressions.{some_case, spelt, IsProper}
 use Rattle.scope_types.proofs.ProperScopes.{proper_with_field, proper_with_control}

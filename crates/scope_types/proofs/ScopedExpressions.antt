@@ -22,9 +22,9 @@ use Rattle.ccp_base.specs.Limits.{primitive_count}
 use Rattle.ccp_base.specs.PrimitiveNames.{PrimitiveName, primitive_names, word_of, primitive_named}
 use Rattle.scope_types.specs.ValueWords.{constant_of, constant_truth}
 use Rattle.scope_types.specs.Scope.{Scope, known_in}
-use Rattle.scope_types.specs.Names.{decl_from, local_from, named, meaning_of}
+use Rattle.scope_types.specs.Names.{decl_from, local_from, variable_or, meaning_of}
 use Rattle.scope_types.specs.ExpressionWalk.{or_refused, name_walk, variable_walk, word_walk, pair_walk, expression_walk}
-use Rattle.scope_types.specs.WellScoped.{IsDeclared, IsField, IsLocal, IsPrimitive, Means, NamesVariable, IsName, IsWord, IsPair, IsTerm}
+use Rattle.scope_types.specs.ExpressionRules.{IsDeclared, IsField, IsLocal, IsPrimitive, Means, NamesVariable, IsName, IsWord, IsPair, IsTerm}
 use Rattle.scope_types.proofs.Results.{if_ok, ok_map}
 
 -- a test of two texts tells whether they are one
@@ -108,9 +108,9 @@ local_of ls w n f =
     let there : slice_get ls n ≡ Some f.local = ap (slice_get ls) e ∙ f.there in
     record { local = f.local; there = there; named = f.named; kind = slice_get-map ls n ∙ ap (λ (o : Option Local). is_bool_there (let truth : Option Bool = elim o [ Some l ↦ Some l.truth | None ↦ None ] in truth)) there }
 
-named_means : (P : Var → Type 0) (kind : ℕ → Var) (n : Option ℕ) (rest : Option Var) → IfSome n (λ i. P (kind i)) → IfSome rest P → IfSome (named kind n rest) P
-named_means P kind (Some i) rest p q = p
-named_means P kind None rest p q = q
+variable_or_means : (P : Var → Type 0) (kind : ℕ → Var) (n : Option ℕ) (rest : Option Var) → IfSome n (λ i. P (kind i)) → IfSome rest P → IfSome (variable_or kind n rest) P
+variable_or_means P kind (Some i) rest p q = p
+variable_or_means P kind None rest p q = q
 
 pub prim_means : (w : List ℕ) (n : Option ℕ) → primitive_named w ≡ n → IfSome n (λ i. IsPrimitive i w (is_flag i))
 prim_means w (Some n) e = record { spelt = e; kind = refl }
@@ -126,11 +126,11 @@ pub meaning_means : (scope : Scope) (w : List ℕ) → IfSome (meaning_of scope 
 meaning_means scope w =
     let P : Var → Type 0 = λ v. Means scope w v (truth_of scope v) in
     some_case (is_field_use w) _ _ P
-    (λ h. named_means P var.Field (decl_from 0 scope.fields (drop 7 w)) None (field_means scope.fields w ((starts_is Decides-eqb w (codes "Report.") (is_field_use w) refl).0 h)) tt)
-    (λ _. named_means P var.Prim (primitive_named w) _ (prim_means w (primitive_named w) refl)
-    (named_means P var.Control (decl_from 0 scope.controls w) _
+    (λ h. variable_or_means P var.Field (decl_from 0 scope.fields (drop 7 w)) None (field_means scope.fields w ((starts_is Decides-eqb w (codes "Report.") (is_field_use w) refl).0 h)) tt)
+    (λ _. variable_or_means P var.Prim (primitive_named w) _ (prim_means w (primitive_named w) refl)
+    (variable_or_means P var.Control (decl_from 0 scope.controls w) _
     (some_mono (decl_from 0 scope.controls w) _ _ (decl_found 0 scope.controls w) (λ i f. declared_of scope.controls w i f))
-    (named_means P var.Local (local_from 0 scope.locals w) None
+    (variable_or_means P var.Local (local_from 0 scope.locals w) None
     (some_mono (local_from 0 scope.locals w) _ _ (local_found 0 scope.locals w) (λ i f. local_of scope.locals w i f)) tt)))
 
 pub variable_kind : (scope : Scope) (w : List ℕ) → IfSome (variable_of w) (λ v. truth_of scope v ≡ false)

@@ -10,7 +10,10 @@ use Rattle.scope_types.specs.ExpressionWalk.{expression_walk}
 use Rattle.scope_types.specs.DeclarationWalk.{Declaring, parts_walk}
 use Rattle.scope_types.specs.CommandWalk.{kind_walk, body_walk}
 use Rattle.scope_types.specs.ProgramWalk.{nothing_declared, without_locals, part_of, condition_walk, inner_walk, form_walk, blocks_walk, def_walk, form_of, source_walk}
-use Rattle.scope_types.specs.WellScoped.{IsTerm, IsBody, AreParts, AreDistinct, IsBlock, IsWhen, AreBlocks, IsProgram, IsScoped}
+use Rattle.scope_types.specs.ExpressionRules.{IsTerm}
+use Rattle.scope_types.specs.CommandRules.{IsBody}
+use Rattle.scope_types.specs.DeclarationRules.{AreParts, AreDistinct}
+use Rattle.scope_types.specs.WellScoped.{IsBlock, IsWhen, AreBlocks, IsProgram, IsScoped}
 use Rattle.scope_types.proofs.Results.{if_ok, then_ok, ok_map}
 use Rattle.scope_types.proofs.ScopedExpressions.{spelt, expression_scoped, IsProper}
 use Rattle.scope_types.proofs.ScopedCommands.{kind_scoped, kind_true, IsRestScoped, body_scoped}

@@ -18,7 +18,7 @@ use Rattle.ccp_base.specs.Operations.{operator_of}
 use Rattle.ccp_base.specs.Limits.{primitive_count}
 use Rattle.ccp_base.specs.PrimitiveNames.{primitive_named}
 use Rattle.scope_types.specs.ValueWords.{constant_of}
-use Rattle.scope_types.specs.Names.{decl_from, local_from, named, meaning_of}
+use Rattle.scope_types.specs.Names.{decl_from, local_from, variable_or, meaning_of}
 use Rattle.scope_types.specs.Scope.{Scope, known_in}
 use Rattle.scope_types.specs.ExpressionWalk.{or_refused, name_walk, variable_walk, word_walk, pair_walk, expression_walk}
 use Rattle.scope_types.proofs.Results.{if_ok, both_true}
@@ -47,9 +47,9 @@ local_below i (d ∷ ds) w =
     (let here : i < i + length (d ∷ ds) = omega arith in here)
     (some_mono (local_from (i + 1) ds w) _ _ (local_below (i + 1) ds w) (λ n h. let there : n < i + length (d ∷ ds) = omega arith in there))
 
-named_known : (P : Var → Type 0) (kind : ℕ → Var) (n : Option ℕ) (rest : Option Var) → IfSome n (λ i. P (kind i)) → IfSome rest P → IfSome (named kind n rest) P
-named_known P kind (Some i) rest p q = p
-named_known P kind None rest p q = q
+variable_or_known : (P : Var → Type 0) (kind : ℕ → Var) (n : Option ℕ) (rest : Option Var) → IfSome n (λ i. P (kind i)) → IfSome rest P → IfSome (variable_or kind n rest) P
+variable_or_known P kind (Some i) rest p q = p
+variable_or_known P kind None rest p q = q
 
 below_test : (a b : ℕ) → a < b → IsTrue (nat_lt a b)
 below_test a b h = grind (arith, nat_tests)
@@ -70,10 +70,10 @@ pub meaning_known : (names : Scope) (w : List ℕ) → IfSome (meaning_of names 
 meaning_known names w =
     let P : Var → Type 0 = λ v. IsTrue (is_known (known_in names) v) in
     if_some (is_field_use w) _ _ P
-    (named_known P var.Field (decl_from 0 names.fields (drop 7 w)) None (decl_known names.fields (drop 7 w)) tt)
-    (named_known P var.Prim (primitive_named w) _ (primitive_below w)
-    (named_known P var.Control (decl_from 0 names.controls w) _ (decl_known names.controls w)
-    (named_known P var.Local (local_from 0 names.locals w) None (local_known names w) tt)))
+    (variable_or_known P var.Field (decl_from 0 names.fields (drop 7 w)) None (decl_known names.fields (drop 7 w)) tt)
+    (variable_or_known P var.Prim (primitive_named w) _ (primitive_below w)
+    (variable_or_known P var.Control (decl_from 0 names.controls w) _ (decl_known names.controls w)
+    (variable_or_known P var.Local (local_from 0 names.locals w) None (local_known names w) tt)))
 
 -- and so is a variable of the language
 pub variable_known : (known : Known) (w : List ℕ) → IfSome (variable_of w) (λ v. IsTrue (is_known known v))

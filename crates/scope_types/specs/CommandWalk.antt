@@ -15,7 +15,8 @@ use Rattle.scope_types.specs.declared.target.Target.TheVariants.{Known, Fresh}
 use Rattle.portus_core.specs.Words.{variable_of, is_reserved, is_field_use, is_primitive_use}
 use Rattle.scope_types.specs.Names.{meaning_of}
 use Rattle.scope_types.specs.Scope.{Scope, known_in, with_local}
-use Rattle.scope_types.specs.Walk.{place_of, and_then}
+use Rattle.scope_types.specs.Cuts.{place_of}
+use Rattle.scope_types.specs.WalkResults.{and_then}
 use Rattle.scope_types.specs.ExpressionWalk.{expression_walk}
 
 -- a command, and the names after it

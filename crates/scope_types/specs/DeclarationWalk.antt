@@ -13,7 +13,8 @@ use Rattle.scope_types.specs.declared.declaration.Declared.{Declared}
 use Rattle.portus_core.specs.Words.{is_field_name, is_control_name}
 use Rattle.scope_types.specs.Names.{decl_from}
 use Rattle.scope_types.specs.Scope.{Scope, scope_of}
-use Rattle.scope_types.specs.Walk.{place_of, and_then}
+use Rattle.scope_types.specs.Cuts.{place_of}
+use Rattle.scope_types.specs.WalkResults.{and_then}
 
 -- what the parts of `def` so far declare, and whether the group of fields was there
 pub record Declaring : Type 0 where

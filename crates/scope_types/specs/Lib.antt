@@ -2,11 +2,14 @@
 pub mod ValueWords
 pub mod Scope
 pub mod Names
-pub mod Walk
+pub mod Cuts
+pub mod WalkResults
 pub mod ExpressionWalk
 pub mod DeclarationWalk
 pub mod CommandWalk
 pub mod ProgramWalk
-pub mod Steps
+pub mod ExpressionRules
+pub mod CommandRules
+pub mod DeclarationRules
 pub mod WellScoped
 pub mod Outcomes

@@ -18,12 +18,14 @@ abbrev pub local_from : ℕ → List Local → List ℕ → Option ℕ
 local_from i [] w = None
 local_from i (local ∷ rest) w = if bytes_eq local.name w then Some i else local_from (i + 1) rest w
 
-abbrev pub named : (ℕ → Var) → Option ℕ → Option Var → Option Var
-named kind (Some i) else_ = Some (kind i)
-named kind None else_ = else_
+-- the variable of this kind that has the number, where there is one, or else the other
+abbrev pub variable_or : (ℕ → Var) → Option ℕ → Option Var → Option Var
+variable_or kind (Some i) else_ = Some (kind i)
+variable_or kind None else_ = else_
 
 -- what a word that isn't reserved stands for
 abbrev pub meaning_of : Scope → List ℕ → Option Var
 meaning_of names w =
-    if is_field_use w then named var.Field (decl_from 0 names.fields (drop 7 w)) None
-    else named var.Prim (primitive_named w) (named var.Control (decl_from 0 names.controls w) (named var.Local (local_from 0 names.locals w) None))
+    if is_field_use w then variable_or var.Field (decl_from 0 names.fields (drop 7 w)) None
+    else variable_or var.Prim (primitive_named w) (variable_or var.Control (decl_from 0 names.controls w)
+    (variable_or var.Local (local_from 0 names.locals w) None))

@@ -8,7 +8,8 @@ use Rattle.scope_types.specs.declared.fault.ScopeFault.{ScopeFault}
 use Rattle.scope_types.specs.declared.fault.ScopeFault.TheVariants.{Misplaced, TooMany}
 use Rattle.scope_types.specs.declared.fault.What.TheVariants.{Blocks}
 use Rattle.scope_types.specs.Scope.{Scope}
-use Rattle.scope_types.specs.Walk.{place_of, and_then}
+use Rattle.scope_types.specs.Cuts.{place_of}
+use Rattle.scope_types.specs.WalkResults.{and_then}
 use Rattle.scope_types.specs.ExpressionWalk.{expression_walk}
 use Rattle.scope_types.specs.DeclarationWalk.{Declaring, parts_walk}
 use Rattle.scope_types.specs.CommandWalk.{kind_walk, body_walk}

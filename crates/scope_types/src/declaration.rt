@@ -1,14 +1,17 @@
-ghost use Rattle.std.specs.Prelude.{◌≡◌, ◌≢◌, ◌++◌, ◌∷◌, [], IfOk, IfErr, Ok, Err, length};
+ghost use Rattle.std.specs.Prelude.{◌≡◌, ◌≢◌, ◌++◌, ◌∷◌, [], OnOk, IfErr, Ok, Err, length};
 ghost use Rattle.portus_core.specs.Trees.{node_of, nodes_of};
 ghost use Rattle.portus_core.specs.Words.{has_dot, is_field_name, is_control_name};
-ghost use Rattle.scope_types.specs.DeclarationWalk.{declaring_of, GivesDeclared, start_word, start_of, declaration_walk, field_walk, control_walk, fields_walk, group_walk, control_part_walk, part_walk, parts_walk};
+ghost use Rattle.scope_types.specs.DeclarationWalk.{declaring_of, GivesDeclared};
+ghost use Rattle.scope_types.specs.DeclarationWalk.{start_word, start_of, declaration_walk};
+ghost use Rattle.scope_types.specs.DeclarationWalk.{field_walk, control_walk, fields_walk, group_walk};
+ghost use Rattle.scope_types.specs.DeclarationWalk.{control_part_walk, part_walk, parts_walk};
 ghost use Rattle.scope_types.specs.Scope.{scope_of};
-ghost use Rattle.scope_types.specs.Walk.{EndsWalk};
+ghost use Rattle.scope_types.specs.WalkResults.{EndsWalk, GivesNames};
 ghost use Rattle.scope_types.specs.declared.fault.ScopeFault.TheVariants.{NoMemory};
 
+use crate::cut::{Cut, cut_first, place_of};
 use crate::fault::{ScopeFault, What};
 use crate::names::Names;
-use crate::parts::{Cut, cut_first, place_of};
 use crate::words::{is_field_use, is_primitive_use, is_reserved, same};
 use ccp_base::{FIELDS, Place};
 use portus_core::{Decl, Parts, Tree, is_name_shaped, take_apart};
@@ -130,9 +133,9 @@ fn is_control_name(w: &[u8]) -> bool
 }
 
 /// One more field.
-fn field(mut names: Names, d: Declaration) -> Result<Names, ScopeFault>
-    ensures ok { IfOk result (λ after. field_walk (scope_of names) d ≡ Ok (scope_of after)) }
-    ensures err { IfErr result (EndsWalk (field_walk (scope_of names) d)) }
+fn field(names: &mut Names, d: Declaration) -> Result<(), ScopeFault>
+    ensures ok { OnOk result (GivesNames (field_walk (scope_of names.old) d) names.new) }
+    ensures err { IfErr result (EndsWalk (field_walk (scope_of names.old) d)) }
 {
     if !is_field_name(d.decl.name.as_slice()) {
         return Err(ScopeFault::Misplaced(d.at));
@@ -144,13 +147,13 @@ fn field(mut names: Names, d: Declaration) -> Result<Names, ScopeFault>
         return Err(ScopeFault::TooMany(d.at, What::Fields));
     }
     names.fields.push(d.decl)?;
-    Ok(names)
+    Ok(())
 }
 
 /// One more control variable.
-fn control(mut names: Names, d: Declaration) -> Result<Names, ScopeFault>
-    ensures ok { IfOk result (λ after. control_walk (scope_of names) d ≡ Ok (scope_of after)) }
-    ensures err { IfErr result (EndsWalk (control_walk (scope_of names) d)) }
+fn control(names: &mut Names, d: Declaration) -> Result<(), ScopeFault>
+    ensures ok { OnOk result (GivesNames (control_walk (scope_of names.old) d) names.new) }
+    ensures err { IfErr result (EndsWalk (control_walk (scope_of names.old) d)) }
 {
     if !is_control_name(d.decl.name.as_slice()) {
         return Err(ScopeFault::Misplaced(d.at));
@@ -162,75 +165,79 @@ fn control(mut names: Names, d: Declaration) -> Result<Names, ScopeFault>
         return Err(ScopeFault::TooMany(d.at, What::Controls));
     }
     names.controls.push(d.decl)?;
-    Ok(names)
+    Ok(())
 }
 
 /// The parts of the group of fields.
-fn fields(names: Names, parts: &[Tree]) -> Result<Names, ScopeFault>
-    ensures ok { IfOk result (λ after. fields_walk (scope_of names) (nodes_of parts.now) ≡ Ok (scope_of after)) }
-    ensures err { IfErr result (EndsWalk (fields_walk (scope_of names) (nodes_of parts.now))) }
+fn fields(names: &mut Names, parts: &[Tree]) -> Result<(), ScopeFault>
+    ensures ok { OnOk result (GivesNames (fields_walk (scope_of names.old) (nodes_of parts.now)) names.new) }
+    ensures err { IfErr result (EndsWalk (fields_walk (scope_of names.old) (nodes_of parts.now))) }
 {
-    let mut names = names;
     let mut rest = parts;
     while let Some((part, later)) = rest.split_first() {
-        names = field(names, declaration_of(part)?)?;
+        field(names, declaration_of(part)?)?;
         rest = later;
     }
-    Ok(names)
+    Ok(())
 }
 
 /// The group of fields, of which there is one at most.
-fn group(declared: Declared, head: Place, parts: &[Tree]) -> Result<Declared, ScopeFault>
-    ensures ok { IfOk result (GivesDeclared (group_walk (declaring_of declared) head (nodes_of parts.now))) }
-    ensures err { IfErr result (EndsWalk (group_walk (declaring_of declared) head (nodes_of parts.now))) }
+fn group(declared: &mut Declared, head: Place, parts: &[Tree]) -> Result<(), ScopeFault>
+    ensures ok { let walk = group_walk (declaring_of declared.old) head (nodes_of parts.now) in
+        OnOk result (GivesDeclared walk declared.new) }
+    ensures err { IfErr result (EndsWalk (group_walk (declaring_of declared.old) head (nodes_of parts.now))) }
 {
     if declared.grouped {
         return Err(ScopeFault::Twice(head));
     }
-    let names = fields(declared.names, parts)?;
-    Ok(Declared {
-        names,
-        grouped: true,
-    })
+    fields(&mut declared.names, parts)?;
+    declared.grouped = true;
+    Ok(())
 }
 
 /// A part of `def` that declares a control variable.
-fn control_part(known: Declared, tree: &Tree) -> Result<Declared, ScopeFault>
-    ensures ok { IfOk result (λ d. control_part_walk (declaring_of known) (node_of tree.now) ≡ Ok (declaring_of d)) }
-    ensures err { IfErr result (λ e. e ≢ NoMemory → control_part_walk (declaring_of known) (node_of tree.now) ≡ Err e) }
+fn control_part(declared: &mut Declared, tree: &Tree) -> Result<(), ScopeFault>
+    ensures ok { let walk = control_part_walk (declaring_of declared.old) (node_of tree.now) in
+        OnOk result (walk ≡ Ok (declaring_of declared.new)) }
+    ensures err { let walk = control_part_walk (declaring_of declared.old) (node_of tree.now) in
+        IfErr result (λ e. e ≢ NoMemory → walk ≡ Err e) }
 {
-    let names = control(known.names, declaration_of(tree)?)?;
-    Ok(Declared {
-        names,
-        grouped: known.grouped,
-    })
+    control(&mut declared.names, declaration_of(tree)?)
 }
 
 /// A part of `def`.
-fn part(declared: Declared, tree: &Tree) -> Result<Declared, ScopeFault>
-    ensures ok { IfOk result (λ after. part_walk (declaring_of declared) (node_of tree.now) ≡ Ok (declaring_of after)) }
-    ensures err { IfErr result (λ e. e ≢ NoMemory → part_walk (declaring_of declared) (node_of tree.now) ≡ Err e) }
+fn part(declared: &mut Declared, tree: &Tree) -> Result<(), ScopeFault>
+    ensures ok { let walk = part_walk (declaring_of declared.old) (node_of tree.now) in
+        OnOk result (walk ≡ Ok (declaring_of declared.new)) }
+    ensures err { let walk = part_walk (declaring_of declared.old) (node_of tree.now) in
+        IfErr result (λ e. e ≢ NoMemory → walk ≡ Err e) }
 {
-    if let Tree::List(_, parts) = tree {
-        if let Cut::First(Tree::Word(head, w), rest) = cut_first(parts.as_slice()) {
-            if same(w.as_slice(), b"Report") {
-                return group(declared, *head, rest);
+    match tree {
+        Tree::List(_, parts) => match cut_first(parts.as_slice()) {
+            Cut::First(Tree::Word(head, w), rest) => {
+                if same(w.as_slice(), b"Report") {
+                    group(declared, *head, rest)
+                } else {
+                    control_part(declared, tree)
+                }
             }
-        }
+            _ => control_part(declared, tree),
+        },
+        Tree::Num(_, _) => control_part(declared, tree),
+        Tree::Word(_, _) => control_part(declared, tree),
     }
-    control_part(declared, tree)
 }
 
 /// The parts of `def`.
-pub(crate) fn parts(declared: Declared, trees: &[Tree]) -> Result<Declared, ScopeFault>
-    ensures ok { IfOk result (GivesDeclared (parts_walk (declaring_of declared) (nodes_of trees.now))) }
-    ensures err { IfErr result (EndsWalk (parts_walk (declaring_of declared) (nodes_of trees.now))) }
+pub(crate) fn parts(declared: &mut Declared, trees: &[Tree]) -> Result<(), ScopeFault>
+    ensures ok { let walk = parts_walk (declaring_of declared.old) (nodes_of trees.now) in
+        OnOk result (GivesDeclared walk declared.new) }
+    ensures err { IfErr result (EndsWalk (parts_walk (declaring_of declared.old) (nodes_of trees.now))) }
 {
-    let mut declared = declared;
     let mut rest = trees;
     while let Some((tree, later)) = rest.split_first() {
-        declared = part(declared, tree)?;
+        part(declared, tree)?;
         rest = later;
     }
-    Ok(declared)
+    Ok(())
 }

@@ -5,7 +5,7 @@ ghost use Rattle.scope_types.specs.ExpressionWalk.{expression_walk, variable_wal
 ghost use Rattle.portus_core.specs.Words.{variable_of};
 ghost use Rattle.scope_types.specs.ValueWords.{constant_of};
 ghost use Rattle.scope_types.specs.Scope.{scope_of};
-ghost use Rattle.scope_types.specs.Walk.{EndsWalk};
+ghost use Rattle.scope_types.specs.WalkResults.{EndsWalk};
 
 use crate::fault::ScopeFault;
 use crate::meaning::meaning_of;

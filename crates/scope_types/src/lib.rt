@@ -2,18 +2,18 @@
 //! rule of the language fails.
 #![tactic(auto)]
 
+mod assignment;
 mod block;
 mod command;
+mod cut;
 mod declaration;
 mod declarations;
 mod expression;
 mod fault;
 mod meaning;
 mod names;
-mod parts;
 mod source;
 mod target;
-mod value;
 mod words;
 
 pub use fault::{ScopeFault, What};

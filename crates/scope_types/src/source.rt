@@ -8,14 +8,14 @@ ghost use Rattle.scope_types.specs.ProgramWalk.{nothing_declared, def_walk, sour
 ghost use Rattle.scope_types.specs.Scope.{scope_of};
 ghost use Rattle.scope_types.specs.WellScoped.{IsScoped};
 ghost use Rattle.scope_types.specs.Outcomes.{ScopesAs, IsRefused, IsSettled};
-ghost use Rattle.scope_types.specs.Walk.{EndsWalk};
+ghost use Rattle.scope_types.specs.WalkResults.{EndsWalk, GivesNames};
 
-use crate::block::{Blocks, later_forms};
+use crate::block::later_forms;
+use crate::cut::{Cut, cut_first, place_of};
 use crate::declaration::{Declared, parts};
 use crate::declarations::Declarations;
 use crate::fault::ScopeFault;
 use crate::names::Names;
-use crate::parts::{Cut, cut_first, place_of};
 use crate::words::same;
 use ccp_base::{Place, Sequence};
 use portus_core::{Block, Program, Source, Tree};
@@ -37,13 +37,15 @@ fn nothing_declared(alloc: Global) -> Declared
 
 /// The first form, which declares the names.
 fn def(alloc: Global, tree: &Tree) -> Result<Names, ScopeFault>
-    ensures ok { IfOk result (λ names. def_walk (node_of tree.now) ≡ Ok (scope_of names)) }
+    ensures ok { IfOk result (GivesNames (def_walk (node_of tree.now))) }
     ensures err { IfErr result (EndsWalk (def_walk (node_of tree.now))) }
 {
     if let Tree::List(_, items) = tree {
         if let Cut::First(Tree::Word(_, w), rest) = cut_first(items.as_slice()) {
             if same(w.as_slice(), b"def") {
-                return Ok(parts(nothing_declared(alloc), rest)?.names);
+                let mut declared = nothing_declared(alloc);
+                parts(&mut declared, rest)?;
+                return Ok(declared.names);
             }
         }
     }
@@ -73,9 +75,9 @@ fn scope_forms(alloc: Global, forms: &[Tree]) -> Result<Program, ScopeFault>
     let Cut::First(first, rest) = cut_first(forms) else {
         return Err(ScopeFault::Misplaced(Place { line: 1, column: 1 }));
     };
-    let names = def(alloc, first)?;
-    let Blocks { all, names } = later_forms(alloc, names, rest)?;
-    Ok(program(alloc, names, all)?)
+    let mut names = def(alloc, first)?;
+    let blocks = later_forms(alloc, &mut names, rest)?;
+    Ok(program(alloc, names, blocks)?)
 }
 
 /// The program that a text's forms stand for, or the first refusal in the order of the text. Where they stand for

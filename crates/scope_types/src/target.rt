@@ -1,7 +1,8 @@
 ghost use Rattle.std.specs.Prelude.{◌≡◌};
 ghost use Rattle.portus_core.specs.Trees.{node_of};
 ghost use Rattle.portus_core.specs.Words.{variable_of};
-ghost use Rattle.scope_types.specs.CommandWalk.{named_target_walk, word_target_walk, target_walk, known_walk, number_walk};
+ghost use Rattle.scope_types.specs.CommandWalk.{named_target_walk, word_target_walk, target_walk};
+ghost use Rattle.scope_types.specs.CommandWalk.{known_walk, number_walk};
 ghost use Rattle.scope_types.specs.Scope.{scope_of};
 
 use crate::fault::ScopeFault;

@@ -1,5 +1,6 @@
 ghost use Rattle.std.specs.Prelude.{◌≡◌, bytes_eq};
-ghost use Rattle.portus_core.specs.Words.{is_constant, variable_of, is_heading, is_reserved, is_field_use, is_primitive_use};
+ghost use Rattle.portus_core.specs.Words.{is_constant, variable_of, is_heading, is_reserved};
+ghost use Rattle.portus_core.specs.Words.{is_field_use, is_primitive_use};
 
 use ccp_base::operator_of;
 use portus_core::{Var, is_name_shaped};

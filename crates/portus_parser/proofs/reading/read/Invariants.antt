@@ -4,4 +4,4 @@ use Rattle.portus_parser.proofs.reading.read.Given as goal
 
 abbrev pub invariant-loop-token : goal.invariant-loop-token
 invariant-loop-token l =
-    read (Ok (reading_of l.frames.items l.parts.items)) (map (lexeme_in l.text) (drop l.token-index l.tokens)) ≡ read unread (map (lexeme_in l.text) l.tokens)
+    read (Ok (reading_of l.open_lists.items l.parts.items)) (map (lexeme_in l.text) (drop l.token-index l.tokens)) ≡ read unread (map (lexeme_in l.text) l.tokens)

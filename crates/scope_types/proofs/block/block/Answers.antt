@@ -6,9 +6,9 @@ use Rattle.scope_types.proofs.block.block.Goals as goal
 pub returns-in-First-clause-ok : goal.returns-in-First-clause-ok
 returns-in-First-clause-ok c =
     ok_map c.inner.result _ _ c.inner.ensures.ok
-    (λ b h. block_walk-inner (scope_of c.args.names) (scope_of c.without_locals.result) c.args.at _ _ _ _ c.in-First.ensures c.without_locals.ensures h)
+    (λ b h. block_walk-inner (scope_of c.args.names.now) (scope_of c.drop_locals.new.names) c.args.at _ _ _ _ c.in-First.ensures c.drop_locals.ensures h)
 
 pub returns-in-First-clause-err : goal.returns-in-First-clause-err
 returns-in-First-clause-err c =
     err_map c.inner.result _ _ c.inner.ensures.err
-    (λ e h k. block_walk-inner (scope_of c.args.names) (scope_of c.without_locals.result) c.args.at _ _ _ _ c.in-First.ensures c.without_locals.ensures (h k))
+    (λ e h k. block_walk-inner (scope_of c.args.names.now) (scope_of c.drop_locals.new.names) c.args.at _ _ _ _ c.in-First.ensures c.drop_locals.ensures (h k))

@@ -1,7 +1,7 @@
 use Rattle.std.proofs.Common.{◌≡◌, [], length}
 use Rattle.portus_core.specs.Trees.{nodes_of}
 use Rattle.scope_types.specs.ProgramWalk.{blocks_walk}
-use Rattle.scope_types.specs.Steps.{blocks_of}
+use Rattle.scope_types.specs.WalkResults.{blocks_of}
 use Rattle.scope_types.specs.Scope.{scope_of}
 use Rattle.scope_types.proofs.block.later_forms.Given as goal
 

@@ -1,7 +1,7 @@
 use Rattle.std.proofs.Common.{◌≡◌, [], length}
 use Rattle.portus_core.specs.Trees.{nodes_of}
 use Rattle.scope_types.specs.CommandWalk.{body_walk}
-use Rattle.scope_types.specs.Steps.{actions_of}
+use Rattle.scope_types.specs.WalkResults.{actions_of}
 use Rattle.scope_types.specs.Scope.{scope_of}
 use Rattle.scope_types.proofs.command.commands.Given as goal
 

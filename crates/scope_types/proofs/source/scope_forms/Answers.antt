@@ -1,17 +1,15 @@
 use Rattle.portus_core.specs.Trees.{node_of, nodes_of}
 use Rattle.scope_types.specs.Scope.{scope_of}
-use Rattle.scope_types.specs.Steps.{blocks_of}
+use Rattle.scope_types.specs.WalkResults.{blocks_of}
 use Rattle.scope_types.proofs.ValidSource.{parts_declared, parts_valid}
 use Rattle.scope_types.proofs.source.scope_forms.Goals as goal
 
 pub program-requires-clause-declared : goal.program-requires-clause-declared
 program-requires-clause-declared c =
-    let after = c.in_ok-all.field-0 in
     parts_declared (node_of c.in-First.first.now) (nodes_of c.in-First.rest.now) (scope_of c.in_ok-names.names)
-    (blocks_of after.all.items, scope_of after.names) c.in_ok-names.ensures.ok c.in_ok-all.ensures.ok
+    (blocks_of c.in_ok-blocks.blocks.items, scope_of c.later_forms.new.names) c.in_ok-names.ensures.ok c.in_ok-blocks.ensures.ok
 
 pub program-requires-clause-valid : goal.program-requires-clause-valid
 program-requires-clause-valid c =
-    let after = c.in_ok-all.field-0 in
     parts_valid (node_of c.in-First.first.now) (nodes_of c.in-First.rest.now) (scope_of c.in_ok-names.names)
-    (blocks_of after.all.items, scope_of after.names) c.in_ok-names.ensures.ok c.in_ok-all.ensures.ok
+    (blocks_of c.in_ok-blocks.blocks.items, scope_of c.later_forms.new.names) c.in_ok-names.ensures.ok c.in_ok-blocks.ensures.ok

@@ -3,7 +3,7 @@ use portus_core::Tree;
 
 /// A list that is open: the place of its `(`, and the parts that its own list had before it.
 #[derive(Drop)]
-pub struct Frame {
+pub struct OpenList {
     pub place: Place,
     pub before: Vec<Tree>,
 }

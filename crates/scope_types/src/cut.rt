@@ -1,6 +1,6 @@
 ghost use Rattle.std.specs.Prelude.{◌≡◌};
 ghost use Rattle.portus_core.specs.Trees.{node_of, nodes_of};
-ghost use Rattle.scope_types.specs.Walk.{place_of, CutsInto};
+ghost use Rattle.scope_types.specs.Cuts.{place_of, CutsInto};
 
 use ccp_base::Place;
 use portus_core::Tree;
