@@ -1,34 +1,52 @@
 //! What a datapath answers, frame by frame.
 
-ghost use Rattle.feed_core.specs.FeedHolds.{state_of, IsFeed};
+ghost use Rattle.std.specs.Prelude.{IfOk};
+ghost use Rattle.ccp_messages.specs.Messages.{Meets};
+ghost use Rattle.feed_core.specs.FeedHolds.{state_of, IsFeed, HasFrame};
 
 use crate::frames::{
     ACK, BAD_CODE, CHANGE, CHANGE_16, CHANGE_BAD, CREATE, CREATE_2, CREATE_64, INSTALL, MEASURE,
     MEASURE_2, REFUSED_2, REFUSED_6, REFUSED_9, UPDATE_FLOW_0,
 };
 use ccp_base::Bytes;
-use ccp_messages::{decode, encode_into};
+use ccp_messages::{Message, Version, decode, encode_into};
 use feed_core::Feed;
 use std::alloc::Global;
 use std::test::Fail;
+
+/// The answer to a frame, where it has one.
+fn answer(alloc: Global, feed: &mut Feed, frame: &[u8]) -> Result<Option<(Message, Version)>, Fail>
+    requires { IsFeed (state_of feed.old) }
+    ensures feed { IsFeed (state_of feed.new) }
+    ensures frame { IfOk result HasFrame }
+{
+    if feed.messages() >= 1_048_576 {
+        return Ok(None);
+    }
+    let (message, version, _) = decode(alloc, frame).ok().ok_or("a frame")?;
+    let answer = feed.frame(alloc, message, version).ok().ok_or("memory")?;
+    Ok(answer)
+}
+
+/// Puts the frame of a message at the end of those before.
+fn put_frame(message: &Message, version: Version, all: &mut Bytes) -> Result<(), Fail>
+    requires { Meets version message.now }
+{
+    let mut out = [0u8; 576];
+    let size = encode_into(message, version, &mut out).ok().ok_or("room")?;
+    all.extend(&out[..size])?;
+    Ok(())
+}
 
 /// Puts the answer to a frame at the end of those before.
 fn put_answer(alloc: Global, feed: &mut Feed, frame: &[u8], all: &mut Bytes) -> Result<(), Fail>
     requires { IsFeed (state_of feed.old) }
     ensures { IsFeed (state_of feed.new) }
 {
-    if feed.messages() >= 1_048_576 {
-        return Ok(());
-    }
-    let (message, version, _) = decode(alloc, frame).ok().ok_or("a frame")?;
-    let answer = feed.frame(alloc, message, version).ok().ok_or("memory")?;
-    let Some((message, version)) = answer else {
+    let Some((message, version)) = answer(alloc, feed, frame)? else {
         return Ok(());
     };
-    let mut out = [0u8; 576];
-    let size = encode_into(&message, version, &mut out).ok().ok_or("room")?;
-    all.extend(&out[..size])?;
-    Ok(())
+    put_frame(&message, version, all)
 }
 
 /// The frames that answer these.
@@ -39,6 +57,12 @@ fn answers(alloc: Global, frames: &[&[u8]]) -> Result<Bytes, Fail> {
         put_answer(alloc, &mut feed, frame, &mut all)?;
     }
     Ok(all)
+}
+
+/// Whether these frames answer the others.
+fn are_answered(alloc: Global, frames: &[&[u8]], wanted: &[u8]) -> Result<bool, Fail> {
+    let given = answers(alloc, frames)?;
+    Ok(given.as_slice() == wanted)
 }
 
 /// Frames, and the frames that answer them.
@@ -96,18 +120,27 @@ const ANSWERED: [(&str, &[&[u8]], &[u8]); 12] = [
 #[test]
 fn frames_are_answered(rt: HostRuntime) -> Result<(), Fail> {
     for (name, frames, wanted) in &ANSWERED {
-        let given = answers(rt.alloc(), frames)?;
-        assert!(rt; given.as_slice() == *wanted, "at {name}");
+        assert!(rt; are_answered(rt.alloc(), frames, wanted)?, "at {name}");
     }
     Ok(())
 }
 
+/// An Install of version 2 with 33 fields, each byte after its head 0.
+fn wide_install(alloc: Global) -> Result<Bytes, Fail> {
+    let mut install = Bytes::new(alloc);
+    install.extend(b"\x03\x02\x21\x00\x00\x00\x00\x00\x00\x00\x00\x00\x3d\x01\x00\x00")?;
+    install.extend(&[0; 301])?;
+    Ok(install)
+}
+
+/// Whether a Change to a program is answered so, on a flow of version 1.
+fn change_is_answered(alloc: Global, install: &[u8], wanted: &[u8]) -> Result<bool, Fail> {
+    are_answered(alloc, &[CREATE, install, CHANGE], wanted)
+}
+
 #[test]
 fn a_flow_of_version_1_takes_no_more_than_32_fields(rt: HostRuntime) -> Result<(), Fail> {
-    let mut install = Bytes::new(rt.alloc());
-    install.extend(b"\x03\x02\x21\x00\x00\x00\x00\x00\x00\x00\x00\x00\x3d\x01\x00\x00")?;
-    install.extend(&vec![in rt.alloc(); 0u8; 301]?)?;
-    let given = answers(rt.alloc(), &[CREATE, install.as_slice(), CHANGE])?;
-    assert!(rt; given.as_slice() == REFUSED_9);
+    let install = wide_install(rt.alloc())?;
+    assert!(rt; change_is_answered(rt.alloc(), install.as_slice(), REFUSED_9)?);
     Ok(())
 }

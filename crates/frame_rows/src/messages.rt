@@ -48,17 +48,26 @@ fn is_written(message: &Message, version: Version, out: &mut [u8], frame: &[u8])
     encode_into(message, version, out) == Ok(frame.len()) && out.starts_with(frame)
 }
 
-#[test]
-fn messages_are_written(rt: HostRuntime) {
-    let mut out = [9; 51];
+/// Whether a Create is written, and nothing after it.
+fn create_is_written() -> bool {
     let create = Message::Create {
         flow: 0,
         mss: 1448,
         cwnd: 4344,
     };
-    assert!(rt; is_written(&create, Version::One, &mut out, CREATE));
-    assert!(rt; out[28] == 9);
-    assert!(rt; is_written(&overflow(), Version::Two, &mut out, FAULT));
+    let mut out = [9; 29];
+    is_written(&create, Version::One, &mut out, CREATE) && out[28] == 9
+}
+
+fn fault_is_written() -> bool {
+    is_written(&overflow(), Version::Two, &mut [9; 51], FAULT)
+}
+
+#[test]
+fn messages_are_written(rt: HostRuntime) {
+    assert!(rt; create_is_written());
+    assert!(rt; fault_is_written());
+    assert!(rt; install_is_written(rt.alloc()));
 }
 
 /// An Install without registers, events and instructions.
@@ -98,19 +107,28 @@ fn is_short(message: &Message, out: &mut [u8], size: usize) -> bool
     encode_into(message, Version::One, out) == Err(Short(size)) && out.iter().all(|byte| *byte == 9)
 }
 
+fn fault_is_short() -> bool {
+    is_short(&overflow(), &mut [9; 46], 47)
+}
+
+fn change_is_short() -> bool {
+    is_short(&change(), &mut [9; 29], 30)
+}
+
+fn install_is_short(alloc: Global) -> bool {
+    is_short(&empty_install(alloc), &mut [9; 19], 20)
+}
+
+fn install_is_written(alloc: Global) -> bool {
+    is_written(&empty_install(alloc), Version::One, &mut [9; 46], INSTALL_5)
+}
+
 /// What is short gets nothing.
 #[test]
 fn short_slices_are_left(rt: HostRuntime) {
-    let mut out = [9; 46];
-    assert!(rt; is_short(&overflow(), &mut out, 47));
-    assert!(rt; is_short(&change(), &mut out[..29], 30));
-    assert!(rt; is_short(&empty_install(rt.alloc()), &mut out[..19], 20));
-}
-
-#[test]
-fn an_install_of_nothing_is_written(rt: HostRuntime) {
-    let mut out = [9; 46];
-    assert!(rt; is_written(&empty_install(rt.alloc()), Version::One, &mut out, INSTALL_5));
+    assert!(rt; fault_is_short());
+    assert!(rt; change_is_short());
+    assert!(rt; install_is_short(rt.alloc()));
 }
 
 /// How long the message is that begins the bytes, if it comes back from what is written of it in the version it came
