@@ -14,8 +14,8 @@ pub(crate) const ONE_CASE: &[u8] =
 pub(crate) const FIRST_REPORT: &[u8] =
     b"(def (Report (volatile acked 0))) (when true (:= Report.acked (+ Report.acked Ack.bytes_acked)) (fallthrough)) (when (> Report.acked 2999) (report))\n---\nbytes_acked=1500\nbytes_acked=1500\nbytes_acked=1500\n";
 
-/// Which call of the source, of the sink and of the stream of errors fails, if one does, and how many bytes a call of the
-/// source and the sink takes.
+/// Which call of the source, of the sink and of the stream of errors fails, if one does, and how many bytes a call of
+/// the source and of the sink takes.
 #[derive(Clone, Copy)]
 pub(crate) struct Ways<'a> {
     pub(crate) read: &'a [u64],
