@@ -1,12 +1,12 @@
 //! A flow before its first letter.
-ghost use Rattle.std.specs.Prelude.{◌≡◌, [], IfOk};
+ghost use Rattle.std.specs.Prelude.{◌≡◌, ◌*◌, ◌≤◌, [], ◌∷◌, IfOk};
 ghost use Rattle.fold_machine.specs.MachineState.{Fits};
 ghost use Rattle.agent_core.specs.Agents.{course_of};
 ghost use Rattle.flow_core.specs.Readings.{code_at};
-ghost use Rattle.flow_core.specs.Opening.{opened_machine};
+ghost use Rattle.flow_core.specs.Opening.{opened_machine, IsOpening};
 ghost use Rattle.flow_core.specs.States.{IsCore};
 
-use crate::book::EpochLine;
+use crate::book::{EpochLine, TicketLine};
 use crate::case::Case;
 use crate::letter::Letter;
 use crate::outbox::Outbox;
@@ -36,6 +36,74 @@ fn opening_machine(alloc: Global, case: &Case, program: u32) -> Result<Machine, 
     Ok(machine)
 }
 
+/// No ticket's line, and the line of the epoch that begins a flow.
+fn opening_lines(
+    alloc: Global,
+    program: u32,
+    cwnd: u64,
+) -> Result<(Roomy<TicketLine>, Roomy<EpochLine>), NoMemory>
+    ensures tickets { IfOk result (λ lines. lines.0.items ≡ []) }
+    ensures epochs { IfOk result (λ lines. lines.1.items ≡ record { program = program; at = 0; cwnd = cwnd } ∷ []) }
+{
+    let tickets = Roomy::with_room(alloc, 0)?;
+    let mut epochs = Roomy::with_room(alloc, 1)?;
+    epochs.push(EpochLine {
+        program,
+        at: 0,
+        cwnd,
+    });
+    Ok((tickets, epochs))
+}
+
+/// No fault, acknowledgement and letter, with room for all that so many acknowledgements make.
+fn rooms(alloc: Global, acks: u32) -> Result<(Roomy<Notice>, Roomy<Ack>, Roomy<Letter>), NoMemory>
+    ensures faults { IfOk result (λ rooms. (rooms.0.items ≡ []) × (acks ≤ rooms.0.room)) }
+    ensures acks { IfOk result (λ rooms. (rooms.1.items ≡ []) × (acks ≤ rooms.1.room)) }
+    ensures word { IfOk result (λ rooms. (rooms.2.items ≡ []) × (3 * acks ≤ rooms.2.room)) }
+{
+    let count = acks as usize;
+    let faults = Roomy::with_room(alloc, count)?;
+    let acks = Roomy::with_room(alloc, count)?;
+    let word = Roomy::with_room(alloc, 3 * count)?;
+    Ok((faults, acks, word))
+}
+
+/// What a flow has beside its case before its first letter.
+#[derive(Drop)]
+struct Opening {
+    machine: Machine,
+    program: u32,
+    outbox: Outbox,
+    tickets: Roomy<TicketLine>,
+    epochs: Roomy<EpochLine>,
+    faults: Roomy<Notice>,
+    acks: Roomy<Ack>,
+    word: Roomy<Letter>,
+}
+
+impl Opening {
+    /// What a flow of this case has. All that acknowledgements take is reserved here.
+    fn of(alloc: Global, case: &Case) -> Result<Opening, NoMemory>
+        ensures { IfOk result (IsOpening case.now) }
+    {
+        let program = case.agent.course().ss.number;
+        let (faults, acks, word) = rooms(alloc, case.acks)?;
+        let outbox = Outbox::new(alloc, case.slots)?;
+        let machine = opening_machine(alloc, case, program)?;
+        let (tickets, epochs) = opening_lines(alloc, program, machine.cwnd())?;
+        Ok(Opening {
+            machine,
+            program,
+            outbox,
+            tickets,
+            epochs,
+            faults,
+            acks,
+            word,
+        })
+    }
+}
+
 impl State {
     /// The state of a flow that has no letter yet. All that acknowledgements take is reserved here.
     pub(crate) fn open(alloc: Global, case: Case) -> Result<State, NoMemory>
@@ -44,35 +112,22 @@ impl State {
         ensures acks { IfOk result (λ state. state.acks.items ≡ []) }
         ensures word { IfOk result (λ state. state.word.items ≡ []) }
     {
-        let count = case.acks as usize;
-        let program = case.agent.course().ss.number;
-        let machine = opening_machine(alloc, &case, program)?;
-        let outbox = Outbox::new(alloc, case.slots)?;
-        let tickets = Roomy::with_room(alloc, 0)?;
-        let mut epochs = Roomy::with_room(alloc, 1)?;
-        let faults = Roomy::with_room(alloc, count)?;
-        let acks = Roomy::with_room(alloc, count)?;
-        let word = Roomy::with_room(alloc, 3 * count)?;
-        epochs.push(EpochLine {
-            program,
-            at: 0,
-            cwnd: machine.cwnd(),
-        });
+        let opening = Opening::of(alloc, &case)?;
         let agent = case.agent;
         Ok(State {
             case,
-            machine,
-            program,
+            machine: opening.machine,
+            program: opening.program,
             first: 0,
-            outbox,
+            outbox: opening.outbox,
             agent,
             out: None,
-            tickets,
-            epochs,
-            faults,
+            tickets: opening.tickets,
+            epochs: opening.epochs,
+            faults: opening.faults,
             held: 0,
-            acks,
-            word,
+            acks: opening.acks,
+            word: opening.word,
         })
     }
 }

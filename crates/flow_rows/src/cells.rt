@@ -57,7 +57,7 @@ fn span(first: u64, end: u64, value: u64) -> Shown {
     }
 }
 
-/// With one slot the second report is held, and the third one has the span of both.
+/// The second report is held, and the third one has the span of both.
 fn holds(rt: &impl Abort, alloc: Global, cell: &mut Cell, value: u64) -> Result<(), Fail> {
     hears(rt, cell, Ok(Acked::Reported));
     hears(rt, cell, Ok(Acked::Held));
@@ -70,14 +70,18 @@ fn holds(rt: &impl Abort, alloc: Global, cell: &mut Cell, value: u64) -> Result<
     Ok(())
 }
 
+/// The flow of a scenario with one slot does so.
+fn flow_holds(rt: &impl Abort, alloc: Global, text: &[u8], value: u64) -> Result<(), Fail> {
+    let mut cell = cell(alloc, text)?;
+    holds(rt, alloc, &mut cell, value)
+}
+
 #[test]
 fn a_held_report_is_made_with_the_next(rt: HostRuntime) -> Result<(), Fail> {
-    let mut cell = cell(rt.alloc(), COUNTING)?;
-    holds(&rt, rt.alloc(), &mut cell, 3)
+    flow_holds(&rt, rt.alloc(), COUNTING, 3)
 }
 
 #[test]
 fn a_held_report_keeps_its_volatile_field(rt: HostRuntime) -> Result<(), Fail> {
-    let mut cell = cell(rt.alloc(), VOLATILE)?;
-    holds(&rt, rt.alloc(), &mut cell, 2)
+    flow_holds(&rt, rt.alloc(), VOLATILE, 2)
 }

@@ -92,25 +92,20 @@ fn tells_all(rt: &impl Abort, alloc: Global, cell: &mut Cell) -> Result<(), Fail
     reports_anew(rt, alloc, cell)
 }
 
-/// The epoch after the opening one of a complete flow.
-fn second_epoch(cell: Cell) -> Option<EpochLine> {
+/// The flow's second epoch, once the three reports are told and it is complete; None where it isn't.
+fn second_epoch(rt: &impl Abort, alloc: Global) -> Result<Option<EpochLine>, Fail> {
+    let mut cell = cell(alloc, LOSING)?;
+    tells_all(rt, alloc, &mut cell)?;
     if !cell.is_complete() {
-        return None;
+        return Ok(None);
     }
     let book = cell.finish();
-    book.epochs.as_slice().get(1).copied()
-}
-
-/// The flow is complete, and the change is its second epoch.
-fn has_second(rt: &impl Abort, cell: Cell) {
-    assert_eq!(rt; second_epoch(cell), Some(SECOND));
+    Ok(book.epochs.as_slice().get(1).copied())
 }
 
 #[test]
 fn a_change_leaves_what_waits(rt: HostRuntime) -> Result<(), Fail> {
-    let mut cell = cell(rt.alloc(), LOSING)?;
-    tells_all(&rt, rt.alloc(), &mut cell)?;
-    has_second(&rt, cell);
+    assert_eq!(rt; second_epoch(&rt, rt.alloc())?, Some(SECOND));
     Ok(())
 }
 

@@ -64,24 +64,19 @@ fn an_acknowledgement_widens_the_window(rt: HostRuntime) -> Result<(), Fail> {
     Ok(())
 }
 
-/// How many letters a flow made, where nothing is left to take and no ticket is out.
-fn letters(core: Core) -> Option<usize> {
+/// How many letters a flow made that takes none, where nothing is left to take and no ticket is out.
+fn letters(rt: &impl Abort, alloc: Global) -> Result<Option<usize>, Fail> {
+    let mut core = core(alloc, NO_ACK)?;
+    hears(rt, &mut core, Err(Ended));
     if !core.is_still() {
-        return None;
+        return Ok(None);
     }
     let given = core.finish();
-    Some(given.book.word.len())
-}
-
-/// The flow is still, and made no letter.
-fn has_no_letter(rt: &impl Abort, core: Core) {
-    assert_eq!(rt; letters(core), Some(0));
+    Ok(Some(given.book.word.len()))
 }
 
 #[test]
 fn a_case_without_acknowledgements_takes_none(rt: HostRuntime) -> Result<(), Fail> {
-    let mut core = core(rt.alloc(), NO_ACK)?;
-    hears(&rt, &mut core, Err(Ended));
-    has_no_letter(&rt, core);
+    assert_eq!(rt; letters(&rt, rt.alloc())?, Some(0));
     Ok(())
 }

@@ -7,3 +7,4 @@ pub mod OpenBooks
 pub mod OpenCells
 pub mod Accounts
 pub mod States
+pub mod Openings
