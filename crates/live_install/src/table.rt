@@ -31,20 +31,28 @@ impl Locked {
     fn close(self, alloc: Global) -> Result<OpenCell, NoMemory>
         ensures { IfOk result (λ cell. cell.case ≡ self.case) }
     {
-        kept(alloc, self.cell.into_inner(), self.case)
+        kept(alloc, self.cell.into_inner(), &self.case)
     }
 }
 
 /// The cell, where it is of this case; else a new one.
-fn kept(alloc: Global, cell: OpenCell, case: OpenCase) -> Result<OpenCell, NoMemory>
-    ensures case { IfOk result (λ cell. cell.case ≡ case) }
-    ensures kept { cell.case ≡ case → result ≡ Ok cell }
+fn kept(alloc: Global, cell: OpenCell, case: &OpenCase) -> Result<OpenCell, NoMemory>
+    ensures case { IfOk result (λ cell. cell.case ≡ case.now) }
+    ensures kept { cell.case ≡ case.now → result ≡ Ok cell }
 {
-    if cell.case().same(&case) {
+    if cell.case().same(case) {
         Ok(cell)
     } else {
-        OpenCell::new(alloc, case)
+        in_place_of(alloc, cell, case)
     }
+}
+
+/// A new cell of the case, in place of one of another.
+fn in_place_of(alloc: Global, cell: OpenCell, case: &OpenCase) -> Result<OpenCell, NoMemory>
+    ensures { IfOk result (λ cell. cell.case ≡ case.now) }
+{
+    drop(cell);
+    OpenCell::new(alloc, case.copy(alloc)?)
 }
 
 /// The flows of a rollout, a flow a case, each with its library behind a lock of its own. Contracts see the list of the

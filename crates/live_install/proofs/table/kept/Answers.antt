@@ -1,9 +1,8 @@
 use Rattle.std.proofs.Common.{◌∙◌}
-use Rattle.live_install.proofs.TableLemmas.{case-of-new}
 use Rattle.live_install.proofs.table.kept.Goals as goal
 
 pub returns-else-same-clause-case : goal.returns-else-same-clause-case
-returns-else-same-clause-case c = case-of-new c.args.case c.new.result c.new.ensures.opened
+returns-else-same-clause-case c = c.in_place_of.ensures
 
 pub returns-else-same-clause-kept : goal.returns-else-same-clause-kept
 returns-else-same-clause-kept c is =
