@@ -3,6 +3,7 @@ use Rattle.std.specs.Prelude.{◌≡◌, ℕ, Bool, true, false, Option, Some, N
 use Rattle.portus_core.specs.ProgramForm.{form_of}
 use Rattle.reg_compiler.specs.declared.built.Built.{Built}
 use Rattle.portus_build.specs.declared.fault.BuildFault.{BuildFault}
+use Rattle.portus_build.specs.declared.fault.BuildFault.TheVariants.{NoMemory, Parse, Scope, Compile}
 use Rattle.portus_build.specs.Settled.{is_want_of_memory}
 use Rattle.scenario_json.specs.ScenePrograms.{TextReading, ReadsTexts}
 use Rattle.open_flow.specs.OpenWorld.{Installed}
@@ -20,6 +21,13 @@ is_accepted (Err refusal) = false
 abbrev pub is_wanting : Result Built BuildFault → Bool
 is_wanting (Ok built) = false
 is_wanting (Err refusal) = is_want_of_memory refusal
+
+-- whether memory was wanting beside the steps of building
+abbrev pub is_no_memory : BuildFault → Bool
+is_no_memory NoMemory = true
+is_no_memory (Parse fault) = false
+is_no_memory (Scope fault) = false
+is_no_memory (Compile fault) = false
 
 -- it is what the text comes to in every reading of program texts
 abbrev pub Answers : List ℕ → Result Built BuildFault → Type 0

@@ -1,6 +1,6 @@
 ghost use Rattle.std.specs.Prelude.{◌≡◌, false, IfOk, option_copied};
 ghost use Rattle.scenario_json.specs.ScenePrograms.{TextReading, ReadsTexts};
-ghost use Rattle.open_flow.specs.BuiltTexts.{is_accepted, is_wanting, Answers, IsEntry, built_of};
+ghost use Rattle.open_flow.specs.BuiltTexts.{is_accepted, is_no_memory, is_wanting, Answers, IsEntry, built_of};
 
 use ccp_base::{Bytes, NoMemory, Sequence};
 use portus_build::{BuildFault, build};
@@ -32,6 +32,18 @@ impl Model for Entry {
     ghost invariant = { λ e. IsEntry e.text e.answer };
 }
 
+/// Whether memory was wanting beside the steps of building.
+fn is_no_memory(refusal: &BuildFault) -> bool
+    ensures { result ≡ is_no_memory refusal.now }
+{
+    match refusal {
+        BuildFault::Parse(_) => false,
+        BuildFault::Scope(_) => false,
+        BuildFault::Compile(_) => false,
+        BuildFault::NoMemory => true,
+    }
+}
+
 /// What a text is built into.
 #[tactic(auto, using(crate::proofs::EntryLemmas::is_entry, crate::proofs::EntryLemmas::readable))]
 fn answer(alloc: Global, text: &[u8]) -> Result<Result<Built, BuildFault>, NoMemory>
@@ -40,7 +52,7 @@ fn answer(alloc: Global, text: &[u8]) -> Result<Result<Built, BuildFault>, NoMem
 {
     match build(alloc, text) {
         Ok(built) => Ok(Ok(built)),
-        Err(BuildFault::NoMemory) => Err(NoMemory),
+        Err(refusal) if is_no_memory(&refusal) => Err(NoMemory),
         Err(refusal) => Ok(Err(refusal)),
     }
 }
