@@ -2,6 +2,8 @@
 #![tactic(auto)]
 
 mod exit;
+#[cfg(test)]
+mod tests;
 mod words;
 
 use ccp_base::{StdErr, StdIn, StdOut};
