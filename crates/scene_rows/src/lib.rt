@@ -1,12 +1,6 @@
-//! Worked rows of scenarios: which texts are refused, and how.
+//! Worked rows of scenarios: what their calls give of a text.
 #![tactic(auto)]
 
-#[cfg(test)]
-mod lines;
-#[cfg(test)]
-mod refused_cases;
-#[cfg(test)]
-mod refused_parts;
 #[cfg(test)]
 mod scenes;
 #[cfg(test)]

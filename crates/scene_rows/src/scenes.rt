@@ -1,5 +1,4 @@
-use crate::lines::{Reader, all_come_to, comes_to};
-use crate::texts::{case, many, repeated, scene};
+use crate::texts::{case, many, scene};
 use flow_core::Case;
 use scenario_json::calls::{rollout_scene, scenario, shared_scene, soak};
 use scenario_json::{OpenCase, Scenario, SceneMode};
@@ -8,46 +7,19 @@ use std::alloc::Global;
 use std::process::Abort;
 use std::test::Fail;
 
-/// Members of each case, the number of cases, and what each reader comes to.
-const TOTALS: [(u32, &str, Reader, &str); 14] = [
-    (64, ",\"acks\":4096", Reader::Live, "ok 64"),
-    (64, ",\"acks\":4096", Reader::Rollout, "ok 64"),
-    (64, ",\"acks\":4096", Reader::Shared, "ok 64"),
-    (64, ",\"acks\":4097", Reader::Live, "totals"),
-    (64, ",\"acks\":4097", Reader::Rollout, "totals"),
-    (64, ",\"acks\":4097", Reader::Shared, "totals"),
-    (64, ",\"acks\":4097", Reader::Campaign, "ok 64"),
-    (65, ",\"acks\":0", Reader::Live, "range cases"),
-    (65, ",\"acks\":0", Reader::Rollout, "range cases"),
-    (65, ",\"acks\":0", Reader::Shared, "range cases"),
-    (65, ",\"mss\":0", Reader::Live, "range cases"),
-    (1024, ",\"acks\":0", Reader::Campaign, "ok 1024"),
-    (1024, ",\"acks\":65536", Reader::Campaign, "ok 1024"),
-    (1025, ",\"acks\":0", Reader::Campaign, "range cases"),
-];
-
-#[test]
-fn cases_and_acknowledgements_have_limits(rt: HostRuntime) -> Result<(), Fail> {
-    for (cases, more, reader, want) in &TOTALS {
-        let text = many(rt.alloc(), *cases, more)?;
-        comes_to(&rt, rt.alloc(), *reader, text.as_bytes(), want)?;
+/// How many cases a text of a campaign has.
+fn cases_in(alloc: Global, text: &[u8]) -> Result<usize, Fail> {
+    match scenario(alloc, text, SceneMode::Campaign) {
+        Ok(scene) => Ok(scene.cases.len()),
+        Err(_) => Err(Fail::from("refused")),
     }
-    Ok(())
-}
-
-/// So many arrays that are open at once.
-fn open_arrays(rt: &impl Abort, alloc: Global, open: u32, want: &str) -> Result<(), Fail> {
-    let opened = repeated(alloc, "", "[", open, "")?;
-    let text = repeated(alloc, opened.as_str(), "]", open, "")?;
-    all_come_to(rt, alloc, text.as_bytes(), want)
 }
 
 #[test]
-fn arrays_are_open_at_most_127_at_once(rt: HostRuntime) -> Result<(), Fail> {
-    open_arrays(&rt, rt.alloc(), 127, "wrong ")?;
-    open_arrays(&rt, rt.alloc(), 128, "json")?;
-    let text = repeated(rt.alloc(), "", "[", 200, "")?;
-    all_come_to(&rt, rt.alloc(), text.as_bytes(), "json")
+fn a_campaign_has_any_number_of_acknowledgements(rt: HostRuntime) -> Result<(), Fail> {
+    let text = many(rt.alloc(), 1024, ",\"acks\":65536")?;
+    assert_eq!(rt; cases_in(rt.alloc(), text.as_bytes())?, 1024);
+    Ok(())
 }
 
 /// The programs of the first case, as a word.
@@ -68,7 +40,7 @@ fn first_programs(alloc: Global, text: &[u8]) -> Result<String, Fail> {
 
 /// The programs of a case with these members, in a text that names `z` first.
 fn numbered(alloc: Global, more: &str) -> Result<String, Fail> {
-    let case = case(alloc, 10, more)?;
+    let case = case(alloc, more)?;
     let text = format!(in alloc;
         "{{\"version\":1,\"programs\":{{\"z\":\"(def)\",\"b\":\"(def)\"}},\"traces\":{{\"t\":\"10\"}},\"cases\":[{}]}}",
         case.as_str()
@@ -176,8 +148,8 @@ fn shared_word(alloc: Global, text: &[u8]) -> Result<String, Fail> {
 
 /// A text of two flows that share a link.
 fn two_flows(alloc: Global) -> Result<String, Fail> {
-    let first = case(alloc, 10, ",\"losses\":[3,5],\"mark\":7")?;
-    let second = case(alloc, 10, ",\"mss\":9,\"delay_us\":0,\"timeout_us\":8")?;
+    let first = case(alloc, ",\"losses\":[3,5],\"mark\":7")?;
+    let second = case(alloc, ",\"mss\":9,\"delay_us\":0,\"timeout_us\":8")?;
     let cases = format!(in alloc; "{},{}", first.as_str(), second.as_str())?;
     scene(alloc, cases.as_str())
 }
