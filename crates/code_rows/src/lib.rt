@@ -1,9 +1,6 @@
-//! Worked rows of the crates below the flows: streams, register code with its listing, verifier and machine, and the
-//! compiler.
+//! Worked rows of the crates below the flows: streams, and register code with its listing, verifier and machine.
 #![tactic(auto)]
 
-#[cfg(test)]
-mod compiling;
 #[cfg(test)]
 mod listings;
 #[cfg(test)]

@@ -1,79 +1,9 @@
-//! What texts are read as, by what rule they are refused, and how they are printed.
-use crate::texts::{read, repeated};
+//! What texts are read as, and how that is printed.
 use ccp_base::Place;
 use portus_core::{Tree, print_tree};
 use portus_parser::parse;
 use std::alloc::Global;
-use std::process::Abort;
 use std::test::Fail;
-
-/// Texts, and what reading them comes to.
-const READINGS: [(&str, &str); 21] = [
-    ("(def", "Unclosed at 1:1"),
-    ("(def) )", "Unexpected at 1:7"),
-    (
-        "(def) (when true (:= x 18446744073709551616))",
-        "BadNumeral at 1:24",
-    ),
-    ("(def) (when true (:= x 18446744073709551615))", "ok"),
-    (
-        "(0000000000000000000000000000000000000000000000000000000000000000000000000000000001)",
-        "ok",
-    ),
-    ("(1x)", "BadNumeral at 1:2"),
-    ("1x", "Unexpected at 1:1"),
-    ("(a) $", "Unexpected at 1:5"),
-    ("(a\n  $)", "BadName at 2:3"),
-    ("(a\r\n\t b%)", "BadName at 2:3"),
-    ("(+ - * / > < == && || := !if +infinity _a.b9 A)", "ok"),
-    ("(.a)", "BadName at 1:2"),
-    ("(-1)", "BadName at 1:2"),
-    ("((a) (b (c)", "Unclosed at 1:6"),
-    ("(def) # x", "ok"),
-    ("(def) # ) \u{e9}\n(when)", "ok"),
-    ("(def # )\n", "Unclosed at 1:1"),
-    ("# (\r ( \n", "ok"),
-    ("", "ok"),
-    ("( 5x \u{7f}", "NotText at 1:6"),
-    (") \n \u{e9}", "NotText at 2:2"),
-];
-
-/// Asserts that reading the text comes to this.
-fn is_read(rt: &impl Abort, alloc: Global, text: &str, want: &str) -> Result<(), Fail> {
-    let told = read(alloc, text.as_bytes())?;
-    assert!(rt; told.as_slice() == want.as_bytes(), "at {text}");
-    Ok(())
-}
-
-#[test]
-fn refusals_have_their_places(rt: HostRuntime) -> Result<(), Fail> {
-    for (text, want) in &READINGS {
-        is_read(&rt, rt.alloc(), text, want)?;
-    }
-    Ok(())
-}
-
-/// Texts of a front, a part that many times and a back, and what reading them comes to.
-const LIMITS: [(&str, &str, u32, &str, &str); 8] = [
-    ("", "(", 64, "", "Unclosed at 1:64"),
-    ("", "(", 65, "", "Nesting at 1:65"),
-    ("", "(", 64, "x", "Unclosed at 1:64"),
-    ("(", "a", 64, ")", "ok"),
-    ("(", "a", 65, ")", "BadName at 1:2"),
-    ("(", " ", 65534, ")", "ok"),
-    ("(", " ", 65535, ")", "SourceTooLong"),
-    ("\u{e9}", " ", 65536, "", "SourceTooLong"),
-];
-
-#[test]
-fn limits_of_reading_are_met(rt: HostRuntime) -> Result<(), Fail> {
-    for (front, part, count, back, want) in &LIMITS {
-        let text = repeated(rt.alloc(), front, part, *count, back)?;
-        let told = read(rt.alloc(), text.as_slice())?;
-        assert!(rt; told.as_slice() == want.as_bytes(), "at {count} of {part}");
-    }
-    Ok(())
-}
 
 fn at(line: u32, column: u32) -> Place {
     Place { line, column }

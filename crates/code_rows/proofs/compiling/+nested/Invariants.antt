@@ -1,4 +1,0 @@
-use Rattle.code_rows.proofs.compiling.+nested.Given as goal
-
-abbrev pub decreases-nested : goal.decreases-nested
-decreases-nested l = l.levels

@@ -1,2 +1,0 @@
--- The definitions of code_rows, a file each.
-pub mod FieldTerms
