@@ -1,8 +1,6 @@
-//! Frames of every kind: what is written, what is read, what is refused, and what a datapath answers.
+//! Frames of every kind: what is written, what is read, and what is refused.
 #![tactic(auto)]
 
-#[cfg(test)]
-mod feeds;
 #[cfg(test)]
 mod frames;
 #[cfg(test)]
@@ -11,5 +9,3 @@ mod messages;
 mod refusals;
 #[cfg(test)]
 mod replies;
-#[cfg(test)]
-mod streams;
