@@ -1,40 +1,164 @@
-//! That two workers do the flows' parts of a round side by side.
+//! That workers run side by side: cases, the flows' parts of a round, datapaths, agents and installers.
 use crate::came::{WHOLE, comes_to, held_comes_to};
-use crate::hold_gate::HoldGate;
+use crate::hold_gate::{Hold, HoldGate, Moment};
+use ccp_base::Point;
 use std::alloc::Global;
 use std::sync::Wait;
 use std::test::Fail;
 use std::thread::Threads;
 
-/// Two flows of Reno's over one bottleneck.
+/// Two flows of Reno's, which in `shared` run over one bottleneck.
 const TWO_FLOWS: &[u8] =
     b"{\"version\":1,\"traces\":{\"t\":\"10\\n\"},\"cases\":[{\"name\":\"a\",\"agent\":\"reno\",\"trace\":\"t\",\"mss\":1448,\"queue\":10,\"delay_us\":20000,\"timeout_us\":1000000,\"acks\":4},{\"name\":\"b\",\"agent\":\"reno\",\"trace\":\"t\",\"mss\":1448,\"queue\":10,\"delay_us\":20000,\"timeout_us\":1000000,\"acks\":4}],\"shared\":{\"trace\":\"t\",\"queue\":10,\"quantum_us\":10000,\"rounds\":100}}";
 
-/// Whether a run of two workers writes this, of whom one was held until the other one had done its part.
-fn is_written_beside<R: Threads + Wait + Sync>(
+fn moment(worker: u32, point: Point, time: u64) -> Moment {
+    Moment {
+        worker,
+        point,
+        time,
+    }
+}
+
+/// Worker 0 is held before its first case, or part of a round, until worker 1 has done one.
+fn held_before_a_case() -> HoldGate {
+    let hold = Hold {
+        at: moment(0, Point::InCase, 1),
+        until: moment(1, Point::AfterCase, 1),
+    };
+    HoldGate::new(hold, hold)
+}
+
+/// Whether a run of two workers, of whom one is held, writes what a run of one worker does.
+fn is_one_output<R: Threads + Wait + Sync>(
+    rt: &R,
+    alloc: Global,
+    mode: &str,
+    gate: &HoldGate,
+) -> Result<bool, Fail> {
+    let one = comes_to(rt, alloc, &["ccp", mode], TWO_FLOWS, WHOLE)?;
+    let words = ["ccp", mode, "--workers", "2"];
+    let two = held_comes_to(rt, alloc, &words, TWO_FLOWS, WHOLE, gate)?;
+    Ok(one.status == 0 && two.is(0, one.output.as_slice(), b""))
+}
+
+#[test]
+fn two_workers_run_cases_at_once(rt: HostRuntime) -> Result<(), Fail> {
+    let gate = held_before_a_case();
+    assert!(rt; is_one_output(&rt, rt.alloc(), "campaign", &gate)?);
+    assert!(rt; gate.held() == Some(1));
+    Ok(())
+}
+
+#[test]
+fn two_workers_do_parts_at_once(rt: HostRuntime) -> Result<(), Fail> {
+    let gate = held_before_a_case();
+    assert!(rt; is_one_output(&rt, rt.alloc(), "shared", &gate)?);
+    assert!(rt; gate.held() == Some(1));
+    Ok(())
+}
+
+/// What the two flows come to in a live run, whatever the order of their letters.
+const TWO_BOOKS: &[u8] =
+    b"flow 0 case=a agent=reno\nepoch 0 program=0 at=0 cwnd=4344\nticket 0 report program=0 epoch=0 span=0..4 taken=4 answered=4 reply=none now=60000 cwnd=10136 rate=0 acked=5792 sacked=0 loss=0 timeout=0 rtt=30000 inflight=7240 ecn=0\nend acks=4 reports=1 held=0 faults=0 tail=4..4 stopped=no cwnd=10136 rate=0 acked=0 sacked=0 loss=0 timeout=0 rtt=30000 inflight=7240 ecn=0\nflow 1 case=b agent=reno\nepoch 0 program=0 at=0 cwnd=4344\nticket 0 report program=0 epoch=0 span=0..4 taken=4 answered=4 reply=none now=60000 cwnd=10136 rate=0 acked=5792 sacked=0 loss=0 timeout=0 rtt=30000 inflight=7240 ecn=0\nend acks=4 reports=1 held=0 faults=0 tail=4..4 stopped=no cwnd=10136 rate=0 acked=0 sacked=0 loss=0 timeout=0 rtt=30000 inflight=7240 ecn=0\n";
+
+/// Whether a live run of two datapath workers, of whom one is held, comes to this.
+fn two_datapaths_write<R: Threads + Wait + Sync>(
     rt: &R,
     alloc: Global,
     gate: &HoldGate,
     output: &[u8],
 ) -> Result<bool, Fail> {
-    let words = ["ccp", "shared", "--workers", "2"];
+    let words = ["ccp", "live", "--datapaths", "2"];
     let came = held_comes_to(rt, alloc, &words, TWO_FLOWS, WHOLE, gate)?;
-    Ok(came.is(0, output, b"") && gate.has_held() && gate.begun() > 2)
+    Ok(came.is(0, output, b""))
 }
 
-/// Whether that is so of the output of one worker.
-fn is_one_output<R: Threads + Wait + Sync>(
+/// Worker 0 is held in its first acknowledgement, with its flow's lock, until worker 1 has made one.
+#[test]
+fn two_datapaths_hear_at_once(rt: HostRuntime) -> Result<(), Fail> {
+    let hold = Hold {
+        at: moment(0, Point::InAck, 1),
+        until: moment(1, Point::AfterAck, 1),
+    };
+    let gate = HoldGate::new(hold, hold);
+    assert!(rt; two_datapaths_write(&rt, rt.alloc(), &gate, TWO_BOOKS)?);
+    assert!(rt; gate.held() == Some(1));
+    Ok(())
+}
+
+/// Whether a run of a mode, whose workers are held, ends well with an output that begins or ends so.
+fn shows<R: Threads + Wait + Sync>(
     rt: &R,
     alloc: Global,
+    mode: &str,
+    input: &[u8],
     gate: &HoldGate,
+    part: &[u8],
 ) -> Result<bool, Fail> {
-    let one = comes_to(rt, alloc, &["ccp", "shared"], TWO_FLOWS, WHOLE)?;
-    Ok(one.status == 0 && is_written_beside(rt, alloc, gate, one.output.as_slice())?)
+    let came = held_comes_to(rt, alloc, &["ccp", mode], input, WHOLE, gate)?;
+    let output = came.output.as_slice();
+    Ok(came.status == 0 && (output.starts_with(part) || output.ends_with(part)))
 }
 
+/// A flow with three acknowledgements, each of which shows a loss in a report. Its two programs are one, and two reports
+/// may wait.
+const LOSING: &[u8] =
+    b"{\"version\":1,\"programs\":{\"p\":\"(def (Report (volatile loss 0))) (when true (:= Report.loss 1) (report))\"},\"traces\":{\"t\":\"10\\n\"},\"cases\":[{\"name\":\"a\",\"agent\":\"reno\",\"trace\":\"t\",\"mss\":1448,\"queue\":10,\"delay_us\":20000,\"timeout_us\":1000000,\"acks\":3,\"slots\":2,\"ss\":\"p\",\"ca\":\"p\"}]}";
+
+/// The datapath is held before its second acknowledgement until the agent has settled an answer.
 #[test]
-fn two_workers_do_parts_at_once(rt: HostRuntime) -> Result<(), Fail> {
-    let gate = HoldGate::new(0, 1);
-    assert!(rt; is_one_output(&rt, rt.alloc(), &gate)?);
+fn an_agent_settles_between_acknowledgements(rt: HostRuntime) -> Result<(), Fail> {
+    let hold = Hold {
+        at: moment(0, Point::BeforeAck, 2),
+        until: moment(1, Point::AfterSettle, 1),
+    };
+    let gate = HoldGate::new(hold, hold);
+    let lines: &[u8] =
+        b"flow 0 case=a agent=reno\nepoch 0 program=3 at=0 cwnd=4344\nepoch 1 program=3 at=1 cwnd=2896\nticket 0 report program=3 epoch=0 span=0..1 taken=1 answered=1 ";
+    assert!(rt; shows(&rt, rt.alloc(), "live", LOSING, &gate, lines)?);
+    assert!(rt; gate.held() == Some(1));
+    Ok(())
+}
+
+/// The datapath is held there until the agent has taken a ticket, and the agent then until the third acknowledgement.
+#[test]
+fn an_agent_answers_after_the_last_acknowledgement(rt: HostRuntime) -> Result<(), Fail> {
+    let datapath = Hold {
+        at: moment(0, Point::BeforeAck, 2),
+        until: moment(1, Point::AfterTake, 1),
+    };
+    let agent = Hold {
+        at: moment(1, Point::AfterTake, 1),
+        until: moment(0, Point::AfterAck, 3),
+    };
+    let gate = HoldGate::new(datapath, agent);
+    let lines: &[u8] =
+        b"flow 0 case=a agent=reno\nepoch 0 program=3 at=0 cwnd=4344\nepoch 1 program=3 at=3 cwnd=2896\nticket 0 report program=3 epoch=0 span=0..1 taken=1 answered=3 ";
+    assert!(rt; shows(&rt, rt.alloc(), "live", LOSING, &gate, lines)?);
+    assert!(rt; gate.held() == Some(2));
+    Ok(())
+}
+
+/// A flow with two acknowledgements and one step.
+const ONE_STEP: &[u8] =
+    b"{\"version\":1,\"programs\":{\"p\":\"(def) (when true (report))\"},\"traces\":{\"t\":\"10\\n\"},\"cases\":[{\"name\":\"a\",\"trace\":\"t\",\"mss\":1448,\"queue\":10,\"delay_us\":20000,\"timeout_us\":1000000,\"acks\":2,\"cwnd\":4344,\"steps\":[\"p\"]}]}";
+
+/// The installer is held after its installing until the first acknowledgement, and the datapath before its second one
+/// until the change.
+#[test]
+fn a_program_is_installed_between_acknowledgements(rt: HostRuntime) -> Result<(), Fail> {
+    let installer = Hold {
+        at: moment(1, Point::AfterTake, 1),
+        until: moment(0, Point::AfterAck, 1),
+    };
+    let datapath = Hold {
+        at: moment(0, Point::BeforeAck, 2),
+        until: moment(1, Point::AfterSettle, 1),
+    };
+    let gate = HoldGate::new(installer, datapath);
+    let lines: &[u8] =
+        b"epoch 0 step=0 at=1 cwnd=4344\nreport program=0 epoch=0 span=1..2 now=40000 cwnd=4344 rate=0\nend acks=2 reports=1 tail=2..2 stopped=no cwnd=4344 rate=0\n";
+    assert!(rt; shows(&rt, rt.alloc(), "rollout", ONE_STEP, &gate, lines)?);
+    assert!(rt; gate.held() == Some(2));
     Ok(())
 }

@@ -1,13 +1,7 @@
-//! Rows of live runs: what the flows' books come to, and that workers run side by side.
+//! Rows of what live runs and rollouts stand on: tables of flows, and entries.
 #![tactic(auto)]
 
 #[cfg(test)]
-mod gates;
-#[cfg(test)]
-mod hold_gate;
-#[cfg(test)]
-mod rollouts;
-#[cfg(test)]
-mod rows;
+mod entries;
 #[cfg(test)]
 mod tables;

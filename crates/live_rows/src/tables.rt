@@ -12,24 +12,12 @@ use std::sync::ledger::{Blank, Ledger};
 use std::sync::{Mutex, Wait};
 use std::test::Fail;
 
-/// No flow.
-pub(crate) const NONE: &[u8] = b"{\"version\":1,\"traces\":{},\"cases\":[]}";
-
-/// A flow of Reno's with four acknowledgements, over a trace with one chance each 10 ms.
-pub(crate) const ONE: &[u8] =
-    b"{\"version\":1,\"traces\":{\"t\":\"10\\n\"},\"cases\":[{\"name\":\"a\",\"agent\":\"reno\",\"trace\":\"t\",\"mss\":1448,\"queue\":10,\"delay_us\":20000,\"timeout_us\":1000000,\"acks\":4}]}";
-
-/// Two such flows.
-pub(crate) const TWO: &[u8] =
+/// Two flows of Reno's with four acknowledgements, over a trace with one chance each 10 ms.
+const TWO: &[u8] =
     b"{\"version\":1,\"traces\":{\"t\":\"10\\n\"},\"cases\":[{\"name\":\"a\",\"agent\":\"reno\",\"trace\":\"t\",\"mss\":1448,\"queue\":10,\"delay_us\":20000,\"timeout_us\":1000000,\"acks\":4},{\"name\":\"a\",\"agent\":\"reno\",\"trace\":\"t\",\"mss\":1448,\"queue\":10,\"delay_us\":20000,\"timeout_us\":1000000,\"acks\":4}]}";
 
-/// A flow with three acknowledgements, each of which shows a loss in a report. Its two programs are one, and two reports
-/// may wait.
-pub(crate) const LOSING: &[u8] =
-    b"{\"version\":1,\"programs\":{\"p\":\"(def (Report (volatile loss 0))) (when true (:= Report.loss 1) (report))\"},\"traces\":{\"t\":\"10\\n\"},\"cases\":[{\"name\":\"a\",\"agent\":\"reno\",\"trace\":\"t\",\"mss\":1448,\"queue\":10,\"delay_us\":20000,\"timeout_us\":1000000,\"acks\":3,\"slots\":2,\"ss\":\"p\",\"ca\":\"p\"}]}";
-
 /// The table of a scenario's flows.
-pub(crate) fn table(alloc: Global, text: &[u8]) -> Result<FlowTable, Fail> {
+fn table(alloc: Global, text: &[u8]) -> Result<FlowTable, Fail> {
     let scene = scenario(alloc, text, SceneMode::Live)?;
     Ok(FlowTable::new(alloc, scene.cases)?)
 }

@@ -1,2 +1,0 @@
--- The lemmas of campaign_rows, a file a topic.
-pub mod LookWithin

@@ -1,0 +1,41 @@
+//! Entries of a flow whose programs are installed as it runs.
+use live_install::{Entry, Nothing, OpenCell};
+use scenario_json::calls::rollout_scene;
+use scenario_json::{OpenCase, OpenCases};
+use std::alloc::Global;
+use std::test::Fail;
+
+/// A flow without an acknowledgement and with two steps, of which the second is no program.
+const REFUSED: &[u8] =
+    b"{\"version\":1,\"programs\":{\"p\":\"(def) (when true (report))\",\"q\":\"(def) (when x)\"},\"traces\":{\"t\":\"10\\n\"},\"cases\":[{\"name\":\"a\",\"trace\":\"t\",\"mss\":1448,\"queue\":10,\"delay_us\":20000,\"timeout_us\":1000000,\"acks\":0,\"cwnd\":4344,\"steps\":[\"p\",\"q\"]}]}";
+
+/// The first case.
+fn first(alloc: Global, cases: &OpenCases) -> Result<OpenCase, Fail> {
+    match cases.as_slice().first() {
+        Some(case) => Ok(case.copy(alloc)?),
+        None => Err("no case")?,
+    }
+}
+
+/// A flow of the first case without a letter.
+fn cell(alloc: Global, cases: &OpenCases) -> Result<OpenCell, Fail> {
+    Ok(OpenCell::new(alloc, first(alloc, cases)?)?)
+}
+
+/// The step that is wanted in place of this one; None where it is installed.
+fn wanted(cell: &mut OpenCell, entry: Entry) -> Option<u32> {
+    match cell.install(entry) {
+        Ok(()) => None,
+        Err(late) => Some(late.want),
+    }
+}
+
+#[test]
+fn a_late_entry_is_refused(rt: HostRuntime) -> Result<(), Fail> {
+    let cases = rollout_scene(rt.alloc(), REFUSED)?;
+    let mut cell = cell(rt.alloc(), &cases)?;
+    let second = Entry::make(rt.alloc(), 1, b"(def) (when x)")?;
+    assert!(rt; wanted(&mut cell, second) == Some(0));
+    assert!(rt; cell.change() == Err(Nothing));
+    Ok(())
+}
