@@ -1,7 +1,7 @@
-//! Tables of campaigns, and the totals of generated ones.
+//! Tables of campaigns.
 use agent_core::Agent;
 use campaign_gate::{Row, Rows};
-use campaign_report::{Agents, soak_text, table_text};
+use campaign_report::{Agents, table_text};
 use ccp_base::{Look, Name, Names, Role};
 use cubic_agent::Cubic;
 use reno_agent::Reno;
@@ -57,22 +57,6 @@ fn role(number: u32) -> Role {
 }
 
 #[test]
-fn no_cases_have_a_total(rt: HostRuntime) -> Result<(), Fail> {
-    let alloc = rt.alloc();
-    let text = table_text(
-        alloc,
-        &Names::new(alloc),
-        &Agents::new(alloc),
-        &Rows::new(alloc),
-    )?;
-    assert!(rt;
-        text.as_slice()
-            == b"case agent acks reports held faults epochs lost timeouts acked peak cwnd now tail\ntotal cases=0 acks=0 reports=0 held=0 faults=0 lost=0 timeouts=0 acked=0\n".as_slice()
-    );
-    Ok(())
-}
-
-#[test]
 fn sums_have_no_bound(rt: HostRuntime) -> Result<(), Fail> {
     let alloc = rt.alloc();
     let mut names = Names::new(alloc);
@@ -90,19 +74,6 @@ fn sums_have_no_bound(rt: HostRuntime) -> Result<(), Fail> {
     assert!(rt;
         table_text(alloc, &names, &agents, &rows)?.as_slice()
             == b"case agent acks reports held faults epochs lost timeouts acked peak cwnd now tail\na reno 4 1 0 0 1 0 0 5792 10136 10136 60000 0\nb.c cubic 18446744073709551615 2 3 4 5 6 7 18446744073709551615 9 10 11 12\nd cubic 18446744073709551615 2 3 4 5 6 7 18446744073709551615 9 10 11 12\ntotal cases=3 acks=36893488147419103234 reports=5 held=6 faults=8 lost=12 timeouts=14 acked=36893488147419109022\n".as_slice()
-    );
-    Ok(())
-}
-
-#[test]
-fn a_soak_has_its_number_and_its_total(rt: HostRuntime) -> Result<(), Fail> {
-    let alloc = rt.alloc();
-    let mut rows = Rows::new(alloc);
-    rows.push(ROW)?;
-    rows.push(ROW)?;
-    assert!(rt;
-        soak_text(alloc, 4_294_967_295, &rows)?.as_slice()
-            == b"soak number=4294967295\ntotal cases=2 acks=8 reports=2 held=0 faults=0 lost=0 timeouts=0 acked=11584\n".as_slice()
     );
     Ok(())
 }

@@ -1,6 +1,5 @@
-//! The frames that install programs, and the texts of programs and folds.
-use campaign_report::{End, check_text, fold_text, wire_text};
-use ccp_base::{Reports, Values};
+//! The frames that install programs.
+use campaign_report::wire_text;
 use portus_build::build;
 use reg_compiler::{Built, Builts};
 use std::alloc::Global;
@@ -52,30 +51,6 @@ fn more_than_32_fields_take_version_2(rt: HostRuntime) -> Result<(), Fail> {
         wire_text(alloc, &long)?
             .as_slice()
             .starts_with(b"install 3 03022100")
-    );
-    Ok(())
-}
-
-#[test]
-fn a_program_without_declarations_is_told(rt: HostRuntime) -> Result<(), Fail> {
-    let alloc = rt.alloc();
-    let built = build(alloc, b"(def)")?;
-    assert!(rt;
-        check_text(alloc, &built)?.as_slice()
-            == b"ok blocks=0 fields=0 controls=0 need=0 count=0\n".as_slice()
-    );
-    let end = End {
-        acks: 0,
-        first: 0,
-        stopped: false,
-        cwnd: 0,
-        rate: 0,
-        fields: Values::new(),
-    };
-    assert!(rt; built.program.fields.is_empty());
-    assert!(rt;
-        fold_text(alloc, &built, &Reports::new(alloc), None, &end)?.as_slice()
-            == b"end acks=0 reports=0 tail=0..0 stopped=no cwnd=0 rate=0\n".as_slice()
     );
     Ok(())
 }
