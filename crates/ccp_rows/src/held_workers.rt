@@ -86,7 +86,17 @@ fn two_datapaths_hear_at_once(rt: HostRuntime) -> Result<(), Fail> {
     Ok(())
 }
 
-/// Whether a run of a mode, whose workers are held, ends well with an output that begins or ends so.
+/// Whether a text has this part.
+fn has_part(text: &[u8], part: &[u8]) -> bool {
+    for start in 0..text.len() {
+        if text[start..].starts_with(part) {
+            return true;
+        }
+    }
+    false
+}
+
+/// Whether a run of a mode, whose workers are held, ends well with an output that has this part.
 fn shows<R: Threads + Wait + Sync>(
     rt: &R,
     alloc: Global,
@@ -96,8 +106,7 @@ fn shows<R: Threads + Wait + Sync>(
     part: &[u8],
 ) -> Result<bool, Fail> {
     let came = held_comes_to(rt, alloc, &["ccp", mode], input, WHOLE, gate)?;
-    let output = came.output.as_slice();
-    Ok(came.status == 0 && (output.starts_with(part) || output.ends_with(part)))
+    Ok(came.status == 0 && has_part(came.output.as_slice(), part))
 }
 
 /// A flow with three acknowledgements, each of which shows a loss in a report. Its two programs are one, and two reports
@@ -113,8 +122,7 @@ fn an_agent_settles_between_acknowledgements(rt: HostRuntime) -> Result<(), Fail
         until: moment(1, Point::AfterSettle, 1),
     };
     let gate = HoldGate::new(hold, hold);
-    let lines: &[u8] =
-        b"flow 0 case=a agent=reno\nepoch 0 program=3 at=0 cwnd=4344\nepoch 1 program=3 at=1 cwnd=2896\nticket 0 report program=3 epoch=0 span=0..1 taken=1 answered=1 ";
+    let lines: &[u8] = b"ticket 0 report program=3 epoch=0 span=0..1 taken=1 answered=1 ";
     assert!(rt; shows(&rt, rt.alloc(), "live", LOSING, &gate, lines)?);
     assert!(rt; gate.held() == Some(1));
     Ok(())
@@ -133,7 +141,7 @@ fn an_agent_answers_after_the_last_acknowledgement(rt: HostRuntime) -> Result<()
     };
     let gate = HoldGate::new(datapath, agent);
     let lines: &[u8] =
-        b"flow 0 case=a agent=reno\nepoch 0 program=3 at=0 cwnd=4344\nepoch 1 program=3 at=3 cwnd=2896\nticket 0 report program=3 epoch=0 span=0..1 taken=1 answered=3 ";
+        b"epoch 1 program=3 at=3 cwnd=2896\nticket 0 report program=3 epoch=0 span=0..1 taken=1 answered=3 ";
     assert!(rt; shows(&rt, rt.alloc(), "live", LOSING, &gate, lines)?);
     assert!(rt; gate.held() == Some(2));
     Ok(())

@@ -33,7 +33,6 @@ struct Passed {
     after_settle: AtomicU64,
     in_case: AtomicU64,
     after_case: AtomicU64,
-    others: AtomicU64,
 }
 
 impl Passed {
@@ -46,7 +45,6 @@ impl Passed {
             after_settle: AtomicU64::new(0),
             in_case: AtomicU64::new(0),
             after_case: AtomicU64::new(0),
-            others: AtomicU64::new(0),
         }
     }
 
@@ -60,7 +58,6 @@ impl Passed {
             Point::AfterSettle => &self.after_settle,
             Point::InCase => &self.in_case,
             Point::AfterCase => &self.after_case,
-            _ => &self.others,
         }
     }
 }
