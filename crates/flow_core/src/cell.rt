@@ -54,9 +54,14 @@ impl Cell {
     pub fn new(alloc: Global, case: Case) -> Result<Cell, NoMemory>
         ensures { IfOk result (λ cell. cell ≡ record { case = case; word = [] }) }
     {
-        let link = link_of(alloc, &case)?;
         let core = Core::new(alloc, case)?;
-        Ok(Cell { core, link })
+        match link_of(alloc, core.case()) {
+            Ok(link) => Ok(Cell { core, link }),
+            Err(fault) => {
+                drop(core);
+                Err(fault)
+            }
+        }
     }
 
     /// Takes the link's next acknowledgement. Ended exactly where all acknowledgements are in; then nothing has

@@ -112,8 +112,13 @@ impl State {
         ensures acks { IfOk result (λ state. state.acks.items ≡ []) }
         ensures word { IfOk result (λ state. state.word.items ≡ []) }
     {
-        let opening = Opening::of(alloc, &case)?;
-        Ok(State::opened(case, opening))
+        match Opening::of(alloc, &case) {
+            Ok(opening) => Ok(State::opened(case, opening)),
+            Err(fault) => {
+                drop(case);
+                Err(fault)
+            }
+        }
     }
 
     /// The state of a flow of this case that has this before its first letter.
