@@ -44,7 +44,7 @@ fn reports_and_completes(rt: &impl Abort, alloc: Global, cell: &mut Cell) -> Res
     Ok(())
 }
 
-/// A flow that goes does so.
+/// A flow does so, and is dropped then.
 fn flow_completes(rt: &impl Abort, alloc: Global, mut cell: Cell) -> Result<(), Fail> {
     let completed = reports_and_completes(rt, alloc, &mut cell);
     drop(cell);
@@ -80,7 +80,7 @@ fn holds(rt: &impl Abort, alloc: Global, cell: &mut Cell, value: u64) -> Result<
     Ok(())
 }
 
-/// A flow with one slot, which goes, does so.
+/// A flow with one slot does so, and is dropped then.
 fn flow_holds(rt: &impl Abort, alloc: Global, mut cell: Cell, value: u64) -> Result<(), Fail> {
     let held = holds(rt, alloc, &mut cell, value);
     drop(cell);

@@ -133,7 +133,7 @@ fn a_change_leaves_what_waits(rt: HostRuntime) -> Result<(), Fail> {
     Ok(())
 }
 
-/// Whether a case is the same as one that goes.
+/// Whether a case is the same as its copy, which is dropped then.
 fn is_same(case: &Case, copy: Case) -> bool {
     let same = case.same(&copy);
     drop(copy);
@@ -146,7 +146,7 @@ fn is_copied(alloc: Global, case: &Case) -> Result<bool, Fail> {
     Ok(is_same(case, copy))
 }
 
-/// The same of a case that goes.
+/// The same of a case that is dropped then.
 fn has_copy(alloc: Global, case: Case) -> Result<bool, Fail> {
     let copied = is_copied(alloc, &case);
     drop(case);

@@ -64,7 +64,7 @@ fn widens(rt: &impl Abort, alloc: Global, core: &mut Core) {
     refuses(rt, alloc, core, TakeFault::NotYet);
 }
 
-/// A flow that goes is widened so.
+/// A flow is widened so, and is dropped then.
 fn flow_widens(rt: &impl Abort, alloc: Global, mut core: Core) {
     widens(rt, alloc, &mut core);
     drop(core);
@@ -114,7 +114,7 @@ fn has_no_letter(rt: &impl Abort, core: Core)
     assert_eq!(rt; letters(core), 0);
 }
 
-/// A flow that goes takes no acknowledgement, and made no letter.
+/// The flow takes no acknowledgement, and made no letter.
 fn flow_takes_none(rt: &impl Abort, mut core: Core) {
     takes_none(rt, &mut core);
     has_no_letter(rt, core);

@@ -117,7 +117,7 @@ fn tells_in_order(rt: &impl Abort, pool: &mut Pool, outbox: &mut Outbox)
     tells_both(rt, pool, outbox);
 }
 
-/// A pool and an outbox that go do so.
+/// A pool and an outbox do so, and are dropped then.
 fn outbox_tells_in_order(rt: &impl Abort, mut pool: Pool, mut outbox: Outbox)
     requires words { 80 ≤ pool.words }
     requires owned { AreOwned pool outbox.slots }
@@ -177,7 +177,7 @@ fn tells_three(rt: &impl Abort, pool: &mut Pool, outbox: &mut Outbox)
     is_emptied(rt, pool, outbox, 3);
 }
 
-/// A pool and an outbox that go do so.
+/// A pool and an outbox do so, and are dropped then.
 fn outbox_tells_three(rt: &impl Abort, mut pool: Pool, mut outbox: Outbox)
     requires words { 80 ≤ pool.words }
     requires owned { AreOwned pool outbox.slots }

@@ -33,7 +33,7 @@ fn first(alloc: Global, cases: &[Case]) -> Result<Case, Fail> {
     }
 }
 
-/// A copy of the first case of a scenario that goes.
+/// A copy of the first case of a scenario, which is dropped then.
 fn only(alloc: Global, scene: Scenario) -> Result<Case, Fail> {
     let case = first(alloc, scene.cases.as_slice());
     drop(scene);
