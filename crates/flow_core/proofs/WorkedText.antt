@@ -1,6 +1,6 @@
 -- The text of one flow, worked out: a Reno flow that reports its four acknowledgements in one report.
 use Rattle.std.specs.Prelude.{◌≡◌, ℕ, refl, true, false, List, [], ◌∷◌, codes, decimal}
-use Rattle.ccp_base.specs.declared.exchange.Reply.TheVariants.{Nothing, Update, Change}
+use Rattle.ccp_base.specs.declared.exchange.Reply.TheVariants.{Nothing, Change}
 use Rattle.ccp_base.specs.declared.exchange.Report.{Report}
 use Rattle.ccp_base.specs.declared.exchange.Told.TheVariants as told
 use Rattle.portus_core.specs.declared.program.Decl.{Decl}

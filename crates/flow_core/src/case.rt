@@ -137,9 +137,7 @@ impl Case {
     pub fn copy(&self, alloc: Global) -> Result<Case, NoMemory>
         ensures { IfOk result (λ case. case ≡ self.now) }
     {
-        let ss = self.ss.copy(alloc)?;
-        let ca = self.ca.copy(alloc)?;
-        let link = self.link.copy(alloc)?;
+        let (ss, ca, link) = self.parts(alloc)?;
         Ok(Case {
             flow: self.flow,
             name: self.name,
@@ -151,6 +149,18 @@ impl Case {
             slots: self.slots,
             lag: self.lag,
         })
+    }
+
+    /// Equal programs, and an equal link.
+    fn parts(&self, alloc: Global) -> Result<(Coded, Coded, LinkCase), NoMemory>
+        ensures ss { IfOk result (λ parts. parts.0 ≡ self.now.ss) }
+        ensures ca { IfOk result (λ parts. parts.1 ≡ self.now.ca) }
+        ensures link { IfOk result (λ parts. parts.2 ≡ self.now.link) }
+    {
+        let ss = self.ss.copy(alloc)?;
+        let ca = self.ca.copy(alloc)?;
+        let link = self.link.copy(alloc)?;
+        Ok((ss, ca, link))
     }
 
     /// Whether two cases are equal.

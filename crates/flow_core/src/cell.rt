@@ -1,5 +1,6 @@
 ghost use Rattle.std.specs.Prelude.{◌≡◌, ◌+◌, ◌-◌, ◌≤◌, ◌↔◌, ◌∷◌, [], ◌++◌, ℕ, true, Some, Err, slice_get, length};
 ghost use Rattle.std.specs.Prelude.{IsOk, IsErr, IfOk, IfErr, OnOk, OnErr};
+ghost use Rattle.link_model.specs.Standing.{Stands};
 ghost use Rattle.flow_core.specs.World.{track_of, after_take, after_answer};
 ghost use Rattle.flow_core.specs.Words.{is_still, legal, is_complete};
 ghost use Rattle.flow_core.specs.Books.{IsBookOf};
@@ -37,15 +38,30 @@ impl Model for Cell {
     ghost invariant = { λ c. IsCell c.core c.link };
 }
 
+/// The link of a case, to which no window was given yet.
+fn link_of(alloc: Global, case: &Case) -> Result<Link, NoMemory>
+    ensures case { IfOk result (λ link. link.case ≡ case.now.link) }
+    ensures stands { IfOk result (λ link. Stands link []) }
+    ensures calls { IfOk result (λ link. link.standing.calls ≡ 0) }
+{
+    let link = case.link.copy(alloc)?;
+    Link::new(alloc, link)
+}
+
 impl Cell {
     /// A flow without a letter. The word, the acknowledgements, the outbox, the link's packets in flight and a place
     /// for one fault per acknowledgement of the case are reserved here.
     pub fn new(alloc: Global, case: Case) -> Result<Cell, NoMemory>
         ensures { IfOk result (λ cell. cell ≡ record { case = case; word = [] }) }
     {
-        let link = Link::new(alloc, case.link.copy(alloc)?)?;
         let core = Core::new(alloc, case)?;
-        Ok(Cell { core, link })
+        match link_of(alloc, core.case()) {
+            Ok(link) => Ok(Cell { core, link }),
+            Err(fault) => {
+                drop(core);
+                Err(fault)
+            }
+        }
     }
 
     /// Takes the link's next acknowledgement. Ended exactly where all acknowledgements are in; then nothing has

@@ -112,9 +112,25 @@ impl State {
         ensures acks { IfOk result (λ state. state.acks.items ≡ []) }
         ensures word { IfOk result (λ state. state.word.items ≡ []) }
     {
-        let opening = Opening::of(alloc, &case)?;
+        match Opening::of(alloc, &case) {
+            Ok(opening) => Ok(State::opened(case, opening)),
+            Err(fault) => {
+                drop(case);
+                Err(fault)
+            }
+        }
+    }
+
+    /// The state of a flow of this case that has this before its first letter.
+    fn opened(case: Case, opening: Opening) -> State
+        requires { IsOpening case opening }
+        ensures core { IsCore result }
+        ensures case { result.case ≡ case }
+        ensures acks { result.acks.items ≡ [] }
+        ensures word { result.word.items ≡ [] }
+    {
         let agent = case.agent;
-        Ok(State {
+        State {
             case,
             machine: opening.machine,
             program: opening.program,
@@ -128,6 +144,6 @@ impl State {
             held: 0,
             acks: opening.acks,
             word: opening.word,
-        })
+        }
     }
 }

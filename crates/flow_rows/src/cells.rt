@@ -1,6 +1,8 @@
 //! Flows with their links.
 use crate::scenes::{COUNTING, RENO, VOLATILE, cell};
-use crate::turns::{Shown, hears, is_out, is_stale, refuses, settles_nothing, shows, take};
+use crate::turns::{
+    Shown, completes, has_number, hears, is_out, is_stale, refuses, settles_nothing, shows, take,
+};
 use flow_core::{Cell, Ended, TakeFault};
 use fold_machine::Acked;
 use std::alloc::Global;
@@ -19,32 +21,40 @@ fn reports_once(rt: &impl Abort, cell: &mut Cell) {
 /// One ticket is out at a time, and its answer is applied once.
 fn settles_once(rt: &impl Abort, alloc: Global, cell: &mut Cell) -> Result<(), Fail> {
     let ticket = take(alloc, cell)?;
-    is_out(rt, cell, &ticket, 0);
+    has_number(rt, &ticket, 0);
+    is_out(rt, cell, &ticket);
     refuses(rt, alloc, cell, TakeFault::Out(0));
     settles_nothing(rt, cell, &ticket);
     is_stale(rt, cell, &ticket);
     Ok(())
 }
 
-/// Whether the flow's word is complete.
-fn is_complete(rt: &impl Abort, cell: &Cell, want: bool) {
-    assert_eq!(rt; cell.is_complete(), want);
+/// The flow isn't complete.
+fn is_open(rt: &impl Abort, cell: &Cell) {
+    assert!(rt; !cell.is_complete());
 }
 
 /// Before the first report there is nothing to take, and after its answer the flow is complete.
-fn completes(rt: &impl Abort, alloc: Global, cell: &mut Cell) -> Result<(), Fail> {
+fn reports_and_completes(rt: &impl Abort, alloc: Global, cell: &mut Cell) -> Result<(), Fail> {
     refuses(rt, alloc, cell, TakeFault::NotYet);
     reports_once(rt, cell);
-    is_complete(rt, cell, false);
+    is_open(rt, cell);
     settles_once(rt, alloc, cell)?;
-    is_complete(rt, cell, true);
+    completes(rt, cell);
     Ok(())
+}
+
+/// A flow does so, and is dropped then.
+fn flow_completes(rt: &impl Abort, alloc: Global, mut cell: Cell) -> Result<(), Fail> {
+    let completed = reports_and_completes(rt, alloc, &mut cell);
+    drop(cell);
+    completed
 }
 
 #[test]
 fn a_flow_reports_once_and_is_complete(rt: HostRuntime) -> Result<(), Fail> {
-    let mut cell = cell(rt.alloc(), RENO)?;
-    completes(&rt, rt.alloc(), &mut cell)
+    let cell = cell(rt.alloc(), RENO)?;
+    flow_completes(&rt, rt.alloc(), cell)
 }
 
 /// What a report of epoch 0 shows that has this span and this first field.
@@ -70,18 +80,21 @@ fn holds(rt: &impl Abort, alloc: Global, cell: &mut Cell, value: u64) -> Result<
     Ok(())
 }
 
-/// The flow of a scenario with one slot does so.
-fn flow_holds(rt: &impl Abort, alloc: Global, text: &[u8], value: u64) -> Result<(), Fail> {
-    let mut cell = cell(alloc, text)?;
-    holds(rt, alloc, &mut cell, value)
+/// A flow with one slot does so, and is dropped then.
+fn flow_holds(rt: &impl Abort, alloc: Global, mut cell: Cell, value: u64) -> Result<(), Fail> {
+    let held = holds(rt, alloc, &mut cell, value);
+    drop(cell);
+    held
 }
 
 #[test]
 fn a_held_report_is_made_with_the_next(rt: HostRuntime) -> Result<(), Fail> {
-    flow_holds(&rt, rt.alloc(), COUNTING, 3)
+    let cell = cell(rt.alloc(), COUNTING)?;
+    flow_holds(&rt, rt.alloc(), cell, 3)
 }
 
 #[test]
 fn a_held_report_keeps_its_volatile_field(rt: HostRuntime) -> Result<(), Fail> {
-    flow_holds(&rt, rt.alloc(), VOLATILE, 2)
+    let cell = cell(rt.alloc(), VOLATILE)?;
+    flow_holds(&rt, rt.alloc(), cell, 2)
 }

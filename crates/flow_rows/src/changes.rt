@@ -1,10 +1,12 @@
 //! A change of program while an older report waits.
+ghost use Rattle.flow_core.specs.Cells.{IsComplete};
+
 use crate::scenes::{LOSING, case, cell};
-use crate::turns::{Shown, hears, settles, settles_nothing, shows, take};
+use crate::turns::{Shown, completes, hears, settles, settles_nothing, shows, take};
 use agent_core::calls::answer;
 use agent_core::{Answer, Ticket};
 use ccp_base::Reply;
-use flow_core::{Case, Cell, EpochLine};
+use flow_core::{Book, Case, Cell, EpochLine};
 use fold_machine::Acked;
 use std::alloc::Global;
 use std::process::Abort;
@@ -92,32 +94,68 @@ fn tells_all(rt: &impl Abort, alloc: Global, cell: &mut Cell) -> Result<(), Fail
     reports_anew(rt, alloc, cell)
 }
 
-/// The flow's second epoch, once the three reports are told and it is complete; None where it isn't.
-fn second_epoch(rt: &impl Abort, alloc: Global) -> Result<Option<EpochLine>, Fail> {
-    let mut cell = cell(alloc, LOSING)?;
-    tells_all(rt, alloc, &mut cell)?;
-    if !cell.is_complete() {
-        return Ok(None);
+/// The flow, once the three reports are told.
+fn told(rt: &impl Abort, alloc: Global, mut cell: Cell) -> Result<Cell, Fail> {
+    match tells_all(rt, alloc, &mut cell) {
+        Ok(()) => Ok(cell),
+        Err(fail) => {
+            drop(cell);
+            Err(fail)
+        }
     }
+}
+
+/// A book's second epoch.
+fn second_of(book: &Book) -> Option<EpochLine> {
+    book.epochs.as_slice().get(1).copied()
+}
+
+/// A complete flow's second epoch.
+fn second_epoch(cell: Cell) -> Option<EpochLine>
+    requires { IsComplete cell }
+{
     let book = cell.finish();
-    Ok(book.epochs.as_slice().get(1).copied())
+    let second = second_of(&book);
+    drop(book);
+    second
+}
+
+/// The flow is complete, and its second epoch is that of the change.
+fn ends(rt: &impl Abort, cell: Cell) {
+    completes(rt, &cell);
+    assert_eq!(rt; second_epoch(cell), Some(SECOND));
 }
 
 #[test]
 fn a_change_leaves_what_waits(rt: HostRuntime) -> Result<(), Fail> {
-    assert_eq!(rt; second_epoch(&rt, rt.alloc())?, Some(SECOND));
+    let cell = cell(rt.alloc(), LOSING)?;
+    ends(&rt, told(&rt, rt.alloc(), cell)?);
     Ok(())
+}
+
+/// Whether a case is the same as its copy, which is dropped then.
+fn is_same(case: &Case, copy: Case) -> bool {
+    let same = case.same(&copy);
+    drop(copy);
+    same
 }
 
 /// Whether a case has a copy, which is the same.
 fn is_copied(alloc: Global, case: &Case) -> Result<bool, Fail> {
     let copy = case.copy(alloc)?;
-    Ok(case.same(&copy))
+    Ok(is_same(case, copy))
+}
+
+/// The same of a case that is dropped then.
+fn has_copy(alloc: Global, case: Case) -> Result<bool, Fail> {
+    let copied = is_copied(alloc, &case);
+    drop(case);
+    copied
 }
 
 #[test]
 fn a_copy_of_a_case_is_the_same(rt: HostRuntime) -> Result<(), Fail> {
     let case = case(rt.alloc(), LOSING)?;
-    assert!(rt; is_copied(rt.alloc(), &case)?);
+    assert!(rt; has_copy(rt.alloc(), case)?);
     Ok(())
 }

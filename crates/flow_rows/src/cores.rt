@@ -1,9 +1,11 @@
 //! Flows without their links.
-ghost use Rattle.std.specs.Prelude.{◌≡◌, ◌<◌};
+ghost use Rattle.std.specs.Prelude.{◌≡◌, ◌<◌, true};
+ghost use Rattle.flow_core.specs.Cores.{world_in};
+ghost use Rattle.flow_core.specs.Words.{is_still};
 
 use crate::scenes::{NO_ACK, RENO, core};
 use ccp_base::Ack;
-use flow_core::{Core, Ended, TakeFault};
+use flow_core::{Core, Ended, Given, TakeFault};
 use fold_machine::{Acked, Steps};
 use std::alloc::Global;
 use std::marker::Brand;
@@ -50,33 +52,77 @@ fn refuses(rt: &impl Abort, alloc: Global, core: &mut Core, want: TakeFault) {
     assert_eq!(rt; refusal(alloc, core), Some(want));
 }
 
+/// The window has so many bytes.
+fn has_window(rt: &impl Abort, core: &Core, bytes: u64) {
+    assert_eq!(rt; core.cwnd(), bytes);
+}
+
 /// The acknowledgement makes no report, and the window is wider by it.
 fn widens(rt: &impl Abort, alloc: Global, core: &mut Core) {
     hears(rt, core, Ok(Acked::Quiet));
-    assert_eq!(rt; core.cwnd(), 5792);
+    has_window(rt, core, 5792);
     refuses(rt, alloc, core, TakeFault::NotYet);
+}
+
+/// A flow is widened so, and is dropped then.
+fn flow_widens(rt: &impl Abort, alloc: Global, mut core: Core) {
+    widens(rt, alloc, &mut core);
+    drop(core);
 }
 
 #[test]
 fn an_acknowledgement_widens_the_window(rt: HostRuntime) -> Result<(), Fail> {
-    let mut core = core(rt.alloc(), RENO)?;
-    widens(&rt, rt.alloc(), &mut core);
+    let core = core(rt.alloc(), RENO)?;
+    flow_widens(&rt, rt.alloc(), core);
     Ok(())
 }
 
-/// How many letters a flow made that takes none, where nothing is left to take and no ticket is out.
-fn letters(rt: &impl Abort, alloc: Global) -> Result<Option<usize>, Fail> {
-    let mut core = core(alloc, NO_ACK)?;
-    hears(rt, &mut core, Err(Ended));
-    if !core.is_still() {
-        return Ok(None);
-    }
+/// The flow takes no acknowledgement, nothing is left to take, and no ticket is out.
+fn takes_none(rt: &impl Abort, core: &mut Core)
+    ensures { is_still (world_in core.new) ≡ true }
+{
+    hears(rt, core, Err(Ended));
+    stands_still(rt, core);
+}
+
+/// Nothing is left to take, and no ticket is out.
+fn stands_still(rt: &impl Abort, core: &Core)
+    ensures { is_still (world_in core.now) ≡ true }
+{
+    assert!(rt; core.is_still());
+}
+
+/// How many letters were made of what was given.
+fn letters_of(given: &Given) -> usize {
+    given.book.word.len()
+}
+
+/// How many letters a flow made. Nothing may be left to take, and no ticket may be out.
+fn letters(core: Core) -> usize
+    requires { is_still (world_in core) ≡ true }
+{
     let given = core.finish();
-    Ok(Some(given.book.word.len()))
+    let letters = letters_of(&given);
+    drop(given);
+    letters
+}
+
+/// The flow made no letter. Nothing may be left to take, and no ticket may be out.
+fn has_no_letter(rt: &impl Abort, core: Core)
+    requires { is_still (world_in core) ≡ true }
+{
+    assert_eq!(rt; letters(core), 0);
+}
+
+/// The flow takes no acknowledgement, and made no letter.
+fn flow_takes_none(rt: &impl Abort, mut core: Core) {
+    takes_none(rt, &mut core);
+    has_no_letter(rt, core);
 }
 
 #[test]
 fn a_case_without_acknowledgements_takes_none(rt: HostRuntime) -> Result<(), Fail> {
-    assert_eq!(rt; letters(&rt, rt.alloc())?, Some(0));
+    let core = core(rt.alloc(), NO_ACK)?;
+    flow_takes_none(&rt, core);
     Ok(())
 }

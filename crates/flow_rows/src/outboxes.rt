@@ -67,41 +67,130 @@ fn tells_report(rt: &impl Abort, pool: &mut Pool, outbox: &mut Outbox, first: u3
     tells(rt, pool, outbox, Some(Told::Report(report(first))));
 }
 
+/// So many slots are free.
+fn has_free(rt: &impl Abort, pool: &Pool, slots: u32) {
+    assert_eq!(rt; pool.free(), slots);
+}
+
 /// Nothing is told any more, and each of so many slots is free.
 fn is_emptied(rt: &impl Abort, pool: &mut Pool, outbox: &mut Outbox, slots: u32)
     requires words { 80 ≤ pool.old.words }
     requires owned { AreOwned pool.old outbox.old.slots }
 {
     tells(rt, pool, outbox, None);
-    assert_eq!(rt; pool.free(), slots);
+    has_free(rt, pool, slots);
+}
+
+/// The outbox has no room.
+fn is_full(rt: &impl Abort, outbox: &Outbox) {
+    assert!(rt; !outbox.room());
+}
+
+/// A report waits in an outbox that is full then, before a notice.
+fn waits(rt: &impl Abort, pool: &mut Pool, outbox: &mut Outbox)
+    requires words { 80 ≤ pool.old.words }
+    requires owned { AreOwned pool.old outbox.old.slots }
+    ensures words { 80 ≤ pool.new.words }
+    ensures owned { AreOwned pool.new outbox.new.slots }
+{
+    push(rt, pool, outbox, 3);
+    is_full(rt, outbox);
+    outbox.note(NOTICE);
+}
+
+/// The report is told, and then the notice.
+fn tells_both(rt: &impl Abort, pool: &mut Pool, outbox: &mut Outbox)
+    requires words { 80 ≤ pool.old.words }
+    requires owned { AreOwned pool.old outbox.old.slots }
+{
+    tells_report(rt, pool, outbox, 3);
+    tells(rt, pool, outbox, Some(Told::Fault(NOTICE)));
+    is_emptied(rt, pool, outbox, 1);
+}
+
+/// A report is told before the notice that came after it.
+fn tells_in_order(rt: &impl Abort, pool: &mut Pool, outbox: &mut Outbox)
+    requires words { 80 ≤ pool.old.words }
+    requires owned { AreOwned pool.old outbox.old.slots }
+{
+    waits(rt, pool, outbox);
+    tells_both(rt, pool, outbox);
+}
+
+/// A pool and an outbox do so, and are dropped then.
+fn outbox_tells_in_order(rt: &impl Abort, mut pool: Pool, mut outbox: Outbox)
+    requires words { 80 ≤ pool.words }
+    requires owned { AreOwned pool outbox.slots }
+{
+    tells_in_order(rt, &mut pool, &mut outbox);
+    drop(outbox);
+    drop(pool);
 }
 
 #[test]
 fn a_report_is_told_before_a_notice(rt: HostRuntime) -> Result<(), Fail> {
-    let mut pool = Pool::new(rt.alloc(), 1, 80)?;
-    let mut outbox = Outbox::new(rt.alloc(), 1)?;
-    push(&rt, &mut pool, &mut outbox, 3);
-    assert!(rt; !outbox.room());
-    outbox.note(NOTICE);
-    tells_report(&rt, &mut pool, &mut outbox, 3);
-    tells(&rt, &mut pool, &mut outbox, Some(Told::Fault(NOTICE)));
-    is_emptied(&rt, &mut pool, &mut outbox, 1);
+    let outbox = Outbox::new(rt.alloc(), 1)?;
+    let pool = Pool::new(rt.alloc(), 1, 80)?;
+    outbox_tells_in_order(&rt, pool, outbox);
     Ok(())
+}
+
+/// So many reports wait.
+fn has_waiting(rt: &impl Abort, outbox: &Outbox, reports: u32) {
+    assert_eq!(rt; outbox.waiting(), reports);
+}
+
+/// The oldest of two reports makes room for a third one.
+fn makes_room(rt: &impl Abort, pool: &mut Pool, outbox: &mut Outbox)
+    requires words { 80 ≤ pool.old.words }
+    requires owned { AreOwned pool.old outbox.old.slots }
+    ensures words { 80 ≤ pool.new.words }
+    ensures owned { AreOwned pool.new outbox.new.slots }
+{
+    push(rt, pool, outbox, 0);
+    push(rt, pool, outbox, 1);
+    tells_report(rt, pool, outbox, 0);
+    push(rt, pool, outbox, 2);
+}
+
+/// Two reports wait and are told, and a notice that is void then isn't.
+fn tells_the_rest(rt: &impl Abort, pool: &mut Pool, outbox: &mut Outbox)
+    requires words { 80 ≤ pool.old.words }
+    requires owned { AreOwned pool.old outbox.old.slots }
+    ensures words { 80 ≤ pool.new.words }
+    ensures owned { AreOwned pool.new outbox.new.slots }
+{
+    has_waiting(rt, outbox, 2);
+    tells_report(rt, pool, outbox, 1);
+    tells_report(rt, pool, outbox, 2);
+    outbox.note(NOTICE);
+    outbox.void();
+}
+
+/// Three reports are told in order by an outbox in which two may wait.
+fn tells_three(rt: &impl Abort, pool: &mut Pool, outbox: &mut Outbox)
+    requires words { 80 ≤ pool.old.words }
+    requires owned { AreOwned pool.old outbox.old.slots }
+{
+    makes_room(rt, pool, outbox);
+    tells_the_rest(rt, pool, outbox);
+    is_emptied(rt, pool, outbox, 3);
+}
+
+/// A pool and an outbox do so, and are dropped then.
+fn outbox_tells_three(rt: &impl Abort, mut pool: Pool, mut outbox: Outbox)
+    requires words { 80 ≤ pool.words }
+    requires owned { AreOwned pool outbox.slots }
+{
+    tells_three(rt, &mut pool, &mut outbox);
+    drop(outbox);
+    drop(pool);
 }
 
 #[test]
 fn the_oldest_of_a_full_outbox_is_told(rt: HostRuntime) -> Result<(), Fail> {
-    let mut pool = Pool::new(rt.alloc(), 3, 80)?;
-    let mut outbox = Outbox::new(rt.alloc(), 2)?;
-    push(&rt, &mut pool, &mut outbox, 0);
-    push(&rt, &mut pool, &mut outbox, 1);
-    tells_report(&rt, &mut pool, &mut outbox, 0);
-    push(&rt, &mut pool, &mut outbox, 2);
-    assert_eq!(rt; outbox.waiting(), 2);
-    tells_report(&rt, &mut pool, &mut outbox, 1);
-    tells_report(&rt, &mut pool, &mut outbox, 2);
-    outbox.note(NOTICE);
-    outbox.void();
-    is_emptied(&rt, &mut pool, &mut outbox, 3);
+    let outbox = Outbox::new(rt.alloc(), 2)?;
+    let pool = Pool::new(rt.alloc(), 3, 80)?;
+    outbox_tells_three(&rt, pool, outbox);
     Ok(())
 }

@@ -1,7 +1,7 @@
 //! The flows that the tests take, each the only case of a scenario.
 use flow_core::{Case, Cell, Core};
-use scenario_json::SceneMode;
 use scenario_json::calls::scenario;
+use scenario_json::{Scenario, SceneMode};
 use std::alloc::Global;
 use std::test::Fail;
 
@@ -33,10 +33,17 @@ fn first(alloc: Global, cases: &[Case]) -> Result<Case, Fail> {
     }
 }
 
+/// A copy of the first case of a scenario, which is dropped then.
+fn only(alloc: Global, scene: Scenario) -> Result<Case, Fail> {
+    let case = first(alloc, scene.cases.as_slice());
+    drop(scene);
+    case
+}
+
 /// The case of a scenario.
 pub(crate) fn case(alloc: Global, text: &[u8]) -> Result<Case, Fail> {
     let scene = scenario(alloc, text, SceneMode::Live)?;
-    first(alloc, scene.cases.as_slice())
+    only(alloc, scene)
 }
 
 /// The flow of a scenario with its link, without a letter.

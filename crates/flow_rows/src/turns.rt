@@ -1,6 +1,7 @@
 //! The letters of a flow with its link, and what tests look at of them. A test's steps are calls of functions that
 //! assert one thing each.
 ghost use Rattle.std.specs.Prelude.{◌≡◌, ◌<◌};
+ghost use Rattle.flow_core.specs.Cells.{IsComplete};
 
 use agent_core::Ticket;
 use agent_core::calls::answer;
@@ -60,6 +61,13 @@ pub(crate) fn refuses(rt: &impl Abort, alloc: Global, cell: &mut Cell, want: Tak
     assert_eq!(rt; refusal(alloc, cell), Some(want));
 }
 
+/// The flow is complete.
+pub(crate) fn completes(rt: &impl Abort, cell: &Cell)
+    ensures { IsComplete cell.now }
+{
+    assert!(rt; cell.is_complete());
+}
+
 /// Whether this ticket is the one that is out.
 fn is_the_one_out(cell: &Cell, ticket: &Ticket) -> bool {
     match &cell.out() {
@@ -68,10 +76,14 @@ fn is_the_one_out(cell: &Cell, ticket: &Ticket) -> bool {
     }
 }
 
-/// The ticket has this number, and it is out.
-pub(crate) fn is_out(rt: &impl Abort, cell: &Cell, ticket: &Ticket, number: u32) {
-    assert_eq!(rt; ticket.number, number);
+/// The ticket is out.
+pub(crate) fn is_out(rt: &impl Abort, cell: &Cell, ticket: &Ticket) {
     assert!(rt; is_the_one_out(cell, ticket));
+}
+
+/// The ticket has this number.
+pub(crate) fn has_number(rt: &impl Abort, ticket: &Ticket, number: u32) {
+    assert_eq!(rt; ticket.number, number);
 }
 
 /// Applies the answer to a ticket: the reply; None where the answer is refused.

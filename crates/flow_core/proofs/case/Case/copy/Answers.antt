@@ -7,8 +7,8 @@ use Rattle.flow_core.proofs.case.Case.copy.Goals as goal
 pub invariant_of-result : goal.invariant_of-result
 invariant_of-result c =
     let case = c.args.self.now in
-    let ss : case.ss ≡ c.in_ok-ss.ss = sym c.in_ok-ss.ensures in
-    let ca : case.ca ≡ c.in_ok-ca.ca = sym c.in_ok-ca.ensures in
+    let ss : case.ss ≡ c.in_ok-ss.ss = sym c.in_ok-ss.ensures.ss in
+    let ca : case.ca ≡ c.in_ok-ss.ca = sym c.in_ok-ss.ensures.ca in
     record {
       ss_role = subst (λ (p : Coded). (course_of case.agent).ss ≡ p.role) ss case.ss_role;
       ca_role = subst (λ (p : Coded). (course_of case.agent).ca ≡ p.role) ca case.ca_role;
