@@ -3,6 +3,7 @@
 
 pub mod calls;
 mod case_row;
+mod counts;
 mod row;
 mod sums;
 mod walk;

@@ -1,5 +1,4 @@
 ghost use Rattle.std.specs.Prelude.{◌≡◌, ◌<◌, [], Some, false, OnOk, IfOk};
-ghost use Rattle.flow_core.specs.LiveText.{report_count};
 ghost use Rattle.flow_core.specs.Words.{is_complete};
 ghost use Rattle.flow_core.specs.Cells.{flow_at, world_at, IsComplete};
 ghost use Rattle.campaign_gate.specs.CampaignWord.{is_due};
@@ -8,11 +7,12 @@ ghost use Rattle.campaign_gate.specs.Tried.{Tried};
 ghost use Rattle.flow_core.specs.LettersLeft.{left_at};
 ghost use Rattle.campaign_gate.specs.Walks.{next_at, IsOnWay, Makes};
 
+use crate::counts::Counts;
 use crate::row::Row;
 use crate::sums::Sums;
 use agent_core::calls::answer;
-use ccp_base::{NoMemory, Told};
-use flow_core::{Cell, Letter, TakeFault, TicketLine};
+use ccp_base::NoMemory;
+use flow_core::{Cell, Letter, TakeFault};
 use fold_machine::Steps;
 use std::alloc::Global;
 use std::sync::ledger::Ledger;
@@ -146,35 +146,20 @@ impl Walk {
             Some(ack) => ack.now,
             None => 0,
         };
-        let book = self.cell.finish();
+        let counts = Counts::of(&self.cell.finish());
         Row {
             acks,
-            reports: reports_in(book.tickets.as_slice()),
-            held: u64::from(book.held),
-            faults: book.faults.len() as u64,
-            epochs: book.epochs.len() as u64,
+            reports: counts.reports,
+            held: counts.held,
+            faults: counts.faults,
+            epochs: counts.epochs,
             lost: self.sums.lost,
             timeouts: self.sums.timeouts,
             acked: self.sums.acked,
             peak: self.peak,
             cwnd,
             now,
-            tail: acks.saturating_sub(book.first),
+            tail: acks.saturating_sub(counts.first),
         }
     }
-}
-
-/// How many tickets told a report.
-fn reports_in(tickets: &[TicketLine]) -> u64
-    ensures { result ≡ report_count tickets.now }
-{
-    let mut left = tickets;
-    let mut count = 0;
-    while let Some((ticket, rest)) = left.split_first() {
-        if let Told::Report(_) = ticket.told {
-            count += 1;
-        }
-        left = rest;
-    }
-    count
 }

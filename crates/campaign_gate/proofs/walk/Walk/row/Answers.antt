@@ -17,28 +17,29 @@ returns c =
     let walk = c.args.self in
     let w = world_at walk.cell in
     let flow = flow_at walk.cell in
-    let book = c.finish-book.ensures.book in
+    let book = c.finish.ensures.book in
     let acks : c.from-acks.result ≡ length w.acks = c.from-acks.ensures ∙ c.acks.ensures in
-    let reports = c.reports_in.ensures ∙ ap report_count (c.as_slice.ensures ∙ book.tickets) in
-    let held = c.from.ensures ∙ book.held in
-    let faults : c.len.result ≡ length w.faults =
-    c.len.ensures ∙ ap (λ (xs : List Notice). length xs) book.faults ∙ length-map w.faults (notice_of flow) in
-    let epochs : c.len-2.result ≡ length w.past + 1 =
-    c.len-2.ensures ∙ ap (λ (xs : List EpochLine). length xs) book.epochs ∙ length-map (w.past ++ w.present ∷ []) epoch_line
+    let counts = c.of-counts.ensures in
+    let reports = counts.reports ∙ ap report_count book.tickets in
+    let held = counts.held ∙ book.held in
+    let faults : c.of-counts.result.faults ≡ length w.faults =
+    counts.faults ∙ ap (λ (xs : List Notice). length xs) book.faults ∙ length-map w.faults (notice_of flow) in
+    let epochs : c.of-counts.result.epochs ≡ length w.past + 1 =
+    counts.epochs ∙ ap (λ (xs : List EpochLine). length xs) book.epochs ∙ length-map (w.past ++ w.present ∷ []) epoch_line
     ∙ length-append w.past (w.present ∷ []) in
     let cwnd = c.cwnd-cwnd.ensures in
     let last : c.match-last.now ≡ time_in c.last.result =
     elim c.match-last.branch [ in-Some b ↦ b.now-is ∙ ap time_in (sym b.in-Some.is) | in-None b ↦ b.now-is ∙ ap time_in (sym b.in-None.is) ] in
     let now : c.match-last.now ≡ time_of w.acks = last ∙ ap time_in c.last.ensures ∙ sym (time-last w.acks) in
     let tail : c.saturating_sub.result ≡ length w.acks - (track_of flow w).first =
-    c.saturating_sub.ensures ∙ (λ i. acks i - book.first i) in
+    c.saturating_sub.ensures ∙ (λ i. acks i - (counts.first ∙ book.first) i) in
     let sums = c.requires.on.sums in
     let same : record {
       acks = c.from-acks.result;
-      reports = c.reports_in.result;
-      held = c.from.result;
-      faults = c.len.result;
-      epochs = c.len-2.result;
+      reports = c.of-counts.result.reports;
+      held = c.of-counts.result.held;
+      faults = c.of-counts.result.faults;
+      epochs = c.of-counts.result.epochs;
       lost = walk.sums.lost;
       timeouts = walk.sums.timeouts;
       acked = walk.sums.acked;
