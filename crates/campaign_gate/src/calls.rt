@@ -39,17 +39,22 @@ fn counted<L: Ledger>(alloc: Global, case: Case, blank: Blank) -> Result<Row, No
     ensures { IfOk result (λ row. row ≡ row_of case) }
 {
     let mut steps = Steps::<L>::new(blank);
-    let mut walk = Walk::begin(Cell::new(alloc, case)?);
-    complete(alloc, &mut walk, &mut steps)?;
+    let walk = Walk::begin(Cell::new(alloc, case)?);
+    completed(alloc, walk, &mut steps)
+}
+
+/// The row of a flow, after every letter that is left.
+fn completed<L: Ledger>(alloc: Global, walk: Walk, steps: &mut Steps<L>) -> Result<Row, NoMemory>
+    requires { IsOnWay walk }
+    ensures { IfOk result (λ row. row ≡ row_of walk.cell.case) }
+{
+    let mut walk = walk;
+    complete(alloc, &mut walk, steps)?;
     Ok(walk.row())
 }
 
 /// Makes every letter that is left.
-fn complete<L: Ledger>(
-    alloc: Global,
-    walk: &mut Walk,
-    steps: &mut Steps<L>,
-) -> Result<(), NoMemory>
+fn complete<L: Ledger>(alloc: Global, walk: &mut Walk, steps: &mut Steps<L>) -> Result<(), NoMemory>
     requires { IsOnWay walk.old }
     ensures on { OnOk result (IsOnWay walk.new) }
     ensures complete { OnOk result (IsComplete walk.new.cell) }

@@ -9,6 +9,7 @@ ghost use Rattle.campaign_gate.specs.Walks.{next_at, IsOnWay, Makes};
 
 use crate::counts::Counts;
 use crate::row::Row;
+use crate::standing::Standing;
 use crate::sums::Sums;
 use agent_core::calls::answer;
 use ccp_base::NoMemory;
@@ -140,15 +141,10 @@ impl Walk {
         requires complete { IsComplete self.cell }
         ensures { result ≡ row_of self.cell.case }
     {
-        let cwnd = self.cell.cwnd();
-        let acks = u64::from(self.cell.acks());
-        let now = match self.cell.last() {
-            Some(ack) => ack.now,
-            None => 0,
-        };
+        let standing = Standing::of(&self.cell);
         let counts = Counts::of(&self.cell.finish());
         Row {
-            acks,
+            acks: standing.acks,
             reports: counts.reports,
             held: counts.held,
             faults: counts.faults,
@@ -157,9 +153,9 @@ impl Walk {
             timeouts: self.sums.timeouts,
             acked: self.sums.acked,
             peak: self.peak,
-            cwnd,
-            now,
-            tail: acks.saturating_sub(counts.first),
+            cwnd: standing.cwnd,
+            now: standing.time,
+            tail: standing.acks.saturating_sub(counts.first),
         }
     }
 }
