@@ -57,16 +57,17 @@ fn finished<L: Ledger>(alloc: Global, cell: Cell, steps: &mut Steps<L>) -> Resul
     ensures whole { IfOk result IsWhole }
 {
     let mut cell = cell;
-    complete(alloc, &mut cell, steps)?;
-    Ok(closed(cell))
+    match complete(alloc, &mut cell, steps) {
+        Ok(()) => Ok(closed(cell)),
+        Err(NoMemory) => {
+            drop(cell);
+            Err(NoMemory)
+        }
+    }
 }
 
 /// Makes every letter that is left.
-fn complete<L: Ledger>(
-    alloc: Global,
-    cell: &mut Cell,
-    steps: &mut Steps<L>,
-) -> Result<(), NoMemory>
+fn complete<L: Ledger>(alloc: Global, cell: &mut Cell, steps: &mut Steps<L>) -> Result<(), NoMemory>
     ensures case { OnOk result (cell.new.case ≡ cell.old.case) }
     ensures complete { OnOk result (IsComplete cell.new) }
 {
