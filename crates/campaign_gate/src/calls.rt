@@ -49,8 +49,13 @@ fn completed<L: Ledger>(alloc: Global, walk: Walk, steps: &mut Steps<L>) -> Resu
     ensures { IfOk result (λ row. row ≡ row_of walk.cell.case) }
 {
     let mut walk = walk;
-    complete(alloc, &mut walk, steps)?;
-    Ok(walk.row())
+    match complete(alloc, &mut walk, steps) {
+        Ok(()) => Ok(walk.row()),
+        Err(NoMemory) => {
+            drop(walk);
+            Err(NoMemory)
+        }
+    }
 }
 
 /// Makes every letter that is left.

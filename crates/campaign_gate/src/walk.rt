@@ -142,7 +142,9 @@ impl Walk {
         ensures { result ≡ row_of self.cell.case }
     {
         let standing = Standing::of(&self.cell);
-        let counts = Counts::of(&self.cell.finish());
+        let book = self.cell.finish();
+        let counts = Counts::of(&book);
+        drop(book);
         Row {
             acks: standing.acks,
             reports: counts.reports,
