@@ -1,4 +1,4 @@
-ghost use Rattle.std.specs.Prelude.{◌≡◌, ◌<◌, map, IfOk};
+ghost use Rattle.std.specs.Prelude.{◌≡◌, ◌<◌, [], map, IfOk, OnOk};
 ghost use Rattle.flow_core.specs.Cells.{IsComplete};
 ghost use Rattle.flow_table.specs.Tables.{case_of};
 ghost use Rattle.agent_loop.specs.LiveBooks.{IsWhole, AreBooksOf};
@@ -30,11 +30,25 @@ fn counted<L: Ledger>(alloc: Global, cells: Cells, blank: Blank) -> Result<Books
     let mut steps = Steps::<L>::new(blank);
     let mut left = cells.into_vec();
     let mut books = Books::new(alloc);
+    finish(alloc, &mut left, &mut books, &mut steps)?;
+    Ok(books)
+}
+
+/// Moves flows out of a list and puts their books into another, which is empty, in order.
+fn finish<L: Ledger>(
+    alloc: Global,
+    left: &mut Vec<Cell>,
+    books: &mut Books,
+    steps: &mut Steps<L>,
+) -> Result<(), NoMemory>
+    requires { books.old ≡ [] }
+    ensures { OnOk result (AreBooksOf (map case_of left.old.items) books.new) }
+{
     while !left.is_empty() {
         let cell = left.remove(0);
-        books.push(finished(alloc, cell, &mut steps)?)?;
+        books.push(finished(alloc, cell, steps)?)?;
     }
-    Ok(books)
+    Ok(())
 }
 
 /// The book of a flow, after every letter that is left.
@@ -43,10 +57,24 @@ fn finished<L: Ledger>(alloc: Global, cell: Cell, steps: &mut Steps<L>) -> Resul
     ensures whole { IfOk result IsWhole }
 {
     let mut cell = cell;
-    while !cell.is_complete() {
-        next(alloc, &mut cell, steps)?;
+    match complete(alloc, &mut cell, steps) {
+        Ok(()) => Ok(closed(cell)),
+        Err(NoMemory) => {
+            drop(cell);
+            Err(NoMemory)
+        }
     }
-    Ok(closed(cell))
+}
+
+/// Makes every letter that is left.
+fn complete<L: Ledger>(alloc: Global, cell: &mut Cell, steps: &mut Steps<L>) -> Result<(), NoMemory>
+    ensures case { OnOk result (cell.new.case ≡ cell.old.case) }
+    ensures complete { OnOk result (IsComplete cell.new) }
+{
+    while !cell.is_complete() {
+        next(alloc, cell, steps)?;
+    }
+    Ok(())
 }
 
 /// The book of a flow whose word is complete.

@@ -1,11 +1,13 @@
 //! The run of one case, and of many.
-ghost use Rattle.std.specs.Prelude.{◌≡◌, ◌<◌, ◌≤◌, true, map, length, IfOk};
+ghost use Rattle.std.specs.Prelude.{◌≡◌, ◌<◌, ◌≤◌, true, map, length, IfOk, OnOk};
 ghost use Rattle.ccp_base.specs.Limits.{most_cases, most_workers};
 ghost use Rattle.flow_core.specs.Readings.{over_codes};
 ghost use Rattle.flow_core.specs.Words.{world, legal, is_complete};
+ghost use Rattle.flow_core.specs.Cells.{IsComplete};
 ghost use Rattle.campaign_gate.specs.CampaignWord.{plan};
 ghost use Rattle.campaign_gate.specs.CampaignRow.{row_of};
 ghost use Rattle.campaign_gate.specs.LiftedRow.{IsLifted};
+ghost use Rattle.campaign_gate.specs.Walks.{IsOnWay};
 
 use crate::row::{Row, Rows};
 use crate::walk::Walk;
@@ -37,11 +39,36 @@ fn counted<L: Ledger>(alloc: Global, case: Case, blank: Blank) -> Result<Row, No
     ensures { IfOk result (λ row. row ≡ row_of case) }
 {
     let mut steps = Steps::<L>::new(blank);
-    let mut walk = Walk::begin(Cell::new(alloc, case)?);
-    while !walk.cell.is_complete() {
-        walk.next(alloc, &mut steps)?;
+    let walk = Walk::begin(Cell::new(alloc, case)?);
+    completed(alloc, walk, &mut steps)
+}
+
+/// The row of a flow, after every letter that is left.
+fn completed<L: Ledger>(alloc: Global, walk: Walk, steps: &mut Steps<L>) -> Result<Row, NoMemory>
+    requires { IsOnWay walk }
+    ensures { IfOk result (λ row. row ≡ row_of walk.cell.case) }
+{
+    let mut walk = walk;
+    match complete(alloc, &mut walk, steps) {
+        Ok(()) => Ok(walk.row()),
+        Err(NoMemory) => {
+            drop(walk);
+            Err(NoMemory)
+        }
     }
-    Ok(walk.row())
+}
+
+/// Makes every letter that is left.
+fn complete<L: Ledger>(alloc: Global, walk: &mut Walk, steps: &mut Steps<L>) -> Result<(), NoMemory>
+    requires { IsOnWay walk.old }
+    ensures on { OnOk result (IsOnWay walk.new) }
+    ensures complete { OnOk result (IsComplete walk.new.cell) }
+    ensures case { OnOk result (walk.new.cell.case ≡ walk.old.cell.case) }
+{
+    while !walk.cell.is_complete() {
+        walk.next(alloc, steps)?;
+    }
+    Ok(())
 }
 
 /// The cases of a campaign in order.

@@ -3,7 +3,9 @@
 
 pub mod calls;
 mod case_row;
+mod counts;
 mod row;
+mod standing;
 mod sums;
 mod walk;
 mod workers;

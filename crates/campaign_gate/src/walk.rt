@@ -1,5 +1,4 @@
 ghost use Rattle.std.specs.Prelude.{◌≡◌, ◌<◌, [], Some, false, OnOk, IfOk};
-ghost use Rattle.flow_core.specs.LiveText.{report_count};
 ghost use Rattle.flow_core.specs.Words.{is_complete};
 ghost use Rattle.flow_core.specs.Cells.{flow_at, world_at, IsComplete};
 ghost use Rattle.campaign_gate.specs.CampaignWord.{is_due};
@@ -8,11 +7,13 @@ ghost use Rattle.campaign_gate.specs.Tried.{Tried};
 ghost use Rattle.flow_core.specs.LettersLeft.{left_at};
 ghost use Rattle.campaign_gate.specs.Walks.{next_at, IsOnWay, Makes};
 
+use crate::counts::Counts;
 use crate::row::Row;
+use crate::standing::Standing;
 use crate::sums::Sums;
 use agent_core::calls::answer;
-use ccp_base::{NoMemory, Told};
-use flow_core::{Cell, Letter, TakeFault, TicketLine};
+use ccp_base::NoMemory;
+use flow_core::{Cell, Letter, TakeFault};
 use fold_machine::Steps;
 use std::alloc::Global;
 use std::sync::ledger::Ledger;
@@ -140,41 +141,23 @@ impl Walk {
         requires complete { IsComplete self.cell }
         ensures { result ≡ row_of self.cell.case }
     {
-        let cwnd = self.cell.cwnd();
-        let acks = u64::from(self.cell.acks());
-        let now = match self.cell.last() {
-            Some(ack) => ack.now,
-            None => 0,
-        };
+        let standing = Standing::of(&self.cell);
         let book = self.cell.finish();
+        let counts = Counts::of(&book);
+        drop(book);
         Row {
-            acks,
-            reports: reports_in(book.tickets.as_slice()),
-            held: u64::from(book.held),
-            faults: book.faults.len() as u64,
-            epochs: book.epochs.len() as u64,
+            acks: standing.acks,
+            reports: counts.reports,
+            held: counts.held,
+            faults: counts.faults,
+            epochs: counts.epochs,
             lost: self.sums.lost,
             timeouts: self.sums.timeouts,
             acked: self.sums.acked,
             peak: self.peak,
-            cwnd,
-            now,
-            tail: acks.saturating_sub(book.first),
+            cwnd: standing.cwnd,
+            now: standing.time,
+            tail: standing.acks.saturating_sub(counts.first),
         }
     }
-}
-
-/// How many tickets told a report.
-fn reports_in(tickets: &[TicketLine]) -> u64
-    ensures { result ≡ report_count tickets.now }
-{
-    let mut left = tickets;
-    let mut count = 0;
-    while let Some((ticket, rest)) = left.split_first() {
-        if let Told::Report(_) = ticket.told {
-            count += 1;
-        }
-        left = rest;
-    }
-    count
 }

@@ -1,4 +1,4 @@
-ghost use Rattle.std.specs.Prelude.{◌≡◌, ◌<◌, ◌≤◌, Ok, Some, map, length, slice_get, IfOk};
+ghost use Rattle.std.specs.Prelude.{◌≡◌, ◌<◌, ◌≤◌, [], Ok, Some, map, length, slice_get, IfOk, OnOk};
 ghost use Rattle.ccp_base.specs.Limits.{most_cases, most_workers};
 ghost use Rattle.campaign_gate.specs.CampaignRow.{row_of};
 ghost use Rattle.campaign_gate.specs.Parts.{HasPart};
@@ -34,7 +34,6 @@ pub(crate) fn by_workers<C: Campaign + Send + Sync, R: Threads + Sync, G: Gate +
 
 /// The work of one worker: the cases whose numbers leave the worker's when they are divided by the number of workers,
 /// in order.
-#[tactic(auto, using(crate::proofs::RowLemmas::row_at_place))]
 fn work<C: Campaign, G: Gate>(
     alloc: Global,
     cases: &[Case],
@@ -47,6 +46,24 @@ fn work<C: Campaign, G: Gate>(
     requires workers { (1 ≤ workers) × (workers ≤ most_workers) }
 {
     let mut rows = Vec::new(alloc);
+    put_share::<C, G>(alloc, &mut rows, cases, workers, worker, gate)?;
+    Ok(rows)
+}
+
+/// Puts the rows of a worker's cases at the end of others.
+#[tactic(auto, using(crate::proofs::RowLemmas::row_at_place))]
+fn put_share<C: Campaign, G: Gate>(
+    alloc: Global,
+    rows: &mut Vec<CaseRow<C>>,
+    cases: &[Case],
+    workers: u32,
+    worker: u32,
+    gate: &G,
+) -> Result<(), NoMemory>
+    requires cases { cases.now ≡ C.cases }
+    requires few { length cases.now ≤ most_cases }
+    requires workers { (1 ≤ workers) × (workers ≤ most_workers) }
+{
     let mut number = worker;
     while let Some(case) = cases.get(number as usize) {
         gate.pass(worker, Point::InCase, number);
@@ -55,11 +72,10 @@ fn work<C: Campaign, G: Gate>(
         rows.push(row)?;
         number += workers;
     }
-    Ok(rows)
+    Ok(())
 }
 
 /// The rows in the order of the cases, out of what the workers made.
-#[tactic(auto, using(crate::proofs::RowLemmas::row_after_front, crate::proofs::RowLemmas::front_and_rest))]
 fn merged<C: Campaign>(
     alloc: Global,
     cases: &[Case],
@@ -70,6 +86,23 @@ fn merged<C: Campaign>(
     ensures { IfOk result (λ rows. rows ≡ map row_of cases.now) }
 {
     let mut rows = Rows::new(alloc);
+    put_rows::<C>(alloc, &mut rows, cases, parts)?;
+    Ok(rows)
+}
+
+/// Puts the rows of cases, in their order, into a list that is empty.
+#[tactic(auto, using(crate::proofs::RowLemmas::row_after_front, crate::proofs::RowLemmas::front_and_rest))]
+fn put_rows<C: Campaign>(
+    alloc: Global,
+    rows: &mut Rows,
+    cases: &[Case],
+    parts: &[Result<Vec<CaseRow<C>>, NoMemory>],
+) -> Result<(), NoMemory>
+    requires cases { cases.now ≡ C.cases }
+    requires few { length cases.now ≤ most_cases }
+    requires empty { rows.old ≡ [] }
+    ensures { OnOk result (rows.new ≡ map row_of cases.now) }
+{
     let mut left = cases;
     let mut number = 0;
     while let Some((case, rest)) = left.split_first() {
@@ -77,7 +110,7 @@ fn merged<C: Campaign>(
         number += 1;
         left = rest;
     }
-    Ok(rows)
+    Ok(())
 }
 
 /// A case's row: its worker's, and where no worker made it the caller's own.

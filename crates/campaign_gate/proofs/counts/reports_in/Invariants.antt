@@ -1,6 +1,6 @@
 use Rattle.std.proofs.Common.{◌≡◌, ◌+◌, ◌≤◌, length}
 use Rattle.flow_core.specs.LiveText.{report_count}
-use Rattle.campaign_gate.proofs.walk.reports_in.Given as goal
+use Rattle.campaign_gate.proofs.counts.reports_in.Given as goal
 
 abbrev pub invariant-loop-ticket : goal.invariant-loop-ticket
 invariant-loop-ticket l =

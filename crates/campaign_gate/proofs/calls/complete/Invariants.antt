@@ -1,10 +1,10 @@
 use Rattle.std.proofs.Common.{◌≡◌}
 use Rattle.flow_core.specs.LettersLeft.{left_at}
 use Rattle.campaign_gate.specs.Walks.{IsOnWay}
-use Rattle.campaign_gate.proofs.calls.counted.Given as goal
+use Rattle.campaign_gate.proofs.calls.complete.Given as goal
 
 abbrev pub invariant-loop-alloc : goal.invariant-loop-alloc
-invariant-loop-alloc g l = IsOnWay l.walk × (l.walk.cell.case ≡ l.fn.case)
+invariant-loop-alloc g l = IsOnWay l.walk × (l.walk.cell.case ≡ l.initial.walk.cell.case)
 
 abbrev pub decreases-loop-alloc : goal.decreases-loop-alloc
 decreases-loop-alloc g l = left_at l.walk.cell

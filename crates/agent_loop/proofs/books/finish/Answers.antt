@@ -1,6 +1,6 @@
 use Rattle.std.proofs.Common.{rules, ◌<◌, length}
 use Rattle.agent_loop.proofs.BookLemmas.{one-more}
-use Rattle.agent_loop.proofs.books.counted.Goals as goal
+use Rattle.agent_loop.proofs.books.finish.Goals as goal
 
 pub loop-alloc-preserved : goal.loop-alloc-preserved
 loop-alloc-preserved g c =

@@ -1,6 +1,6 @@
 use Rattle.std.proofs.Common.{◌≡◌, ◌++◌, length, map}
 use Rattle.campaign_gate.specs.CampaignRow.{row_of}
-use Rattle.campaign_gate.proofs.workers.merged.Given as goal
+use Rattle.campaign_gate.proofs.workers.put_rows.Given as goal
 
 abbrev pub invariant-loop-case : goal.invariant-loop-case
 invariant-loop-case g l = (l.rows ++ map row_of l.left ≡ map row_of l.fn.cases) × (l.number ≡ length l.rows)
