@@ -1,5 +1,5 @@
 -- No walk is refused for want of memory: each refusal is that of a rule.
-use Rattle.std.proofs.Common.{◌≡◌, ◌≢◌, ℕ, ◌==◌, Bool, true, false, not, ◌&&◌, ◌||◌, List, [], ◌∷◌, ◌++◌, length, Option, Some, None, is_some, Result, Ok, Err, IfErr, nat_lt, nat_le, bytes_eq, codes, subst, if◌then◌else◌}
+use Rattle.std.proofs.Common.{◌≡◌, ℕ, ◌==◌, Bool, true, false, not, ◌&&◌, ◌||◌, List, [], ◌∷◌, ◌++◌, length, Option, Some, None, is_some, Result, Ok, Err, IfErr, nat_lt, nat_le, bytes_eq, codes, subst, if◌then◌else◌}
 use Rattle.std.specs.Prelude.{◌^◌}
 use Rattle.ccp_base.specs.declared.place.Place.{Place}
 use Rattle.ccp_base.specs.declared.operation.Op2.{Op2}

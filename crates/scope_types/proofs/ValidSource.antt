@@ -1,5 +1,5 @@
 -- A program that the walk over forms gives is valid.
-use Rattle.std.proofs.Common.{◌≡◌, ℕ, ◌+◌, ◌≤◌, Bool, true, false, not, ◌&&◌, refl, List, [], ◌∷◌, ◌++◌, length, is_some, Option, Some, None, IfSome, ◌||◌, Result, Ok, Err, IfOk, IsTrue, nat_le, bytes_eq, codes, arith, ap, ◌∙◌, sym, subst, length-append, lit≤, if◌then◌else◌}
+use Rattle.std.proofs.Common.{◌≡◌, ℕ, ◌+◌, ◌≤◌, Bool, true, false, not, ◌&&◌, refl, List, [], ◌∷◌, ◌++◌, length, is_some, Option, Some, None, IfSome, ◌||◌, Result, Ok, IfOk, IsTrue, nat_le, bytes_eq, codes, arith, ap, ◌∙◌, sym, subst, length-append, lit≤, if◌then◌else◌}
 use Rattle.std.proofs.lemmas.Bool.Decides.{nat_tests}
 use Rattle.ccp_base.specs.declared.place.Place.{Place}
 use Rattle.portus_core.specs.declared.program.Decl.{Decl}

@@ -1,4 +1,4 @@
-ghost use Rattle.std.specs.Prelude.{◌≡◌, ◌≢◌, IsTrue, IfOk, IfErr, MatchResult, Ok, Err};
+ghost use Rattle.std.specs.Prelude.{◌≡◌, ◌≢◌, IsTrue, OnOk, IfOk, IfErr, MatchResult, Ok, Err};
 ghost use Rattle.portus_core.specs.Trees.{node_of, nodes_of};
 ghost use Rattle.portus_core.specs.Programs.{Form, form_over};
 ghost use Rattle.portus_core.specs.ProgramForm.{form_of};
@@ -36,16 +36,15 @@ fn nothing_declared(alloc: Global) -> Declared
 }
 
 /// The first form, which declares the names.
-fn def(alloc: Global, tree: &Tree) -> Result<Names, ScopeFault>
-    ensures ok { IfOk result (GivesNames (def_walk (node_of tree.now))) }
+fn def(declared: &mut Declared, tree: &Tree) -> Result<(), ScopeFault>
+    requires nothing { declaring_of declared.old ≡ nothing_declared }
+    ensures ok { OnOk result (GivesNames (def_walk (node_of tree.now)) declared.new.names) }
     ensures err { IfErr result (EndsWalk (def_walk (node_of tree.now))) }
 {
     if let Tree::List(_, items) = tree {
         if let Cut::First(Tree::Word(_, w), rest) = cut_first(items.as_slice()) {
             if same(w.as_slice(), b"def") {
-                let mut declared = nothing_declared(alloc);
-                parts(&mut declared, rest)?;
-                return Ok(declared.names);
+                return parts(declared, rest);
             }
         }
     }
@@ -53,11 +52,11 @@ fn def(alloc: Global, tree: &Tree) -> Result<Names, ScopeFault>
 }
 
 /// A program of valid parts.
-fn program(alloc: Global, names: Names, blocks: Vec<Block>) -> Result<Program, AllocError>
-    requires declared { IsTrue (is_declared (form_over names.fields names.controls blocks.items)) }
-    requires valid { IsTrue (is_valid (form_over names.fields names.controls blocks.items)) }
-    ensures fields { IfOk result (λ p. p.fields.items ≡ names.fields) }
-    ensures controls { IfOk result (λ p. p.controls.items ≡ names.controls) }
+fn program(alloc: Global, names: &Names, blocks: Vec<Block>) -> Result<Program, AllocError>
+    requires declared { IsTrue (is_declared (form_over names.now.fields names.now.controls blocks.items)) }
+    requires valid { IsTrue (is_valid (form_over names.now.fields names.now.controls blocks.items)) }
+    ensures fields { IfOk result (λ p. p.fields.items ≡ names.now.fields) }
+    ensures controls { IfOk result (λ p. p.controls.items ≡ names.now.controls) }
     ensures blocks { IfOk result (λ p. p.blocks.items ≡ blocks.items) }
 {
     Ok(Program {
@@ -67,17 +66,31 @@ fn program(alloc: Global, names: Names, blocks: Vec<Block>) -> Result<Program, A
     })
 }
 
-/// The program of a text's forms, or the first refusal in the order of the text.
-fn scope_forms(alloc: Global, forms: &[Tree]) -> Result<Program, ScopeFault>
+/// The program of a text's forms, or the first refusal in the order of the text, where nothing is declared yet.
+fn scope_forms_over(
+    alloc: Global,
+    declared: &mut Declared,
+    forms: &[Tree],
+) -> Result<Program, ScopeFault>
+    requires nothing { declaring_of declared.old ≡ nothing_declared }
     ensures ok { IfOk result (λ p. source_walk (nodes_of forms.now) ≡ Ok (form_of p)) }
     ensures err { IfErr result (EndsWalk (source_walk (nodes_of forms.now))) }
 {
     let Cut::First(first, rest) = cut_first(forms) else {
         return Err(ScopeFault::Misplaced(Place { line: 1, column: 1 }));
     };
-    let mut names = def(alloc, first)?;
-    let blocks = later_forms(alloc, &mut names, rest)?;
-    Ok(program(alloc, names, blocks)?)
+    def(declared, first)?;
+    let blocks = later_forms(alloc, &mut declared.names, rest)?;
+    Ok(program(alloc, &declared.names, blocks)?)
+}
+
+/// The program of a text's forms, or the first refusal in the order of the text.
+fn scope_forms(alloc: Global, forms: &[Tree]) -> Result<Program, ScopeFault>
+    ensures ok { IfOk result (λ p. source_walk (nodes_of forms.now) ≡ Ok (form_of p)) }
+    ensures err { IfErr result (EndsWalk (source_walk (nodes_of forms.now))) }
+{
+    let mut declared = nothing_declared(alloc);
+    scope_forms_over(alloc, &mut declared, forms)
 }
 
 /// The program that a text's forms stand for, or the first refusal in the order of the text. Where they stand for

@@ -67,13 +67,17 @@ done-all all givens rows are =
       are.rows ∙ ap (map (flow_row over_codes)) whole,
     )
 
--- the next flow's sums are numbers of 64 bits, at its end too
-pub roomy-next : (all rest later : List CoreState) (core end : CoreState) (givens : List Given) (rows : List Row) → AreDone all rest givens rows → rest ≡ core ∷ later
-    → end ≡ closed over_codes core → AreRoomy end.acks
-roomy-next all rest later core end givens rows are is closes =
+-- the next flow's sums are numbers of 64 bits
+pub roomy-next : (all rest later : List CoreState) (core : CoreState) (givens : List Given) (rows : List Row) → AreDone all rest givens rows → rest ≡ core ∷ later
+    → AreRoomy core.acks
+roomy-next all rest later core givens rows are is =
     let front : All (λ (one : CoreState). AreRoomy one.acks) (core ∷ later) =
     subst (λ (xs : List CoreState). All (λ (one : CoreState). AreRoomy one.acks) xs) is are.roomy in
-    let here : AreRoomy core.acks = front 0 core (omega arith) in
+    front 0 core (omega arith)
+
+-- and so they are at its end
+pub roomy-closed : (core end : CoreState) → end ≡ closed over_codes core → AreRoomy core.acks → AreRoomy end.acks
+roomy-closed core end closes here =
     subst (λ (acks : List Ack). AreRoomy acks) (sym (ap (λ (c : CoreState). c.acks) closes ∙ settled-acks over_codes true core)) here
 
 pub given-of : (core end : CoreState) (given : Given) → end ≡ closed over_codes core

@@ -1,15 +1,17 @@
-ghost use Rattle.std.specs.Prelude.{◌≡◌, IfOk, map};
+ghost use Rattle.std.specs.Prelude.{◌≡◌, [], IfOk, OnOk, map};
 ghost use Rattle.std.specs.List.{All};
 ghost use Rattle.flow_core.specs.Readings.{over_codes};
 ghost use Rattle.flow_core.specs.Cores.{CoreState};
 ghost use Rattle.shared_flow.specs.FlowRow.{flow_row, AreRoomy};
-ghost use Rattle.shared_run.specs.SharedBooks.{AreGivensOf};
+ghost use Rattle.shared_flow.specs.RoundLetters.{closed};
+ghost use Rattle.shared_run.specs.SharedBooks.{IsGivenOf, AreGivensOf};
 ghost use Rattle.shared_run.specs.Lanes.{ends_in, flows_in};
 
 use crate::lane::Lane;
-use campaign_gate::Rows;
+use campaign_gate::{Row, Rows};
 use ccp_base::{NoMemory, Sequence};
 use flow_core::Given;
+use shared_flow::SharedFlow;
 use shared_link::Counts;
 use std::alloc::Global;
 
@@ -33,12 +35,38 @@ pub(crate) fn finished(alloc: Global, lanes: Vec<Lane>) -> Result<(Givens, Rows)
 {
     let mut givens = Givens::new(alloc);
     let mut rows = Rows::new(alloc);
+    finish_all(alloc, lanes, &mut givens, &mut rows)?;
+    Ok((givens, rows))
+}
+
+/// Puts what flows came to into two lists that have nothing yet.
+fn finish_all(
+    alloc: Global,
+    lanes: Vec<Lane>,
+    givens: &mut Givens,
+    rows: &mut Rows,
+) -> Result<(), NoMemory>
+    requires roomy { All (λ (core : CoreState). AreRoomy core.acks) (flows_in lanes.items) }
+    requires no_givens { givens.old ≡ [] }
+    requires no_rows { rows.old ≡ [] }
+    ensures givens { OnOk result (AreGivensOf (ends_in lanes.items) givens.new) }
+    ensures rows { OnOk result (rows.new ≡ map (flow_row over_codes) (ends_in lanes.items)) }
+{
     for lane in lanes {
-        let mut flow = lane.flow;
-        flow.close(alloc)?;
-        let (given, row) = flow.finish();
+        let (given, row) = ended(alloc, lane.flow)?;
         givens.push(given)?;
         rows.push(row)?;
     }
-    Ok((givens, rows))
+    Ok(())
+}
+
+/// Closes a flow, which takes and answers until nothing is left, and tells what it came to.
+fn ended(alloc: Global, flow: SharedFlow) -> Result<(Given, Row), NoMemory>
+    requires { AreRoomy flow.acks }
+    ensures given { IfOk result (λ made. IsGivenOf (closed over_codes flow) made.0) }
+    ensures row { IfOk result (λ made. made.1 ≡ flow_row over_codes (closed over_codes flow)) }
+{
+    let mut flow = flow;
+    flow.close(alloc)?;
+    Ok(flow.finish())
 }

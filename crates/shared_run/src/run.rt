@@ -11,10 +11,11 @@ ghost use Rattle.shared_run.specs.LiftedRun.{IsLifted};
 use crate::books::{SharedRun, finished};
 use crate::lane::opened;
 use crate::rounds::rounds;
+use campaign_gate::Cases;
 use ccp_base::{Gate, NoMemory};
 use flow_core::Case;
 use scenario_json::SharedScene;
-use shared_link::SharedLink;
+use shared_link::{SharedCase, SharedLink};
 use std::alloc::Global;
 use std::thread::Threads;
 
@@ -65,9 +66,29 @@ fn run<R: Threads + Sync, G: Gate + Sync>(
         link,
         rounds: most,
     } = scene;
-    let most = most_of(scene.cases.as_slice(), most);
+    run_cases(rt, alloc, link, scene.cases, most, workers, gate)
+}
+
+/// The run of these cases over their link for at most so many rounds.
+fn run_cases<R: Threads + Sync, G: Gate + Sync>(
+    rt: &R,
+    alloc: Global,
+    link: SharedCase,
+    cases: Cases,
+    most: u32,
+    workers: u32,
+    gate: &G,
+) -> Result<SharedRun, NoMemory>
+    requires workers { 1 ≤ workers }
+    requires few { length cases ≤ most_flows }
+    requires link { IsWithin link }
+    requires links { link.flows ≡ map flow_link_of (map plan_of cases) }
+    requires rounds { most ≤ most_rounds }
+    ensures { IfOk result (IsRunOf link cases most) }
+{
+    let most = most_of(cases.as_slice(), most);
     let mut link = SharedLink::new(alloc, link)?;
-    let mut lanes = opened(alloc, scene.cases)?;
+    let mut lanes = opened(alloc, cases)?;
     rounds(
         rt,
         alloc,

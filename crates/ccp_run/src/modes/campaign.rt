@@ -1,8 +1,9 @@
-ghost use Rattle.std.specs.Prelude.{◌≡◌, ◌≤◌, [], IfOk, map, length};
+ghost use Rattle.std.specs.Prelude.{◌≡◌, ◌≤◌, ◌++◌, [], IfOk, map, length};
 ghost use Rattle.ccp_base.specs.Limits.{most_cases, most_workers};
 ghost use Rattle.flow_core.specs.declared.case.Case.{Case};
 ghost use Rattle.ccp_run.specs.Attempts.{IsAnswer, IsAttempt};
 ghost use Rattle.std.specs.List.{All};
+ghost use Rattle.campaign_report.specs.TableText.{table_text};
 ghost use Rattle.scenario_json.specs.Cases.{case_names, IsCoded, AreNumberedFrom};
 ghost use Rattle.ccp_run.specs.Campaign.{campaign_text, case_agents, frames_shown};
 ghost use Rattle.ccp_run.specs.Streams.{over};
@@ -14,9 +15,10 @@ use crate::refusal::Limit;
 use crate::scene::scene;
 use crate::stop::Stop;
 use agent_loop::Books;
+use campaign_gate::Rows;
 use campaign_gate::calls::rows;
 use campaign_report::{Agents, table_text, wire_text};
-use ccp_base::{Bytes, Gate, NoMemory, Source};
+use ccp_base::{Bytes, Gate, Names, NoMemory, Source};
 use flow_core::Case;
 use reg_compiler::Builts;
 use scenario_json::{Scenario, SceneMode};
@@ -81,14 +83,31 @@ fn campaigned<R: Threads + Wait + Sync, G: Gate + Sync>(
 {
     let agents = agents(alloc, scene.cases.as_slice())?;
     let rows = rows(rt, alloc, scene.cases, workers, gate)?;
-    let mut text = frames(alloc, wire, &scene.programs)?;
-    text.extend(table_text(alloc, &scene.names, &agents, &rows)?.as_slice())?;
     Ok(ModeOutput {
-        text,
+        text: written(alloc, wire, &scene.programs, &scene.names, &agents, &rows)?,
         books: Books::new(alloc),
         programs: scene.programs,
         ran: 0,
     })
+}
+
+/// The table of rows, after the programs' frames where they are asked for.
+fn written(
+    alloc: Global,
+    wire: bool,
+    programs: &Builts,
+    names: &Names,
+    agents: &Agents,
+    rows: &Rows,
+) -> Result<Bytes, NoMemory>
+    requires within { length rows.now ≤ most_cases }
+    requires names { length names.now ≡ length rows.now }
+    requires agents { length agents.now ≡ length rows.now }
+    ensures { IfOk result (λ text. text ≡ frames_shown wire programs.now ++ table_text names.now agents.now rows.now) }
+{
+    let mut text = frames(alloc, wire, programs)?;
+    text.extend(table_text(alloc, names, agents, rows)?.as_slice())?;
+    Ok(text)
 }
 
 /// The programs' Install frames, where they are asked for.

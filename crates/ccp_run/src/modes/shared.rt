@@ -1,6 +1,7 @@
 ghost use Rattle.std.specs.Prelude.{◌≡◌, ◌≤◌, ◌++◌, [], OnOk, IfOk, IfErr, length, map};
 ghost use Rattle.std.specs.List.{All};
-ghost use Rattle.ccp_base.specs.Limits.{most_flows, most_rounds, most_workers};
+ghost use Rattle.ccp_base.specs.Limits.{most_cases, most_flows, most_rounds, most_workers};
+ghost use Rattle.campaign_report.specs.TableText.{table_text};
 ghost use Rattle.scenario_json.specs.Cases.{plan_of, case_names, IsCoded, AreFlowsFrom, AreNumberedFrom};
 ghost use Rattle.scenario_json.specs.SharedScenes.{flow_link_of};
 ghost use Rattle.shared_link.specs.SharedLimits.{IsWithin};
@@ -15,13 +16,13 @@ use crate::reading::read_bytes;
 use crate::refusal::{Limit, Refusal};
 use crate::stop::Stop;
 use agent_loop::Books;
-use campaign_report::table_text;
+use campaign_report::{Agents, table_text};
 use ccp_base::{Bytes, Gate, Names, NoMemory, Source};
 use reg_compiler::Builts;
 use scenario_json::calls::shared_scene;
 use scenario_json::{SceneFault, SharedScene};
 use shared_link::Counts;
-use shared_run::shared;
+use shared_run::{SharedRun, shared};
 use std::alloc::Global;
 use std::sync::Wait;
 use std::thread::Threads;
@@ -103,14 +104,29 @@ fn run_together<R: Threads + Wait + Sync, G: Gate + Sync>(
     let names = copied(alloc, &scene.scene.names)?;
     let agents = agents(alloc, scene.scene.cases.as_slice())?;
     let made = shared(rt, alloc, scene, workers, gate)?;
-    let mut text = table_text(alloc, &names, &agents, &made.rows)?;
-    put_line(alloc, &mut text, &made.counts)?;
     Ok(ModeOutput {
-        text,
+        text: written(alloc, &names, &agents, &made)?,
         books: Books::new(alloc),
         programs: Builts::new(alloc),
         ran: 0,
     })
+}
+
+/// The table of a run, and the line of its link's packets.
+fn written(
+    alloc: Global,
+    names: &Names,
+    agents: &Agents,
+    made: &SharedRun,
+) -> Result<Bytes, NoMemory>
+    requires within { length made.now.rows ≤ most_cases }
+    requires names { length names.now ≡ length made.now.rows }
+    requires agents { length agents.now ≡ length made.now.rows }
+    ensures { IfOk result (λ text. text ≡ table_text names.now agents.now made.now.rows ++ link_line made.now.counts) }
+{
+    let mut text = table_text(alloc, names, agents, &made.rows)?;
+    put_line(alloc, &mut text, &made.counts)?;
+    Ok(text)
 }
 
 /// Equal names.

@@ -8,20 +8,20 @@ use Rattle.ccp_run.specs.Campaign.{case_agents, source_rows, frames_shown}
 use Rattle.ccp_run.proofs.CampaignLemmas.{rows_over}
 use Rattle.ccp_run.proofs.modes.campaign.campaigned.Goals as goal
 
-pub table_text-requires-clause-within : goal.table_text-requires-clause-within
-table_text-requires-clause-within g c =
+pub written-requires-clause-within : goal.written-requires-clause-within
+written-requires-clause-within g c =
     let cases = c.args.scene.cases in
     let rows : c.in_ok-rows.rows ≡ map row_of cases = search rules in
     subst (λ (n : ℕ). n ≤ most_cases) (sym (ap length rows ∙ length-map cases row_of)) c.requires.few
 
-pub table_text-requires-clause-names : goal.table_text-requires-clause-names
-table_text-requires-clause-names g c =
+pub written-requires-clause-names : goal.written-requires-clause-names
+written-requires-clause-names g c =
     let cases = c.args.scene.cases in
     let rows : c.in_ok-rows.rows ≡ map row_of cases = search rules in
     ap length c.requires.names ∙ length-map cases (λ case. case.name) ∙ sym (ap length rows ∙ length-map cases row_of)
 
-pub table_text-requires-clause-agents : goal.table_text-requires-clause-agents
-table_text-requires-clause-agents g c =
+pub written-requires-clause-agents : goal.written-requires-clause-agents
+written-requires-clause-agents g c =
     let cases = c.args.scene.cases in
     let rows : c.in_ok-rows.rows ≡ map row_of cases = search rules in
     let agents : c.in_ok-agents.agents ≡ case_agents cases = search rules in
@@ -33,13 +33,9 @@ returns-clause-text g c =
     let programs = c.args.scene.programs in
     let rows : c.in_ok-rows.rows ≡ map row_of cases = search rules in
     let agents : c.in_ok-agents.agents ≡ case_agents cases = search rules in
-    let frames : c.in_ok-text.text ≡ frames_shown c.args.wire programs = search rules in
-    let table : c.in_ok-table_text.field-0 ≡ table_text c.args.scene.names c.in_ok-agents.agents c.in_ok-rows.rows = search rules in
-    let whole : c.extend.new.self ≡ c.in_ok-text.text ++ c.in_ok-table_text.field-0 = search rules in
+    let text : c.in_ok-written.field-0 ≡ frames_shown c.args.wire programs ++ table_text c.args.scene.names c.in_ok-agents.agents c.in_ok-rows.rows = search rules in
     let sources : c.in_ok-rows.rows ≡ source_rows programs cases = rows ∙ rows_over programs c.requires.numbered c.in_ok-rows.ensures.lifted cases c.requires.coded in
-    whole
-    ∙ ap (λ text. text ++ c.in_ok-table_text.field-0) frames
-    ∙ ap (λ text. frames_shown c.args.wire programs ++ text) table
+    text
     ∙ ap (λ names. frames_shown c.args.wire programs ++ table_text names c.in_ok-agents.agents c.in_ok-rows.rows) c.requires.names
     ∙ ap (λ agents. frames_shown c.args.wire programs ++ table_text (case_names cases) agents c.in_ok-rows.rows) agents
     ∙ ap (λ rows. frames_shown c.args.wire programs ++ table_text (case_names cases) (case_agents cases) rows) sources
