@@ -1,4 +1,4 @@
-ghost use Rattle.std.specs.Prelude.{◌≡◌, ◌<◌, map, IfOk};
+ghost use Rattle.std.specs.Prelude.{◌≡◌, ◌<◌, [], map, IfOk, OnOk};
 ghost use Rattle.std.specs.List.{All};
 ghost use Rattle.scenario_json.specs.ScenePrograms.{TextReading, ReadsTexts};
 ghost use Rattle.open_flow.specs.OpenCells.{IsComplete};
@@ -33,11 +33,26 @@ fn counted<L: Ledger>(alloc: Global, cells: OpenCells, blank: Blank) -> Result<O
     let mut steps = Steps::<L>::new(blank);
     let mut left = cells.into_vec();
     let mut books = OpenBooks::new(alloc);
+    finish(alloc, &mut left, &mut books, &mut steps)?;
+    Ok(books)
+}
+
+/// Moves flows out of a list and puts their books into another, which is empty, in order.
+fn finish<L: Ledger>(
+    alloc: Global,
+    left: &mut Vec<OpenCell>,
+    books: &mut OpenBooks,
+    steps: &mut Steps<L>,
+) -> Result<(), NoMemory>
+    requires { books.old ≡ [] }
+    ensures cases { OnOk result (map case_in books.new ≡ map case_of left.old.items) }
+    ensures whole { (read : TextReading) → ReadsTexts read → OnOk result (All (IsWhole read) books.new) }
+{
     while !left.is_empty() {
         let cell = left.remove(0);
-        books.push(finished(alloc, cell, &mut steps)?)?;
+        books.push(finished(alloc, cell, steps)?)?;
     }
-    Ok(books)
+    Ok(())
 }
 
 /// The book of a flow, after every letter that is left.
@@ -50,10 +65,28 @@ fn finished<L: Ledger>(
     ensures whole { (read : TextReading) → ReadsTexts read → IfOk result (λ book. IsWhole read book) }
 {
     let mut cell = cell;
-    while !cell.is_complete() {
-        next(alloc, &mut cell, steps)?;
+    match complete(alloc, &mut cell, steps) {
+        Ok(()) => Ok(closed(cell)),
+        Err(NoMemory) => {
+            drop(cell);
+            Err(NoMemory)
+        }
     }
-    Ok(closed(cell))
+}
+
+/// Makes every letter that is left.
+fn complete<L: Ledger>(
+    alloc: Global,
+    cell: &mut OpenCell,
+    steps: &mut Steps<L>,
+) -> Result<(), NoMemory>
+    ensures case { OnOk result (cell.new.case ≡ cell.old.case) }
+    ensures complete { (read : TextReading) → ReadsTexts read → OnOk result (IsComplete read cell.new) }
+{
+    while !cell.is_complete() {
+        next(alloc, cell, steps)?;
+    }
+    Ok(())
 }
 
 /// The book of a flow whose word is complete.

@@ -1,6 +1,6 @@
 use Rattle.std.proofs.Common.{◌∙◌}
 use Rattle.scenario_json.proofs.ReadingLemmas.{some_reading}
-use Rattle.live_install.proofs.books.finished.Goals as goal
+use Rattle.live_install.proofs.books.complete.Goals as goal
 
 pub loop-alloc-smaller : goal.loop-alloc-smaller
 loop-alloc-smaller g c = (c.in_ok-next.ensures some_reading.0 some_reading.1).fewer
