@@ -1,12 +1,18 @@
 ghost use Rattle.std.specs.Prelude.{◌≡◌, ◌≢◌, ◌≤◌, IfOk, IfErr, Ok, Err, length, map};
 ghost use Rattle.std.specs.List.{All};
+ghost use Rattle.serde_json.specs.View.{view};
+ghost use Rattle.ccp_base.specs.Chaining.{then_do};
 ghost use Rattle.ccp_base.specs.Limits.{most_flows, most_queue, most_quantum_us, most_rounds};
 ghost use Rattle.scenario_json.specs.ScenePrograms.{TextReading, ReadsTexts, forms_of};
-ghost use Rattle.scenario_json.specs.Scene.{scene_with, scene_of, most_cases_of};
+ghost use Rattle.scenario_json.specs.Scene.{scene_with, scene_of, parts_in, most_cases_of};
+ghost use Rattle.scenario_json.specs.Plans.{IsPlan};
+ghost use Rattle.scenario_json.specs.Traces.{table_of};
+ghost use Rattle.scenario_json.specs.Drafts.{parts_said};
+ghost use Rattle.scenario_json.specs.declared.mode.SceneMode.TheVariants as modes;
 ghost use Rattle.scenario_json.specs.Soak.{gen};
 ghost use Rattle.scenario_json.specs.Rollout.{rollout_of};
 ghost use Rattle.scenario_json.specs.OpenCases.{open_plan_of, AreOpenFlowsFrom};
-ghost use Rattle.scenario_json.specs.SharedScenes.{flow_link_of, shared_with, shared_scene_of};
+ghost use Rattle.scenario_json.specs.SharedScenes.{flow_link_of, shared_with, shared_of, shares_in, shared_scene_of};
 ghost use Rattle.scenario_json.specs.Cases.{plan_of, case_names, IsCoded, AreFlowsFrom, AreNumberedFrom};
 ghost use Rattle.scenario_json.specs.declared.fault.SceneFault.TheVariants as fault;
 
@@ -22,6 +28,7 @@ use crate::scene_programs::{SceneProgramList, built_ins};
 use crate::shared_scene::SharedScene;
 use crate::shares::{Shares, flow_links, shares_in};
 use ccp_base::NoMemory;
+use serde_json::Value;
 use shared_link::SharedCase;
 use std::alloc::Global;
 
@@ -47,12 +54,14 @@ pub fn scenario(alloc: Global, text: &[u8], mode: SceneMode) -> Result<Scenario,
     ensures names { IfOk result (λ s. s.names ≡ case_names s.cases) }
     ensures few { IfOk result (λ s. length s.cases ≤ most_cases_of mode) }
 {
-    let whole = value_in(alloc, text)?;
     let Draft {
         programs,
         traces: _,
         plans,
-    } = draft_in(alloc, mode, &whole)?;
+    } = {
+        let whole = value_in(alloc, text)?;
+        draft_in(alloc, mode, &whole)?
+    };
     let SceneProgramList { names: _, builts } = programs;
     Ok(put_together(alloc, builts, plans)?)
 }
@@ -87,6 +96,26 @@ pub fn rollout_scene(alloc: Global, text: &[u8]) -> Result<OpenCases, SceneFault
     open_plans_in(alloc, &whole)
 }
 
+/// What a value says of flows that share one link.
+fn shared_draft_in(alloc: Global, whole: &Value) -> Result<(Draft, Shares), SceneFault>
+    ensures draft { (read : TextReading) → ReadsTexts read
+        → IfOk result (λ both. parts_in read modes.Live (view whole.now) ≡ Ok (parts_said both.0)) }
+    ensures shares { IfOk result (λ both. shares_in (table_of both.0.traces.entries) (view whole.now) ≡ Ok both.1) }
+    ensures numbered { IfOk result (λ both. AreNumberedFrom 0 both.0.programs.builts) }
+    ensures within { IfOk result (λ both. All (IsPlan (length both.0.programs.builts)) both.0.plans) }
+    ensures count { IfOk result (λ both. length both.0.plans ≤ most_flows) }
+    ensures queue { IfOk result (λ both. (1 ≤ both.1.queue) × (both.1.queue ≤ most_queue)) }
+    ensures quantum_us { IfOk result (λ both. (1 ≤ both.1.quantum_us) × (both.1.quantum_us ≤ most_quantum_us)) }
+    ensures rounds { IfOk result (λ both. (1 ≤ both.1.rounds) × (both.1.rounds ≤ most_rounds)) }
+    ensures err { (read : TextReading) → ReadsTexts read → IfErr result (λ e. e ≢ fault.NoMemory
+        → then_do (parts_in read modes.Live (view whole.now)) (λ parts.
+        then_do (shares_in parts.traces (view whole.now)) (λ shares. Ok (shared_of parts shares))) ≡ Err e) }
+{
+    let draft = draft_in(alloc, SceneMode::Live, whole)?;
+    let shares = shares_in(alloc, &draft.traces, whole)?;
+    Ok((draft, shares))
+}
+
 /// Reads the scenario of flows that share one link: that of a live run with the member `shared`. The link has one flow
 /// for each case, in order. The refusals of a live run come first, then those of `shared`.
 pub fn shared_scene(alloc: Global, text: &[u8]) -> Result<SharedScene, SceneFault>
@@ -111,30 +140,27 @@ pub fn shared_scene(alloc: Global, text: &[u8]) -> Result<SharedScene, SceneFaul
     ensures quantum_us { IfOk result (λ s. (1 ≤ s.link.quantum_us) × (s.link.quantum_us ≤ most_quantum_us)) }
     ensures rounds { IfOk result (λ s. (1 ≤ s.rounds) × (s.rounds ≤ most_rounds)) }
 {
-    let whole = value_in(alloc, text)?;
+    let (draft, shares) = {
+        let whole = value_in(alloc, text)?;
+        shared_draft_in(alloc, &whole)?
+    };
     let Draft {
         programs,
-        traces,
+        traces: _,
         plans,
-    } = draft_in(alloc, SceneMode::Live, &whole)?;
-    let Shares {
-        trace,
-        queue,
-        quantum_us,
-        rounds,
-    } = shares_in(alloc, &traces, &whole)?;
+    } = draft;
     let SceneProgramList { names: _, builts } = programs;
     let scene = put_together(alloc, builts, plans)?;
     let flows = flow_links(alloc, scene.cases.as_slice())?;
     let link = SharedCase {
-        trace,
-        queue,
-        quantum_us,
+        trace: shares.trace,
+        queue: shares.queue,
+        quantum_us: shares.quantum_us,
         flows,
     };
     Ok(SharedScene {
         scene,
         link,
-        rounds,
+        rounds: shares.rounds,
     })
 }

@@ -1,12 +1,15 @@
 ghost use Rattle.std.specs.Prelude.{◌≡◌, ◌≤◌, ◌<◌, ◌+◌, IfOk, Some, Ok, length, map, slice_get};
+ghost use Rattle.std.specs.Option.{ForSome};
 ghost use Rattle.std.specs.List.{All};
+ghost use Rattle.std.specs.List.Sorted.{IsStrictlyIncreasing};
+ghost use Rattle.ccp_base.specs.Limits.{most_mark};
 ghost use Rattle.portus_core.specs.ProgramForm.{form_of};
 ghost use Rattle.reg_compiler.specs.Simulation.{Simulates};
-ghost use Rattle.flow_core.specs.Cases.{KeepsWithin};
-ghost use Rattle.scenario_json.specs.Plans.{IsPlan};
+ghost use Rattle.flow_core.specs.Cases.{KeepsWithin, AreOne};
+ghost use Rattle.scenario_json.specs.Plans.{IsPlan, AreMeasures, AreWaits};
 ghost use Rattle.scenario_json.specs.Cases.{coded_of, coded_at, agent_of, kind_of, plan_of, IsCoded};
 
-use crate::plan::{Kind, Plan, Plans};
+use crate::plan::{Kind, Plan, Plans, Programs};
 use agent_core::Agent;
 use ccp_base::{NoMemory, Role, Sequence};
 use cubic_agent::Cubic;
@@ -47,21 +50,46 @@ fn agent(kind: Kind, mss: u32, ss: Role, ca: Role) -> Agent
     }
 }
 
-/// The case of a flow, with the codes of its programs.
-#[tactic(auto, using(crate::proofs::CaseLemmas::one_program, crate::proofs::CaseLemmas::ss_of_agent, crate::proofs::CaseLemmas::ca_of_agent, crate::proofs::CaseLemmas::kind_of_agent))]
-pub(crate) fn case(
+/// The programs of a case: that of slow start, and that of congestion avoidance.
+#[tactic(auto, using(crate::proofs::CaseLemmas::one_program))]
+fn both_coded(
     alloc: Global,
     programs: &[(u32, Built)],
-    flow: u32,
-    plan: Plan,
-) -> Result<Case, NoMemory>
-    requires { IsPlan (length programs.now) plan }
-    ensures flow { IfOk result (λ c. c.flow ≡ flow) }
-    ensures plan { IfOk result (λ c. plan_of c ≡ plan) }
-    ensures coded { IfOk result (λ c. IsCoded programs.now c) }
+    numbers: Programs,
+) -> Result<(Coded, Coded), NoMemory>
+    requires ss { numbers.ss < length programs.now }
+    requires ca { numbers.ca < length programs.now }
+    ensures ss { IfOk result (λ both. coded_at programs.now numbers.ss ≡ Some both.0) }
+    ensures ca { IfOk result (λ both. coded_at programs.now numbers.ca ≡ Some both.1) }
+    ensures ss_number { IfOk result (λ both. both.0.role.number ≡ numbers.ss) }
+    ensures ca_number { IfOk result (λ both. both.1.role.number ≡ numbers.ca) }
+    ensures ss_within { IfOk result (λ both. KeepsWithin both.0.role.look both.0.code.code) }
+    ensures ca_within { IfOk result (λ both. KeepsWithin both.1.role.look both.1.code.code) }
+    ensures one { IfOk result (λ both. AreOne both.0 both.1) }
 {
-    let ss = coded(alloc, programs, plan.programs.ss)?;
-    let ca = coded(alloc, programs, plan.programs.ca)?;
+    let ss = coded(alloc, programs, numbers.ss)?;
+    let ca = coded(alloc, programs, numbers.ca)?;
+    Ok((ss, ca))
+}
+
+/// The case of a flow whose programs these are.
+#[tactic(auto, using(crate::proofs::CaseLemmas::ss_of_agent, crate::proofs::CaseLemmas::ca_of_agent, crate::proofs::CaseLemmas::kind_of_agent))]
+fn case_of(flow: u32, plan: Plan, ss: Coded, ca: Coded) -> Case
+    requires measures { AreMeasures plan.measures }
+    requires waits { AreWaits plan.waits }
+    requires rise { IsStrictlyIncreasing plan.fates.losses }
+    requires mark { ForSome plan.fates.mark (λ m. (1 ≤ m) × (m ≤ most_mark)) }
+    requires ss_number { ss.role.number ≡ plan.programs.ss }
+    requires ca_number { ca.role.number ≡ plan.programs.ca }
+    requires ss_within { KeepsWithin ss.role.look ss.code.code }
+    requires ca_within { KeepsWithin ca.role.look ca.code.code }
+    requires one { AreOne ss ca }
+    ensures flow { result.flow ≡ flow }
+    ensures plan { plan_of result ≡ plan }
+    ensures ss { result.ss ≡ ss }
+    ensures ca { result.ca ≡ ca }
+    ensures opening { result.agent ≡ agent_of (kind_of result.agent) result.link.mss ss.role ca.role }
+{
     let measures = plan.measures;
     let agent = agent(plan.kind, measures.mss, ss.role, ca.role);
     let link = LinkCase {
@@ -73,7 +101,7 @@ pub(crate) fn case(
         losses: plan.fates.losses,
         mark: plan.fates.mark,
     };
-    Ok(Case {
+    Case {
         flow,
         name: plan.name,
         ss,
@@ -83,5 +111,21 @@ pub(crate) fn case(
         acks: measures.acks,
         slots: plan.waits.slots,
         lag: plan.waits.lag,
-    })
+    }
+}
+
+/// The case of a flow, with the codes of its programs.
+pub(crate) fn case(
+    alloc: Global,
+    programs: &[(u32, Built)],
+    flow: u32,
+    plan: Plan,
+) -> Result<Case, NoMemory>
+    requires { IsPlan (length programs.now) plan }
+    ensures flow { IfOk result (λ c. c.flow ≡ flow) }
+    ensures plan { IfOk result (λ c. plan_of c ≡ plan) }
+    ensures coded { IfOk result (λ c. IsCoded programs.now c) }
+{
+    let (ss, ca) = both_coded(alloc, programs, plan.programs)?;
+    Ok(case_of(flow, plan, ss, ca))
 }

@@ -1,4 +1,4 @@
-ghost use Rattle.std.specs.Prelude.{◌≡◌, ◌≢◌, ◌≤◌, ◌+◌, ◌*◌, ◌^◌, IfOk, IfErr, OnOk, Ok, Err, [], length};
+ghost use Rattle.std.specs.Prelude.{◌≡◌, ◌≢◌, ◌≤◌, ◌+◌, ◌*◌, ◌^◌, IfOk, IfErr, OnOk, Some, None, Ok, Err, [], length};
 ghost use Rattle.std.specs.List.{All};
 ghost use Rattle.serde_json.specs.View.{view, items_view};
 ghost use Rattle.ccp_base.specs.Limits.{most_named_programs};
@@ -22,7 +22,7 @@ use crate::scene_programs::{SceneProgramList, built_ins, few_members, programs_i
 use crate::spot::Spot;
 use crate::traces::{Traces, traces_in};
 use crate::values::{list, member, needed, needed_number, object};
-use ccp_base::{Name, Sequence};
+use ccp_base::{Name, NoMemory, Sequence};
 use serde_json::Value;
 use std::alloc::Global;
 
@@ -37,6 +37,36 @@ pub(crate) struct Draft {
     pub plans: Plans,
 }
 
+/// The programs of a scenario that names none.
+fn unnamed_programs(alloc: Global) -> Result<SceneProgramList, NoMemory>
+    ensures ok { (read : TextReading) → ReadsTexts read
+        → IfOk result (λ p. all_programs read None ≡ Ok (programs_said p)) }
+    ensures numbered { IfOk result (λ p. AreNumberedFrom 0 p.builts) }
+    ensures count { IfOk result (λ p. length p.builts ≡ length p.names + 3) }
+    ensures few { IfOk result (λ p. length p.names ≤ most_named_programs) }
+{
+    let builts = built_ins(alloc)?;
+    Ok(SceneProgramList {
+        names: Sequence::new(alloc),
+        builts,
+    })
+}
+
+/// The programs of a scenario whose member `programs` is this.
+fn named_programs(alloc: Global, value: &Value) -> Result<SceneProgramList, SceneFault>
+    ensures ok { (read : TextReading) → ReadsTexts read
+        → IfOk result (λ p. all_programs read (Some (view value.now)) ≡ Ok (programs_said p)) }
+    ensures numbered { IfOk result (λ p. AreNumberedFrom 0 p.builts) }
+    ensures count { IfOk result (λ p. length p.builts ≡ length p.names + 3) }
+    ensures few { IfOk result (λ p. length p.names ≤ most_named_programs) }
+    ensures err { (read : TextReading) → ReadsTexts read → IfErr result (λ e. e ≢ fault.NoMemory
+        → all_programs read (Some (view value.now)) ≡ Err e) }
+{
+    let members = object(alloc, Spot::Top(Key::Programs), value)?;
+    few_members(alloc, members)?;
+    programs_in(alloc, members)
+}
+
 /// All programs of a scenario.
 fn all_programs(alloc: Global, whole: &Value) -> Result<SceneProgramList, SceneFault>
     ensures ok { (read : TextReading) → ReadsTexts read
@@ -47,15 +77,10 @@ fn all_programs(alloc: Global, whole: &Value) -> Result<SceneProgramList, SceneF
     ensures err { (read : TextReading) → ReadsTexts read → IfErr result (λ e. e ≢ fault.NoMemory
         → all_programs read (member_of key.Programs (view whole.now)) ≡ Err e) }
 {
-    let Some(value) = member(whole, Key::Programs) else {
-        return Ok(SceneProgramList {
-            names: Sequence::new(alloc),
-            builts: built_ins(alloc)?,
-        });
-    };
-    let members = object(alloc, Spot::Top(Key::Programs), value)?;
-    few_members(alloc, members)?;
-    programs_in(alloc, members)
+    match member(whole, Key::Programs) {
+        Some(value) => named_programs(alloc, value),
+        None => Ok(unnamed_programs(alloc)?),
+    }
 }
 
 /// A list that doesn't have more items than there may be cases.

@@ -149,13 +149,14 @@ fn plan(alloc: Global, draws: &mut Draws, i: usize) -> Result<Plan, NoMemory>
     ensures drawn { IfOk result (λ p. (p, draws.new.x) ≡ drawn_plan i draws.old.x) }
     ensures within { IfOk result (λ p. IsPlan 3 p) }
 {
+    let name = case_name(alloc, i)?;
     let measures = measures(draws);
     let fates = fates(alloc, draws)?;
     let waits = waits(draws);
     let kind = kind_at(draws.draw(2));
     let trace = trace_at(alloc, draws.draw(4))?;
     Ok(Plan {
-        name: case_name(alloc, i)?,
+        name,
         kind,
         trace,
         measures,

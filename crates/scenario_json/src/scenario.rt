@@ -1,4 +1,4 @@
-ghost use Rattle.std.specs.Prelude.{◌≡◌, ◌≤◌, IfOk, length, map};
+ghost use Rattle.std.specs.Prelude.{◌≡◌, ◌≤◌, [], IfOk, OnOk, length, map};
 ghost use Rattle.std.specs.List.{All};
 ghost use Rattle.scenario_json.specs.Plans.{IsPlan};
 ghost use Rattle.scenario_json.specs.Cases.{plan_of, case_names, IsCoded, AreFlowsFrom};
@@ -7,7 +7,7 @@ use crate::cases::case;
 use crate::plan::Plans;
 use ccp_base::{Names, NoMemory, Sequence};
 use flow_core::Case;
-use reg_compiler::Builts;
+use reg_compiler::{Built, Builts};
 use std::alloc::Global;
 
 /// What is run: all programs with their numbers, and the cases with their names, in order. Case i is flow i.
@@ -18,8 +18,33 @@ pub struct Scenario {
     pub cases: Sequence<Case>,
 }
 
-/// The scenario of these programs and plans.
+/// Puts the cases of plans into an empty list, and their names into another.
 #[tactic(auto, using(crate::proofs::ProgramLemmas::all_pushed))]
+fn put_cases(
+    alloc: Global,
+    programs: &[(u32, Built)],
+    names: &mut Names,
+    cases: &mut Sequence<Case>,
+    plans: Plans,
+) -> Result<(), NoMemory>
+    requires within { All (IsPlan (length programs.now)) plans }
+    requires few { length plans ≤ 1024 }
+    requires unnamed { names.old ≡ [] }
+    requires empty { cases.old ≡ [] }
+    ensures plans { OnOk result (map plan_of cases.new ≡ plans) }
+    ensures names { OnOk result (names.new ≡ case_names cases.new) }
+    ensures coded { OnOk result (All (IsCoded programs.now) cases.new) }
+    ensures flows { OnOk result (AreFlowsFrom 0 cases.new) }
+{
+    for plan in plans.into_vec() {
+        names.push(plan.name)?;
+        let flow = cases.len() as u32;
+        cases.push(case(alloc, programs, flow, plan)?)?;
+    }
+    Ok(())
+}
+
+/// The scenario of these programs and plans.
 pub(crate) fn put_together(
     alloc: Global,
     programs: Builts,
@@ -35,11 +60,7 @@ pub(crate) fn put_together(
 {
     let mut names = Sequence::new(alloc);
     let mut cases = Sequence::new(alloc);
-    for plan in plans.into_vec() {
-        names.push(plan.name)?;
-        let flow = cases.len() as u32;
-        cases.push(case(alloc, programs.as_slice(), flow, plan)?)?;
-    }
+    put_cases(alloc, programs.as_slice(), &mut names, &mut cases, plans)?;
     Ok(Scenario {
         programs,
         names,

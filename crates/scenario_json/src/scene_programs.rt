@@ -7,8 +7,8 @@ ghost use Rattle.portus_core.specs.ProgramForm.{form_of};
 ghost use Rattle.portus_build.specs.Builtins.{builtin_text};
 ghost use Rattle.portus_build.specs.declared.fault.BuildFault.TheVariants as build_fault;
 ghost use Rattle.scenario_json.specs.Cases.{AreNumberedFrom};
-ghost use Rattle.scenario_json.specs.ScenePrograms.{TextReading, ReadsTexts, named_program, programs_in, built_in};
-ghost use Rattle.scenario_json.specs.ScenePrograms.{built_ins, few_members, names_of, forms_of};
+ghost use Rattle.scenario_json.specs.ScenePrograms.{TextReading, ReadsTexts, named_program, programs_from, programs_in};
+ghost use Rattle.scenario_json.specs.ScenePrograms.{built_in, built_ins, few_members, names_of, forms_of};
 ghost use Rattle.scenario_json.specs.declared.fault.SceneFault.TheVariants as fault;
 
 use crate::fault::SceneFault;
@@ -60,6 +60,19 @@ fn built_in(alloc: Global, number: u32) -> Result<Built, NoMemory>
     }
 }
 
+/// Puts the built-in programs into an empty list.
+fn put_built_ins(alloc: Global, builts: &mut Builts) -> Result<(), NoMemory>
+    requires { builts.old ≡ [] }
+    ensures forms { (read : TextReading) → ReadsTexts read → OnOk result (forms_of builts.new ≡ built_ins read) }
+    ensures numbered { OnOk result (AreNumberedFrom 0 builts.new) }
+    ensures count { OnOk result (length builts.new ≡ 3) }
+{
+    builts.push((0, built_in(alloc, 0)?))?;
+    builts.push((1, built_in(alloc, 1)?))?;
+    builts.push((2, built_in(alloc, 2)?))?;
+    Ok(())
+}
+
 /// The built-in programs.
 pub(crate) fn built_ins(alloc: Global) -> Result<Builts, NoMemory>
     ensures forms { (read : TextReading) → ReadsTexts read → IfOk result (λ builts. forms_of builts ≡ built_ins read) }
@@ -67,9 +80,7 @@ pub(crate) fn built_ins(alloc: Global) -> Result<Builts, NoMemory>
     ensures count { IfOk result (λ builts. length builts ≡ 3) }
 {
     let mut builts = Sequence::new(alloc);
-    builts.push((0, built_in(alloc, 0)?))?;
-    builts.push((1, built_in(alloc, 1)?))?;
-    builts.push((2, built_in(alloc, 2)?))?;
+    put_built_ins(alloc, &mut builts)?;
     Ok(builts)
 }
 
@@ -105,6 +116,34 @@ pub(crate) fn few_members(alloc: Global, members: &Map<String, Value>) -> Result
     }
 }
 
+/// Puts the programs of these members, and their names, at the lists' ends.
+fn put_programs(
+    alloc: Global,
+    names: &mut Names,
+    builts: &mut Builts,
+    members: &Map<String, Value>,
+) -> Result<(), SceneFault>
+    requires few { length names.old + members_len (members_view members.now.entries) ≤ most_named_programs }
+    requires numbered { AreNumberedFrom 0 builts.old }
+    requires count { length builts.old ≡ length names.old + 3 }
+    ensures ok { (read : TextReading) → ReadsTexts read → OnOk result
+        (programs_from read (forms_of builts.old) (members_view members.now.entries) ≡ Ok (forms_of builts.new)) }
+    ensures names { OnOk result (names.new ≡ names.old ++ names_of (members_view members.now.entries)) }
+    ensures numbered { OnOk result (AreNumberedFrom 0 builts.new) }
+    ensures count { OnOk result (length builts.new ≡ length names.new + 3) }
+    ensures few { OnOk result (length names.new ≤ most_named_programs) }
+    ensures err { (read : TextReading) → ReadsTexts read → IfErr result (λ e. e ≢ fault.NoMemory
+        → programs_from read (forms_of builts.old) (members_view members.now.entries) ≡ Err e) }
+{
+    for (name, value) in members.iter() {
+        let NamedProgram { name, built } = named_program(alloc, name.as_str(), value)?;
+        let number = builts.len() as u32;
+        names.push(name)?;
+        builts.push((number, built))?;
+    }
+    Ok(())
+}
+
 /// All programs of a scenario that names these.
 pub(crate) fn programs_in(
     alloc: Global,
@@ -122,11 +161,6 @@ pub(crate) fn programs_in(
 {
     let mut names = Sequence::new(alloc);
     let mut builts = built_ins(alloc)?;
-    for (name, value) in members.iter() {
-        let NamedProgram { name, built } = named_program(alloc, name.as_str(), value)?;
-        let number = builts.len() as u32;
-        names.push(name)?;
-        builts.push((number, built))?;
-    }
+    put_programs(alloc, &mut names, &mut builts, members)?;
     Ok(SceneProgramList { names, builts })
 }

@@ -1,6 +1,7 @@
 ghost use Rattle.std.specs.Prelude.{◌≡◌, ◌≢◌, ◌++◌, IfOk, OnOk};
 ghost use Rattle.scenario_json.specs.Paths.{path_of, printable, named_path, shown};
 ghost use Rattle.scenario_json.specs.declared.fault.SceneFault.TheVariants as fault;
+ghost use Rattle.scenario_json.specs.declared.spot.Spot.TheVariants as spots;
 
 use crate::fault::{Path, SceneFault};
 use crate::key::Key;
@@ -23,6 +24,30 @@ pub(crate) enum Spot {
     Shared(Key),
 }
 
+fn case_text(alloc: Global, i: usize) -> Result<String, AllocError>
+    ensures { IfOk result (λ text. text.bytes.items ≡ path_of (spots.Case i)) }
+{
+    format!(in alloc; "cases[{i}]")
+}
+
+fn member_text(alloc: Global, i: usize, key: Key) -> Result<String, AllocError>
+    ensures { IfOk result (λ text. text.bytes.items ≡ path_of (spots.In i key)) }
+{
+    format!(in alloc; "cases[{i}].{}", key.word())
+}
+
+fn item_text(alloc: Global, i: usize, key: Key, j: usize) -> Result<String, AllocError>
+    ensures { IfOk result (λ text. text.bytes.items ≡ path_of (spots.Item i key j)) }
+{
+    format!(in alloc; "cases[{i}].{}[{j}]", key.word())
+}
+
+fn shared_text(alloc: Global, key: Key) -> Result<String, AllocError>
+    ensures { IfOk result (λ text. text.bytes.items ≡ path_of (spots.Shared key)) }
+{
+    format!(in alloc; "shared.{}", key.word())
+}
+
 impl Spot {
     fn text(self, alloc: Global) -> Result<String, AllocError>
         ensures { IfOk result (λ text. text.bytes.items ≡ path_of self) }
@@ -30,10 +55,10 @@ impl Spot {
         match self {
             Spot::Whole => Ok(String::new(alloc)),
             Spot::Top(key) => String::from_str(alloc, key.word()),
-            Spot::Case(i) => format!(in alloc; "cases[{i}]"),
-            Spot::In(i, key) => format!(in alloc; "cases[{i}].{}", key.word()),
-            Spot::Item(i, key, j) => format!(in alloc; "cases[{i}].{}[{j}]", key.word()),
-            Spot::Shared(key) => format!(in alloc; "shared.{}", key.word()),
+            Spot::Case(i) => case_text(alloc, i),
+            Spot::In(i, key) => member_text(alloc, i, key),
+            Spot::Item(i, key, j) => item_text(alloc, i, key, j),
+            Spot::Shared(key) => shared_text(alloc, key),
         }
     }
 

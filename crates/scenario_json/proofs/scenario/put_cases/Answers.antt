@@ -8,12 +8,12 @@ use Rattle.scenario_json.specs.declared.plan.Plan.{Plan}
 use Rattle.scenario_json.specs.Plans.{IsPlan}
 use Rattle.scenario_json.specs.Cases.{plan_of, IsCoded}
 use Rattle.scenario_json.proofs.SceneLemmas.{ArePut, put_step}
-use Rattle.scenario_json.proofs.scenario.put_together.Goals as goal
+use Rattle.scenario_json.proofs.scenario.put_cases.Goals as goal
 
 pub loop-plan-preserved : goal.loop-plan-preserved
 loop-plan-preserved c =
     let l = c.loop-plan in
-    let programs = c.args.programs in
+    let programs = c.args.programs.now in
     let plan = c.in-Some.plan in
     let left = into_iter_items l.plan-iterator in
     let rest = into_iter_items c.next.new.self in

@@ -3,7 +3,7 @@ use Rattle.std.specs.List.{All}
 use Rattle.std.specs.Vec.Iter.{into_iter_items, into_iter_len}
 use Rattle.scenario_json.specs.Plans.{IsPlan}
 use Rattle.scenario_json.proofs.SceneLemmas.{ArePut}
-use Rattle.scenario_json.proofs.scenario.put_together.Given as goal
+use Rattle.scenario_json.proofs.scenario.put_cases.Given as goal
 
 abbrev pub invariant-loop-plan : goal.invariant-loop-plan
 invariant-loop-plan l =

@@ -8,7 +8,7 @@ use Rattle.scenario_json.proofs.TableLemmas.{Entry}
 use Rattle.reg_compiler.specs.declared.built.Built.{Built}
 use Rattle.scenario_json.specs.Cases.{AreNumberedFrom}
 use Rattle.scenario_json.proofs.ProgramLemmas.{forms_pushed, numbered_pushed}
-use Rattle.scenario_json.proofs.scene_programs.programs_in.Goals as goal
+use Rattle.scenario_json.proofs.scene_programs.put_programs.Goals as goal
 
 pub loop-name-preserved : goal.loop-name-preserved
 loop-name-preserved c =

@@ -4,7 +4,7 @@ use Rattle.portus_core.specs.ProgramForm.{form_of}
 use Rattle.portus_build.specs.Builtins.{builtin_text}
 use Rattle.reg_compiler.specs.declared.built.Built.{Built}
 use Rattle.scenario_json.specs.ScenePrograms.{TextReading, ReadsTexts, Forms, built_in, built_ins, forms_of}
-use Rattle.scenario_json.proofs.scene_programs.built_ins.Goals as goal
+use Rattle.scenario_json.proofs.scene_programs.put_built_ins.Goals as goal
 
 pub returns-clause-forms : goal.returns-clause-forms
 returns-clause-forms c =
