@@ -3,6 +3,7 @@ use live_install::{Entry, Nothing, OpenCell};
 use scenario_json::calls::rollout_scene;
 use scenario_json::{OpenCase, OpenCases};
 use std::alloc::Global;
+use std::process::Abort;
 use std::test::Fail;
 
 /// A flow without an acknowledgement and with two steps, of which the second is no program.
@@ -30,12 +31,26 @@ fn wanted(cell: &mut OpenCell, entry: Entry) -> Option<u32> {
     }
 }
 
-#[test]
-fn a_late_entry_is_refused(rt: HostRuntime) -> Result<(), Fail> {
-    let cases = rollout_scene(rt.alloc(), REFUSED)?;
-    let mut cell = cell(rt.alloc(), &cases)?;
-    let second = Entry::make(rt.alloc(), 1, b"(def) (when x)")?;
-    assert!(rt; wanted(&mut cell, second) == Some(0));
+/// The flow of a text's first case, without a letter.
+fn opened(alloc: Global, text: &[u8]) -> Result<OpenCell, Fail> {
+    let cases = rollout_scene(alloc, text)?;
+    let cell = cell(alloc, &cases);
+    drop(cases);
+    cell
+}
+
+/// An entry of the second step is late, and nothing is left to change to.
+fn refuses(rt: &impl Abort, alloc: Global, cell: &mut OpenCell) -> Result<(), Fail> {
+    let second = Entry::make(alloc, 1, b"(def) (when x)")?;
+    assert!(rt; wanted(cell, second) == Some(0));
     assert!(rt; cell.change() == Err(Nothing));
     Ok(())
+}
+
+#[test]
+fn a_late_entry_is_refused(rt: HostRuntime) -> Result<(), Fail> {
+    let mut cell = opened(rt.alloc(), REFUSED)?;
+    let refused = refuses(&rt, rt.alloc(), &mut cell);
+    drop(cell);
+    refused
 }

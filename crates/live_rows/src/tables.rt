@@ -8,6 +8,7 @@ use scenario_json::SceneMode;
 use scenario_json::calls::scenario;
 use std::alloc::Global;
 use std::marker::Brand;
+use std::process::Abort;
 use std::sync::ledger::{Blank, Ledger};
 use std::sync::{Mutex, Wait};
 use std::test::Fail;
@@ -41,15 +42,31 @@ fn shown(cells: &Cells, place: usize) -> Option<(u32, u32)> {
     Some((cell.case().flow, cell.acks()))
 }
 
+/// There are two flows, and an acknowledgement of the second one is taken.
+fn is_heard<R: Abort + Wait>(rt: &R, table: &FlowTable) {
+    let flows = table.flows();
+    assert!(rt; flows == 2);
+    assert!(rt; hear::<Brand>(rt, table.cell(1), Blank::new(1)));
+}
+
+/// At this place stands the flow of its number, with so many acknowledgements.
+fn stands(rt: &impl Abort, cells: &Cells, place: u32, acks: u32) {
+    assert!(rt; shown(cells, place as usize) == Some((place, acks)));
+}
+
+/// There are two flows, as they were left.
+fn come_back(rt: &impl Abort, cells: &Cells) {
+    assert!(rt; cells.len() == 2);
+    stands(rt, cells, 0, 0);
+    stands(rt, cells, 1, 1);
+}
+
 #[test]
 fn cells_come_back_as_they_were_left(rt: HostRuntime) -> Result<(), Fail> {
     let table = table(rt.alloc(), TWO)?;
-    let flows = table.flows();
-    assert!(rt; flows == 2);
-    assert!(rt; hear::<Brand>(&rt, table.cell(1), Blank::new(1)));
+    is_heard(&rt, &table);
     let cells = table.close(rt.alloc())?;
-    assert!(rt; cells.len() == 2);
-    assert!(rt; shown(&cells, 0) == Some((0, 0)));
-    assert!(rt; shown(&cells, 1) == Some((1, 1)));
+    come_back(&rt, &cells);
+    drop(cells);
     Ok(())
 }

@@ -1,10 +1,13 @@
 //! Tables of campaigns.
+ghost use Rattle.std.specs.Prelude.{◌≡◌, IfOk, length};
+
 use agent_core::Agent;
 use campaign_gate::{Row, Rows};
 use campaign_report::{Agents, table_text};
-use ccp_base::{Look, Name, Names, Role};
+use ccp_base::{Bytes, Look, Name, Names, Role};
 use cubic_agent::Cubic;
 use reno_agent::Reno;
+use std::alloc::Global;
 use std::test::Fail;
 
 /// The row of a flow of Reno's with four acknowledgements.
@@ -56,24 +59,50 @@ fn role(number: u32) -> Role {
     }
 }
 
-#[test]
-fn sums_have_no_bound(rt: HostRuntime) -> Result<(), Fail> {
-    let alloc = rt.alloc();
+/// The text of a row and two others.
+const SUMS: &[u8] =
+    b"case agent acks reports held faults epochs lost timeouts acked peak cwnd now tail\na reno 4 1 0 0 1 0 0 5792 10136 10136 60000 0\nb.c cubic 18446744073709551615 2 3 4 5 6 7 18446744073709551615 9 10 11 12\nd cubic 18446744073709551615 2 3 4 5 6 7 18446744073709551615 9 10 11 12\ntotal cases=3 acks=36893488147419103234 reports=5 held=6 faults=8 lost=12 timeouts=14 acked=36893488147419109022\n";
+
+fn names(alloc: Global) -> Result<Names, Fail>
+    ensures { IfOk result (λ names. length names ≡ 3) }
+{
     let mut names = Names::new(alloc);
     names.push(Name::new(b"a").ok_or("name")?)?;
     names.push(Name::new(b"b.c").ok_or("name")?)?;
     names.push(Name::new(b"d").ok_or("name")?)?;
+    Ok(names)
+}
+
+fn agents(alloc: Global) -> Result<Agents, Fail>
+    ensures { IfOk result (λ agents. length agents ≡ 3) }
+{
     let mut agents = Agents::new(alloc);
     agents.push(Agent::Reno(Reno::new(1448, role(0), role(1))))?;
     agents.push(Agent::Cubic(Cubic::new(1448, role(0), role(2))))?;
     agents.push(Agent::Cubic(Cubic::new(1448, role(0), role(2))))?;
+    Ok(agents)
+}
+
+fn rows(alloc: Global) -> Result<Rows, Fail>
+    ensures { IfOk result (λ rows. length rows ≡ 3) }
+{
     let mut rows = Rows::new(alloc);
     rows.push(ROW)?;
     rows.push(FULL)?;
     rows.push(FULL)?;
-    assert!(rt;
-        table_text(alloc, &names, &agents, &rows)?.as_slice()
-            == b"case agent acks reports held faults epochs lost timeouts acked peak cwnd now tail\na reno 4 1 0 0 1 0 0 5792 10136 10136 60000 0\nb.c cubic 18446744073709551615 2 3 4 5 6 7 18446744073709551615 9 10 11 12\nd cubic 18446744073709551615 2 3 4 5 6 7 18446744073709551615 9 10 11 12\ntotal cases=3 acks=36893488147419103234 reports=5 held=6 faults=8 lost=12 timeouts=14 acked=36893488147419109022\n".as_slice()
-    );
+    Ok(rows)
+}
+
+/// The table of a flow of Reno's and two of CUBIC's.
+fn table(alloc: Global) -> Result<Bytes, Fail> {
+    let names = names(alloc)?;
+    let agents = agents(alloc)?;
+    let rows = rows(alloc)?;
+    Ok(table_text(alloc, &names, &agents, &rows)?)
+}
+
+#[test]
+fn sums_have_no_bound(rt: HostRuntime) -> Result<(), Fail> {
+    assert!(rt; table(rt.alloc())?.as_slice() == SUMS);
     Ok(())
 }
