@@ -7,6 +7,7 @@ use crate::texts::program;
 use ccp_base::{Ack, FaultKind, FieldReg, Fields, NoMemory, Place, Values};
 use portus_core::{Env, Mean, Program, StartFault};
 use std::alloc::Global;
+use std::process::Abort;
 use std::test::Fail;
 
 /// Bytes are counted, and reported from 3,000 on.
@@ -41,28 +42,58 @@ fn meant(
     program.mean(alloc, env, ack, room)
 }
 
-#[test]
-fn two_acknowledgements_make_a_report(rt: HostRuntime) -> Result<(), Fail> {
-    let alloc = rt.alloc();
-    let program = program(alloc, COUNTING)?;
+/// An answer is this, and the first field is so after it.
+fn is_met(rt: &impl Abort, mean: &Mean, after: &Env, want: &Mean, field: u64) {
+    assert!(rt; *mean == *want && after.fields.as_slice() == [field].as_slice());
+}
+
+/// The environment after an acknowledgement of 1,500 bytes, which is answered so.
+fn goes_on(
+    rt: &impl Abort,
+    alloc: Global,
+    program: &Program,
+    env: &Env,
+    room: bool,
+    want: &Mean,
+    field: u64,
+) -> Result<Env, Fail>
+    requires { IsEnvOf (form_of program.now) env.now }
+    ensures { IfOk result (λ after. IsEnvOf (form_of program.now) after) }
+{
     let mut ack = Ack::default();
     ack.bytes_acked = 1500;
-    let start = started(alloc, &program, &Fields::new(), 0, 0, 0)?;
+    let (mean, after) = meant(alloc, program, env, &ack, room)?;
+    is_met(rt, &mean, &after, want, field);
+    Ok(after)
+}
 
-    let (mean, once) = meant(alloc, &program, &start, &ack, true)?;
-    assert!(rt; mean == Mean::Quiet && once.fields.as_slice() == [1500].as_slice());
+/// Nothing but the field was written.
+fn is_unwritten(rt: &impl Abort, env: &Env) {
+    assert!(rt; env.cwnd == 0 && env.rate == 0 && env.zero == 0);
+}
 
-    let (mean, kept) = meant(alloc, &program, &once, &ack, false)?;
-    assert!(rt; mean == Mean::Held && kept.fields.as_slice() == [3000].as_slice());
-
-    let (mean, twice) = meant(alloc, &program, &once, &ack, true)?;
-    assert!(rt; mean == Mean::Reported(Values::from_slice(&[3000])));
-    assert!(rt; twice.fields.as_slice() == [0].as_slice());
-
-    let (mean, thrice) = meant(alloc, &program, &twice, &ack, true)?;
-    assert!(rt; mean == Mean::Quiet && thrice.fields.as_slice() == [1500].as_slice());
-    assert!(rt; thrice.cwnd == 0 && thrice.rate == 0 && thrice.zero == 0);
+/// The second of two acknowledgements is reported, or held where there is no room, and the third one is counted anew.
+fn counts(rt: &impl Abort, alloc: Global, program: &Program, start: &Env) -> Result<(), Fail>
+    requires { IsEnvOf (form_of program.now) start.now }
+{
+    let once = goes_on(rt, alloc, program, start, true, &Mean::Quiet, 1500)?;
+    let kept = goes_on(rt, alloc, program, &once, false, &Mean::Held, 3000)?;
+    drop(kept);
+    let report = Mean::Reported(Values::from_slice(&[3000]));
+    let twice = goes_on(rt, alloc, program, &once, true, &report, 0)?;
+    drop(once);
+    let thrice = goes_on(rt, alloc, program, &twice, true, &Mean::Quiet, 1500)?;
+    drop(twice);
+    is_unwritten(rt, &thrice);
+    drop(thrice);
     Ok(())
+}
+
+#[test]
+fn two_acknowledgements_make_a_report(rt: HostRuntime) -> Result<(), Fail> {
+    let program = program(rt.alloc(), COUNTING)?;
+    let start = started(rt.alloc(), &program, &Fields::new(), 0, 0, 0)?;
+    counts(&rt, rt.alloc(), &program, &start)
 }
 
 #[test]
