@@ -46,6 +46,7 @@ fn two_workers_run_cases_at_once(rt: HostRuntime) -> Result<(), Fail> {
     let gate = held_before_a_case();
     assert!(rt; is_one_output(&rt, rt.alloc(), "campaign", &gate)?);
     assert!(rt; gate.held() == Some(1));
+    assert!(rt; gate.passed(Point::InCase) == 2);
     Ok(())
 }
 
@@ -54,6 +55,7 @@ fn two_workers_do_parts_at_once(rt: HostRuntime) -> Result<(), Fail> {
     let gate = held_before_a_case();
     assert!(rt; is_one_output(&rt, rt.alloc(), "shared", &gate)?);
     assert!(rt; gate.held() == Some(1));
+    assert!(rt; gate.passed(Point::InCase) > 2);
     Ok(())
 }
 

@@ -98,6 +98,14 @@ impl HoldGate {
         Some(self.held.load(Ordering::SeqCst))
     }
 
+    /// How often workers passed this point.
+    pub(crate) fn passed(&self, point: Point) -> u64 {
+        let first = self.first.at(point).load(Ordering::SeqCst);
+        let second = self.second.at(point).load(Ordering::SeqCst);
+        let others = self.others.at(point).load(Ordering::SeqCst);
+        first.saturating_add(second).saturating_add(others)
+    }
+
     /// The counts of a worker.
     fn of(&self, worker: u32) -> &Passed {
         match worker {
