@@ -60,6 +60,10 @@ class Datapath:
                 raise Wrong("the datapath refused a frame: reason %d" % body[0])
             answers.append((head[0], body))
 
+    def close(self):
+        self.feed.stdin.close()
+        self.feed.wait()
+
     def ack(self, values):
         """Runs one acknowledgement, and gives its report or fault."""
         return self.ask(frame(ACK, struct.pack("<15Q", *values)))
@@ -209,7 +213,9 @@ def main():
         with sys.stdin if asked.acks == "-" else open(asked.acks, encoding="utf-8") as file:
             acks = read_acks(file.read().splitlines(), asked.flow)
         agent = Reno(asked.mss)
-        play(Datapath(asked.program, agent.window, asked.mss), agent, acks, asked.mss)
+        datapath = Datapath(asked.program, agent.window, asked.mss)
+        play(datapath, agent, acks, asked.mss)
+        datapath.close()
     except Wrong as wrong:
         sys.exit("examples/agent.py: %s: %s" % (asked.acks, wrong))
     except OSError as error:
