@@ -32,6 +32,14 @@ def rows(table):
     return [dict(zip(lines[0], line)) for line in lines[1:] if line[0] != "total"]
 
 
+def test_the_page_shows_the_example():
+    """Each piece of a program on the page is one of examples/delay.portus."""
+    pieces = re.findall(r"```\n(\((?:def|when) .*?)```", content(os.path.join(TOP, "docs", "your-own.md")), re.DOTALL)
+    expect(len(pieces) >= 2, "%d pieces" % len(pieces))
+    for piece in pieces:
+        expect(piece in content(DELAY) + "\n", piece)
+
+
 def test_delay_keeps_the_queue_short_and_fills_the_link():
     """On each trace: as fast as Reno to one per cent, without a loss, and no agent changes its program."""
     text, errors, status = tool("scenario", "--program", "delay=" + DELAY, "--agents", "reno,reno:delay", "--queue", 100,
