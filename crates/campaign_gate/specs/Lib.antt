@@ -5,3 +5,4 @@ pub mod Walks
 pub mod LiftedRow
 pub mod Tried
 pub mod Parts
+pub mod CampaignBooks

@@ -6,14 +6,15 @@ ghost use Rattle.flow_core.specs.Words.{world, legal, is_complete};
 ghost use Rattle.flow_core.specs.Cells.{IsComplete};
 ghost use Rattle.campaign_gate.specs.CampaignWord.{plan};
 ghost use Rattle.campaign_gate.specs.CampaignRow.{row_of};
+ghost use Rattle.campaign_gate.specs.CampaignBooks.{acks_of_case, AreCampaignBooks, HasSourcePlan};
 ghost use Rattle.campaign_gate.specs.LiftedRow.{IsLifted};
 ghost use Rattle.campaign_gate.specs.Walks.{IsOnWay};
 
 use crate::row::{Row, Rows};
 use crate::walk::Walk;
 use crate::workers::by_workers;
-use ccp_base::{Gate, NoMemory, Sequence};
-use flow_core::{Case, Cell};
+use ccp_base::{Acks, Gate, NoMemory, Sequence};
+use flow_core::{Book, Case, Cell};
 use fold_machine::Steps;
 use std::alloc::Global;
 use std::marker::Brand;
@@ -91,4 +92,45 @@ pub fn rows<R: Threads + Sync, G: Gate + Sync>(
     ensures lifted { (case : Case) → IsLifted case }
 {
     by_workers::<Brand, R, G>(rt, alloc, cases.as_slice(), workers, gate)
+}
+
+/// The books of a campaign in the order of their cases.
+pub type Books = Sequence<Book>;
+
+/// The book of each case after its campaign word, in the order of the cases, whatever the number of workers, which is 1
+/// to 32: the same workers as those of `rows`, with the same gates, run the same cases. There are at most 1,024 cases.
+pub fn books<R: Threads + Sync, G: Gate + Sync>(
+    rt: &R,
+    alloc: Global,
+    cases: Cases,
+    workers: u32,
+    gate: &G,
+) -> Result<Books, NoMemory>
+    requires few { length cases ≤ most_cases }
+    requires workers { (1 ≤ workers) × (workers ≤ most_workers) }
+    ensures books { IfOk result (λ books. AreCampaignBooks cases books) }
+    ensures source { (case : Case) → HasSourcePlan case }
+{
+    Err(NoMemory)
+}
+
+/// The acknowledgements of each case of a campaign, in the order of the cases.
+pub type CaseAcks = Sequence<Acks>;
+
+/// The acknowledgements of each case on its campaign word, in the order of the cases, whatever the number of workers,
+/// which is 1 to 32: the same workers as those of `rows`, with the same gates, run the same cases. There are at most
+/// 1,024 cases.
+pub fn acks<R: Threads + Sync, G: Gate + Sync>(
+    rt: &R,
+    alloc: Global,
+    cases: Cases,
+    workers: u32,
+    gate: &G,
+) -> Result<CaseAcks, NoMemory>
+    requires few { length cases ≤ most_cases }
+    requires workers { (1 ≤ workers) × (workers ≤ most_workers) }
+    ensures acks { IfOk result (λ acks. acks ≡ map acks_of_case cases) }
+    ensures source { (case : Case) → HasSourcePlan case }
+{
+    Err(NoMemory)
 }

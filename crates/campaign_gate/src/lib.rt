@@ -10,5 +10,5 @@ mod sums;
 mod walk;
 mod workers;
 
-pub use calls::Cases;
+pub use calls::{Books, CaseAcks, Cases};
 pub use row::{Row, Rows};
