@@ -1,5 +1,5 @@
 -- One more letter of the campaign word keeps a flow on its way.
-use Rattle.std.specs.Prelude.{◌≡◌, ℕ, ◌-◌, ◌*◌, ◌<◌, ◌≤◌, max, Bool, true, false, is_some, is_none, ◌&&◌, Option, Some, None, option_map, IfSome, IsSome, unwrap_or, slice_get, List, [], ◌∷◌, ◌++◌, length, refl}
+use Rattle.std.specs.Prelude.{◌≡◌, ℕ, ◌-◌, ◌*◌, ◌<◌, ◌≤◌, max, Bool, true, false, is_some, is_none, ◌&&◌, Option, Some, None, option_map, IfSome, IsSome, unwrap_or, slice_get, Result, Ok, Err, OnOk, List, [], ◌∷◌, ◌++◌, length, refl}
 use Rattle.std.specs.Option.{ForSome}
 use Rattle.std.proofs.Common.{arith, ap, sym, ◌∙◌, subst, append_assoc, append-nil, length-append}
 use Rattle.std.proofs.lemmas.Bool.{ltb-true}
@@ -98,7 +98,7 @@ module _ (old : Walk) where
   one-more None acks ack are = are
   one-more (Some kept) acks ack are = ap (λ (xs : List Ack). xs ++ ack ∷ []) are
 
-  are-kept : (acks : List Ack) → Type 0
+  abbrev are-kept : List Ack → Type 0
   are-kept acks = IfSome old.heard (λ (kept : List Ack). kept ≡ acks)
 
   heard-made : (letter : Letter) → are-kept before.acks
@@ -183,6 +183,10 @@ keeps-made old new letter makes some = subst IsSome (sym makes.heard) (keeps-aft
 
 -- ---- an acknowledgement
 
+pub on-ok : {T E P Q : Type 0} (result : Result T E) → (P → Q) → OnOk result P → OnOk result Q
+on-ok (Ok value) follows holds = follows holds
+on-ok (Err fault) follows holds = holds
+
 -- the last of the list is the one that was added
 pub last-is : (before all : List Ack) (ack given : Ack) → all ≡ before ++ given ∷ [] → slice_get all (length all - 1) ≡ Some ack → ack ≡ given
 last-is before all ack given same last =
@@ -231,7 +235,7 @@ on-begun cell peak heard empty is_peak none_heard =
       heard = none_heard;
     } in
     subst (λ (n : ℕ). IsOnWay (record { cell = cell; taken = 0; sums = sums_of []; peak = n; heard = heard })) (sym is_peak)
-    (subst (λ (c : CellState). IsOnWay (record { cell = c; taken = 0; sums = sums_of []; peak = window_at c })) same on)
+    (subst (λ (c : CellState). IsOnWay (record { cell = c; taken = 0; sums = sums_of []; peak = window_at c; heard = heard })) same on)
 
 -- where the word is complete, it is the campaign word
 pub whole : (walk : Walk) → IsOnWay walk → is_complete (flow_at walk.cell) (world_at walk.cell) ≡ true

@@ -194,7 +194,9 @@ impl Walk {
         requires keeps { IsSome self.heard }
         ensures { result ≡ acks_of_case self.cell.case }
     {
-        let Some(acks) = self.heard else {
+        let Walk { cell, heard, .. } = self;
+        drop(cell);
+        let Some(acks) = heard else {
             unreachable!()
         };
         acks

@@ -16,3 +16,6 @@ returns-clause-books g c =
 
 pub returns-clause-source : goal.returns-clause-source
 returns-clause-source g c case = source-plan case
+
+pub returns-in_err-cells-clause-source : goal.returns-in_err-cells-clause-source
+returns-in_err-cells-clause-source g c case = source-plan case

@@ -6,7 +6,7 @@ use Rattle.flow_core.specs.LettersLeft.{left_at}
 use Rattle.campaign_gate.specs.Walks.{next_at, IsOnWay, Makes}
 use Rattle.campaign_gate.specs.Tried.{Tried}
 use Rattle.campaign_gate.proofs.PlanLemmas.{next-C, next-A}
-use Rattle.campaign_gate.proofs.WalkLemmas.{on-made, fewer-left, keeps-made}
+use Rattle.campaign_gate.proofs.WalkLemmas.{on-made, fewer-left, keeps-made, on-ok}
 use Rattle.campaign_gate.proofs.walk.Walk.next.Goals as goal
 
 pub returns-then-is_due-clause-on : goal.returns-then-is_due-clause-on
@@ -60,7 +60,7 @@ returns-clause-on g c =
     let none : Tried false old c.take.new.self =
     subst (λ (took : Bool). Tried took old c.take.new.self) c.if-branch.false c.in_ok-take.ensures in
     let next = next-A (flow_at old.cell) old.cell.case.lag (world_at old.cell) (sym c.is_due.ensures ∙ c.if-is_due.false) none.0 c.requires.open in
-    (heard old c.take.new.self c.requires.on none.1 next c.hear.new.self c.hear.ensures).0
+    on-ok c.hear.result (λ makes. (heard old c.take.new.self c.requires.on none.1 next c.hear.new.self makes).0) c.hear.ensures
 
 pub returns-clause-fewer : goal.returns-clause-fewer
 returns-clause-fewer g c =
@@ -68,4 +68,4 @@ returns-clause-fewer g c =
     let none : Tried false old c.take.new.self =
     subst (λ (took : Bool). Tried took old c.take.new.self) c.if-branch.false c.in_ok-take.ensures in
     let next = next-A (flow_at old.cell) old.cell.case.lag (world_at old.cell) (sym c.is_due.ensures ∙ c.if-is_due.false) none.0 c.requires.open in
-    (heard old c.take.new.self c.requires.on none.1 next c.hear.new.self c.hear.ensures).1
+    on-ok c.hear.result (λ makes. (heard old c.take.new.self c.requires.on none.1 next c.hear.new.self makes).1) c.hear.ensures
