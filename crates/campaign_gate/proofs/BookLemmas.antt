@@ -1,5 +1,5 @@
 -- The books of flows that are after their campaign words.
-use Rattle.std.specs.Prelude.{◌≡◌, ℕ, zero, suc, ◌+◌, ◌<◌, ◌≤◌, Some, None, Result, Ok, Err, IfOk, List, [], ◌∷◌, ◌++◌, map, drop, length, slice_get, slice_index_or, refl}
+use Rattle.std.specs.Prelude.{◌≡◌, zero, suc, Some, None, Result, Ok, Err, IfOk, List, [], ◌∷◌, ◌++◌, map, drop, slice_get, refl}
 use Rattle.std.specs.List.{All}
 use Rattle.std.proofs.Common.{arith, ap, sym, ◌∙◌, subst, append_assoc, append-nil}
 use Rattle.std.proofs.lemmas.List.Elements.{All-append, All-map}

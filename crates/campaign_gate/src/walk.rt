@@ -196,9 +196,7 @@ impl Walk {
     {
         let Walk { cell, heard, .. } = self;
         drop(cell);
-        let Some(acks) = heard else {
-            unreachable!()
-        };
+        let Some(acks) = heard else { unreachable!() };
         acks
     }
 }

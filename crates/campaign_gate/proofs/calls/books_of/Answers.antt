@@ -1,5 +1,5 @@
-use Rattle.std.proofs.Common.{ap, sym, ◌∙◌}
-use Rattle.campaign_gate.proofs.BookLemmas.{made-none, made-next, made-goes-on, made-ends}
+use Rattle.std.proofs.Common.{sym, ◌∙◌}
+use Rattle.campaign_gate.proofs.BookLemmas.{made-next, made-goes-on, made-ends}
 use Rattle.campaign_gate.proofs.calls.books_of.Goals as goal
 
 pub book_of-requires : goal.book_of-requires

@@ -1,4 +1,4 @@
-use Rattle.std.proofs.Common.{arith, ap, refl, length, ◌≡◌, ◌∙◌, ◌<◌, ◌∷◌, [], ◌++◌, Some, map, slice_get}
+use Rattle.std.proofs.Common.{arith, ap, refl, length, ◌≡◌, ◌∙◌, ◌<◌, Some, map, slice_get}
 use Rattle.std.proofs.lemmas.Option.{slice_get_read}
 use Rattle.campaign_gate.specs.Shares.{every}
 use Rattle.campaign_gate.proofs.ShareLemmas.{share-begins, share-goes-on}

@@ -1,6 +1,6 @@
 use Rattle.std.proofs.Common.{arith, sym, ap, ◌≡◌, ◌∙◌, ◌+◌, ◌<◌, List, ◌∷◌, [], ◌++◌, Some, None, map, length, length-append}
 use Rattle.campaign_gate.specs.Shares.{front_of}
-use Rattle.campaign_gate.proofs.ShareLemmas.{AreMerged, merged-fewer, merged-goes-on, merged-ends}
+use Rattle.campaign_gate.proofs.ShareLemmas.{merged-fewer, merged-goes-on, merged-ends}
 use Rattle.campaign_gate.proofs.workers.merged.Goals as goal
 
 pub loop-made-smaller : goal.loop-made-smaller

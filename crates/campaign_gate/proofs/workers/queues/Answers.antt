@@ -1,4 +1,4 @@
-use Rattle.std.proofs.Common.{ap, sym, subst, ◌≡◌, ◌∙◌, Option, Result, IfSome, IfOk, map, length, slice_get}
+use Rattle.std.proofs.Common.{sym, subst, ◌≡◌, ◌∙◌, Option, Result, IfSome, IfOk, map, length}
 use Rattle.ccp_base.specs.declared.outside.NoMemory.{NoMemory}
 use Rattle.campaign_gate.specs.Shares.{every}
 use Rattle.campaign_gate.proofs.ShareLemmas.{queues-go-on, parts-go-on}
