@@ -24,7 +24,7 @@ All-one : {X : Type 0} (P : X → Type 0) (x : X) → P x → All P (x ∷ [])
 All-one P x is zero d within = is
 All-one P x is (suc k) d within = absurd (omega (arith, within))
 
--- so many books are made, and these flows are left
+-- these books are made, and these flows are left
 pub record AreMade (cells left : List CellState) (books : List Book) : Type 0 where
   pub cases : map book_case books ++ map case_of left ≡ map case_of cells
   pub books_are : All IsCampaignBook books

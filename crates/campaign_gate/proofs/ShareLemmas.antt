@@ -114,7 +114,7 @@ turned-is (suc more) x rest some =
 
 -- ---- the merge
 
--- so many are merged, and the queues have the rest
+-- the front is merged, and the queues have the rest
 pub record AreMerged {X : Type 0} (workers : ℕ) (all : List X) (queues : List (List X)) (made : List X) : Type 0 where
   pub left : queues ≡ shares workers (drop (length made) all)
   pub whole : made ++ drop (length made) all ≡ all

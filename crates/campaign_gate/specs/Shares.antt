@@ -7,10 +7,10 @@ every step skip [] = []
 every step zero (x ∷ rest) = x ∷ every step (step - 1) rest
 every step (suc skip) (x ∷ rest) = every step skip rest
 
--- the shares of so many workers from a worker on, of `workers` in all
+-- the shares of `count` workers from `worker` on, of `workers` in all
 abbrev pub shares_from : {X : Type 0} → ℕ → ℕ → ℕ → List X → List (List X)
 shares_from workers worker zero xs = []
-shares_from workers worker (suc more) xs = every workers worker xs ∷ shares_from workers (suc worker) more xs
+shares_from workers worker (suc count) xs = every workers worker xs ∷ shares_from workers (suc worker) count xs
 
 -- the shares of all workers, in their order
 abbrev pub shares : {X : Type 0} → ℕ → List X → List (List X)

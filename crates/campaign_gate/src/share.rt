@@ -19,8 +19,8 @@ impl Campaign for Brand {
     ghost cases = { [] };
 }
 
-/// What a worker of so many made: of each case of the campaign whose number leaves the worker's when it is divided by
-/// the number of workers, in order.
+/// What one of the workers of a campaign made: an item for each case whose number leaves the worker's when it is divided
+/// by the number of workers, in order, and nothing else.
 #[derive(Drop)]
 pub(crate) struct Share<C: Campaign, M: CaseResult> {
     pub(crate) worker: u32,
@@ -30,7 +30,7 @@ pub(crate) struct Share<C: Campaign, M: CaseResult> {
     ghost is_share: { made ≡ every workers worker (map M.of_case C.cases) },
 }
 
-/// The work of one worker.
+/// The work of one worker. It passes the gate at `InCase` before a case and at `AfterCase` after it.
 pub(crate) fn share_of<C: Campaign, M: CaseResult, G: Gate>(
     alloc: Global,
     cases: &[Case],

@@ -12,7 +12,8 @@ use std::alloc::Global;
 use std::thread;
 use std::thread::Threads;
 
-/// What is made of each case of a campaign, in the order of the cases, by so many workers.
+/// What is made of each case of a campaign, in the order of the cases, by this number of workers. Each case is run once.
+/// Where a worker runs out of memory, so does the call.
 pub(crate) fn by_workers<
     C: Campaign + Send + Sync,
     M: CaseResult + Send,
@@ -53,7 +54,7 @@ fn queues<C: Campaign, M: CaseResult>(
     Ok(queues)
 }
 
-/// What is made of each case, in the order of the cases, out of the workers' queues.
+/// What is made of each case, in the order of the cases, out of the workers' queues, which give an item each by turns.
 fn merged<C: Campaign, M: CaseResult>(
     alloc: Global,
     queues: Queue<Queue<M>>,
@@ -71,7 +72,7 @@ fn merged<C: Campaign, M: CaseResult>(
     Ok(made)
 }
 
-/// The first item of the first queue, which is put behind the others.
+/// Takes the first item of the first queue, and puts that queue behind the others.
 fn next<M: Drop>(queues: &mut Queue<Queue<M>>) -> Result<Option<M>, NoMemory>
     ensures item { IfOk result (λ item. item ≡ front_of queues.old) }
     ensures rest { OnOk result (queues.new ≡ turned queues.old) }
