@@ -11,7 +11,7 @@
 Running           find_program, run, knows_mode, run_campaign, run_table, run_flows, run_acks
 Texts             kind_of, read_table, read_soak, read_flows, flows_in, read_acks, acks_in, read_installs
 Scenarios         read_scenario, scenario_text, write_scenario, LIMITS
-Traces            Trace, read_trace, trace_text
+Traces            Trace, read_trace, trace_text, nearest_rank
 Scripts           Words, read_text, main_of
 
 Numbers are Python's whole numbers, with the units that `ccp` prints: bytes, packets, and microseconds of virtual time.
@@ -578,6 +578,11 @@ def read_trace(path, longest=LIMITS["longest_ms"]):
 
 def trace_text(times):
     return "".join("%d\n" % time for time in times)
+
+
+def nearest_rank(ordered, percent):
+    """The percentile of a list in order: the least value that at least so many per cent of all are at most."""
+    return ordered[max(0, -(-len(ordered) * percent // 100) - 1)]
 
 
 # ---- scenarios
