@@ -186,6 +186,10 @@ def test_columns():
     printed, errors, status = run(dict(STEADY, cases=[case]), table=STEADY_TABLE)
     row = next(csv.DictReader(io.StringIO(printed)))
     expect(status == 0 and row["site"] == "lab" and row["case_share"] == "x" and row["share"] == "" and "note" not in row, printed)
+    printed, errors, status = run(STEADY, "--columns", "case,power,lost", table=STEADY_TABLE)
+    expect(status == 0 and printed == "case,power,lost\na,,0\n", printed)
+    printed, errors, status = run(STEADY, "--by", "agent", "--columns", "end_s", table=STEADY_TABLE)
+    expect(printed == "agent,n,end_s_n,end_s_mean,end_s_sd,end_s_ci95\nreno,1,1,0.06,,\n", printed)
     expect((row["sender"], row["ss"], row["ca"], row["seed"], row["rate"], row["mark"]) == ("reno.p.q", "p", "q", "7", "0.02", ""), str(row))
 
 
@@ -203,6 +207,7 @@ def test_texts_of_other_runs_are_refused():
         expect(status == 1 and not printed and part in errors and errors.count("\n") == 1, errors)
     printed, errors, status = run(STEADY, "--by", "seed,x", table=STEADY_TABLE)
     expect(status == 2 and "no such column" in errors, errors)
+    expect(run(STEADY, "--columns", "x", table=STEADY_TABLE)[2] == 2 and run(STEADY, "--by", "queue", "--columns", "case", table=STEADY_TABLE)[2] == 2, "--columns")
     expect(run(STEADY)[2] == 2, "no text")
     printed, errors, status = tool("metrics", "no-such-file", "--table", "x")
     expect(status == 1 and errors == "tools/metrics: no-such-file: No such file or directory\n", errors)
