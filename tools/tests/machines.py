@@ -192,7 +192,8 @@ def test_a_refusal_is_that_of_the_whole():
         wanted = ccp(["campaign"], content(path))
         printed, errors, status = tool(NAME, "--quiet", "--program", PROGRAM, "--size", 2, path)
         expect((printed, errors, status) == wanted, "%s, not %s" % (errors, wanted[1]))
-        for text in ("{", "[]", '{"version":1,"traces":{},"cases":[]}', '{"version":1,"traces":{},"cases":[7]}'):
+        one = '{"version":1,"traces":{"t":"1"},"cases":[{"name":"a","agent":"reno","trace":"t","mss":%s,"queue":1,"delay_us":0,"timeout_us":1,"acks":1}]}'
+        for text in ("{", "[]", '{"version":1,"traces":{},"cases":[]}', '{"version":1,"traces":{},"cases":[7]}', "\ufeff" + one % "9", *[one % mss for mss in ("-0", "NaN", "9.0", "1e999", "-1")]):
             wanted = ccp(["campaign"], text)
             expect(tool(NAME, "--quiet", "--program", PROGRAM, "-", given=text) == wanted, text)
 
