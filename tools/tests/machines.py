@@ -1,8 +1,8 @@
 """Tests of tools/campaign-over-machines."""
 import contextlib
-import getpass
 import json
 import os
+import pwd
 import shutil
 import socket
 import subprocess
@@ -261,33 +261,33 @@ def machine(room):
     server = shutil.which("sshd", path=os.environ.get("PATH", "") + ":/usr/sbin:/sbin")
     if server is None:
         raise LeftOut("sshd isn't installed")
-    values = {"port": free_port(), "room": room, "user": getpass.getuser()}
+    values = {"port": free_port(), "room": room, "user": pwd.getpwuid(os.getuid()).pw_name}
     for name in ("host", "user"):
         subprocess.run(["ssh-keygen", "-q", "-t", "ed25519", "-N", "", "-f", os.path.join(room, name)], check=True)
     for name, text in (("server.conf", SERVER), ("client.conf", CLIENT)):
         with open(os.path.join(room, name), "w", encoding="utf-8") as file:
             file.write(text % values)
     with privilege_folder():
-        running = subprocess.Popen([server, "-D", "-e", "-f", os.path.join(room, "server.conf")], stderr=subprocess.PIPE, text=True)
+        running = subprocess.Popen([server, "-D", "-q", "-f", os.path.join(room, "server.conf")], stdin=subprocess.DEVNULL)
         try:
             command = "ssh -F " + os.path.join(room, "client.conf")
             reached(command, running)
             yield command
         finally:
             running.terminate()
-            running.communicate()
+            running.wait()
 
 
 def reached(command, running):
-    """Waits until the server answers; where it never does, the system doesn't allow a login with these keys."""
-    for _ in range(50):
-        if subprocess.run([*command.split(" "), "ccp-machine", "true"], stdout=subprocess.DEVNULL, stderr=subprocess.DEVNULL).returncode == 0:
+    """Waits until the server answers; where it lets nobody in, the system doesn't allow a login with these keys."""
+    errors, until = "", time.monotonic() + 60
+    while time.monotonic() < until and running.poll() is None and "denied" not in errors:
+        tried = subprocess.run([*command.split(" "), "ccp-machine", "true"], stdin=subprocess.DEVNULL, stdout=subprocess.DEVNULL, stderr=subprocess.PIPE, text=True)
+        if tried.returncode == 0:
             return
-        if running.poll() is not None:
-            break
+        errors = tried.stderr
         time.sleep(0.2)
-    running.terminate()
-    raise LeftOut("this system's sshd lets nobody in: %s" % running.communicate()[1].strip().split("\n")[-1])
+    raise LeftOut("this system's sshd lets nobody in: %s" % errors.strip().split("\n")[-1])
 
 
 def test_over_a_machine_by_ssh():
