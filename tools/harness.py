@@ -47,6 +47,12 @@ def ccp(words, given):
     return ran([PROGRAM, *words], given)
 
 
+def needs_mode(mode):
+    """Leaves a test out where the program refuses the word of a mode."""
+    if ccp([mode], "")[2] == 2:
+        raise LeftOut("the program has no mode %s" % mode)
+
+
 def script(room, name, text, first="#!/usr/bin/env bash\n"):
     """The path of a new executable in the folder `room`: a script of bash, unless another first line is given."""
     path = os.path.join(room, name)
