@@ -149,6 +149,14 @@ class Flow:
         look = [name[len("Report."):] for name in self.programs[self.roles[self.agent.phase]].fields]
         return self.agent.report(told.told(look))
 
+    def settle_due(self):
+        """What the campaign word has after an acknowledgement: answers that are due, and takings."""
+        while self.out and self.acks - self.out.taken >= self.case.get("lag", 0) or self.can_take():
+            if self.out:
+                self.settle()
+            else:
+                self.take()
+
     def settle_all(self):
         """Takes and answers what is left."""
         while self.out or self.can_take():
@@ -191,7 +199,14 @@ def forced(flow, counts):
 
     It gives the number of the first ticket that can't be so and why, or None. Then the rest of the word is made as late
     as it can be."""
-    wrong = None
+    wrong = made(flow, counts)
+    advance(flow, flow.case["acks"])
+    flow.settle_all()
+    return wrong
+
+
+def made(flow, counts):
+    """Makes the letters of some counts, up to the first ticket that can't be so: its number and why, or None."""
     for number, (taken, answered) in enumerate(counts):
         try:
             advance(flow, taken)
@@ -199,15 +214,12 @@ def forced(flow, counts):
             advance(flow, answered)
             flow.settle()
         except Illegal as why:
-            wrong = (number, str(why))
-            break
-    while flow.acks < flow.case["acks"]:
-        flow.ack()
-    flow.settle_all()
-    return wrong
+            return number, str(why)
+    return None
 
 
 def advance(flow, count):
+    """Acknowledgements until there are so many."""
     if count < flow.acks:
         raise Illegal("the count falls to %d, and %d acknowledgements are in" % (count, flow.acks))
     while flow.acks < count:
@@ -216,14 +228,9 @@ def advance(flow, count):
 
 def campaign(flow):
     """Makes the campaign word."""
-    lag = flow.case.get("lag", 0)
     while flow.acks < flow.case["acks"]:
         flow.ack()
-        while flow.out and flow.acks - flow.out.taken >= lag or flow.can_take():
-            if flow.out:
-                flow.settle()
-            else:
-                flow.take()
+        flow.settle_due()
     flow.settle_all()
 
 

@@ -51,6 +51,8 @@ def cause_of(line):
         return 0, 1, ["The line begins with a blank: remove it."]
     if line.endswith((" ", "\t")):
         return len(line.rstrip(" \t")), len(line), ["The line ends with a blank: remove it."]
+    if line.endswith("\r"):
+        return len(line) - 1, len(line), ["The line ends with two carriage returns; one is dropped."]
     if line == "---":
         return 0, 3, ["There is one line `---` alone."]
     if line.startswith(("#", ";", "//")):
@@ -74,7 +76,8 @@ def cause_of_part(part, seen):
         return ["There are no blanks beside `=`."]
     bare = name.split(".")[-1]
     if name not in NAMES:
-        return ["Write `%s` without its prefix." % bare] if bare in NAMES else ["There is no name `%s`." % cut(name)] + did_you_mean(bare, NAMES)
+        return ["Write `%s` without its prefix." % bare] if bare in NAMES else ["There is no name `%s`." % cut(name)] + (
+            did_you_mean(bare, NAMES) or ["The names are %s." % ", ".join(NAMES)])
     if name in seen:
         return ["`%s` is in the line twice." % name]
     seen.add(name)

@@ -147,11 +147,11 @@ class Reno:
 
 
 def cube_root(number):
-    root = round(number ** (1 / 3))
-    while root**3 > number:
-        root -= 1
-    while (root + 1) ** 3 <= number:
-        root += 1
+    """The greatest number whose cube is at most a number."""
+    root, above = 0, 1 << number.bit_length() // 3 + 1
+    while above - root > 1:
+        middle = (root + above) // 2
+        root, above = (middle, above) if middle**3 <= number else (root, middle)
     return root
 
 

@@ -232,6 +232,8 @@ def hints_of_unexpected(program, start, node):
     if word.startswith(";") or word.startswith("//"):
         return ["A comment begins with `#`."]
     path = program.text.strip()
+    if re.fullmatch(r"[0-9\s]+", path):
+        return ["This looks like a trace: a scenario holds it in its member `traces`."]
     if looks_like_path(path):
         return ["The text is `%s`, which looks like the path of a file. Give the file's content." % cut(path)]
     return ["Outside lists there are only comments."]

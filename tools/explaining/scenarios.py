@@ -351,7 +351,7 @@ def hints_of_trace_line(line):
     if re.fullmatch("-[0-9]+", bare):
         return ["A time isn't negative."]
     if re.fullmatch("[0-9]*[.][0-9]+", bare):
-        return ["Times are whole milliseconds: write %d." % float(bare)]
+        return ["Times are whole milliseconds."]
     if re.fullmatch(r"[0-9]+[ \t,;]+.*", bare):
         return ["One number a line; here are more. `tools/trace from-csv` reads tables." if os.path.exists(os.path.join(TOP, "tools", "trace")) else "One number a line; here are more."]
     if bare.startswith(("#", "//")):
@@ -392,12 +392,11 @@ def objects(scenario, mode):
 
 def twice(value):
     """Members of one name: the last counts."""
-    seen = {}
-    for key, _ in value.is_:
-        seen.setdefault(key.is_, []).append(key)
-    for name, keys in seen.items():
-        if len(keys) > 1:
-            yield Finding("warning", keys[0].start, keys[0].end, "`%s` is here %d times; only the last one counts" % (cut(name), len(keys)))
+    names = [key.is_ for key, _ in value.is_]
+    again = [name for name in dict.fromkeys(names) if names.count(name) > 1] if len(set(names)) < len(names) else []
+    for name in again:
+        first = value.members(name)[0][0]
+        yield Finding("warning", first.start, first.end, "`%s` is here %d times; only the last one counts" % (cut(name), names.count(name)))
 
 
 def unknown(scenario, mode, of, value):
@@ -420,19 +419,21 @@ def unknown(scenario, mode, of, value):
 
 def unused(scenario, mode):
     """Programs and traces that no case names."""
-    used = {"programs": set(), "traces": set()}
     shared = scenario.whole.member("shared")
-    for case in [*scenario.cases(), *([shared] if shared else [])]:
-        for name, of in (("trace", "traces"), ("ss", "programs"), ("ca", "programs")):
-            value = case.member(name)
-            used[of].add(value.is_ if value is not None and value.kind == "text" else None)
-        steps = case.member("steps")
-        if mode == "rollout" and steps is not None and steps.kind == "array":
-            used["programs"].update(step.is_ for step in steps.is_ if step.kind == "text")
-    for of, names in used.items():
-        for name, (key, _) in scenario.table(of).items():
-            if name not in names:
-                yield Finding("warning", key.start, key.end, "no case uses the %s `%s`" % (of[:-1], cut(name)))
+    users = [*scenario.cases(), *([shared] if shared else [])]
+    traces = texts_of(users, ["trace"])
+    used = texts_of(users, ["steps"] if mode == "rollout" else ["ss", "ca"])
+    for key, of, names in [(key, "trace", traces) for key, _ in scenario.table("traces").values()] + [
+            (key, "program", used) for key, _ in scenario.table("programs").values()]:
+        if key.is_ not in names:
+            yield Finding("warning", key.start, key.end, "no case uses the %s `%s`" % (of, cut(key.is_)))
+
+
+def texts_of(users, members):
+    """The texts that some members of some objects are, or that are items of theirs."""
+    values = [case.member(name) for case in users for name in members]
+    lists = [item for value in values if value is not None and value.kind == "array" for item in value.is_]
+    return {value.is_ for value in values + lists if value is not None and value.kind == "text"}
 
 
 def of_cases(scenario):
