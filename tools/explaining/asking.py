@@ -15,7 +15,7 @@ def program_at(given):
     """The program: the one that is given, $CCP_PROGRAM, or the one that is built here."""
     path = os.path.abspath(given or os.environ.get("CCP_PROGRAM") or os.path.join(TOP, "crates", "ccp", "out", "ccp"))
     if not os.access(path, os.X_OK):
-        raise NoProgram("there is no program at %s: build it by ./ccp, or name one by --program or $CCP_PROGRAM" % path)
+        raise NoProgram("there is no program at %s: run ./ccp --prove, or name one by --program or $CCP_PROGRAM" % path)
     return path
 
 

@@ -285,6 +285,12 @@ def test_explain_takes_the_examples():
         explained("", os.path.join(TOP, "examples", name), status=0, holds=["accepted"])
 
 
+def test_explain_shows_help():
+    for name in ("explain", "audit"):
+        printed, errors, status = tool(name, "--help")
+        expect(status == 0 and not errors and "tools/" + name in printed and "Exit status" in printed, name)
+
+
 def test_explain_refuses_words():
     for words in (["--for", "soak"], ["no-such-file"], ["--program", "/no/such/program"], ["a", "b"]):
         printed, errors, status = tool("explain", *words, given="(def)")
