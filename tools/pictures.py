@@ -141,7 +141,7 @@ def places(page, look):
     """The left, right, lower and upper edge of each panel, in shares of the picture."""
     width, height = size_of(page, look)
     above, below = heights(page, look, width)
-    left, apart, gap = 5.6 * look.points, 5.2 * look.points, 1.0 * look.line
+    left, apart, gap = 5.6 * look.points, 4.2 * look.points, 1.0 * look.line
     wide = (width - left - 1.4 * look.points - (page.columns - 1) * apart) / page.columns
     if not page.shared:
         gap = below + 1.4 * look.line
@@ -179,7 +179,7 @@ def panel_lines(page, look, at, place, first_data):
     panel = page.panels[at]
     is_lowest = not page.shared or at + page.columns >= len(page.panels)
     lines = ["set lmargin at screen %.5f; set rmargin at screen %.5f; set bmargin at screen %.5f; set tmargin at screen %.5f" % place]
-    lines.append("set ylabel %s offset 0.5,0" % quoted(panel.label))
+    lines.append("set ylabel %s offset 0.5,0" % quoted(panel.label if at % page.columns == 0 else ""))
     lines.append("set title %s offset 0,-0.6" % quoted(panel.title) if panel.title else "unset title")
     lines.append("set xlabel %s" % quoted(page.bottom) if is_lowest and page.bottom else "unset xlabel")
     lines += panel.settings
