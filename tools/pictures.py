@@ -109,6 +109,11 @@ def box_key(at):
 # ---- layout
 
 
+def columns_of(panels):
+    """How many of these panels stand side by side."""
+    return len(panels) if len(panels) < 4 else 2 if len(panels) == 4 else 3
+
+
 def legend_columns(page, look, width):
     """How many names stand side by side in the legend."""
     widest = max((look.wide(name) for name, _ in page.legend), default=0) + 4.5 * look.points
@@ -133,7 +138,7 @@ def size_of(page, look):
     width = 900 if page.columns < 3 else 1100
     above, below = heights(page, look, width)
     if not page.shared:
-        return width, round(above + rows_of(page) * (240 + below + look.line))
+        return width, round(above + rows_of(page) * (240 + below + 1.9 * look.line))
     return width, round(above + below + sum(190 * panel.weight for panel in page.panels[:: page.columns]))
 
 
@@ -144,7 +149,7 @@ def places(page, look):
     left, apart, gap = 5.6 * look.points, 4.2 * look.points, 1.0 * look.line
     wide = (width - left - 1.4 * look.points - (page.columns - 1) * apart) / page.columns
     if not page.shared:
-        gap = below + 1.4 * look.line
+        gap = below + 1.9 * look.line
     weights = [panel.weight for panel in page.panels[:: page.columns]]
     room = height - above - below - (len(weights) - 1) * gap
     if not page.shared:
