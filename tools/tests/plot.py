@@ -2,10 +2,10 @@
 import json
 import os
 import re
-import shutil
 import subprocess
 import tempfile
 
+import harness
 from harness import TOP, LeftOut, ccp, content, expect, needs, tool
 
 SCENARIO = {
@@ -55,7 +55,7 @@ def drawn(*words):
 
 
 def texts_of(svg):
-    return [text.strip() for text in re.findall(r"<tspan[^>]*>([^<]*)</tspan>|<text[^>]*><title>", content(svg)) if text.strip()]
+    return [text.strip() for text in re.findall(r"<text[^>]*>([^<]*)</text>", content(svg))]
 
 
 def test_each_picture_in_each_kind():
@@ -169,7 +169,7 @@ def test_shares_of_a_bottleneck():
         path, name = os.path.join(room, "s.json"), os.path.join(room, "s.svg")
         with open(path, "w") as file:
             json.dump(scenario, file)
-        drawn("shares", "--steps", "8", path, name)
+        drawn("shares", "--program", harness.PROGRAM, "--steps", "8", path, name)
         seen = texts_of(name)
         for text in ("share [%]", "Jain's index", "reno-20ms", "cubic-80ms"):
             expect(text in seen, "no %s in %s" % (text, seen))
