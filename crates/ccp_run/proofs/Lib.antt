@@ -11,6 +11,7 @@ pub mod ReadLemmas
 mod CodedLemmas
 pub mod CampaignLemmas
 pub mod LiveLemmas
+pub mod TimelineLemmas
 pub mod AuditLemmas
 pub mod SharedLemmas
 pub mod RolloutLemmas
