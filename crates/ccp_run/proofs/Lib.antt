@@ -13,5 +13,9 @@ pub mod CampaignLemmas
 pub mod LiveLemmas
 pub mod TimelineLemmas
 pub mod AuditLemmas
+mod AcksBackLemmas
+mod AlikeLemmas
+mod RowLaw
+mod AuditedLemmas
 pub mod SharedLemmas
 pub mod RolloutLemmas
