@@ -125,7 +125,7 @@ module _ (sources : Sources) where
 abbrev role_of : ℕ → ℕ × Form → Role
 role_of number one = record { number = number; look = look_of one.1 }
 
-role_at : Forms → ℕ → Option Role
+abbrev role_at : Forms → ℕ → Option Role
 role_at forms number = option_map (role_of number) (slice_get forms number)
 
 module _ (programs : List (ℕ × Built)) (number : ℕ) (coded : Coded) where
@@ -145,16 +145,16 @@ module _ (programs : List (ℕ × Built)) (number : ℕ) (coded : Coded) where
 some_one : {A : Type 0} {a b : A} → Some a ≡ Some b → a ≡ b
 some_one e = cc
 
-head_one : {A : Type 0} {a b : A} {as bs : List A} → a ∷ as ≡ b ∷ bs → a ≡ b
+head_one : {A : Type 0} {a b : A} {xs ys : List A} → a ∷ xs ≡ b ∷ ys → a ≡ b
 head_one e = cc
 
-tail_one : {A : Type 0} {a b : A} {as bs : List A} → a ∷ as ≡ b ∷ bs → as ≡ bs
+tail_one : {A : Type 0} {a b : A} {xs ys : List A} → a ∷ xs ≡ b ∷ ys → xs ≡ ys
 tail_one e = cc
 
-none_one : {A : Type 0} {b : A} {bs : List A} → [] ≡ b ∷ bs → ⊥
+none_one : {A : Type 0} {b : A} {ys : List A} → [] ≡ b ∷ ys → ⊥
 none_one e = cc
 
-one_none : {A : Type 0} {a : A} {as : List A} → a ∷ as ≡ [] → ⊥
+one_none : {A : Type 0} {a : A} {xs : List A} → a ∷ xs ≡ [] → ⊥
 one_none e = cc
 
 module _ (these those : List (ℕ × Built)) (forms : forms_of these ≡ forms_of those) where
