@@ -1,5 +1,5 @@
 -- The lines of acknowledgements are read by `fold` as these acknowledgements.
-use Rattle.std.proofs.Common.{◌≡◌, ◌≢◌, ℕ, zero, suc, ◌+◌, ◌-◌, ◌<◌, ◌≤◌, ◌^◌, Bool, true, false, not, ◌&&◌, ◌||◌, ◌==◌, nat_lt, nat_le, Option, Some, None, Ok, Err, List, [], ◌∷◌, ◌++◌, length, take, drop, position, replicate, get_or, set, slice_get, codes, decimal, refl, ap, sym, subst, ◌∙◌, arith, cond, length-append, append-nil, append_assoc}
+use Rattle.std.proofs.Common.{◌≡◌, ℕ, zero, suc, ◌+◌, ◌-◌, ◌<◌, ◌≤◌, ◌^◌, Bool, true, false, not, ◌&&◌, ◌||◌, ◌==◌, nat_lt, Option, Some, None, Ok, Err, List, [], ◌∷◌, ◌++◌, length, take, drop, position, replicate, get_or, set, slice_get, decimal, refl, ap, sym, subst, ◌∙◌, arith, cond, length-append, append-nil, append_assoc}
 use Rattle.std.specs.Bool.{⊤}
 use Rattle.std.specs.List.{All, list_all, position_or_len}
 use Rattle.std.specs.Option.{option_and_then, option_map_or}
@@ -19,11 +19,11 @@ use Rattle.ccp_base.specs.Truth.{is_true}
 use Rattle.ccp_base.proofs.PartLemmas.{without_last-other}
 use Rattle.fold_run.specs.declared.acks.LineFault.TheVariants.{TooMany}
 use Rattle.fold_run.specs.declared.line_values.LineValues.{LineValues}
-use Rattle.fold_run.specs.AckLine.{AckLine, nothing, given, refused, no_values, with_number, with_value, with_item, with_word, with_words, given_or_refused, begins_blank, ends_blank, line_of}
+use Rattle.fold_run.specs.AckLine.{AckLine, nothing, given, refused, no_values, with_value, with_item, with_word, with_words, given_or_refused, begins_blank, ends_blank, line_of}
 use Rattle.fold_run.specs.Acknowledgements.{with_line, with_lines}
-use Rattle.campaign_report.specs.AcksText.{is_shown, gap, item_text, items_text, ack_line, ack_lines}
+use Rattle.campaign_report.specs.AcksText.{is_shown, gap, items_text, ack_line, ack_lines}
 use Rattle.run_audit.proofs.NumeralLemmas.{numeral_of-decimal}
-use Rattle.run_audit.proofs.Pieces.{IsPlain, plain-append, plain-of, ended-part, decimal-digits, decimal-plain}
+use Rattle.run_audit.proofs.Pieces.{IsPlain, plain-append, plain-of, ended-part, decimal-digits}
 use Rattle.ccp_run.specs.TextLaws.{IsOf64Bits, ReadsAcksBack}
 
 -- ---- bytes of a word

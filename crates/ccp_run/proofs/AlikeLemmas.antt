@@ -1,5 +1,5 @@
 -- Cases that say the same, with codes of the same programs, have one live text for one word, and one campaign word.
-use Rattle.std.proofs.Common.{◌≡◌, ◌∙◌, ◌≤◌, ℕ, suc, ◌+◌, ◌==◌, if◌then◌else◌, true, Option, Some, None, option_map, List, [], ◌∷◌, ◌++◌, map, slice_get, ap, sym, subst, refl, arith}
+use Rattle.std.proofs.Common.{◌≡◌, ◌∙◌, ◌≤◌, ℕ, suc, ◌+◌, ◌==◌, if◌then◌else◌, Option, Some, None, option_map, List, [], ◌∷◌, map, slice_get, ap, sym, refl, arith}
 use Rattle.std.specs.Bool.{⊤}
 use Rattle.std.specs.Coded.{le_prop, ×_prop, Π_prop, →_prop}
 use Rattle.std.specs.List.{All}
@@ -17,14 +17,11 @@ use Rattle.portus_core.specs.ProgramForm.{form_of}
 use Rattle.portus_build.specs.Looks.{look_of}
 use Rattle.reg_compiler.specs.declared.built.Built.{Built}
 use Rattle.link_model.specs.declared.link_case.LinkCase.{LinkCase}
-use Rattle.agent_core.specs.declared.agent.Agent.{Agent}
 use Rattle.flow_core.specs.declared.case.Case.{Case}
 use Rattle.flow_core.specs.declared.case.Coded.{Coded}
 use Rattle.flow_core.specs.declared.letter.Letter.{Letter}
 use Rattle.flow_core.specs.LiveText.{Sources, source_at, account_of, flow_from, flow_line, live_text}
-use Rattle.flow_core.specs.Readings.{Flow}
 use Rattle.flow_core.specs.Words.{world, legal, is_complete}
-use Rattle.scenario_json.specs.declared.plan.Kind.{Kind}
 use Rattle.scenario_json.specs.declared.plan.Plan.{Plan}
 use Rattle.scenario_json.specs.Cases.{coded_of, coded_at, agent_of, kind_of, plan_of, IsCoded, AreFlowsFrom}
 use Rattle.scenario_json.specs.ScenePrograms.{Forms, forms_of}
