@@ -172,3 +172,13 @@ fn a_program_is_installed_between_acknowledgements(rt: HostRuntime) -> Result<()
     assert!(rt; gate.held() == Some(2));
     Ok(())
 }
+
+/// In `timeline` two workers run cases at once: the first is held before its case until the second has done one.
+#[test]
+fn two_workers_make_a_timeline(rt: HostRuntime) -> Result<(), Fail> {
+    let gate = held_before_a_case();
+    assert!(rt; is_one_output(&rt, rt.alloc(), "timeline", &gate)?);
+    assert!(rt; gate.held() == Some(1));
+    assert!(rt; gate.passed(Point::InCase) == 2);
+    Ok(())
+}
