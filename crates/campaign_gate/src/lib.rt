@@ -2,9 +2,12 @@
 #![tactic(auto)]
 
 pub mod calls;
-mod case_row;
+mod case_result;
+mod completion;
 mod counts;
+mod queue;
 mod row;
+mod share;
 mod standing;
 mod sums;
 mod walk;
