@@ -12,7 +12,7 @@ use Rattle.campaign_report.specs.BooksRead.{flows_of}
 use Rattle.scenario_json.specs.declared.mode.SceneMode.TheVariants as scene
 use Rattle.scenario_json.specs.declared.plan.Plan.{Plan}
 use Rattle.scenario_json.specs.Cases.{plan_of}
-use Rattle.scenario_json.specs.Scene.{Scene, scene_with}
+use Rattle.scenario_json.specs.Scene.{Scene, scene_with, scene_of}
 use Rattle.scenario_json.specs.ScenePrograms.{forms_of}
 use Rattle.scenario_json.proofs.ReadingLemmas.{some_reading}
 use Rattle.run_audit.specs.declared.verdict.Verdict.TheVariants.{Yes}
@@ -29,13 +29,14 @@ use Rattle.ccp_run.proofs.AlikeLemmas.{all_alike, words_alike, texts_alike}
 one_some : {A : Type 0} {a b : A} → Some a ≡ Some b → a ≡ b
 one_some e = cc
 
-one_ok : {A E : Type 0} {a b : A} → Ok {A} {E} a ≡ Ok {A} {E} b → a ≡ b
-one_ok e = cc
+one_ok : {A E : Type 0} (found : Result A E) (a b : A) → found ≡ Ok a → found ≡ Ok b → a ≡ b
+one_ok found a b l r = let both : Ok a ≡ Ok b = sym l ∙ r in cc
 
 -- ---- one scenario
 
 one_scene : (bytes : List ℕ) (left right : Scene) → Says scene.Live bytes left → Says scene.Live bytes right → left ≡ right
-one_scene bytes left right l r = one_ok (sym (l some_reading.0 some_reading.1) ∙ r some_reading.0 some_reading.1)
+one_scene bytes left right l r =
+    one_ok (scene_of some_reading.0 scene.Live bytes) left right (l some_reading.0 some_reading.1) (r some_reading.0 some_reading.1)
 
 -- ---- the words of books
 

@@ -1,5 +1,5 @@
 -- The books of a campaign are those of its cases' campaign words, read over the sources of the programs.
-use Rattle.std.proofs.Common.{◌≡◌, ◌∙◌, ℕ, suc, List, [], ◌∷◌, map, ap, sym, subst, refl, arith}
+use Rattle.std.proofs.Common.{◌≡◌, ◌∙◌, ℕ, suc, List, [], ◌∷◌, map, get_or, ap, sym, subst, refl, arith}
 use Rattle.std.specs.List.{All}
 use Rattle.ccp_base.specs.declared.ack.Ack.{Ack}
 use Rattle.reg_compiler.specs.declared.built.Built.{Built}
@@ -78,7 +78,7 @@ module _ (programs : List (ℕ × Built)) (numbered : AreNumberedFrom 0 programs
     coded_books = subst (λ (cs : List Case). All (IsCoded programs) cs) (sym are.0) coded
 
     pub right_of : All (IsRightBook programs) books
-    right_of = right_books programs numbered books (λ k book h. whole_book book (are.1 k book h)) coded_books
+    right_of = right_books programs numbered books (λ k d h. whole_book (get_or books k d) (are.1 k d h)) coded_books
 
     pub flows_planned : flows_of books ≡ planned_by (forms_of programs) cases
     flows_planned = words_over books are.1 coded_books ∙ ap (λ (cs : List Case). planned_by (forms_of programs) cs) are.0

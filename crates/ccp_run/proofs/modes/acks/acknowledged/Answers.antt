@@ -36,6 +36,6 @@ returns-clause-text g c =
     let text : c.in_ok-acks_text.field-0 ≡ acks_text c.args.scene.names c.in_ok-agents.agents c.in_ok-acks.acks = search rules in
     text
     ∙ ap (λ (names : List (List ℕ)). acks_text names c.in_ok-agents.agents c.in_ok-acks.acks) c.requires.names
-    ∙ ap (λ (as : List Agent). acks_text (case_names cases) as c.in_ok-acks.acks) agents
+    ∙ ap (λ (kinds : List Agent). acks_text (case_names cases) kinds c.in_ok-acks.acks) agents
     ∙ ap (λ (acks : List (List Ack)). acks_text (case_names cases) (case_agents cases) acks)
     (c.in_ok-acks.ensures.acks ∙ acks_over programs c.requires.numbered c.in_ok-acks.ensures.source cases c.requires.coded)
