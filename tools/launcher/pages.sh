@@ -1,3 +1,4 @@
+# shellcheck shell=bash disable=SC2154,SC2034
 # The pages that the launcher answers with: help, the help of a mode, and the version.
 
 # The rows of README's table of modes: of each mode its name, what it does and an example, with tabs between.

@@ -1,3 +1,4 @@
+# shellcheck shell=bash disable=SC2154,SC2034
 # The words of the command line. What is refused here is what the program refuses (docs/formats.md, "Words"), except
 # that a word after the mode may name a FILE. Sourced by the launcher, in pure bash, so that it takes no time.
 
