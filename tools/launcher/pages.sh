@@ -64,9 +64,14 @@ END_OF_PAGE
 
 # The page of one mode.
 page_of_mode() {
-    local name text example options page
+    local name text example options page input=' [FILE]'
     options=$(page_of_options "$1")
-    printf 'ccp %s%s\n\n' "${options:+[OPTION].. }$1" "$(case $(most_files "$1") in 0) ;; *) echo ' [FILE]..' ;; esac)"
+    case $1 in
+        soak) input='' ;;
+        fold) input=' [FILE | PROGRAM ACKS]' ;;
+        audit) input=' [FILE | SCENARIO TEXT]' ;;
+    esac
+    printf 'ccp %s\n\n' "${options:+[OPTION].. }$1$input"
     mode_rows | while IFS=$'\t' read -r name text example; do
         if [ "$name" = "$1" ]; then printf '%s.\n\n  %s\n' "${text%.}" "$example"; fi
     done

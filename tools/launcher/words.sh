@@ -59,6 +59,7 @@ read_option() {
     done
     if [ -z "$least" ]; then
         wrong="$1 is no option: the options are --datapaths, --agents, --workers, --number and --wire"
+        if [ "$1" = --prove ]; then wrong='--prove stands first, and without a mode'; fi
     elif [[ $given == *" $name "* ]]; then
         wrong="$1 is given twice: each option stands at most once"
     elif [ "$least" = - ]; then
