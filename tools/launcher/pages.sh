@@ -1,3 +1,4 @@
+# shellcheck shell=bash disable=SC2154,SC2034
 # The pages that the launcher answers with: help, the help of a mode, and the version.
 
 # The rows of README's table of modes: of each mode its name, what it does and an example, with tabs between.
@@ -63,9 +64,14 @@ END_OF_PAGE
 
 # The page of one mode.
 page_of_mode() {
-    local name text example options page
+    local name text example options page input=' [FILE]'
     options=$(page_of_options "$1")
-    printf 'ccp %s%s\n\n' "${options:+[OPTION].. }$1" "$(case $(most_files "$1") in 0) ;; *) echo ' [FILE]..' ;; esac)"
+    case $1 in
+        soak) input='' ;;
+        fold) input=' [FILE | PROGRAM ACKS]' ;;
+        audit) input=' [FILE | SCENARIO TEXT]' ;;
+    esac
+    printf 'ccp %s\n\n' "${options:+[OPTION].. }$1$input"
     mode_rows | while IFS=$'\t' read -r name text example; do
         if [ "$name" = "$1" ]; then printf '%s.\n\n  %s\n' "${text%.}" "$example"; fi
     done

@@ -1,3 +1,4 @@
+# shellcheck shell=bash disable=SC2154,SC2034
 # Runs a program on the words that were read, with the program's output, error line and status.
 
 proved=$here/crates/ccp/out/ccp

@@ -1,3 +1,4 @@
+# shellcheck shell=bash disable=SC2154,SC2034
 # The words of the command line. What is refused here is what the program refuses (docs/formats.md, "Words"), except
 # that a word after the mode may name a FILE. Sourced by the launcher, in pure bash, so that it takes no time.
 
@@ -58,6 +59,7 @@ read_option() {
     done
     if [ -z "$least" ]; then
         wrong="$1 is no option: the options are --datapaths, --agents, --workers, --number and --wire"
+        if [ "$1" = --prove ]; then wrong='--prove stands first, and without a mode'; fi
     elif [[ $given == *" $name "* ]]; then
         wrong="$1 is given twice: each option stands at most once"
     elif [ "$least" = - ]; then
