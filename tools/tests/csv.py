@@ -2,6 +2,7 @@
 import csv
 import io
 import os
+import re
 
 from harness import TOP, ccp, content, expect, needs_mode, tool
 
@@ -92,7 +93,7 @@ def test_what_the_program_prints():
     given = content(os.path.join(TOP, "examples", "live.json"))
     timeline, acks = ccp(["timeline"], given)[0], ccp(["acks"], given)[0]
     rows = rows_of(timeline)
-    expect(rows and len(rows) == timeline.count("\nticket "), "%d reports" % len(rows))
+    expect(rows and len(rows) == len(re.findall(r"^ticket \d+ report ", timeline, re.MULTILINE)), "%d reports" % len(rows))
     rows = rows_of(acks)
     expect(rows and len(rows) == acks.count("now="), "%d acknowledgements" % len(rows))
 
