@@ -170,15 +170,17 @@ class Flow:
 
     def lines(self):
         """The flow's part of a live text."""
-        yield self.head()
-        for number, (program, at, cwnd) in enumerate(self.epochs):
-            yield "epoch %d program=%d at=%d cwnd=%d" % (number, program, at, cwnd)
-        for epoch, ack, kind, place in self.faults:
-            yield "fault epoch=%d ack=%d kind=%s at=%s" % (epoch, ack, kind, place)
-        for number, ticket in enumerate(self.tickets):
-            yield "ticket %d %s" % (number, self._ticket_line(ticket))
+        return [
+            self.head(),
+            *("epoch %d program=%d at=%d cwnd=%d" % (number, *epoch) for number, epoch in enumerate(self.epochs)),
+            *("fault epoch=%d ack=%d kind=%s at=%s" % fault for fault in self.faults),
+            *("ticket %d %s" % (number, self._ticket_line(ticket)) for number, ticket in enumerate(self.tickets)),
+            self._end_line(),
+        ]
+
+    def _end_line(self):
         fields = [(name[len("Report."):], self.state.names[name]) for name in self.programs[self.program].fields]
-        yield "end acks=%d reports=%d held=%d faults=%d tail=%d..%d stopped=%s cwnd=%d rate=%d%s" % (
+        return "end acks=%d reports=%d held=%d faults=%d tail=%d..%d stopped=%s cwnd=%d rate=%d%s" % (
             self.acks, self.made, self.held, len(self.faults), self.first, self.acks, "yes" if self.stopped else "no",
             self.state.cwnd, self.state.rate, values(fields))
 

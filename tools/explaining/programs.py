@@ -97,15 +97,9 @@ class Program:
         return root.parts
 
     def _declared(self):
-        fields, controls = [], []
-        for part in self.forms[0].parts[1:] if self.forms and self.forms[0].is_list else []:
-            group = part.parts[1:] if part.head() == "Report" else [part]
-            for declared in group:
-                words = [word.text for word in declared.parts if not word.is_list]
-                words = words[1:] if words[:1] == ["volatile"] else words
-                if words:
-                    (fields if part.head() == "Report" else controls).append(words[0])
-        return fields, controls
+        parts = self.forms[0].parts[1:] if self.forms and self.forms[0].is_list else []
+        groups = [part for part in parts if part.head() == "Report"]
+        return declared([field for group in groups for field in group.parts[1:]]), declared([part for part in parts if part not in groups])
 
     def node_at(self, start):
         """The list or atom that begins at a place, or None."""
@@ -126,6 +120,12 @@ class Program:
         """The words that have a meaning at a node."""
         here, _ = self.locals_before(node)
         return ["Report." + name for name in self.fields] + self.controls + PRIMITIVES + WRITTEN + CONSTANTS + here
+
+
+def declared(parts):
+    """The names that some declarations declare."""
+    words = [[word.text for word in part.parts if not word.is_list] for part in parts]
+    return [(found[1:] if found[0] == "volatile" else found)[0] for found in words if found and found != ["volatile"]]
 
 
 def is_name(word):

@@ -377,17 +377,11 @@ def warnings_of(scenario, mode):
 
 def objects(scenario, mode):
     """The objects of a scenario, each with the name of its rules."""
-    yield "whole", scenario.whole
-    for name in ("programs", "traces"):
-        found = scenario.whole.member(name)
-        if found is not None and found.kind == "object":
-            yield None, found
-    for case in scenario.cases():
-        if case.kind == "object":
-            yield scenario.case_kind(mode), case
-    shared = scenario.whole.member("shared")
-    if mode == "shared" and shared is not None and shared.kind == "object":
-        yield "bottleneck", shared
+    whole, kind = scenario.whole, scenario.case_kind(mode)
+    found = [("whole", whole), (None, whole.member("programs")), (None, whole.member("traces"))]
+    found += [(kind, case) for case in scenario.cases()]
+    found += [("bottleneck", whole.member("shared"))] if mode == "shared" else []
+    return [(of, value) for of, value in found if value is not None and value.kind == "object"]
 
 
 def twice(value):
