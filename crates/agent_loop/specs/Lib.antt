@@ -1,3 +1,4 @@
 -- The definitions of agent_loop, a file each.
+pub mod Crews
 pub mod LiveBooks
 pub mod Nearer

@@ -1,9 +1,11 @@
-ghost use Rattle.std.specs.Prelude.{◌≡◌, ◌<◌, [], map, IfOk, OnOk};
+ghost use Rattle.std.specs.Prelude.{◌≡◌, ◌<◌, [], map, IfOk, OnOk, length};
 ghost use Rattle.flow_core.specs.Cells.{IsComplete};
 ghost use Rattle.flow_table.specs.Tables.{case_of};
+ghost use Rattle.agent_loop.specs.Crews.{HasWorked};
 ghost use Rattle.agent_loop.specs.LiveBooks.{IsWhole, AreBooksOf};
 
 use crate::Books;
+use crate::crew::Crew;
 use crate::turn::next;
 use ccp_base::NoMemory;
 use flow_core::{Book, Cell};
@@ -13,10 +15,18 @@ use std::alloc::Global;
 use std::marker::Brand;
 use std::sync::ledger::{Blank, Ledger};
 
-/// The books of flows, in order.
-pub(crate) fn books(alloc: Global, cells: Cells) -> Result<Books, NoMemory>
+/// The books of flows, in order, once the work of each of their workers is done.
+pub(crate) fn books(
+    alloc: Global,
+    cells: Cells,
+    datapaths: u32,
+    agents: u32,
+    crew: Crew,
+) -> Result<Books, NoMemory>
+    requires { HasWorked crew datapaths agents (length (map case_of cells)) }
     ensures { IfOk result (λ books. AreBooksOf (map case_of cells) books) }
 {
+    drop(crew);
     counted::<Brand>(alloc, cells, Blank::new(1))
 }
 

@@ -2,9 +2,14 @@
 #![tactic(auto)]
 
 mod agent;
+mod attending;
 mod books;
+mod crew;
 mod datapath;
+mod nudged_desk;
 mod run;
+mod serving;
+mod table_desk;
 mod turn;
 mod workers;
 

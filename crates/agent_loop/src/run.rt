@@ -4,6 +4,7 @@ ghost use Rattle.agent_loop.specs.LiveBooks.{AreBooksOf};
 
 use crate::Books;
 use crate::books::books;
+use crate::crew::Workers;
 use crate::workers::work;
 use ccp_base::{Gate, NoMemory};
 use flow_table::FlowTable;
@@ -17,9 +18,10 @@ use std::thread::Threads;
 ///
 /// Datapath worker `d` takes the acknowledgements of the flows `f` with `f mod datapaths = d`, one of each in turn. It
 /// passes the gate at `BeforeAck` and `AfterAck` without a lock and at `InAck` with the flow's. Agent workers, whose
-/// numbers come after these, are told where a report or a fault waits. For each telling one of them takes a ticket,
-/// passes `AfterTake`, works out the answer without a lock, settles it and passes `AfterSettle`. What they leave is done
-/// by the caller at the end, and so is the work of a datapath worker whose thread can't be started.
+/// numbers come after these, get a nudge where a report or a fault waits. For each nudge one of them takes a ticket,
+/// passes `AfterTake`, works out the answer without a lock, settles it and passes `AfterSettle`. The caller does the
+/// work of a worker whose thread can't be started, that of an agent worker once the datapath workers are done, and at
+/// the end what they all leave.
 pub fn live<R: Threads + Wait + Sync, G: Gate + Sync>(
     rt: &R,
     alloc: Global,
@@ -32,6 +34,7 @@ pub fn live<R: Threads + Wait + Sync, G: Gate + Sync>(
     requires agents { (1 ≤ agents) × (agents ≤ most_workers) }
     ensures { IfOk result (λ books. AreBooksOf table books) }
 {
-    work(rt, alloc, &table, datapaths, agents, gate)?;
-    books(alloc, table.close(alloc)?)
+    let workers = Workers { datapaths, agents };
+    let crew = work(rt, alloc, &table, workers, gate)?;
+    books(alloc, table.close(alloc)?, datapaths, agents, crew)
 }

@@ -1,7 +1,7 @@
 ghost use Rattle.std.specs.Prelude.{◌≡◌, ◌<◌, Ok, Some, None, true, false, length, OnOk};
 ghost use Rattle.flow_core.specs.Words.{can_take, is_complete};
 ghost use Rattle.flow_core.specs.Cells.{flow_at, world_at, out_at};
-ghost use Rattle.agent_loop.specs.Nearer.{IsNearer};
+ghost use Rattle.agent_loop.specs.Nearer.{IsNearer, next_at, with_letter};
 
 use agent_core::Ticket;
 use agent_core::calls::answer;
@@ -19,7 +19,8 @@ pub(crate) fn next<L: Ledger>(
     steps: &mut Steps<L>,
 ) -> Result<(), NoMemory>
     requires { is_complete (flow_at cell.old) (world_at cell.old) ≡ false }
-    ensures { OnOk result (IsNearer cell.old cell.new) }
+    ensures nearer { OnOk result (IsNearer cell.old cell.new) }
+    ensures order { OnOk result (cell.new ≡ with_letter (next_at cell.old) cell.old) }
 {
     if let Some(ticket) = cell.out() {
         settle(cell, ticket);
@@ -35,7 +36,8 @@ pub(crate) fn next<L: Ledger>(
 /// Applies the answer to the ticket that is out.
 fn settle(cell: &mut Cell, ticket: Ticket)
     requires { out_at cell.old ≡ Some ticket }
-    ensures { IsNearer cell.old cell.new }
+    ensures nearer { IsNearer cell.old cell.new }
+    ensures order { cell.new ≡ with_letter (next_at cell.old) cell.old }
 {
     let Ok(()) = cell.settle(answer(ticket)) else {
         unreachable!()
@@ -46,6 +48,7 @@ fn settle(cell: &mut Cell, ticket: Ticket)
 fn take(alloc: Global, cell: &mut Cell) -> Result<bool, NoMemory>
     requires { out_at cell.old ≡ None }
     ensures made { result ≡ Ok true → IsNearer cell.old cell.new }
+    ensures order { result ≡ Ok true → cell.new ≡ with_letter (next_at cell.old) cell.old }
     ensures not { result ≡ Ok false → (can_take (world_at cell.old) ≡ false) × (cell.new ≡ cell.old) }
 {
     match cell.take(alloc) {
@@ -58,8 +61,10 @@ fn take(alloc: Global, cell: &mut Cell) -> Result<bool, NoMemory>
 
 /// Takes the next acknowledgement.
 fn hear<L: Ledger>(cell: &mut Cell, steps: &mut Steps<L>)
-    requires { length (world_at cell.old).acks < cell.old.case.acks }
-    ensures { IsNearer cell.old cell.new }
+    requires acks { length (world_at cell.old).acks < cell.old.case.acks }
+    requires still { (out_at cell.old ≡ None) × (can_take (world_at cell.old) ≡ false) }
+    ensures nearer { IsNearer cell.old cell.new }
+    ensures order { cell.new ≡ with_letter (next_at cell.old) cell.old }
 {
     let Ok(_) = cell.ack(steps) else {
         unreachable!()

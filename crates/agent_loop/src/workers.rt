@@ -1,8 +1,8 @@
-ghost use Rattle.std.specs.Prelude.{◌≤◌};
-ghost use Rattle.ccp_base.specs.Limits.{most_workers};
+ghost use Rattle.std.specs.Prelude.{IfOk, length};
+ghost use Rattle.agent_loop.specs.Crews.{HasWorked};
 
-use crate::agent::attend;
-use crate::datapath::serve;
+use crate::crew::{Crew, Workers};
+use crate::{attending, serving};
 use ccp_base::{Gate, NoMemory};
 use flow_table::FlowTable;
 use std::alloc::Global;
@@ -10,43 +10,40 @@ use std::sync::Wait;
 use std::thread;
 use std::thread::Threads;
 
-/// The workers over the flows of a table, until the last of them is done. A datapath worker that can't be started is
-/// run here. What an agent worker that can't be started would have done is left to others.
+/// The workers over the flows of a table, until the work of each of them is done. That of a datapath worker for which no
+/// thread can be started is done here at once, and that of such an agent worker once the datapath workers are done.
 pub(crate) fn work<R: Threads + Wait + Sync, G: Gate + Sync>(
     rt: &R,
     alloc: Global,
     table: &FlowTable,
-    datapaths: u32,
-    agents: u32,
+    workers: Workers,
     gate: &G,
-) -> Result<(), NoMemory>
-    requires datapaths { (1 ≤ datapaths) × (datapaths ≤ most_workers) }
-    requires agents { agents ≤ most_workers }
+) -> Result<Crew, NoMemory>
+    ensures { IfOk result (λ crew. HasWorked crew workers.datapaths workers.agents (length table.now)) }
 {
     let (sender, receiver) = crossbeam_channel::unbounded::<u32, Global>(alloc)?;
     thread::scope(
         thread::scope_env(),
         rt,
-        move |scope| -> Result<(), NoMemory>
-            requires { ((1 ≤ datapaths) × (datapaths ≤ most_workers)) × (agents ≤ most_workers) }
+        move |scope| -> Result<Crew, NoMemory>
+            ensures { IfOk result (λ crew. HasWorked crew workers.datapaths workers.agents (length table.entry.now)) }
         {
-            for agent in 0..agents {
-                let worker = datapaths + agent;
-                let nudges = receiver.clone()?;
-                let _started = scope.spawn(move || attend(rt, alloc, table, worker, nudges, gate));
+            let mut attendings = Vec::new(alloc);
+            for agent in 0..workers.agents {
+                let worker = workers.datapaths + agent;
+                attendings.push(attending::begin(
+                    scope, rt, alloc, table, worker, &receiver, gate,
+                )?)?;
             }
-            for worker in 0..datapaths {
-                let nudges = sender.clone()?;
-                let started = scope.spawn(
-                    move ||
-                        requires { (1 ≤ datapaths) × (datapaths ≤ most_workers) }
-                    { serve(rt, table, datapaths, worker, &nudges, gate) },
-                );
-                if started.is_err() {
-                    serve(rt, table, datapaths, worker, &sender, gate);
-                }
+            let mut servings = Vec::new(alloc);
+            for worker in 0..workers.datapaths {
+                servings.push(serving::begin(scope, rt, table, workers, worker, &sender, gate)?)?;
             }
-            Ok(())
+            let served = serving::end_all(rt, alloc, servings)?;
+            // Agent workers end where the last sender is gone.
+            drop(sender);
+            let attended = attending::end_all(rt, alloc, table, attendings, &receiver, gate)?;
+            Ok(Crew { served, attended })
         },
     )
 }

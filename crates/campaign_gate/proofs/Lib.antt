@@ -4,5 +4,6 @@ pub mod PeakLemmas
 pub mod SumLemmas
 pub mod WalkLemmas
 pub mod DueLemmas
-pub mod RowLemmas
+pub mod ShareLemmas
+pub mod BookLemmas
 pub mod LiftedRowLemmas

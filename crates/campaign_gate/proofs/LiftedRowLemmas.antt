@@ -1,4 +1,5 @@
--- Where a case's codes simulate two programs, its row over the codes is its row over the programs.
+-- Where a case's codes simulate two programs, its campaign word, the acknowledgements on it and its row over the codes
+-- are those over the programs.
 use Rattle.std.specs.Prelude.{◌≡◌, ℕ, zero, suc, ◌+◌, ◌-◌, ◌*◌, ◌==◌, max, Bool, true, false, nat_lt, is_some, is_none, ◌&&◌, if◌then◌else◌, Option, Some, None, option_map, List, [], ◌∷◌, ◌++◌, length, map, refl}
 use Rattle.std.proofs.Common.{ap, sym, ◌∙◌}
 use Rattle.std.proofs.lemmas.List.{length-map}
@@ -30,6 +31,7 @@ use Rattle.flow_core.proofs.SimulatedEpochs.{after-simulated}
 use Rattle.campaign_gate.specs.CampaignWord.{is_late, first_letter, next_of, with_next, plan_from, plan_over}
 use Rattle.campaign_gate.specs.CampaignRow.{lost_in, timeouts_in, acked_in, window_of, peak_from, row_after, row_read, row_of}
 use Rattle.campaign_gate.specs.LiftedRow.{IsLifted}
+use Rattle.campaign_gate.specs.CampaignBooks.{acks_read, HasSourcePlan}
 
 -- ---- what an instruction's place doesn't change
 
@@ -179,6 +181,11 @@ module _ (case : Case) (ss ca : Form) (ss_places ca_places : List Place)
   plan-lifts : plan_over codes link case.lag ≡ plan_over sources link case.lag
   plan-lifts = plans-lift (3 * case.acks) []
 
+  acks-lift : acks_read codes link case.lag ≡ acks_read sources link case.lag
+  acks-lift =
+      ap (λ (w : World Place). w.acks) (worlds-lift (plan_over codes link case.lag))
+      ∙ ap (λ (word : List Letter). (by_source word).acks) plan-lifts
+
   -- ---- the row
 
   peak-lifts : (rest front : List Letter) → peak_from codes link (by_code front) rest ≡ peak_from sources link (by_source front) rest
@@ -227,3 +234,9 @@ module _ (case : Case) (ss ca : Form) (ss_places ca_places : List Place)
 
 pub lifted : (case : Case) → IsLifted case
 lifted case ss ca ss_places ca_places ss_simulates ca_simulates = row-lifts case ss ca ss_places ca_places ss_simulates ca_simulates
+
+pub source-plan : (case : Case) → HasSourcePlan case
+source-plan case = record {
+  word = λ ss ca ss_places ca_places ss_simulates ca_simulates. plan-lifts case ss ca ss_places ca_places ss_simulates ca_simulates;
+  acks = λ ss ca ss_places ca_places ss_simulates ca_simulates. acks-lift case ss ca ss_places ca_places ss_simulates ca_simulates;
+}

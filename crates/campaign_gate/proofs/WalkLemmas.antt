@@ -1,5 +1,5 @@
 -- One more letter of the campaign word keeps a flow on its way.
-use Rattle.std.specs.Prelude.{◌≡◌, ℕ, ◌-◌, ◌*◌, ◌<◌, ◌≤◌, max, Bool, true, false, is_some, is_none, ◌&&◌, Option, Some, None, unwrap_or, slice_get, List, [], ◌∷◌, ◌++◌, length, refl}
+use Rattle.std.specs.Prelude.{◌≡◌, ℕ, ◌-◌, ◌*◌, ◌<◌, ◌≤◌, max, Bool, true, false, is_some, is_none, ◌&&◌, Option, Some, None, option_map, IfSome, IsSome, unwrap_or, slice_get, Result, Ok, Err, OnOk, List, [], ◌∷◌, ◌++◌, length, refl}
 use Rattle.std.specs.Option.{ForSome}
 use Rattle.std.proofs.Common.{arith, ap, sym, ◌∙◌, subst, append_assoc, append-nil, length-append}
 use Rattle.std.proofs.lemmas.Bool.{ltb-true}
@@ -21,8 +21,9 @@ use Rattle.campaign_gate.specs.declared.sums.Sums.{Sums}
 use Rattle.campaign_gate.specs.declared.walk.Walk.{Walk}
 use Rattle.campaign_gate.specs.CampaignWord.{plan_from, plan}
 use Rattle.campaign_gate.specs.CampaignRow.{row_over, row_after, row_of}
+use Rattle.campaign_gate.specs.CampaignBooks.{planned, acks_of_case}
 use Rattle.flow_core.specs.LettersLeft.{letters_left, left_at}
-use Rattle.campaign_gate.specs.Walks.{next_at, window_at, plan_at, sums_of, with_ack, sums_after, TakenAfter, AreRoomy, IsOnWay, Makes}
+use Rattle.campaign_gate.specs.Walks.{next_at, window_at, plan_at, sums_of, with_ack, sums_after, heard_after, TakenAfter, AreRoomy, IsOnWay, Makes}
 use Rattle.flow_core.proofs.LeftLemmas.{left-letter}
 use Rattle.campaign_gate.proofs.PlanLemmas.{next-legal, plan-next, plan-none}
 use Rattle.campaign_gate.proofs.PeakLemmas.{peak-append}
@@ -86,12 +87,25 @@ module _ (old : Walk) where
   sums-made T = ap sums_of (sym (take-keeps flow before).acks)
   sums-made C = ap sums_of (sym (answer-keeps flow before).acks)
 
-  taken-of : (letter : Letter) (cell : CellState) (taken peak : ℕ) (sums : Sums)
-      → TakenAfter letter old (record { cell = cell; taken = taken; sums = sums; peak = peak })
-      → TakenAfter letter old (record old { taken = taken })
-  taken-of A cell taken peak sums same = same
-  taken-of T cell taken peak sums same = same
-  taken-of C cell taken peak sums same = same
+  taken-of : (letter : Letter) (new : Walk) → TakenAfter letter old new → TakenAfter letter old (record old { taken = new.taken })
+  taken-of A new same = same
+  taken-of T new same = same
+  taken-of C new same = same
+
+  -- what is kept of the acknowledgements
+  one-more : (heard : Option (List Ack)) (acks : List Ack) (ack : Ack) → IfSome heard (λ (kept : List Ack). kept ≡ acks)
+      → IfSome (option_map (λ (kept : List Ack). kept ++ ack ∷ []) heard) (λ (kept : List Ack). kept ≡ acks ++ ack ∷ [])
+  one-more None acks ack are = are
+  one-more (Some kept) acks ack are = ap (λ (xs : List Ack). xs ++ ack ∷ []) are
+
+  abbrev are-kept : List Ack → Type 0
+  are-kept acks = IfSome old.heard (λ (kept : List Ack). kept ≡ acks)
+
+  heard-made : (letter : Letter) → are-kept before.acks
+      → IfSome (heard_after letter old.cell old.heard) (λ (kept : List Ack). kept ≡ (made letter).acks)
+  heard-made A are = one-more old.heard before.acks (ack_at old.cell) are
+  heard-made T are = subst are-kept (sym (take-keeps flow before).acks) are
+  heard-made C are = subst are-kept (sym (answer-keeps flow before).acks) are
 
   module _ (on : IsOnWay old) (letter : Letter) (next : next_at old.cell ≡ Some letter) where
     may : is_legal flow before letter ≡ true
@@ -117,10 +131,11 @@ module _ (old : Walk) where
         ∙ ap (λ (rest : List Letter). word ++ rest) (sym (plan-next flow case.lag case.link most before letter next some))
         ∙ on.word
 
-    on-longer : (taken peak : ℕ) (sums : Sums) → TakenAfter letter old (record old { taken = taken })
+    on-longer : (taken peak : ℕ) (sums : Sums) (heard : Option (List Ack)) → TakenAfter letter old (record old { taken = taken })
         → sums ≡ sums_after letter old.cell old.sums → peak ≡ max old.peak (window_at (longer letter))
-        → IsOnWay (record { cell = longer letter; taken = taken; sums = sums; peak = peak })
-    on-longer taken peak sums is_taken is_sums is_peak =
+        → heard ≡ heard_after letter old.cell old.heard
+        → IsOnWay (record { cell = longer letter; taken = taken; sums = sums; peak = peak; heard = heard })
+    on-longer taken peak sums heard is_taken is_sums is_peak is_heard =
         let case = old.cell.case in
         let word = old.cell.word in
         let fewer = fewer-longer in
@@ -137,24 +152,40 @@ module _ (old : Walk) where
           peak =
               is_peak ∙ ap (λ (n : ℕ). max n (window_at (longer letter))) on.peak
               ∙ sym (peak-append flow case.link word letter (opening flow));
+          heard =
+              subst (λ (kept : Option (List Ack)). IfSome kept (λ (acks : List Ack). acks ≡ (world_at (longer letter)).acks)) (sym is_heard)
+              (subst (λ (w : World ℕ). IfSome (heard_after letter old.cell old.heard) (λ (acks : List Ack). acks ≡ w.acks)) (sym (world-made letter))
+              (heard-made letter on.heard));
         }
-
-    taken-as : (cell : CellState) (taken peak : ℕ) (sums : Sums)
-        → TakenAfter letter old (record { cell = cell; taken = taken; sums = sums; peak = peak })
-        → TakenAfter letter old (record old { taken = taken })
-    taken-as cell taken peak sums is = taken-of letter cell taken peak sums is
 
     pub on-made : (new : Walk) → Makes letter old new → IsOnWay new
     on-made new makes =
-        subst (λ (cell : CellState). IsOnWay (record { cell = cell; taken = new.taken; sums = new.sums; peak = new.peak }))
+        subst (λ (cell : CellState). IsOnWay (record { cell = cell; taken = new.taken; sums = new.sums; peak = new.peak; heard = new.heard }))
         (sym makes.cell)
-        (on-longer new.taken new.peak new.sums (taken-as new.cell new.taken new.peak new.sums makes.taken) makes.sums
-        (makes.peak ∙ ap (λ (cell : CellState). max old.peak (window_at cell)) makes.cell))
+        (on-longer new.taken new.peak new.sums new.heard (taken-of letter new makes.taken) makes.sums
+        (makes.peak ∙ ap (λ (cell : CellState). max old.peak (window_at cell)) makes.cell) makes.heard)
 
     pub fewer-left : (new : Walk) → Makes letter old new → left_at new.cell < left_at old.cell
     fewer-left new makes = subst (λ (cell : CellState). left_at cell < left_at old.cell) (sym makes.cell) fewer-longer
 
+-- the acknowledgements are kept on
+keeps-one : (heard : Option (List Ack)) (ack : Ack) → IsSome heard → IsSome (option_map (λ (acks : List Ack). acks ++ ack ∷ []) heard)
+keeps-one None ack some = some
+keeps-one (Some acks) ack some = refl
+
+keeps-after : (letter : Letter) (cell : CellState) (heard : Option (List Ack)) → IsSome heard → IsSome (heard_after letter cell heard)
+keeps-after A cell heard some = keeps-one heard (ack_at cell) some
+keeps-after T cell heard some = some
+keeps-after C cell heard some = some
+
+pub keeps-made : (old new : Walk) (letter : Letter) → Makes letter old new → IsSome old.heard → IsSome new.heard
+keeps-made old new letter makes some = subst IsSome (sym makes.heard) (keeps-after letter old.cell old.heard some)
+
 -- ---- an acknowledgement
+
+pub on-ok : {T E P Q : Type 0} (result : Result T E) → (P → Q) → OnOk result P → OnOk result Q
+on-ok (Ok value) follows holds = follows holds
+on-ok (Err fault) follows holds = holds
 
 -- the last of the list is the one that was added
 pub last-is : (before all : List Ack) (ack given : Ack) → all ≡ before ++ given ∷ [] → slice_get all (length all - 1) ≡ Some ack → ack ≡ given
@@ -186,23 +217,25 @@ roomy-heard old on next =
 
 -- ---- the beginning and the end
 
-pub on-begun : (cell : CellState) (peak : ℕ) → cell.word ≡ [] → peak ≡ window_at cell
-    → IsOnWay (record { cell = cell; taken = 0; sums = sums_of []; peak = peak })
-on-begun cell peak empty is_peak =
+pub on-begun : (cell : CellState) (peak : ℕ) (heard : Option (List Ack)) → cell.word ≡ [] → peak ≡ window_at cell
+    → IfSome heard (λ (acks : List Ack). acks ≡ [])
+    → IsOnWay (record { cell = cell; taken = 0; sums = sums_of []; peak = peak; heard = heard })
+on-begun cell peak heard empty is_peak none_heard =
     let begun : CellState = record { case = cell.case; word = [] } in
     let same : begun ≡ cell = λ i. record { case = cell.case; word = sym empty i } in
     let all : 3 * cell.case.acks - 0 ≡ 3 * cell.case.acks = omega arith in
     let none : ForSome (world_at begun).out (λ (ticket : Taken ℕ). ticket.taken ≡ 0) =
     nothing-out (flow_at begun) None (λ (ticket : Taken ℕ). ticket.taken ≡ 0) refl in
-    let on : IsOnWay (record { cell = begun; taken = 0; sums = sums_of []; peak = window_at begun }) = record {
+    let on : IsOnWay (record { cell = begun; taken = 0; sums = sums_of []; peak = window_at begun; heard = heard }) = record {
       word = ap (λ (n : ℕ). plan_from (flow_at begun) cell.case.link cell.case.lag n (opening (flow_at begun))) all;
       left = omega arith;
       taken = none;
       sums = refl;
       peak = refl;
+      heard = none_heard;
     } in
-    subst (λ (n : ℕ). IsOnWay (record { cell = cell; taken = 0; sums = sums_of []; peak = n })) (sym is_peak)
-    (subst (λ (c : CellState). IsOnWay (record { cell = c; taken = 0; sums = sums_of []; peak = window_at c })) same on)
+    subst (λ (n : ℕ). IsOnWay (record { cell = cell; taken = 0; sums = sums_of []; peak = n; heard = heard })) (sym is_peak)
+    (subst (λ (c : CellState). IsOnWay (record { cell = c; taken = 0; sums = sums_of []; peak = window_at c; heard = heard })) same on)
 
 -- where the word is complete, it is the campaign word
 pub whole : (walk : Walk) → IsOnWay walk → is_complete (flow_at walk.cell) (world_at walk.cell) ≡ true
@@ -221,3 +254,16 @@ row-whole walk on done =
     let cell = walk.cell in
     ap (row_over (flow_at cell) (world_at cell)) on.peak
     ∙ ap (row_after (flow_at cell) cell.case.link) (whole walk on done)
+
+-- where the word is complete, the flow is after its campaign word
+pub cell-whole : (walk : Walk) → IsOnWay walk → is_complete (flow_at walk.cell) (world_at walk.cell) ≡ true
+    → walk.cell ≡ planned walk.cell.case
+cell-whole walk on done = λ i. record { case = walk.cell.case; word = whole walk on done i }
+
+-- and what is kept of the acknowledgements is all of them
+pub acks-whole : (walk : Walk) → IsOnWay walk → is_complete (flow_at walk.cell) (world_at walk.cell) ≡ true
+    → (acks : List Ack) → walk.heard ≡ Some acks → acks ≡ acks_of_case walk.cell.case
+acks-whole walk on done acks heard =
+    let kept : acks ≡ (world_at walk.cell).acks =
+    subst (λ (option : Option (List Ack)). IfSome option (λ (xs : List Ack). xs ≡ (world_at walk.cell).acks)) heard on.heard in
+    kept ∙ ap (λ (cell : CellState). (world_at cell).acks) (cell-whole walk on done)

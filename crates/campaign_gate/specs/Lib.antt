@@ -4,4 +4,6 @@ pub mod CampaignRow
 pub mod Walks
 pub mod LiftedRow
 pub mod Tried
+pub mod Shares
 pub mod Parts
+pub mod CampaignBooks

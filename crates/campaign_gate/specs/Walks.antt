@@ -1,5 +1,5 @@
 -- A flow on the way along its campaign word: what is kept, and what a letter changes of it.
-use Rattle.std.specs.Prelude.{◌≡◌, ℕ, ◌+◌, ◌-◌, ◌*◌, ◌<◌, ◌≤◌, max, if◌then◌else◌, Option, List, [], ◌∷◌, ◌++◌, length}
+use Rattle.std.specs.Prelude.{◌≡◌, ℕ, ◌+◌, ◌-◌, ◌*◌, ◌<◌, ◌≤◌, max, if◌then◌else◌, Option, option_map, IfSome, List, [], ◌∷◌, ◌++◌, length}
 use Rattle.std.specs.Option.{ForSome}
 use Rattle.ccp_base.specs.declared.ack.Ack.{Ack}
 use Rattle.flow_core.specs.declared.letter.Letter.{Letter}
@@ -52,11 +52,18 @@ pub record IsOnWay (walk : Walk) : Type 0 where
   pub taken : ForSome (world_at walk.cell).out (λ (ticket : Taken ℕ). ticket.taken ≡ walk.taken)
   pub sums : walk.sums ≡ sums_of (world_at walk.cell).acks
   pub peak : walk.peak ≡ peak_of (flow_at walk.cell) walk.cell.case.link walk.cell.word
+  pub heard : IfSome walk.heard (λ (acks : List Ack). acks ≡ (world_at walk.cell).acks)
 
 abbrev pub sums_after : Letter → CellState → Sums → Sums
 sums_after A cell sums = with_ack (ack_at cell) sums
 sums_after T cell sums = sums
 sums_after C cell sums = sums
+
+-- the acknowledgements that are kept, where they are
+abbrev pub heard_after : Letter → CellState → Option (List Ack) → Option (List Ack)
+heard_after A cell heard = option_map (λ (acks : List Ack). acks ++ ack_at cell ∷ []) heard
+heard_after T cell heard = heard
+heard_after C cell heard = heard
 
 -- where a ticket is out afterwards, it was taken at so many acknowledgements
 abbrev pub TakenAfter : Letter → Walk → Walk → Type 0
@@ -70,3 +77,4 @@ pub record Makes (letter : Letter) (old new : Walk) : Type 0 where
   pub taken : TakenAfter letter old new
   pub sums : new.sums ≡ sums_after letter old.cell old.sums
   pub peak : new.peak ≡ max old.peak (window_at new.cell)
+  pub heard : new.heard ≡ heard_after letter old.cell old.heard

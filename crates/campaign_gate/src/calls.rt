@@ -1,23 +1,24 @@
 //! The run of one case, and of many.
-ghost use Rattle.std.specs.Prelude.{◌≡◌, ◌<◌, ◌≤◌, true, map, length, IfOk, OnOk};
+ghost use Rattle.std.specs.Prelude.{◌≡◌, ◌≤◌, true, map, length, IfOk};
+ghost use Rattle.std.specs.List.{All};
 ghost use Rattle.ccp_base.specs.Limits.{most_cases, most_workers};
 ghost use Rattle.flow_core.specs.Readings.{over_codes};
 ghost use Rattle.flow_core.specs.Words.{world, legal, is_complete};
-ghost use Rattle.flow_core.specs.Cells.{IsComplete};
+ghost use Rattle.flow_core.specs.Cells.{CellState};
+ghost use Rattle.flow_core.specs.declared.book.Book.{Book};
 ghost use Rattle.campaign_gate.specs.CampaignWord.{plan};
 ghost use Rattle.campaign_gate.specs.CampaignRow.{row_of};
+ghost use Rattle.campaign_gate.specs.CampaignBooks.{acks_of_case, IsCampaignBook, AreCampaignBooks, HasSourcePlan};
 ghost use Rattle.campaign_gate.specs.LiftedRow.{IsLifted};
-ghost use Rattle.campaign_gate.specs.Walks.{IsOnWay};
 
+use crate::case_result::CaseResult;
+use crate::queue::Queue;
 use crate::row::{Row, Rows};
-use crate::walk::Walk;
 use crate::workers::by_workers;
-use ccp_base::{Gate, NoMemory, Sequence};
-use flow_core::{Case, Cell};
-use fold_machine::Steps;
+use ccp_base::{Acks, Gate, NoMemory, Sequence};
+use flow_core::{Book, Case, Cell};
 use std::alloc::Global;
 use std::marker::Brand;
-use std::sync::ledger::{Blank, Ledger};
 use std::thread::Threads;
 
 /// The row of a case: its flow makes its campaign word, which is legal and complete. For all programs that the case's
@@ -28,47 +29,7 @@ pub fn run_case(alloc: Global, case: Case) -> Result<Row, NoMemory>
     ensures complete { is_complete (over_codes case) (world (over_codes case) case.link (plan case)) ≡ true }
     ensures lifted { IsLifted case }
 {
-    counted::<Brand>(alloc, case, Blank::new(1))
-}
-
-/// The same, where a ledger of one part counts the steps.
-fn counted<L: Ledger>(alloc: Global, case: Case, blank: Blank) -> Result<Row, NoMemory>
-    requires name { blank.name ≡ L.name }
-    requires parts { blank.parts ≡ L.parts }
-    requires some { 0 < blank.parts }
-    ensures { IfOk result (λ row. row ≡ row_of case) }
-{
-    let mut steps = Steps::<L>::new(blank);
-    let walk = Walk::begin(Cell::new(alloc, case)?);
-    completed(alloc, walk, &mut steps)
-}
-
-/// The row of a flow, after every letter that is left.
-fn completed<L: Ledger>(alloc: Global, walk: Walk, steps: &mut Steps<L>) -> Result<Row, NoMemory>
-    requires { IsOnWay walk }
-    ensures { IfOk result (λ row. row ≡ row_of walk.cell.case) }
-{
-    let mut walk = walk;
-    match complete(alloc, &mut walk, steps) {
-        Ok(()) => Ok(walk.row()),
-        Err(NoMemory) => {
-            drop(walk);
-            Err(NoMemory)
-        }
-    }
-}
-
-/// Makes every letter that is left.
-fn complete<L: Ledger>(alloc: Global, walk: &mut Walk, steps: &mut Steps<L>) -> Result<(), NoMemory>
-    requires { IsOnWay walk.old }
-    ensures on { OnOk result (IsOnWay walk.new) }
-    ensures complete { OnOk result (IsComplete walk.new.cell) }
-    ensures case { OnOk result (walk.new.cell.case ≡ walk.old.cell.case) }
-{
-    while !walk.cell.is_complete() {
-        walk.next(alloc, steps)?;
-    }
-    Ok(())
+    Row::make(alloc, case)
 }
 
 /// The cases of a campaign in order.
@@ -90,5 +51,70 @@ pub fn rows<R: Threads + Sync, G: Gate + Sync>(
     ensures rows { IfOk result (λ rows. rows ≡ map row_of cases) }
     ensures lifted { (case : Case) → IsLifted case }
 {
-    by_workers::<Brand, R, G>(rt, alloc, cases.as_slice(), workers, gate)
+    by_workers::<Brand, Row, R, G>(rt, alloc, cases.as_slice(), workers, gate)
+}
+
+/// The books of a campaign in the order of their cases.
+pub type Books = Sequence<Book>;
+
+/// The books of flows, each of which is after its campaign word.
+fn books_of(alloc: Global, cells: Sequence<Cell>) -> Result<Books, NoMemory>
+    requires { All (λ (cell : CellState). cell.word ≡ plan cell.case) cells }
+    ensures cases { IfOk result (λ books. map (λ (book : Book). book.case) books ≡ map (λ (cell : CellState). cell.case) cells) }
+    ensures books { IfOk result (All IsCampaignBook) }
+{
+    let mut cells = Queue::from_vec(cells.into_vec());
+    let mut books = Books::new(alloc);
+    while let Some(cell) = cells.take() {
+        books.push(book_of(cell))?;
+    }
+    Ok(books)
+}
+
+/// The book of a flow that is after its campaign word.
+fn book_of(cell: Cell) -> Book
+    requires { cell.word ≡ plan cell.case }
+    ensures case { result.case ≡ cell.case }
+    ensures book { IsCampaignBook result }
+{
+    cell.finish()
+}
+
+/// The book of each case after its campaign word, in the order of the cases, whatever the number of workers, which is 1
+/// to 32: the same workers as those of `rows`, with the same gates, run the same cases. There are at most 1,024 cases.
+pub fn books<R: Threads + Sync, G: Gate + Sync>(
+    rt: &R,
+    alloc: Global,
+    cases: Cases,
+    workers: u32,
+    gate: &G,
+) -> Result<Books, NoMemory>
+    requires few { length cases ≤ most_cases }
+    requires workers { (1 ≤ workers) × (workers ≤ most_workers) }
+    ensures books { IfOk result (λ books. AreCampaignBooks cases books) }
+    ensures source { (case : Case) → HasSourcePlan case }
+{
+    let cells = by_workers::<Brand, Cell, R, G>(rt, alloc, cases.as_slice(), workers, gate)?;
+    books_of(alloc, cells)
+}
+
+/// The acknowledgements of each case of a campaign, in the order of the cases.
+pub type CaseAcks = Sequence<Acks>;
+
+/// The acknowledgements of each case on its campaign word, in the order of the cases, whatever the number of workers,
+/// which is 1 to 32: the same workers as those of `rows`, with the same gates, run the same cases. There are at most
+/// 1,024 cases.
+pub fn acks<R: Threads + Sync, G: Gate + Sync>(
+    rt: &R,
+    alloc: Global,
+    cases: Cases,
+    workers: u32,
+    gate: &G,
+) -> Result<CaseAcks, NoMemory>
+    requires few { length cases ≤ most_cases }
+    requires workers { (1 ≤ workers) × (workers ≤ most_workers) }
+    ensures acks { IfOk result (λ acks. acks ≡ map acks_of_case cases) }
+    ensures source { (case : Case) → HasSourcePlan case }
+{
+    by_workers::<Brand, Acks, R, G>(rt, alloc, cases.as_slice(), workers, gate)
 }

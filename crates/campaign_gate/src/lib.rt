@@ -2,13 +2,16 @@
 #![tactic(auto)]
 
 pub mod calls;
-mod case_row;
+mod case_result;
+mod completion;
 mod counts;
+mod queue;
 mod row;
+mod share;
 mod standing;
 mod sums;
 mod walk;
 mod workers;
 
-pub use calls::Cases;
+pub use calls::{Books, CaseAcks, Cases};
 pub use row::{Row, Rows};

@@ -1,8 +1,9 @@
-ghost use Rattle.std.specs.Prelude.{◌≡◌, ◌<◌, [], Some, false, OnOk, IfOk};
+ghost use Rattle.std.specs.Prelude.{◌≡◌, ◌<◌, [], ◌∷◌, ◌++◌, Some, false, option_map, IsSome, IfSome, OnOk, IfOk};
 ghost use Rattle.flow_core.specs.Words.{is_complete};
 ghost use Rattle.flow_core.specs.Cells.{flow_at, world_at, IsComplete};
 ghost use Rattle.campaign_gate.specs.CampaignWord.{is_due};
 ghost use Rattle.campaign_gate.specs.CampaignRow.{row_of};
+ghost use Rattle.campaign_gate.specs.CampaignBooks.{planned, acks_of_case};
 ghost use Rattle.campaign_gate.specs.Tried.{Tried};
 ghost use Rattle.flow_core.specs.LettersLeft.{left_at};
 ghost use Rattle.campaign_gate.specs.Walks.{next_at, IsOnWay, Makes};
@@ -12,7 +13,7 @@ use crate::row::Row;
 use crate::standing::Standing;
 use crate::sums::Sums;
 use agent_core::calls::answer;
-use ccp_base::NoMemory;
+use ccp_base::{Ack, Acks, NoMemory};
 use flow_core::{Cell, Letter, TakeFault};
 use fold_machine::Steps;
 use std::alloc::Global;
@@ -27,13 +28,27 @@ pub(crate) struct Walk {
     pub(crate) sums: Sums,
     /// The greatest window so far, in bytes.
     pub(crate) peak: u64,
+    /// The acknowledgements so far, where they are kept.
+    pub(crate) heard: Option<Acks>,
+}
+
+/// Puts an acknowledgement at the end of those that are kept, where they are.
+fn keep(heard: &mut Option<Acks>, ack: Ack) -> Result<(), NoMemory>
+    ensures { OnOk result (heard.new ≡ option_map (λ acks. acks ++ ack ∷ []) heard.old) }
+{
+    if let Some(acks) = heard {
+        acks.push(ack)?;
+    }
+    Ok(())
 }
 
 impl Walk {
-    /// The way of a flow without a letter.
-    pub(crate) fn begin(cell: Cell) -> Walk
-        requires { cell.word ≡ [] }
+    /// The way of a flow without a letter. Its acknowledgements are kept where a list for them is given, which is empty.
+    pub(crate) fn begin(cell: Cell, heard: Option<Acks>) -> Walk
+        requires empty { cell.word ≡ [] }
+        requires none { IfSome heard (λ acks. acks ≡ []) }
         ensures cell { result.cell ≡ cell }
+        ensures heard { result.heard ≡ heard }
         ensures on { IsOnWay result }
     {
         let window = cell.cwnd();
@@ -47,6 +62,7 @@ impl Walk {
             taken: 0,
             sums,
             peak: window,
+            heard,
         }
     }
 
@@ -60,6 +76,7 @@ impl Walk {
         requires open { is_complete (flow_at self.old.cell) (world_at self.old.cell) ≡ false }
         ensures on { OnOk result (IsOnWay self.new) }
         ensures case { OnOk result (self.new.cell.case ≡ self.old.cell.case) }
+        ensures keeps { OnOk result (IsSome self.old.heard → IsSome self.new.heard) }
         ensures fewer { OnOk result (left_at self.new.cell < left_at self.old.cell) }
     {
         if self.is_due() {
@@ -69,8 +86,7 @@ impl Walk {
         if self.take(alloc)? {
             return Ok(());
         }
-        self.hear(steps);
-        Ok(())
+        self.hear(steps)
     }
 
     /// Whether an answer is due.
@@ -120,10 +136,10 @@ impl Walk {
     }
 
     /// Takes the next acknowledgement.
-    fn hear<L: Ledger>(&mut self, steps: &mut Steps<L>)
+    fn hear<L: Ledger>(&mut self, steps: &mut Steps<L>) -> Result<(), NoMemory>
         requires on { IsOnWay self.old }
         requires next { next_at self.old.cell ≡ Some Letter.A }
-        ensures { Makes Letter.A self.old self.new }
+        ensures { OnOk result (Makes Letter.A self.old self.new) }
     {
         let Ok(_) = self.cell.ack(steps) else {
             unreachable!()
@@ -133,6 +149,7 @@ impl Walk {
         };
         self.sums = self.sums.with(ack);
         self.peak = self.peak.max(self.cell.cwnd());
+        keep(&mut self.heard, ack)
     }
 
     /// The row of the flow, whose word must be complete.
@@ -159,5 +176,27 @@ impl Walk {
             now: standing.time,
             tail: standing.acks.saturating_sub(counts.first),
         }
+    }
+
+    /// The flow, whose word must be complete.
+    pub(crate) fn into_cell(self) -> Cell
+        requires on { IsOnWay self }
+        requires complete { IsComplete self.cell }
+        ensures { result ≡ planned self.cell.case }
+    {
+        self.cell
+    }
+
+    /// The acknowledgements of the flow, whose word must be complete, where they are kept.
+    pub(crate) fn into_acks(self) -> Acks
+        requires on { IsOnWay self }
+        requires complete { IsComplete self.cell }
+        requires keeps { IsSome self.heard }
+        ensures { result ≡ acks_of_case self.cell.case }
+    {
+        let Walk { cell, heard, .. } = self;
+        drop(cell);
+        let Some(acks) = heard else { unreachable!() };
+        acks
     }
 }

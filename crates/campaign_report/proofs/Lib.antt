@@ -3,3 +3,4 @@ mod CompiledCounts
 mod StopLemmas
 pub mod BookLemmas
 mod FaultSteps
+mod WorkedAcks

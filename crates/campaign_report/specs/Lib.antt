@@ -6,3 +6,4 @@ pub mod TableText
 pub mod Columns
 pub mod BookText
 pub mod BooksRead
+pub mod AcksText

@@ -1,9 +1,11 @@
-//! The texts of modes: what a fold came to, what a checked program is, what a live run and what a campaign came to, and
-//! the frames that install programs.
+//! The texts of modes: what a fold came to, what a checked program is, what a live run and what a campaign came to, the
+//! acknowledgements of flows, and the frames that install programs.
 #![tactic(auto)]
 
+mod acks;
 mod agent_text;
 mod check;
+mod flow;
 mod fold;
 mod live;
 mod programs;
@@ -12,6 +14,7 @@ mod table;
 mod tickets;
 mod wire;
 
+pub use acks::acks_text;
 pub use check::check_text;
 pub use fold::fold_text;
 pub use live::live_text;

@@ -1,17 +1,17 @@
 ghost use Rattle.std.specs.Prelude.{◌≡◌, ◌≤◌, ◌++◌, IfOk, OnOk, map};
 ghost use Rattle.std.specs.List.{All};
-ghost use Rattle.flow_core.specs.LiveText.{epoch_lines, fault_lines, flow_line};
+ghost use Rattle.flow_core.specs.LiveText.{epoch_lines, fault_lines};
 ghost use Rattle.campaign_report.specs.BookText.{ack_count, acks_at, book_text, books_text, end_in, epoch_text};
 ghost use Rattle.campaign_report.specs.BookText.{failure_of, fault_text, fault_texts, last_line, last_program};
 ghost use Rattle.campaign_report.specs.BooksRead.{IsRead, read_text};
 
-use crate::agent_text::agent_text;
+use crate::flow::put_flow;
 use crate::programs::{fields_of, place_of};
 use crate::tickets::{put_tickets, report_count};
 use ccp_base::{Bytes, NoMemory, Notice};
 use flow_core::{Book, Case, EpochLine, Letter};
 use reg_compiler::{Built, Builts};
-use report_lines::{End, is_faulted, put_end_head, put_end_tail, put_fault, put_flow_head};
+use report_lines::{End, is_faulted, put_end_head, put_end_tail, put_fault};
 use std::alloc::Global;
 
 /// The text of a live run: of each book its flow, its epochs, its faults with their places, its tickets, and how the
@@ -56,21 +56,17 @@ fn put_book(
 ) -> Result<(), NoMemory>
     ensures { OnOk result (text.new ≡ text.old ++ book_text programs.now book.now) }
 {
-    put_flow(alloc, text, &book.case)?;
+    put_flow(
+        alloc,
+        text,
+        book.case.flow,
+        &book.case.name,
+        &book.case.agent,
+    )?;
     put_epochs(alloc, text, book.epochs.as_slice())?;
     put_faults(alloc, text, programs, &book.case, book.faults.as_slice())?;
     put_tickets(alloc, text, programs, book.tickets.as_slice())?;
     put_last(alloc, text, programs, book)
-}
-
-fn put_flow(alloc: Global, text: &mut Bytes, case: &Case) -> Result<(), NoMemory>
-    ensures { OnOk result (text.new ≡ text.old ++ flow_line case.now.flow case.now.name case.now.agent) }
-{
-    put_flow_head(alloc, text, case.flow, case.name.as_slice())?;
-    text.extend(b" agent=")?;
-    text.extend(agent_text(&case.agent).as_bytes())?;
-    text.push(b'\n')?;
-    Ok(())
 }
 
 fn put_epochs(alloc: Global, text: &mut Bytes, epochs: &[EpochLine]) -> Result<(), NoMemory>

@@ -11,19 +11,21 @@ use std::thread::Threads;
 const TWO_FLOWS: &[u8] =
     b"{\"version\":1,\"traces\":{\"t\":\"10\\n\"},\"cases\":[{\"name\":\"a\",\"agent\":\"reno\",\"trace\":\"t\",\"mss\":1448,\"queue\":10,\"delay_us\":20000,\"timeout_us\":1000000,\"acks\":4},{\"name\":\"b\",\"agent\":\"reno\",\"trace\":\"t\",\"mss\":1448,\"queue\":10,\"delay_us\":20000,\"timeout_us\":1000000,\"acks\":4}],\"shared\":{\"trace\":\"t\",\"queue\":10,\"quantum_us\":10000,\"rounds\":100}}";
 
-fn moment(worker: u32, point: Point, time: u64) -> Moment {
+/// A worker's passing of a point, the one of this count, with the number of a flow or case.
+fn moment(worker: u32, point: Point, time: u64, number: u32) -> Moment {
     Moment {
         worker,
         point,
         time,
+        number: Some(number),
     }
 }
 
 /// Worker 0 is held before its first case, or part of a round, until worker 1 has done one.
 fn held_before_a_case() -> HoldGate {
     let hold = Hold {
-        at: moment(0, Point::InCase, 1),
-        until: moment(1, Point::AfterCase, 1),
+        at: moment(0, Point::InCase, 1, 0),
+        until: moment(1, Point::AfterCase, 1, 1),
     };
     HoldGate::new(hold, hold)
 }
@@ -79,8 +81,8 @@ fn two_datapaths_write<R: Threads + Wait + Sync>(
 #[test]
 fn two_datapaths_hear_at_once(rt: HostRuntime) -> Result<(), Fail> {
     let hold = Hold {
-        at: moment(0, Point::InAck, 1),
-        until: moment(1, Point::AfterAck, 1),
+        at: moment(0, Point::InAck, 1, 0),
+        until: moment(1, Point::AfterAck, 1, 1),
     };
     let gate = HoldGate::new(hold, hold);
     assert!(rt; two_datapaths_write(&rt, rt.alloc(), &gate, TWO_BOOKS)?);
@@ -98,6 +100,19 @@ fn has_part(text: &[u8], part: &[u8]) -> bool {
     false
 }
 
+/// Whether a run on these words, whose workers are held, ends well with an output that has this part.
+fn shows_on<R: Threads + Wait + Sync>(
+    rt: &R,
+    alloc: Global,
+    words: &[&str],
+    input: &[u8],
+    gate: &HoldGate,
+    part: &[u8],
+) -> Result<bool, Fail> {
+    let came = held_comes_to(rt, alloc, words, input, WHOLE, gate)?;
+    Ok(came.status == 0 && has_part(came.output.as_slice(), part))
+}
+
 /// Whether a run of a mode, whose workers are held, ends well with an output that has this part.
 fn shows<R: Threads + Wait + Sync>(
     rt: &R,
@@ -107,8 +122,7 @@ fn shows<R: Threads + Wait + Sync>(
     gate: &HoldGate,
     part: &[u8],
 ) -> Result<bool, Fail> {
-    let came = held_comes_to(rt, alloc, &["ccp", mode], input, WHOLE, gate)?;
-    Ok(came.status == 0 && has_part(came.output.as_slice(), part))
+    shows_on(rt, alloc, &["ccp", mode], input, gate, part)
 }
 
 /// A flow with three acknowledgements, each of which shows a loss in a report. Its two programs are one, and two reports
@@ -120,8 +134,8 @@ const LOSING: &[u8] =
 #[test]
 fn an_agent_settles_between_acknowledgements(rt: HostRuntime) -> Result<(), Fail> {
     let hold = Hold {
-        at: moment(0, Point::BeforeAck, 2),
-        until: moment(1, Point::AfterSettle, 1),
+        at: moment(0, Point::BeforeAck, 2, 0),
+        until: moment(1, Point::AfterSettle, 1, 0),
     };
     let gate = HoldGate::new(hold, hold);
     let lines: &[u8] = b"ticket 0 report program=3 epoch=0 span=0..1 taken=1 answered=1 ";
@@ -134,12 +148,12 @@ fn an_agent_settles_between_acknowledgements(rt: HostRuntime) -> Result<(), Fail
 #[test]
 fn an_agent_answers_after_the_last_acknowledgement(rt: HostRuntime) -> Result<(), Fail> {
     let datapath = Hold {
-        at: moment(0, Point::BeforeAck, 2),
-        until: moment(1, Point::AfterTake, 1),
+        at: moment(0, Point::BeforeAck, 2, 0),
+        until: moment(1, Point::AfterTake, 1, 0),
     };
     let agent = Hold {
-        at: moment(1, Point::AfterTake, 1),
-        until: moment(0, Point::AfterAck, 3),
+        at: moment(1, Point::AfterTake, 1, 0),
+        until: moment(0, Point::AfterAck, 3, 0),
     };
     let gate = HoldGate::new(datapath, agent);
     let lines: &[u8] =
@@ -158,17 +172,147 @@ const ONE_STEP: &[u8] =
 #[test]
 fn a_program_is_installed_between_acknowledgements(rt: HostRuntime) -> Result<(), Fail> {
     let installer = Hold {
-        at: moment(1, Point::AfterTake, 1),
-        until: moment(0, Point::AfterAck, 1),
+        at: moment(1, Point::AfterTake, 1, 0),
+        until: moment(0, Point::AfterAck, 1, 0),
     };
     let datapath = Hold {
-        at: moment(0, Point::BeforeAck, 2),
-        until: moment(1, Point::AfterSettle, 1),
+        at: moment(0, Point::BeforeAck, 2, 0),
+        until: moment(1, Point::AfterSettle, 1, 0),
     };
     let gate = HoldGate::new(installer, datapath);
     let lines: &[u8] =
         b"epoch 0 step=0 at=1 cwnd=4344\nreport program=0 epoch=0 span=1..2 now=40000 cwnd=4344 rate=0\nend acks=2 reports=1 tail=2..2 stopped=no cwnd=4344 rate=0\n";
     assert!(rt; shows(&rt, rt.alloc(), "rollout", ONE_STEP, &gate, lines)?);
+    assert!(rt; gate.held() == Some(2));
+    Ok(())
+}
+
+/// In `timeline` two workers run cases at once: the first is held before its case until the second has done one.
+#[test]
+fn two_workers_make_a_timeline(rt: HostRuntime) -> Result<(), Fail> {
+    let gate = held_before_a_case();
+    assert!(rt; is_one_output(&rt, rt.alloc(), "timeline", &gate)?);
+    assert!(rt; gate.held() == Some(1));
+    assert!(rt; gate.passed(Point::InCase) == 2);
+    Ok(())
+}
+
+/// Three flows of Reno's, with four acknowledgements, two and one.
+const THREE_FLOWS: &[u8] =
+    b"{\"version\":1,\"traces\":{\"t\":\"10\\n\"},\"cases\":[{\"name\":\"a\",\"agent\":\"reno\",\"trace\":\"t\",\"mss\":1448,\"queue\":10,\"delay_us\":20000,\"timeout_us\":1000000,\"acks\":4},{\"name\":\"b\",\"agent\":\"reno\",\"trace\":\"t\",\"mss\":1448,\"queue\":10,\"delay_us\":20000,\"timeout_us\":1000000,\"acks\":2},{\"name\":\"c\",\"agent\":\"reno\",\"trace\":\"t\",\"mss\":1448,\"queue\":10,\"delay_us\":20000,\"timeout_us\":1000000,\"acks\":1}]}";
+
+/// Worker 0 has flows 0 and 2, of which flow 2 ends first. It is held before the acknowledgement of flow 2 until worker 1
+/// has asked flow 1 three times, and again before the last one of flow 0, which it comes to as its seventh.
+#[test]
+fn a_datapath_serves_two_flows_to_their_ends(rt: HostRuntime) -> Result<(), Fail> {
+    let second = Hold {
+        at: moment(0, Point::BeforeAck, 2, 2),
+        until: moment(1, Point::AfterAck, 3, 1),
+    };
+    let last = Hold {
+        at: moment(0, Point::BeforeAck, 7, 0),
+        until: moment(1, Point::BeforeAck, 3, 1),
+    };
+    let gate = HoldGate::new(second, last);
+    let words = ["ccp", "live", "--datapaths", "2"];
+    let lines: &[u8] = b"flow 2 case=c agent=reno\n";
+    assert!(rt; shows_on(&rt, rt.alloc(), &words, THREE_FLOWS, &gate, lines)?);
+    assert!(rt; gate.held() == Some(2));
+    Ok(())
+}
+
+/// A flow with three acknowledgements, whose programs fault at each.
+const FAULTING: &[u8] =
+    b"{\"version\":1,\"programs\":{\"p\":\"(def (x 0)) (when true (:= x (- 0 1)))\"},\"traces\":{\"t\":\"10\\n\"},\"cases\":[{\"name\":\"a\",\"agent\":\"reno\",\"trace\":\"t\",\"mss\":1448,\"queue\":10,\"delay_us\":20000,\"timeout_us\":1000000,\"acks\":3,\"ss\":\"p\",\"ca\":\"p\"}]}";
+
+/// The program faults at the first acknowledgement, and the datapath is held before the second one until the agent has
+/// changed it.
+#[test]
+fn a_fault_is_answered_between_acknowledgements(rt: HostRuntime) -> Result<(), Fail> {
+    let hold = Hold {
+        at: moment(0, Point::BeforeAck, 2, 0),
+        until: moment(1, Point::AfterSettle, 1, 0),
+    };
+    let gate = HoldGate::new(hold, hold);
+    let lines: &[u8] = b"epoch 1 program=3 at=1 ";
+    assert!(rt; shows(&rt, rt.alloc(), "live", FAULTING, &gate, lines)?);
+    assert!(rt; gate.held() == Some(1));
+    Ok(())
+}
+
+/// Two flows with one acknowledgement each, which shows a loss in a report.
+const TWO_LOSING: &[u8] =
+    b"{\"version\":1,\"programs\":{\"p\":\"(def (Report (volatile loss 0))) (when true (:= Report.loss 1) (report))\"},\"traces\":{\"t\":\"10\\n\"},\"cases\":[{\"name\":\"a\",\"agent\":\"reno\",\"trace\":\"t\",\"mss\":1448,\"queue\":10,\"delay_us\":20000,\"timeout_us\":1000000,\"acks\":1,\"ss\":\"p\",\"ca\":\"p\"},{\"name\":\"b\",\"agent\":\"reno\",\"trace\":\"t\",\"mss\":1448,\"queue\":10,\"delay_us\":20000,\"timeout_us\":1000000,\"acks\":1,\"ss\":\"p\",\"ca\":\"p\"}]}";
+
+/// An agent's first taking, of either flow.
+fn first_taking(worker: u32) -> Moment {
+    Moment {
+        worker,
+        point: Point::AfterTake,
+        time: 1,
+        number: None,
+    }
+}
+
+/// Each of two agents is held with its ticket until the other one has one.
+#[test]
+fn two_agents_answer_at_once(rt: HostRuntime) -> Result<(), Fail> {
+    let one = Hold {
+        at: first_taking(1),
+        until: first_taking(2),
+    };
+    let other = Hold {
+        at: first_taking(2),
+        until: first_taking(1),
+    };
+    let gate = HoldGate::new(one, other);
+    let words = ["ccp", "live", "--agents", "2"];
+    let lines: &[u8] = b"flow 1 case=b agent=reno\n";
+    assert!(rt; shows_on(&rt, rt.alloc(), &words, TWO_LOSING, &gate, lines)?);
+    assert!(rt; gate.held() == Some(2));
+    Ok(())
+}
+
+/// The agent is held with its first ticket until the second acknowledgement, and the datapath before the third one until
+/// the agent has settled twice.
+#[test]
+fn an_agent_settles_twice_between_acknowledgements(rt: HostRuntime) -> Result<(), Fail> {
+    let agent = Hold {
+        at: moment(1, Point::AfterTake, 1, 0),
+        until: moment(0, Point::AfterAck, 2, 0),
+    };
+    let datapath = Hold {
+        at: moment(0, Point::BeforeAck, 3, 0),
+        until: moment(1, Point::AfterSettle, 2, 0),
+    };
+    let gate = HoldGate::new(agent, datapath);
+    let lines: &[u8] = b"ticket 1 report program=3 epoch=0 span=1..2 taken=2 answered=2 ";
+    assert!(rt; shows(&rt, rt.alloc(), "live", LOSING, &gate, lines)?);
+    assert!(rt; gate.held() == Some(2));
+    Ok(())
+}
+
+/// Two flows with two acknowledgements and two steps each.
+const TWO_STEPS: &[u8] =
+    b"{\"version\":1,\"programs\":{\"p\":\"(def) (when true (report))\"},\"traces\":{\"t\":\"10\\n\"},\"cases\":[{\"name\":\"a\",\"trace\":\"t\",\"mss\":1448,\"queue\":10,\"delay_us\":20000,\"timeout_us\":1000000,\"acks\":2,\"cwnd\":4344,\"steps\":[\"p\",\"p\"]},{\"name\":\"b\",\"trace\":\"t\",\"mss\":1448,\"queue\":10,\"delay_us\":20000,\"timeout_us\":1000000,\"acks\":2,\"cwnd\":4344,\"steps\":[\"p\",\"p\"]}]}";
+
+/// Of two datapaths and three installers, which are workers 2 to 4: worker 0 is held before its first acknowledgement
+/// until worker 2 has changed flow 0 to its second step, and worker 3 with the second step of flow 1 until worker 1 has
+/// made an acknowledgement.
+#[test]
+fn installers_go_through_the_steps_of_their_flows(rt: HostRuntime) -> Result<(), Fail> {
+    let datapath = Hold {
+        at: moment(0, Point::BeforeAck, 1, 0),
+        until: moment(2, Point::AfterSettle, 2, 0),
+    };
+    let installer = Hold {
+        at: moment(3, Point::AfterTake, 2, 1),
+        until: moment(1, Point::AfterAck, 1, 1),
+    };
+    let gate = HoldGate::new(datapath, installer);
+    let words = ["ccp", "rollout", "--datapaths", "2", "--agents", "3"];
+    let lines: &[u8] = b"epoch 0 step=0 at=0 cwnd=4344\nepoch 1 step=1 at=0 cwnd=4344\n";
+    assert!(rt; shows_on(&rt, rt.alloc(), &words, TWO_STEPS, &gate, lines)?);
     assert!(rt; gate.held() == Some(2));
     Ok(())
 }

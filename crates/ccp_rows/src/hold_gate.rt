@@ -8,12 +8,27 @@ const TURNS: u32 = 2_000_000;
 /// How many loads a turn makes.
 const LOADS: u32 = 1000;
 
-/// A worker's passing of a point, by how often it passed there, from 1 on.
-#[derive(Clone, Copy, PartialEq, Eq)]
+/// A worker's passing of a point, by how often it passed there, from 1 on, and the number of the flow or case there; None
+/// where either of several may come.
+#[derive(Clone, Copy)]
 pub(crate) struct Moment {
     pub(crate) worker: u32,
     pub(crate) point: Point,
     pub(crate) time: u64,
+    pub(crate) number: Option<u32>,
+}
+
+/// Whether a passing comes at a moment, by whatever number.
+fn is_at(moment: Moment, worker: u32, point: Point, time: u64) -> bool {
+    moment.worker == worker && moment.point == point && moment.time == time
+}
+
+/// Whether the moment has this number.
+fn has_number(moment: Moment, number: u32) -> bool {
+    match moment.number {
+        Some(wanted) => wanted == number,
+        None => true,
+    }
 }
 
 /// A worker waits at one moment until another moment has come.
@@ -67,12 +82,14 @@ impl Passed {
 pub(crate) struct HoldGate {
     first: Passed,
     second: Passed,
+    third: Passed,
+    fourth: Passed,
     others: Passed,
     one: Hold,
     other: Hold,
     /// How many holds came to their end in time.
     held: AtomicU64,
-    /// How many didn't.
+    /// How many didn't, and how often a worker came to a moment of theirs with another number.
     failed: AtomicU64,
 }
 
@@ -82,6 +99,8 @@ impl HoldGate {
         HoldGate {
             first: Passed::new(),
             second: Passed::new(),
+            third: Passed::new(),
+            fourth: Passed::new(),
             others: Passed::new(),
             one,
             other,
@@ -90,7 +109,7 @@ impl HoldGate {
         }
     }
 
-    /// How many holds came to their end in time; None where one didn't.
+    /// How many holds came to their end in time; None where one didn't, or a number was another one.
     pub(crate) fn held(&self) -> Option<u64> {
         if self.failed.load(Ordering::SeqCst) > 0 {
             return None;
@@ -102,8 +121,14 @@ impl HoldGate {
     pub(crate) fn passed(&self, point: Point) -> u64 {
         let first = self.first.at(point).load(Ordering::SeqCst);
         let second = self.second.at(point).load(Ordering::SeqCst);
+        let third = self.third.at(point).load(Ordering::SeqCst);
+        let fourth = self.fourth.at(point).load(Ordering::SeqCst);
         let others = self.others.at(point).load(Ordering::SeqCst);
-        first.saturating_add(second).saturating_add(others)
+        first
+            .saturating_add(second)
+            .saturating_add(third)
+            .saturating_add(fourth)
+            .saturating_add(others)
     }
 
     /// The counts of a worker.
@@ -111,6 +136,8 @@ impl HoldGate {
         match worker {
             0 => &self.first,
             1 => &self.second,
+            2 => &self.third,
+            3 => &self.fourth,
             _ => &self.others,
         }
     }
@@ -138,17 +165,26 @@ fn has_come(count: &AtomicU64, time: u64) -> bool {
     false
 }
 
+impl HoldGate {
+    /// Compares the number of a passing with that of a moment that it comes at.
+    fn compare(&self, moment: Moment, worker: u32, point: Point, time: u64, number: u32) {
+        if is_at(moment, worker, point, time) && !has_number(moment, number) {
+            self.failed.fetch_add(1, Ordering::SeqCst);
+        }
+    }
+}
+
 impl Gate for HoldGate {
-    fn pass(&self, worker: u32, point: Point, _number: u32) {
+    fn pass(&self, worker: u32, point: Point, number: u32) {
         let before = self.of(worker).at(point).fetch_add(1, Ordering::SeqCst);
-        let moment = Moment {
-            worker,
-            point,
-            time: before.saturating_add(1),
-        };
-        if moment == self.one.at {
+        let time = before.saturating_add(1);
+        self.compare(self.one.at, worker, point, time, number);
+        self.compare(self.one.until, worker, point, time, number);
+        self.compare(self.other.at, worker, point, time, number);
+        self.compare(self.other.until, worker, point, time, number);
+        if is_at(self.one.at, worker, point, time) {
             self.hold(self.one.until);
-        } else if moment == self.other.at {
+        } else if is_at(self.other.at, worker, point, time) {
             self.hold(self.other.until);
         }
     }

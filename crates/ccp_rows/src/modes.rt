@@ -16,7 +16,7 @@ const ONE_ROLLOUT: &[u8] =
 const NO_CASES: &[u8] = b"{\"version\":1,\"traces\":{},\"cases\":[]}\n---\n";
 
 /// Words, an input, and how the output begins.
-const RUNS: [(&[&str], &[u8], &[u8]); 4] = [
+const RUNS: [(&[&str], &[u8], &[u8]); 6] = [
     (&["ccp", "campaign", "--wire"], ONE_CASE, b"install 0 0301"),
     (&["ccp", "live", "--wire"], ONE_CASE, b"install 0 0301"),
     (
@@ -25,6 +25,12 @@ const RUNS: [(&[&str], &[u8], &[u8]); 4] = [
         b"flow 0 case=a\nstep 0 installed at=0\n",
     ),
     (&["ccp", "audit"], NO_CASES, b"yes\n"),
+    (&["ccp", "timeline", "--wire"], ONE_CASE, b"install 0 0301"),
+    (
+        &["ccp", "acks"],
+        ONE_CASE,
+        b"flow 0 case=a agent=reno\nbytes_acked=1448 packets_acked=1 now=30000 ",
+    ),
 ];
 
 /// Whether a run on these words ends well, with an output that begins so.

@@ -11,6 +11,11 @@ pub mod ReadLemmas
 mod CodedLemmas
 pub mod CampaignLemmas
 pub mod LiveLemmas
+pub mod TimelineLemmas
 pub mod AuditLemmas
+mod AcksBackLemmas
+mod AlikeLemmas
+mod RowLaw
+mod AuditedLemmas
 pub mod SharedLemmas
 pub mod RolloutLemmas

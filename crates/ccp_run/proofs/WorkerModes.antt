@@ -1,13 +1,16 @@
 -- The modes that have workers have what the theorem asks of a mode, and so has every task.
-use Rattle.std.proofs.Common.{◌≡◌, refl, inl, ℕ, Bool, List}
+use Rattle.std.proofs.Common.{◌≡◌, ◌⊎◌, refl, inl, inr, ℕ, Bool, List}
+use Rattle.scenario_json.specs.declared.fault.SceneFault.{SceneFault}
 use Rattle.scenario_json.specs.declared.mode.SceneMode.{SceneMode}
 use Rattle.scenario_json.specs.declared.mode.SceneMode.TheVariants as scene
 use Rattle.scenario_json.specs.Rollout.{rollout_of}
 use Rattle.scenario_json.specs.Scene.{scene_of}
 use Rattle.scenario_json.specs.SharedScenes.{shared_scene_of}
-use Rattle.ccp_run.specs.Modes.{Task, Alone, Live, Campaign, Soak, Rollout, Shared}
+use Rattle.ccp_run.specs.declared.outcome.ModeOutput.{ModeOutput}
+use Rattle.ccp_run.specs.declared.refusal.Refusal.{Refusal}
+use Rattle.ccp_run.specs.Modes.{Task, Alone, Live, Campaign, Soak, Rollout, Shared, Timeline, Acks, IsInput, IsMade, IsRefused}
 use Rattle.ccp_run.specs.Rollout.{SaysRollout, HasRolloutFault}
-use Rattle.ccp_run.specs.Scenes.{Says, HasFault}
+use Rattle.ccp_run.specs.Scenes.{Says, HasFault, IsOfScene, SaysSomething}
 use Rattle.ccp_run.specs.Settled.{IsSettled}
 use Rattle.ccp_run.specs.Shared.{SaysShared, HasSharedFault}
 use Rattle.ccp_run.proofs.AloneModes.{alone_mode}
@@ -17,53 +20,53 @@ use Rattle.ccp_run.proofs.ScenarioInputs.{AreApart, by_function, by_readings, so
 scenes_apart : (mode : SceneMode) (bytes : List ℕ) → AreApart (Says mode bytes) (HasFault mode bytes)
 scenes_apart mode bytes = by_readings (λ read. scene_of read mode bytes)
 
+-- a mode whose inputs say something, or have a first fault
+settled_by : (task : Task) (bytes : List ℕ) {Said : Type 0} (says : Said → Type 0) (has : SceneFault → Type 0) → AreApart says has
+    → (SaysSomething says → IsInput task bytes) → (IsInput task bytes → SaysSomething says)
+    → ((refusal : Refusal) → IsOfScene has refusal → IsRefused task bytes refusal)
+    → ((refusal : Refusal) → IsRefused task bytes refusal → IsOfScene has refusal)
+    → ((output : ModeOutput) → IsMade task bytes output → IsInput task bytes)
+    → IsSettled task bytes
+settled_by task bytes says has parted input said refused of made = record {
+  some = either (some_input says has parted);
+  apart = λ refusal i r. not_both says has parted refusal (said i) (of refusal r);
+  one_refusal = λ left right l r. one_refused says has parted left right (of left l) (of right r);
+  made = made;
+}
+  where
+    either : SaysSomething says ⊎ ((refusal : Refusal) × IsOfScene has refusal) → IsInput task bytes ⊎ ((refusal : Refusal) × IsRefused task bytes refusal)
+    either (inl some) = inl (input some)
+    either (inr bad) = inr (bad.0, refused bad.0 bad.1)
+
 settled_live : (wire : Bool) (bytes : List ℕ) → IsSettled (Live wire) bytes
 settled_live wire bytes =
-    let says = Says scene.Live bytes in
-    let has = HasFault scene.Live bytes in
-    let parted = scenes_apart scene.Live bytes in
-    record {
-      some = some_input says has parted;
-      apart = not_both says has parted;
-      one_refusal = one_refused says has parted;
-      made = λ output made. (_, made.scenario.text);
-    }
+    settled_by (Live wire) bytes (Says scene.Live bytes) (HasFault scene.Live bytes) (scenes_apart scene.Live bytes)
+    (λ i. i) (λ i. i) (λ refusal r. r) (λ refusal r. r) (λ output made. (_, made.scenario.text))
 
 settled_campaign : (wire : Bool) (bytes : List ℕ) → IsSettled (Campaign wire) bytes
 settled_campaign wire bytes =
-    let says = Says scene.Campaign bytes in
-    let has = HasFault scene.Campaign bytes in
-    let parted = scenes_apart scene.Campaign bytes in
-    record {
-      some = some_input says has parted;
-      apart = not_both says has parted;
-      one_refusal = one_refused says has parted;
-      made = λ output made. (_, made.scenario.text);
-    }
+    settled_by (Campaign wire) bytes (Says scene.Campaign bytes) (HasFault scene.Campaign bytes) (scenes_apart scene.Campaign bytes)
+    (λ i. i) (λ i. i) (λ refusal r. r) (λ refusal r. r) (λ output made. (_, made.scenario.text))
 
 settled_rollout : (bytes : List ℕ) → IsSettled Rollout bytes
 settled_rollout bytes =
-    let says = SaysRollout bytes in
-    let has = HasRolloutFault bytes in
-    let parted : AreApart says has = by_function (rollout_of bytes) in
-    record {
-      some = some_input says has parted;
-      apart = not_both says has parted;
-      one_refusal = one_refused says has parted;
-      made = λ output made. (_, made.scenario.text);
-    }
+    settled_by Rollout bytes (SaysRollout bytes) (HasRolloutFault bytes) (by_function (rollout_of bytes))
+    (λ i. i) (λ i. i) (λ refusal r. r) (λ refusal r. r) (λ output made. (_, made.scenario.text))
 
 settled_shared : (bytes : List ℕ) → IsSettled Shared bytes
 settled_shared bytes =
-    let says = SaysShared bytes in
-    let has = HasSharedFault bytes in
-    let parted : AreApart says has = by_readings (λ read. shared_scene_of read bytes) in
-    record {
-      some = some_input says has parted;
-      apart = not_both says has parted;
-      one_refusal = one_refused says has parted;
-      made = λ output made. (_, made.scenario.text);
-    }
+    settled_by Shared bytes (SaysShared bytes) (HasSharedFault bytes) (by_readings (λ read. shared_scene_of read bytes))
+    (λ i. i) (λ i. i) (λ refusal r. r) (λ refusal r. r) (λ output made. (_, made.scenario.text))
+
+settled_timeline : (wire : Bool) (bytes : List ℕ) → IsSettled (Timeline wire) bytes
+settled_timeline wire bytes =
+    settled_by (Timeline wire) bytes (Says scene.Live bytes) (HasFault scene.Live bytes) (scenes_apart scene.Live bytes)
+    (λ i. i) (λ i. i) (λ refusal r. r) (λ refusal r. r) (λ output made. (_, made.scenario.text))
+
+settled_acks : (bytes : List ℕ) → IsSettled Acks bytes
+settled_acks bytes =
+    settled_by Acks bytes (Says scene.Live bytes) (HasFault scene.Live bytes) (scenes_apart scene.Live bytes)
+    (λ i. i) (λ i. i) (λ refusal r. r) (λ refusal r. r) (λ output made. (_, made.scenario.text))
 
 soak_mode : (number : ℕ) → IsMode (Soak number)
 soak_mode number = record {
@@ -85,3 +88,5 @@ is_mode (Campaign wire) = reads_to_end (Campaign wire) (settled_campaign wire) r
 is_mode (Soak number) = soak_mode number
 is_mode Rollout = reads_to_end Rollout settled_rollout refl refl (λ bytes. (refl, tt))
 is_mode Shared = reads_to_end Shared settled_shared refl refl (λ bytes. (refl, tt))
+is_mode (Timeline wire) = reads_to_end (Timeline wire) (settled_timeline wire) refl refl (λ bytes. (refl, tt))
+is_mode Acks = reads_to_end Acks settled_acks refl refl (λ bytes. (refl, tt))

@@ -10,6 +10,8 @@ pub mod Scenes
 pub mod Campaign
 pub mod Soak
 pub mod Live
+pub mod Timeline
+pub mod AcksRuns
 pub mod AuditRuns
 pub mod Shared
 pub mod Rollout
@@ -20,4 +22,5 @@ pub mod FeedEndings
 pub mod Run
 pub mod Complete
 pub mod Settled
+pub mod TextLaws
 pub mod Tool

@@ -10,6 +10,7 @@ use Rattle.ccp_run.specs.declared.refusal.Limit.{Limit}
 use Rattle.ccp_run.specs.declared.refusal.Refusal.{Refusal}
 use Rattle.ccp_run.specs.ErrorLine.{most_bytes}
 use Rattle.ccp_run.specs.Rules.{Rules}
+use Rattle.ccp_run.specs.AcksRuns.{acks_rules}
 use Rattle.ccp_run.specs.AuditRuns.{audit_rules}
 use Rattle.ccp_run.specs.Campaign.{campaign_rules}
 use Rattle.ccp_run.specs.Check.{check_rules}
@@ -19,6 +20,7 @@ use Rattle.ccp_run.specs.Live.{live_rules}
 use Rattle.ccp_run.specs.Rollout.{rollout_rules}
 use Rattle.ccp_run.specs.Shared.{shared_rules}
 use Rattle.ccp_run.specs.Soak.{soak_rules}
+use Rattle.ccp_run.specs.Timeline.{timeline_rules}
 
 -- what a run is to do: the mode, and the options that its output depends on. How many workers there are isn't one.
 pub data Task : Type 0 where
@@ -31,6 +33,9 @@ pub data Task : Type 0 where
   Soak : ℕ → Task
   Rollout : Task
   Shared : Task
+  -- whether the programs' Install frames are shown
+  Timeline : Bool → Task
+  Acks : Task
 
 -- what this mode is to do, with these options
 abbrev pub task_in : ToolMode → Asked → Task
@@ -40,6 +45,8 @@ task_in mode.Campaign asked = Campaign asked.wire
 task_in mode.Soak asked = Soak asked.number
 task_in mode.Rollout asked = Rollout
 task_in mode.Shared asked = Shared
+task_in mode.Timeline asked = Timeline asked.wire
+task_in mode.Acks asked = Acks
 
 -- the rules of a task's mode
 abbrev pub rules_of : Task → Rules
@@ -52,6 +59,8 @@ rules_of (Campaign wire) = campaign_rules wire
 rules_of (Soak number) = soak_rules number
 rules_of Rollout = rollout_rules
 rules_of Shared = shared_rules
+rules_of (Timeline wire) = timeline_rules wire
+rules_of Acks = acks_rules
 
 -- ---- for every mode
 

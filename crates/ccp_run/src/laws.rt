@@ -1,6 +1,22 @@
 ghost use Rattle.ccp_run.specs.Settled.{AreSettled};
+ghost use Rattle.ccp_run.specs.TextLaws.{AuditsTimelines, ReadsAcksBack, TellsRows};
 
 /// The law of inputs: of each mode, bytes are an input or have one first refusal, and not both.
 pub fn input_law()
     ensures { AreSettled }
+{}
+
+/// A law: `audit` of a scenario and its timeline says yes.
+pub fn timeline_audited_law()
+    ensures { AuditsTimelines }
+{}
+
+/// A law: `fold` reads the lines of acknowledgements as these acknowledgements.
+pub fn acks_read_back_law()
+    ensures { ReadsAcksBack }
+{}
+
+/// A law: the row that `campaign` has of a flow agrees with the lines of its timeline.
+pub fn timeline_row_law()
+    ensures { TellsRows }
 {}

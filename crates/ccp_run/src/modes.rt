@@ -1,5 +1,6 @@
 //! The modes, and which call does the work of each.
 
+mod acks;
 mod audit;
 mod campaign;
 mod check;
@@ -9,6 +10,7 @@ mod live;
 mod rollout;
 mod shared;
 mod soak;
+mod timeline;
 
 ghost use Rattle.std.specs.Prelude.{◌≡◌, false};
 ghost use Rattle.ccp_words.specs.Words.{HasWorkers};
@@ -22,6 +24,7 @@ use crate::outcome::{ModeOutput, Outcome};
 use crate::reading::read_bytes;
 use crate::refusal::Limit;
 use crate::stop::Stop;
+use acks::read_acks;
 use audit::audit_output;
 use campaign::read_campaign;
 use ccp_base::{Gate, Sink, Source};
@@ -36,6 +39,7 @@ use soak::soak_output;
 use std::alloc::Global;
 use std::sync::Wait;
 use std::thread::Threads;
+use timeline::read_timeline;
 
 // ---- the modes whose work is done by their caller alone
 
@@ -104,7 +108,9 @@ pub fn asked_run<R: Threads + Wait + Sync, S: Source, K: Sink, E: Sink, G: Gate 
         | ToolMode::Campaign
         | ToolMode::Soak
         | ToolMode::Rollout
-        | ToolMode::Shared => workers_run(rt, alloc, asked, source, sink, errors, gate),
+        | ToolMode::Shared
+        | ToolMode::Timeline
+        | ToolMode::Acks => workers_run(rt, alloc, asked, source, sink, errors, gate),
     }
 }
 
@@ -128,6 +134,8 @@ fn attempt<R: Threads + Wait + Sync, S: Source, G: Gate + Sync>(
         ToolMode::Soak => soak_output(rt, alloc, workers, asked.number, gate),
         ToolMode::Rollout => read_rollout(rt, alloc, datapaths, agents, source, gate),
         ToolMode::Shared => read_shared(rt, alloc, workers, source, gate),
+        ToolMode::Timeline => read_timeline(rt, alloc, workers, wire, source, gate),
+        ToolMode::Acks => read_acks(rt, alloc, workers, source, gate),
     }
 }
 

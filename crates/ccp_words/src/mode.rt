@@ -30,6 +30,10 @@ pub enum ToolMode {
     Rollout,
     /// Several flows over one bottleneck.
     Shared,
+    /// A scenario's cases on workers, as the reports of each flow.
+    Timeline,
+    /// A scenario's cases on workers, as the acknowledgements of each flow.
+    Acks,
 }
 
 /// A name that no mode has.
@@ -42,6 +46,7 @@ pub(crate) fn names<'a>() -> &'a [&'a str]
 {
     &[
         "check", "fold", "feed", "audit", "live", "campaign", "soak", "rollout", "shared",
+        "timeline", "acks",
     ]
 }
 
@@ -59,6 +64,8 @@ fn named(name: &str) -> Option<ToolMode>
         "soak" => Some(ToolMode::Soak),
         "rollout" => Some(ToolMode::Rollout),
         "shared" => Some(ToolMode::Shared),
+        "timeline" => Some(ToolMode::Timeline),
+        "acks" => Some(ToolMode::Acks),
         _ => None,
     }
 }

@@ -3,4 +3,5 @@ pub mod RolloutText
 pub mod WholeBooks
 pub mod BookText
 pub mod Tables
+pub mod Crews
 pub mod LettersLeft

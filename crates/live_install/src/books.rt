@@ -1,10 +1,12 @@
-ghost use Rattle.std.specs.Prelude.{◌≡◌, ◌<◌, [], map, IfOk, OnOk};
+ghost use Rattle.std.specs.Prelude.{◌≡◌, ◌<◌, [], map, IfOk, OnOk, length};
 ghost use Rattle.std.specs.List.{All};
 ghost use Rattle.scenario_json.specs.ScenePrograms.{TextReading, ReadsTexts};
 ghost use Rattle.open_flow.specs.OpenCells.{IsComplete};
+ghost use Rattle.live_install.specs.Crews.{HasWorked};
 ghost use Rattle.live_install.specs.Tables.{case_of};
 ghost use Rattle.live_install.specs.WholeBooks.{IsWhole, case_in};
 
+use crate::crew::Crew;
 use crate::turn::next;
 use crate::{OpenBooks, OpenCells};
 use ccp_base::NoMemory;
@@ -14,11 +16,19 @@ use std::alloc::Global;
 use std::marker::Brand;
 use std::sync::ledger::{Blank, Ledger};
 
-/// The books of flows, in order.
-pub(crate) fn books(alloc: Global, cells: OpenCells) -> Result<OpenBooks, NoMemory>
+/// The books of flows, in order, once the work of each of their workers is done.
+pub(crate) fn books(
+    alloc: Global,
+    cells: OpenCells,
+    datapaths: u32,
+    agents: u32,
+    crew: Crew,
+) -> Result<OpenBooks, NoMemory>
+    requires { HasWorked crew datapaths agents (length (map case_of cells)) }
     ensures cases { IfOk result (λ books. map case_in books ≡ map case_of cells) }
     ensures whole { (read : TextReading) → ReadsTexts read → IfOk result (λ books. All (IsWhole read) books) }
 {
+    drop(crew);
     counted::<Brand>(alloc, cells, Blank::new(1))
 }
 

@@ -2,11 +2,15 @@
 #![tactic(auto)]
 
 mod books;
+mod crew;
 mod datapath;
 mod entry_lines;
+mod equipping;
+mod install_desk;
 mod installer;
+mod open_desk;
 mod run;
-mod share;
+mod serving;
 mod table;
 mod text;
 mod turn;

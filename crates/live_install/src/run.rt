@@ -7,6 +7,7 @@ ghost use Rattle.live_install.specs.WholeBooks.{IsWhole, case_in};
 
 use crate::OpenBooks;
 use crate::books::books;
+use crate::crew::Workers;
 use crate::table::OpenTable;
 use crate::workers::work;
 use ccp_base::{Gate, NoMemory};
@@ -45,6 +46,7 @@ pub fn rollout<R: Threads + Wait + Sync, G: Gate + Sync>(
     ensures whole { (read : TextReading) → ReadsTexts read → IfOk result (λ books. All (IsWhole read) books) }
 {
     let table = OpenTable::new(alloc, cases)?;
-    work(rt, alloc, &table, datapaths, agents, gate);
-    books(alloc, table.close(alloc)?)
+    let workers = Workers { datapaths, agents };
+    let crew = work(rt, alloc, &table, workers, gate)?;
+    books(alloc, table.close(alloc)?, datapaths, agents, crew)
 }

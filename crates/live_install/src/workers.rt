@@ -1,56 +1,37 @@
-ghost use Rattle.std.specs.Prelude.{◌≤◌};
-ghost use Rattle.ccp_base.specs.Limits.{most_workers};
+ghost use Rattle.std.specs.Prelude.{IfOk, length};
+ghost use Rattle.live_install.specs.Crews.{HasWorked};
 
-use crate::datapath::serve;
-use crate::installer::equip;
-use crate::share::Share;
+use crate::crew::{Crew, Workers};
 use crate::table::OpenTable;
-use ccp_base::Gate;
+use crate::{equipping, serving};
+use ccp_base::{Gate, NoMemory};
 use std::alloc::Global;
 use std::sync::Wait;
 use std::thread;
 use std::thread::Threads;
 
-/// The workers over the flows of a table, until the last of them is done. A worker that can't be started is run here.
+/// The workers over the flows of a table, until the work of each of them is done. That of a worker for which no thread
+/// can be started is done here.
 pub(crate) fn work<R: Threads + Wait + Sync, G: Gate + Sync>(
     rt: &R,
     alloc: Global,
     table: &OpenTable,
-    datapaths: u32,
-    agents: u32,
+    workers: Workers,
     gate: &G,
-)
-    requires datapaths { (1 ≤ datapaths) × (datapaths ≤ most_workers) }
-    requires agents { (1 ≤ agents) × (agents ≤ most_workers) }
+) -> Result<Crew, NoMemory>
+    ensures { IfOk result (λ crew. HasWorked crew workers.datapaths workers.agents (length table.now)) }
 {
     thread::scope(
         thread::scope_env(),
         rt,
-        move |scope|
-            requires { ((1 ≤ datapaths) × (datapaths ≤ most_workers)) × ((1 ≤ agents) × (agents ≤ most_workers)) }
+        move |scope| -> Result<Crew, NoMemory>
+            ensures { IfOk result (λ crew. HasWorked crew workers.datapaths workers.agents (length table.entry.now)) }
         {
-            for agent in 0..agents {
-                let share = Share {
-                    worker: datapaths + agent,
-                    workers: agents,
-                    first: agent,
-                };
-                let started = scope.spawn(move || equip(rt, alloc, table, share, gate));
-                if started.is_err() {
-                    equip(rt, alloc, table, share, gate);
-                }
-            }
-            for worker in 0..datapaths {
-                let share = Share {
-                    worker,
-                    workers: datapaths,
-                    first: worker,
-                };
-                let started = scope.spawn(move || serve(rt, table, share, gate));
-                if started.is_err() {
-                    serve(rt, table, share, gate);
-                }
-            }
+            let equippings = equipping::begin_all(scope, rt, alloc, table, workers, gate)?;
+            let servings = serving::begin_all(scope, rt, alloc, table, workers, gate)?;
+            let equipped = equipping::end_all(rt, alloc, equippings)?;
+            let served = serving::end_all(rt, alloc, servings)?;
+            Ok(Crew { served, equipped })
         },
     )
 }

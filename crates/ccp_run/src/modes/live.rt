@@ -95,7 +95,12 @@ fn lived<R: Threads + Wait + Sync, G: Gate + Sync>(
 }
 
 /// The text of books that tell of their words, after the programs' frames where they are asked for.
-fn written(alloc: Global, wire: bool, books: &Books, programs: &Builts) -> Result<Bytes, NoMemory>
+pub fn written(
+    alloc: Global,
+    wire: bool,
+    books: &Books,
+    programs: &Builts,
+) -> Result<Bytes, NoMemory>
     requires { All (IsRightBook programs.now) books.now }
     ensures { IfOk result (λ text. text ≡ books_written wire programs.now books.now) }
 {

@@ -9,3 +9,6 @@ returns-in_err-close-clause-readable g c = some_reading
 
 pub returns-clause-readable : goal.returns-clause-readable
 returns-clause-readable g c = some_reading
+
+pub returns-in_err-crew-clause-readable : goal.returns-in_err-crew-clause-readable
+returns-in_err-crew-clause-readable g c = some_reading

@@ -1,9 +1,9 @@
-use Rattle.std.proofs.Common.{◌≡◌, ◌∷◌, [], ◌++◌, sym, ap, ◌∙◌, subst, refl, max}
+use Rattle.std.proofs.Common.{◌≡◌, ◌∷◌, [], ◌++◌, List, option_map, sym, ap, ◌∙◌, subst, refl, max}
 use Rattle.ccp_base.specs.declared.ack.Ack.{Ack}
 use Rattle.flow_core.specs.World.{World}
 use Rattle.flow_core.specs.Cells.{world_at, ack_at}
 use Rattle.campaign_gate.specs.Walks.{with_ack, AreRoomy}
-use Rattle.campaign_gate.proofs.WalkLemmas.{last-is, roomy-heard}
+use Rattle.campaign_gate.proofs.WalkLemmas.{last-is, roomy-heard, on-ok}
 use Rattle.campaign_gate.proofs.walk.Walk.hear.Goals as goal
 
 pub with-self-requires : goal.with-self-requires
@@ -22,9 +22,12 @@ returns g c =
     ap (λ (w : World _). w.acks) c.in-Ok.ensures.world in
     let is : c.in-Some.ack ≡ ack_at old.cell =
     last-is (world_at old.cell).acks (world_at c.ack.new.self).acks c.in-Some.ack (ack_at old.cell) made (sym c.last.ensures ∙ c.in-Some.is) in
-    record {
+    on-ok c.keep.result
+    (λ kept. record {
       cell = c.in-Ok.ensures.ok;
       taken = refl;
       sums = c.with-self.ensures ∙ ap (λ (ack : Ack). with_ack ack old.sums) is;
       peak = c.max-self.ensures ∙ ap (max old.peak) c.cwnd.ensures;
-    }
+      heard = kept ∙ ap (λ (ack : Ack). option_map (λ (acks : List Ack). acks ++ ack ∷ []) old.heard) is;
+    })
+    c.keep.ensures

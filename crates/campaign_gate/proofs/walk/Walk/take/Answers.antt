@@ -28,6 +28,7 @@ returns-in-Ok c =
             ∙ ap (λ (acks : List Ack). length acks) (take-keeps (flow_at cell) w).acks;
         sums = refl;
         peak = c.max-self.ensures ∙ ap (max c.args.self.now.peak) c.cwnd.ensures;
+        heard = refl;
       },
     )
 

@@ -1,5 +1,0 @@
-use Rattle.std.proofs.Common.{◌-◌, length}
-use Rattle.agent_loop.proofs.datapath.turn.Given as goal
-
-abbrev pub decreases-loop-flow : goal.decreases-loop-flow
-decreases-loop-flow g l = length l.table - l.flow

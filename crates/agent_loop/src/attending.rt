@@ -1,0 +1,88 @@
+//! The work of agent workers, begun and ended.
+
+ghost use Rattle.std.specs.Prelude.{◌≡◌, map, IfOk, length};
+ghost use Rattle.agent_loop.specs.Crews.{post_of, post};
+
+use crate::agent::attend;
+use ccp_base::{Gate, NoMemory};
+use crossbeam_channel::Receiver;
+use flow_table::FlowTable;
+use std::alloc::Global;
+use std::sync::Wait;
+use std::thread::{PromisedHandle, Scope, Threads};
+use worker_desk::{Attended, Post};
+
+/// The work of an agent worker, which goes on in a thread or is left to the end.
+#[derive(Drop)]
+pub(crate) enum Attending {
+    /// In a thread.
+    Thread(PromisedHandle<Attended, Post>),
+    /// Left to the end, with the worker's number.
+    Left(u32),
+}
+
+/// Begins the work of an agent worker. Where no thread can be started for it, it is left to the end.
+pub(crate) fn begin<'s, 'e, R: Threads + Wait + Sync, G: Gate + Sync>(
+    scope: &'s Scope<'s, &'e ()>,
+    rt: &'e R,
+    alloc: Global,
+    table: &'e FlowTable,
+    worker: u32,
+    receiver: &Receiver<u32, Global>,
+    gate: &'e G,
+) -> Result<Attending, NoMemory>
+    ensures { IfOk result (λ attending. post_of (length table.now) attending ≡ post (length table.now) worker) }
+{
+    let nudges = receiver.clone()?;
+    let promise = Post {
+        worker,
+        flows: table.flows(),
+    };
+    let started = scope.spawn_with(
+        promise,
+        move || -> Attended
+            ensures { result ≡ post (length table.entry.now) worker }
+        { attend(rt, alloc, table, worker, &nudges, gate) },
+    );
+    match started {
+        Ok(handle) => Ok(Attending::Thread(handle)),
+        Err(_) => Ok(Attending::Left(worker)),
+    }
+}
+
+/// The end of an agent worker's work, which is done here where it was left to the end.
+fn end<R: Threads + Wait, G: Gate>(
+    rt: &R,
+    alloc: Global,
+    table: &FlowTable,
+    attending: Attending,
+    receiver: &Receiver<u32, Global>,
+    gate: &G,
+) -> Attended
+    ensures { result ≡ post_of (length table.now) attending }
+{
+    match attending {
+        Attending::Thread(handle) => handle.join(rt),
+        Attending::Left(worker) => attend(rt, alloc, table, worker, receiver, gate),
+    }
+}
+
+/// The ends of the agent workers' work, in order.
+pub(crate) fn end_all<R: Threads + Wait, G: Gate>(
+    rt: &R,
+    alloc: Global,
+    table: &FlowTable,
+    attendings: Vec<Attending>,
+    receiver: &Receiver<u32, Global>,
+    gate: &G,
+) -> Result<Vec<Attended>, NoMemory>
+    ensures { IfOk result (λ all. all.items ≡ map (post_of (length table.now)) attendings.items) }
+{
+    let mut left = attendings;
+    let mut all = Vec::new(alloc);
+    while !left.is_empty() {
+        let attending = left.remove(0);
+        all.push(end(rt, alloc, table, attending, receiver, gate))?;
+    }
+    Ok(all)
+}

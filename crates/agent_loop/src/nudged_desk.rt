@@ -1,0 +1,86 @@
+ghost use Rattle.std.specs.Prelude.{◌≡◌, ℕ, ◌+◌, ◌<◌, ◌≤◌, Option, Some, None, option_map, [], ◌∷◌, length};
+ghost use Rattle.worker_desk.specs.Logs.{Known, Logs};
+ghost use Rattle.worker_desk.specs.declared.event.Event.TheVariants.{Passed, Locked, Unlocked, Received, Took, Settled};
+
+use crate::table_desk::Held;
+use agent_core::{Answer, Ticket};
+use ccp_base::{Gate, Point};
+use crossbeam_channel::Receiver;
+use flow_table::FlowTable;
+use std::alloc::Global;
+use std::sync::Wait;
+use worker_desk::AgentDesk;
+
+/// The desk of an agent worker of a live run.
+#[derive(Drop)]
+pub(crate) struct NudgedDesk<'a, R: Wait, G: Gate> {
+    pub(crate) rt: &'a R,
+    pub(crate) alloc: Global,
+    pub(crate) table: &'a FlowTable,
+    pub(crate) nudges: &'a Receiver<u32, Global>,
+    pub(crate) gate: &'a G,
+    pub(crate) held: Option<Held<'a>>,
+    /// How many numbers may still come; after the last one it waits forever.
+    pub(crate) left: u64,
+}
+
+impl<'a, R: Wait, G: Gate> AgentDesk for NudgedDesk<'a, R, G> {
+    ghost use Rattle.std.specs.Prelude.{None, option_map, length};
+
+    ghost log = { λ d. None };
+
+    ghost held = { λ d. option_map (λ held. held.flow) d.held };
+
+    ghost flows = { λ d. length d.table.now };
+
+    ghost coming = { λ d. d.left };
+
+    fn flow_count(&self) -> u32 {
+        self.table.flows()
+    }
+
+    fn receive(&mut self) -> Option<u32> {
+        if self.left == 0 {
+            for _ in self.rt.forever() {}
+            unreachable!()
+        }
+        self.left -= 1;
+        match self.nudges.recv(self.rt) {
+            Ok(flow) => Some(flow),
+            Err(_) => None,
+        }
+    }
+
+    fn lock(&mut self, flow: u32) {
+        let cell = self.table.cell(flow).lock(self.rt);
+        self.held = Some(Held { flow, cell });
+    }
+
+    fn unlock(&mut self, _flow: u32) {
+        self.held = None;
+    }
+
+    fn take(&mut self, _flow: u32) -> Option<Ticket> {
+        let Some(held) = self.held.take() else {
+            unreachable!()
+        };
+        let Held { flow, mut cell } = held;
+        let taken = cell.take(self.alloc);
+        self.held = Some(Held { flow, cell });
+        taken.ok()
+    }
+
+    fn settle(&mut self, _flow: u32, answer: Answer) {
+        let Some(held) = self.held.take() else {
+            unreachable!()
+        };
+        let Held { flow, mut cell } = held;
+        // The answer is the one to the ticket that is out, since nobody else settles that.
+        let _settled = cell.settle(answer);
+        self.held = Some(Held { flow, cell });
+    }
+
+    fn pass(&mut self, worker: u32, point: Point, flow: u32) {
+        self.gate.pass(worker, point, flow);
+    }
+}

@@ -1,0 +1,50 @@
+ghost use Rattle.std.specs.Prelude.{◌≡◌, IfOk};
+ghost use Rattle.flow_core.specs.declared.case.Case.{Case};
+ghost use Rattle.campaign_gate.specs.CampaignRow.{row_of};
+ghost use Rattle.campaign_gate.specs.CampaignBooks.{planned, acks_of_case};
+
+use crate::completion::completed;
+use crate::row::Row;
+use ccp_base::{Ack, Acks, NoMemory, Sequence};
+use flow_core::{Case, Cell};
+use std::alloc::Global;
+
+/// What a worker makes of each of its cases.
+pub(crate) trait CaseResult: Drop {
+    /// What it is of a case.
+    ghost of_case: { Case → Self };
+
+    /// Runs the case along its campaign word.
+    fn make(alloc: Global, case: Case) -> Result<Self, NoMemory>
+        ensures { IfOk result (λ made. made ≡ of_case case) };
+}
+
+impl CaseResult for Row {
+    ghost of_case = { row_of };
+
+    fn make(alloc: Global, case: Case) -> Result<Row, NoMemory> {
+        let walk = completed(alloc, case, None)?;
+        Ok(walk.row())
+    }
+}
+
+/// The flow after its campaign word, of which a book is made.
+impl CaseResult for Cell {
+    ghost of_case = { planned };
+
+    fn make(alloc: Global, case: Case) -> Result<Cell, NoMemory> {
+        let walk = completed(alloc, case, None)?;
+        Ok(walk.into_cell())
+    }
+}
+
+/// The acknowledgements on the way. A place for each of the case is reserved.
+impl CaseResult for Sequence<Ack> {
+    ghost of_case = { acks_of_case };
+
+    fn make(alloc: Global, case: Case) -> Result<Acks, NoMemory> {
+        let heard = Acks::from_vec(Vec::with_capacity(alloc, case.acks as usize)?);
+        let walk = completed(alloc, case, Some(heard))?;
+        Ok(walk.into_acks())
+    }
+}

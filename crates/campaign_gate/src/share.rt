@@ -1,0 +1,82 @@
+ghost use Rattle.std.specs.Prelude.{◌≡◌, ◌<◌, ◌≤◌, [], List, map, length, IfOk, OnOk};
+ghost use Rattle.ccp_base.specs.Limits.{most_cases, most_workers};
+ghost use Rattle.flow_core.specs.declared.case.Case.{Case};
+ghost use Rattle.campaign_gate.specs.Shares.{every};
+
+use crate::case_result::CaseResult;
+use crate::queue::Queue;
+use ccp_base::{Gate, NoMemory, Point};
+use flow_core::Case;
+use std::alloc::Global;
+use std::marker::{Brand, PhantomData};
+
+/// The cases of a campaign, which the type of a worker's share names.
+pub(crate) trait Campaign {
+    ghost cases: { List Case };
+}
+
+impl Campaign for Brand {
+    ghost cases = { [] };
+}
+
+/// What one of the workers of a campaign made: an item for each case whose number leaves the worker's when it is divided
+/// by the number of workers, in order, and nothing else.
+#[derive(Drop)]
+pub(crate) struct Share<C: Campaign, M: CaseResult> {
+    pub(crate) worker: u32,
+    pub(crate) workers: u32,
+    pub(crate) made: Queue<M>,
+    of: PhantomData<C>,
+    ghost is_share: { made ≡ every workers worker (map M.of_case C.cases) },
+}
+
+/// The work of one worker. It passes the gate at `InCase` before a case and at `AfterCase` after it.
+pub(crate) fn share_of<C: Campaign, M: CaseResult, G: Gate>(
+    alloc: Global,
+    cases: &[Case],
+    workers: u32,
+    worker: u32,
+    gate: &G,
+) -> Result<Share<C, M>, NoMemory>
+    requires cases { cases.now ≡ C.cases }
+    requires few { length cases.now ≤ most_cases }
+    requires workers { (1 ≤ workers) × (workers ≤ most_workers) }
+    requires worker { worker < workers }
+    ensures worker { IfOk result (λ share. share.worker ≡ worker) }
+    ensures workers { IfOk result (λ share. share.workers ≡ workers) }
+{
+    let mut made = Queue::new(alloc);
+    put_share(alloc, &mut made, cases, workers, worker, gate)?;
+    Ok(Share {
+        worker,
+        workers,
+        made,
+        of: PhantomData,
+    })
+}
+
+/// Puts what is made of a worker's cases into a queue that is empty.
+fn put_share<M: CaseResult, G: Gate>(
+    alloc: Global,
+    made: &mut Queue<M>,
+    cases: &[Case],
+    workers: u32,
+    worker: u32,
+    gate: &G,
+) -> Result<(), NoMemory>
+    requires empty { made.old ≡ [] }
+    requires few { length cases.now ≤ most_cases }
+    requires workers { (1 ≤ workers) × (workers ≤ most_workers) }
+    requires worker { worker < workers }
+    ensures { OnOk result (made.new ≡ every workers worker (map M.of_case cases.now)) }
+{
+    let mut number = worker;
+    while let Some(case) = cases.get(number as usize) {
+        gate.pass(worker, Point::InCase, number);
+        let one = M::make(alloc, case.copy(alloc)?)?;
+        gate.pass(worker, Point::AfterCase, number);
+        made.put(one)?;
+        number += workers;
+    }
+    Ok(())
+}

@@ -1,0 +1,164 @@
+ghost use Rattle.std.specs.Prelude.{◌≡◌, ◌≤◌, ◌<◌, ◌++◌, ◌||◌, false, IfOk, OnOk, length, map};
+ghost use Rattle.ccp_base.specs.Limits.{most_cases, primitive_count};
+ghost use Rattle.campaign_report.specs.AcksText.{ack_line, ack_lines, acks_text, flow_text, flows_text, gap, is_shown};
+ghost use Rattle.campaign_report.specs.AcksText.{item_text, items_text};
+
+use crate::flow::put_flow;
+use crate::table::Agents;
+use agent_core::Agent;
+use campaign_gate::CaseAcks;
+use ccp_base::{Ack, Acks, Bytes, Name, Names, NoMemory, PRIMITIVE_NAMES, prim};
+use std::alloc::Global;
+
+/// The number of `now` among the primitives.
+const NOW: u32 = 7;
+
+/// The text of acknowledgements: for each case the line of its flow, numbered from 0, and then a line for each of its
+/// acknowledgements, which is one of `fold`. The three lists have one length, of at most 1,024 cases.
+pub fn acks_text(
+    alloc: Global,
+    names: &Names,
+    agents: &Agents,
+    acks: &CaseAcks,
+) -> Result<Bytes, NoMemory>
+    requires within { length acks.now ≤ most_cases }
+    requires names { length names.now ≡ length acks.now }
+    requires agents { length agents.now ≡ length acks.now }
+    ensures { IfOk result (λ text. text ≡ acks_text names.now agents.now acks.now) }
+{
+    let mut text = Bytes::new(alloc);
+    put_flows(
+        alloc,
+        &mut text,
+        names.as_slice(),
+        agents.as_slice(),
+        acks.as_slice(),
+    )?;
+    Ok(text)
+}
+
+fn put_flows(
+    alloc: Global,
+    text: &mut Bytes,
+    names: &[Name],
+    agents: &[Agent],
+    acks: &[Acks],
+) -> Result<(), NoMemory>
+    requires { length acks.now ≤ most_cases }
+    ensures { OnOk result (text.new ≡ text.old ++ flows_text 0 names.now agents.now acks.now) }
+{
+    let mut flow = 0;
+    let mut left = acks;
+    let mut left_names = names;
+    let mut left_agents = agents;
+    while let Some((acks, rest)) = left.split_first() {
+        let Some((name, rest_names)) = left_names.split_first() else {
+            return Ok(());
+        };
+        let Some((agent, rest_agents)) = left_agents.split_first() else {
+            return Ok(());
+        };
+        put_flow_text(alloc, text, flow, name, agent, acks)?;
+        flow += 1;
+        left = rest;
+        left_names = rest_names;
+        left_agents = rest_agents;
+    }
+    Ok(())
+}
+
+fn put_flow_text(
+    alloc: Global,
+    text: &mut Bytes,
+    flow: u32,
+    name: &Name,
+    agent: &Agent,
+    acks: &Acks,
+) -> Result<(), NoMemory>
+    ensures { OnOk result (text.new ≡ text.old ++ flow_text flow name.now agent.now acks.now) }
+{
+    put_flow(alloc, text, flow, name, agent)?;
+    put_acks(alloc, text, acks.as_slice())
+}
+
+/// Puts the lines of acknowledgements at the end of a text.
+fn put_acks(alloc: Global, text: &mut Bytes, acks: &[Ack]) -> Result<(), NoMemory>
+    ensures { OnOk result (text.new ≡ text.old ++ ack_lines acks.now) }
+{
+    let mut left = acks;
+    while let Some((ack, rest)) = left.split_first() {
+        put_ack(alloc, text, ack)?;
+        left = rest;
+    }
+    Ok(())
+}
+
+fn put_ack(alloc: Global, text: &mut Bytes, ack: &Ack) -> Result<(), NoMemory>
+    ensures { OnOk result (text.new ≡ text.old ++ ack_line ack.entry.now) }
+{
+    put_items(alloc, text, &PRIMITIVE_NAMES, ack)?;
+    text.push(b'\n')?;
+    Ok(())
+}
+
+/// Puts the primitives of an acknowledgement that are shown at the end of a text, with these names.
+fn put_items(
+    alloc: Global,
+    text: &mut Bytes,
+    names: &[(&[u8], &[u8])],
+    ack: &Ack,
+) -> Result<(), NoMemory>
+    requires { length names.now ≡ primitive_count }
+    ensures { OnOk result (text.new ≡ text.old ++ items_text false 0 (map (λ n. (n.0.now, n.1.now)) names.now) ack.entry.now) }
+{
+    let mut follows = false;
+    for (index, known) in names.iter().enumerate() {
+        let number = index as u32;
+        let value = prim(ack, number);
+        put_item(alloc, text, follows, number, known.1, value)?;
+        follows = follows_after(follows, number, value);
+    }
+    Ok(())
+}
+
+/// Puts the item of a primitive at the end of a text, where it is shown.
+fn put_item(
+    alloc: Global,
+    text: &mut Bytes,
+    follows: bool,
+    number: u32,
+    name: &[u8],
+    value: u64,
+) -> Result<(), NoMemory>
+    ensures { OnOk result (text.new ≡ text.old ++ item_text follows number name.now value) }
+{
+    if !is_shown(number, value) {
+        return Ok(());
+    }
+    text.extend(gap(follows))?;
+    text.extend(name)?;
+    let value = format!(in alloc; "={value}")?;
+    text.extend(value.as_bytes())?;
+    Ok(())
+}
+
+/// Whether an item stands before those that follow this primitive.
+fn follows_after(follows: bool, number: u32, value: u64) -> bool
+    ensures { result ≡ (follows || is_shown number value) }
+{
+    follows || is_shown(number, value)
+}
+
+/// Whether a primitive with this value is shown.
+fn is_shown(number: u32, value: u64) -> bool
+    ensures { result ≡ is_shown number value }
+{
+    number == NOW || 0 < value
+}
+
+/// The blank before an item that follows another.
+fn gap(follows: bool) -> &'static [u8]
+    ensures { result.now ≡ gap follows }
+{
+    if follows { b" " } else { b"" }
+}

@@ -1,0 +1,57 @@
+-- What the texts of `timeline` and `acks` say to the other modes: to `audit`, to `fold` and beside `campaign`.
+use Rattle.std.specs.Prelude.{◌≡◌, ◌≤◌, ◌<◌, ◌^◌, ◌-◌, ℕ, false, Ok, List, length, codes}
+use Rattle.std.specs.List.{All}
+use Rattle.ccp_base.specs.declared.ack.Ack.{Ack}
+use Rattle.ccp_base.specs.declared.parts.Separator.TheVariants.{LineFeed}
+use Rattle.ccp_base.specs.declared.place.Place.{Place}
+use Rattle.ccp_base.specs.Acknowledgement.{primitives}
+use Rattle.ccp_base.specs.Limits.{most_acks}
+use Rattle.ccp_base.specs.Parts.{parts_of}
+use Rattle.link_model.specs.declared.link_case.LinkCase.{LinkCase}
+use Rattle.flow_core.specs.LiveText.{Account, account_of, report_count}
+use Rattle.flow_core.specs.Readings.{Flow}
+use Rattle.flow_core.specs.Words.{world}
+use Rattle.fold_run.specs.Acknowledgements.{acks_of}
+use Rattle.fold_run.specs.Separated.{Cut}
+use Rattle.campaign_gate.specs.declared.row.Row.{Row}
+use Rattle.campaign_gate.specs.CampaignRow.{row_read}
+use Rattle.campaign_gate.specs.CampaignWord.{plan_over}
+use Rattle.campaign_report.specs.AcksText.{ack_lines}
+use Rattle.ccp_run.specs.declared.outcome.ModeOutput.{ModeOutput}
+use Rattle.ccp_run.specs.AuditRuns.{IsCutAt, IsAuditOutput}
+use Rattle.ccp_run.specs.Timeline.{IsTimelineOutput}
+
+-- where a scenario and the text of its timeline are given to `audit`, it says yes
+abbrev pub AuditsTimelines : Type 0
+AuditsTimelines =
+    (bytes : List ℕ) (output : ModeOutput) → IsTimelineOutput false bytes output
+    → (input : List ℕ) (cut : Cut) → IsCutAt input cut → cut.program ≡ bytes → cut.rest ≡ output.text
+    → (made : ModeOutput) → IsAuditOutput input made → made.text ≡ codes "yes\n"
+
+-- each primitive of an acknowledgement is a number of 64 bits
+abbrev pub IsOf64Bits : Ack → Type 0
+IsOf64Bits ack = All (λ (value : ℕ). value < 2 ^ 64) (primitives ack)
+
+-- the lines of acknowledgements, as many as `fold` takes, are read by `fold` as these, whatever the number of the first
+-- line
+abbrev pub ReadsAcksBack : Type 0
+ReadsAcksBack =
+    (acks : List Ack) (next : ℕ) → length acks ≤ most_acks → All IsOf64Bits acks
+    → acks_of next (parts_of LineFeed (ack_lines acks)) ≡ Ok acks
+
+-- a row of a campaign's table has the numbers that the lines of an account show: its tickets that tell reports, its
+-- faults, its epochs, and its last line
+pub record TellsRow (account : Account) (row : Row) : Type 0 where
+  pub acks : row.acks ≡ account.end.acks
+  pub reports : row.reports ≡ report_count account.tickets
+  pub held : row.held ≡ account.held
+  pub faults : row.faults ≡ length account.faults
+  pub epochs : row.epochs ≡ length account.epochs
+  pub cwnd : row.cwnd ≡ account.end.cwnd
+  pub tail : row.tail ≡ account.end.acks - account.end.first
+
+-- the row of a flow and the account of its timeline tell of one history
+abbrev pub TellsRows : Type 0
+TellsRows =
+    (flow : Flow Place) (link : LinkCase) (lag : ℕ)
+    → TellsRow (account_of flow (world flow link (plan_over flow link lag))) (row_read flow link lag)

@@ -1,0 +1,45 @@
+-- What `timeline` makes of its cases: a book of each after its campaign word, and the live text of these words.
+use Rattle.std.specs.Prelude.{◌≡◌, ℕ, Bool, List, map}
+use Rattle.std.specs.List.{All}
+use Rattle.ccp_base.specs.Text.{◌⧺◌}
+use Rattle.reg_compiler.specs.declared.built.Built.{Built}
+use Rattle.flow_core.specs.declared.case.Case.{Case}
+use Rattle.flow_core.specs.declared.letter.Letter.{Letter}
+use Rattle.flow_core.specs.LiveText.{Sources, flow_from, live_text}
+use Rattle.campaign_gate.specs.CampaignWord.{plan_over}
+use Rattle.campaign_report.specs.BooksRead.{flows_of}
+use Rattle.scenario_json.specs.declared.mode.SceneMode.TheVariants as scene
+use Rattle.scenario_json.specs.ScenePrograms.{forms_of}
+use Rattle.ccp_run.specs.declared.outcome.ModeOutput.{ModeOutput}
+use Rattle.ccp_run.specs.declared.refusal.Limit.TheVariants.{Input}
+use Rattle.ccp_run.specs.Campaign.{frames_shown}
+use Rattle.ccp_run.specs.Live.{IsRightBook}
+use Rattle.ccp_run.specs.Rules.{Rules, reads_whole}
+use Rattle.ccp_run.specs.Scenes.{IsScenario, IsNoScenario, SaysSomething, Says}
+
+-- the campaign word of a case, read over the sources of its programs
+abbrev pub source_plan : Sources → Case → List Letter
+source_plan sources case = plan_over (flow_from sources case) case.link case.lag
+
+-- each case with its campaign word
+abbrev pub planned_by : Sources → List Case → List (Case × List Letter)
+planned_by sources cases = map (λ (case : Case). (case, source_plan sources case)) cases
+
+-- the live text of the campaign words of cases of these programs, after the programs' frames where they are asked for
+abbrev pub timeline_text : Bool → List (ℕ × Built) → List Case → List ℕ
+timeline_text wire programs cases =
+    frames_shown wire programs ⧺ live_text (forms_of programs) (planned_by (forms_of programs) cases)
+
+-- the output is that text of the scenario's cases, and there is one book for each of these, in order, whose word is the
+-- campaign word, which is legal and complete, and which tells what the word came to
+pub record IsTimelineOutput (wire : Bool) (bytes : List ℕ) (output : ModeOutput) : Type 0 where
+  pub cases : List Case
+  pub scenario : IsScenario scene.Live bytes output.programs cases
+  pub books : flows_of output.books ≡ planned_by (forms_of output.programs) cases
+  pub right : All (IsRightBook output.programs) output.books
+  pub written : output.text ≡ timeline_text wire output.programs cases
+  pub idle : output.ran ≡ 0
+
+abbrev pub timeline_rules : Bool → Rules
+timeline_rules wire =
+    reads_whole Input (λ bytes. SaysSomething (Says scene.Live bytes)) (IsTimelineOutput wire) (IsNoScenario scene.Live)

@@ -1,0 +1,84 @@
+ghost use Rattle.std.specs.Prelude.{◌≡◌, ◌≤◌, [], IfOk, length};
+ghost use Rattle.std.specs.List.{All};
+ghost use Rattle.ccp_base.specs.Limits.{most_flows, most_workers};
+ghost use Rattle.scenario_json.specs.Cases.{case_names, IsCoded, AreNumberedFrom};
+ghost use Rattle.ccp_run.specs.AcksRuns.{acks_written};
+ghost use Rattle.ccp_run.specs.Attempts.{IsAnswer, IsAttempt};
+ghost use Rattle.ccp_run.specs.Streams.{over};
+ghost use Rattle.ccp_run.specs.Modes.{Task};
+
+use crate::modes::campaign::agents;
+use crate::outcome::ModeOutput;
+use crate::reading::read_bytes;
+use crate::refusal::Limit;
+use crate::scene::scene;
+use crate::stop::Stop;
+use agent_loop::Books;
+use campaign_gate::calls::acks;
+use campaign_report::acks_text;
+use ccp_base::{Gate, NoMemory, Source};
+use scenario_json::{Scenario, SceneMode};
+use std::alloc::Global;
+use std::sync::Wait;
+use std::thread::Threads;
+
+/// Reads a scenario, runs each of its cases on its campaign word, and makes the lines of their acknowledgements.
+#[tactic(auto, using(crate::proofs::ReadLemmas::not_read, crate::proofs::ReadLemmas::answered))]
+pub fn read_acks<R: Threads + Wait + Sync, S: Source, G: Gate + Sync>(
+    rt: &R,
+    alloc: Global,
+    workers: u32,
+    source: &mut S,
+    gate: &G,
+) -> Result<ModeOutput, Stop>
+    requires workers { (1 ≤ workers) × (workers ≤ most_workers) }
+    ensures { IsAttempt Task.Acks (over S.remaining S.faults source.old source.new) result }
+{
+    match read_bytes(alloc, Limit::Input, source) {
+        Ok(bytes) => acks_output(rt, alloc, workers, bytes.as_slice(), gate),
+        Err(stop) => Err(stop),
+    }
+}
+
+/// The acknowledgements of the scenario that the bytes stand for, or its refusal.
+fn acks_output<R: Threads + Wait + Sync, G: Gate + Sync>(
+    rt: &R,
+    alloc: Global,
+    workers: u32,
+    bytes: &[u8],
+    gate: &G,
+) -> Result<ModeOutput, Stop>
+    requires workers { (1 ≤ workers) × (workers ≤ most_workers) }
+    ensures { IsAnswer Task.Acks bytes.now result }
+{
+    let scene = scene(alloc, bytes, SceneMode::Live)?;
+    Ok(acknowledged(rt, alloc, workers, scene, gate)?)
+}
+
+/// The acknowledgements of the cases of a scenario.
+fn acknowledged<R: Threads + Wait + Sync, G: Gate + Sync>(
+    rt: &R,
+    alloc: Global,
+    workers: u32,
+    scene: Scenario,
+    gate: &G,
+) -> Result<ModeOutput, NoMemory>
+    requires workers { (1 ≤ workers) × (workers ≤ most_workers) }
+    requires names { scene.names ≡ case_names scene.cases }
+    requires few { length scene.cases ≤ most_flows }
+    requires numbered { AreNumberedFrom 0 scene.programs }
+    requires coded { All (IsCoded scene.programs) scene.cases }
+    ensures text { IfOk result (λ output. output.text ≡ acks_written scene.programs scene.cases) }
+    ensures books { IfOk result (λ output. output.books ≡ []) }
+    ensures programs { IfOk result (λ output. output.programs ≡ scene.programs) }
+    ensures ran { IfOk result (λ output. output.ran ≡ 0) }
+{
+    let agents = agents(alloc, scene.cases.as_slice())?;
+    let acks = acks(rt, alloc, scene.cases, workers, gate)?;
+    Ok(ModeOutput {
+        text: acks_text(alloc, &scene.names, &agents, &acks)?,
+        books: Books::new(alloc),
+        programs: scene.programs,
+        ran: 0,
+    })
+}

@@ -1,0 +1,87 @@
+ghost use Rattle.std.specs.Prelude.{◌≡◌, ◌≤◌, IfOk, length};
+ghost use Rattle.std.specs.List.{All};
+ghost use Rattle.ccp_base.specs.Limits.{most_flows, most_workers};
+ghost use Rattle.campaign_report.specs.BooksRead.{flows_of};
+ghost use Rattle.scenario_json.specs.Cases.{IsCoded, AreNumberedFrom};
+ghost use Rattle.scenario_json.specs.ScenePrograms.{forms_of};
+ghost use Rattle.ccp_run.specs.Attempts.{IsAnswer, IsAttempt};
+ghost use Rattle.ccp_run.specs.Live.{IsRightBook};
+ghost use Rattle.ccp_run.specs.Streams.{over};
+ghost use Rattle.ccp_run.specs.Timeline.{planned_by, timeline_text};
+ghost use Rattle.ccp_run.specs.Modes.{Task};
+
+use crate::modes::live::written;
+use crate::outcome::ModeOutput;
+use crate::reading::read_bytes;
+use crate::refusal::Limit;
+use crate::scene::scene;
+use crate::stop::Stop;
+use campaign_gate::calls::books;
+use ccp_base::{Gate, NoMemory, Source};
+use scenario_json::{Scenario, SceneMode};
+use std::alloc::Global;
+use std::sync::Wait;
+use std::thread::Threads;
+
+/// Reads a scenario, runs each of its cases on its campaign word, and makes the text of their books.
+#[tactic(auto, using(crate::proofs::ReadLemmas::not_read, crate::proofs::ReadLemmas::answered))]
+pub fn read_timeline<R: Threads + Wait + Sync, S: Source, G: Gate + Sync>(
+    rt: &R,
+    alloc: Global,
+    workers: u32,
+    wire: bool,
+    source: &mut S,
+    gate: &G,
+) -> Result<ModeOutput, Stop>
+    requires workers { (1 ≤ workers) × (workers ≤ most_workers) }
+    ensures { IsAttempt (Task.Timeline wire) (over S.remaining S.faults source.old source.new) result }
+{
+    match read_bytes(alloc, Limit::Input, source) {
+        Ok(bytes) => timeline_output(rt, alloc, workers, wire, bytes.as_slice(), gate),
+        Err(stop) => Err(stop),
+    }
+}
+
+/// The timeline of the scenario that the bytes stand for, or its refusal.
+fn timeline_output<R: Threads + Wait + Sync, G: Gate + Sync>(
+    rt: &R,
+    alloc: Global,
+    workers: u32,
+    wire: bool,
+    bytes: &[u8],
+    gate: &G,
+) -> Result<ModeOutput, Stop>
+    requires workers { (1 ≤ workers) × (workers ≤ most_workers) }
+    ensures { IsAnswer (Task.Timeline wire) bytes.now result }
+{
+    let scene = scene(alloc, bytes, SceneMode::Live)?;
+    Ok(timeline(rt, alloc, workers, wire, scene, gate)?)
+}
+
+/// What the cases of a scenario come to.
+fn timeline<R: Threads + Wait + Sync, G: Gate + Sync>(
+    rt: &R,
+    alloc: Global,
+    workers: u32,
+    wire: bool,
+    scene: Scenario,
+    gate: &G,
+) -> Result<ModeOutput, NoMemory>
+    requires workers { (1 ≤ workers) × (workers ≤ most_workers) }
+    requires few { length scene.cases ≤ most_flows }
+    requires numbered { AreNumberedFrom 0 scene.programs }
+    requires coded { All (IsCoded scene.programs) scene.cases }
+    ensures text { IfOk result (λ output. output.text ≡ timeline_text wire scene.programs scene.cases) }
+    ensures books { IfOk result (λ output. flows_of output.books ≡ planned_by (forms_of scene.programs) scene.cases) }
+    ensures right { IfOk result (λ output. All (IsRightBook scene.programs) output.books) }
+    ensures programs { IfOk result (λ output. output.programs ≡ scene.programs) }
+    ensures ran { IfOk result (λ output. output.ran ≡ 0) }
+{
+    let books = books(rt, alloc, scene.cases, workers, gate)?;
+    Ok(ModeOutput {
+        text: written(alloc, wire, &books, &scene.programs)?,
+        books,
+        programs: scene.programs,
+        ran: 0,
+    })
+}

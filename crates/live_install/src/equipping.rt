@@ -1,0 +1,102 @@
+//! The work of installers, begun and ended.
+
+ghost use Rattle.std.specs.Prelude.{◌≡◌, ◌<◌, map, IfOk, length};
+ghost use Rattle.ccp_base.specs.Limits.{most_workers};
+ghost use Rattle.live_install.specs.Crews.{install_duty_of, install_duty, install_duties};
+
+use crate::crew::Workers;
+use crate::installer::equip;
+use crate::table::OpenTable;
+use ccp_base::{Gate, NoMemory};
+use std::alloc::Global;
+use std::sync::Wait;
+use std::thread::{PromisedHandle, Scope, Threads};
+use worker_desk::{Duty, Equipped};
+
+/// The work of an installer, which goes on in a thread or was done here.
+#[derive(Drop)]
+pub(crate) enum Equipping {
+    /// In a thread.
+    Thread(PromisedHandle<Equipped, Duty>),
+    /// Done.
+    Here(Equipped),
+}
+
+/// Begins the work of the installers, in order.
+pub(crate) fn begin_all<'s, 'e, R: Threads + Wait + Sync, G: Gate + Sync>(
+    scope: &'s Scope<'s, &'e ()>,
+    rt: &'e R,
+    alloc: Global,
+    table: &'e OpenTable,
+    workers: Workers,
+    gate: &'e G,
+) -> Result<Vec<Equipping>, NoMemory>
+    ensures { IfOk result (λ all. map install_duty_of all.items
+        ≡ install_duties workers.datapaths workers.agents (length table.now) workers.agents) }
+{
+    let mut equippings = Vec::new(alloc);
+    for agent in 0..workers.agents {
+        let equipping = begin(scope, rt, alloc, table, workers, agent, gate);
+        equippings.push(equipping)?;
+    }
+    Ok(equippings)
+}
+
+/// Begins the work of an installer. Where no thread can be started for it, it is done here.
+fn begin<'s, 'e, R: Threads + Wait + Sync, G: Gate + Sync>(
+    scope: &'s Scope<'s, &'e ()>,
+    rt: &'e R,
+    alloc: Global,
+    table: &'e OpenTable,
+    workers: Workers,
+    agent: u32,
+    gate: &'e G,
+) -> Equipping
+    requires { agent < most_workers }
+    ensures { install_duty_of result ≡ install_duty workers.datapaths workers.agents (length table.now) agent }
+{
+    let promise = Duty {
+        worker: workers.datapaths + agent,
+        first: agent,
+        workers: workers.agents,
+        flows: table.flows(),
+    };
+    let started = scope.spawn_with(
+        promise,
+        move || -> Equipped
+            requires { agent < most_workers }
+            ensures { result ≡ install_duty workers.datapaths workers.agents (length table.entry.now) agent }
+        { equip(rt, alloc, table, workers, agent, gate) },
+    );
+    match started {
+        Ok(handle) => Equipping::Thread(handle),
+        Err(_) => Equipping::Here(equip(rt, alloc, table, workers, agent, gate)),
+    }
+}
+
+/// The end of an installer's work.
+fn end<R: Threads>(rt: &R, equipping: Equipping) -> Equipped
+    ensures { result ≡ install_duty_of equipping }
+{
+    match equipping {
+        Equipping::Thread(handle) => handle.join(rt),
+        Equipping::Here(equipped) => equipped,
+    }
+}
+
+/// The ends of the installers' work, in order.
+pub(crate) fn end_all<R: Threads>(
+    rt: &R,
+    alloc: Global,
+    equippings: Vec<Equipping>,
+) -> Result<Vec<Equipped>, NoMemory>
+    ensures { IfOk result (λ all. all.items ≡ map install_duty_of equippings.items) }
+{
+    let mut left = equippings;
+    let mut all = Vec::new(alloc);
+    while !left.is_empty() {
+        let equipping = left.remove(0);
+        all.push(end(rt, equipping))?;
+    }
+    Ok(all)
+}

@@ -1,0 +1,79 @@
+ghost use Rattle.std.specs.Prelude.{◌≡◌, ℕ, ◌<◌, ◌≤◌, Option, Some, None, option_map, [], ◌∷◌, length, is_some, IfSome};
+ghost use Rattle.worker_desk.specs.Logs.{Known, Logs};
+ghost use Rattle.worker_desk.specs.declared.event.Event.TheVariants.{Passed, Locked, Unlocked, Built, Installed, Changed};
+
+use crate::open_desk::Held;
+use crate::table::OpenTable;
+use ccp_base::{Gate, Point};
+use open_flow::Entry;
+use std::alloc::Global;
+use std::sync::Wait;
+
+/// The desk of an installer of a rollout.
+#[derive(Drop)]
+pub(crate) struct InstallDesk<'a, R: Wait, G: Gate> {
+    pub(crate) rt: &'a R,
+    pub(crate) alloc: Global,
+    pub(crate) table: &'a OpenTable,
+    pub(crate) gate: &'a G,
+    pub(crate) held: Option<Held<'a>>,
+}
+
+impl<'a, R: Wait, G: Gate> worker_desk::InstallDesk for InstallDesk<'a, R, G> {
+    ghost use Rattle.std.specs.Prelude.{None, option_map, length};
+
+    type Entry = Entry;
+
+    ghost log = { λ d. None };
+
+    ghost held = { λ d. option_map (λ held. held.flow) d.held };
+
+    ghost flows = { λ d. length d.table.now };
+
+    ghost step_of = { λ entry. entry.step };
+
+    fn flow_count(&self) -> u32 {
+        self.table.flows()
+    }
+
+    fn build(&mut self, flow: u32, step: u32) -> Option<Entry> {
+        let text = self.table.text(flow, step)?;
+        match Entry::make(self.alloc, step, text) {
+            Ok(entry) => Some(entry),
+            Err(_) => None,
+        }
+    }
+
+    fn lock(&mut self, flow: u32) {
+        let cell = self.table.cell(flow).lock(self.rt);
+        self.held = Some(Held { flow, cell });
+    }
+
+    fn unlock(&mut self, _flow: u32) {
+        self.held = None;
+    }
+
+    fn install(&mut self, _flow: u32, entry: Entry) -> bool {
+        let Some(held) = self.held.take() else {
+            unreachable!()
+        };
+        let Held { flow, mut cell } = held;
+        let installed = cell.install(entry);
+        self.held = Some(Held { flow, cell });
+        installed.is_ok()
+    }
+
+    fn change(&mut self, _flow: u32) -> bool {
+        let Some(held) = self.held.take() else {
+            unreachable!()
+        };
+        let Held { flow, mut cell } = held;
+        let changed = cell.change().is_ok();
+        self.held = Some(Held { flow, cell });
+        changed
+    }
+
+    fn pass(&mut self, worker: u32, point: Point, flow: u32) {
+        self.gate.pass(worker, point, flow);
+    }
+}

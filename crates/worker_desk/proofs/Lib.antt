@@ -1,0 +1,5 @@
+-- The lemmas of worker_desk, a file each.
+pub mod AttendingLemmas
+pub mod EquippingLemmas
+pub mod ServingLawLemmas
+pub mod ServingLemmas

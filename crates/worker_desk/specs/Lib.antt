@@ -1,0 +1,6 @@
+-- The definitions of worker_desk, a file each.
+pub mod Attending
+pub mod Equipping
+pub mod Logs
+pub mod Serving
+pub mod ServingLaw

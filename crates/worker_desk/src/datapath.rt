@@ -1,0 +1,115 @@
+ghost use Rattle.std.specs.Prelude.{◌≡◌, ℕ, ◌+◌, ◌-◌, ◌*◌, ◌<◌, ◌≤◌, [], ◌∷◌, ◌++◌, if◌then◌else◌, take, drop, slice_index, None, length};
+ghost use Rattle.worker_desk.specs.Logs.{Logs, Known};
+ghost use Rattle.worker_desk.specs.Serving.{hearing, flows_of, turn, again, heard, Serves};
+
+use crate::desk::Desk;
+use crate::event::Heard;
+use crate::receipt::{Duty, Served};
+use crate::row::{put, row_of};
+use ccp_base::Point;
+
+/// An acknowledgement of a flow, under the flow's lock.
+fn hear<D: Desk>(desk: &mut D, worker: u32, flow: u32) -> Heard
+    requires flow { flow < D.flows desk.old }
+    requires free { D.held desk.old ≡ None }
+    ensures log { Logs (D.log desk.old) (D.log desk.new) (hearing worker flow result) }
+    ensures free { D.held desk.new ≡ None }
+    ensures flows { D.flows desk.new ≡ D.flows desk.old }
+    ensures coming { D.coming desk.new + heard result ≤ D.coming desk.old }
+{
+    desk.lock(flow);
+    let answer = desk.ack(worker, flow);
+    desk.pass(worker, Point::InAck, flow);
+    desk.unlock(flow);
+    answer
+}
+
+/// One turn of a flow. Where a report or a fault waits afterwards, an agent worker gets a nudge.
+fn acknowledge<D: Desk>(desk: &mut D, worker: u32, flow: u32) -> Heard
+    requires flow { flow < D.flows desk.old }
+    requires free { D.held desk.old ≡ None }
+    ensures log { Logs (D.log desk.old) (D.log desk.new) (turn worker flow result) }
+    ensures free { D.held desk.new ≡ None }
+    ensures flows { D.flows desk.new ≡ D.flows desk.old }
+    ensures coming { D.coming desk.new + heard result ≤ D.coming desk.old }
+{
+    desk.pass(worker, Point::BeforeAck, flow);
+    let answer = hear(desk, worker, flow);
+    if let Heard::Reported | Heard::Faulted = answer {
+        desk.nudge(flow);
+    }
+    desk.pass(worker, Point::AfterAck, flow);
+    answer
+}
+
+/// One turn of each flow that stands at the front of `row`. Those that come again stand there afterwards, in order, and
+/// it answers how many they are.
+fn round<D: Desk>(desk: &mut D, worker: u32, row: &mut [u32; 64], count: usize) -> usize
+    requires count { count ≤ 64 }
+    requires flows { (k : ℕ) → k < count → slice_index row.old k < D.flows desk.old }
+    requires free { D.held desk.old ≡ None }
+    ensures free { D.held desk.new ≡ None }
+    ensures fewer { result ≤ count }
+    ensures flows { (k : ℕ) → k < count → slice_index row.new k < D.flows desk.new }
+    ensures same { D.flows desk.new ≡ D.flows desk.old }
+    ensures coming { D.coming desk.new + result ≤ D.coming desk.old }
+    ensures rest { (end : Known)
+        → Serves worker (take result row.new) (D.log desk.new) end
+        → Serves worker (take count row.old) (D.log desk.old) end }
+{
+    let mut kept = 0;
+    for place in 0..count {
+        let flow = row[place];
+        let answer = acknowledge(desk, worker, flow);
+        kept = keep(row, kept, flow, answer);
+    }
+    kept
+}
+
+/// Whether a flow comes again after its answer.
+fn comes_again(answer: Heard) -> bool
+    ensures heard { heard answer ≡ if result then 1 else 0 }
+    ensures again { (flow : ℕ) → again flow answer ≡ if result then flow ∷ [] else [] }
+{
+    !matches!(answer, Heard::Ended)
+}
+
+/// Puts a flow that comes again at the end of those at the front of a row, and answers how many these are then.
+fn keep(row: &mut [u32; 64], count: usize, flow: u32, answer: Heard) -> usize
+    requires { count < 64 }
+    ensures count { result ≡ count + heard answer }
+    ensures most { result ≤ count + 1 }
+    ensures front { take result row.new ≡ take count row.old ++ again flow answer }
+    ensures later { (n : ℕ) → count < n → drop n row.new ≡ drop n row.old }
+    ensures below { (flows n : ℕ) → flow < flows → ((k : ℕ) → k < n → slice_index row.old k < flows)
+        → (k : ℕ) → k < n → slice_index row.new k < flows }
+{
+    if comes_again(answer) {
+        put(row, count, flow)
+    } else {
+        count
+    }
+}
+
+/// The work of a datapath worker: the acknowledgements of the flows whose numbers leave the worker's when they are
+/// divided by the number of datapath workers, one of each in turn, until all of them are in.
+pub fn serve<D: Desk>(desk: &mut D, worker: u32, datapaths: u32) -> Served
+    requires datapaths { 1 ≤ datapaths }
+    requires free { D.held desk.old ≡ None }
+    ensures served { result ≡ record { worker = worker; first = worker; workers = datapaths; flows = D.flows desk.old } }
+    ensures serves { Serves worker (flows_of worker datapaths (D.flows desk.old)) (D.log desk.old) (D.log desk.new) }
+{
+    let flows = desk.flow_count();
+    let (mut row, mut count) = row_of(flows, worker, datapaths);
+    while count > 0 {
+        count = round(desk, worker, &mut row, count);
+    }
+    Served {
+        duty: Duty {
+            worker,
+            first: worker,
+            workers: datapaths,
+            flows,
+        },
+    }
+}

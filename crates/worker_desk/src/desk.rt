@@ -1,0 +1,67 @@
+ghost use Rattle.std.specs.Prelude.{◌≡◌, ℕ, ◌+◌, ◌<◌, ◌≤◌, Option, Some, None, List, [], ◌∷◌};
+ghost use Rattle.worker_desk.specs.Logs.{Logs};
+ghost use Rattle.worker_desk.specs.Serving.{heard};
+ghost use Rattle.worker_desk.specs.declared.event.Event.{Event};
+ghost use Rattle.worker_desk.specs.declared.event.Event.TheVariants.{Passed, Locked, Unlocked, Acked, Nudged};
+
+use crate::event::{Event, Heard};
+use ccp_base::Point;
+
+/// What a datapath worker works on.
+pub trait Desk {
+    // what was done here, where the desk keeps that
+    ghost log: { Self → Option (List Event) };
+
+    // the flow whose lock is held
+    ghost held: { Self → Option ℕ };
+
+    // how many flows there are
+    ghost flows: { Self → ℕ };
+
+    // how many acknowledgements may still come
+    ghost coming: { Self → ℕ };
+
+    /// How many flows there are, at most 64.
+    fn flow_count(&self) -> u32
+        ensures flows { result ≡ flows self.now }
+        ensures few { result ≤ 64 };
+
+    /// Takes a flow's lock.
+    fn lock(&mut self, flow: u32)
+        requires flow { flow < flows self.old }
+        requires free { held self.old ≡ None }
+        ensures log { Logs (log self.old) (log self.new) (Locked flow ∷ []) }
+        ensures held { held self.new ≡ Some flow }
+        ensures flows { flows self.new ≡ flows self.old }
+        ensures coming { coming self.new ≡ coming self.old };
+
+    /// Gives the flow's lock back.
+    fn unlock(&mut self, flow: u32)
+        requires { held self.old ≡ Some flow }
+        ensures log { Logs (log self.old) (log self.new) (Unlocked flow ∷ []) }
+        ensures held { held self.new ≡ None }
+        ensures flows { flows self.new ≡ flows self.old }
+        ensures coming { coming self.new ≡ coming self.old };
+
+    /// Asks the flow whose lock is held for its next acknowledgement.
+    fn ack(&mut self, worker: u32, flow: u32) -> Heard
+        requires { held self.old ≡ Some flow }
+        ensures log { Logs (log self.old) (log self.new) (Acked worker flow result ∷ []) }
+        ensures held { held self.new ≡ held self.old }
+        ensures flows { flows self.new ≡ flows self.old }
+        ensures coming { coming self.new + heard result ≤ coming self.old };
+
+    /// Passes a point of the gate. The number is the flow's.
+    fn pass(&mut self, worker: u32, point: Point, flow: u32)
+        ensures log { Logs (log self.old) (log self.new) (Passed worker point flow ∷ []) }
+        ensures held { held self.new ≡ held self.old }
+        ensures flows { flows self.new ≡ flows self.old }
+        ensures coming { coming self.new ≡ coming self.old };
+
+    /// Sends an agent worker the number of a flow of which a report or a fault waits.
+    fn nudge(&mut self, flow: u32)
+        ensures log { Logs (log self.old) (log self.new) (Nudged flow ∷ []) }
+        ensures held { held self.new ≡ held self.old }
+        ensures flows { flows self.new ≡ flows self.old }
+        ensures coming { coming self.new ≡ coming self.old };
+}

@@ -1,0 +1,75 @@
+ghost use Rattle.std.specs.Prelude.{◌≡◌, ℕ, ◌<◌, ◌≤◌, Option, Some, None, List, [], ◌∷◌, is_some, IfSome};
+ghost use Rattle.worker_desk.specs.Logs.{Logs};
+ghost use Rattle.worker_desk.specs.declared.event.Event.{Event};
+ghost use Rattle.worker_desk.specs.declared.event.Event.TheVariants.{Passed, Locked, Unlocked, Built, Installed, Changed};
+
+use crate::event::Event;
+use ccp_base::Point;
+
+/// What an installer works on.
+pub trait InstallDesk {
+    /// What the text of a step is built into.
+    type Entry: Drop;
+
+    // what was done here, where the desk keeps that
+    ghost log: { Self → Option (List Event) };
+
+    // the flow whose lock is held
+    ghost held: { Self → Option ℕ };
+
+    // how many flows there are
+    ghost flows: { Self → ℕ };
+
+    // the step of an entry
+    ghost step_of: { Self.Entry → ℕ };
+
+    /// How many flows there are, at most 64.
+    fn flow_count(&self) -> u32
+        ensures flows { result ≡ flows self.now }
+        ensures few { result ≤ 64 };
+
+    /// Builds the text of a flow's step, while no lock is held; None where the flow has no such step, or memory runs
+    /// out.
+    fn build(&mut self, flow: u32, step: u32) -> Option<Self::Entry>
+        requires flow { flow < flows self.old }
+        requires free { held self.old ≡ None }
+        ensures log { Logs (log self.old) (log self.new) (Built flow step (is_some result) ∷ []) }
+        ensures step { IfSome result (λ entry. step_of entry ≡ step) }
+        ensures held { held self.new ≡ held self.old }
+        ensures flows { flows self.new ≡ flows self.old };
+
+    /// Takes a flow's lock.
+    fn lock(&mut self, flow: u32)
+        requires flow { flow < flows self.old }
+        requires free { held self.old ≡ None }
+        ensures log { Logs (log self.old) (log self.new) (Locked flow ∷ []) }
+        ensures held { held self.new ≡ Some flow }
+        ensures flows { flows self.new ≡ flows self.old };
+
+    /// Gives the flow's lock back.
+    fn unlock(&mut self, flow: u32)
+        requires { held self.old ≡ Some flow }
+        ensures log { Logs (log self.old) (log self.new) (Unlocked flow ∷ []) }
+        ensures held { held self.new ≡ None }
+        ensures flows { flows self.new ≡ flows self.old };
+
+    /// Puts an entry into the library of the flow whose lock is held, and says whether it was the next one.
+    fn install(&mut self, flow: u32, entry: Self::Entry) -> bool
+        requires { held self.old ≡ Some flow }
+        ensures log { Logs (log self.old) (log self.new) (Installed flow (step_of entry) result ∷ []) }
+        ensures held { held self.new ≡ held self.old }
+        ensures flows { flows self.new ≡ flows self.old };
+
+    /// Changes the flow whose lock is held to its library's next program, and says whether there was one.
+    fn change(&mut self, flow: u32) -> bool
+        requires { held self.old ≡ Some flow }
+        ensures log { Logs (log self.old) (log self.new) (Changed flow result ∷ []) }
+        ensures held { held self.new ≡ held self.old }
+        ensures flows { flows self.new ≡ flows self.old };
+
+    /// Passes a point of the gate. The number is the flow's.
+    fn pass(&mut self, worker: u32, point: Point, flow: u32)
+        ensures log { Logs (log self.old) (log self.new) (Passed worker point flow ∷ []) }
+        ensures held { held self.new ≡ held self.old }
+        ensures flows { flows self.new ≡ flows self.old };
+}

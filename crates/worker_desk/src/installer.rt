@@ -1,0 +1,98 @@
+ghost use Rattle.std.specs.Prelude.{◌≡◌, ℕ, ◌<◌, ◌≤◌, None, [], ◌∷◌, slice_index, length};
+ghost use Rattle.ccp_base.specs.Limits.{most_steps};
+ghost use Rattle.worker_desk.specs.Logs.{Logs};
+ghost use Rattle.worker_desk.specs.Serving.{flows_of};
+ghost use Rattle.worker_desk.specs.Equipping.{installing, changing, Task, tasks, tasks_at, Equips};
+
+use crate::install_desk::InstallDesk;
+use crate::receipt::{Duty, Equipped};
+use crate::row::row_of;
+use ccp_base::Point;
+
+/// The most steps of a flow.
+const STEPS: u32 = 16;
+
+/// The work of an installer: the texts of the flows whose numbers leave `first` when they are divided by `workers`, one
+/// of each flow in turn, in the order of the steps.
+pub fn equip<D: InstallDesk>(desk: &mut D, worker: u32, first: u32, workers: u32) -> Equipped
+    requires workers { 1 ≤ workers }
+    requires free { D.held desk.old ≡ None }
+    ensures equipped { result ≡ record { worker = worker; first = first; workers = workers; flows = D.flows desk.old } }
+    ensures equips { Equips worker (tasks (flows_of first workers (D.flows desk.old)) most_steps) (D.log desk.old) (D.log desk.new) }
+{
+    let flows = desk.flow_count();
+    let (row, count) = row_of(flows, first, workers);
+    for step in 0..STEPS {
+        equip_row(desk, worker, step, &row[..count]);
+    }
+    Equipped {
+        duty: Duty {
+            worker,
+            first,
+            workers,
+            flows,
+        },
+    }
+}
+
+/// One step of each flow of a row.
+fn equip_row<D: InstallDesk>(desk: &mut D, worker: u32, step: u32, row: &[u32])
+    requires flows { (k : ℕ) → k < length row.now → slice_index row.now k < D.flows desk.old }
+    requires free { D.held desk.old ≡ None }
+    ensures equips { Equips worker (tasks_at step row.now) (D.log desk.old) (D.log desk.new) }
+    ensures free { D.held desk.new ≡ None }
+    ensures flows { D.flows desk.new ≡ D.flows desk.old }
+{
+    for place in 0..row.len() {
+        equip_flow(desk, worker, row[place], step);
+    }
+}
+
+/// A step of a flow: builds its text while no lock is held, installs what came of it, and changes the flow to it where
+/// it is a program. What fails for want of memory is left to the caller.
+fn equip_flow<D: InstallDesk>(desk: &mut D, worker: u32, flow: u32, step: u32)
+    requires flow { flow < D.flows desk.old }
+    requires free { D.held desk.old ≡ None }
+    ensures equips { Equips worker (record { flow = flow; step = step } ∷ []) (D.log desk.old) (D.log desk.new) }
+    ensures free { D.held desk.new ≡ None }
+    ensures flows { D.flows desk.new ≡ D.flows desk.old }
+{
+    let Some(entry) = desk.build(flow, step) else {
+        return;
+    };
+    if !install(desk, flow, entry) {
+        return;
+    }
+    desk.pass(worker, Point::AfterTake, flow);
+    if change(desk, flow) {
+        desk.pass(worker, Point::AfterSettle, flow);
+    }
+}
+
+/// Puts an entry into the flow's library, under the flow's lock, and says whether it was the next one.
+fn install<D: InstallDesk>(desk: &mut D, flow: u32, entry: D::Entry) -> bool
+    requires flow { flow < D.flows desk.old }
+    requires free { D.held desk.old ≡ None }
+    ensures log { Logs (D.log desk.old) (D.log desk.new) (installing flow (D.step_of entry) result) }
+    ensures free { D.held desk.new ≡ None }
+    ensures flows { D.flows desk.new ≡ D.flows desk.old }
+{
+    desk.lock(flow);
+    let is_next = desk.install(flow, entry);
+    desk.unlock(flow);
+    is_next
+}
+
+/// Changes the flow to its library's next program, under the flow's lock, and says whether there was one.
+fn change<D: InstallDesk>(desk: &mut D, flow: u32) -> bool
+    requires flow { flow < D.flows desk.old }
+    requires free { D.held desk.old ≡ None }
+    ensures log { Logs (D.log desk.old) (D.log desk.new) (changing flow result) }
+    ensures free { D.held desk.new ≡ None }
+    ensures flows { D.flows desk.new ≡ D.flows desk.old }
+{
+    desk.lock(flow);
+    let changed = desk.change(flow);
+    desk.unlock(flow);
+    changed
+}

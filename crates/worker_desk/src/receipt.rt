@@ -1,0 +1,79 @@
+use std::marker::Model;
+use std::thread::Promise;
+
+/// A worker's number at the gate, and its share of the flows: those of the first `flows` numbers that leave `first` when
+/// they are divided by `workers`.
+#[derive(Clone, Copy)]
+pub struct Duty {
+    pub worker: u32,
+    pub first: u32,
+    pub workers: u32,
+    pub flows: u32,
+}
+
+/// The work of a datapath worker was done. Only `serve` makes one; contracts see what the worker's duty was.
+#[derive(Drop)]
+pub struct Served {
+    pub(crate) duty: Duty,
+}
+
+impl Model for Served {
+    ghost use Rattle.worker_desk.specs.declared.receipt.Duty.{Duty};
+
+    ghost Value = { Duty };
+
+    ghost view = { λ s. s.duty };
+}
+
+impl Promise<Served> for Duty {
+    ghost use Rattle.std.specs.Prelude.{◌≡◌};
+
+    ghost kept_by = { λ duty served. served ≡ duty };
+}
+
+/// The work of an installer was done. Only `equip` makes one; contracts see what the installer's duty was.
+#[derive(Drop)]
+pub struct Equipped {
+    pub(crate) duty: Duty,
+}
+
+impl Model for Equipped {
+    ghost use Rattle.worker_desk.specs.declared.receipt.Duty.{Duty};
+
+    ghost Value = { Duty };
+
+    ghost view = { λ e. e.duty };
+}
+
+impl Promise<Equipped> for Duty {
+    ghost use Rattle.std.specs.Prelude.{◌≡◌};
+
+    ghost kept_by = { λ duty equipped. equipped ≡ duty };
+}
+
+/// An agent worker's number at the gate, and how many flows it knows.
+#[derive(Clone, Copy)]
+pub struct Post {
+    pub worker: u32,
+    pub flows: u32,
+}
+
+/// The work of an agent worker was done. Only `attend` makes one; contracts see what the worker's post was.
+#[derive(Drop)]
+pub struct Attended {
+    pub(crate) post: Post,
+}
+
+impl Model for Attended {
+    ghost use Rattle.worker_desk.specs.declared.receipt.Post.{Post};
+
+    ghost Value = { Post };
+
+    ghost view = { λ a. a.post };
+}
+
+impl Promise<Attended> for Post {
+    ghost use Rattle.std.specs.Prelude.{◌≡◌};
+
+    ghost kept_by = { λ post attended. attended ≡ post };
+}

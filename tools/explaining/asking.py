@@ -1,0 +1,53 @@
+"""Asks the program what it says of an input."""
+import os
+import re
+import subprocess
+
+TOP = os.path.dirname(os.path.dirname(os.path.dirname(os.path.abspath(__file__))))
+SECONDS = 30
+
+
+class NoProgram(Exception):
+    """There is no program, or it doesn't answer as it should."""
+
+
+def program_at(given):
+    """The program: the one that is given, $CCP_PROGRAM, or the one that is built here."""
+    path = os.path.abspath(given or os.environ.get("CCP_PROGRAM") or os.path.join(TOP, "crates", "ccp", "out", "ccp"))
+    if not os.access(path, os.X_OK):
+        raise NoProgram("there is no program at %s: run ./ccp --prove, or name one by --program or $CCP_PROGRAM" % path)
+    return path
+
+
+def asked(program, mode, data):
+    """What the program refuses in an input, as `range version`, or None.
+
+    A refusal comes before a run begins. So a run that takes longer than SECONDS is ended, and refused nothing."""
+    words = [program, mode]
+    if mode in ("campaign", "shared"):
+        words += ["--workers", str(min(32, os.cpu_count() or 1))]
+    try:
+        ran = subprocess.run(words, input=data, stdout=subprocess.DEVNULL, stderr=subprocess.PIPE, timeout=SECONDS)
+    except subprocess.TimeoutExpired:
+        return None
+    except OSError as why:
+        raise NoProgram("%s can't be run: %s" % (program, why.strerror))
+    told = ran.stderr.decode("utf-8", "replace")
+    found = re.fullmatch(r"ccp: input refused: (.*)\n", told, re.DOTALL)
+    if ran.returncode == 0 or (ran.returncode == 3 and found):
+        return found.group(1) if found else None
+    raise NoProgram("%s %s ended with status %d: %s" % (program, mode, ran.returncode, told.strip() or "it printed nothing"))
+
+
+def sentences_of(page):
+    """The table of refusals of a page in docs/: of each name its cause and what to do."""
+    found, within = {}, False
+    with open(os.path.join(TOP, "docs", page), encoding="utf-8") as file:
+        for line in file:
+            within = line.startswith("| Refusal | Cause | What to do |") or within and line.startswith("|")
+            bare = re.sub(r"\[([^]]*)\]\([^)]*\)", r"\1", line)
+            cells = [cell.strip().replace("\\|", "|") for cell in re.split(r"(?<!\\)\|", bare)[1:-1]]
+            name = re.match(r"`(?:trace <name> )?(\w+)", cells[0]) if within else None
+            if name:
+                found[name.group(1)] = tuple(cells[1:])
+    return found

@@ -1,0 +1,82 @@
+# shellcheck shell=bash disable=SC2154,SC2034
+# Runs a program on the words that were read, with the program's output, error line and status.
+
+proved=$here/crates/ccp/out/ccp
+
+fail() {
+    printf 'ccp: %s\n' "$1" >&2
+    exit 1
+}
+
+# Whether a program is there, and no source is newer.
+is_current() {
+    [ -x "$1" ] && [ -z "$(find "$here/crates.txt" "$here/crates" -name out -prune -o -type f \
+        \( -name '*.rt' -o -name '*.antt' -o -name crates.txt \) -newer "$1" -print -quit)" ]
+}
+
+# What the program reads: the FILEs, two of them joined by the line ---.
+input_of_files() {
+    cat -- "${files[0]}"
+    if [ ${#files[@]} -gt 1 ]; then
+        if [ -n "$(tail -c 1 -- "${files[0]}")" ]; then echo; fi
+        echo ---
+        cat -- "${files[1]}"
+    fi
+}
+
+# Runs the program $1 and ends with its status. Only where nothing may be left to say is it run in this shell's place.
+run_program() {
+    if [ ! -t 2 ] && [ ! -p /dev/stdout ] && [ ! -S /dev/stdout ] && [ ${#files[@]} -eq 0 ]; then
+        exec "$1" "${options[@]}" "$mode"
+    fi
+    run_beside "$1"
+    exit "$status"
+}
+
+# Runs the program $1 beside this shell, prints its error line, and sets `status`.
+# It has no terminal on standard error, so its line is held until it has ended.
+run_beside() {
+    local child
+    errors=$(mktemp) || fail 'no file can be made in the folder for temporary files'
+    trap 'rm -f "$errors"' EXIT
+    if [ ${#files[@]} -eq 0 ]; then
+        "$1" "${options[@]}" "$mode" <&0 2> "$errors" &
+    elif [ ${#files[@]} -eq 1 ]; then
+        "$1" "${options[@]}" "$mode" < "$(path_of_file "${files[0]}")" 2> "$errors" &
+    else
+        "$1" "${options[@]}" "$mode" < <(input_of_files) 2> "$errors" &
+    fi
+    child=$!
+    # a shell's child in the background doesn't hear the keyboard, so it is stopped from here
+    trap 'kill "$child" 2>/dev/null; wait "$child"; exit 130' INT
+    trap 'kill "$child" 2>/dev/null; wait "$child"; exit 143' TERM HUP
+    wait "$child"
+    status=$?
+    trap - INT TERM HUP
+    tell_errors "$errors"
+}
+
+path_of_file() {
+    if [ "$1" = - ]; then echo /dev/stdin; else printf '%s\n' "$1"; fi
+}
+
+# Prints the program's error line. A closed pipe ends silently, as that of any filter. At a terminal a second line says
+# who explains a refusal.
+tell_errors() {
+    if [ "$status" = 5 ] && { [ -p /dev/stdout ] || [ -S /dev/stdout ]; }; then
+        status=141
+        return
+    fi
+    cat "$1" >&2
+    if [ "$status" = 3 ] && [ -t 2 ] && [ -x "$here/tools/explain" ]; then
+        case $mode in
+            check | fold | campaign | live | rollout | shared | timeline | acks | audit)
+                echo "ccp: $(path_from_here tools/explain) ${files[0]-FILE} says what is wrong, where, and what is accepted" >&2 ;;
+        esac
+    fi
+}
+
+# A path of the repository, as you would type it where you are.
+path_from_here() {
+    if [ "$PWD" = "$here" ]; then printf '%s' "$1"; else printf '%s' "$here/$1"; fi
+}

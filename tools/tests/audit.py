@@ -1,0 +1,117 @@
+"""Tests of tools/audit: its verdicts are the program's, and the line that it shows is the one that was changed."""
+import json
+import os
+import re
+import sys
+import tempfile
+
+from harness import PROGRAM, TOOLS, TOP, ccp, expect, tool
+
+sys.path.insert(0, TOOLS)
+from explaining import flows
+
+CASE = {"name": "a", "agent": "reno", "trace": "t", "mss": 1448, "queue": 10, "delay_us": 20000, "timeout_us": 1000000, "acks": 24}
+FAULTY = "(def (Report (volatile acked 0)) (left 9)) (when true (:= left (- left 1)) (:= Report.acked (+ Report.acked Ack.bytes_acked)) (report))"
+SCENARIO = json.dumps({"version": 1, "traces": {"t": "10\n12\n"}, "programs": {"f": FAULTY}, "cases": [
+    CASE, {**CASE, "name": "b", "agent": "cubic", "losses": [7], "mark": 3}, {**CASE, "name": "c", "ss": "f", "ca": "f", "slots": 1}]})
+
+
+def live(*words, scenario=SCENARIO):
+    text, errors, status = ccp(["live", *words], scenario)
+    expect(status == 0, errors)
+    return text
+
+
+def verdict(scenario, text, status, *holds):
+    """What tools/audit prints of a scenario and a text in files."""
+    with tempfile.TemporaryDirectory() as room:
+        paths = [os.path.join(room, name) for name in ("scenario.json", "run.txt")]
+        for path, given in zip(paths, (scenario, text)):
+            with open(path, "w", encoding="utf-8", newline="") as file:
+                file.write(given)
+        printed, errors, ended = tool("audit", "--program", PROGRAM, *paths)
+    expect(ended == status and not errors, "status %d, %s%s" % (ended, printed, errors))
+    for part in holds:
+        expect(part in printed, "%r isn't in\n%s" % (part, printed))
+    return printed
+
+
+def test_audit_takes_live_texts():
+    expect(verdict(SCENARIO, live(), 0) == "yes\n", "yes")
+    text = live("--datapaths", "3", "--agents", "2")
+    expect(verdict(SCENARIO + "\n", text, 0) == "yes\n", "a scenario with its line end")
+    verdict(SCENARIO, text.replace("\n", "\r\n"), 0)
+    verdict(SCENARIO, text[:-1], 0)
+    verdict(SCENARIO, live("--wire"), 0)
+    verdict('{"version":1,"traces":{},"cases":[]}', "", 0)
+
+
+def changed(line):
+    """A line with another number in it: its last one, or the window of an epoch."""
+    return re.sub(r"([0-9]+)([^0-9]*)$", lambda found: str(int(found.group(1)) + 1) + found.group(2), line)
+
+
+def test_audit_shows_the_line_that_was_changed():
+    """Every second line of a text in turn, with another number in it."""
+    lines = live().split("\n")[:-1]
+    for at, line in list(enumerate(lines))[::2]:
+        text = "\n".join([*lines[:at], changed(line), *lines[at + 1 :]]) + "\n"
+        flow = sum(other.startswith("end ") for other in lines[:at])
+        printed = verdict(SCENARIO, text, 1, "no flow %d\n" % flow, "run.txt:%d: " % (at + 1))
+        expect("  expected  %s\n" % line in printed, "%s\n%s" % (line, printed))
+
+
+def test_audit_shows_where_a_text_ends():
+    lines = live().split("\n")[:-1]
+    for count in range(0, len(lines), 3):
+        text = "".join(line + "\n" for line in lines[:count])
+        printed = verdict(SCENARIO, text, 1)
+        if "ends before" not in printed:
+            # the tickets that are missing were to change the epochs above
+            expect(re.search(r"run.txt:[0-9]+: ", printed) or "expected" in printed, printed)
+
+
+def test_audit_counts_install_lines():
+    text = live("--wire")
+    installs = text.count("install ")
+    expect(installs == 4, "%d lines" % installs)
+    verdict(SCENARIO, text.replace("flow 0 case=a", "flow 0 case=b"), 1, "no flow 0\n", "run.txt:%d: another line begins flow 0" % (installs + 1))
+    verdict(SCENARIO, text + "more\n", 1, "no flow 3\n", "the text goes on after its last flow")
+
+
+def test_audit_shows_a_ticket_that_cannot_be():
+    text = live()
+    early = re.sub(r"taken=([0-9]+)", lambda found: "taken=%d" % (int(found.group(1)) - 1), text, count=1)
+    verdict(SCENARIO, early, 1, "no flow 0\n", "can't be taken and answered at its counts")
+    late = re.sub(r"taken=[0-9]+ answered=[0-9]+", "taken=25 answered=25", text, count=1)
+    verdict(SCENARIO, late, 1, "no flow 0\n", "all 24 acknowledgements are in")
+
+
+def test_audit_has_no_verdict():
+    with tempfile.TemporaryDirectory() as room:
+        path = os.path.join(room, "bad.json")
+        with open(path, "w") as file:
+            file.write('{"version":2}')
+        for words in (["-", "-"], ["no-such-file", "-"], [path, "-"], [path], ["--program", "/no/such", path, "-"]):
+            printed, errors, status = tool("audit", "--program", PROGRAM, *words, given="")
+            expect(status == 2 and not printed and errors.startswith("tools/audit: ") and errors.count("\n") == 1, "%s: %d %s" % (words, status, errors))
+        expect("range version" in tool("audit", "--program", PROGRAM, path, "-", given="")[1], "the refusal")
+
+
+def test_audit_works_flows_out_as_the_program():
+    """The campaign word's flows of tools/explaining are rows of `campaign`, and live texts to the judge."""
+    for name in ("campaign.json", "live.json"):
+        with open(os.path.join(TOP, "examples", name), encoding="utf-8") as file:
+            scenario = json.load(file)
+        scenario["cases"] = [{**case, "acks": min(case["acks"], 400)} for case in scenario["cases"][:12]]
+        text = json.dumps(scenario)
+        rows = ccp(["campaign"], text)[0].split("\n")[1:]
+        known, lines = flows.Programs(scenario), []
+        for number, (case, row) in enumerate(zip(scenario["cases"], rows)):
+            flow = flows.Flow(number, case, scenario["traces"], known)
+            flows.campaign(flow)
+            lines += flow.lines()
+            numbers = row.split(" ")
+            expect(numbers[2:7] == [str(one) for one in (flow.acks, flow.made, flow.held, len(flow.faults), len(flow.epochs))], row)
+            expect(numbers[10:12] == [str(flow.peak), str(flow.state.cwnd)], row)
+        verdict(text, "".join(line + "\n" for line in lines), 0)
