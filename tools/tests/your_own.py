@@ -40,6 +40,11 @@ def test_the_page_shows_the_example():
         expect(piece in content(DELAY) + "\n", piece)
 
 
+def test_the_shared_example_has_the_program():
+    scenario = json.loads(content(os.path.join(TOP, "examples", "delay-shared.json")))
+    expect(scenario["programs"]["delay"] == content(DELAY), "examples/delay-shared.json has another program than delay.portus")
+
+
 def test_delay_keeps_the_queue_short_and_fills_the_link():
     """On each trace: as fast as Reno to one per cent, without a loss, and no agent changes its program."""
     text, errors, status = tool("scenario", "--program", "delay=" + DELAY, "--agents", "reno,reno:delay", "--queue", 100,
@@ -88,7 +93,7 @@ def test_the_recording_is_what_acks_prints():
     needs_mode("acks")
     acks, errors, status = ccp(["acks"], content(LIVE))
     expect(status == 0, errors)
-    expect("flow 0" + acks.split("flow ")[1].removeprefix("0") == content(RECORDED), "examples/recorded.acks differs")
+    expect(acks.partition("flow 1 ")[0] == content(RECORDED), "examples/recorded.acks differs")
 
 
 def test_agent_meets_a_timeout_and_a_fault():
