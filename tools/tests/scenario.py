@@ -175,7 +175,8 @@ def test_the_size():
 def test_limits():
     for words in (["--queue", "0"], ["--agents", "vegas"], ["--mss", "70000"], ["--delay-ms", "1.2345"], ["--losses", "5+5"], ["--losses", "rate:0.6"], ["--losses", "gilbert:0.5"],
                   ["--losses", "gilbert:0.5:0.4"], ["--losses", "rate:x"], ["--seeds", "5..2"], ["--queue", "9:3:1"], ["--queue", "1:9:0"], ["--acks", "5", "--seconds", "5"], ["--seconds", "0"],
-                  ["--steps", "a"], ["--for", "rollout"], ["--for", "shared"], ["--shared", "fixed:1:1:1"], ["--for", "live", "--whole"], ["--cut", "0"], ["--program", "a b=c"]):
+                  ["--steps", "a"], ["--for", "rollout"], ["--for", "shared"], ["--shared", "fixed:1:1:1"], ["--for", "live", "--whole"], ["--cut", "0"], ["--program", "a b=c"],
+                  ["--seeds", "1..3"], ["--seeds", "1..3", "--losses", "none,rate:0.1:7"]):
         refused(2, "", *words, TRACES[0])
     refused(1, "no --program", "--agents", "reno:mine", TRACES[0])
     refused(1, "80 cases", "--for", "live", "--queue", "1:40:1", TRACES[0])

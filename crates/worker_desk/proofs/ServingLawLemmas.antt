@@ -221,7 +221,7 @@ turns-row flow other (head ∷ row) (answer ∷ answers) (ask ∷ first) middle 
 
 -- ---- nudges
 
-same-number : (n : ℕ) → (n == n) ≡ true
+pub same-number : (n : ℕ) → (n == n) ≡ true
 same-number n = grind (arith, nat_tests)
 
 nudges-turn : (worker flow : ℕ) (answer : Heard) (rest : List Event) → nudges_well None (turn worker flow answer ++ rest) ≡ nudges_well None rest

@@ -49,7 +49,7 @@ fn equip_row<D: InstallDesk>(desk: &mut D, worker: u32, step: u32, row: &[u32])
 }
 
 /// A step of a flow: builds its text while no lock is held, installs what came of it, and changes the flow to it where
-/// it is a program. What fails for want of memory is left to the caller.
+/// it is a program. A step for which memory runs out is left to the caller.
 fn equip_flow<D: InstallDesk>(desk: &mut D, worker: u32, flow: u32, step: u32)
     requires flow { flow < D.flows desk.old }
     requires free { D.held desk.old ≡ None }
