@@ -294,14 +294,14 @@ def test_over_a_machine_by_ssh():
     for program in ("parallel", "rsync", "ssh", "ssh-keygen"):
         needs(program)
     with tempfile.TemporaryDirectory() as room, machine(room) as command:
-        path = scenario_file(room, "--queue", "10,20,30", "--acks", 60, *TRACES)
+        path = scenario_file(room, "--queue", "10,20,30", "--acks", 60, TRACES[0])
         wanted = ccp(["campaign"], content(path))[0]
         before = set(os.listdir(os.path.expanduser("~")))
-        printed, errors, status = tool(NAME, "--quiet", "--program", PROGRAM, "--ssh", command, "--sshlogin", "2/ccp-machine", "--size", 5, path)
+        printed, errors, status = tool(NAME, "--quiet", "--program", PROGRAM, "--ssh", command, "--sshlogin", "2/ccp-machine", "--size", 3, path)
         expect(status == 0 and printed == wanted, errors)
         left = [name for name in set(os.listdir(os.path.expanduser("~"))) - before if name != ".parallel"]
         expect(not left, "files are left: %s" % left)
-        printed, errors, status = tool(NAME, "--quiet", "--program", PROGRAM, "--ssh", command, "--sshlogin", "ccp-machine,:", "--size", 4, path)
+        printed, errors, status = tool(NAME, "--quiet", "--program", PROGRAM, "--ssh", command, "--sshlogin", "ccp-machine,:", "--size", 3, path)
         expect(status == 0 and printed == wanted, "two machines: %s" % errors)
         printed, errors, status = tool(NAME, "--quiet", "--program", "/no/such/ccp", "--tries", 1, "--ssh", command, "--sshlogin", "ccp-machine", path)
         expect(status == 6 and not printed and "/no/such/ccp" in errors, "a machine without the program: %s" % errors)
