@@ -12,7 +12,8 @@ with `flow` lines, number N is played (0). `-` is standard input. The recording 
 what the link would have done with another window. Put your own agent in the place of Reno: it needs `begin`, `report` and
 `fault`, and what these give is an answer of the class Datapath. docs/frames.md has the bytes of the frames.
 
-The program is the one of --program, else of $CCP_PROGRAM, else crates/ccp/out/ccp.
+The program is the one of --program, else of $CCP_PROGRAM, else the one built here: crates/ccp/out/ccp, or
+crates/ccp/out/checked/ccp, which isn't proved.
 Exit status: 0, 1 where a file or the program is wrong, 2 where the words are."""
 import argparse
 import os
@@ -21,7 +22,8 @@ import subprocess
 import sys
 
 TOP = os.path.dirname(os.path.dirname(os.path.abspath(__file__)))
-BUILT = os.path.join(TOP, "crates", "ccp", "out", "ccp")
+OUT = os.path.join(TOP, "crates", "ccp", "out")
+BUILT = next((path for path in (os.path.join(OUT, "ccp"), os.path.join(OUT, "checked", "ccp")) if os.path.exists(path)), os.path.join(OUT, "ccp"))
 PRIMITIVES = ("bytes_acked packets_acked bytes_misordered packets_misordered ecn_bytes ecn_packets lost_pkts_sample now "
               "bytes_in_flight packets_in_flight bytes_pending rate_incoming rate_outgoing rtt_sample_us was_timeout").split()
 # The built-in programs that are used, the fields of their reports, and what an answer can set: class and index.

@@ -28,6 +28,8 @@ from dataclasses import dataclass, field
 
 TOP = os.path.dirname(os.path.dirname(os.path.abspath(__file__)))
 PROGRAM = os.path.join(TOP, "crates", "ccp", "out", "ccp")
+# the unproved one, which ./ccp compiles and keeps until there is a proved one
+CHECKED = os.path.join(TOP, "crates", "ccp", "out", "checked", "ccp")
 
 COLUMNS = "case agent acks reports held faults epochs lost timeouts acked peak cwnd now tail".split()
 SUMS = "acks reports held faults lost timeouts acked".split()
@@ -243,7 +245,7 @@ def named(line, words, names):
     found = []
     for word, name in zip(words, names):
         if not word.startswith(name + "="):
-            raise BadText("%s= is expected where %s stands" % (name, word[:40]), line)
+            raise BadText("%s= is expected, not %s" % (name, word[:40]), line)
         found.append(word[len(name) + 1 :])
     return found
 
@@ -261,7 +263,7 @@ def fields_of(line, words):
     for word in words:
         name, is_named, text = word.partition("=")
         if not is_named:
-            raise BadText("a field is expected where %s stands" % word[:40], line)
+            raise BadText("a field is expected, not %s" % word[:40], line)
         made[name] = whole(line, name, text)
     return made
 
@@ -581,7 +583,7 @@ def trace_text(times):
 
 
 def nearest_rank(ordered, percent):
-    """The percentile of a list in order: the least value that at least so many per cent of all are at most."""
+    """The percentile of a list in order: the least value such that at least that share of all values is at most it."""
     return ordered[max(0, -(-len(ordered) * percent // 100) - 1)]
 
 
@@ -632,10 +634,12 @@ class Run:
 
 
 def find_program(path=None):
-    """The program to run: the one given, else that of the variable CCP_PROGRAM, else the one that was built here."""
-    found = path or os.environ.get("CCP_PROGRAM") or PROGRAM
+    """The program to run: the one given, else that of the variable CCP_PROGRAM, else the one that was built here, else the
+    unproved one that ./ccp keeps."""
+    built = CHECKED if os.access(CHECKED, os.X_OK) and not os.path.exists(PROGRAM) else PROGRAM
+    found = path or os.environ.get("CCP_PROGRAM") or built
     if not (os.path.isfile(found) and os.access(found, os.X_OK)):
-        raise NoProgram("there is no program at %s: `./ccp --prove` builds it; --program PATH or CCP_PROGRAM=PATH names another" % found)
+        raise NoProgram("there is no program at %s: `./ccp --prove` builds it, and any run of `./ccp` an unproved one; --program PATH or CCP_PROGRAM=PATH names another" % found)
     return os.path.abspath(found)
 
 

@@ -3,6 +3,8 @@ import os
 import re
 import subprocess
 
+import ccp
+
 TOP = os.path.dirname(os.path.dirname(os.path.dirname(os.path.abspath(__file__))))
 SECONDS = 30
 
@@ -13,10 +15,10 @@ class NoProgram(Exception):
 
 def program_at(given):
     """The program: the one that is given, $CCP_PROGRAM, or the one that is built here."""
-    path = os.path.abspath(given or os.environ.get("CCP_PROGRAM") or os.path.join(TOP, "crates", "ccp", "out", "ccp"))
-    if not os.access(path, os.X_OK):
-        raise NoProgram("there is no program at %s: run ./ccp --prove, or name one by --program or $CCP_PROGRAM" % path)
-    return path
+    try:
+        return ccp.find_program(given)
+    except ccp.NoProgram as why:
+        raise NoProgram(str(why))
 
 
 def asked(program, mode, data):

@@ -62,6 +62,21 @@ More: README.md, docs/, man -l docs/ccp.1. The scripts of tools/ make scenarios,
 END_OF_PAGE
 }
 
+# What a mode reads.
+input_of_mode() {
+    case $1 in
+        check) echo 'a program (docs/language.md)' ;;
+        fold) echo 'a program (docs/language.md), a line ---, and lines of acknowledgements' ;;
+        campaign) echo 'a scenario of at most 1,024 cases (docs/scenarios.md)' ;;
+        live | timeline | acks) echo 'a scenario of at most 64 cases (docs/scenarios.md)' ;;
+        shared) echo 'a scenario with the member "shared" (docs/scenarios.md)' ;;
+        rollout) echo 'a scenario of a rollout (docs/scenarios.md)' ;;
+        audit) echo 'a scenario of live, a line ---, and a live text' ;;
+        feed) echo 'a stream of frames (docs/frames.md)' ;;
+        soak) echo 'nothing' ;;
+    esac
+}
+
 # The page of one mode.
 page_of_mode() {
     local name text example options page input=' [FILE]'
@@ -73,12 +88,16 @@ page_of_mode() {
     esac
     printf 'ccp %s\n\n' "${options:+[OPTION].. }$1$input"
     mode_rows | while IFS=$'\t' read -r name text example; do
-        if [ "$name" = "$1" ]; then printf '%s.\n\n  %s\n' "${text%.}" "$example"; fi
+        if [ "$name" = "$1" ]; then printf '%s.\nReads %s.\n\n  %s\n' "${text^}" "$(input_of_mode "$1")" "$example"; fi
     done
     if [ -n "$options" ]; then printf '\nOptions:\n%s\n' "$options"; fi
-    page=docs/$1.md
-    if [ ! -e "$here/$page" ]; then page=docs/formats.md; fi
-    printf '\nMore: %s\n' "$page"
+    case $1 in
+        acks) page=docs/timeline.md ;;
+        feed) page=docs/frames.md ;;
+        *) page=docs/$1.md ;;
+    esac
+    if [ -e "$here/$page" ]; then page+=', '; else page=''; fi
+    printf '\nMore: %sdocs/formats.md\n' "$page"
 }
 
 # The version, the commit and the toolchain, with what was proved.

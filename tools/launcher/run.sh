@@ -71,8 +71,22 @@ tell_errors() {
     if [ "$status" = 3 ] && [ -t 2 ] && [ -x "$here/tools/explain" ]; then
         case $mode in
             check | fold | campaign | live | rollout | shared | timeline | acks | audit)
-                echo "ccp: $(path_from_here tools/explain) ${files[0]-FILE} says what is wrong, where, and what is accepted" >&2 ;;
+                echo "ccp: $(words_of_explain) says what is wrong, where, and what is accepted" >&2 ;;
         esac
+    fi
+}
+
+# The command that explains a refusal of this input.
+words_of_explain() {
+    local explain line_end=''
+    explain="$(path_from_here tools/explain) --for $mode"
+    if [ ${#files[@]} -gt 1 ]; then
+        if [ -n "$(tail -c 1 -- "${files[0]}")" ]; then line_end='echo; '; fi
+        printf '(cat %q; %secho ---; cat %q) | %s' "${files[0]}" "$line_end" "${files[1]}" "$explain"
+    elif [ "${files[0]--}" = - ]; then
+        printf '%s FILE' "$explain"
+    else
+        printf '%s %q' "$explain" "${files[0]}"
     fi
 }
 

@@ -8,7 +8,7 @@ option_table=(
     'agents 1 32 live,rollout threads of agents'
     'workers 1 32 campaign,soak,shared,timeline,acks threads that share the cases or flows'
     'number 0 4294967295 soak the number from which the cases are drawn'
-    'wire - - live,campaign,timeline,acks the Install frames of the programs first'
+    'wire - - live,campaign,timeline prints the Install frames of the programs first'
 )
 
 # Sets `modes` to the names of the modes, from the definition of the command line.
@@ -49,7 +49,7 @@ most_files() {
     esac
 }
 
-# Reads the option $1, whose value is $2 if it was written with one, and else stands first in `following`.
+# Reads the option $1, whose value is $2 if it was written with one, and else the first of `following`.
 # Sets `taken` to how many of the following words it takes, and `wrong` to what is refused.
 read_option() {
     local name=${1#--} row least='' most value written
@@ -59,9 +59,9 @@ read_option() {
     done
     if [ -z "$least" ]; then
         wrong="$1 is no option: the options are --datapaths, --agents, --workers, --number and --wire"
-        if [ "$1" = --prove ]; then wrong='--prove stands first, and without a mode'; fi
+        if [ "$1" = --prove ]; then wrong='--prove comes first, and without a mode'; fi
     elif [[ $given == *" $name "* ]]; then
-        wrong="$1 is given twice: each option stands at most once"
+        wrong="$1 is given twice: each option may be given once"
     elif [ "$least" = - ]; then
         if [ $# -gt 1 ]; then wrong="$1=$2: $1 takes no value"; fi
         options+=("$1")
@@ -89,7 +89,7 @@ read_place() {
     else
         files+=("$1")
         if [ ${#files[@]} -gt "$(most_files "$mode")" ]; then
-            wrong="$1 is one FILE too many: $mode takes $(most_files "$mode")"
+            wrong="$1 is one FILE too many: $mode takes $(most_files "$mode" | sed 's/^0$/none/')"
         fi
     fi
     [ -z "$wrong" ]

@@ -140,6 +140,20 @@ def test_runs_of_timelines():
         expect(row["reports"] == len(flow.reports) and row["acks"] == len(of_acks.acks) and row["acked"] == sum(ack["bytes_acked"] for ack in of_acks.acks), row["case"])
 
 
+def test_the_unproved_program_is_taken_until_one_is_proved():
+    kept = ccp.PROGRAM, ccp.CHECKED, os.environ.pop("CCP_PROGRAM", None)
+    try:
+        with tempfile.TemporaryDirectory() as room:
+            ccp.PROGRAM, ccp.CHECKED = os.path.join(room, "proved"), script(room, "checked", "exit 0\n")
+            expect(ccp.find_program() == ccp.CHECKED, "the unproved one")
+            script(room, "proved", "exit 0\n")
+            expect(ccp.find_program() == ccp.PROGRAM, "the proved one")
+    finally:
+        ccp.PROGRAM, ccp.CHECKED = kept[:2]
+        if kept[2] is not None:
+            os.environ["CCP_PROGRAM"] = kept[2]
+
+
 def test_the_program_is_found():
     kept = os.environ.pop("CCP_PROGRAM", None)
     try:
