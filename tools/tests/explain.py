@@ -291,7 +291,7 @@ def test_explain_takes_the_examples():
 def test_explain_of_standard_input():
     for words in ([], ["-"], ["--for", "campaign"], ["--quiet"]):
         printed, errors, status = tool("explain", "--program", PROGRAM, *words, given=scenario(queue=0, marks=1))
-        expect(status == 1 and not errors and printed.startswith("standard input:10:13: refused: range cases[0].queue\n"), "%s: %d %s%s" % (words, status, printed, errors))
+        expect(status == 1 and not errors and printed.startswith("standard input:12:13: refused: range cases[0].queue\n"), "%s: %d %s%s" % (words, status, printed, errors))
         expect(("warning" in printed) == (words != ["--quiet"]), printed)
 
 
