@@ -17,7 +17,8 @@ SCENARIO = json.dumps({"version": 1, "traces": {"t": "10\n12\n"}, "programs": {"
 
 
 def live(*words, scenario=SCENARIO):
-    text, errors, status = ccp(["live", *words], scenario)
+    """A live text that is the same on every run, so that what a change of it makes is known."""
+    text, errors, status = ccp(["timeline", *words], scenario)
     expect(status == 0, errors)
     return text
 
