@@ -3,20 +3,9 @@ import os
 import re
 import subprocess
 
-TOP = os.path.dirname(os.path.dirname(os.path.dirname(os.path.abspath(__file__))))
+from ccp import TOP, NoProgram
+
 SECONDS = 30
-
-
-class NoProgram(Exception):
-    """There is no program, or it doesn't answer as it should."""
-
-
-def program_at(given):
-    """The program: the one that is given, $CCP_PROGRAM, or the one that is built here."""
-    path = os.path.abspath(given or os.environ.get("CCP_PROGRAM") or os.path.join(TOP, "crates", "ccp", "out", "ccp"))
-    if not os.access(path, os.X_OK):
-        raise NoProgram("there is no program at %s: run ./ccp --prove, or name one by --program or $CCP_PROGRAM" % path)
-    return path
 
 
 def asked(program, mode, data):
