@@ -12,7 +12,7 @@ Running           find_program, run, knows_mode, run_campaign, run_table, run_fl
 Texts             kind_of, read_table, read_soak, read_flows, flows_in, read_acks, acks_in, read_installs
 Scenarios         read_scenario, scenario_text, write_scenario, LIMITS
 Traces            Trace, read_trace, trace_text, nearest_rank
-Scripts           Words, read_text, main_of
+Scripts           Words, whole_from, read_text, main_of
 
 Numbers are Python's whole numbers, with the units that `ccp` prints: bytes, packets, and microseconds of virtual time.
 Every function that reads a text takes a string, or an open file whose lines it reads one after another. A text that
@@ -67,7 +67,7 @@ class BadText(CcpError):
 
 
 class NoProgram(CcpError):
-    """There is no program to run."""
+    """There is no program to run, or it doesn't answer as it should."""
 
 
 class Failed(CcpError):
@@ -695,6 +695,17 @@ class Words(argparse.ArgumentParser):
     def error(self, message):
         print("%s: %s" % (self.prog.split(" ")[0], message), file=sys.stderr)
         sys.exit(2)
+
+
+def whole_from(least, most):
+    """A reader of whole numbers of a range, for the words of a script."""
+
+    def read(text):
+        if not re.fullmatch(r"[0-9]+", text) or not least <= int(text) <= most:
+            raise argparse.ArgumentTypeError("%s isn't a whole number from %d to %d" % (text, least, most))
+        return int(text)
+
+    return read
 
 
 class SubWords(Words):

@@ -3,22 +3,9 @@ import os
 import re
 import subprocess
 
-import ccp
+from ccp import TOP, NoProgram
 
-TOP = os.path.dirname(os.path.dirname(os.path.dirname(os.path.abspath(__file__))))
 SECONDS = 30
-
-
-class NoProgram(Exception):
-    """There is no program, or it doesn't answer as it should."""
-
-
-def program_at(given):
-    """The program: the one that is given, $CCP_PROGRAM, or the one that is built here."""
-    try:
-        return ccp.find_program(given)
-    except ccp.NoProgram as why:
-        raise NoProgram(str(why))
 
 
 def asked(program, mode, data):

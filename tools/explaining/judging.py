@@ -2,7 +2,7 @@
 import re
 import subprocess
 
-from explaining.asking import NoProgram
+from ccp import NoProgram
 
 
 class Refused(Exception):

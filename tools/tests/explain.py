@@ -10,7 +10,7 @@ import sys
 from harness import PROGRAM, TOOLS, TOP, expect, tool
 
 sys.path.insert(0, TOOLS)
-from explaining import asking, folds, json_places, programs, scenarios
+from explaining import asking, programs, scenarios
 from explaining.shown import nearest
 
 

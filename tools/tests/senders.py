@@ -2,9 +2,7 @@
 import csv
 import glob
 import io
-import json
 import os
-import re
 import tempfile
 
 from harness import TOP, TRACES, LeftOut, ccp, content, expect, tool
