@@ -1,4 +1,4 @@
-// One Reno flow in ns-3 over a bottleneck of 12 Mbit/s with a queue of so many packets and a round-trip time of
+// One Reno flow in ns-3 over a bottleneck of 12 Mbit/s with a queue of the given number of packets and a round-trip time of
 // 20 milliseconds: how many segments were acknowledged and lost, the virtual time, and the time of the machine.
 //
 //     reno [SEGMENTS [QUEUE]]

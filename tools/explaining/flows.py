@@ -50,8 +50,8 @@ class Report:
     def shown(self):
         return " now=%d cwnd=%d rate=%d%s" % (self.now, self.cwnd, self.rate, values(self.fields))
 
-    def told(self, look):
-        """What an agent reads of it."""
+    def read(self, look):
+        """What an agent reads of the report: the fields that its program declares."""
         by_name = dict(self.fields)
         return {"now": self.now, "cwnd": self.cwnd, **{name: by_name.get(name, 0) if name in look else 0 for name in READ}}
 
@@ -147,7 +147,7 @@ class Flow:
         if not isinstance(told, Report):
             return self.agent.change(self.agent.phase)
         look = [name[len("Report."):] for name in self.programs[self.roles[self.agent.phase]].fields]
-        return self.agent.report(told.told(look))
+        return self.agent.report(told.read(look))
 
     def settle_due(self):
         """What the campaign word has after an acknowledgement: answers that are due, and takings."""
@@ -221,7 +221,7 @@ def made(flow, counts):
 
 
 def advance(flow, count):
-    """Acknowledgements until there are so many."""
+    """Makes acknowledgements until the flow has `count` of them."""
     if count < flow.acks:
         raise Illegal("the count falls to %d, and %d acknowledgements are in" % (count, flow.acks))
     while flow.acks < count:
