@@ -177,9 +177,9 @@ def play(datapath, agent, acks, mss):
                 continue
             reports += 1
             report = report_of(body)
-            told = " ".join("%s=%d" % (name, report[name]) for name in ("now", "cwnd", "acked", "loss", "rtt"))
+            fields = " ".join("%s=%d" % (name, report[name]) for name in ("now", "cwnd", "acked", "loss", "rtt"))
             reply = apply(datapath, agent.report(report), mss)
-            print("report program=%(program)d span=%(first)d..%(end)d" % report, told, "reply=" + reply)
+            print("report program=%(program)d span=%(first)d..%(end)d" % report, fields, "reply=" + reply)
     print("end acks=%d reports=%d window=%d" % (len(acks), reports, agent.window))
 
 

@@ -53,7 +53,7 @@ run_beside() {
     wait "$child"
     status=$?
     trap - INT TERM HUP
-    tell_errors "$errors"
+    print_errors "$errors"
 }
 
 path_of_file() {
@@ -61,8 +61,8 @@ path_of_file() {
 }
 
 # Prints the program's error line. A closed pipe ends silently, as that of any filter. At a terminal a second line says
-# who explains a refusal.
-tell_errors() {
+# what explains a refusal.
+print_errors() {
     if [ "$status" = 5 ] && { [ -p /dev/stdout ] || [ -S /dev/stdout ]; }; then
         status=141
         return

@@ -81,9 +81,13 @@ read_option() {
 read_place() {
     if [ -z "$mode" ]; then
         mode=$1
-        is_mode "$1" || wrong="$1 is no mode: the modes are $(joined_by ', ' "${modes[@]}")"
-    elif [ "$1" != - ] && { [ ! -e "$1" ] || [ -d "$1" ]; }; then
+        is_mode "$1" || wrong="${1:-the empty word} is no mode: the modes are $(joined_by ', ' "${modes[@]}")"
+    elif [ -z "$1" ]; then
+        wrong='an empty word is no option and no FILE'
+    elif [ "$1" != - ] && [ ! -e "$1" ]; then
         wrong="$1 is no option, and no FILE of this name is there"
+    elif [ -d "$1" ]; then
+        wrong="$1 is a folder, and a FILE is accepted"
     elif [ "$1" != - ] && [ ! -r "$1" ]; then
         wrong="$1 can't be read"
     else
