@@ -8,10 +8,11 @@ fail() {
     exit 1
 }
 
-# Whether a program is there, and no source is newer.
+# Whether a program is there, and no source is newer. Of the folders named `out` only a crate's own is left out: the proofs
+# of a function of that name are sources.
 is_current() {
-    [ -x "$1" ] && [ -z "$(find "$here/crates.txt" "$here/crates" -name out -prune -o -type f \
-        \( -name '*.rt' -o -name '*.antt' -o -name crates.txt \) -newer "$1" -print -quit)" ]
+    [ -x "$1" ] && [ -z "$(find "$here/crates.txt" "$here"/crates/*/* -path "$here/crates/*/out" ! -path "$here/crates/*/*/out" -prune -o \
+        -type f \( -name '*.rt' -o -name '*.antt' -o -name crates.txt \) -newer "$1" -print -quit)" ]
 }
 
 # What the program reads: the FILEs, two of them joined by the line ---.
