@@ -11,6 +11,7 @@ mode_rows() {
             gsub(/ \(\[[^)]*\)\)/, "", cells[3])
             cells[3] = without_links(cells[3])
             gsub(/`/, "", cells[2])
+            gsub(/`/, "", cells[3])
             gsub(/`/, "", cells[4])
             gsub("\001", "|", cells[4])
             printf "%s\t%s\t%s\n", cells[2], cells[3], cells[4]
