@@ -17,6 +17,8 @@ POINTS = [7, 5, 9, 13, 6, 4, 8, 12]
 FILLS = ["solid 1.0", "pattern 5", "pattern 4", "solid 0.3", "pattern 1", "pattern 2", "pattern 7", "pattern 0"]
 MOST_SERIES = len(COLOURS)
 GREY = "#D9D9D9"
+# pixels, where no size is asked for
+WIDTH = 900
 
 
 class Look:
@@ -31,6 +33,11 @@ class Look:
     def line(self):
         """The height of a line of text."""
         return 1.45 * self.points
+
+    def letters(self):
+        """About how many letters fit side by side below a panel as wide as the picture."""
+        width = self.size[0] if self.size else WIDTH
+        return max(8, int((width - 7 * self.points) / self.wide("x")))
 
     def wide(self, text):
         """About how wide a text is."""
@@ -72,7 +79,13 @@ def value_text(value):
 
 
 def quoted(text):
-    return '"%s"' % text.replace("\\", "\\\\").replace('"', '\\"')
+    """A text as gnuplot reads it. In double quotes gnuplot would run what is between backquotes as a command."""
+    return '"%s"' % text.replace("\\", "\\\\").replace('"', '\\"').replace("`", "\\140")
+
+
+def lines_quoted(text):
+    """A text with `\\n` between its lines."""
+    return '"%s"' % "\\n".join(quoted(line)[1:-1] for line in text.split("\\n"))
 
 
 # ---- styles
@@ -135,7 +148,7 @@ def size_of(page, look):
     """The picture's size: as wide and high as is asked, or as high as its panels need."""
     if look.size:
         return look.size
-    width = 900 if page.columns < 3 else 1100
+    width = WIDTH if page.columns < 3 else 1100
     above, below = heights(page, look, width)
     if not page.shared:
         return width, round(above + rows_of(page) * (240 + below + 1.9 * look.line))

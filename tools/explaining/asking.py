@@ -5,18 +5,19 @@ import subprocess
 
 from ccp import TOP, NoProgram
 
-SECONDS = 30
+# an unproved program on a busy machine reads a megabyte in less than two seconds
+SECONDS, SECONDS_A_BYTE = 30, 2 / 1_000_000
 
 
 def asked(program, mode, data):
     """What the program refuses in an input, as `range version`, or None.
 
-    A refusal comes before a run begins. So a run that takes longer than SECONDS is ended, and refused nothing."""
+    A refusal comes before a run begins. So a run that takes far longer than reading its input is ended, and refused nothing."""
     words = [program, mode]
     if mode in ("campaign", "shared"):
         words += ["--workers", str(min(32, os.cpu_count() or 1))]
     try:
-        ran = subprocess.run(words, input=data, stdout=subprocess.DEVNULL, stderr=subprocess.PIPE, timeout=SECONDS)
+        ran = subprocess.run(words, input=data, stdout=subprocess.DEVNULL, stderr=subprocess.PIPE, timeout=SECONDS + SECONDS_A_BYTE * len(data))
     except subprocess.TimeoutExpired:
         return None
     except OSError as why:

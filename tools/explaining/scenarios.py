@@ -10,6 +10,13 @@ TOP = os.path.dirname(os.path.dirname(os.path.dirname(os.path.abspath(__file__))
 SCHEMA = os.path.join(TOP, "examples", "scenario.schema.json")
 CASES = {"campaign": 1024}
 TOTAL = 262144
+# what takes more cases than a run of a mode
+MORE_CASES = {
+    "campaign": " tools/campaign-over-machines takes any number.",
+    "timeline": " tools/campaign-over-machines --timeline takes any number.",
+    "acks": " tools/campaign-over-machines --acks takes any number.",
+    "live": " `campaign` takes 1024, and `tools/campaign-over-machines --timeline` prints reports of any number.",
+}
 NAME = re.compile("[A-Za-z0-9_.-]{1,32}")
 # members that ccp ignores and that say nothing wrong: of editors, and what tools/scenario writes for tools/metrics
 NOTES = re.compile(r"[$_].*|comment|note|description|title|sender|seed|rate|loss")
@@ -26,6 +33,10 @@ class Rules:
     def members(self, of):
         """The members of an object: of `whole`, `case`, `rolloutCase` or `bottleneck`."""
         return {name: self._resolved(rule) for name, rule in self.definitions[of]["properties"].items()}
+
+    def needs(self, of, name):
+        """Whether an object can't be without a member."""
+        return name in self.definitions[of].get("required", ())
 
     def _resolved(self, rule):
         return self.definitions[rule["$ref"].rsplit("/", 1)[1]] if "$ref" in rule else rule
@@ -112,7 +123,7 @@ def refusal_of(scenario, mode, told, sentences, program_sentences):
         return trace_refusal(scenario, told, rest, sentences)
     hints = [" ".join(sentences[kind])]
     if kind == "totals":
-        return totals_refusal(scenario, told, hints)
+        return totals_refusal(scenario, mode, told, hints)
     within, name, value = scenario.found(rest)
     of = "bottleneck" if rest.startswith("shared.") else scenario.case_kind(mode) if rest.startswith("cases[") else "whole"
     found = {"missing": missing, "wrong": wrong, "range": out_of_range}[kind](scenario, mode, of, within, name, value, rest)
@@ -198,7 +209,7 @@ def wrong(scenario, mode, of, within, name, value, path):
     elif re.search(r"losses\[[0-9]+\]", path):
         hints += hints_of_loss(scenario, value, path)
     else:
-        hints += hints_of_value(scenario, name, value)
+        hints += hints_of_value(scenario, of, name, value)
     return Finding("refused", start, end, "", [hint for hint in hints if hint])
 
 
@@ -222,13 +233,15 @@ def hints_of_loss(scenario, value, path):
     return ["%d comes after %s: each number is above the one before." % (number, before.is_)]
 
 
-def hints_of_number(value):
+def hints_of_number(value, is_needed=True):
     """Why a value is no whole number."""
     if value.kind == "text":
         bare = value.is_.strip()
         return ["Write the number without quotes: %s." % bare] if bare.isdigit() else ["A text isn't a number."]
     if value.kind != "number":
-        return ["Leave the member out to have its default; `null` isn't one."] if value.kind_name() == "null" else ["Here is %s." % value.kind_name()]
+        if value.kind_name() != "null":
+            return ["Here is %s." % value.kind_name()]
+        return ["Write a number; `null` isn't one." if is_needed else "Leave the member out to have its default; `null` isn't one."]
     number = float(value.is_)
     if number == 0:
         return ["Write `0`."]
@@ -237,7 +250,7 @@ def hints_of_number(value):
     return ["It is no whole number below 2^64."]
 
 
-def hints_of_value(scenario, name, value):
+def hints_of_value(scenario, of, name, value):
     """Why a member's value is wrong."""
     if name in ("trace", "ss", "ca", "steps"):
         return hints_of_reference(scenario, name, value)
@@ -249,7 +262,7 @@ def hints_of_value(scenario, name, value):
         return ["It is an object `{..}`; here is %s." % value.kind_name()]
     if name in ("cases", "losses"):
         return ["It is a list `[..]`; here is %s." % value.kind_name()]
-    return hints_of_number(value)
+    return hints_of_number(value, scenario.rules.needs(of, name))
 
 
 def hints_of_reference(scenario, name, value):
@@ -277,7 +290,7 @@ def out_of_range(scenario, mode, of, _within, name, value, path):
     if path == "cases":
         limit = CASES.get(mode, 64)
         first = value.is_[limit]
-        more = " `campaign` takes 1024, and tools/campaign-over-machines any number." if mode == "live" else ""
+        more = MORE_CASES.get(mode, "")
         return Finding("refused", first.start, first.start + 1, "", ["`%s` takes at most %d cases; here are %d.%s" % (mode, limit, len(value.is_), more)])
     if path == "programs":
         return Finding("refused", value.start, value.start + 1, "", ["At most 13 programs; here are %d." % len(value.names())])
@@ -289,9 +302,9 @@ def out_of_range(scenario, mode, of, _within, name, value, path):
     return Finding("refused", value.start, value.end, "", [allowed, "Here is %s." % value.is_])
 
 
-def totals_refusal(scenario, told, hints):
+def totals_refusal(scenario, mode, told, hints):
     total = sum(case.member("acks").whole() for case in scenario.cases())
-    hints.append("Here are %d acknowledgements in %d cases; the limit is %d. `campaign` has no such limit." % (total, len(scenario.cases()), TOTAL))
+    hints.append("Here are %d acknowledgements in %d cases; the limit is %d. `campaign` has no such limit.%s" % (total, len(scenario.cases()), TOTAL, MORE_CASES[mode] if mode in ("timeline", "acks") else ""))
     start = scenario.whole.member("cases").start
     return Finding("refused", start, start + 1, told, hints)
 

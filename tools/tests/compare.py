@@ -90,13 +90,15 @@ def browser():
 
 # a frame as wide as a screen, and what is in it: a `pre` may scroll, and so may what has the class wide
 SCRIPT = """frame.onload = function () {
-  var page = frame.contentDocument, seen = {width: page.documentElement.scrollWidth, client: page.documentElement.clientWidth, over: [], images: [], order: []};
+  var page = frame.contentDocument, seen = {width: page.documentElement.scrollWidth, client: page.documentElement.clientWidth, over: [], images: [], orders: []};
   page.querySelectorAll("*").forEach(function (part) {
     if (part.getBoundingClientRect().right > seen.client + 0.5 && !part.closest(".wide") && !part.closest("pre")) { seen.over.push(part.tagName); }
   });
   [].forEach.call(page.images, function (image) { seen.images.push(image.complete && image.naturalWidth > 300); });
-  page.querySelectorAll("#figures button")[2].click();
-  page.querySelectorAll("#figures tbody tr").forEach(function (row) { seen.order.push(+row.cells[2].getAttribute("data-value")); });
+  [[2, 1], [2, 2], [1, 1]].forEach(function (click) {
+    page.querySelectorAll("#figures button")[click[0]].click();
+    seen.orders.push([].map.call(page.querySelectorAll("#figures tbody tr"), function (row) { return row.cells[click[0]].getAttribute("data-value"); }));
+  });
   document.getElementById("seen").textContent = JSON.stringify(seen);
 };"""
 
@@ -118,7 +120,10 @@ def test_report_in_a_browser():
             seen = json.loads(html.unescape(found.group(1)))
             expect(seen["width"] <= seen["client"] and not seen["over"], "at %d pixels: %s" % (width, seen))
             expect(len(seen["images"]) == 6 and all(seen["images"]), "pictures: %s" % seen["images"])
-            expect(len(seen["order"]) == 9 and seen["order"] == sorted(seen["order"]), "the table isn't sorted: %s" % seen["order"])
+            # the third column twice, then the second one
+            up, down, names = seen["orders"]
+            up, down = list(map(float, up)), list(map(float, down))
+            expect(len(up) == 9 and up == sorted(up) and down == sorted(up, reverse=True) and names == sorted(names), "the table isn't sorted: %s" % seen["orders"])
 
 
 def test_refusals():

@@ -120,7 +120,7 @@ def wrong_json_place(text, kind, rest, found):
 
 
 def test_explain_agrees_with_the_program_over_rows():
-    modes = {"check", "fold", "campaign", "live", "shared", "rollout", "audit"}
+    modes = {"check", "fold", "campaign", "live", "timeline", "acks", "shared", "rollout", "audit"}
     seen = {True: 0, False: 0}
     for name, mode, given, told in runs_of_rows(modes):
         given = Input(given)
@@ -140,7 +140,7 @@ def test_explain_agrees_with_the_program_over_rows():
 
 def test_explain_reads_json_as_the_program():
     """What isn't JSON to one of them isn't to the other."""
-    for name, mode, given, told in runs_of_rows({"campaign", "live", "shared", "rollout"}):
+    for name, mode, given, told in runs_of_rows({"campaign", "live", "timeline", "acks", "shared", "rollout"}):
         broken = scenarios.Scenario("row", Input(given).text).broken
         expect((broken is not None) == (told == "json"), "%s: %s" % (name, broken))
 

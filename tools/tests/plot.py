@@ -1,4 +1,6 @@
 """Tests of tools/plot: the files that it writes, what they show, and what it refuses."""
+import importlib.machinery
+import importlib.util
 import json
 import os
 import re
@@ -6,7 +8,7 @@ import subprocess
 import tempfile
 
 import harness
-from harness import TOP, LeftOut, ccp, content, expect, needs, tool
+from harness import TOOLS, TOP, LeftOut, ccp, content, expect, needs, tool
 
 SCENARIO = {
     "version": 1,
@@ -107,6 +109,61 @@ def test_lines_break_and_what_is_missing_is_reported():
         expect("flow 0, a: 2 reports were held" in errors, errors)
         expect("flow 1, b: its reports have no field rtt" in errors, errors)
         expect("window [kB]" in texts_of(name), "windows without a scenario")
+
+
+def plot_module():
+    """tools/plot as a module."""
+    loader = importlib.machinery.SourceFileLoader("script_plot", os.path.join(TOOLS, "plot"))
+    module = importlib.util.module_from_spec(importlib.util.spec_from_loader(loader.name, loader))
+    loader.exec_module(module)
+    return module
+
+
+def test_no_value_is_drawn_over_held_reports():
+    """The span of the third report begins 50 acknowledgements after that of the second one ended: when isn't known, so it has no
+    throughput, and lines break before it."""
+    plot = plot_module()
+    spans = [(0, 10, 40), (10, 20, 50), (70, 71, 101), (71, 91, 121)]
+    lines = ["ticket %d report program=0 epoch=0 span=%d..%d taken=%d answered=%d reply=none now=%d cwnd=5000 rate=0 acked=%d rtt=20000" % (at, first, end, end, end, 1000 * now, 1000 * (end - first))
+             for at, (first, end, now) in enumerate(spans)]
+    text = "\n".join(["flow 0 case=a agent=reno", "epoch 0 program=0 at=0 cwnd=4000", *lines, "end acks=91 reports=54 held=50 faults=0 tail=91..91 stopped=no cwnd=5000 rate=0 acked=0 rtt=20000"])
+    flow = plot.ccp.read_flows(text)[0]
+    expect(plot.breaks_in(flow.reports) == {2}, str(plot.breaks_in(flow.reports)))
+    series = plot.series_of([flow], {}, {})[0][0]
+    expect(series.throughput == [(0.0, 2.0), (0.04, 2.0), (0.05, 8.0), None, (0.101, 8.0), (0.121, 8.0)], str(series.throughput))
+    expect(series.trip == [(0.04, 20.0), (0.05, 20.0), None, (0.101, 20.0), (0.121, 20.0)], str(series.trip))
+    expect([point and point[0] for point in series.window] == [0.0, 0.04, 0.05, None, 0.101, 0.121], str(series.window))
+
+
+def test_cases_of_one_sender_stand_apart():
+    """Two cases that differ in a lag, a mark or their lost packets alone don't lie on each other."""
+    needs("gnuplot")
+    with tempfile.TemporaryDirectory() as room:
+        name = os.path.join(room, "p.svg")
+        examples = [os.path.join(TOP, "examples", "campaign." + kind) for kind in ("json", "out")]
+        drawn("table", "--scenario", *examples, name)
+        seen = texts_of(name)
+        for text in ("fixed", "mark 20", "lag 50", "loss", "listed", "4.03", "4.08"):
+            expect(text in seen, "no %s in %s" % (text, seen))
+        expect("None" not in content(name), "None in a label")
+        with open(examples[0], encoding="utf-8") as file:
+            cases = json.load(file)["cases"]
+        groups = plot_module().groups_apart(cases, ["one"] * len(cases), [case["name"] for case in cases])
+        expect(len(set(groups)) == len(cases), str(groups))
+
+
+def test_text_is_only_text():
+    """gnuplot would run what is between backquotes in a title as a command."""
+    needs("gnuplot")
+    with tempfile.TemporaryDirectory() as room:
+        title = "`touch %s/made` \"a\" \\n" % room
+        given, name = files(room), os.path.join(room, "p.svg")
+        with open(given["metrics"], "w") as file:
+            json.dump({"cases": [dict(case, sender=title, trace=title) for case in METRICS["cases"][:1]]}, file)
+        for kind in ("bars", "scatter"):
+            drawn(kind, "--title", title, given["metrics"], name)
+            expect(not os.path.exists(os.path.join(room, "made")), "a command was run")
+            expect(any("/made` &quot;a&quot;" in text or "/made` \"a\"" in text for text in texts_of(name)), str(texts_of(name)))
 
 
 def test_pages():

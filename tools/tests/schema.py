@@ -58,14 +58,15 @@ def rows_of_scenarios():
     loader = importlib.machinery.SourceFileLoader("tests_explain", os.path.join(TOOLS, "tests", "explain.py"))
     module = importlib.util.module_from_spec(importlib.util.spec_from_loader(loader.name, loader))
     loader.exec_module(module)
-    for name, mode, data, told in module.runs_of_rows({"campaign", "live", "shared", "rollout"}):
+    for name, mode, data, told in module.runs_of_rows({"campaign", "live", "timeline", "acks", "shared", "rollout"}):
         try:
             text = data.decode("utf-8")
             json.loads(text)
         except ValueError:
             expect(told is not None, "%s: ccp takes what Python doesn't" % name)
             continue
-        yield name, mode, text, told
+        # `timeline` and `acks` read what `live` reads
+        yield name, "live" if mode in ("timeline", "acks") else mode, text, told
 
 
 def is_whole_to_a_schema(value):
