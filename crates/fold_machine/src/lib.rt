@@ -4,6 +4,7 @@
 
 mod acked;
 mod frame;
+mod general;
 mod kept;
 mod laws;
 mod machine;
