@@ -6,6 +6,8 @@ pub mod LoadLemmas
 pub mod KeptLemmas
 pub mod RunnableLemmas
 pub mod RefinementLemmas
+pub mod FormLemmas
 pub mod RunLemmas
+pub mod ConditionLemmas
 pub mod WorkLemmas
 pub mod MachineLemmas

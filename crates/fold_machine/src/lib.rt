@@ -1,9 +1,10 @@
-//! A machine that runs accepted register code, one acknowledgement after another. Its registers, to which a fault goes
-//! back, and the last report lie in slots of one pool, which can have further slots for its holder.
+//! A machine that runs accepted register code, one acknowledgement after another, in words of its own. Slots of one pool
+//! have the last report and the registers to which a fault goes back; the pool can have further slots for its holder.
 #![tactic(auto)]
 
 mod acked;
 mod frame;
+mod general;
 mod kept;
 mod laws;
 mod machine;

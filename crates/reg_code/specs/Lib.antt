@@ -6,6 +6,7 @@ pub mod ListingText
 pub mod Sound
 pub mod SoundLaws
 pub mod Places
+pub mod Forms
 pub mod PackedCode
 pub mod OperationNumbers
 pub mod OperationNumberLaws

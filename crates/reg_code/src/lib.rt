@@ -4,6 +4,7 @@
 
 mod checked;
 mod code;
+mod form;
 mod limits;
 mod op_number;
 mod packed;
@@ -14,8 +15,9 @@ mod text;
 pub use ccp_base::{FIELDS, Op2, PRIMITIVES, Sequence};
 pub use checked::Checked;
 pub use code::{Code, Event, Implicit, Instr, Op, Reg, Start};
+pub use form::Form;
 pub use limits::{CONTROLS, EVENTS, INSTRS, LOCALS, TEMPS, TENTHS, limits_hold};
-pub use op_number::{BIND, EWMA, IF, NOT_IF, op_numbered};
+pub use op_number::op_numbered;
 pub use packed::{Packed, pack_all};
 pub use rule::{Part, Rule, Sizes};
 pub use text::listing;

@@ -1,5 +1,9 @@
-ghost use Rattle.std.specs.Prelude.{◌≡◌};
+ghost use Rattle.std.specs.Prelude.{◌≡◌, ◌+◌};
 ghost use Rattle.ccp_base.specs.Limits.{most_controls, most_blocks, most_instrs, most_locals, most_temps, most_tenths};
+ghost use Rattle.reg_code.specs.Places.{all_places, immediates_at};
+
+use crate::places::{ALL, RIGHT};
+
 /// The most control variables of a code.
 pub const CONTROLS: usize = 64;
 
@@ -18,7 +22,7 @@ pub const TEMPS: u8 = 8;
 /// The largest weight of `Op::Ewma`, in tenths.
 pub const TENTHS: u64 = 10;
 
-/// Each limit is that of the rules.
+/// Each limit is that of the rules, and there are the places that the definitions say.
 pub fn limits_hold()
     ensures controls { CONTROLS ≡ most_controls }
     ensures events { EVENTS ≡ most_blocks }
@@ -26,4 +30,6 @@ pub fn limits_hold()
     ensures locals { LOCALS ≡ most_locals }
     ensures temps { TEMPS ≡ most_temps }
     ensures tenths { TENTHS ≡ most_tenths }
+    ensures places { ALL ≡ all_places }
+    ensures right { RIGHT ≡ immediates_at + 1 }
 {}
