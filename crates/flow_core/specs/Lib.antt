@@ -18,3 +18,5 @@ pub mod Settling
 pub mod Cells
 pub mod LiveText
 pub mod LettersLeft
+pub mod Standings
+pub mod Bares

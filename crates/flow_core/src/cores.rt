@@ -1,7 +1,7 @@
 ghost use Rattle.std.specs.Prelude.{◌≡◌, ◌+◌, ◌-◌, ◌≤◌, ◌↔◌, ◌∷◌, [], ◌++◌, ℕ, true, Some, option_map, slice_get};
 ghost use Rattle.std.specs.Prelude.{length, Err, IsOk, IsErr, IfOk, IfErr, OnOk, OnErr};
 ghost use Rattle.flow_core.specs.World.{track_of, after_take, after_answer};
-ghost use Rattle.flow_core.specs.Words.{is_still, legal_over};
+ghost use Rattle.flow_core.specs.Words.{is_still, is_legal, legal_over};
 ghost use Rattle.flow_core.specs.Books.{IsBookOf};
 ghost use Rattle.flow_core.specs.Cores.{flow_in, world_in, with_ack, heard_in, acked_in, ran_in, out_in, out_number};
 
@@ -141,6 +141,20 @@ impl Core {
     {
         let issued = self.state.out.as_ref()?;
         Some(self.state.ticket(&issued.told))
+    }
+
+    /// Whether a ticket is out.
+    pub fn has_out(&self) -> bool
+        ensures { result ≡ is_legal (flow_in self.now) (world_in self.now) Letter.C }
+    {
+        self.state.out.is_some()
+    }
+
+    /// Whether a ticket may be taken: none is out, and a report waits or a notice is untold.
+    pub fn may_take(&self) -> bool
+        ensures { result ≡ is_legal (flow_in self.now) (world_in self.now) Letter.T }
+    {
+        self.state.out.is_none() && self.state.can_take()
     }
 
     /// The present congestion window, in bytes.

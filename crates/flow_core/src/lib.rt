@@ -1,6 +1,7 @@
 //! One flow: its programs' machine, its outbox, its agent and its link, and its history as a word of letters.
 #![tactic(auto)]
 
+mod bare;
 mod book;
 mod case;
 mod cell;
@@ -15,6 +16,7 @@ mod settling;
 mod state;
 mod taking;
 
+pub use bare::Bare;
 pub use book::{Book, EpochLine, Given, TicketLine};
 pub use case::{Case, Coded};
 pub use cell::Cell;

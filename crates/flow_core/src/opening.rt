@@ -23,7 +23,7 @@ const BYTES_PER_ACK: usize = size_of::<Ack>() + size_of::<Notice>() + 3 * size_o
 const _: () = prove!(BYTES_PER_ACK <= 200);
 
 /// The machine of a case, which runs the program of the agent's opening change.
-fn opening_machine(alloc: Global, case: &Case, program: u32) -> Result<Machine, NoMemory>
+pub(crate) fn opening_machine(alloc: Global, case: &Case, program: u32) -> Result<Machine, NoMemory>
     requires { program ≡ (course_of case.now.agent).ss.number }
     ensures started { IfOk result (λ machine. machine ≡ opened_machine case.now program) }
     ensures fits { IfOk result (λ machine. Fits machine (code_at case.now program)) }

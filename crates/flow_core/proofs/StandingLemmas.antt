@@ -1,0 +1,138 @@
+-- How a flow stands after a letter is determined by how it stood.
+use Rattle.std.specs.Prelude.{◌≡◌, ℕ, ◌+◌, Bool, not, ◌&&◌, nat_lt, is_some, is_none, Option, Some, None, option_map, List, [], ◌∷◌, ◌++◌, length, map, refl}
+use Rattle.std.proofs.Common.{ap, sym, ◌∙◌, arith, length-append}
+use Rattle.std.proofs.lemmas.List.{map-append}
+use Rattle.ccp_base.specs.declared.ack.Ack.{Ack}
+use Rattle.ccp_base.specs.declared.arithmetic.FaultKind.{FaultKind}
+use Rattle.ccp_base.specs.declared.exchange.Report.{Report}
+use Rattle.ccp_base.specs.declared.exchange.Reply.{Reply}
+use Rattle.ccp_base.specs.declared.exchange.Reply.TheVariants.{Nothing, Update, Change}
+use Rattle.portus_core.specs.declared.env.Env.{Env}
+use Rattle.portus_core.specs.Epoch.{Outcome, Track, acknowledged, updated, heard, after_outcome, with_values}
+use Rattle.portus_core.proofs.EventLaws.{after-append}
+use Rattle.agent_core.specs.declared.agent.Agent.{Agent}
+use Rattle.agent_core.specs.Agents.{replied, values_of}
+use Rattle.flow_core.specs.declared.book.TicketLine.{TicketLine}
+use Rattle.flow_core.specs.declared.letter.Letter.{Letter}
+use Rattle.flow_core.specs.declared.letter.Letter.TheVariants.{A, T, C}
+use Rattle.flow_core.specs.Readings.{Flow}
+use Rattle.flow_core.specs.World.{Failure, Content, of_report, of_failure, Taken, Answered, World, track_of, time_of, failures_met, untold_after, has_room, with_met, after_ack, taking, with_taken, after_take, with_reply, notice_of, told_as, with_turn, answer_applied, after_answer}
+use Rattle.flow_core.specs.Words.{Giving, with_given, after_letter, can_take, is_legal, is_complete}
+use Rattle.flow_core.specs.Books.{ticket_line}
+use Rattle.flow_core.specs.LiveText.{reports_told, report_count}
+use Rattle.flow_core.specs.States.{issued_as}
+use Rattle.flow_core.specs.Standings.{Standing, standing, notice_after, put_met, step_ack, telling, with_told, step_take, obeyed, turned, answered_by, step_answer, step_given, step, can_tell, may, is_done}
+
+-- the time of the last one of a list
+time-append : (acks : List Ack) (ack : Ack) → time_of (acks ++ ack ∷ []) ≡ ack.now
+time-append [] ack = refl
+time-append (first ∷ []) ack = refl
+time-append (first ∷ next ∷ rest) ack = time-append (next ∷ rest) ack
+
+count-append : (lines : List TicketLine) (line : TicketLine) → report_count (lines ++ line ∷ []) ≡ report_count lines + reports_told line.told
+count-append [] line = omega arith
+count-append (first ∷ rest) line = omega (arith, count-append rest line)
+
+module _ {X : Type 0} (flow : Flow X) where
+  -- ---- A
+
+  untold-met : (failures : List (Failure X)) (untold : Option (Failure X))
+      → option_map (notice_of flow) (untold_after failures untold) ≡ notice_after flow failures (option_map (notice_of flow) untold)
+  untold-met [] untold = refl
+  untold-met (failure ∷ rest) untold = refl
+
+  pub stands-ack : (ack : Ack) (w : World X) → standing flow (after_ack flow ack w) ≡ step_ack flow ack (standing flow w)
+  stands-ack ack w =
+      let track = track_of flow w in
+      let met = heard (flow.reading w.present.program) track.is_stopped track.env ack (has_room flow w) in
+      let failures = failures_met w.present.program (length w.past) track.count ack met in
+      let next = after_ack flow ack w in
+      let tracked : track_of flow next ≡ after_outcome met track =
+      after-append (flow.reading w.present.program) w.present.events (acknowledged ack (has_room flow w) ∷ []) _ in
+      λ i. record (standing flow next) {
+        track = tracked i;
+        acks = length-append w.acks (ack ∷ []) i;
+        time = time-append w.acks ack i;
+        untold = untold-met failures w.untold i;
+        faults = length-append w.faults failures i;
+      }
+
+  -- ---- T
+
+  stands-taken : (waiting : List Report) (untold : Option (Failure X)) (w : World X)
+      → standing flow (with_taken (taking waiting untold) w) ≡ with_told (telling waiting (option_map (notice_of flow) untold)) (standing flow w)
+  stands-taken (report ∷ rest) untold w = refl
+  stands-taken [] (Some failure) w = refl
+  stands-taken [] None w = refl
+
+  pub stands-take : (w : World X) → standing flow (after_take w) ≡ step_take (standing flow w)
+  stands-take w = stands-taken w.waiting w.untold w
+
+  -- ---- C
+
+  stands-obeyed : (agent : Agent) (reply : Reply) (w : World X) → standing flow (with_reply flow agent reply w) ≡ obeyed flow agent reply (standing flow w)
+  stands-obeyed agent Nothing w = refl
+  stands-obeyed agent (Update cwnd) w =
+      let next = with_reply flow agent (Update cwnd) w in
+      let track = track_of flow w in
+      let tracked : track_of flow next ≡ record track { env = with_values (values_of agent (Update cwnd)) track.env } =
+      after-append (flow.reading w.present.program) w.present.events (updated (values_of agent (Update cwnd)) ∷ []) _ in
+      λ i. record (standing flow w) { track = tracked i }
+  stands-obeyed agent (Change program cwnd cap) w =
+      let next = with_reply flow agent (Change program cwnd cap) w in
+      λ i. record (standing flow next) { epoch = length-append w.past (w.present ∷ []) i }
+
+  stands-turned : (ticket : Taken X) (turn : Agent × Reply) (w : World X)
+      → standing flow (with_turn flow ticket turn w) ≡ turned flow (issued_as flow ticket) turn (standing flow w)
+  stands-turned ticket turn w =
+      let line : Answered X = record { told = ticket.told; taken = ticket.taken; answered = length w.acks; reply = turn.1 } in
+      let closed : World X = record w { agent = turn.0; out = None; answered = w.answered ++ line ∷ [] } in
+      let told : report_count (map (ticket_line flow) closed.answered)
+      ≡ report_count (map (ticket_line flow) w.answered) + reports_told (told_as flow ticket.told) =
+      ap report_count (map-append (ticket_line flow) w.answered (line ∷ []))
+      ∙ count-append (map (ticket_line flow) w.answered) (ticket_line flow line) in
+      stands-obeyed w.agent turn.1 closed
+      ∙ (λ i. obeyed flow w.agent turn.1 (record (standing flow closed) { answered = length-append w.answered (line ∷ []) i; told = told i }))
+
+  stands-applied : (out : Option (Taken X)) (w : World X)
+      → standing flow (answer_applied flow out w) ≡ answered_by flow (option_map (issued_as flow) out) (standing flow w)
+  stands-applied None w = refl
+  stands-applied (Some ticket) w = stands-turned ticket (replied w.agent (told_as flow ticket.told)) w
+
+  pub stands-answer : (w : World X) → standing flow (after_answer flow w) ≡ step_answer flow (standing flow w)
+  stands-answer w = stands-applied w.out w
+
+  -- ---- a letter
+
+  stands-given : (given : Option Ack) (w : World X) → standing flow (with_given flow given w) ≡ step_given flow given (standing flow w)
+  stands-given None w = refl
+  stands-given (Some ack) w = stands-ack ack w
+
+  pub stands-letter : (giving : Giving X) (letter : Letter) (w : World X)
+      → standing flow (after_letter flow giving w letter) ≡ step flow (giving w) letter (standing flow w)
+  stands-letter giving A w = stands-given (giving w) w
+  stands-letter giving T w = stands-take w
+  stands-letter giving C w = stands-answer w
+
+  -- ---- what depends on how a flow stands
+
+  can-told : (waiting : List Report) (untold : Option (Failure X)) → is_some (taking waiting untold) ≡ is_some (telling waiting (option_map (notice_of flow) untold))
+  can-told (report ∷ rest) untold = refl
+  can-told [] (Some failure) = refl
+  can-told [] None = refl
+
+  none-mapped : (out : Option (Taken X)) → is_none out ≡ is_none (option_map (issued_as flow) out)
+  none-mapped None = refl
+  none-mapped (Some ticket) = refl
+
+  some-mapped : (out : Option (Taken X)) → is_some out ≡ is_some (option_map (issued_as flow) out)
+  some-mapped None = refl
+  some-mapped (Some ticket) = refl
+
+  pub stands-legal : (letter : Letter) (w : World X) → is_legal flow w letter ≡ may flow (standing flow w) letter
+  stands-legal A w = refl
+  stands-legal T w = λ i. none-mapped w.out i && can-told w.waiting w.untold i
+  stands-legal C w = some-mapped w.out
+
+  pub stands-complete : (w : World X) → is_complete flow w ≡ is_done flow (standing flow w)
+  stands-complete w = λ i. not (nat_lt (length w.acks) flow.acks) && (none-mapped w.out i && not (can-told w.waiting w.untold i))

@@ -1,0 +1,424 @@
+//! What later letters of a flow depend on, without its history.
+ghost use Rattle.std.specs.Prelude.{◌≡◌, true, None, Some, option_map};
+ghost use Rattle.flow_core.specs.Readings.{over_codes};
+ghost use Rattle.flow_core.specs.Standings.{can_tell, may, is_done, step_take};
+ghost use Rattle.std.specs.Prelude.{◌+◌, ◌<◌, length};
+ghost use Rattle.ccp_base.specs.Limits.{most_acks};
+ghost use Rattle.portus_core.specs.Epoch.{reported, failed};
+ghost use Rattle.slot_pool.specs.Pool.{free_of};
+ghost use Rattle.flow_core.specs.Cores.{acked_as};
+ghost use Rattle.flow_core.specs.States.{outcome_by};
+ghost use Rattle.ccp_base.specs.FieldReg.{first_bad};
+ghost use Rattle.fold_machine.specs.MachineState.{Fits};
+ghost use Rattle.flow_core.specs.Readings.{code_at};
+ghost use Rattle.flow_core.specs.LiveText.{reports_told};
+ghost use Rattle.flow_core.specs.Settling.{AreGood};
+ghost use Rattle.flow_core.specs.Standings.{step_ack, step_answer, met_at};
+ghost use Rattle.std.specs.Prelude.{IfOk};
+ghost use Rattle.flow_core.specs.World.{opening};
+ghost use Rattle.flow_core.specs.Standings.{standing};
+ghost use Rattle.flow_core.specs.Bares.{IsFirst, closed_stand, UpdatesStand, ChangesStand, ObeysStand};
+ghost use Rattle.flow_core.specs.Bares.{standing_by, told_ticket, ran_stand, IsStand, CanPut, HasPlace, Noted};
+
+use crate::case::Case;
+use crate::letter::Letter;
+use crate::opening::opening_machine;
+use crate::outbox::Outbox;
+use crate::state::Issued;
+use crate::hearing::{put_report, run};
+use crate::taking::pop_told;
+use agent_core::{Agent, Answer, Ticket};
+use ccp_base::{Ack, FaultKind, Fields, NoMemory, Notice, Reply, Report, Told};
+use fold_machine::{Acked, Machine, Steps};
+use std::alloc::Global;
+use std::marker::Model;
+use std::sync::ledger::Ledger;
+
+/// What later letters depend on, part by part.
+#[derive(Drop)]
+pub(crate) struct Stand {
+    pub(crate) case: Case,
+    pub(crate) machine: Machine,
+    pub(crate) program: u32,
+    pub(crate) epoch: u32,
+    pub(crate) first: u64,
+    pub(crate) acks: u32,
+    pub(crate) time: u64,
+    pub(crate) outbox: Outbox,
+    pub(crate) agent: Agent,
+    pub(crate) out: Option<Issued>,
+    pub(crate) answered: u32,
+    pub(crate) told: u32,
+    pub(crate) faults: u32,
+    pub(crate) held: u32,
+}
+
+/// What a flow has beside its case before its first letter.
+#[derive(Drop)]
+struct First {
+    machine: Machine,
+    program: u32,
+    outbox: Outbox,
+}
+
+impl First {
+    /// What a flow of this case has.
+    fn of(alloc: Global, case: &Case) -> Result<First, NoMemory>
+        ensures { IfOk result (IsFirst case.now) }
+    {
+        let program = case.agent.course().ss.number;
+        let outbox = Outbox::new(alloc, case.slots)?;
+        let machine = opening_machine(alloc, case, program)?;
+        Ok(First {
+            machine,
+            program,
+            outbox,
+        })
+    }
+}
+
+impl Stand {
+    /// A flow without a letter.
+    fn open(alloc: Global, case: Case) -> Result<Stand, NoMemory>
+        ensures stand { IfOk result IsStand }
+        ensures case { IfOk result (λ s. s.case ≡ case) }
+        ensures standing { IfOk result (λ s. standing_by s ≡ standing (over_codes case) (opening (over_codes case))) }
+    {
+        match First::of(alloc, &case) {
+            Ok(first) => Ok(Stand::opened(case, first)),
+            Err(fault) => {
+                drop(case);
+                Err(fault)
+            }
+        }
+    }
+
+    /// A flow of this case that has this before its first letter.
+    fn opened(case: Case, first: First) -> Stand
+        requires { IsFirst case first }
+        ensures stand { IsStand result }
+        ensures case { result.case ≡ case }
+        ensures standing { standing_by result ≡ standing (over_codes case) (opening (over_codes case)) }
+    {
+        let agent = case.agent;
+        Stand {
+            case,
+            machine: first.machine,
+            program: first.program,
+            epoch: 0,
+            first: 0,
+            acks: 0,
+            time: 0,
+            outbox: first.outbox,
+            agent,
+            out: None,
+            answered: 0,
+            told: 0,
+            faults: 0,
+            held: 0,
+        }
+    }
+
+    /// Takes the oldest report, or else the notice, as a ticket. One must be there, and no ticket may be out.
+    pub(crate) fn take(&mut self) -> Ticket
+        requires stand { IsStand self.old }
+        requires none_out { self.old.out ≡ None }
+        requires some { can_tell (standing_by self.old) ≡ true }
+        ensures stand { IsStand self.new }
+        ensures case { self.new.case ≡ self.old.case }
+        ensures step { standing_by self.new ≡ step_take (standing_by self.old) }
+        ensures ticket { told_ticket self.old.case (standing_by self.new) ≡ Some result }
+    {
+        let Some(told) = pop_told(&mut self.machine, &mut self.outbox) else {
+            unreachable!()
+        };
+        let ticket = self.ticket(&told);
+        let taken = self.acks;
+        self.out = Some(Issued { told, taken });
+        ticket
+    }
+
+    /// Takes an acknowledgement. One must be left.
+    pub(crate) fn hear<L: Ledger>(&mut self, ack: &Ack, steps: &mut Steps<L>) -> Acked
+        requires stand { IsStand self.old }
+        requires left { self.old.acks < self.old.case.acks }
+        ensures stand { IsStand self.new }
+        ensures case { self.new.case ≡ self.old.case }
+        ensures step { standing_by self.new ≡ step_ack (over_codes self.old.case) ack.entry.now (standing_by self.old) }
+        ensures acked { result ≡ acked_as (met_at (over_codes self.old.case) ack.entry.now (standing_by self.old)).0 }
+        ensures steps { steps.new ≡ steps.old + ran_stand self.old.case ack.entry.now (standing_by self.old) }
+    {
+        let room = self.outbox.room();
+        let code = self.case.code(self.program);
+        let acked = run(&mut self.machine, code, ack, room, steps);
+        self.put_down(ack, acked);
+        self.acks += 1;
+        self.time = ack.now;
+        acked
+    }
+
+    /// Puts down what an acknowledgement came to, by the machine's answer.
+    fn put_down(&mut self, ack: &Ack, acked: Acked)
+        requires can { CanPut self.old }
+        requires acks { self.old.acks < most_acks }
+        requires room { acked ≡ Acked.Reported → HasPlace self.old }
+        ensures { Noted self.old self.new ack.entry.now (outcome_by acked self.old.machine.report) }
+    {
+        match acked {
+            Acked::Quiet | Acked::Stopped => {}
+            Acked::Reported => self.put_down_report(ack),
+            Acked::Held => self.held += 1,
+            Acked::Faulted(kind, index) => self.put_down_fault(ack, kind, index),
+        }
+    }
+
+    /// Puts down the report that the machine made.
+    fn put_down_report(&mut self, ack: &Ack)
+        requires can { CanPut self.old }
+        requires acks { self.old.acks < most_acks }
+        requires room { length self.old.outbox.slots < self.old.outbox.size }
+        requires free { 0 < free_of self.old.machine.further }
+        ensures { Noted self.old self.new ack.entry.now (reported self.old.machine.report) }
+    {
+        let end = u64::from(self.acks) + 1;
+        let report = Report {
+            flow: self.case.flow,
+            program: self.program,
+            epoch: self.epoch,
+            first: self.first,
+            end,
+            now: ack.now,
+            cwnd: self.machine.cwnd(),
+            rate: self.machine.rate(),
+            fields: self.machine.reported(),
+        };
+        put_report(&mut self.machine, &mut self.outbox, &report);
+        self.first = end;
+    }
+
+    /// Puts down a fault of this kind at the instruction with this index.
+    fn put_down_fault(&mut self, ack: &Ack, kind: FaultKind, index: u16)
+        requires { CanPut self.old }
+        ensures { Noted self.old self.new ack.entry.now (failed (kind, index)) }
+    {
+        let notice = Notice {
+            flow: self.case.flow,
+            program: self.program,
+            epoch: self.epoch,
+            at: u64::from(self.acks),
+            kind,
+            index,
+            now: ack.now,
+            cwnd: self.machine.cwnd(),
+        };
+        self.faults += 1;
+        self.outbox.note(notice);
+    }
+
+    /// Applies the answer to the ticket that is out.
+    pub(crate) fn settle(&mut self, answer: &Answer)
+        requires stand { IsStand self.old }
+        requires out { told_ticket self.old.case (standing_by self.old) ≡ Some answer.now }
+        ensures stand { IsStand self.new }
+        ensures case { self.new.case ≡ self.old.case }
+        ensures step { standing_by self.new ≡ step_answer (over_codes self.old.case) (standing_by self.old) }
+    {
+        let reply = answer.reply();
+        let values = self.agent.values(&reply);
+        self.close(answer);
+        self.obey(&reply, &values);
+    }
+
+    /// Puts down that the ticket that is out was answered.
+    fn close(&mut self, answer: &Answer)
+        requires answered { self.old.answered < most_acks }
+        requires told { self.old.told < most_acks }
+        ensures { self.new ≡ closed_stand answer.now self.old }
+    {
+        let reports = reports_told(&answer.ticket().told);
+        self.agent = *answer.after();
+        self.out = None;
+        self.answered += 1;
+        self.told += reports;
+    }
+
+    /// Does what a reply says, which writes these values.
+    fn obey(&mut self, reply: &Reply, values: &Fields)
+        requires fits { Fits self.old.machine (code_at self.old.case self.old.program) }
+        requires good { AreGood self.old.case self.old.program reply.now values.now }
+        requires epoch { self.old.epoch < most_acks }
+        ensures { ObeysStand self.old self.new reply.now values.now }
+    {
+        match *reply {
+            Reply::Nothing => {}
+            Reply::Update(_) => self.update(values),
+            Reply::Change { program, .. } => self.change(program, values),
+        }
+    }
+
+    /// Writes an update's values.
+    fn update(&mut self, values: &Fields)
+        requires fits { Fits self.old.machine (code_at self.old.case self.old.program) }
+        requires good { first_bad (length (code_at self.old.case self.old.program).controls) values.now ≡ None }
+        ensures { UpdatesStand self.old self.new values.now }
+    {
+        let code = self.case.code(self.program);
+        let Ok(()) = self.machine.update(code, values) else {
+            unreachable!()
+        };
+    }
+
+    /// Starts the program with this number, and with it an epoch. An untold notice is void then.
+    fn change(&mut self, program: u32, values: &Fields)
+        requires good { first_bad (length (code_at self.old.case program).controls) values.now ≡ None }
+        requires epoch { self.old.epoch < most_acks }
+        ensures { ChangesStand self.old self.new program values.now }
+    {
+        let code = self.case.code(program);
+        let Ok(()) = self.machine.start(code, values, self.time) else {
+            unreachable!()
+        };
+        self.program = program;
+        self.epoch += 1;
+        self.first = u64::from(self.acks);
+        self.outbox.void();
+    }
+
+    /// Whether a report waits or a notice is untold.
+    fn can_take(&self) -> bool
+        ensures { result ≡ can_tell (standing_by self.now) }
+    {
+        !self.outbox.is_empty()
+    }
+
+    /// The ticket that tells this.
+    fn ticket(&self, told: &Told) -> Ticket
+        ensures { result ≡ record { flow = self.now.case.flow; number = self.now.answered; before = self.now.agent; told = told.now } }
+    {
+        Ticket {
+            flow: self.case.flow,
+            number: self.answered,
+            before: self.agent,
+            told: *told,
+        }
+    }
+}
+
+/// How many reports something that is told is: one or none.
+fn reports_told(told: &Told) -> u32
+    ensures { result ≡ reports_told told.now }
+{
+    match told {
+        Told::Report(_) => 1,
+        Told::Fault(_) => 0,
+    }
+}
+
+/// A flow without its history and its link.
+#[derive(Drop)]
+pub struct Bare {
+    stand: Stand,
+}
+
+impl Model for Bare {
+    ghost use Rattle.flow_core.specs.Bares.{BareState, standing_by};
+
+    ghost Value = { BareState };
+
+    ghost use Rattle.flow_core.specs.Bares.{IsStand};
+
+    ghost view = { λ b. record { case = b.stand.case; standing = standing_by b.stand } };
+
+    ghost invariant = { λ b. IsStand b.stand };
+}
+
+impl Bare {
+    /// A flow without a letter. The outbox is reserved here.
+    pub fn new(alloc: Global, case: Case) -> Result<Bare, NoMemory>
+        ensures { IfOk result (λ bare. bare ≡ record { case = case; standing = standing (over_codes case) (opening (over_codes case)) }) }
+    {
+        let stand = Stand::open(alloc, case)?;
+        Ok(Bare { stand })
+    }
+
+    /// The flow's case.
+    pub fn case(&self) -> &Case
+        ensures { result.now ≡ self.now.case }
+    {
+        &self.stand.case
+    }
+
+    /// How many acknowledgements are in.
+    pub fn acks(&self) -> u32
+        ensures { result ≡ self.now.standing.acks }
+    {
+        self.stand.acks
+    }
+
+    /// The present congestion window, in bytes.
+    pub fn cwnd(&self) -> u64
+        ensures { result ≡ self.now.standing.track.env.cwnd }
+    {
+        self.stand.machine.cwnd()
+    }
+
+    /// At how many acknowledgements the ticket that is out was taken, None exactly where none is out.
+    pub fn taken(&self) -> Option<u32>
+        ensures { result ≡ option_map (λ issued. issued.taken) self.now.standing.out }
+    {
+        let issued = self.stand.out.as_ref()?;
+        Some(issued.taken)
+    }
+
+    /// The ticket that is out, None exactly where none is.
+    pub fn out(&self) -> Option<Ticket>
+        ensures { result ≡ told_ticket self.now.case self.now.standing }
+    {
+        let issued = self.stand.out.as_ref()?;
+        Some(self.stand.ticket(&issued.told))
+    }
+
+    /// Whether all acknowledgements are in, nothing can be taken and no ticket is out.
+    pub fn is_done(&self) -> bool
+        ensures { result ≡ is_done (over_codes self.now.case) self.now.standing }
+    {
+        if self.stand.acks < self.stand.case.acks {
+            return false;
+        }
+        self.stand.out.is_none() && !self.stand.can_take()
+    }
+
+    /// Whether a ticket may be taken: none is out, and a report waits or a notice is untold.
+    pub fn may_take(&self) -> bool
+        ensures { result ≡ may (over_codes self.now.case) self.now.standing Letter.T }
+    {
+        self.stand.out.is_none() && self.stand.can_take()
+    }
+
+    /// Takes the oldest report, or else the notice, as a ticket.
+    pub fn take(&mut self) -> Ticket
+        requires { may (over_codes self.old.case) self.old.standing Letter.T ≡ true }
+        ensures step { self.new ≡ record self.old { standing = step_take self.old.standing } }
+        ensures ticket { told_ticket self.new.case self.new.standing ≡ Some result }
+    {
+        self.stand.take()
+    }
+
+    /// Takes an acknowledgement. One must be left.
+    pub fn ack<L: Ledger>(&mut self, ack: &Ack, steps: &mut Steps<L>) -> Acked
+        requires { may (over_codes self.old.case) self.old.standing Letter.A ≡ true }
+        ensures step { self.new ≡ record self.old { standing = step_ack (over_codes self.old.case) ack.entry.now self.old.standing } }
+        ensures acked { result ≡ acked_as (met_at (over_codes self.old.case) ack.entry.now self.old.standing).0 }
+        ensures steps { steps.new ≡ steps.old + ran_stand self.old.case ack.entry.now self.old.standing }
+    {
+        self.stand.hear(ack, steps)
+    }
+
+    /// Applies the answer to the ticket that is out.
+    pub fn settle(&mut self, answer: &Answer)
+        requires { told_ticket self.old.case self.old.standing ≡ Some answer.now }
+        ensures { self.new ≡ record self.old { standing = step_answer (over_codes self.old.case) self.old.standing } }
+    {
+        self.stand.settle(answer)
+    }
+}
