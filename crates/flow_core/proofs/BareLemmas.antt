@@ -1,4 +1,4 @@
--- What is kept after a taking is how the flow stands after it.
+-- What is kept after a taking or an acknowledgement is the summary after it.
 use Rattle.std.specs.Prelude.{◌≡◌, ◌↔◌, IsTrue, ℕ, ◌+◌, ◌<◌, ◌≤◌, min, Bool, true, false, not, nat_lt, is_some, Option, Some, None, option_map, unwrap_or, List, [], ◌∷◌, ◌++◌, length, take, drop, slice_index, refl}
 use Rattle.std.proofs.Common.{ap, sym, ◌∙◌, subst, arith, length-append, append-nil}
 use Rattle.std.proofs.Math.Seq.{take-append_seam}
@@ -17,14 +17,14 @@ use Rattle.fold_machine.specs.MachineState.{MachineState}
 use Rattle.fold_machine.specs.MachineState.{Fits}
 use Rattle.fold_machine.specs.Store.{slot_words}
 use Rattle.slot_pool.specs.Pool.{PoolState, words_at, free_of}
-use Rattle.flow_core.specs.declared.bare.Stand.{Stand}
+use Rattle.flow_core.specs.declared.bare.BareParts.{BareParts}
 use Rattle.flow_core.specs.declared.state.Issued.{Issued}
 use Rattle.flow_core.specs.Outbox.{OutboxState, report_head, report_words, IsInRange, Stores, AreStored, Lies, next_told, untold_after}
 use Rattle.flow_core.specs.Readings.{Flow, env_of, code_at, by_code, over_codes}
 use Rattle.flow_core.specs.ReportWords.{narrow, report_in}
 use Rattle.flow_core.specs.States.{some_count}
-use Rattle.flow_core.specs.Standings.{Standing, put_met, met_at, step_ack, telling, with_told, step_take, can_tell}
-use Rattle.flow_core.specs.Bares.{reports_in, standing_by, InRange, IsStand, noted, run_to, counted, Noted, ran_stand}
+use Rattle.flow_core.specs.Summaries.{Summary, step_outcome, outcome_at, step_ack, next_telling, with_told, step_take, can_tell}
+use Rattle.flow_core.specs.Bares.{reports_in, summary_by, InRange, IsBare, step_note, step_machine, step_count, NotesBare, instructions_at}
 use Rattle.flow_core.specs.Cores.{ran_by}
 use Rattle.flow_core.specs.Hearing.{heard_on, ran_on}
 use Rattle.reg_code.specs.declared.code.Code.{Code}
@@ -76,7 +76,7 @@ length-in pool (slot ∷ slots) = omega (arith, length-in pool slots)
 -- what is told next, with what is left
 told-next : (pool : PoolState) (slots : List ℕ) (untold : Option Notice) (told : Told)
     → Some told ≡ next_told (reports_in pool slots) untold
-    → telling (reports_in pool slots) untold ≡ Some (told, (drop 1 (reports_in pool slots), untold_after slots untold))
+    → next_telling (reports_in pool slots) untold ≡ Some (told, (drop 1 (reports_in pool slots), untold_after slots untold))
 told-next pool (slot ∷ slots) untold told is =
     let one = report_in (unwrap_or (words_at pool slot) []) in
     let same : told ≡ said.Report one = ap (λ (o : Option Told). unwrap_or o told) is in
@@ -86,8 +86,8 @@ told-next pool [] (Some notice) told is =
     λ i. Some (sym same i, ([], None))
 told-next pool [] None told is = absurd (let wrong : Some told ≡ None = is in (cc))
 
-range-told : (case : Case) (waiting : List Report) (untold : Option Notice) (s : Standing) → s.waiting ≡ waiting → s.untold ≡ untold
-    → s.out ≡ None → is_some (telling waiting untold) ≡ true → InRange case s → InRange case (with_told (telling waiting untold) s)
+range-told : (case : Case) (waiting : List Report) (untold : Option Notice) (s : Summary) → s.waiting ≡ waiting → s.untold ≡ untold
+    → s.out ≡ None → is_some (next_telling waiting untold) ≡ true → InRange case s → InRange case (with_told (next_telling waiting untold) s)
 range-told case [] None s waits tells none some range = absurd (let wrong : false ≡ true = some in (cc))
 range-told case [] (Some notice) s waits tells none some range = record {
   ss = range.ss;
@@ -110,7 +110,7 @@ range-told case (report ∷ rest) untold s waits tells none some range = record 
   held = range.held;
 }
 
-range-take : (case : Case) (s : Standing) → s.out ≡ None → can_tell s ≡ true → InRange case s → InRange case (step_take s)
+range-take : (case : Case) (s : Summary) → s.out ≡ None → can_tell s ≡ true → InRange case s → InRange case (step_take s)
 range-take case s none some range = range-told case s.waiting s.untold s refl refl none some range
 
 plus-none : (n : ℕ) → n + 0 ≡ n
@@ -118,62 +118,62 @@ plus-none n = omega arith
 
 -- a report waits or a notice is untold exactly where not both are missing
 pub can-tell : (pool : PoolState) (slots : List ℕ) (untold : Option Notice) (empty : Bool)
-    → (IsTrue empty ↔ ((slots ≡ []) × (untold ≡ None))) → not empty ≡ is_some (telling (reports_in pool slots) untold)
+    → (IsTrue empty ↔ ((slots ≡ []) × (untold ≡ None))) → not empty ≡ is_some (next_telling (reports_in pool slots) untold)
 can-tell pool slots untold true same =
     let both = same.0 refl in
-    λ i. is_some (telling (reports_in pool (sym both.0 i)) (sym both.1 i))
+    λ i. is_some (next_telling (reports_in pool (sym both.0 i)) (sym both.1 i))
 can-tell pool [] None false same = absurd (let wrong : false ≡ true = same.1 (refl, refl) in (cc))
 can-tell pool [] (Some notice) false same = refl
 can-tell pool (slot ∷ slots) untold false same = refl
 
-module _ (s : Stand) (machine : MachineState) (outbox : OutboxState) (told : Told)
+module _ (s : BareParts) (machine : MachineState) (outbox : OutboxState) (told : Told)
     (framed : machine ≡ record s.machine { further = machine.further })
     (is_told : Some told ≡ next_told (reports_in s.machine.further s.outbox.slots) s.outbox.untold)
     (lies : Lies machine.further outbox.slots (drop 1 (reports_in s.machine.further s.outbox.slots)))
     (untold : outbox.untold ≡ untold_after s.outbox.slots s.outbox.untold) where
-  abbrev pub taken : Stand
+  abbrev pub taken : BareParts
   taken = record s { machine = machine; outbox = outbox; out = Some (record { told = told; taken = s.acks }) }
 
   waiting-left : reports_in machine.further outbox.slots ≡ drop 1 (reports_in s.machine.further s.outbox.slots)
   waiting-left = reports-stored machine.further outbox.slots (drop 1 (reports_in s.machine.further s.outbox.slots)) lies.stored
 
-  pub standing-taken : standing_by taken ≡ step_take (standing_by s)
-  standing-taken =
-      (λ i. record (standing_by s) {
-        track = record (standing_by s).track { env = env_of (framed i).kept; is_stopped = (framed i).is_stopped };
+  pub summary-taken : summary_by taken ≡ step_take (summary_by s)
+  summary-taken =
+      (λ i. record (summary_by s) {
+        track = record (summary_by s).track { env = env_of (framed i).kept; is_stopped = (framed i).is_stopped };
         waiting = waiting-left i;
         untold = untold i;
         out = Some (record { told = told; taken = s.acks });
       })
-      ∙ sym (ap (λ (o : Option (Told × (List Report × Option Notice))). with_told o (standing_by s)) (told-next s.machine.further s.outbox.slots s.outbox.untold told is_told))
+      ∙ sym (ap (λ (o : Option (Told × (List Report × Option Notice))). with_told o (summary_by s)) (told-next s.machine.further s.outbox.slots s.outbox.untold told is_told))
 
-  pub is-taken : IsStand s → s.out ≡ None → can_tell (standing_by s) ≡ true
+  pub is-taken : IsBare s → s.out ≡ None → can_tell (summary_by s) ≡ true
       → machine.further.words ≡ slot_words
       → free_of machine.further + length outbox.slots ≡ free_of s.machine.further + length s.outbox.slots
       → outbox.size ≡ s.outbox.size
-      → IsStand taken
-  is-taken stand none some words free size = record {
-    fits = subst (λ (m : MachineState). Fits m (code_at s.case s.program)) (sym framed) (record { started = stand.fits.started; kept = stand.fits.kept });
+      → IsBare taken
+  is-taken parts none some words free size = record {
+    fits = subst (λ (m : MachineState). Fits m (code_at s.case s.program)) (sym framed) (record { started = parts.fits.started; kept = parts.fits.kept });
     words = words;
-    free = free ∙ stand.free;
-    size = size ∙ stand.size;
+    free = free ∙ parts.free;
+    size = size ∙ parts.size;
     lies = subst (λ (rs : List Report). Lies machine.further outbox.slots rs) (sym waiting-left) lies;
-    range = subst (InRange s.case) (sym standing-taken) (range-take s.case (standing_by s) none some stand.range);
+    range = subst (InRange s.case) (sym summary-taken) (range-take s.case (summary_by s) none some parts.range);
   }
 
 -- ---- an acknowledgement
 
 -- its parts: the machine runs, what comes of it is noted, and it is counted
-put-parts : {X : Type 0} → (flow : Flow X) (ack : Ack) (outcome : Outcome (FaultKind × X)) (env : Env) (s : Standing)
-    → put_met flow ack (outcome, env) s ≡ counted ack (noted flow ack outcome (run_to (outcome, env) s))
-put-parts flow ack quiet env s = λ i. record (put_met flow ack (quiet, env) s) { waiting = append-nil s.waiting i; faults = plus-none s.faults i; held = plus-none s.held i }
-put-parts flow ack stopped env s = λ i. record (put_met flow ack (stopped, env) s) { waiting = append-nil s.waiting i; faults = plus-none s.faults i; held = plus-none s.held i }
-put-parts flow ack held env s = λ i. record (put_met flow ack (held, env) s) { waiting = append-nil s.waiting i; faults = plus-none s.faults i }
-put-parts flow ack (reported fields) env s = λ i. record (put_met flow ack (reported fields, env) s) { faults = plus-none s.faults i; held = plus-none s.held i }
-put-parts flow ack (failed fault) env s = λ i. record (put_met flow ack (failed fault, env) s) { waiting = append-nil s.waiting i; held = plus-none s.held i }
+put-parts : {X : Type 0} → (flow : Flow X) (ack : Ack) (outcome : Outcome (FaultKind × X)) (env : Env) (s : Summary)
+    → step_outcome flow ack (outcome, env) s ≡ step_count ack (step_note flow ack outcome (step_machine (outcome, env) s))
+put-parts flow ack quiet env s = λ i. record (step_outcome flow ack (quiet, env) s) { waiting = append-nil s.waiting i; faults = plus-none s.faults i; held = plus-none s.held i }
+put-parts flow ack stopped env s = λ i. record (step_outcome flow ack (stopped, env) s) { waiting = append-nil s.waiting i; faults = plus-none s.faults i; held = plus-none s.held i }
+put-parts flow ack held env s = λ i. record (step_outcome flow ack (held, env) s) { waiting = append-nil s.waiting i; faults = plus-none s.faults i }
+put-parts flow ack (reported fields) env s = λ i. record (step_outcome flow ack (reported fields, env) s) { faults = plus-none s.faults i; held = plus-none s.held i }
+put-parts flow ack (failed fault) env s = λ i. record (step_outcome flow ack (failed fault, env) s) { waiting = append-nil s.waiting i; held = plus-none s.held i }
 
-range-met : {X : Type 0} → (case : Case) (flow : Flow X) (ack : Ack) (outcome : Outcome (FaultKind × X)) (env : Env) (s : Standing)
-    → s.acks < case.acks → InRange case s → InRange case (put_met flow ack (outcome, env) s)
+range-met : {X : Type 0} → (case : Case) (flow : Flow X) (ack : Ack) (outcome : Outcome (FaultKind × X)) (env : Env) (s : Summary)
+    → s.acks < case.acks → InRange case s → InRange case (step_outcome flow ack (outcome, env) s)
 range-met case flow ack quiet env s left range = record {
   ss = range.ss;
   ca = range.ca;
@@ -226,13 +226,13 @@ range-met case flow ack (failed fault) env s left range = record {
 }
 
 -- a report was put at the outbox's end
-module _ (s : Stand) (ack : Ack) (machine : MachineState) (outbox : OutboxState) (report : Report) (first : ℕ)
+module _ (s : BareParts) (ack : Ack) (machine : MachineState) (outbox : OutboxState) (report : Report) (first : ℕ)
     (framed : machine ≡ record s.machine { further = machine.further })
     (lies : Lies machine.further outbox.slots (reports_in s.machine.further s.outbox.slots ++ report ∷ []))
     (untold : outbox.untold ≡ s.outbox.untold)
-    (is_report : report ≡ report_of (record { flow = s.case.flow; program = s.program; number = s.epoch }) (standing_by s).track ack (standing_by s).track.env s.machine.report)
+    (is_report : report ≡ report_of (record { flow = s.case.flow; program = s.program; number = s.epoch }) (summary_by s).track ack (summary_by s).track.env s.machine.report)
     (is_first : first ≡ s.acks + 1) where
-  abbrev pub put : Stand
+  abbrev pub put : BareParts
   put = record s { machine = machine; outbox = outbox; first = first }
 
   waiting-more : reports_in machine.further outbox.slots ≡ reports_in s.machine.further s.outbox.slots ++ report ∷ []
@@ -241,7 +241,7 @@ module _ (s : Stand) (ack : Ack) (machine : MachineState) (outbox : OutboxState)
   pub noted-report : machine.further.words ≡ slot_words
       → free_of machine.further + length outbox.slots ≡ free_of s.machine.further + length s.outbox.slots
       → outbox.size ≡ s.outbox.size
-      → Noted s put ack (reported s.machine.report)
+      → NotesBare s put ack (reported s.machine.report)
   noted-report words free size = record {
     frame = refl;
     machine = framed;
@@ -249,8 +249,8 @@ module _ (s : Stand) (ack : Ack) (machine : MachineState) (outbox : OutboxState)
     free = free;
     size = size;
     lies = subst (λ (rs : List Report). Lies machine.further outbox.slots rs) (sym waiting-more) lies;
-    noted =
-        λ i. record (standing_by s) {
+    step_note =
+        λ i. record (summary_by s) {
           track = record { env = env_of (framed i).kept; is_stopped = (framed i).is_stopped; first = is_first i; count = s.acks };
           waiting = (waiting-more ∙ ap (λ (r : Report). reports_in s.machine.further s.outbox.slots ++ r ∷ []) is_report) i;
           untold = untold i;
@@ -258,55 +258,55 @@ module _ (s : Stand) (ack : Ack) (machine : MachineState) (outbox : OutboxState)
   }
 
 -- the machine ran an acknowledgement, and what came of it was put down
-module _ (s : Stand) (stand : IsStand s) (ack : Ack) where
-  abbrev kept : Standing
-  kept = standing_by s
+module _ (s : BareParts) (parts : IsBare s) (ack : Ack) where
+  abbrev kept : Summary
+  kept = summary_by s
 
   room-kept : nat_lt (length s.outbox.slots) s.outbox.size ≡ nat_lt (length kept.waiting) s.case.slots
-  room-kept = λ i. nat_lt (sym (length-in s.machine.further s.outbox.slots) i) (stand.size i)
+  room-kept = λ i. nat_lt (sym (length-in s.machine.further s.outbox.slots) i) (parts.size i)
 
   module _ (code : Code) (room : Bool) (is_code : code ≡ code_at s.case s.program) (is_room : room ≡ nat_lt (length s.outbox.slots) s.outbox.size) where
-    pub met-kept : heard_on code s.machine ack room ≡ met_at (over_codes s.case) ack kept
+    pub met-kept : heard_on code s.machine ack room ≡ outcome_at (over_codes s.case) ack kept
     met-kept = λ i. heard (by_code (is_code i)) s.machine.is_stopped (env_of s.machine.kept) ack ((is_room ∙ room-kept) i)
 
-    pub ran-kept : ran_on code s.machine ack room ≡ ran_stand s.case ack kept
+    pub ran-kept : ran_on code s.machine ack room ≡ instructions_at s.case ack kept
     ran-kept = λ i. ran_by s.machine.is_stopped (is_code i) (env_of s.machine.kept) ack ((is_room ∙ room-kept) i)
 
-  module _ (outcome : Outcome (FaultKind × ℕ)) (machine : MachineState) (put' : Stand)
-      (met : met_at (over_codes s.case) ack kept ≡ (outcome, env_of machine.kept))
+  module _ (outcome : Outcome (FaultKind × ℕ)) (machine : MachineState) (put' : BareParts)
+      (met : outcome_at (over_codes s.case) ack kept ≡ (outcome, env_of machine.kept))
       (is_stopped : machine.is_stopped ≡ stops outcome)
       (further : machine.further ≡ s.machine.further)
-      (down : Noted (record s { machine = machine }) put' ack outcome) where
-    abbrev pub heard-stand : Stand
-    heard-stand = record put' { acks = put'.acks + 1; time = ack.now }
+      (down : NotesBare (record s { machine = machine }) put' ack outcome) where
+    abbrev pub heard-parts : BareParts
+    heard-parts = record put' { acks = put'.acks + 1; time = ack.now }
 
-    ran : standing_by (record s { machine = machine }) ≡ run_to (outcome, env_of machine.kept) kept
+    ran : summary_by (record s { machine = machine }) ≡ step_machine (outcome, env_of machine.kept) kept
     ran = λ i. record kept {
       track = record kept.track { env = env_of machine.kept; is_stopped = is_stopped i };
       waiting = reports_in (further i) s.outbox.slots;
     }
 
-    pub step-heard : standing_by heard-stand ≡ step_ack (over_codes s.case) ack kept
+    pub step-heard : summary_by heard-parts ≡ step_ack (over_codes s.case) ack kept
     step-heard =
-        ap (counted ack) down.noted
-        ∙ ap (λ (t : Standing). counted ack (noted (over_codes s.case) ack outcome t)) ran
+        ap (step_count ack) down.step_note
+        ∙ ap (λ (t : Summary). step_count ack (step_note (over_codes s.case) ack outcome t)) ran
         ∙ sym (put-parts (over_codes s.case) ack outcome (env_of machine.kept) kept)
-        ∙ ap (λ (m : Outcome (FaultKind × ℕ) × Env). put_met (over_codes s.case) ack m kept) (sym met)
+        ∙ ap (λ (m : Outcome (FaultKind × ℕ) × Env). step_outcome (over_codes s.case) ack m kept) (sym met)
 
-    pub is-heard : s.acks < s.case.acks → Fits machine (code_at s.case s.program) → IsStand heard-stand
+    pub is-heard : s.acks < s.case.acks → Fits machine (code_at s.case s.program) → IsBare heard-parts
     is-heard left fits =
         let whole : InRange s.case (step_ack (over_codes s.case) ack kept) =
-        subst (λ (m : Outcome (FaultKind × ℕ) × Env). InRange s.case (put_met (over_codes s.case) ack m kept)) (sym met)
-        (range-met s.case (over_codes s.case) ack outcome (env_of machine.kept) kept left stand.range) in
-        let case_same : put'.case ≡ s.case = ap (λ (p : Stand). p.case) down.frame in
-        let program_same : put'.program ≡ s.program = ap (λ (p : Stand). p.program) down.frame in
+        subst (λ (m : Outcome (FaultKind × ℕ) × Env). InRange s.case (step_outcome (over_codes s.case) ack m kept)) (sym met)
+        (range-met s.case (over_codes s.case) ack outcome (env_of machine.kept) kept left parts.range) in
+        let case_same : put'.case ≡ s.case = ap (λ (p : BareParts). p.case) down.frame in
+        let program_same : put'.program ≡ s.program = ap (λ (p : BareParts). p.program) down.frame in
         record {
           fits =
               subst (λ (code : Code). Fits put'.machine code) (λ i. code_at (sym case_same i) (sym program_same i))
               (subst (λ (m : MachineState). Fits m (code_at s.case s.program)) (sym down.machine) (record { started = fits.started; kept = fits.kept }));
           words = down.words;
-          free = down.free ∙ ap (λ pool. free_of pool + length s.outbox.slots) further ∙ stand.free ∙ ap (λ (case : Case). case.slots) (sym case_same);
-          size = down.size ∙ stand.size ∙ ap (λ (case : Case). case.slots) (sym case_same);
+          free = down.free ∙ ap (λ pool. free_of pool + length s.outbox.slots) further ∙ parts.free ∙ ap (λ (case : Case). case.slots) (sym case_same);
+          size = down.size ∙ parts.size ∙ ap (λ (case : Case). case.slots) (sym case_same);
           lies = down.lies;
-          range = subst (λ (case : Case). InRange case (standing_by heard-stand)) (sym case_same) (subst (InRange s.case) (sym step-heard) whole);
+          range = subst (λ (case : Case). InRange case (summary_by heard-parts)) (sym case_same) (subst (InRange s.case) (sym step-heard) whole);
         }

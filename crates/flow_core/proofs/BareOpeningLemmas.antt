@@ -1,4 +1,4 @@
--- What is kept before the first letter is how the flow's opening stands.
+-- What is kept before the first letter is the summary of the opening.
 use Rattle.std.specs.Prelude.{◌≡◌, ℕ, ◌+◌, ◌-◌, None, List, [], length, refl}
 use Rattle.std.proofs.Common.{ap, sym, ◌∙◌, subst, arith}
 use Rattle.std.specs.FinMap as map
@@ -9,17 +9,17 @@ use Rattle.fold_machine.specs.MachineState.{MachineState}
 use Rattle.reg_code.specs.CodeStart.{declared_kept}
 use Rattle.agent_core.specs.Agents.{begun, values_of}
 use Rattle.flow_core.specs.declared.bare.First.{First}
-use Rattle.flow_core.specs.declared.bare.Stand.{Stand}
+use Rattle.flow_core.specs.declared.bare.BareParts.{BareParts}
 use Rattle.flow_core.specs.declared.case.Case.{Case}
 use Rattle.flow_core.specs.Readings.{env_of, code_at, over_codes}
 use Rattle.flow_core.specs.World.{opening}
 use Rattle.flow_core.specs.Outbox.{OutboxState, Lies}
-use Rattle.flow_core.specs.Standings.{standing}
-use Rattle.flow_core.specs.Bares.{reports_in, standing_by, InRange, IsStand, IsFirst}
+use Rattle.flow_core.specs.Summaries.{summary}
+use Rattle.flow_core.specs.Bares.{reports_in, summary_by, InRange, IsBare, IsFirst}
 use Rattle.flow_core.proofs.ValueLemmas.{values-alike}
 
 module _ (case : Case) (made : First) (is : IsFirst case made) where
-  abbrev pub opened : Stand
+  abbrev pub opened : BareParts
   opened = record {
     case = case;
     machine = made.machine;
@@ -47,9 +47,9 @@ module _ (case : Case) (made : First) (is : IsFirst case made) where
   waits : reports_in made.machine.further made.outbox.slots ≡ []
   waits = ap (λ (o : OutboxState). reports_in made.machine.further o.slots) is.outbox
 
-  pub standing-open : standing_by opened ≡ standing (over_codes case) (opening (over_codes case))
-  standing-open =
-      λ i. record (standing_by opened) {
+  pub summary-open : summary_by opened ≡ summary (over_codes case) (opening (over_codes case))
+  summary-open =
+      λ i. record (summary_by opened) {
         program = is.program i;
         track = record { env = env-open i; is_stopped = (is.machine i).is_stopped; first = 0; count = 0 };
         waiting = waits i;
@@ -62,7 +62,7 @@ module _ (case : Case) (made : First) (is : IsFirst case made) where
       let less : case.slots - 0 ≡ case.slots = omega arith in
       ap (λ (m : MachineState). free_of m.further) is.machine ∙ ap (λ (n : ℕ). case.slots - n) none ∙ less
 
-  range-open : InRange case (standing (over_codes case) (opening (over_codes case)))
+  range-open : InRange case (summary (over_codes case) (opening (over_codes case)))
   range-open = record {
     ss = case.ss_role;
     ca = case.ca_role;
@@ -74,7 +74,7 @@ module _ (case : Case) (made : First) (is : IsFirst case made) where
     held = omega arith;
   }
 
-  pub is-open : IsStand opened
+  pub is-open : IsBare opened
   is-open =
       let slots : length made.outbox.slots ≡ 0 = ap (λ (o : OutboxState). length o.slots) is.outbox in
       let free = free-open in
@@ -84,5 +84,5 @@ module _ (case : Case) (made : First) (is : IsFirst case made) where
         free = omega (arith, free, slots);
         size = ap (λ (o : OutboxState). o.size) is.outbox;
         lies = subst (λ (o : OutboxState). Lies made.machine.further o.slots (reports_in made.machine.further o.slots)) (sym is.outbox) (record { owned = tt; stored = tt });
-        range = subst (InRange case) (sym standing-open) range-open;
+        range = subst (InRange case) (sym summary-open) range-open;
       }

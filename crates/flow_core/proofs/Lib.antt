@@ -17,7 +17,7 @@ pub mod CoreLemmas
 pub mod CellLemmas
 pub mod WorkedText
 pub mod LeftLemmas
-pub mod StandingLemmas
+pub mod SummaryLemmas
 pub mod BareLemmas
 pub mod BareAnswerLemmas
 pub mod BareOpeningLemmas

@@ -18,5 +18,5 @@ pub mod Settling
 pub mod Cells
 pub mod LiveText
 pub mod LettersLeft
-pub mod Standings
+pub mod Summaries
 pub mod Bares

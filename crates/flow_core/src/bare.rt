@@ -1,7 +1,7 @@
 //! What later letters of a flow depend on, without its history.
 ghost use Rattle.std.specs.Prelude.{◌≡◌, true, None, Some, option_map};
 ghost use Rattle.flow_core.specs.Readings.{over_codes};
-ghost use Rattle.flow_core.specs.Standings.{can_tell, may, is_done, step_take};
+ghost use Rattle.flow_core.specs.Summaries.{can_tell, may_make, is_done, step_take};
 ghost use Rattle.std.specs.Prelude.{◌+◌, ◌<◌, length};
 ghost use Rattle.ccp_base.specs.Limits.{most_acks};
 ghost use Rattle.portus_core.specs.Epoch.{reported, failed};
@@ -13,12 +13,12 @@ ghost use Rattle.fold_machine.specs.MachineState.{Fits};
 ghost use Rattle.flow_core.specs.Readings.{code_at};
 ghost use Rattle.flow_core.specs.LiveText.{reports_told};
 ghost use Rattle.flow_core.specs.Settling.{AreGood};
-ghost use Rattle.flow_core.specs.Standings.{step_ack, step_answer, met_at};
+ghost use Rattle.flow_core.specs.Summaries.{step_ack, step_answer, outcome_at};
 ghost use Rattle.std.specs.Prelude.{IfOk};
 ghost use Rattle.flow_core.specs.World.{opening};
-ghost use Rattle.flow_core.specs.Standings.{standing};
-ghost use Rattle.flow_core.specs.Bares.{IsFirst, closed_stand, UpdatesStand, ChangesStand, ObeysStand};
-ghost use Rattle.flow_core.specs.Bares.{standing_by, told_ticket, ran_stand, IsStand, CanPut, HasPlace, Noted};
+ghost use Rattle.flow_core.specs.Summaries.{summary};
+ghost use Rattle.flow_core.specs.Bares.{IsFirst, closed_parts, UpdatesBare, ChangesBare, ObeysBare};
+ghost use Rattle.flow_core.specs.Bares.{summary_by, told_ticket, instructions_at, IsBare, CanNote, HasSpace, NotesBare};
 
 use crate::case::Case;
 use crate::letter::Letter;
@@ -36,7 +36,7 @@ use std::sync::ledger::Ledger;
 
 /// What later letters depend on, part by part.
 #[derive(Drop)]
-pub(crate) struct Stand {
+pub(crate) struct BareParts {
     pub(crate) case: Case,
     pub(crate) machine: Machine,
     pub(crate) program: u32,
@@ -77,15 +77,15 @@ impl First {
     }
 }
 
-impl Stand {
+impl BareParts {
     /// A flow without a letter.
-    fn open(alloc: Global, case: Case) -> Result<Stand, NoMemory>
-        ensures stand { IfOk result IsStand }
+    fn open(alloc: Global, case: Case) -> Result<BareParts, NoMemory>
+        ensures parts { IfOk result IsBare }
         ensures case { IfOk result (λ s. s.case ≡ case) }
-        ensures standing { IfOk result (λ s. standing_by s ≡ standing (over_codes case) (opening (over_codes case))) }
+        ensures summary { IfOk result (λ s. summary_by s ≡ summary (over_codes case) (opening (over_codes case))) }
     {
         match First::of(alloc, &case) {
-            Ok(first) => Ok(Stand::opened(case, first)),
+            Ok(first) => Ok(BareParts::opened(case, first)),
             Err(fault) => {
                 drop(case);
                 Err(fault)
@@ -94,14 +94,14 @@ impl Stand {
     }
 
     /// A flow of this case that has this before its first letter.
-    fn opened(case: Case, first: First) -> Stand
+    fn opened(case: Case, first: First) -> BareParts
         requires { IsFirst case first }
-        ensures stand { IsStand result }
+        ensures parts { IsBare result }
         ensures case { result.case ≡ case }
-        ensures standing { standing_by result ≡ standing (over_codes case) (opening (over_codes case)) }
+        ensures summary { summary_by result ≡ summary (over_codes case) (opening (over_codes case)) }
     {
         let agent = case.agent;
-        Stand {
+        BareParts {
             case,
             machine: first.machine,
             program: first.program,
@@ -121,13 +121,13 @@ impl Stand {
 
     /// Takes the oldest report, or else the notice, as a ticket. One must be there, and no ticket may be out.
     pub(crate) fn take(&mut self) -> Ticket
-        requires stand { IsStand self.old }
+        requires parts { IsBare self.old }
         requires none_out { self.old.out ≡ None }
-        requires some { can_tell (standing_by self.old) ≡ true }
-        ensures stand { IsStand self.new }
+        requires some { can_tell (summary_by self.old) ≡ true }
+        ensures parts { IsBare self.new }
         ensures case { self.new.case ≡ self.old.case }
-        ensures step { standing_by self.new ≡ step_take (standing_by self.old) }
-        ensures ticket { told_ticket self.old.case (standing_by self.new) ≡ Some result }
+        ensures step { summary_by self.new ≡ step_take (summary_by self.old) }
+        ensures ticket { told_ticket self.old.case (summary_by self.new) ≡ Some result }
     {
         let Some(told) = pop_told(&mut self.machine, &mut self.outbox) else {
             unreachable!()
@@ -140,13 +140,13 @@ impl Stand {
 
     /// Takes an acknowledgement. One must be left.
     pub(crate) fn hear<L: Ledger>(&mut self, ack: &Ack, steps: &mut Steps<L>) -> Acked
-        requires stand { IsStand self.old }
+        requires parts { IsBare self.old }
         requires left { self.old.acks < self.old.case.acks }
-        ensures stand { IsStand self.new }
+        ensures parts { IsBare self.new }
         ensures case { self.new.case ≡ self.old.case }
-        ensures step { standing_by self.new ≡ step_ack (over_codes self.old.case) ack.entry.now (standing_by self.old) }
-        ensures acked { result ≡ acked_as (met_at (over_codes self.old.case) ack.entry.now (standing_by self.old)).0 }
-        ensures steps { steps.new ≡ steps.old + ran_stand self.old.case ack.entry.now (standing_by self.old) }
+        ensures step { summary_by self.new ≡ step_ack (over_codes self.old.case) ack.entry.now (summary_by self.old) }
+        ensures acked { result ≡ acked_as (outcome_at (over_codes self.old.case) ack.entry.now (summary_by self.old)).0 }
+        ensures steps { steps.new ≡ steps.old + instructions_at self.old.case ack.entry.now (summary_by self.old) }
     {
         let room = self.outbox.room();
         let code = self.case.code(self.program);
@@ -159,10 +159,10 @@ impl Stand {
 
     /// Puts down what an acknowledgement came to, by the machine's answer.
     fn put_down(&mut self, ack: &Ack, acked: Acked)
-        requires can { CanPut self.old }
+        requires can { CanNote self.old }
         requires acks { self.old.acks < most_acks }
-        requires room { acked ≡ Acked.Reported → HasPlace self.old }
-        ensures { Noted self.old self.new ack.entry.now (outcome_by acked self.old.machine.report) }
+        requires room { acked ≡ Acked.Reported → HasSpace self.old }
+        ensures { NotesBare self.old self.new ack.entry.now (outcome_by acked self.old.machine.report) }
     {
         match acked {
             Acked::Quiet | Acked::Stopped => {}
@@ -174,11 +174,11 @@ impl Stand {
 
     /// Puts down the report that the machine made.
     fn put_down_report(&mut self, ack: &Ack)
-        requires can { CanPut self.old }
+        requires can { CanNote self.old }
         requires acks { self.old.acks < most_acks }
         requires room { length self.old.outbox.slots < self.old.outbox.size }
         requires free { 0 < free_of self.old.machine.further }
-        ensures { Noted self.old self.new ack.entry.now (reported self.old.machine.report) }
+        ensures { NotesBare self.old self.new ack.entry.now (reported self.old.machine.report) }
     {
         let end = u64::from(self.acks) + 1;
         let report = Report {
@@ -198,8 +198,8 @@ impl Stand {
 
     /// Puts down a fault of this kind at the instruction with this index.
     fn put_down_fault(&mut self, ack: &Ack, kind: FaultKind, index: u16)
-        requires { CanPut self.old }
-        ensures { Noted self.old self.new ack.entry.now (failed (kind, index)) }
+        requires { CanNote self.old }
+        ensures { NotesBare self.old self.new ack.entry.now (failed (kind, index)) }
     {
         let notice = Notice {
             flow: self.case.flow,
@@ -217,11 +217,11 @@ impl Stand {
 
     /// Applies the answer to the ticket that is out.
     pub(crate) fn settle(&mut self, answer: &Answer)
-        requires stand { IsStand self.old }
-        requires out { told_ticket self.old.case (standing_by self.old) ≡ Some answer.now }
-        ensures stand { IsStand self.new }
+        requires parts { IsBare self.old }
+        requires out { told_ticket self.old.case (summary_by self.old) ≡ Some answer.now }
+        ensures parts { IsBare self.new }
         ensures case { self.new.case ≡ self.old.case }
-        ensures step { standing_by self.new ≡ step_answer (over_codes self.old.case) (standing_by self.old) }
+        ensures step { summary_by self.new ≡ step_answer (over_codes self.old.case) (summary_by self.old) }
     {
         let reply = answer.reply();
         let values = self.agent.values(&reply);
@@ -233,7 +233,7 @@ impl Stand {
     fn close(&mut self, answer: &Answer)
         requires answered { self.old.answered < most_acks }
         requires told { self.old.told < most_acks }
-        ensures { self.new ≡ closed_stand answer.now self.old }
+        ensures { self.new ≡ closed_parts answer.now self.old }
     {
         let reports = reports_told(&answer.ticket().told);
         self.agent = *answer.after();
@@ -247,7 +247,7 @@ impl Stand {
         requires fits { Fits self.old.machine (code_at self.old.case self.old.program) }
         requires good { AreGood self.old.case self.old.program reply.now values.now }
         requires epoch { self.old.epoch < most_acks }
-        ensures { ObeysStand self.old self.new reply.now values.now }
+        ensures { ObeysBare self.old self.new reply.now values.now }
     {
         match *reply {
             Reply::Nothing => {}
@@ -260,7 +260,7 @@ impl Stand {
     fn update(&mut self, values: &Fields)
         requires fits { Fits self.old.machine (code_at self.old.case self.old.program) }
         requires good { first_bad (length (code_at self.old.case self.old.program).controls) values.now ≡ None }
-        ensures { UpdatesStand self.old self.new values.now }
+        ensures { UpdatesBare self.old self.new values.now }
     {
         let code = self.case.code(self.program);
         let Ok(()) = self.machine.update(code, values) else {
@@ -272,7 +272,7 @@ impl Stand {
     fn change(&mut self, program: u32, values: &Fields)
         requires good { first_bad (length (code_at self.old.case program).controls) values.now ≡ None }
         requires epoch { self.old.epoch < most_acks }
-        ensures { ChangesStand self.old self.new program values.now }
+        ensures { ChangesBare self.old self.new program values.now }
     {
         let code = self.case.code(program);
         let Ok(()) = self.machine.start(code, values, self.time) else {
@@ -286,7 +286,7 @@ impl Stand {
 
     /// Whether a report waits or a notice is untold.
     fn can_take(&self) -> bool
-        ensures { result ≡ can_tell (standing_by self.now) }
+        ensures { result ≡ can_tell (summary_by self.now) }
     {
         !self.outbox.is_empty()
     }
@@ -317,108 +317,108 @@ fn reports_told(told: &Told) -> u32
 /// A flow without its history and its link.
 #[derive(Drop)]
 pub struct Bare {
-    stand: Stand,
+    parts: BareParts,
 }
 
 impl Model for Bare {
-    ghost use Rattle.flow_core.specs.Bares.{BareState, standing_by};
+    ghost use Rattle.flow_core.specs.Bares.{BareState, summary_by};
 
     ghost Value = { BareState };
 
-    ghost use Rattle.flow_core.specs.Bares.{IsStand};
+    ghost use Rattle.flow_core.specs.Bares.{IsBare};
 
-    ghost view = { λ b. record { case = b.stand.case; standing = standing_by b.stand } };
+    ghost view = { λ b. record { case = b.parts.case; summary = summary_by b.parts } };
 
-    ghost invariant = { λ b. IsStand b.stand };
+    ghost invariant = { λ b. IsBare b.parts };
 }
 
 impl Bare {
     /// A flow without a letter. The outbox is reserved here.
     pub fn new(alloc: Global, case: Case) -> Result<Bare, NoMemory>
-        ensures { IfOk result (λ bare. bare ≡ record { case = case; standing = standing (over_codes case) (opening (over_codes case)) }) }
+        ensures { IfOk result (λ bare. bare ≡ record { case = case; summary = summary (over_codes case) (opening (over_codes case)) }) }
     {
-        let stand = Stand::open(alloc, case)?;
-        Ok(Bare { stand })
+        let parts = BareParts::open(alloc, case)?;
+        Ok(Bare { parts })
     }
 
     /// The flow's case.
     pub fn case(&self) -> &Case
         ensures { result.now ≡ self.now.case }
     {
-        &self.stand.case
+        &self.parts.case
     }
 
     /// How many acknowledgements are in.
     pub fn acks(&self) -> u32
-        ensures { result ≡ self.now.standing.acks }
+        ensures { result ≡ self.now.summary.acks }
     {
-        self.stand.acks
+        self.parts.acks
     }
 
     /// The present congestion window, in bytes.
     pub fn cwnd(&self) -> u64
-        ensures { result ≡ self.now.standing.track.env.cwnd }
+        ensures { result ≡ self.now.summary.track.env.cwnd }
     {
-        self.stand.machine.cwnd()
+        self.parts.machine.cwnd()
     }
 
     /// At how many acknowledgements the ticket that is out was taken, None exactly where none is out.
     pub fn taken(&self) -> Option<u32>
-        ensures { result ≡ option_map (λ issued. issued.taken) self.now.standing.out }
+        ensures { result ≡ option_map (λ issued. issued.taken) self.now.summary.out }
     {
-        let issued = self.stand.out.as_ref()?;
+        let issued = self.parts.out.as_ref()?;
         Some(issued.taken)
     }
 
     /// The ticket that is out, None exactly where none is.
     pub fn out(&self) -> Option<Ticket>
-        ensures { result ≡ told_ticket self.now.case self.now.standing }
+        ensures { result ≡ told_ticket self.now.case self.now.summary }
     {
-        let issued = self.stand.out.as_ref()?;
-        Some(self.stand.ticket(&issued.told))
+        let issued = self.parts.out.as_ref()?;
+        Some(self.parts.ticket(&issued.told))
     }
 
     /// Whether all acknowledgements are in, nothing can be taken and no ticket is out.
     pub fn is_done(&self) -> bool
-        ensures { result ≡ is_done (over_codes self.now.case) self.now.standing }
+        ensures { result ≡ is_done (over_codes self.now.case) self.now.summary }
     {
-        if self.stand.acks < self.stand.case.acks {
+        if self.parts.acks < self.parts.case.acks {
             return false;
         }
-        self.stand.out.is_none() && !self.stand.can_take()
+        self.parts.out.is_none() && !self.parts.can_take()
     }
 
     /// Whether a ticket may be taken: none is out, and a report waits or a notice is untold.
     pub fn may_take(&self) -> bool
-        ensures { result ≡ may (over_codes self.now.case) self.now.standing Letter.T }
+        ensures { result ≡ may_make (over_codes self.now.case) self.now.summary Letter.T }
     {
-        self.stand.out.is_none() && self.stand.can_take()
+        self.parts.out.is_none() && self.parts.can_take()
     }
 
     /// Takes the oldest report, or else the notice, as a ticket.
     pub fn take(&mut self) -> Ticket
-        requires { may (over_codes self.old.case) self.old.standing Letter.T ≡ true }
-        ensures step { self.new ≡ record self.old { standing = step_take self.old.standing } }
-        ensures ticket { told_ticket self.new.case self.new.standing ≡ Some result }
+        requires { may_make (over_codes self.old.case) self.old.summary Letter.T ≡ true }
+        ensures step { self.new ≡ record self.old { summary = step_take self.old.summary } }
+        ensures ticket { told_ticket self.new.case self.new.summary ≡ Some result }
     {
-        self.stand.take()
+        self.parts.take()
     }
 
     /// Takes an acknowledgement. One must be left.
     pub fn ack<L: Ledger>(&mut self, ack: &Ack, steps: &mut Steps<L>) -> Acked
-        requires { may (over_codes self.old.case) self.old.standing Letter.A ≡ true }
-        ensures step { self.new ≡ record self.old { standing = step_ack (over_codes self.old.case) ack.entry.now self.old.standing } }
-        ensures acked { result ≡ acked_as (met_at (over_codes self.old.case) ack.entry.now self.old.standing).0 }
-        ensures steps { steps.new ≡ steps.old + ran_stand self.old.case ack.entry.now self.old.standing }
+        requires { may_make (over_codes self.old.case) self.old.summary Letter.A ≡ true }
+        ensures step { self.new ≡ record self.old { summary = step_ack (over_codes self.old.case) ack.entry.now self.old.summary } }
+        ensures acked { result ≡ acked_as (outcome_at (over_codes self.old.case) ack.entry.now self.old.summary).0 }
+        ensures steps { steps.new ≡ steps.old + instructions_at self.old.case ack.entry.now self.old.summary }
     {
-        self.stand.hear(ack, steps)
+        self.parts.hear(ack, steps)
     }
 
     /// Applies the answer to the ticket that is out.
     pub fn settle(&mut self, answer: &Answer)
-        requires { told_ticket self.old.case self.old.standing ≡ Some answer.now }
-        ensures { self.new ≡ record self.old { standing = step_answer (over_codes self.old.case) self.old.standing } }
+        requires { told_ticket self.old.case self.old.summary ≡ Some answer.now }
+        ensures { self.new ≡ record self.old { summary = step_answer (over_codes self.old.case) self.old.summary } }
     {
-        self.stand.settle(answer)
+        self.parts.settle(answer)
     }
 }

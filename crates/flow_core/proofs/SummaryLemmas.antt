@@ -1,4 +1,4 @@
--- How a flow stands after a letter is determined by how it stood.
+-- The summary after a letter is determined by the summary before it.
 use Rattle.std.specs.Prelude.{◌≡◌, ℕ, ◌+◌, Bool, not, ◌&&◌, nat_lt, is_some, is_none, Option, Some, None, option_map, List, [], ◌∷◌, ◌++◌, length, map, refl}
 use Rattle.std.proofs.Common.{ap, sym, ◌∙◌, arith, length-append}
 use Rattle.std.proofs.lemmas.List.{map-append}
@@ -21,7 +21,7 @@ use Rattle.flow_core.specs.Words.{Giving, with_given, after_letter, can_take, is
 use Rattle.flow_core.specs.Books.{ticket_line}
 use Rattle.flow_core.specs.LiveText.{reports_told, report_count}
 use Rattle.flow_core.specs.States.{issued_as}
-use Rattle.flow_core.specs.Standings.{Standing, standing, notice_after, put_met, step_ack, telling, with_told, step_take, obeyed, turned, answered_by, step_answer, step_given, step, can_tell, may, is_done}
+use Rattle.flow_core.specs.Summaries.{Summary, summary, notice_after, step_outcome, step_ack, next_telling, with_told, step_take, step_reply, step_turn, step_out, step_answer, step_given, step_letter, can_tell, may_make, is_done}
 
 -- the time of the last one of a list
 time-append : (acks : List Ack) (ack : Ack) → time_of (acks ++ ack ∷ []) ≡ ack.now
@@ -41,15 +41,15 @@ module _ {X : Type 0} (flow : Flow X) where
   untold-met [] untold = refl
   untold-met (failure ∷ rest) untold = refl
 
-  pub stands-ack : (ack : Ack) (w : World X) → standing flow (after_ack flow ack w) ≡ step_ack flow ack (standing flow w)
-  stands-ack ack w =
+  pub summary-ack : (ack : Ack) (w : World X) → summary flow (after_ack flow ack w) ≡ step_ack flow ack (summary flow w)
+  summary-ack ack w =
       let track = track_of flow w in
       let met = heard (flow.reading w.present.program) track.is_stopped track.env ack (has_room flow w) in
       let failures = failures_met w.present.program (length w.past) track.count ack met in
       let next = after_ack flow ack w in
       let tracked : track_of flow next ≡ after_outcome met track =
       after-append (flow.reading w.present.program) w.present.events (acknowledged ack (has_room flow w) ∷ []) _ in
-      λ i. record (standing flow next) {
+      λ i. record (summary flow next) {
         track = tracked i;
         acks = length-append w.acks (ack ∷ []) i;
         time = time-append w.acks ack i;
@@ -59,64 +59,64 @@ module _ {X : Type 0} (flow : Flow X) where
 
   -- ---- T
 
-  stands-taken : (waiting : List Report) (untold : Option (Failure X)) (w : World X)
-      → standing flow (with_taken (taking waiting untold) w) ≡ with_told (telling waiting (option_map (notice_of flow) untold)) (standing flow w)
-  stands-taken (report ∷ rest) untold w = refl
-  stands-taken [] (Some failure) w = refl
-  stands-taken [] None w = refl
+  summary-taken : (waiting : List Report) (untold : Option (Failure X)) (w : World X)
+      → summary flow (with_taken (taking waiting untold) w) ≡ with_told (next_telling waiting (option_map (notice_of flow) untold)) (summary flow w)
+  summary-taken (report ∷ rest) untold w = refl
+  summary-taken [] (Some failure) w = refl
+  summary-taken [] None w = refl
 
-  pub stands-take : (w : World X) → standing flow (after_take w) ≡ step_take (standing flow w)
-  stands-take w = stands-taken w.waiting w.untold w
+  pub summary-take : (w : World X) → summary flow (after_take w) ≡ step_take (summary flow w)
+  summary-take w = summary-taken w.waiting w.untold w
 
   -- ---- C
 
-  stands-obeyed : (agent : Agent) (reply : Reply) (w : World X) → standing flow (with_reply flow agent reply w) ≡ obeyed flow agent reply (standing flow w)
-  stands-obeyed agent Nothing w = refl
-  stands-obeyed agent (Update cwnd) w =
+  summary-obeyed : (agent : Agent) (reply : Reply) (w : World X) → summary flow (with_reply flow agent reply w) ≡ step_reply flow agent reply (summary flow w)
+  summary-obeyed agent Nothing w = refl
+  summary-obeyed agent (Update cwnd) w =
       let next = with_reply flow agent (Update cwnd) w in
       let track = track_of flow w in
       let tracked : track_of flow next ≡ record track { env = with_values (values_of agent (Update cwnd)) track.env } =
       after-append (flow.reading w.present.program) w.present.events (updated (values_of agent (Update cwnd)) ∷ []) _ in
-      λ i. record (standing flow w) { track = tracked i }
-  stands-obeyed agent (Change program cwnd cap) w =
+      λ i. record (summary flow w) { track = tracked i }
+  summary-obeyed agent (Change program cwnd cap) w =
       let next = with_reply flow agent (Change program cwnd cap) w in
-      λ i. record (standing flow next) { epoch = length-append w.past (w.present ∷ []) i }
+      λ i. record (summary flow next) { epoch = length-append w.past (w.present ∷ []) i }
 
-  stands-turned : (ticket : Taken X) (turn : Agent × Reply) (w : World X)
-      → standing flow (with_turn flow ticket turn w) ≡ turned flow (issued_as flow ticket) turn (standing flow w)
-  stands-turned ticket turn w =
+  summary-turned : (ticket : Taken X) (turn : Agent × Reply) (w : World X)
+      → summary flow (with_turn flow ticket turn w) ≡ step_turn flow (issued_as flow ticket) turn (summary flow w)
+  summary-turned ticket turn w =
       let line : Answered X = record { told = ticket.told; taken = ticket.taken; answered = length w.acks; reply = turn.1 } in
       let closed : World X = record w { agent = turn.0; out = None; answered = w.answered ++ line ∷ [] } in
       let told : report_count (map (ticket_line flow) closed.answered)
       ≡ report_count (map (ticket_line flow) w.answered) + reports_told (told_as flow ticket.told) =
       ap report_count (map-append (ticket_line flow) w.answered (line ∷ []))
       ∙ count-append (map (ticket_line flow) w.answered) (ticket_line flow line) in
-      stands-obeyed w.agent turn.1 closed
-      ∙ (λ i. obeyed flow w.agent turn.1 (record (standing flow closed) { answered = length-append w.answered (line ∷ []) i; told = told i }))
+      summary-obeyed w.agent turn.1 closed
+      ∙ (λ i. step_reply flow w.agent turn.1 (record (summary flow closed) { answered = length-append w.answered (line ∷ []) i; told = told i }))
 
-  stands-applied : (out : Option (Taken X)) (w : World X)
-      → standing flow (answer_applied flow out w) ≡ answered_by flow (option_map (issued_as flow) out) (standing flow w)
-  stands-applied None w = refl
-  stands-applied (Some ticket) w = stands-turned ticket (replied w.agent (told_as flow ticket.told)) w
+  summary-applied : (out : Option (Taken X)) (w : World X)
+      → summary flow (answer_applied flow out w) ≡ step_out flow (option_map (issued_as flow) out) (summary flow w)
+  summary-applied None w = refl
+  summary-applied (Some ticket) w = summary-turned ticket (replied w.agent (told_as flow ticket.told)) w
 
-  pub stands-answer : (w : World X) → standing flow (after_answer flow w) ≡ step_answer flow (standing flow w)
-  stands-answer w = stands-applied w.out w
+  pub summary-answer : (w : World X) → summary flow (after_answer flow w) ≡ step_answer flow (summary flow w)
+  summary-answer w = summary-applied w.out w
 
   -- ---- a letter
 
-  stands-given : (given : Option Ack) (w : World X) → standing flow (with_given flow given w) ≡ step_given flow given (standing flow w)
-  stands-given None w = refl
-  stands-given (Some ack) w = stands-ack ack w
+  summary-given : (given : Option Ack) (w : World X) → summary flow (with_given flow given w) ≡ step_given flow given (summary flow w)
+  summary-given None w = refl
+  summary-given (Some ack) w = summary-ack ack w
 
-  pub stands-letter : (giving : Giving X) (letter : Letter) (w : World X)
-      → standing flow (after_letter flow giving w letter) ≡ step flow (giving w) letter (standing flow w)
-  stands-letter giving A w = stands-given (giving w) w
-  stands-letter giving T w = stands-take w
-  stands-letter giving C w = stands-answer w
+  pub summary-letter : (giving : Giving X) (letter : Letter) (w : World X)
+      → summary flow (after_letter flow giving w letter) ≡ step_letter flow (giving w) letter (summary flow w)
+  summary-letter giving A w = summary-given (giving w) w
+  summary-letter giving T w = summary-take w
+  summary-letter giving C w = summary-answer w
 
-  -- ---- what depends on how a flow stands
+  -- ---- what depends on the summary alone
 
-  can-told : (waiting : List Report) (untold : Option (Failure X)) → is_some (taking waiting untold) ≡ is_some (telling waiting (option_map (notice_of flow) untold))
+  can-told : (waiting : List Report) (untold : Option (Failure X)) → is_some (taking waiting untold) ≡ is_some (next_telling waiting (option_map (notice_of flow) untold))
   can-told (report ∷ rest) untold = refl
   can-told [] (Some failure) = refl
   can-told [] None = refl
@@ -129,10 +129,10 @@ module _ {X : Type 0} (flow : Flow X) where
   some-mapped None = refl
   some-mapped (Some ticket) = refl
 
-  pub stands-legal : (letter : Letter) (w : World X) → is_legal flow w letter ≡ may flow (standing flow w) letter
-  stands-legal A w = refl
-  stands-legal T w = λ i. none-mapped w.out i && can-told w.waiting w.untold i
-  stands-legal C w = some-mapped w.out
+  pub summary-legal : (letter : Letter) (w : World X) → is_legal flow w letter ≡ may_make flow (summary flow w) letter
+  summary-legal A w = refl
+  summary-legal T w = λ i. none-mapped w.out i && can-told w.waiting w.untold i
+  summary-legal C w = some-mapped w.out
 
-  pub stands-complete : (w : World X) → is_complete flow w ≡ is_done flow (standing flow w)
-  stands-complete w = λ i. not (nat_lt (length w.acks) flow.acks) && (none-mapped w.out i && not (can-told w.waiting w.untold i))
+  pub summary-complete : (w : World X) → is_complete flow w ≡ is_done flow (summary flow w)
+  summary-complete w = λ i. not (nat_lt (length w.acks) flow.acks) && (none-mapped w.out i && not (can-told w.waiting w.untold i))

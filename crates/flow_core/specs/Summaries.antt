@@ -1,4 +1,4 @@
--- How a flow stands: what its later letters depend on, in place of its history; and what a letter makes of it.
+-- A flow without its history: its summary is what later letters depend on, and a letter makes the next summary of it.
 use Rattle.std.specs.Prelude.{ℕ, ◌+◌, Bool, not, ◌&&◌, nat_lt, is_some, is_none, Option, Some, None, option_map, List, [], ◌∷◌, ◌++◌, length, map}
 use Rattle.ccp_base.specs.declared.ack.Ack.{Ack}
 use Rattle.ccp_base.specs.declared.arithmetic.FaultKind.{FaultKind}
@@ -22,10 +22,10 @@ use Rattle.flow_core.specs.States.{issued_as, some_count}
 use Rattle.flow_core.specs.LiveText.{reports_told, report_count}
 use Rattle.flow_core.specs.Books.{ticket_line}
 
--- the present epoch's program, its number and where it stands; how many acknowledgements are in and the time of the
+-- the present epoch's program, its number and its track; how many acknowledgements are in and the time of the
 -- last one; the reports that wait and a notice that is untold; the agent; the ticket that is out; how many tickets were
 -- answered, and how many of them told a report; how many faults there were, and how many reports were held
-pub record Standing : Type 0 where
+pub record Summary : Type 0 where
   pub program : ℕ
   pub epoch : ℕ
   pub track : Track
@@ -40,9 +40,9 @@ pub record Standing : Type 0 where
   pub faults : ℕ
   pub held : ℕ
 
--- how a flow stands in a state
-abbrev pub standing : {X : Type 0} → Flow X → World X → Standing
-standing flow w = record {
+-- the summary of a world
+abbrev pub summary : {X : Type 0} → Flow X → World X → Summary
+summary flow w = record {
   program = w.present.program;
   epoch = length w.past;
   track = track_of flow w;
@@ -66,8 +66,8 @@ notice_after flow [] untold = untold
 notice_after flow (failure ∷ rest) untold = Some (notice_of flow failure)
 
 -- an acknowledgement came to this
-abbrev pub put_met : {X : Type 0} → Flow X → Ack → Outcome (FaultKind × X) × Env → Standing → Standing
-put_met flow ack met s =
+abbrev pub step_outcome : {X : Type 0} → Flow X → Ack → Outcome (FaultKind × X) × Env → Summary → Summary
+step_outcome flow ack met s =
     let failures = failures_met s.program s.epoch s.track.count ack met in
     record s {
       track = after_outcome met s.track;
@@ -80,21 +80,21 @@ put_met flow ack met s =
     }
 
 -- what an acknowledgement comes to, and the env after it
-abbrev pub met_at : {X : Type 0} → Flow X → Ack → Standing → Outcome (FaultKind × X) × Env
-met_at flow ack s = heard (flow.reading s.program) s.track.is_stopped s.track.env ack (nat_lt (length s.waiting) flow.slots)
+abbrev pub outcome_at : {X : Type 0} → Flow X → Ack → Summary → Outcome (FaultKind × X) × Env
+outcome_at flow ack s = heard (flow.reading s.program) s.track.is_stopped s.track.env ack (nat_lt (length s.waiting) flow.slots)
 
-abbrev pub step_ack : {X : Type 0} → Flow X → Ack → Standing → Standing
-step_ack flow ack s = put_met flow ack (met_at flow ack s) s
+abbrev pub step_ack : {X : Type 0} → Flow X → Ack → Summary → Summary
+step_ack flow ack s = step_outcome flow ack (outcome_at flow ack s) s
 
 -- ---- a ticket is taken
 
 -- what is told next, with what is left then
-abbrev pub telling : List Report → Option Notice → Option (Told × (List Report × Option Notice))
-telling (report ∷ rest) untold = Some (told.Report report, (rest, untold))
-telling [] (Some notice) = Some (told.Fault notice, ([], None))
-telling [] None = None
+abbrev pub next_telling : List Report → Option Notice → Option (Told × (List Report × Option Notice))
+next_telling (report ∷ rest) untold = Some (told.Report report, (rest, untold))
+next_telling [] (Some notice) = Some (told.Fault notice, ([], None))
+next_telling [] None = None
 
-abbrev pub with_told : Option (Told × (List Report × Option Notice)) → Standing → Standing
+abbrev pub with_told : Option (Told × (List Report × Option Notice)) → Summary → Summary
 with_told None s = s
 with_told (Some taken) s = record s {
   waiting = taken.1.0;
@@ -102,55 +102,55 @@ with_told (Some taken) s = record s {
   out = Some (record { told = taken.0; taken = s.acks });
 }
 
-abbrev pub step_take : Standing → Standing
-step_take s = with_told (telling s.waiting s.untold) s
+abbrev pub step_take : Summary → Summary
+step_take s = with_told (next_telling s.waiting s.untold) s
 
 -- ---- its answer is applied
 
-abbrev pub obeyed : {X : Type 0} → Flow X → Agent → Reply → Standing → Standing
-obeyed flow agent Nothing s = s
-obeyed flow agent (Update cwnd) s =
+abbrev pub step_reply : {X : Type 0} → Flow X → Agent → Reply → Summary → Summary
+step_reply flow agent Nothing s = s
+step_reply flow agent (Update cwnd) s =
     record s { track = record s.track { env = with_values (values_of agent (Update cwnd)) s.track.env } }
-obeyed flow agent (Change program cwnd cap) s = record s {
+step_reply flow agent (Change program cwnd cap) s = record s {
   program = program;
   epoch = s.epoch + 1;
   track = track_at s.acks (with_values (values_of agent (Change program cwnd cap)) (flow.declared program s.track.env.cwnd s.track.env.rate s.time));
   untold = None;
 }
 
-abbrev pub turned : {X : Type 0} → Flow X → Issued → Agent × Reply → Standing → Standing
-turned flow issued turn s =
-    obeyed flow s.agent turn.1
+abbrev pub step_turn : {X : Type 0} → Flow X → Issued → Agent × Reply → Summary → Summary
+step_turn flow issued turn s =
+    step_reply flow s.agent turn.1
     (record s { agent = turn.0; out = None; answered = s.answered + 1; told = s.told + reports_told issued.told })
 
-abbrev pub answered_by : {X : Type 0} → Flow X → Option Issued → Standing → Standing
-answered_by flow None s = s
-answered_by flow (Some issued) s = turned flow issued (replied s.agent issued.told) s
+abbrev pub step_out : {X : Type 0} → Flow X → Option Issued → Summary → Summary
+step_out flow None s = s
+step_out flow (Some issued) s = step_turn flow issued (replied s.agent issued.told) s
 
-abbrev pub step_answer : {X : Type 0} → Flow X → Standing → Standing
-step_answer flow s = answered_by flow s.out s
+abbrev pub step_answer : {X : Type 0} → Flow X → Summary → Summary
+step_answer flow s = step_out flow s.out s
 
 -- ---- a letter
 
-abbrev pub step_given : {X : Type 0} → Flow X → Option Ack → Standing → Standing
+abbrev pub step_given : {X : Type 0} → Flow X → Option Ack → Summary → Summary
 step_given flow None s = s
 step_given flow (Some ack) s = step_ack flow ack s
 
--- how a flow stands after one more letter, where this is the next acknowledgement
-abbrev pub step : {X : Type 0} → Flow X → Option Ack → Letter → Standing → Standing
-step flow given A s = step_given flow given s
-step flow given T s = step_take s
-step flow given C s = step_answer flow s
+-- the summary after one more letter, where this is the next acknowledgement
+abbrev pub step_letter : {X : Type 0} → Flow X → Option Ack → Letter → Summary → Summary
+step_letter flow given A s = step_given flow given s
+step_letter flow given T s = step_take s
+step_letter flow given C s = step_answer flow s
 
 -- ---- legal letters, and complete words
 
-abbrev pub can_tell : Standing → Bool
-can_tell s = is_some (telling s.waiting s.untold)
+abbrev pub can_tell : Summary → Bool
+can_tell s = is_some (next_telling s.waiting s.untold)
 
-abbrev pub may : {X : Type 0} → Flow X → Standing → Letter → Bool
-may flow s A = nat_lt s.acks flow.acks
-may flow s T = is_none s.out && can_tell s
-may flow s C = is_some s.out
+abbrev pub may_make : {X : Type 0} → Flow X → Summary → Letter → Bool
+may_make flow s A = nat_lt s.acks flow.acks
+may_make flow s T = is_none s.out && can_tell s
+may_make flow s C = is_some s.out
 
-abbrev pub is_done : {X : Type 0} → Flow X → Standing → Bool
+abbrev pub is_done : {X : Type 0} → Flow X → Summary → Bool
 is_done flow s = not (nat_lt s.acks flow.acks) && (is_none s.out && not (can_tell s))

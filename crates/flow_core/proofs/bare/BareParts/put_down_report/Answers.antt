@@ -1,7 +1,7 @@
 use Rattle.std.proofs.Common.{◌+◌, refl, ap}
 use Rattle.flow_core.specs.Bares.{reports_in}
 use Rattle.flow_core.proofs.BareLemmas.{noted-report}
-use Rattle.flow_core.proofs.bare.Stand.put_down_report.Goals as goal
+use Rattle.flow_core.proofs.bare.BareParts.put_down_report.Goals as goal
 
 pub returns : goal.returns
 returns c =

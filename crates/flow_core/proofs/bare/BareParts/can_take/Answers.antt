@@ -1,5 +1,5 @@
 use Rattle.flow_core.proofs.BareLemmas.{can-tell}
-use Rattle.flow_core.proofs.bare.Stand.can_take.Goals as goal
+use Rattle.flow_core.proofs.bare.BareParts.can_take.Goals as goal
 
 pub returns : goal.returns
 returns c =
