@@ -1,5 +1,5 @@
 -- What is kept after an answer is the summary after it.
-use Rattle.std.specs.Prelude.{◌≡◌, ℕ, ◌+◌, ◌<◌, ◌≤◌, Option, Some, None, option_map, unwrap_or, List, [], length, refl}
+use Rattle.std.specs.Prelude.{◌≡◌, ◌+◌, ◌≤◌, Option, Some, None, option_map, unwrap_or, List, length, refl}
 use Rattle.std.proofs.Common.{ap, sym, ◌∙◌, subst, arith}
 use Rattle.std.proofs.lemmas.Option.{none-some}
 use Rattle.ccp_base.specs.FieldReg.{Pair}
@@ -9,7 +9,6 @@ use Rattle.ccp_base.specs.declared.exchange.Told.{Told}
 use Rattle.ccp_base.specs.declared.exchange.Told.TheVariants as said
 use Rattle.portus_core.specs.Epoch as epoch
 use Rattle.reg_code.specs.CodeStart.{with_values, declared_kept}
-use Rattle.reg_code.specs.declared.code.Code.{Code}
 use Rattle.fold_machine.specs.MachineState.{MachineState, Fits}
 use Rattle.slot_pool.specs.Pool.{PoolState, free_of}
 use Rattle.agent_core.specs.declared.agent.Agent.{Agent}
@@ -24,8 +23,8 @@ use Rattle.flow_core.specs.Readings.{env_of, code_at, over_codes}
 use Rattle.flow_core.specs.LiveText.{reports_told}
 use Rattle.flow_core.specs.Outbox.{Lies}
 use Rattle.flow_core.specs.States.{some_count}
-use Rattle.flow_core.specs.Summaries.{Summary, step_reply, step_turn, step_out, step_answer}
-use Rattle.flow_core.specs.Bares.{reports_in, summary_by, told_ticket, InRange, IsBare, closed_parts, UpdatesBare, ChangesBare, ObeysBare}
+use Rattle.flow_core.specs.Summaries.{Summary, step_reply, step_out, step_answer}
+use Rattle.flow_core.specs.Bares.{reports_in, summary_by, told_ticket, InRange, IsBare, closed_parts, ObeysBare}
 use Rattle.flow_core.proofs.ValueLemmas.{values-alike}
 
 -- ---- a reply is obeyed

@@ -1,5 +1,5 @@
 -- What is kept after a taking or an acknowledgement is the summary after it.
-use Rattle.std.specs.Prelude.{◌≡◌, ◌↔◌, IsTrue, ℕ, ◌+◌, ◌<◌, ◌≤◌, min, Bool, true, false, not, nat_lt, is_some, Option, Some, None, option_map, unwrap_or, List, [], ◌∷◌, ◌++◌, length, take, drop, slice_index, refl}
+use Rattle.std.specs.Prelude.{◌≡◌, ◌↔◌, IsTrue, ℕ, ◌+◌, ◌<◌, ◌≤◌, min, Bool, true, false, not, nat_lt, is_some, Option, Some, None, option_map, unwrap_or, List, [], ◌∷◌, ◌++◌, length, take, drop, refl}
 use Rattle.std.proofs.Common.{ap, sym, ◌∙◌, subst, arith, length-append, append-nil}
 use Rattle.std.proofs.Math.Seq.{take-append_seam}
 use Rattle.std.proofs.lemmas.List.{take-append-drop}
@@ -13,20 +13,21 @@ use Rattle.portus_core.specs.Reports.{report_of}
 use Rattle.ccp_base.specs.declared.ack.Ack.{Ack}
 use Rattle.ccp_base.specs.declared.arithmetic.FaultKind.{FaultKind}
 use Rattle.flow_core.specs.declared.case.Case.{Case}
+use Rattle.fold_machine.specs.declared.acked.Acked.{Acked}
+use Rattle.fold_machine.specs.declared.acked.Acked.TheVariants as acked
 use Rattle.fold_machine.specs.MachineState.{MachineState}
 use Rattle.fold_machine.specs.MachineState.{Fits}
 use Rattle.fold_machine.specs.Store.{slot_words}
 use Rattle.slot_pool.specs.Pool.{PoolState, words_at, free_of}
 use Rattle.flow_core.specs.declared.bare.BareParts.{BareParts}
-use Rattle.flow_core.specs.declared.state.Issued.{Issued}
-use Rattle.flow_core.specs.Outbox.{OutboxState, report_head, report_words, IsInRange, Stores, AreStored, Lies, next_told, untold_after}
+use Rattle.flow_core.specs.Outbox.{OutboxState, report_words, IsInRange, AreStored, Lies, next_told, untold_after}
 use Rattle.flow_core.specs.Readings.{Flow, env_of, code_at, by_code, over_codes}
 use Rattle.flow_core.specs.ReportWords.{narrow, report_in}
-use Rattle.flow_core.specs.States.{some_count}
+use Rattle.flow_core.specs.States.{outcome_by, some_count}
 use Rattle.flow_core.specs.Summaries.{Summary, step_outcome, outcome_at, step_ack, next_telling, with_told, step_take, can_tell}
 use Rattle.flow_core.specs.Bares.{reports_in, summary_by, InRange, IsBare, step_note, step_machine, step_count, NotesBare, instructions_at}
-use Rattle.flow_core.specs.Cores.{ran_by}
-use Rattle.flow_core.specs.Hearing.{heard_on, ran_on}
+use Rattle.flow_core.specs.Cores.{acked_as, ran_by}
+use Rattle.flow_core.specs.MachineCalls.{heard_on, ran_on}
 use Rattle.reg_code.specs.declared.code.Code.{Code}
 
 -- ---- the reports of slots
@@ -67,7 +68,8 @@ reports-stored pool (slot ∷ slots) (report ∷ reports) stored =
 reports-stored pool [] (report ∷ reports) stored = absurd stored
 reports-stored pool (slot ∷ slots) [] stored = absurd stored
 
-length-in : (pool : PoolState) (slots : List ℕ) → length (reports_in pool slots) ≡ length slots
+-- as many reports as slots
+pub length-in : (pool : PoolState) (slots : List ℕ) → length (reports_in pool slots) ≡ length slots
 length-in pool [] = refl
 length-in pool (slot ∷ slots) = omega (arith, length-in pool slots)
 
@@ -162,6 +164,14 @@ module _ (s : BareParts) (machine : MachineState) (outbox : OutboxState) (told :
   }
 
 -- ---- an acknowledgement
+
+-- an answer is that of its outcome
+pub acked-by : (answer : Acked) (report : List ℕ) → acked_as (outcome_by answer report) ≡ answer
+acked-by acked.Quiet report = refl
+acked-by acked.Reported report = refl
+acked-by acked.Held report = refl
+acked-by (acked.Faulted kind index) report = refl
+acked-by acked.Stopped report = refl
 
 -- its parts: the machine runs, what comes of it is noted, and it is counted
 put-parts : {X : Type 0} → (flow : Flow X) (ack : Ack) (outcome : Outcome (FaultKind × X)) (env : Env) (s : Summary)

@@ -1,5 +1,5 @@
 -- What is kept before the first letter is the summary of the opening.
-use Rattle.std.specs.Prelude.{◌≡◌, ℕ, ◌+◌, ◌-◌, None, List, [], length, refl}
+use Rattle.std.specs.Prelude.{◌≡◌, ℕ, ◌-◌, None, List, [], length}
 use Rattle.std.proofs.Common.{ap, sym, ◌∙◌, subst, arith}
 use Rattle.std.specs.FinMap as map
 use Rattle.std.specs.Ordering.{nat_cmp}

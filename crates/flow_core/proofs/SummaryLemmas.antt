@@ -1,14 +1,12 @@
 -- The summary after a letter is determined by the summary before it.
-use Rattle.std.specs.Prelude.{◌≡◌, ℕ, ◌+◌, Bool, not, ◌&&◌, nat_lt, is_some, is_none, Option, Some, None, option_map, List, [], ◌∷◌, ◌++◌, length, map, refl}
-use Rattle.std.proofs.Common.{ap, sym, ◌∙◌, arith, length-append}
+use Rattle.std.specs.Prelude.{◌≡◌, ◌+◌, not, ◌&&◌, nat_lt, is_some, is_none, Option, Some, None, option_map, List, [], ◌∷◌, ◌++◌, length, map, refl}
+use Rattle.std.proofs.Common.{ap, ◌∙◌, arith, length-append}
 use Rattle.std.proofs.lemmas.List.{map-append}
 use Rattle.ccp_base.specs.declared.ack.Ack.{Ack}
-use Rattle.ccp_base.specs.declared.arithmetic.FaultKind.{FaultKind}
 use Rattle.ccp_base.specs.declared.exchange.Report.{Report}
 use Rattle.ccp_base.specs.declared.exchange.Reply.{Reply}
 use Rattle.ccp_base.specs.declared.exchange.Reply.TheVariants.{Nothing, Update, Change}
-use Rattle.portus_core.specs.declared.env.Env.{Env}
-use Rattle.portus_core.specs.Epoch.{Outcome, Track, acknowledged, updated, heard, after_outcome, with_values}
+use Rattle.portus_core.specs.Epoch.{acknowledged, updated, heard, after_outcome, with_values}
 use Rattle.portus_core.proofs.EventLaws.{after-append}
 use Rattle.agent_core.specs.declared.agent.Agent.{Agent}
 use Rattle.agent_core.specs.Agents.{replied, values_of}
@@ -16,12 +14,12 @@ use Rattle.flow_core.specs.declared.book.TicketLine.{TicketLine}
 use Rattle.flow_core.specs.declared.letter.Letter.{Letter}
 use Rattle.flow_core.specs.declared.letter.Letter.TheVariants.{A, T, C}
 use Rattle.flow_core.specs.Readings.{Flow}
-use Rattle.flow_core.specs.World.{Failure, Content, of_report, of_failure, Taken, Answered, World, track_of, time_of, failures_met, untold_after, has_room, with_met, after_ack, taking, with_taken, after_take, with_reply, notice_of, told_as, with_turn, answer_applied, after_answer}
-use Rattle.flow_core.specs.Words.{Giving, with_given, after_letter, can_take, is_legal, is_complete}
+use Rattle.flow_core.specs.World.{Failure, Taken, Answered, World, track_of, time_of, failures_met, untold_after, has_room, after_ack, taking, with_taken, after_take, with_reply, notice_of, told_as, with_turn, answer_applied, after_answer}
+use Rattle.flow_core.specs.Words.{Giving, with_given, after_letter, is_legal, is_complete}
 use Rattle.flow_core.specs.Books.{ticket_line}
 use Rattle.flow_core.specs.LiveText.{reports_told, report_count}
 use Rattle.flow_core.specs.States.{issued_as}
-use Rattle.flow_core.specs.Summaries.{Summary, summary, notice_after, step_outcome, step_ack, next_telling, with_told, step_take, step_reply, step_turn, step_out, step_answer, step_given, step_letter, can_tell, may_make, is_done}
+use Rattle.flow_core.specs.Summaries.{summary, notice_after, step_ack, next_telling, with_told, step_take, step_reply, step_turn, step_out, step_answer, step_given, step_letter, may_make, is_done}
 
 -- the time of the last one of a list
 time-append : (acks : List Ack) (ack : Ack) → time_of (acks ++ ack ∷ []) ≡ ack.now

@@ -9,7 +9,7 @@ use Rattle.portus_core.specs.Epoch.{Outcome, quiet, reported, held, failed, stop
 use Rattle.portus_core.specs.Reports.{report_of}
 use Rattle.ccp_base.specs.declared.exchange.Reply.{Reply}
 use Rattle.ccp_base.specs.declared.exchange.Reply.TheVariants.{Nothing, Update, Change}
-use Rattle.ccp_base.specs.FieldReg.{Pair}
+use Rattle.ccp_base.specs.FieldReg.{Pair, first_bad}
 use Rattle.agent_core.specs.Answers.{after_of}
 use Rattle.fold_machine.specs.Heard.{started_by, updated_by}
 use Rattle.flow_core.specs.LiveText.{reports_told}
@@ -142,6 +142,12 @@ closed_parts ticket s = record s {
   answered = s.answered + 1;
   told = s.told + reports_told ticket.told;
 }
+
+-- the code that a reply is for, while this program runs, has each control register that the values name
+abbrev pub AreGood : Case → ℕ → Reply → List Pair → Type 0
+AreGood case running Nothing values = Unit {0}
+AreGood case running (Update cwnd) values = first_bad (length (code_at case running).controls) values ≡ None
+AreGood case running (Change program cwnd cap) values = first_bad (length (code_at case program).controls) values ≡ None
 
 -- an update writes its values
 pub record UpdatesBare (old new : BareParts) (values : List Pair) : Type 0 where

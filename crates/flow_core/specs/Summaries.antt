@@ -18,7 +18,7 @@ use Rattle.flow_core.specs.declared.letter.Letter.TheVariants.{A, T, C}
 use Rattle.flow_core.specs.declared.state.Issued.{Issued}
 use Rattle.flow_core.specs.Readings.{Flow}
 use Rattle.flow_core.specs.World.{Failure, World, track_of, time_of, failures_met, held_met, notice_of}
-use Rattle.flow_core.specs.States.{issued_as, some_count}
+use Rattle.flow_core.specs.States.{issued_as}
 use Rattle.flow_core.specs.LiveText.{reports_told, report_count}
 use Rattle.flow_core.specs.Books.{ticket_line}
 
@@ -152,5 +152,9 @@ may_make flow s A = nat_lt s.acks flow.acks
 may_make flow s T = is_none s.out && can_tell s
 may_make flow s C = is_some s.out
 
+-- no ticket is out and nothing can be taken
+abbrev pub is_idle : Summary → Bool
+is_idle s = is_none s.out && not (can_tell s)
+
 abbrev pub is_done : {X : Type 0} → Flow X → Summary → Bool
-is_done flow s = not (nat_lt s.acks flow.acks) && (is_none s.out && not (can_tell s))
+is_done flow s = not (nat_lt s.acks flow.acks) && is_idle s

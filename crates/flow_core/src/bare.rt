@@ -1,7 +1,7 @@
 //! What later letters of a flow depend on, without its history.
 ghost use Rattle.std.specs.Prelude.{◌≡◌, true, None, Some, option_map};
 ghost use Rattle.flow_core.specs.Readings.{over_codes};
-ghost use Rattle.flow_core.specs.Summaries.{can_tell, may_make, is_done, step_take};
+ghost use Rattle.flow_core.specs.Summaries.{can_tell, may_make, is_idle, is_done, step_take};
 ghost use Rattle.std.specs.Prelude.{◌+◌, ◌<◌, length};
 ghost use Rattle.ccp_base.specs.Limits.{most_acks};
 ghost use Rattle.portus_core.specs.Epoch.{reported, failed};
@@ -10,23 +10,21 @@ ghost use Rattle.flow_core.specs.Cores.{acked_as};
 ghost use Rattle.flow_core.specs.States.{outcome_by};
 ghost use Rattle.ccp_base.specs.FieldReg.{first_bad};
 ghost use Rattle.fold_machine.specs.MachineState.{Fits};
-ghost use Rattle.flow_core.specs.Readings.{code_at};
+ghost use Rattle.flow_core.specs.Readings.{env_of, code_at};
 ghost use Rattle.flow_core.specs.LiveText.{reports_told};
-ghost use Rattle.flow_core.specs.Settling.{AreGood};
 ghost use Rattle.flow_core.specs.Summaries.{step_ack, step_answer, outcome_at};
 ghost use Rattle.std.specs.Prelude.{IfOk};
 ghost use Rattle.flow_core.specs.World.{opening};
 ghost use Rattle.flow_core.specs.Summaries.{summary};
-ghost use Rattle.flow_core.specs.Bares.{IsFirst, closed_parts, UpdatesBare, ChangesBare, ObeysBare};
+ghost use Rattle.flow_core.specs.Bares.{IsFirst, AreGood, InRange, closed_parts, UpdatesBare, ChangesBare, ObeysBare};
 ghost use Rattle.flow_core.specs.Bares.{summary_by, told_ticket, instructions_at, IsBare, CanNote, HasSpace, NotesBare};
 
 use crate::case::Case;
 use crate::letter::Letter;
+use crate::machine_calls::{pop_told, put_report, run};
 use crate::opening::opening_machine;
 use crate::outbox::Outbox;
 use crate::state::Issued;
-use crate::hearing::{put_report, run};
-use crate::taking::pop_told;
 use agent_core::{Agent, Answer, Ticket};
 use ccp_base::{Ack, FaultKind, Fields, NoMemory, Notice, Reply, Report, Told};
 use fold_machine::{Acked, Machine, Steps};
@@ -355,11 +353,88 @@ impl Bare {
         self.parts.acks
     }
 
+    /// The counts are in range.
+    pub(crate) fn range(&self)
+        ensures { InRange self.now.case self.now.summary }
+    {
+        let _ = &self.parts;
+    }
+
+    /// The number of the program that runs.
+    pub fn program(&self) -> u32
+        ensures { result ≡ self.now.summary.program }
+    {
+        self.parts.program
+    }
+
+    /// How many reports wait.
+    pub fn waiting(&self) -> u32
+        ensures { result ≡ length self.now.summary.waiting }
+    {
+        self.parts.outbox.waiting()
+    }
+
+    /// The fault notice that is untold, or none.
+    pub fn untold(&self) -> Option<Notice>
+        ensures { result ≡ self.now.summary.untold }
+    {
+        self.parts.outbox.untold()
+    }
+
     /// The present congestion window, in bytes.
     pub fn cwnd(&self) -> u64
         ensures { result ≡ self.now.summary.track.env.cwnd }
     {
         self.parts.machine.cwnd()
+    }
+
+    /// The time of the last acknowledgement in microseconds, 0 where there is none.
+    pub fn time(&self) -> u64
+        ensures { result ≡ self.now.summary.time }
+    {
+        self.parts.time
+    }
+
+    /// The number of the present epoch, 0 for the opening one.
+    pub fn epoch(&self) -> u32
+        ensures { result ≡ self.now.summary.epoch }
+    {
+        self.parts.epoch
+    }
+
+    /// The number of acknowledgements at which the unreported span begins.
+    pub fn first(&self) -> u64
+        ensures { result ≡ self.now.summary.track.first }
+    {
+        self.parts.first
+    }
+
+    /// How many answered tickets told a report.
+    pub fn told(&self) -> u32
+        ensures { result ≡ self.now.summary.told }
+    {
+        self.parts.told
+    }
+
+    /// How many faults there were.
+    pub fn faults(&self) -> u32
+        ensures { result ≡ self.now.summary.faults }
+    {
+        self.parts.faults
+    }
+
+    /// How many reports were asked for while there was no room.
+    pub fn held(&self) -> u32
+        ensures { result ≡ self.now.summary.held }
+    {
+        self.parts.held
+    }
+
+    /// Whether a ticket is out.
+    pub fn has_out(&self) -> bool
+        ensures { result ≡ may_make (over_codes self.now.case) self.now.summary Letter.C }
+    {
+        self.parts.out.is_some()
     }
 
     /// At how many acknowledgements the ticket that is out was taken, None exactly where none is out.
@@ -376,6 +451,23 @@ impl Bare {
     {
         let issued = self.parts.out.as_ref()?;
         Some(self.parts.ticket(&issued.told))
+    }
+
+    /// The number of the ticket that is out, None exactly where none is.
+    pub fn out_number(&self) -> Option<u32>
+        ensures { result ≡ option_map (λ ticket. ticket.number) (told_ticket self.now.case self.now.summary) }
+    {
+        if self.parts.out.is_none() {
+            return None;
+        }
+        Some(self.parts.answered)
+    }
+
+    /// Whether no ticket is out and nothing can be taken.
+    pub fn is_idle(&self) -> bool
+        ensures { result ≡ is_idle self.now.summary }
+    {
+        self.parts.out.is_none() && !self.parts.can_take()
     }
 
     /// Whether all acknowledgements are in, nothing can be taken and no ticket is out.
@@ -420,5 +512,15 @@ impl Bare {
         ensures { self.new ≡ record self.old { summary = step_answer (over_codes self.old.case) self.old.summary } }
     {
         self.parts.settle(answer)
+    }
+
+    /// The flow's case, and the machine as the last epoch left it.
+    pub fn into_parts(self) -> (Case, Machine)
+        ensures case { result.0 ≡ self.case }
+        ensures registers { env_of result.1.kept ≡ self.summary.track.env }
+        ensures stopped { result.1.is_stopped ≡ self.summary.track.is_stopped }
+    {
+        let parts = self.parts;
+        (parts.case, parts.machine)
     }
 }

@@ -6,15 +6,14 @@ mod book;
 mod case;
 mod cell;
 mod cores;
-mod hearing;
+mod journal;
 mod letter;
+mod machine_calls;
 mod opening;
 mod outbox;
 mod report_words;
 mod roomy;
-mod settling;
 mod state;
-mod taking;
 
 pub use bare::Bare;
 pub use book::{Book, EpochLine, Given, TicketLine};

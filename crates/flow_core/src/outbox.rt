@@ -68,6 +68,13 @@ impl Outbox {
         self.waiting.is_empty() && self.untold.is_none()
     }
 
+    /// The notice that is untold, or none.
+    pub fn untold(&self) -> Option<Notice>
+        ensures { result ≡ self.now.untold }
+    {
+        self.untold
+    }
+
     /// Puts a report at the end, into a slot that it takes. There must be room, and a free slot.
     pub fn push<P: Slots>(&mut self, slots: &mut P, report: &Report)
         requires room { length self.old.slots < self.old.size }

@@ -1,10 +1,9 @@
-use Rattle.std.proofs.Common.{◌+◌, ap, sym, ◌∙◌, refl, subst}
+use Rattle.std.proofs.Common.{◌+◌, ap, sym, ◌∙◌, subst}
 use Rattle.reg_code.specs.declared.code.Code.{Code}
 use Rattle.fold_machine.specs.MachineState.{Fits}
 use Rattle.flow_core.specs.Cores.{acked_as}
 use Rattle.flow_core.specs.States.{outcome_by}
-use Rattle.flow_core.proofs.HearingLemmas.{acked-by}
-use Rattle.flow_core.proofs.BareLemmas.{met-kept, ran-kept, step-heard, is-heard}
+use Rattle.flow_core.proofs.BareLemmas.{acked-by, met-kept, ran-kept, step-heard, is-heard}
 use Rattle.flow_core.proofs.bare.BareParts.hear.Goals as goal
 
 pub returns-clause-parts : goal.returns-clause-parts

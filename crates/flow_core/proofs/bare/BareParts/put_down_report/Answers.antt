@@ -1,4 +1,4 @@
-use Rattle.std.proofs.Common.{◌+◌, refl, ap}
+use Rattle.std.proofs.Common.{◌+◌, ap}
 use Rattle.flow_core.specs.Bares.{reports_in}
 use Rattle.flow_core.proofs.BareLemmas.{noted-report}
 use Rattle.flow_core.proofs.bare.BareParts.put_down_report.Goals as goal

@@ -3,8 +3,7 @@ use Rattle.ccp_base.specs.FieldReg.{Pair}
 use Rattle.ccp_base.specs.declared.exchange.Reply.{Reply}
 use Rattle.agent_core.specs.Agents.{values_of}
 use Rattle.flow_core.specs.declared.bare.BareParts.{BareParts}
-use Rattle.flow_core.specs.Settling.{AreGood}
-use Rattle.flow_core.specs.Bares.{closed_parts, ObeysBare}
+use Rattle.flow_core.specs.Bares.{AreGood, closed_parts, ObeysBare}
 use Rattle.flow_core.proofs.ValueLemmas.{good-values}
 use Rattle.flow_core.proofs.BareAnswerLemmas.{is-out, step-settled, is-settled}
 use Rattle.flow_core.proofs.bare.BareParts.settle.Goals as goal
