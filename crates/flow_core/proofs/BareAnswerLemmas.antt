@@ -18,7 +18,7 @@ use Rattle.agent_core.specs.Answers.{after_of, reply_of}
 use Rattle.agent_core.specs.RoleLaws.{AreRoles, roles-kept}
 use Rattle.flow_core.specs.declared.bare.BareParts.{BareParts}
 use Rattle.flow_core.specs.declared.case.Case.{Case}
-use Rattle.flow_core.specs.declared.state.Issued.{Issued}
+use Rattle.flow_core.specs.declared.bare.Issued.{Issued}
 use Rattle.flow_core.specs.Readings.{env_of, code_at, over_codes}
 use Rattle.flow_core.specs.LiveText.{reports_told}
 use Rattle.flow_core.specs.Outbox.{Lies}

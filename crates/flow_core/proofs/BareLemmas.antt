@@ -20,7 +20,7 @@ use Rattle.fold_machine.specs.MachineState.{Fits}
 use Rattle.fold_machine.specs.Store.{slot_words}
 use Rattle.slot_pool.specs.Pool.{PoolState, words_at, free_of}
 use Rattle.flow_core.specs.declared.bare.BareParts.{BareParts}
-use Rattle.flow_core.specs.Outbox.{OutboxState, report_words, IsInRange, AreStored, Lies, next_told, untold_after}
+use Rattle.flow_core.specs.Outbox.{OutboxState, report_words, IsInRange, AreStored, Lies, next_told, notice_left}
 use Rattle.flow_core.specs.Readings.{Flow, env_of, code_at, by_code, over_codes}
 use Rattle.flow_core.specs.ReportWords.{narrow, report_in}
 use Rattle.flow_core.specs.States.{outcome_by, some_count}
@@ -78,7 +78,7 @@ length-in pool (slot ∷ slots) = omega (arith, length-in pool slots)
 -- what is told next, with what is left
 told-next : (pool : PoolState) (slots : List ℕ) (untold : Option Notice) (told : Told)
     → Some told ≡ next_told (reports_in pool slots) untold
-    → next_telling (reports_in pool slots) untold ≡ Some (told, (drop 1 (reports_in pool slots), untold_after slots untold))
+    → next_telling (reports_in pool slots) untold ≡ Some (told, (drop 1 (reports_in pool slots), notice_left slots untold))
 told-next pool (slot ∷ slots) untold told is =
     let one = report_in (unwrap_or (words_at pool slot) []) in
     let same : told ≡ said.Report one = ap (λ (o : Option Told). unwrap_or o told) is in
@@ -132,7 +132,7 @@ module _ (s : BareParts) (machine : MachineState) (outbox : OutboxState) (told :
     (framed : machine ≡ record s.machine { further = machine.further })
     (is_told : Some told ≡ next_told (reports_in s.machine.further s.outbox.slots) s.outbox.untold)
     (lies : Lies machine.further outbox.slots (drop 1 (reports_in s.machine.further s.outbox.slots)))
-    (untold : outbox.untold ≡ untold_after s.outbox.slots s.outbox.untold) where
+    (untold : outbox.untold ≡ notice_left s.outbox.slots s.outbox.untold) where
   abbrev pub taken : BareParts
   taken = record s { machine = machine; outbox = outbox; out = Some (record { told = told; taken = s.acks }) }
 

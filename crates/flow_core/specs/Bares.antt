@@ -20,7 +20,7 @@ use Rattle.agent_core.specs.Agents.{course_of}
 use Rattle.agent_core.specs.declared.ticket.Ticket.{Ticket}
 use Rattle.flow_core.specs.declared.bare.BareParts.{BareParts}
 use Rattle.flow_core.specs.declared.case.Case.{Case}
-use Rattle.flow_core.specs.declared.state.Issued.{Issued}
+use Rattle.flow_core.specs.declared.bare.Issued.{Issued}
 use Rattle.flow_core.specs.Readings.{Flow, env_of, code_at, over_codes}
 use Rattle.flow_core.specs.World.{notice_of}
 use Rattle.flow_core.specs.Cores.{ran_by}

@@ -15,7 +15,7 @@ use Rattle.agent_core.specs.declared.agent.Agent.{Agent}
 use Rattle.agent_core.specs.Agents.{replied, values_of}
 use Rattle.flow_core.specs.declared.letter.Letter.{Letter}
 use Rattle.flow_core.specs.declared.letter.Letter.TheVariants.{A, T, C}
-use Rattle.flow_core.specs.declared.state.Issued.{Issued}
+use Rattle.flow_core.specs.declared.bare.Issued.{Issued}
 use Rattle.flow_core.specs.Readings.{Flow}
 use Rattle.flow_core.specs.World.{Failure, World, track_of, time_of, failures_met, held_met, notice_of}
 use Rattle.flow_core.specs.States.{issued_as}

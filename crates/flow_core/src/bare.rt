@@ -1,21 +1,17 @@
 //! What later letters of a flow depend on, without its history.
-ghost use Rattle.std.specs.Prelude.{◌≡◌, true, None, Some, option_map};
-ghost use Rattle.flow_core.specs.Readings.{over_codes};
-ghost use Rattle.flow_core.specs.Summaries.{can_tell, may_make, is_idle, is_done, step_take};
-ghost use Rattle.std.specs.Prelude.{◌+◌, ◌<◌, length};
+ghost use Rattle.std.specs.Prelude.{◌≡◌, ◌+◌, ◌<◌, length, true, None, Some, option_map, IfOk};
+ghost use Rattle.ccp_base.specs.FieldReg.{first_bad};
 ghost use Rattle.ccp_base.specs.Limits.{most_acks};
 ghost use Rattle.portus_core.specs.Epoch.{reported, failed};
 ghost use Rattle.slot_pool.specs.Pool.{free_of};
-ghost use Rattle.flow_core.specs.Cores.{acked_as};
-ghost use Rattle.flow_core.specs.States.{outcome_by};
-ghost use Rattle.ccp_base.specs.FieldReg.{first_bad};
 ghost use Rattle.fold_machine.specs.MachineState.{Fits};
-ghost use Rattle.flow_core.specs.Readings.{env_of, code_at};
-ghost use Rattle.flow_core.specs.LiveText.{reports_told};
-ghost use Rattle.flow_core.specs.Summaries.{step_ack, step_answer, outcome_at};
-ghost use Rattle.std.specs.Prelude.{IfOk};
+ghost use Rattle.flow_core.specs.Readings.{env_of, code_at, over_codes};
 ghost use Rattle.flow_core.specs.World.{opening};
-ghost use Rattle.flow_core.specs.Summaries.{summary};
+ghost use Rattle.flow_core.specs.Cores.{acked_as};
+ghost use Rattle.flow_core.specs.LiveText.{reports_told};
+ghost use Rattle.flow_core.specs.States.{outcome_by};
+ghost use Rattle.flow_core.specs.Summaries.{summary, step_ack, step_take, step_answer, outcome_at};
+ghost use Rattle.flow_core.specs.Summaries.{can_tell, may_make, is_idle, is_done};
 ghost use Rattle.flow_core.specs.Bares.{IsFirst, AreGood, InRange, closed_parts, UpdatesBare, ChangesBare, ObeysBare};
 ghost use Rattle.flow_core.specs.Bares.{summary_by, told_ticket, instructions_at, IsBare, CanNote, HasSpace, NotesBare};
 
@@ -24,7 +20,6 @@ use crate::letter::Letter;
 use crate::machine_calls::{pop_told, put_report, run};
 use crate::opening::opening_machine;
 use crate::outbox::Outbox;
-use crate::state::Issued;
 use agent_core::{Agent, Answer, Ticket};
 use ccp_base::{Ack, FaultKind, Fields, NoMemory, Notice, Reply, Report, Told};
 use fold_machine::{Acked, Machine, Steps};
@@ -32,22 +27,39 @@ use std::alloc::Global;
 use std::marker::Model;
 use std::sync::ledger::Ledger;
 
+/// What the ticket that is out tells, and at how many acknowledgements it was taken.
+#[derive(Clone, Copy, Drop)]
+pub(crate) struct Issued {
+    pub(crate) told: Told,
+    pub(crate) taken: u32,
+}
+
 /// What later letters depend on, part by part.
 #[derive(Drop)]
 pub(crate) struct BareParts {
     pub(crate) case: Case,
+    /// It runs the present epoch's program. Its further slots are the outbox's.
     pub(crate) machine: Machine,
+    /// The present epoch's program, by its number.
     pub(crate) program: u32,
+    /// The present epoch's number, from 0.
     pub(crate) epoch: u32,
+    /// The number of acknowledgements at which the unreported span begins.
     pub(crate) first: u64,
+    /// How many acknowledgements are in.
     pub(crate) acks: u32,
+    /// The time of the last acknowledgement in microseconds, 0 where there is none.
     pub(crate) time: u64,
     pub(crate) outbox: Outbox,
     pub(crate) agent: Agent,
     pub(crate) out: Option<Issued>,
+    /// How many tickets were answered.
     pub(crate) answered: u32,
+    /// How many of them had a report.
     pub(crate) told: u32,
+    /// How many faults there were.
     pub(crate) faults: u32,
+    /// How many reports were asked for while there was no room.
     pub(crate) held: u32,
 }
 

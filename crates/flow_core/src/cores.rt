@@ -4,7 +4,7 @@ ghost use Rattle.flow_core.specs.World.{track_of, after_take, after_answer};
 ghost use Rattle.flow_core.specs.Words.{is_still, is_legal, legal_over};
 ghost use Rattle.flow_core.specs.Books.{IsBookOf};
 ghost use Rattle.flow_core.specs.Journals.{new_notice, taken_at, begun_line, line_after};
-ghost use Rattle.flow_core.specs.Cores.{flow_in, world_in, with_ack, heard_in, acked_in, ran_in, out_in, out_number};
+ghost use Rattle.flow_core.specs.Cores.{flow_in, world_in, with_ack, heard_in, acked_with, ran_in, out_in, out_number};
 
 use crate::bare::Bare;
 use crate::book::{Book, EpochLine, Given};
@@ -131,7 +131,7 @@ impl Core {
         ensures ended { IsErr result ↔ (self.old.case.acks ≤ length self.old.acks) }
         ensures ok { OnOk result (self.new ≡ with_ack self.old ack.entry.now) }
         ensures world { OnOk result (world_in self.new ≡ heard_in self.old ack.entry.now) }
-        ensures acked { IfOk result (λ acked. acked ≡ acked_in self.old ack.entry.now) }
+        ensures acked { IfOk result (λ acked. acked ≡ acked_with self.old ack.entry.now) }
         ensures steps { OnOk result (steps.new ≡ steps.old + ran_in self.old ack.entry.now) }
         ensures unchanged { OnErr result (self.new ≡ self.old) }
         ensures idle { OnErr result (steps.new ≡ steps.old) }

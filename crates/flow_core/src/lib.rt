@@ -7,13 +7,13 @@ mod case;
 mod cell;
 mod cores;
 mod journal;
+mod laws;
 mod letter;
 mod machine_calls;
 mod opening;
 mod outbox;
 mod report_words;
 mod roomy;
-mod state;
 
 pub use bare::Bare;
 pub use book::{Book, EpochLine, Given, TicketLine};

@@ -5,7 +5,7 @@ ghost use Rattle.fold_machine.specs.MachineState.{Fits};
 ghost use Rattle.fold_machine.specs.Store.{slot_words};
 ghost use Rattle.slot_pool.specs.Pool.{free_of};
 ghost use Rattle.flow_core.specs.MachineCalls.{heard_on, met_by, ran_on};
-ghost use Rattle.flow_core.specs.Outbox.{AreOwned, AreAsMany, Gains, LosesFirst, IsToldNext, untold_after};
+ghost use Rattle.flow_core.specs.Outbox.{AreOwned, AreAsMany, Gains, LosesFirst, IsToldNext, notice_left};
 ghost use Rattle.flow_core.specs.States.{outcome_by};
 
 use crate::outbox::Outbox;
@@ -58,7 +58,7 @@ pub(crate) fn pop_told(machine: &mut Machine, outbox: &mut Outbox) -> Option<Tol
     ensures words { machine.new.further.words ≡ slot_words }
     ensures free { AreAsMany machine.old.further outbox.old.slots machine.new.further outbox.new.slots }
     ensures lies { LosesFirst machine.old.further outbox.old.slots machine.new.further outbox.new.slots }
-    ensures untold { outbox.new.untold ≡ untold_after outbox.old.slots outbox.old.untold }
+    ensures untold { outbox.new.untold ≡ notice_left outbox.old.slots outbox.old.untold }
     ensures size { outbox.new.size ≡ outbox.old.size }
 {
     outbox.pop(machine)
