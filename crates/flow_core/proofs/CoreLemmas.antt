@@ -1,287 +1,333 @@
--- One more letter at the word's end: all that holds of a state holds of the next one.
-use Rattle.std.specs.Prelude.{◌≡◌, ℕ, ◌+◌, ◌<◌, Bool, true, false, ◌&&◌, not, is_some, is_none, Option, Some, None, option_map, List, [], ◌∷◌, ◌++◌, length, refl}
+-- One more letter at the word's end: what holds of a flow and its journal holds of both after it.
+use Rattle.std.specs.Prelude.{◌≡◌, ℕ, ◌+◌, ◌<◌, ◌≤◌, Bool, true, ◌&&◌, is_some, is_none, Option, Some, None, option_map, unwrap_or, List, [], ◌∷◌, length, refl}
 use Rattle.std.proofs.Common.{ap, sym, ◌∙◌, subst, arith, length-append}
 use Rattle.std.proofs.lemmas.Bool.{lt-ltb, true≢false}
+use Rattle.std.proofs.lemmas.List.{length-map}
 use Rattle.std.proofs.lemmas.Option.{none-some}
 use Rattle.ccp_base.specs.declared.ack.Ack.{Ack}
+use Rattle.ccp_base.specs.declared.exchange.Notice.{Notice}
 use Rattle.ccp_base.specs.declared.exchange.Report.{Report}
 use Rattle.ccp_base.specs.declared.exchange.Reply.{Reply}
 use Rattle.ccp_base.specs.declared.exchange.Reply.TheVariants.{Nothing, Update, Change}
 use Rattle.agent_core.specs.declared.agent.Agent.{Agent}
+use Rattle.agent_core.specs.declared.ticket.Ticket.{Ticket}
 use Rattle.agent_core.specs.Agents.{replied}
+use Rattle.flow_core.specs.declared.book.EpochLine.{EpochLine}
 use Rattle.flow_core.specs.declared.case.Case.{Case}
-use Rattle.flow_core.specs.declared.letter.Letter.{Letter}
+use Rattle.flow_core.specs.declared.book.TicketLine.{TicketLine}
+use Rattle.flow_core.specs.declared.journal.Journal.{Journal}
 use Rattle.flow_core.specs.declared.letter.Letter.TheVariants.{A, T, C}
-use Rattle.flow_core.specs.declared.state.Issued.{Issued}
-use Rattle.flow_core.specs.declared.state.State.{State}
+use Rattle.flow_core.specs.declared.bare.Issued.{Issued}
 use Rattle.flow_core.specs.Readings.{Flow, over_codes}
-use Rattle.flow_core.specs.World.{Failure, Taken, World, notice_of, taking, after_ack, with_taken, after_take, with_turn, answer_applied, after_answer, told_as}
-use Rattle.flow_core.specs.Words.{world_over, legal_over, can_take}
+use Rattle.flow_core.specs.World.{Taken, World, opening, notice_of, after_ack, after_take, after_answer}
+use Rattle.flow_core.specs.Words.{world_over, legal_over}
 use Rattle.flow_core.specs.WordLaws.{acks_in, acks_in-A, acks_in-T, acks_in-C, world_over-append, legal_over-append}
 use Rattle.flow_core.specs.Roomy.{RoomyState}
-use Rattle.flow_core.specs.States.{some_count, flow_of, world_of, taken_count, Keeps, IsReady, HasLines, IsCore}
+use Rattle.flow_core.specs.Books.{ticket_of, out_ticket}
+use Rattle.flow_core.specs.Cores.{acked_as}
+use Rattle.flow_core.specs.States.{issued_as, some_count}
+use Rattle.flow_core.specs.Summaries.{Summary, summary, outcome_at, step_ack, next_telling, with_told, step_take, can_tell, step_reply, step_turn, step_out, step_answer, may_make}
+use Rattle.flow_core.specs.Bares.{BareState, told_ticket, InRange}
+use Rattle.flow_core.specs.Journals.{with_item, with_some, journal_ack, journal_take, journal_answer, new_notice, line_of, taken_at, begun_line, line_after, HasRoom, HaveRoom, HasLines, OpensJournal, Records, world_by, letter_count, IsCore}
 use Rattle.flow_core.proofs.WordLemmas.{world_over-A, legal_over-A}
-use Rattle.flow_core.proofs.HearingLemmas.{waiting-length}
+use Rattle.flow_core.proofs.SummaryLemmas.{summary-ack, summary-take, summary-answer, summary-legal}
+use Rattle.flow_core.proofs.JournalLemmas.{records-ack, records-take, records-answer}
 
--- ---- how many tickets were taken and answered
+-- ---- counts of letters
 
-count-some : {A : Type 0} (option : Option A) → is_some option ≡ true → some_count option ≡ 1
-count-some None some = absurd (true≢false (sym some))
-count-some (Some a) some = refl
+count-told : (waiting : List Report) (untold : Option Notice) (s : Summary) → s.out ≡ None → is_some (next_telling waiting untold) ≡ true
+    → letter_count (with_told (next_telling waiting untold) s) ≡ letter_count s + 1
+count-told [] None s none some = absurd (true≢false (sym some))
+count-told [] (Some notice) s none some = let none = ap some_count none in omega (arith, none)
+count-told (report ∷ rest) untold s none some = let none = ap some_count none in omega (arith, none)
 
--- what is mapped to something is something
-pub some-back : {A B : Type 0} (f : A → B) (option : Option A) (b : B) → option_map f option ≡ Some b → is_some option ≡ true
-some-back f None b some = absurd (none-some b some)
-some-back f (Some a) b some = refl
+told-some : (waiting : List Report) (untold : Option Notice) → is_some (next_telling waiting untold) ≡ true → 1 ≤ length waiting + some_count untold
+told-some [] None some = absurd (true≢false (sym some))
+told-some [] (Some notice) some = omega arith
+told-some (report ∷ rest) untold some = omega arith
+
+-- a reply makes no letter
+count-reply : (flow : Flow ℕ) (agent : Agent) (reply : Reply) (s : Summary) → letter_count (step_reply flow agent reply s) ≡ letter_count s
+count-reply flow agent Nothing s = refl
+count-reply flow agent (Update cwnd) s = refl
+count-reply flow agent (Change program cwnd cap) s = refl
+
+out-reply : (flow : Flow ℕ) (agent : Agent) (reply : Reply) (s : Summary) → (step_reply flow agent reply s).out ≡ s.out
+out-reply flow agent Nothing s = refl
+out-reply flow agent (Update cwnd) s = refl
+out-reply flow agent (Change program cwnd cap) s = refl
+
+count-turn : (flow : Flow ℕ) (issued : Issued) (turn : Agent × Reply) (s : Summary) → s.out ≡ Some issued
+    → letter_count (step_turn flow issued turn s) ≡ letter_count s + 1
+count-turn flow issued turn s out =
+    let closed : Summary = record s { agent = turn.0; out = None; answered = s.answered + 1; told = (step_turn flow issued (turn.0, Nothing) s).told } in
+    let one = ap some_count out in
+    let more : letter_count closed ≡ letter_count s + 1 = omega (arith, one) in
+    count-reply flow s.agent turn.1 closed ∙ more
 
 module _ {X : Type 0} where
-  taking-more : (waiting : List Report) (untold : Option (Failure X)) (w : World X) → w.out ≡ None → is_some (taking waiting untold) ≡ true
-      → taken_count (with_taken (taking waiting untold) w) ≡ taken_count w + 1
-  taking-more [] None w none can = cc
-  taking-more [] (Some failure) w none can = let none = ap some_count none in omega (arith, none)
-  taking-more (report ∷ rest) untold w none can = let none = ap some_count none in omega (arith, none)
-
-  taking-answered : (waiting : List Report) (untold : Option (Failure X)) (w : World X) → (with_taken (taking waiting untold) w).answered ≡ w.answered
-  taking-answered [] None w = refl
-  taking-answered [] (Some failure) w = refl
-  taking-answered (report ∷ rest) untold w = refl
-
-  turn-more : (flow : Flow X) (ticket : Taken X) (turn : Agent × Reply) (w : World X) → w.out ≡ Some ticket
-      → (taken_count (with_turn flow ticket turn w) ≡ taken_count w) × (length (with_turn flow ticket turn w).answered ≡ length w.answered + 1)
-  turn-more flow ticket (agent, Nothing) w some =
-      let some = ap some_count some in
-      let long = length-append w.answered (record { told = ticket.told; taken = ticket.taken; answered = length w.acks; reply = Nothing } ∷ []) in
-      (omega (arith, some, long), long)
-  turn-more flow ticket (agent, Update cwnd) w some =
-      let some = ap some_count some in
-      let long = length-append w.answered (record { told = ticket.told; taken = ticket.taken; answered = length w.acks; reply = Update cwnd } ∷ []) in
-      (omega (arith, some, long), long)
-  turn-more flow ticket (agent, Change program cwnd cap_value) w some =
-      let some = ap some_count some in
-      let long = length-append w.answered (record { told = ticket.told; taken = ticket.taken; answered = length w.acks; reply = Change program cwnd cap_value } ∷ []) in
-      (omega (arith, some, long), long)
-
-  answer-more : (flow : Flow X) (w : World X) (out : Option (Taken X)) → w.out ≡ out → is_some out ≡ true
-      → (taken_count (answer_applied flow out w) ≡ taken_count w) × (length (answer_applied flow out w).answered ≡ length w.answered + 1)
-  answer-more flow w None same some = absurd (true≢false (sym some))
-  answer-more flow w (Some ticket) same some = turn-more flow ticket (replied w.agent (told_as flow ticket.told)) w same
-
--- ---- the word has room for one more letter
-
-pub room-T : (s new : State) → IsCore s → (world_of s).out ≡ None → can_take (world_of s) ≡ true
-    → Keeps new (after_take (world_of s)) → new.acks ≡ s.acks → new.word ≡ s.word → length new.word.items < new.word.room
-room-T s new core none some keeps acks word =
-    let w = world_of s in
-    let more : taken_count (after_take w) ≡ taken_count w + 1 = taking-more w.waiting w.untold w none some in
-    let tickets = keeps.counted.tickets in
-    let all : length s.acks.items ≡ length (after_take w).acks = ap (λ (list : RoomyState Ack). length list.items) (sym acks) ∙ ap length keeps.acks in
-    let letters = core.letters in
-    let long : length new.word.items ≡ length s.word.items = ap (λ (list : RoomyState Letter). length list.items) word in
-    let room : new.word.room ≡ s.word.room = ap (λ (list : RoomyState Letter). list.room) word in
-    let word_room = core.ready.word_room in
-    let within = core.within in
-    omega (arith, more, tickets, all, letters, long, room, word_room, within)
-
-pub room-C : (s : State) → IsCore s → is_some (world_of s).out ≡ true → length s.word.items < s.word.room
-room-C s core some =
-    let w = world_of s in
-    let one : some_count w.out ≡ 1 = count-some w.out some in
-    let tickets = core.keeps.counted.tickets in
-    let all : length s.acks.items ≡ length w.acks = ap length core.keeps.acks in
-    let letters = core.letters in
-    let word_room = core.ready.word_room in
-    let within = core.within in
-    omega (arith, one, tickets, all, letters, word_room, within)
-
--- ---- the word is no part of what is kept
-
-module _ (s : State) (word : RoomyState Letter) where
-  abbrev pub with_word : State
-  with_word = record s { word = word }
-
-  keeps-word : (w : World ℕ) → Keeps s w → Keeps with_word w
-  keeps-word w keeps = record {
-    program = keeps.program;
-    env = keeps.env;
-    stopped = keeps.stopped;
-    first = keeps.first;
-    count = keeps.count;
-    lies = keeps.lies;
-    untold = keeps.untold;
-    agent = keeps.agent;
-    out = keeps.out;
-    tickets = keeps.tickets;
-    epochs = keeps.epochs;
-    faults = keeps.faults;
-    held = keeps.held;
-    acks = keeps.acks;
-    counted = keeps.counted;
-  }
-
-  ready-word : word.room ≡ s.word.room → IsReady s → IsReady with_word
-  ready-word room ready = record {
-    fits = ready.fits;
-    words = ready.words;
-    free = ready.free;
-    size = ready.size;
-    ss = ready.ss;
-    ca = ready.ca;
-    acks_room = ready.acks_room;
-    word_room = omega (arith, ready.word_room, room);
-    faults_room = ready.faults_room;
-  }
+  room-some : (item : Option X) (list : RoomyState X) → (with_some item list).room ≡ list.room
+  room-some None list = refl
+  room-some (Some item) list = refl
 
 -- whatever is out has its room where there is room
-pub lines-any : (out : Option Issued) (s : State) → (length s.tickets.items < s.tickets.room) × (length s.epochs.items < s.epochs.room) → HasLines out s.tickets s.epochs
-lines-any None s room = tt
-lines-any (Some issued) s room = room
+lines-any : (out : Option Issued) (j : Journal) → HaveRoom j.tickets j.epochs → HasLines out j.tickets j.epochs
+lines-any None j room = tt
+lines-any (Some issued) j room = room
+
+-- what can be taken and what is out
+none-out : {A : Type 0} (out : Option A) (can : Bool) → (is_none out && can) ≡ true → out ≡ None
+none-out None can both = refl
+none-out (Some a) can both = absurd (true≢false (sym both))
+
+can-out : {A : Type 0} (out : Option A) (can : Bool) → (is_none out && can) ≡ true → can ≡ true
+can-out None can both = both
+can-out (Some a) can both = absurd (true≢false (sym both))
+
+-- ---- the ticket that is out
+
+module _ (case : Case) (w : World ℕ) where
+  ticket-mapped : (out : Option (Taken ℕ))
+      → option_map (λ (issued : Issued). record { flow = case.flow; number = length w.answered; before = w.agent; told = issued.told }) (option_map (issued_as (over_codes case)) out)
+      ≡ option_map (λ (ticket : Taken ℕ). ticket_of (over_codes case) w ticket.told) out
+  ticket-mapped None = refl
+  ticket-mapped (Some ticket) = refl
+
+  -- it is that of the state
+  pub ticket-same : told_ticket case (summary (over_codes case) w) ≡ out_ticket (over_codes case) w
+  ticket-same = ticket-mapped w.out
+
+-- the ticket that is out, in the state
+record OutIs (flow : Flow ℕ) (w : World ℕ) (ticket : Ticket) : Type 0 where
+  taken : Taken ℕ
+  out : w.out ≡ Some taken
+  same : ticket_of flow w taken.told ≡ ticket
+
+out-is : (flow : Flow ℕ) (w : World ℕ) (ticket : Ticket) → out_ticket flow w ≡ Some ticket → OutIs flow w ticket
+out-is flow w ticket is = by w.out refl where
+  by : (out : Option (Taken ℕ)) → w.out ≡ out → OutIs flow w ticket
+  by None none = absurd (none-some ticket (sym (ap (option_map (λ (t : Taken ℕ). ticket_of flow w t.told)) none) ∙ is))
+  by (Some taken) some =
+      let same : Some (ticket_of flow w taken.told) ≡ Some ticket = sym (ap (option_map (λ (t : Taken ℕ). ticket_of flow w t.told)) some) ∙ is in
+      record { taken = taken; out = some; same = ap (λ (o : Option Ticket). unwrap_or o ticket) same }
 
 -- ---- the letters
 
-module _ (s new : State) (word : RoomyState Letter) (core : IsCore s) (case : new.case ≡ s.case) (old_word : new.word ≡ s.word)
-    (ready : IsReady new) (room : word.room ≡ new.word.room) where
-  -- the next state, and what holds of it
-  abbrev pub after : State
-  after = with_word new word
+module _ (bare : BareState) (j : Journal) (core : IsCore bare j) where
+  abbrev flow : Flow ℕ
+  flow = over_codes bare.case
 
-  module _ (ack : Ack) (left : length s.acks.items < s.case.acks) (keeps : Keeps new (after_ack (flow_of s) ack (world_of s)))
-      (acks : new.acks.items ≡ s.acks.items ++ ack ∷ []) (pushed : word.items ≡ new.word.items ++ A ∷ [])
-      (lines : HasLines new.out new.tickets new.epochs) where
-    letters-A : word.items ≡ s.word.items ++ A ∷ []
-    letters-A = pushed ∙ ap (λ (old : RoomyState Letter). old.items ++ A ∷ []) old_word
+  abbrev s : Summary
+  s = bare.summary
 
-    pub world-A : world_of after ≡ after_ack (flow_of s) ack (world_of s)
-    world-A =
-        (λ i. world_over (over_codes (case i)) (acks i) (letters-A i))
-        ∙ world_over-A (flow_of s) s.acks.items ack s.word.items core.acks
+  abbrev w : World ℕ
+  w = world_by bare j
 
-    pub core-A : IsCore after
-    core-A =
-        let more : length new.acks.items ≡ length s.acks.items + 1 = ap length acks ∙ length-append s.acks.items (ack ∷ []) in
-        let long : length word.items ≡ length s.word.items + 1 = ap length letters-A ∙ length-append s.word.items (A ∷ []) in
-        let same : s.case.acks ≡ new.case.acks = sym (ap (λ (c : Case). c.acks) case) in
-        let old : length s.acks.items ≡ length (world_of s).acks = ap length core.keeps.acks in
-        record {
-          keeps = subst (Keeps after) (sym world-A) (keeps-word new word _ keeps);
-          ready = ready-word new word room ready;
-          legal =
-              (λ i. legal_over (over_codes (case i)) (acks i) (letters-A i))
-              ∙ legal_over-A (flow_of s) s.acks.items ack s.word.items core.acks
-              ∙ (λ i. core.legal i && lt-ltb (length (world_of s).acks) s.case.acks (omega (arith, old, left)) i);
-          acks = ap acks_in letters-A ∙ acks_in-A s.word.items ∙ ap (λ (n : ℕ). n + 1) core.acks ∙ sym more;
-          within = omega (arith, more, left, same);
-          letters =
-              let letters = core.letters in
-              let next : length word.items ≡ length new.acks.items + (taken_count (world_of s) + length (world_of s).answered) = omega (arith, letters, long, more) in
-              next ∙ ap (λ (w : World ℕ). length new.acks.items + (taken_count w + length w.answered)) (sym world-A);
-          lines = lines;
-        }
+  pub out-same : told_ticket bare.case bare.summary ≡ out_ticket (over_codes bare.case) (world_by bare j)
+  out-same = ap (told_ticket bare.case) core.stands ∙ ticket-same bare.case w
 
-  module _ (can : (is_none (world_of s).out && can_take (world_of s)) ≡ true) (none : (world_of s).out ≡ None) (some : can_take (world_of s) ≡ true)
-      (keeps : Keeps new (after_take (world_of s)))
-      (acks : new.acks ≡ s.acks) (pushed : word.items ≡ new.word.items ++ T ∷ []) (lines : HasLines new.out new.tickets new.epochs) where
-    letters-T : word.items ≡ s.word.items ++ T ∷ []
-    letters-T = pushed ∙ ap (λ (old : RoomyState Letter). old.items ++ T ∷ []) old_word
+  pub acks-length : length j.acks.items ≡ bare.summary.acks
+  acks-length = ap length core.records.acks ∙ sym (ap (λ (t : Summary). t.acks) core.stands)
 
-    pub world-T : world_of after ≡ after_take (world_of s)
-    world-T =
-        (λ i. world_over (over_codes (case i)) (acks i).items (letters-T i))
-        ∙ world_over-append (flow_of s) s.acks.items s.word.items T
+  faults-length : length j.faults.items ≡ s.faults
+  faults-length = ap length core.records.faults ∙ length-map w.faults (notice_of flow) ∙ sym (ap (λ (t : Summary). t.faults) core.stands)
 
-    pub core-T : IsCore after
-    core-T =
-        let same_acks : length new.acks.items ≡ length s.acks.items = ap (λ (list : RoomyState Ack). length list.items) acks in
-        let long : length word.items ≡ length s.word.items + 1 = ap length letters-T ∙ length-append s.word.items (T ∷ []) in
-        let same : s.case.acks ≡ new.case.acks = sym (ap (λ (c : Case). c.acks) case) in
-        let w = world_of s in
-        let more : taken_count (after_take w) ≡ taken_count w + 1 = taking-more w.waiting w.untold w none some in
-        let answered : length (after_take w).answered ≡ length w.answered = ap length (taking-answered w.waiting w.untold w) in
-        record {
-          keeps = subst (Keeps after) (sym world-T) (keeps-word new word _ keeps);
-          ready = ready-word new word room ready;
-          legal =
-              (λ i. legal_over (over_codes (case i)) (acks i).items (letters-T i))
-              ∙ legal_over-append (flow_of s) s.acks.items s.word.items T
-              ∙ (λ i. core.legal i && can i);
-          acks = ap acks_in letters-T ∙ acks_in-T s.word.items ∙ core.acks ∙ sym same_acks;
-          within = omega (arith, same_acks, core.within, same);
-          letters =
-              let letters = core.letters in
-              let next : length word.items ≡ length new.acks.items + (taken_count (after_take w) + length (after_take w).answered) =
-              omega (arith, letters, long, more, answered, same_acks) in
-              next ∙ ap (λ (v : World ℕ). length new.acks.items + (taken_count v + length v.answered)) (sym world-T);
-          lines = lines;
-        }
+  module _ (range : InRange bare.case bare.summary) where
+    module _ (left : bare.summary.acks < bare.case.acks) where
+      pub faults-room : HasRoom j.faults
+      faults-room = omega (arith, faults-length, range.faults, left, core.rooms.faults)
 
-  module _ (out : is_some (world_of s).out ≡ true) (keeps : Keeps new (after_answer (flow_of s) (world_of s)))
-      (acks : new.acks ≡ s.acks) (pushed : word.items ≡ new.word.items ++ C ∷ []) (closed : new.out ≡ None) where
-    letters-C : word.items ≡ s.word.items ++ C ∷ []
-    letters-C = pushed ∙ ap (λ (old : RoomyState Letter). old.items ++ C ∷ []) old_word
+      pub acks-room : HasRoom j.acks
+      acks-room = omega (arith, acks-length, left, core.rooms.acks)
 
-    pub world-C : world_of after ≡ after_answer (flow_of s) (world_of s)
-    world-C =
-        (λ i. world_over (over_codes (case i)) (acks i).items (letters-C i))
-        ∙ world_over-append (flow_of s) s.acks.items s.word.items C
+      pub room-A : HasRoom j.word
+      room-A = omega (arith, core.letters, range.tickets, left, core.rooms.word)
 
-    pub core-C : IsCore after
-    core-C =
-        let same_acks : length new.acks.items ≡ length s.acks.items = ap (λ (list : RoomyState Ack). length list.items) acks in
-        let long : length word.items ≡ length s.word.items + 1 = ap length letters-C ∙ length-append s.word.items (C ∷ []) in
-        let same : s.case.acks ≡ new.case.acks = sym (ap (λ (c : Case). c.acks) case) in
-        let w = world_of s in
-        let more = answer-more (flow_of s) w w.out refl out in
-        let taken = more.0 in
-        let answered = more.1 in
-        record {
-          keeps = subst (Keeps after) (sym world-C) (keeps-word new word _ keeps);
-          ready = ready-word new word room ready;
-          legal =
-              (λ i. legal_over (over_codes (case i)) (acks i).items (letters-C i))
-              ∙ legal_over-append (flow_of s) s.acks.items s.word.items C
-              ∙ (λ i. core.legal i && out i);
-          acks = ap acks_in letters-C ∙ acks_in-C s.word.items ∙ core.acks ∙ sym same_acks;
-          within = omega (arith, same_acks, core.within, same);
-          letters =
-              let letters = core.letters in
-              let next : length word.items ≡ length new.acks.items + (taken_count (after_answer (flow_of s) w) + length (after_answer (flow_of s) w).answered) =
-              omega (arith, letters, long, taken, answered, same_acks) in
-              next ∙ ap (λ (v : World ℕ). length new.acks.items + (taken_count v + length v.answered)) (sym world-C);
-          lines = subst (λ (issued : Option Issued). HasLines issued new.tickets new.epochs) (sym closed) tt;
-        }
+    pub room-T : may_make flow s T ≡ true → HasRoom j.word
+    room-T may =
+        let none = ap some_count (none-out s.out (can_tell s) may) in
+        omega (arith, core.letters, none, range.tickets, range.acks, told-some s.waiting s.untold (can-out s.out (can_tell s) may), core.rooms.word)
 
--- ---- what can be taken
+    pub room-C : (ticket : Ticket) → told_ticket bare.case s ≡ Some ticket → HasRoom j.word × HaveRoom j.tickets j.epochs
+    room-C ticket is = by s.out refl core.lines where
+      by : (out : Option Issued) → s.out ≡ out → HasLines out j.tickets j.epochs → HasRoom j.word × HaveRoom j.tickets j.epochs
+      by None none lines = absurd (none-some ticket (sym (ap (λ (o : Option Issued). told_ticket bare.case (record s { out = o })) none) ∙ is))
+      by (Some issued) some lines =
+          let one = ap some_count some in
+          (omega (arith, core.letters, one, range.tickets, range.acks, core.rooms.word), lines)
 
-empty-of : (slots : List ℕ) → length slots ≡ 0 → slots ≡ []
-empty-of [] none = refl
-empty-of (slot ∷ slots) none = absurd (omega (arith, none))
+  -- ---- A
 
-by_test : (test : Bool) → (test ≡ false → false ≡ true) → true ≡ test
-by_test true wrong = refl
-by_test false wrong = absurd (true≢false (sym (wrong refl)))
+  module _ (ack : Ack) (left : bare.summary.acks < bare.case.acks) (fault : Option Notice)
+      (is_fault : fault ≡ new_notice (acked_as (outcome_at (over_codes bare.case) ack bare.summary).0) (step_ack (over_codes bare.case) ack bare.summary).untold) where
+    abbrev bare-A : BareState
+    bare-A = record bare { summary = step_ack flow ack s }
 
-module _ (s : State) (w : World ℕ) (keeps : Keeps s w) where
-  taking-empty : (waiting : List Report) (untold : Option (Failure ℕ)) → w.waiting ≡ waiting → w.untold ≡ untold
-      → is_some (taking waiting untold) ≡ false → (s.outbox.slots ≡ []) × (s.outbox.untold ≡ None)
-  taking-empty [] None waits tells nothing = (empty-of s.outbox.slots (waiting-length s w keeps ∙ ap length waits), keeps.untold ∙ ap (option_map (notice_of (flow_of s))) tells)
-  taking-empty [] (Some failure) waits tells nothing = absurd (true≢false nothing)
-  taking-empty (report ∷ rest) untold waits tells nothing = absurd (true≢false nothing)
+    pub world-A : world_by bare-A (journal_ack ack fault j) ≡ after_ack flow ack w
+    world-A = world_over-A flow j.acks.items ack j.word.items core.all
 
-  empty-taking : (waiting : List Report) (untold : Option (Failure ℕ)) → w.waiting ≡ waiting → w.untold ≡ untold
-      → (s.outbox.slots ≡ []) × (s.outbox.untold ≡ None) → is_some (taking waiting untold) ≡ false
-  empty-taking [] None waits tells nothing = refl
-  empty-taking [] (Some failure) waits tells nothing =
-      absurd (none-some (notice_of (flow_of s) failure) (sym nothing.1 ∙ keeps.untold ∙ ap (option_map (notice_of (flow_of s))) tells))
-  empty-taking (report ∷ rest) untold waits tells nothing =
-      let long = waiting-length s w keeps ∙ ap length waits in
-      let none = ap length nothing.0 in
-      absurd (omega (arith, long, none))
+    records-A : Records flow (after_ack flow ack w) (journal_ack ack fault j)
+    records-A =
+        subst (λ (f : Option Notice). Records flow (after_ack flow ack w) (journal_ack ack f j))
+        (sym (is_fault ∙ ap (λ (t : Summary). new_notice (acked_as (outcome_at flow ack t).0) (step_ack flow ack t).untold) core.stands))
+        (records-ack flow ack w j core.records)
 
-  -- the outbox is empty exactly where nothing can be taken
-  pub can_take-same : (is_empty : Bool) → (is_empty ≡ true → (s.outbox.slots ≡ []) × (s.outbox.untold ≡ None)) × ((s.outbox.slots ≡ []) × (s.outbox.untold ≡ None) → is_empty ≡ true)
-      → not is_empty ≡ can_take w
-  can_take-same true same = sym (empty-taking w.waiting w.untold refl refl (same.0 refl))
-  can_take-same false same = by_test (can_take w) (λ nothing. same.1 (taking-empty w.waiting w.untold refl refl nothing))
+    pub core-A : IsCore bare-A (journal_ack ack fault j)
+    core-A = record {
+      stands = ap (step_ack flow ack) core.stands ∙ sym (summary-ack flow ack w) ∙ ap (summary flow) (sym world-A);
+      records = subst (λ (v : World ℕ). Records flow v (journal_ack ack fault j)) (sym world-A) records-A;
+      legal =
+          let old : length w.acks ≡ s.acks = sym (ap (λ (t : Summary). t.acks) core.stands) in
+          legal_over-A flow j.acks.items ack j.word.items core.all
+          ∙ (λ i. core.legal i && lt-ltb (length w.acks) bare.case.acks (omega (arith, old, left)) i);
+      all = acks_in-A j.word.items ∙ ap (λ (n : ℕ). n + 1) core.all ∙ sym (length-append j.acks.items (ack ∷ []));
+      letters = omega (arith, length-append j.word.items (A ∷ []), core.letters);
+      rooms = record { faults = omega (arith, core.rooms.faults, room-some fault j.faults); acks = core.rooms.acks; word = core.rooms.word };
+      lines = core.lines;
+    }
 
-  -- an outbox from which something can be taken isn't empty
-  pub some-there : can_take w ≡ true → (s.outbox.slots ≡ []) × (s.outbox.untold ≡ None) → ⊥
-  some-there some empty = true≢false (sym some ∙ empty-taking w.waiting w.untold refl refl empty)
+  -- ---- T
+
+  module _ (tickets : RoomyState TicketLine) (epochs : RoomyState EpochLine) (same_tickets : tickets.items ≡ j.tickets.items) (same_epochs : epochs.items ≡ j.epochs.items) where
+    -- the journal with more room for lines
+    abbrev reserved : Journal
+    reserved = record j { tickets = tickets; epochs = epochs }
+
+    pub core-reserved : HasLines bare.summary.out tickets epochs → IsCore bare reserved
+    core-reserved lines = record {
+      stands = core.stands;
+      records = record {
+        tickets = same_tickets ∙ core.records.tickets;
+        epochs = same_epochs ∙ core.records.epochs;
+        faults = core.records.faults;
+        acks = core.records.acks;
+      };
+      legal = core.legal;
+      all = core.all;
+      letters = core.letters;
+      rooms = record { faults = core.rooms.faults; acks = core.rooms.acks; word = core.rooms.word };
+      lines = lines;
+    }
+
+  module _ (may : may_make (over_codes bare.case) bare.summary T ≡ true) where
+    abbrev bare-T : BareState
+    bare-T = record bare { summary = step_take s }
+
+    pub world-T : world_by bare-T (journal_take j) ≡ after_take w
+    world-T = world_over-append flow j.acks.items j.word.items T
+
+    pub core-T : HaveRoom j.tickets j.epochs → IsCore bare-T (journal_take j)
+    core-T room = record {
+      stands = ap step_take core.stands ∙ sym (summary-take flow w) ∙ ap (summary flow) (sym world-T);
+      records = subst (λ (v : World ℕ). Records flow v (journal_take j)) (sym world-T) (records-take flow w j core.records);
+      legal =
+          let can = summary-legal flow T w ∙ ap (λ (t : Summary). may_make flow t T) (sym core.stands) ∙ may in
+          legal_over-append flow j.acks.items j.word.items T ∙ (λ i. core.legal i && can i);
+      all = acks_in-T j.word.items ∙ core.all;
+      letters =
+          let more = count-told s.waiting s.untold s (none-out s.out (can_tell s) may) (can-out s.out (can_tell s) may) in
+          length-append j.word.items (T ∷ []) ∙ ap (λ (n : ℕ). n + 1) core.letters ∙ sym more;
+      rooms = record { faults = core.rooms.faults; acks = core.rooms.acks; word = core.rooms.word };
+      lines = lines-any (step_take s).out j room;
+    }
+
+  -- ---- C
+
+  module _ (ticket : Ticket) (is : told_ticket bare.case bare.summary ≡ Some ticket) where
+    abbrev bare-C : BareState
+    bare-C = record bare { summary = step_answer flow s }
+
+    abbrev journal-C : Journal
+    journal-C = journal_answer (line_of ticket (taken_at s) s.acks) (line_after s.epoch (step_answer flow s)) j
+
+    pub world-C : world_by bare-C journal-C ≡ after_answer flow w
+    world-C = world_over-append flow j.acks.items j.word.items C
+
+    after-C : step_answer flow s ≡ summary flow (after_answer flow w)
+    after-C = ap (step_answer flow) core.stands ∙ sym (summary-answer flow w)
+
+    records-C : Records flow (after_answer flow w) journal-C
+    records-C =
+        let o = out-is flow w ticket (sym out-same ∙ is) in
+        let line : line_of (ticket_of flow w o.taken.told) (taken_at (summary flow w)) (length w.acks) ≡ line_of ticket (taken_at s) s.acks =
+        λ i. line_of (o.same i) (taken_at (sym core.stands i)) (sym core.stands i).acks in
+        let begun : line_after (length w.past) (summary flow (after_answer flow w)) ≡ line_after s.epoch (step_answer flow s) =
+        λ i. line_after (sym core.stands i).epoch (sym after-C i) in
+        subst (Records flow (after_answer flow w)) (λ i. journal_answer (line i) (begun i) j)
+        (records-answer flow w o.taken o.out j core.records)
+
+    some-out : is_some s.out ≡ true
+    some-out = by s.out refl where
+      by : (out : Option Issued) → s.out ≡ out → is_some out ≡ true
+      by None none = absurd (none-some ticket (sym (ap (λ (o : Option Issued). told_ticket bare.case (record s { out = o })) none) ∙ is))
+      by (Some issued) some = refl
+
+    counts-C : (letter_count (step_answer flow s) ≡ letter_count s + 1) × ((step_answer flow s).out ≡ None)
+    counts-C = by s.out refl some-out where
+      by : (out : Option Issued) → s.out ≡ out → is_some out ≡ true → (letter_count (step_out flow out s) ≡ letter_count s + 1) × ((step_out flow out s).out ≡ None)
+      by None none some = absurd (true≢false (sym some))
+      by (Some issued) same some =
+          let turn = replied s.agent issued.told in
+          (count-turn flow issued turn s same, out-reply flow s.agent turn.1 _)
+
+    pub core-C : IsCore bare-C journal-C
+    core-C = record {
+      stands = after-C ∙ ap (summary flow) (sym world-C);
+      records = subst (λ (v : World ℕ). Records flow v journal-C) (sym world-C) records-C;
+      legal =
+          let can = summary-legal flow C w ∙ ap (λ (t : Summary). may_make flow t C) (sym core.stands) ∙ some-out in
+          legal_over-append flow j.acks.items j.word.items C ∙ (λ i. core.legal i && can i);
+      all = acks_in-C j.word.items ∙ core.all;
+      letters = length-append j.word.items (C ∷ []) ∙ ap (λ (n : ℕ). n + 1) core.letters ∙ sym counts-C.0;
+      rooms = record { faults = core.rooms.faults; acks = core.rooms.acks; word = core.rooms.word };
+      lines = subst (λ (out : Option Issued). HasLines out (with_item (line_of ticket (taken_at s) s.acks) j.tickets) (with_some (line_after s.epoch (step_answer flow s)) j.epochs)) (sym counts-C.1) tt;
+    }
+
+-- ---- a ticket is taken, once room for the lines of its answer was reserved
+
+module _ (bare : BareState) (j : Journal) (core : IsCore bare j) (may : may_make (over_codes bare.case) bare.summary T ≡ true)
+    (room_for : Journal) (framed : room_for ≡ record j { tickets = room_for.tickets; epochs = room_for.epochs })
+    (same_tickets : room_for.tickets.items ≡ j.tickets.items) (same_epochs : room_for.epochs.items ≡ j.epochs.items)
+    (room : HaveRoom room_for.tickets room_for.epochs)
+    (new : BareState) (next : Journal) (step : new ≡ record bare { summary = step_take bare.summary }) (put : next ≡ journal_take room_for) where
+  core-before : IsCore bare room_for
+  core-before =
+      subst (IsCore bare) (sym framed)
+      (core-reserved bare j core room_for.tickets room_for.epochs same_tickets same_epochs (lines-any bare.summary.out room_for room))
+
+  pub core-taken : IsCore new next
+  core-taken =
+      subst (λ (b : BareState). IsCore b next) (sym step)
+      (subst (IsCore (record bare { summary = step_take bare.summary })) (sym put) (core-T bare room_for core-before may room))
+
+  pub world-taken : world_by new next ≡ after_take (world_by bare j)
+  world-taken =
+      (λ i. world_by (step i) (put i))
+      ∙ world-T bare room_for core-before may
+      ∙ ap (λ (p : Journal). after_take (world_by bare p)) framed
+
+-- ---- before the first letter
+
+pub core-open : (case : Case) (j : Journal)
+    → OpensJournal case.acks (begun_line (summary (over_codes case) (opening (over_codes case)))) j
+    → IsCore (record { case = case; summary = summary (over_codes case) (opening (over_codes case)) }) j
+core-open case j opens =
+    let flow = over_codes case in
+    let bare : BareState = record { case = case; summary = summary flow (opening flow) } in
+    let word : length j.word.items ≡ 0 = ap length opens.word in
+    let acks : length j.acks.items ≡ 0 = ap length opens.acks in
+    let world : world_by bare j ≡ opening flow = ap (world_over flow j.acks.items) opens.word in
+    record {
+      stands = ap (summary flow) (sym world);
+      records = subst (λ (v : World ℕ). Records flow v j) (sym world) (record {
+        tickets = opens.tickets;
+        epochs = opens.epochs;
+        faults = opens.faults;
+        acks = opens.acks;
+      });
+      legal = ap (legal_over flow j.acks.items) opens.word;
+      all = ap acks_in opens.word ∙ sym acks;
+      letters = word;
+      rooms = opens.rooms;
+      lines = tt;
+    }

@@ -19,7 +19,7 @@ use Rattle.agent_core.specs.Agents.{course_of, cap_of, segment_of, mss_of, windo
 use Rattle.agent_core.specs.RoleLaws.{AreRoles}
 use Rattle.flow_core.specs.declared.case.Case.{Case}
 use Rattle.flow_core.specs.Readings.{env_of, code_at}
-use Rattle.flow_core.specs.Settling.{AreGood}
+use Rattle.flow_core.specs.Bares.{AreGood}
 
 -- ---- values are written alike
 

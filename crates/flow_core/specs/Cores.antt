@@ -54,8 +54,8 @@ met_in flow w ack =
     heard (flow.reading w.present.program) (track_of flow w).is_stopped (track_of flow w).env ack (has_room flow w)
 
 -- the answer to an acknowledgement
-abbrev pub acked_in : CoreState → Ack → Acked
-acked_in core ack = acked_as (met_in (flow_in core) (world_in core) ack).0
+abbrev pub acked_with : CoreState → Ack → Acked
+acked_with core ack = acked_as (met_in (flow_in core) (world_in core) ack).0
 
 -- how many instructions an acknowledgement runs; none where the program is stopped
 abbrev pub ran_by : Bool → Code → Env → Ack → Bool → ℕ

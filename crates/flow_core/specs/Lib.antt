@@ -12,9 +12,10 @@ pub mod Books
 pub mod Cores
 pub mod States
 pub mod Opening
-pub mod Hearing
-pub mod Taking
-pub mod Settling
+pub mod MachineCalls
 pub mod Cells
 pub mod LiveText
 pub mod LettersLeft
+pub mod Summaries
+pub mod Bares
+pub mod Journals

@@ -1,9 +1,15 @@
 -- A flow's state over its codes, as one over its sources: each fault's instruction becomes its place.
-use Rattle.std.specs.Prelude.{ℕ, option_map, unwrap_or, List, map, slice_get}
+use Rattle.std.specs.Prelude.{◌≡◌, ℕ, option_map, unwrap_or, List, map, slice_get}
+use Rattle.ccp_base.specs.declared.ack.Ack.{Ack}
 use Rattle.ccp_base.specs.declared.place.Place.{Place}
+use Rattle.portus_core.specs.Programs.{Form}
+use Rattle.reg_compiler.specs.Simulation.{Simulates}
+use Rattle.link_model.specs.declared.link_case.LinkCase.{LinkCase}
 use Rattle.flow_core.specs.declared.case.Case.{Case}
-use Rattle.flow_core.specs.Readings.{by_number}
-use Rattle.flow_core.specs.World.{Failure, Content, of_report, of_failure, Taken, Answered, World}
+use Rattle.flow_core.specs.declared.letter.Letter.{Letter}
+use Rattle.flow_core.specs.Readings.{Flow, by_number, over_codes, over_sources}
+use Rattle.flow_core.specs.World.{Failure, Content, of_report, of_failure, Taken, Answered, World, opening}
+use Rattle.flow_core.specs.Words.{Giving, from_list, from_link, world_from, legal_from, is_complete}
 
 -- what stands for the place of an instruction that isn't there
 abbrev pub no_place : Place
@@ -60,3 +66,32 @@ map_world place w = record {
   faults = map (map_failure place) w.faults;
   held = w.held;
 }
+
+-- ---- whole words
+
+-- after a word both readings have the same state, and the word is legal in both or in neither, and complete in both or
+-- in neither
+pub record ReadsAlike (place : Placing) (codes : Flow ℕ) (sources : Flow Place) (by_codes : Giving ℕ) (by_sources : Giving Place) (word : List Letter) : Type 0 where
+  pub state : map_world place (world_from codes by_codes (opening codes) word) ≡ world_from sources by_sources (opening sources) word
+  pub legal : legal_from codes by_codes (opening codes) word ≡ legal_from sources by_sources (opening sources) word
+  pub complete : is_complete codes (world_from codes by_codes (opening codes) word)
+      ≡ is_complete sources (world_from sources by_sources (opening sources) word)
+
+-- for all programs that the codes simulate, and each link and word
+abbrev pub LiftsLink : Case → Type 0
+LiftsLink case =
+    (ss ca : Form) (ss_places ca_places : List Place)
+    → Simulates ss case.ss.code.code ss_places
+    → Simulates ca case.ca.code.code ca_places
+    → (link : LinkCase) (word : List Letter)
+    → ReadsAlike (place_in case ss_places ca_places) (over_codes case) (over_sources case ss ca)
+    (from_link (over_codes case) link) (from_link (over_sources case ss ca) link) word
+
+-- for all programs that the codes simulate, and each list of acknowledgements and each word
+abbrev pub LiftsList : Case → Type 0
+LiftsList case =
+    (ss ca : Form) (ss_places ca_places : List Place)
+    → Simulates ss case.ss.code.code ss_places
+    → Simulates ca case.ca.code.code ca_places
+    → (acks : List Ack) (word : List Letter)
+    → ReadsAlike (place_in case ss_places ca_places) (over_codes case) (over_sources case ss ca) (from_list acks) (from_list acks) word

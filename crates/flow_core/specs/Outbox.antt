@@ -24,8 +24,8 @@ abbrev pub most_report_words : ℕ
 most_report_words = 80
 
 -- the numbers of a report, and how many fields it has
-abbrev pub report_head : Report → List ℕ
-report_head report =
+abbrev pub head_words : Report → List ℕ
+head_words report =
     report.flow
     ∷ report.program
     ∷ report.epoch
@@ -39,7 +39,7 @@ report_head report =
 
 -- the words that a report is stored as
 abbrev pub report_words : Report → List ℕ
-report_words report = report_head report ++ report.fields
+report_words report = head_words report ++ report.fields
 
 -- the numbers of a report fit their types
 pub record IsInRange (report : Report) : Type 0 where
@@ -121,6 +121,6 @@ abbrev pub IsToldNext : Option Told → Option Notice → PoolState → List ℕ
 IsToldNext told untold pool slots = (reports : List Report) → Lies pool slots reports → told ≡ next_told reports untold
 
 -- a notice stays untold while a report waits
-abbrev pub untold_after : List ℕ → Option Notice → Option Notice
-untold_after [] untold = None
-untold_after (slot ∷ rest) untold = untold
+abbrev pub notice_left : List ℕ → Option Notice → Option Notice
+notice_left [] untold = None
+notice_left (slot ∷ rest) untold = untold

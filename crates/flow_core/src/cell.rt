@@ -2,7 +2,7 @@ ghost use Rattle.std.specs.Prelude.{◌≡◌, ◌+◌, ◌-◌, ◌≤◌, ◌�
 ghost use Rattle.std.specs.Prelude.{IsOk, IsErr, IfOk, IfErr, OnOk, OnErr};
 ghost use Rattle.link_model.specs.Standing.{Stands};
 ghost use Rattle.flow_core.specs.World.{track_of, after_take, after_answer};
-ghost use Rattle.flow_core.specs.Words.{is_still, legal, is_complete};
+ghost use Rattle.flow_core.specs.Words.{is_still, is_legal, legal, is_complete};
 ghost use Rattle.flow_core.specs.Books.{IsBookOf};
 ghost use Rattle.flow_core.specs.Cells.{flow_at, world_at, heard_at, acked_at, ran_at, out_at, out_number_at};
 ghost use Rattle.flow_core.specs.Cells.{IsComplete, IsLifted};
@@ -144,6 +144,20 @@ impl Cell {
         ensures lifted { IsLifted self.now }
     {
         self.core.case()
+    }
+
+    /// Whether a ticket is out.
+    pub fn has_out(&self) -> bool
+        ensures { result ≡ is_legal (flow_at self.now) (world_at self.now) Letter.C }
+    {
+        self.core.has_out()
+    }
+
+    /// Whether a ticket may be taken: none is out, and a report waits or a notice is untold.
+    pub fn may_take(&self) -> bool
+        ensures { result ≡ is_legal (flow_at self.now) (world_at self.now) Letter.T }
+    {
+        self.core.may_take()
     }
 
     /// The present congestion window, in bytes.

@@ -1,16 +1,18 @@
 ghost use Rattle.std.specs.Prelude.{◌≡◌, ◌+◌, ◌-◌, ◌≤◌, ◌↔◌, ◌∷◌, [], ◌++◌, ℕ, true, Some, option_map, slice_get};
 ghost use Rattle.std.specs.Prelude.{length, Err, IsOk, IsErr, IfOk, IfErr, OnOk, OnErr};
 ghost use Rattle.flow_core.specs.World.{track_of, after_take, after_answer};
-ghost use Rattle.flow_core.specs.Words.{is_still, legal_over};
+ghost use Rattle.flow_core.specs.Words.{is_still, is_legal, legal_over};
 ghost use Rattle.flow_core.specs.Books.{IsBookOf};
-ghost use Rattle.flow_core.specs.Cores.{flow_in, world_in, with_ack, heard_in, acked_in, ran_in, out_in, out_number};
+ghost use Rattle.flow_core.specs.Journals.{new_notice, taken_at, begun_line, line_after};
+ghost use Rattle.flow_core.specs.Cores.{flow_in, world_in, with_ack, heard_in, acked_with, ran_in, out_in, out_number};
 
-use crate::book::{Book, Given};
+use crate::bare::Bare;
+use crate::book::{Book, EpochLine, Given};
 use crate::case::Case;
+use crate::journal::Journal;
 use crate::letter::Letter;
-use crate::state::State;
 use agent_core::{Answer, Ticket};
-use ccp_base::{Ack, NoMemory};
+use ccp_base::{Ack, NoMemory, Notice};
 use fold_machine::{Acked, Steps};
 use std::alloc::{AllocError, Global};
 use std::marker::Model;
@@ -51,7 +53,8 @@ pub struct Stale {
 /// A flow without its link: it is given each acknowledgement.
 #[derive(Drop)]
 pub struct Core {
-    state: State,
+    bare: Bare,
+    journal: Journal,
 }
 
 impl Model for Core {
@@ -59,11 +62,51 @@ impl Model for Core {
 
     ghost Value = { CoreState };
 
-    ghost use Rattle.flow_core.specs.States.{IsCore};
+    ghost use Rattle.flow_core.specs.Journals.{IsCore};
 
-    ghost view = { λ c. record { case = c.state.case; acks = c.state.acks.items; word = c.state.word.items } };
+    ghost view = { λ c. record { case = c.bare.case; acks = c.journal.acks.items; word = c.journal.word.items } };
 
-    ghost invariant = { λ c. IsCore c.state };
+    ghost invariant = { λ c. IsCore c.bare c.journal };
+}
+
+/// The notice of the fault that an acknowledgement came to, by the machine's answer and the untold notice after it;
+/// None exactly where it came to none.
+fn new_notice(acked: Acked, untold: Option<Notice>) -> Option<Notice>
+    ensures { result ≡ new_notice acked untold }
+{
+    match acked {
+        Acked::Faulted(_, _) => untold,
+        Acked::Quiet | Acked::Reported | Acked::Held | Acked::Stopped => None,
+    }
+}
+
+/// At how many acknowledgements the ticket that is out was taken, 0 where none is out.
+fn taken_at(bare: &Bare) -> u32
+    ensures { result ≡ taken_at bare.now.summary }
+{
+    bare.taken().unwrap_or(0)
+}
+
+/// The line of an epoch that begins now.
+fn begun_line(bare: &Bare) -> EpochLine
+    ensures { result ≡ begun_line bare.now.summary }
+{
+    EpochLine {
+        program: bare.program(),
+        at: bare.acks(),
+        cwnd: bare.cwnd(),
+    }
+}
+
+/// The line of the epoch that began after the one with this number, None exactly where none did.
+fn line_after(epoch: u32, bare: &Bare) -> Option<EpochLine>
+    ensures { result ≡ line_after epoch bare.now.summary }
+{
+    if epoch < bare.epoch() {
+        Some(begun_line(bare))
+    } else {
+        None
+    }
 }
 
 impl Core {
@@ -72,8 +115,14 @@ impl Core {
     pub fn new(alloc: Global, case: Case) -> Result<Core, NoMemory>
         ensures { IfOk result (λ core. core ≡ record { case = case; acks = []; word = [] }) }
     {
-        let state = State::open(alloc, case)?;
-        Ok(Core { state })
+        let bare = Bare::new(alloc, case)?;
+        match Journal::open(alloc, bare.case().acks, begun_line(&bare)) {
+            Ok(journal) => Ok(Core { bare, journal }),
+            Err(fault) => {
+                drop(bare);
+                Err(fault)
+            }
+        }
     }
 
     /// Takes an acknowledgement. Ended exactly where all of the case's acknowledgements are in; then nothing has
@@ -82,16 +131,18 @@ impl Core {
         ensures ended { IsErr result ↔ (self.old.case.acks ≤ length self.old.acks) }
         ensures ok { OnOk result (self.new ≡ with_ack self.old ack.entry.now) }
         ensures world { OnOk result (world_in self.new ≡ heard_in self.old ack.entry.now) }
-        ensures acked { IfOk result (λ acked. acked ≡ acked_in self.old ack.entry.now) }
+        ensures acked { IfOk result (λ acked. acked ≡ acked_with self.old ack.entry.now) }
         ensures steps { OnOk result (steps.new ≡ steps.old + ran_in self.old ack.entry.now) }
         ensures unchanged { OnErr result (self.new ≡ self.old) }
         ensures idle { OnErr result (steps.new ≡ steps.old) }
     {
-        if self.state.acks.len() >= self.state.case.acks as usize {
+        self.bare.range();
+        if self.bare.acks() >= self.bare.case().acks {
             return Err(Ended);
         }
-        let acked = self.state.hear(ack, steps);
-        self.state.word.push(Letter::A);
+        let acked = self.bare.ack(ack, steps);
+        let fault = new_notice(acked, self.bare.untold());
+        self.journal.put_ack(ack, fault);
         Ok(acked)
     }
 
@@ -106,13 +157,17 @@ impl Core {
         ensures ticket { IfOk result (λ ticket. out_in self.new ≡ Some ticket) }
         ensures unchanged { OnErr result (self.new ≡ self.old) }
     {
-        if let Some(ticket) = self.out() {
-            return Err(TakeFault::Out(ticket.number));
+        if let Some(number) = self.bare.out_number() {
+            return Err(TakeFault::Out(number));
         }
-        if !self.state.can_take() {
+        if !self.bare.may_take() {
             return Err(TakeFault::NotYet);
         }
-        Ok(self.state.take()?)
+        self.bare.range();
+        self.journal.reserve_lines()?;
+        let ticket = self.bare.take();
+        self.journal.put_take();
+        Ok(ticket)
     }
 
     /// Applies the answer to the ticket that is out. Stale exactly where the answer's ticket isn't that one; then
@@ -131,51 +186,79 @@ impl Core {
             let out = Some(ticket.number);
             return Err(Stale { answer, out });
         }
-        self.state.settle(&answer);
+        self.apply(&answer);
         Ok(())
+    }
+
+    /// Applies the answer to the ticket that is out.
+    fn apply(&mut self, answer: &Answer)
+        requires { out_in self.old ≡ Some answer.now }
+        ensures ok { self.new ≡ record self.old { word = self.old.word ++ Letter.C ∷ [] } }
+        ensures world { world_in self.new ≡ after_answer (flow_in self.old) (world_in self.old) }
+    {
+        self.bare.range();
+        let taken = taken_at(&self.bare);
+        let answered = self.bare.acks();
+        let epoch = self.bare.epoch();
+        self.bare.settle(answer);
+        let begun = line_after(epoch, &self.bare);
+        self.journal.put_answer(answer, taken, answered, begun);
     }
 
     /// The ticket that is out, None exactly where none is.
     pub fn out(&self) -> Option<Ticket>
         ensures { result ≡ out_in self.now }
     {
-        let issued = self.state.out.as_ref()?;
-        Some(self.state.ticket(&issued.told))
+        self.bare.out()
+    }
+
+    /// Whether a ticket is out.
+    pub fn has_out(&self) -> bool
+        ensures { result ≡ is_legal (flow_in self.now) (world_in self.now) Letter.C }
+    {
+        self.bare.has_out()
+    }
+
+    /// Whether a ticket may be taken: none is out, and a report waits or a notice is untold.
+    pub fn may_take(&self) -> bool
+        ensures { result ≡ is_legal (flow_in self.now) (world_in self.now) Letter.T }
+    {
+        self.bare.may_take()
     }
 
     /// The present congestion window, in bytes.
     pub fn cwnd(&self) -> u64
         ensures { result ≡ (track_of (flow_in self.now) (world_in self.now)).env.cwnd }
     {
-        self.state.machine.cwnd()
+        self.bare.cwnd()
     }
 
     /// How many acknowledgements are in.
     pub fn acks(&self) -> u32
         ensures { result ≡ length self.now.acks }
     {
-        self.state.acks.len() as u32
+        self.bare.acks()
     }
 
     /// The last acknowledgement, None exactly where there is none.
     pub fn last(&self) -> Option<Ack>
         ensures { result ≡ slice_get self.now.acks (length self.now.acks - 1) }
     {
-        self.state.acks.last().copied()
+        self.journal.acks.last().copied()
     }
 
     /// How many reports wait.
     pub fn waiting(&self) -> u32
         ensures { result ≡ length (world_in self.now).waiting }
     {
-        self.state.outbox.waiting()
+        self.bare.waiting()
     }
 
     /// Whether no ticket is out and nothing can be taken.
     pub fn is_still(&self) -> bool
         ensures { result ≡ is_still (world_in self.now) }
     {
-        self.state.out.is_none() && !self.state.can_take()
+        self.bare.is_idle()
     }
 
     /// The flow's case, for which each letter of the word is legal at its point.
@@ -183,7 +266,7 @@ impl Core {
         ensures case { result.now ≡ self.now.case }
         ensures legal { legal_over (flow_in self.now) self.now.acks self.now.word ≡ true }
     {
-        &self.state.case
+        self.bare.case()
     }
 
     /// What the history came to. No ticket may be out, and nothing may be left to take.
@@ -195,19 +278,22 @@ impl Core {
         ensures legal { legal_over (flow_in self) self.acks self.word ≡ true }
         ensures book { IsBookOf (flow_in self) (world_in self) result.book }
     {
-        let state = self.state;
+        let held = self.bare.held();
+        let first = self.bare.first();
+        let journal = self.journal;
+        let (case, machine) = self.bare.into_parts();
         Given {
             book: Book {
-                case: state.case,
-                word: state.word.into_sequence(),
-                tickets: state.tickets.into_sequence(),
-                epochs: state.epochs.into_sequence(),
-                faults: state.faults.into_sequence(),
-                held: state.held,
-                first: state.first,
-                machine: state.machine,
+                case,
+                word: journal.word.into_sequence(),
+                tickets: journal.tickets.into_sequence(),
+                epochs: journal.epochs.into_sequence(),
+                faults: journal.faults.into_sequence(),
+                held,
+                first,
+                machine,
             },
-            acks: state.acks.into_sequence(),
+            acks: journal.acks.into_sequence(),
         }
     }
 }

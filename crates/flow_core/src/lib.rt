@@ -1,20 +1,21 @@
 //! One flow: its programs' machine, its outbox, its agent and its link, and its history as a word of letters.
 #![tactic(auto)]
 
+mod bare;
 mod book;
 mod case;
 mod cell;
 mod cores;
-mod hearing;
+mod journal;
+mod laws;
 mod letter;
+mod machine_calls;
 mod opening;
 mod outbox;
 mod report_words;
 mod roomy;
-mod settling;
-mod state;
-mod taking;
 
+pub use bare::Bare;
 pub use book::{Book, EpochLine, Given, TicketLine};
 pub use case::{Case, Coded};
 pub use cell::Cell;

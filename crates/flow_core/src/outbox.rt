@@ -4,7 +4,7 @@ ghost use Rattle.ccp_base.specs.Limits.{most_slots};
 ghost use Rattle.ccp_base.specs.declared.exchange.Report.{Report};
 ghost use Rattle.slot_pool.specs.Pool.{words_at, free_of, ChangesSlot};
 ghost use Rattle.flow_core.specs.Outbox.{empty_outbox, most_report_words, AreOwned, AreWide, AreAsMany, Gains};
-ghost use Rattle.flow_core.specs.Outbox.{LosesFirst, ChangesOnly, newest, GivesFirst, IsToldNext, untold_after};
+ghost use Rattle.flow_core.specs.Outbox.{LosesFirst, ChangesOnly, newest, GivesFirst, IsToldNext, notice_left};
 
 use crate::report_words::{store, unload};
 use ccp_base::{NoMemory, Notice, Report, Told};
@@ -68,6 +68,13 @@ impl Outbox {
         self.waiting.is_empty() && self.untold.is_none()
     }
 
+    /// The notice that is untold, or none.
+    pub fn untold(&self) -> Option<Notice>
+        ensures { result ≡ self.now.untold }
+    {
+        self.untold
+    }
+
     /// Puts a report at the end, into a slot that it takes. There must be room, and a free slot.
     pub fn push<P: Slots>(&mut self, slots: &mut P, report: &Report)
         requires room { length self.old.slots < self.old.size }
@@ -105,7 +112,7 @@ impl Outbox {
         ensures number { (P.pool slots.new).slots ≡ (P.pool slots.old).slots }
         ensures words { (P.pool slots.new).words ≡ (P.pool slots.old).words }
         ensures rest { P.rest slots.new ≡ P.rest slots.old }
-        ensures untold { self.new.untold ≡ untold_after self.old.slots self.old.untold }
+        ensures untold { self.new.untold ≡ notice_left self.old.slots self.old.untold }
         ensures size { self.new.size ≡ self.old.size }
     {
         if let Some(slot) = self.waiting.pop_front() {

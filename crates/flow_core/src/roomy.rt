@@ -79,6 +79,7 @@ impl<T: Drop> Roomy<T> {
         requires { length self.old.items < self.old.room }
         ensures items { self.new.items ≡ self.old.items ++ item ∷ [] }
         ensures room { self.new.room ≡ self.old.room }
+        ensures whole { self.new ≡ record self.old { items = self.old.items ++ item ∷ [] } }
     {
         self.items.push_reserved(item);
     }

@@ -1,28 +1,31 @@
-use Rattle.std.proofs.Common.{◌<◌, length, ap, sym, ◌∙◌, subst, arith}
-use Rattle.flow_core.specs.declared.state.State.{State}
-use Rattle.flow_core.specs.World.{after_ack}
-use Rattle.flow_core.specs.Cores.{CoreState, flow_in, world_in}
-use Rattle.flow_core.specs.States.{HasLines}
+use Rattle.std.proofs.Common.{◌≡◌, ◌<◌, ap, sym, ◌∙◌, subst, arith}
+use Rattle.flow_core.specs.declared.case.Case.{Case}
+use Rattle.flow_core.specs.Readings.{over_codes}
+use Rattle.flow_core.specs.Cores.{CoreState, heard_in}
+use Rattle.flow_core.specs.Summaries.{step_ack}
+use Rattle.flow_core.specs.Bares.{BareState}
+use Rattle.flow_core.specs.Journals.{new_notice, world_by, IsCore}
 use Rattle.flow_core.proofs.CoreLemmas.{world-A, core-A}
 use Rattle.flow_core.proofs.cores.Core.ack.Goals as goal
 
 pub invariant_of-self : goal.invariant_of-self
 invariant_of-self g c =
-    let s = c.self.inside.state in
-    let new = c.hear-acked.new.self in
-    let frame = c.hear-acked.ensures.frame in
-    let left : length s.acks.items < s.case.acks = omega (arith, c.if-len-self.false, c.len.ensures.len) in
-    core-A s new c.push.new.self c.self.invariant (ap (λ (p : State). p.case) frame) (ap (λ (p : State). p.word) frame) c.hear-acked.ensures.ready c.push.ensures.room
-    c.args.ack.now left c.hear-acked.ensures.keeps c.hear-acked.ensures.acks c.push.ensures.items
-    (subst (λ (p : State). HasLines p.out p.tickets p.epochs) (sym frame) c.self.invariant.lines)
+    let bare = c.self.inside.bare in
+    let j = c.self.inside.journal in
+    let most : c.case.result.now.acks ≡ bare.case.acks = ap (λ (case : Case). case.acks) c.case.ensures in
+    let left : bare.summary.acks < bare.case.acks = omega (arith, c.if-acks-case.false, c.acks.ensures, most) in
+    let fault = c.new_notice-fault.ensures ∙ (λ i. new_notice (c.ack-acked.ensures.acked i) ((c.untold.ensures ∙ (λ k. (c.ack-acked.ensures.step k).summary.untold)) i)) in
+    subst (λ (b : BareState). IsCore b c.put_ack.new.self) (sym c.ack-acked.ensures.step)
+    (subst (IsCore (record bare { summary = step_ack (over_codes bare.case) c.args.ack.now bare.summary })) (sym c.put_ack.ensures)
+    (core-A bare j c.self.invariant c.args.ack.now left c.new_notice-fault.result fault))
 
 pub returns-clause-world : goal.returns-clause-world
 returns-clause-world g c =
-    let s = c.self.inside.state in
-    let new = c.hear-acked.new.self in
-    let frame = c.hear-acked.ensures.frame in
-    let left : length s.acks.items < s.case.acks = omega (arith, c.if-len-self.false, c.len.ensures.len) in
-    world-A s new c.push.new.self c.self.invariant (ap (λ (p : State). p.case) frame) (ap (λ (p : State). p.word) frame) c.hear-acked.ensures.ready c.push.ensures.room
-    c.args.ack.now left c.hear-acked.ensures.keeps c.hear-acked.ensures.acks c.push.ensures.items
-    (subst (λ (p : State). HasLines p.out p.tickets p.epochs) (sym frame) c.self.invariant.lines)
-    ∙ ap (λ (core : CoreState). after_ack (flow_in core) c.args.ack.now (world_in core)) c.self.view_is
+    let bare = c.self.inside.bare in
+    let j = c.self.inside.journal in
+    let most : c.case.result.now.acks ≡ bare.case.acks = ap (λ (case : Case). case.acks) c.case.ensures in
+    let left : bare.summary.acks < bare.case.acks = omega (arith, c.if-acks-case.false, c.acks.ensures, most) in
+    let fault = c.new_notice-fault.ensures ∙ (λ i. new_notice (c.ack-acked.ensures.acked i) ((c.untold.ensures ∙ (λ k. (c.ack-acked.ensures.step k).summary.untold)) i)) in
+    (λ i. world_by (c.ack-acked.ensures.step i) (c.put_ack.ensures i))
+    ∙ world-A bare j c.self.invariant c.args.ack.now left c.new_notice-fault.result fault
+    ∙ ap (λ (core : CoreState). heard_in core c.args.ack.now) c.self.view_is

@@ -1,0 +1,177 @@
+-- What is kept after an answer is the summary after it.
+use Rattle.std.specs.Prelude.{◌≡◌, ◌+◌, ◌≤◌, Option, Some, None, option_map, unwrap_or, List, length, refl}
+use Rattle.std.proofs.Common.{ap, sym, ◌∙◌, subst, arith}
+use Rattle.std.proofs.lemmas.Option.{none-some}
+use Rattle.ccp_base.specs.FieldReg.{Pair}
+use Rattle.ccp_base.specs.declared.exchange.Reply.{Reply}
+use Rattle.ccp_base.specs.declared.exchange.Reply.TheVariants.{Nothing, Update, Change}
+use Rattle.ccp_base.specs.declared.exchange.Told.{Told}
+use Rattle.ccp_base.specs.declared.exchange.Told.TheVariants as said
+use Rattle.portus_core.specs.Epoch as epoch
+use Rattle.reg_code.specs.CodeStart.{with_values, declared_kept}
+use Rattle.fold_machine.specs.MachineState.{MachineState, Fits}
+use Rattle.slot_pool.specs.Pool.{PoolState, free_of}
+use Rattle.agent_core.specs.declared.agent.Agent.{Agent}
+use Rattle.agent_core.specs.declared.ticket.Ticket.{Ticket}
+use Rattle.agent_core.specs.Agents.{course_of, replied, values_of}
+use Rattle.agent_core.specs.Answers.{after_of, reply_of}
+use Rattle.agent_core.specs.RoleLaws.{AreRoles, roles-kept}
+use Rattle.flow_core.specs.declared.bare.BareParts.{BareParts}
+use Rattle.flow_core.specs.declared.case.Case.{Case}
+use Rattle.flow_core.specs.declared.bare.Issued.{Issued}
+use Rattle.flow_core.specs.Readings.{env_of, code_at, over_codes}
+use Rattle.flow_core.specs.LiveText.{reports_told}
+use Rattle.flow_core.specs.Outbox.{Lies}
+use Rattle.flow_core.specs.States.{some_count}
+use Rattle.flow_core.specs.Summaries.{Summary, step_reply, step_out, step_answer}
+use Rattle.flow_core.specs.Bares.{reports_in, summary_by, told_ticket, InRange, IsBare, closed_parts, ObeysBare}
+use Rattle.flow_core.proofs.ValueLemmas.{values-alike}
+
+-- ---- a reply is obeyed
+
+pub summary-obeyed : (s new : BareParts) (agent : Agent) (reply : Reply) → ObeysBare s new reply (values_of agent reply)
+    → summary_by new ≡ step_reply (over_codes s.case) agent reply (summary_by s)
+summary-obeyed s new agent Nothing obeys = ap summary_by obeys
+summary-obeyed s new agent (Update cwnd) obeys =
+    ap summary_by obeys.frame
+    ∙ (λ i. record (summary_by s) { track = record (summary_by s).track { env = values-alike (values_of agent (Update cwnd)) s.machine.kept i } })
+summary-obeyed s new agent (Change program cwnd cap_value) obeys =
+    let values = values_of agent (Change program cwnd cap_value) in
+    let code = code_at s.case program in
+    let env : env_of new.machine.kept ≡ epoch.with_values values (env_of (declared_kept code s.machine.kept.cwnd s.machine.kept.rate s.time)) =
+    ap (λ (m : MachineState). env_of m.kept) obeys.machine
+    ∙ values-alike values (declared_kept code s.machine.kept.cwnd s.machine.kept.rate s.time) in
+    ap summary_by obeys.frame
+    ∙ (λ i. record (summary_by s) {
+      program = program;
+      epoch = s.epoch + 1;
+      track = record { env = env i; is_stopped = (obeys.machine i).is_stopped; first = s.acks; count = s.acks };
+      waiting = reports_in (obeys.machine i).further s.outbox.slots;
+      untold = None;
+    })
+
+-- ---- what holds whatever the history
+
+told-most : (told : Told) → reports_told told ≤ 1
+told-most (said.Report report) = omega arith
+told-most (said.Fault notice) = omega arith
+
+-- the counts once the ticket that is out was answered
+range-closed : (case : Case) (s : Summary) (issued : Issued) (agent : Agent) → s.out ≡ Some issued
+    → AreRoles case.ss.role case.ca.role (course_of agent) → InRange case s
+    → InRange case (record s { agent = agent; out = None; answered = s.answered + 1; told = s.told + reports_told issued.told })
+range-closed case s issued agent out roles range = record {
+  ss = roles.ss_same;
+  ca = roles.ca_same;
+  acks = range.acks;
+  tickets = let before = range.tickets in let one = ap some_count out in omega (arith, before, one);
+  epochs = let before = range.epochs in omega (arith, before);
+  told = let before = range.told in omega (arith, before, told-most issued.told);
+  faults = range.faults;
+  held = range.held;
+}
+
+module _ (s : BareParts) (parts : IsBare s) (issued : Issued) (ticket : Ticket)
+    (out : s.out ≡ Some issued) (before : ticket.before ≡ s.agent) (told : ticket.told ≡ issued.told) where
+  -- the agent and its reply
+  turn-same : replied ticket.before ticket.told ≡ replied s.agent issued.told
+  turn-same = λ i. replied (before i) (told i)
+
+  roles-after : AreRoles s.case.ss.role s.case.ca.role (course_of (after_of ticket))
+  roles-after =
+      roles-kept s.case.ss.role s.case.ca.role ticket.before ticket.told
+      (subst (λ (agent : Agent). AreRoles s.case.ss.role s.case.ca.role (course_of agent)) (sym before) (record { ss_same = parts.range.ss; ca_same = parts.range.ca }))
+
+  abbrev closed : BareParts
+  closed = closed_parts ticket s
+
+  module _ (new : BareParts) (obeys : ObeysBare closed new (reply_of ticket) (values_of s.agent (reply_of ticket))) where
+    step-by : summary_by new ≡ step_out (over_codes s.case) (Some issued) (summary_by s)
+    step-by =
+        summary-obeyed closed new s.agent (reply_of ticket) obeys
+        ∙ (λ i. step_reply (over_codes s.case) s.agent (turn-same i).1
+        (record (summary_by s) { agent = (turn-same i).0; out = None; answered = s.answered + 1; told = s.told + reports_told (told i) }))
+
+    pub step-settled : summary_by new ≡ step_answer (over_codes s.case) (summary_by s)
+    step-settled = step-by ∙ ap (λ (o : Option Issued). step_out (over_codes s.case) o (summary_by s)) (sym out)
+
+  range-after : InRange s.case (summary_by closed)
+  range-after =
+      subst (λ (t : Told). InRange s.case (record (summary_by s) { agent = after_of ticket; out = None; answered = s.answered + 1; told = s.told + reports_told t })) (sym told)
+      (range-closed s.case (summary_by s) issued (after_of ticket) out roles-after parts.range)
+
+  pub is-settled : (new : BareParts) (reply : Reply) (values : List Pair) → ObeysBare closed new reply values → IsBare new
+  is-settled new Nothing values obeys =
+      let whole : IsBare closed = record {
+        fits = parts.fits;
+        words = parts.words;
+        free = parts.free;
+        size = parts.size;
+        lies = parts.lies;
+        range = range-after;
+      } in
+      subst IsBare (sym obeys) whole
+  is-settled new (Update cwnd) values obeys =
+      let literal : BareParts = record closed { machine = record s.machine { kept = with_values values s.machine.kept } } in
+      let range = range-after in
+      let whole : IsBare literal = record {
+        fits = subst (λ (p : BareParts). Fits p.machine (code_at s.case s.program)) obeys.frame obeys.fits;
+        words = parts.words;
+        free = parts.free;
+        size = parts.size;
+        lies = parts.lies;
+        range = record { ss = range.ss; ca = range.ca; acks = range.acks; tickets = range.tickets; epochs = range.epochs; told = range.told; faults = range.faults; held = range.held };
+      } in
+      subst IsBare (sym obeys.frame) whole
+  is-settled new (Change program cwnd cap_value) values obeys =
+      let further : new.machine.further ≡ s.machine.further = ap (λ (m : MachineState). m.further) obeys.machine in
+      let literal : BareParts = record closed { machine = new.machine; program = program; epoch = s.epoch + 1; first = s.acks; outbox = record s.outbox { untold = None } } in
+      let range = range-after in
+      let epochs = parts.range.epochs in
+      let tickets = range.tickets in
+      let waiting : length (reports_in new.machine.further s.outbox.slots) ≡ length (reports_in s.machine.further s.outbox.slots) =
+      ap (λ (pool : PoolState). length (reports_in pool s.outbox.slots)) further in
+      let whole : IsBare literal = record {
+        fits = obeys.fits;
+        words = ap (λ (pool : PoolState). pool.words) further ∙ parts.words;
+        free = ap (λ (pool : PoolState). free_of pool + length s.outbox.slots) further ∙ parts.free;
+        size = parts.size;
+        lies = subst (λ (pool : PoolState). Lies pool s.outbox.slots (reports_in pool s.outbox.slots)) (sym further) parts.lies;
+        range = record {
+          ss = range.ss;
+          ca = range.ca;
+          acks = range.acks;
+          tickets = omega (arith, tickets, waiting);
+          epochs = omega (arith, epochs);
+          told = range.told;
+          faults = range.faults;
+          held = range.held;
+        };
+      } in
+      subst IsBare (sym obeys.frame) whole
+
+-- ---- by the ticket that is out
+
+-- the ticket that is out, by what is kept
+pub record Out (s : BareParts) (ticket : Ticket) : Type 0 where
+  pub issued : Issued
+  pub out : s.out ≡ Some issued
+  pub before : ticket.before ≡ s.agent
+  pub told : ticket.told ≡ issued.told
+
+pub is-out : (s : BareParts) (ticket : Ticket) → told_ticket s.case (summary_by s) ≡ Some ticket → Out s ticket
+is-out s ticket is = by s.out refl where
+  ticket_for : Issued → Ticket
+  ticket_for issued = record { flow = s.case.flow; number = s.answered; before = s.agent; told = issued.told }
+
+  by : (out : Option Issued) → s.out ≡ out → Out s ticket
+  by None none = absurd (none-some ticket (sym (ap (option_map ticket_for) none) ∙ is))
+  by (Some issued) some =
+      let same : Some (ticket_for issued) ≡ Some ticket = sym (ap (option_map ticket_for) some) ∙ is in
+      let equal : ticket_for issued ≡ ticket = ap (λ (o : Option Ticket). unwrap_or o ticket) same in
+      record {
+        issued = issued;
+        out = some;
+        before = sym (ap (λ (t : Ticket). t.before) equal);
+        told = sym (ap (λ (t : Ticket). t.told) equal);
+      }

@@ -1,0 +1,20 @@
+use Rattle.flow_core.specs.Bares.{reports_in}
+use Rattle.flow_core.proofs.BareLemmas.{is-taken, summary-taken}
+use Rattle.flow_core.proofs.bare.BareParts.take.Goals as goal
+
+pub returns-clause-parts : goal.returns-clause-parts
+returns-clause-parts c =
+    let s = c.args.self.now in
+    let lies = c.requires.parts.lies in
+    let reports = reports_in s.machine.further s.outbox.slots in
+    is-taken s c.pop_told.new.machine c.pop_told.new.outbox c.in-Some.told c.in-Some.ensures.machine
+    (c.in-Some.ensures.told reports lies) (c.in-Some.ensures.lies reports lies) c.in-Some.ensures.untold
+    c.requires.parts c.requires.none_out c.requires.some c.in-Some.ensures.words c.in-Some.ensures.free c.in-Some.ensures.size
+
+pub returns-clause-step : goal.returns-clause-step
+returns-clause-step c =
+    let s = c.args.self.now in
+    let lies = c.requires.parts.lies in
+    let reports = reports_in s.machine.further s.outbox.slots in
+    summary-taken s c.pop_told.new.machine c.pop_told.new.outbox c.in-Some.told c.in-Some.ensures.machine
+    (c.in-Some.ensures.told reports lies) (c.in-Some.ensures.lies reports lies) c.in-Some.ensures.untold

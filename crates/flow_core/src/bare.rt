@@ -1,0 +1,538 @@
+//! What later letters of a flow depend on, without its history.
+ghost use Rattle.std.specs.Prelude.{◌≡◌, ◌+◌, ◌<◌, length, true, None, Some, option_map, IfOk};
+ghost use Rattle.ccp_base.specs.FieldReg.{first_bad};
+ghost use Rattle.ccp_base.specs.Limits.{most_acks};
+ghost use Rattle.portus_core.specs.Epoch.{reported, failed};
+ghost use Rattle.slot_pool.specs.Pool.{free_of};
+ghost use Rattle.fold_machine.specs.MachineState.{Fits};
+ghost use Rattle.flow_core.specs.Readings.{env_of, code_at, over_codes};
+ghost use Rattle.flow_core.specs.World.{opening};
+ghost use Rattle.flow_core.specs.Cores.{acked_as};
+ghost use Rattle.flow_core.specs.LiveText.{reports_told};
+ghost use Rattle.flow_core.specs.States.{outcome_by};
+ghost use Rattle.flow_core.specs.Summaries.{summary, step_ack, step_take, step_answer, outcome_at};
+ghost use Rattle.flow_core.specs.Summaries.{can_tell, may_make, is_idle, is_done};
+ghost use Rattle.flow_core.specs.Bares.{IsFirst, AreGood, InRange, closed_parts, UpdatesBare, ChangesBare, ObeysBare};
+ghost use Rattle.flow_core.specs.Bares.{summary_by, told_ticket, instructions_at, IsBare, CanNote, HasSpace, NotesBare};
+
+use crate::case::Case;
+use crate::letter::Letter;
+use crate::machine_calls::{pop_told, put_report, run};
+use crate::opening::opening_machine;
+use crate::outbox::Outbox;
+use agent_core::{Agent, Answer, Ticket};
+use ccp_base::{Ack, FaultKind, Fields, NoMemory, Notice, Reply, Report, Told};
+use fold_machine::{Acked, Machine, Steps};
+use std::alloc::Global;
+use std::marker::Model;
+use std::sync::ledger::Ledger;
+
+/// What the ticket that is out tells, and at how many acknowledgements it was taken.
+#[derive(Clone, Copy, Drop)]
+pub(crate) struct Issued {
+    pub(crate) told: Told,
+    pub(crate) taken: u32,
+}
+
+/// What later letters depend on, part by part.
+#[derive(Drop)]
+pub(crate) struct BareParts {
+    pub(crate) case: Case,
+    /// It runs the present epoch's program. Its further slots are the outbox's.
+    pub(crate) machine: Machine,
+    /// The present epoch's program, by its number.
+    pub(crate) program: u32,
+    /// The present epoch's number, from 0.
+    pub(crate) epoch: u32,
+    /// The number of acknowledgements at which the unreported span begins.
+    pub(crate) first: u64,
+    /// How many acknowledgements are in.
+    pub(crate) acks: u32,
+    /// The time of the last acknowledgement in microseconds, 0 where there is none.
+    pub(crate) time: u64,
+    pub(crate) outbox: Outbox,
+    pub(crate) agent: Agent,
+    pub(crate) out: Option<Issued>,
+    /// How many tickets were answered.
+    pub(crate) answered: u32,
+    /// How many of them had a report.
+    pub(crate) told: u32,
+    /// How many faults there were.
+    pub(crate) faults: u32,
+    /// How many reports were asked for while there was no room.
+    pub(crate) held: u32,
+}
+
+/// What a flow has beside its case before its first letter.
+#[derive(Drop)]
+struct First {
+    machine: Machine,
+    program: u32,
+    outbox: Outbox,
+}
+
+impl First {
+    /// What a flow of this case has.
+    fn of(alloc: Global, case: &Case) -> Result<First, NoMemory>
+        ensures { IfOk result (IsFirst case.now) }
+    {
+        let program = case.agent.course().ss.number;
+        let outbox = Outbox::new(alloc, case.slots)?;
+        let machine = opening_machine(alloc, case, program)?;
+        Ok(First {
+            machine,
+            program,
+            outbox,
+        })
+    }
+}
+
+impl BareParts {
+    /// A flow without a letter.
+    fn open(alloc: Global, case: Case) -> Result<BareParts, NoMemory>
+        ensures parts { IfOk result IsBare }
+        ensures case { IfOk result (λ s. s.case ≡ case) }
+        ensures summary { IfOk result (λ s. summary_by s ≡ summary (over_codes case) (opening (over_codes case))) }
+    {
+        match First::of(alloc, &case) {
+            Ok(first) => Ok(BareParts::opened(case, first)),
+            Err(fault) => {
+                drop(case);
+                Err(fault)
+            }
+        }
+    }
+
+    /// A flow of this case that has this before its first letter.
+    fn opened(case: Case, first: First) -> BareParts
+        requires { IsFirst case first }
+        ensures parts { IsBare result }
+        ensures case { result.case ≡ case }
+        ensures summary { summary_by result ≡ summary (over_codes case) (opening (over_codes case)) }
+    {
+        let agent = case.agent;
+        BareParts {
+            case,
+            machine: first.machine,
+            program: first.program,
+            epoch: 0,
+            first: 0,
+            acks: 0,
+            time: 0,
+            outbox: first.outbox,
+            agent,
+            out: None,
+            answered: 0,
+            told: 0,
+            faults: 0,
+            held: 0,
+        }
+    }
+
+    /// Takes the oldest report, or else the notice, as a ticket. One must be there, and no ticket may be out.
+    pub(crate) fn take(&mut self) -> Ticket
+        requires parts { IsBare self.old }
+        requires none_out { self.old.out ≡ None }
+        requires some { can_tell (summary_by self.old) ≡ true }
+        ensures parts { IsBare self.new }
+        ensures case { self.new.case ≡ self.old.case }
+        ensures step { summary_by self.new ≡ step_take (summary_by self.old) }
+        ensures ticket { told_ticket self.old.case (summary_by self.new) ≡ Some result }
+    {
+        let Some(told) = pop_told(&mut self.machine, &mut self.outbox) else {
+            unreachable!()
+        };
+        let ticket = self.ticket(&told);
+        let taken = self.acks;
+        self.out = Some(Issued { told, taken });
+        ticket
+    }
+
+    /// Takes an acknowledgement. One must be left.
+    pub(crate) fn hear<L: Ledger>(&mut self, ack: &Ack, steps: &mut Steps<L>) -> Acked
+        requires parts { IsBare self.old }
+        requires left { self.old.acks < self.old.case.acks }
+        ensures parts { IsBare self.new }
+        ensures case { self.new.case ≡ self.old.case }
+        ensures step { summary_by self.new ≡ step_ack (over_codes self.old.case) ack.entry.now (summary_by self.old) }
+        ensures acked { result ≡ acked_as (outcome_at (over_codes self.old.case) ack.entry.now (summary_by self.old)).0 }
+        ensures steps { steps.new ≡ steps.old + instructions_at self.old.case ack.entry.now (summary_by self.old) }
+    {
+        let room = self.outbox.room();
+        let code = self.case.code(self.program);
+        let acked = run(&mut self.machine, code, ack, room, steps);
+        self.put_down(ack, acked);
+        self.acks += 1;
+        self.time = ack.now;
+        acked
+    }
+
+    /// Puts down what an acknowledgement came to, by the machine's answer.
+    fn put_down(&mut self, ack: &Ack, acked: Acked)
+        requires can { CanNote self.old }
+        requires acks { self.old.acks < most_acks }
+        requires room { acked ≡ Acked.Reported → HasSpace self.old }
+        ensures { NotesBare self.old self.new ack.entry.now (outcome_by acked self.old.machine.report) }
+    {
+        match acked {
+            Acked::Quiet | Acked::Stopped => {}
+            Acked::Reported => self.put_down_report(ack),
+            Acked::Held => self.held += 1,
+            Acked::Faulted(kind, index) => self.put_down_fault(ack, kind, index),
+        }
+    }
+
+    /// Puts down the report that the machine made.
+    fn put_down_report(&mut self, ack: &Ack)
+        requires can { CanNote self.old }
+        requires acks { self.old.acks < most_acks }
+        requires room { length self.old.outbox.slots < self.old.outbox.size }
+        requires free { 0 < free_of self.old.machine.further }
+        ensures { NotesBare self.old self.new ack.entry.now (reported self.old.machine.report) }
+    {
+        let end = u64::from(self.acks) + 1;
+        let report = Report {
+            flow: self.case.flow,
+            program: self.program,
+            epoch: self.epoch,
+            first: self.first,
+            end,
+            now: ack.now,
+            cwnd: self.machine.cwnd(),
+            rate: self.machine.rate(),
+            fields: self.machine.reported(),
+        };
+        put_report(&mut self.machine, &mut self.outbox, &report);
+        self.first = end;
+    }
+
+    /// Puts down a fault of this kind at the instruction with this index.
+    fn put_down_fault(&mut self, ack: &Ack, kind: FaultKind, index: u16)
+        requires { CanNote self.old }
+        ensures { NotesBare self.old self.new ack.entry.now (failed (kind, index)) }
+    {
+        let notice = Notice {
+            flow: self.case.flow,
+            program: self.program,
+            epoch: self.epoch,
+            at: u64::from(self.acks),
+            kind,
+            index,
+            now: ack.now,
+            cwnd: self.machine.cwnd(),
+        };
+        self.faults += 1;
+        self.outbox.note(notice);
+    }
+
+    /// Applies the answer to the ticket that is out.
+    pub(crate) fn settle(&mut self, answer: &Answer)
+        requires parts { IsBare self.old }
+        requires out { told_ticket self.old.case (summary_by self.old) ≡ Some answer.now }
+        ensures parts { IsBare self.new }
+        ensures case { self.new.case ≡ self.old.case }
+        ensures step { summary_by self.new ≡ step_answer (over_codes self.old.case) (summary_by self.old) }
+    {
+        let reply = answer.reply();
+        let values = self.agent.values(&reply);
+        self.close(answer);
+        self.obey(&reply, &values);
+    }
+
+    /// Puts down that the ticket that is out was answered.
+    fn close(&mut self, answer: &Answer)
+        requires answered { self.old.answered < most_acks }
+        requires told { self.old.told < most_acks }
+        ensures { self.new ≡ closed_parts answer.now self.old }
+    {
+        let reports = reports_told(&answer.ticket().told);
+        self.agent = *answer.after();
+        self.out = None;
+        self.answered += 1;
+        self.told += reports;
+    }
+
+    /// Does what a reply says, which writes these values.
+    fn obey(&mut self, reply: &Reply, values: &Fields)
+        requires fits { Fits self.old.machine (code_at self.old.case self.old.program) }
+        requires good { AreGood self.old.case self.old.program reply.now values.now }
+        requires epoch { self.old.epoch < most_acks }
+        ensures { ObeysBare self.old self.new reply.now values.now }
+    {
+        match *reply {
+            Reply::Nothing => {}
+            Reply::Update(_) => self.update(values),
+            Reply::Change { program, .. } => self.change(program, values),
+        }
+    }
+
+    /// Writes an update's values.
+    fn update(&mut self, values: &Fields)
+        requires fits { Fits self.old.machine (code_at self.old.case self.old.program) }
+        requires good { first_bad (length (code_at self.old.case self.old.program).controls) values.now ≡ None }
+        ensures { UpdatesBare self.old self.new values.now }
+    {
+        let code = self.case.code(self.program);
+        let Ok(()) = self.machine.update(code, values) else {
+            unreachable!()
+        };
+    }
+
+    /// Starts the program with this number, and with it an epoch. An untold notice is void then.
+    fn change(&mut self, program: u32, values: &Fields)
+        requires good { first_bad (length (code_at self.old.case program).controls) values.now ≡ None }
+        requires epoch { self.old.epoch < most_acks }
+        ensures { ChangesBare self.old self.new program values.now }
+    {
+        let code = self.case.code(program);
+        let Ok(()) = self.machine.start(code, values, self.time) else {
+            unreachable!()
+        };
+        self.program = program;
+        self.epoch += 1;
+        self.first = u64::from(self.acks);
+        self.outbox.void();
+    }
+
+    /// Whether a report waits or a notice is untold.
+    fn can_take(&self) -> bool
+        ensures { result ≡ can_tell (summary_by self.now) }
+    {
+        !self.outbox.is_empty()
+    }
+
+    /// The ticket that tells this.
+    fn ticket(&self, told: &Told) -> Ticket
+        ensures { result ≡ record { flow = self.now.case.flow; number = self.now.answered; before = self.now.agent; told = told.now } }
+    {
+        Ticket {
+            flow: self.case.flow,
+            number: self.answered,
+            before: self.agent,
+            told: *told,
+        }
+    }
+}
+
+/// How many reports something that is told is: one or none.
+fn reports_told(told: &Told) -> u32
+    ensures { result ≡ reports_told told.now }
+{
+    match told {
+        Told::Report(_) => 1,
+        Told::Fault(_) => 0,
+    }
+}
+
+/// A flow without its history and its link.
+#[derive(Drop)]
+pub struct Bare {
+    parts: BareParts,
+}
+
+impl Model for Bare {
+    ghost use Rattle.flow_core.specs.Bares.{BareState, summary_by};
+
+    ghost Value = { BareState };
+
+    ghost use Rattle.flow_core.specs.Bares.{IsBare};
+
+    ghost view = { λ b. record { case = b.parts.case; summary = summary_by b.parts } };
+
+    ghost invariant = { λ b. IsBare b.parts };
+}
+
+impl Bare {
+    /// A flow without a letter. The outbox is reserved here.
+    pub fn new(alloc: Global, case: Case) -> Result<Bare, NoMemory>
+        ensures { IfOk result (λ bare. bare ≡ record { case = case; summary = summary (over_codes case) (opening (over_codes case)) }) }
+    {
+        let parts = BareParts::open(alloc, case)?;
+        Ok(Bare { parts })
+    }
+
+    /// The flow's case.
+    pub fn case(&self) -> &Case
+        ensures { result.now ≡ self.now.case }
+    {
+        &self.parts.case
+    }
+
+    /// How many acknowledgements are in.
+    pub fn acks(&self) -> u32
+        ensures { result ≡ self.now.summary.acks }
+    {
+        self.parts.acks
+    }
+
+    /// The counts are in range.
+    pub(crate) fn range(&self)
+        ensures { InRange self.now.case self.now.summary }
+    {
+        let _ = &self.parts;
+    }
+
+    /// The number of the program that runs.
+    pub fn program(&self) -> u32
+        ensures { result ≡ self.now.summary.program }
+    {
+        self.parts.program
+    }
+
+    /// How many reports wait.
+    pub fn waiting(&self) -> u32
+        ensures { result ≡ length self.now.summary.waiting }
+    {
+        self.parts.outbox.waiting()
+    }
+
+    /// The fault notice that is untold, or none.
+    pub fn untold(&self) -> Option<Notice>
+        ensures { result ≡ self.now.summary.untold }
+    {
+        self.parts.outbox.untold()
+    }
+
+    /// The present congestion window, in bytes.
+    pub fn cwnd(&self) -> u64
+        ensures { result ≡ self.now.summary.track.env.cwnd }
+    {
+        self.parts.machine.cwnd()
+    }
+
+    /// The time of the last acknowledgement in microseconds, 0 where there is none.
+    pub fn time(&self) -> u64
+        ensures { result ≡ self.now.summary.time }
+    {
+        self.parts.time
+    }
+
+    /// The number of the present epoch, 0 for the opening one.
+    pub fn epoch(&self) -> u32
+        ensures { result ≡ self.now.summary.epoch }
+    {
+        self.parts.epoch
+    }
+
+    /// The number of acknowledgements at which the unreported span begins.
+    pub fn first(&self) -> u64
+        ensures { result ≡ self.now.summary.track.first }
+    {
+        self.parts.first
+    }
+
+    /// How many answered tickets told a report.
+    pub fn told(&self) -> u32
+        ensures { result ≡ self.now.summary.told }
+    {
+        self.parts.told
+    }
+
+    /// How many faults there were.
+    pub fn faults(&self) -> u32
+        ensures { result ≡ self.now.summary.faults }
+    {
+        self.parts.faults
+    }
+
+    /// How many reports were asked for while there was no room.
+    pub fn held(&self) -> u32
+        ensures { result ≡ self.now.summary.held }
+    {
+        self.parts.held
+    }
+
+    /// Whether a ticket is out.
+    pub fn has_out(&self) -> bool
+        ensures { result ≡ may_make (over_codes self.now.case) self.now.summary Letter.C }
+    {
+        self.parts.out.is_some()
+    }
+
+    /// At how many acknowledgements the ticket that is out was taken, None exactly where none is out.
+    pub fn taken(&self) -> Option<u32>
+        ensures { result ≡ option_map (λ issued. issued.taken) self.now.summary.out }
+    {
+        let issued = self.parts.out.as_ref()?;
+        Some(issued.taken)
+    }
+
+    /// The ticket that is out, None exactly where none is.
+    pub fn out(&self) -> Option<Ticket>
+        ensures { result ≡ told_ticket self.now.case self.now.summary }
+    {
+        let issued = self.parts.out.as_ref()?;
+        Some(self.parts.ticket(&issued.told))
+    }
+
+    /// The number of the ticket that is out, None exactly where none is.
+    pub fn out_number(&self) -> Option<u32>
+        ensures { result ≡ option_map (λ ticket. ticket.number) (told_ticket self.now.case self.now.summary) }
+    {
+        if self.parts.out.is_none() {
+            return None;
+        }
+        Some(self.parts.answered)
+    }
+
+    /// Whether no ticket is out and nothing can be taken.
+    pub fn is_idle(&self) -> bool
+        ensures { result ≡ is_idle self.now.summary }
+    {
+        self.parts.out.is_none() && !self.parts.can_take()
+    }
+
+    /// Whether all acknowledgements are in, nothing can be taken and no ticket is out.
+    pub fn is_done(&self) -> bool
+        ensures { result ≡ is_done (over_codes self.now.case) self.now.summary }
+    {
+        if self.parts.acks < self.parts.case.acks {
+            return false;
+        }
+        self.parts.out.is_none() && !self.parts.can_take()
+    }
+
+    /// Whether a ticket may be taken: none is out, and a report waits or a notice is untold.
+    pub fn may_take(&self) -> bool
+        ensures { result ≡ may_make (over_codes self.now.case) self.now.summary Letter.T }
+    {
+        self.parts.out.is_none() && self.parts.can_take()
+    }
+
+    /// Takes the oldest report, or else the notice, as a ticket.
+    pub fn take(&mut self) -> Ticket
+        requires { may_make (over_codes self.old.case) self.old.summary Letter.T ≡ true }
+        ensures step { self.new ≡ record self.old { summary = step_take self.old.summary } }
+        ensures ticket { told_ticket self.new.case self.new.summary ≡ Some result }
+    {
+        self.parts.take()
+    }
+
+    /// Takes an acknowledgement. One must be left.
+    pub fn ack<L: Ledger>(&mut self, ack: &Ack, steps: &mut Steps<L>) -> Acked
+        requires { may_make (over_codes self.old.case) self.old.summary Letter.A ≡ true }
+        ensures step { self.new ≡ record self.old { summary = step_ack (over_codes self.old.case) ack.entry.now self.old.summary } }
+        ensures acked { result ≡ acked_as (outcome_at (over_codes self.old.case) ack.entry.now self.old.summary).0 }
+        ensures steps { steps.new ≡ steps.old + instructions_at self.old.case ack.entry.now self.old.summary }
+    {
+        self.parts.hear(ack, steps)
+    }
+
+    /// Applies the answer to the ticket that is out.
+    pub fn settle(&mut self, answer: &Answer)
+        requires { told_ticket self.old.case self.old.summary ≡ Some answer.now }
+        ensures { self.new ≡ record self.old { summary = step_answer (over_codes self.old.case) self.old.summary } }
+    {
+        self.parts.settle(answer)
+    }
+
+    /// The flow's case, and the machine as the last epoch left it.
+    pub fn into_parts(self) -> (Case, Machine)
+        ensures case { result.0 ≡ self.case }
+        ensures registers { env_of result.1.kept ≡ self.summary.track.env }
+        ensures stopped { result.1.is_stopped ≡ self.summary.track.is_stopped }
+    {
+        let parts = self.parts;
+        (parts.case, parts.machine)
+    }
+}

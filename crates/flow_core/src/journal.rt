@@ -1,0 +1,100 @@
+//! The history of a flow, as lists that each letter makes longer.
+ghost use Rattle.std.specs.Prelude.{◌≡◌, ◌<◌, length, IfOk, OnOk};
+ghost use Rattle.flow_core.specs.Journals.{OpensJournal, HasRoom, HaveRoom, journal_ack, journal_take, journal_answer, line_of};
+
+use crate::book::{EpochLine, TicketLine};
+use crate::letter::Letter;
+use crate::roomy::Roomy;
+use agent_core::Answer;
+use ccp_base::{Ack, NoMemory, Notice};
+use std::alloc::Global;
+
+/// What no later letter depends on.
+#[derive(Drop)]
+pub(crate) struct Journal {
+    /// The tickets that were answered.
+    pub(crate) tickets: Roomy<TicketLine>,
+    /// The epochs, the present one last.
+    pub(crate) epochs: Roomy<EpochLine>,
+    pub(crate) faults: Roomy<Notice>,
+    pub(crate) acks: Roomy<Ack>,
+    pub(crate) word: Roomy<Letter>,
+}
+
+impl Journal {
+    /// The journal of a flow without a letter, whose first epoch this is. Room for every acknowledgement, for a fault
+    /// and three letters each, is reserved here.
+    pub(crate) fn open(alloc: Global, acks: u32, epoch: EpochLine) -> Result<Journal, NoMemory>
+        ensures { IfOk result (OpensJournal acks epoch) }
+    {
+        let acks = acks as usize;
+        let mut journal = Journal {
+            tickets: Roomy::with_room(alloc, 0)?,
+            epochs: Roomy::with_room(alloc, 1)?,
+            faults: Roomy::with_room(alloc, acks)?,
+            acks: Roomy::with_room(alloc, acks)?,
+            word: Roomy::with_room(alloc, 3 * acks)?,
+        };
+        journal.epochs.push(epoch);
+        Ok(journal)
+    }
+
+    /// Reserves room for the lines of the next ticket's answer.
+    pub(crate) fn reserve_lines(&mut self) -> Result<(), NoMemory>
+        ensures frame { self.new ≡ record self.old { tickets = self.new.tickets; epochs = self.new.epochs } }
+        ensures tickets { self.new.tickets.items ≡ self.old.tickets.items }
+        ensures epochs { self.new.epochs.items ≡ self.old.epochs.items }
+        ensures room { OnOk result (HaveRoom self.new.tickets self.new.epochs) }
+    {
+        self.tickets.reserve(1)?;
+        self.epochs.reserve(1)?;
+        Ok(())
+    }
+
+    /// Puts down an acknowledgement, and the fault that it came to, if it came to one.
+    pub(crate) fn put_ack(&mut self, ack: &Ack, fault: Option<Notice>)
+        requires faults { HasRoom self.old.faults }
+        requires acks { HasRoom self.old.acks }
+        requires word { HasRoom self.old.word }
+        ensures { self.new ≡ journal_ack ack.entry.now fault self.old }
+    {
+        if let Some(notice) = fault {
+            self.faults.push(notice);
+        }
+        self.acks.push(*ack);
+        self.word.push(Letter::A);
+    }
+
+    /// Puts down that a ticket was taken.
+    pub(crate) fn put_take(&mut self)
+        requires { HasRoom self.old.word }
+        ensures { self.new ≡ journal_take self.old }
+    {
+        self.word.push(Letter::T);
+    }
+
+    /// Puts down an answer, whose ticket was taken at `taken` acknowledgements and which is applied at `answered`, and
+    /// the epoch that it began, if it began one.
+    pub(crate) fn put_answer(
+        &mut self,
+        answer: &Answer,
+        taken: u32,
+        answered: u32,
+        epoch: Option<EpochLine>,
+    )
+        requires lines { HaveRoom self.old.tickets self.old.epochs }
+        requires word { HasRoom self.old.word }
+        ensures { self.new ≡ journal_answer (line_of answer.now taken answered) epoch self.old }
+    {
+        self.tickets.push(TicketLine {
+            told: answer.ticket().told,
+            taken,
+            answered,
+            reply: answer.reply(),
+        });
+        if let Some(line) = epoch {
+            self.epochs.push(line);
+        }
+        self.word.push(Letter::C);
+    }
+}
