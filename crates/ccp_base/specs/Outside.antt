@@ -7,8 +7,8 @@ abbrev pub Known : Type 0
 Known = Option (List ℕ)
 
 -- whether the bytes are known is the same of all these values
-abbrev pub AreAlike : {X : Type 0} → (X → Known) → Type 0
-AreAlike {X = X} known = (x y : X) → is_some (known x) ≡ is_some (known y)
+abbrev pub IsKnownByType : {X : Type 0} → (X → Known) → Type 0
+IsKnownByType {X = X} known = (x y : X) → is_some (known x) ≡ is_some (known y)
 
 -- a count of faults rose; one that stands at its type's end counts as risen
 abbrev pub Rose : ℕ → ℕ → Type 0

@@ -1,7 +1,7 @@
 //! Streams of bytes, of the process or in memory, as sources and sinks.
 
 ghost use Rattle.std.specs.Prelude.{◌≡◌, ◌<◌, ◌≤◌, Some, None, IfOk, OnErr, refl};
-ghost use Rattle.ccp_base.specs.Outside.{AreAlike, Rose};
+ghost use Rattle.ccp_base.specs.Outside.{IsKnownByType, Rose};
 ghost use Rattle.ccp_base.specs.SystemAnswers.{read_answer, write_answer, flush_answer, faults_after};
 
 use crate::outside::{Failed, fault};
@@ -13,33 +13,33 @@ use std::io::{Read, Stderr, Stdin, Stdout, Write};
 /// What bytes are read from. That the bytes that are left are known is a matter of the type: of all its values, or of
 /// none.
 pub trait ReadStream: Read {
-    ghost alike: { AreAlike Self.remaining };
+    ghost known_by_type: { IsKnownByType Self.remaining };
 }
 
 /// What bytes are written to. That the bytes that were written are known is a matter of the type: of all its values,
 /// or of none.
 pub trait WriteStream: Write {
-    ghost alike: { AreAlike Self.contents };
+    ghost known_by_type: { IsKnownByType Self.contents };
 }
 
 impl ReadStream for Stdin {
-    ghost alike = { λ x y. refl };
+    ghost known_by_type = { λ x y. refl };
 }
 
 impl ReadStream for &[u8] {
-    ghost alike = { λ x y. refl };
+    ghost known_by_type = { λ x y. refl };
 }
 
 impl WriteStream for Stdout {
-    ghost alike = { λ x y. refl };
+    ghost known_by_type = { λ x y. refl };
 }
 
 impl WriteStream for Stderr {
-    ghost alike = { λ x y. refl };
+    ghost known_by_type = { λ x y. refl };
 }
 
 impl WriteStream for Vec<u8> {
-    ghost alike = { λ x y. refl };
+    ghost known_by_type = { λ x y. refl };
 }
 
 /// What a read of the system is turned into: its count exactly where the system gives one, else `Failed` and one more

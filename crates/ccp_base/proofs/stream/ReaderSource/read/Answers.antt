@@ -9,7 +9,7 @@ pub returns-clause-kept : goal.returns-clause-kept
 returns-clause-kept g c =
     let old = g.R.Read.remaining c.args.self.now.stream in
     let new = g.R.Read.remaining c.read-answer.new.self in
-    let alike = g.met.R.ReadStream.alike c.args.self.now.stream c.read-answer.new.self in
+    let alike = g.met.R.ReadStream.known_by_type c.args.self.now.stream c.read-answer.new.self in
     subst (λ (r : Result ℕ Failed). OnErr r (new ≡ old)) (sym c.read_answer.ensures.told)
     (read_keeps old new alike c.read-answer.new.buf c.read-answer.result c.read-answer.ensures.bytes)
 
@@ -17,6 +17,6 @@ pub returns-clause-taken : goal.returns-clause-taken
 returns-clause-taken g c =
     let old = g.R.Read.remaining c.args.self.now.stream in
     let new = g.R.Read.remaining c.read-answer.new.self in
-    let alike = g.met.R.ReadStream.alike c.args.self.now.stream c.read-answer.new.self in
+    let alike = g.met.R.ReadStream.known_by_type c.args.self.now.stream c.read-answer.new.self in
     subst (λ (r : Result ℕ Failed). IfOk r (λ n. Takes old new (take n c.read-answer.new.buf))) (sym c.read_answer.ensures.told)
     (read_takes old new alike c.read-answer.new.buf c.read-answer.result c.read-answer.ensures.bytes)

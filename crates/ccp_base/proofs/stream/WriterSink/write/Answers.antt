@@ -9,7 +9,7 @@ pub returns-clause-kept : goal.returns-clause-kept
 returns-clause-kept g c =
     let old = g.W.Write.contents c.args.self.now.stream in
     let new = g.W.Write.contents c.write-answer.new.self in
-    let alike = g.met.W.WriteStream.alike c.args.self.now.stream c.write-answer.new.self in
+    let alike = g.met.W.WriteStream.known_by_type c.args.self.now.stream c.write-answer.new.self in
     subst (λ (r : Result ℕ Failed). OnErr r (new ≡ old)) (sym c.write_answer.ensures.told)
     (write_keeps old new alike _ c.args.bytes.now c.write-answer.result c.write-answer.ensures.bytes)
 
@@ -17,6 +17,6 @@ pub returns-clause-appends : goal.returns-clause-appends
 returns-clause-appends g c =
     let old = g.W.Write.contents c.args.self.now.stream in
     let new = g.W.Write.contents c.write-answer.new.self in
-    let alike = g.met.W.WriteStream.alike c.args.self.now.stream c.write-answer.new.self in
+    let alike = g.met.W.WriteStream.known_by_type c.args.self.now.stream c.write-answer.new.self in
     subst (λ (r : Result ℕ Failed). IfOk r (λ n. Appends old new (take n c.args.bytes.now))) (sym c.write_answer.ensures.told)
     (write_appends old new alike _ c.args.bytes.now c.write-answer.result c.write-answer.ensures.bytes)
