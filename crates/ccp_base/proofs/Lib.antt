@@ -1,2 +1,3 @@
 -- The lemmas of ccp_base, a file a topic.
 pub mod PartLemmas
+pub mod StreamLemmas

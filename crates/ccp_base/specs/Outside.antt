@@ -1,10 +1,14 @@
 -- What calls of streams do to the bytes that are left or written, and to their counts of faults.
-use Rattle.std.specs.Prelude.{◌≡◌, ℕ, ◌-◌, ◌^◌, ◌<◌, ◌≤◌, Option, Some, None, option_map, List, [], ◌++◌, length, take}
+use Rattle.std.specs.Prelude.{◌≡◌, ℕ, ◌-◌, ◌^◌, ◌<◌, ◌≤◌, Option, Some, None, is_some, option_map, List, [], ◌++◌, length, take}
 use Rattle.std.proofs.Common.{ap, ◌∙◌, sym, arith, append_assoc, length-append}
 
 -- what a source has left, or what a sink was given, where it tells them
 abbrev pub Known : Type 0
 Known = Option (List ℕ)
+
+-- whether the bytes are known is the same of all these values
+abbrev pub IsKnownByType : {X : Type 0} → (X → Known) → Type 0
+IsKnownByType {X = X} known = (x y : X) → is_some (known x) ≡ is_some (known y)
 
 -- a count of faults rose; one that stands at its type's end counts as risen
 abbrev pub Rose : ℕ → ℕ → Type 0

@@ -45,7 +45,7 @@ pub use primitive_names::{PRIMITIVE_NAMES, primitive_named, value_named};
 pub use sequence::{Bytes, Numbers, Sequence};
 pub use sink::{Sink, write_all};
 pub use source::{Source, read_all};
-pub use stream::{StdErr, StdIn, StdOut};
+pub use stream::{ReadStream, Reader, StdErr, StdIn, StdOut, WriteStream, Writer};
 pub use values::{VALUES, Values};
 
 /// The most report fields that a program declares.

@@ -17,7 +17,7 @@ fn is_listed(failing: &[u64], calls: &mut u64) -> bool
     failing.contains(&call)
 }
 
-/// A source in memory, with reads that fail exactly where they are told to.
+/// A source in memory, with reads that fail exactly at the listed numbers.
 #[derive(Clone, Copy)]
 pub struct MemSource<'a> {
     left: &'a [u8],
@@ -87,8 +87,8 @@ impl Source for MemSource<'_> {
     }
 }
 
-/// A sink in memory, with calls that fail where they are told to. A finish fails there alone; a write also fails where
-/// there is no memory for its bytes.
+/// A sink in memory, with calls that fail at the listed numbers. A finish fails there alone. A write also fails where
+/// there is no memory for its bytes, and no clause says where that is.
 #[derive(Drop)]
 pub struct MemSink<'a> {
     bytes: Bytes,

@@ -15,27 +15,31 @@ pub trait Sink {
     ghost is_finished: { Self → Type 0 } = { λ _. Unit {0} };
 
     /// Takes bytes from the front of `bytes` and answers how many, at least one of a piece that isn't empty.
-    /// `Failed` comes only where the count of faults rises.
+    /// `Failed` comes only where the count of faults rises; else it is as before.
     fn write(&mut self, bytes: &[u8]) -> Result<usize, Failed>
         ensures counted { faults self.old ≤ faults self.new }
+        ensures quiet { OnOk result (faults self.new ≡ faults self.old) }
         ensures failed { OnErr result (Rose (faults self.old) (faults self.new)) }
         ensures kept { OnErr result (written self.new ≡ written self.old) }
         ensures some { IfOk result (λ n. 0 < length bytes.now → 0 < n) }
         ensures within { IfOk result (λ n. n ≤ length bytes.now) }
         ensures appends { IfOk result (λ n. Appends (written self.old) (written self.new) (take n bytes.now)) };
 
-    /// Hands on what was written and is still held back. `Failed` comes only where the count of faults rises.
+    /// Hands on what was written and is still held back. `Failed` comes only where the count of faults rises; else it
+    /// is as before.
     fn finish(&mut self) -> Result<(), Failed>
         ensures counted { faults self.old ≤ faults self.new }
+        ensures quiet { OnOk result (faults self.new ≡ faults self.old) }
         ensures failed { OnErr result (Rose (faults self.old) (faults self.new)) }
         ensures kept { written self.new ≡ written self.old }
         ensures finished { OnOk result (is_finished self.new) };
 }
 
-/// Writes all the bytes and finishes. `Failed` comes only where the count of faults rises; then a front of the
-/// bytes was written.
+/// Writes all the bytes and finishes. `Failed` comes only where the count of faults rises, and then a front of the
+/// bytes was written; else it is as before.
 pub fn write_all<K: Sink>(sink: &mut K, bytes: &[u8]) -> Result<(), Failed>
     ensures counted { K.faults sink.old ≤ K.faults sink.new }
+    ensures quiet { OnOk result (K.faults sink.new ≡ K.faults sink.old) }
     ensures ok { OnOk result (Appends (K.written sink.old) (K.written sink.new) bytes.now) }
     ensures finished { OnOk result (K.is_finished sink.new) }
     ensures failed { OnErr result (Rose (K.faults sink.old) (K.faults sink.new)) }

@@ -1,4 +1,4 @@
-ghost use Rattle.std.specs.Prelude.{◌≡◌, ◌≢◌, ℕ, ◌+◌, ◌<◌, ◌≤◌, Option, List, IfOk, OnErr, IsErrOf, take, length};
+ghost use Rattle.std.specs.Prelude.{◌≡◌, ◌≢◌, ℕ, ◌+◌, ◌<◌, ◌≤◌, Option, List, IfOk, OnOk, OnErr, IsErrOf, take, length};
 ghost use Rattle.ccp_base.specs.Outside.{Rose, Takes, IsAtEnd, TakesOver, TakesWithin};
 
 use crate::outside::{Failed, ReadFault};
@@ -14,9 +14,10 @@ pub trait Source {
     ghost faults: { Self → ℕ };
 
     /// Writes the next bytes over the front of `out` and answers how many, 0 for a piece that isn't empty at
-    /// the end alone. `Failed` comes only where the count of faults rises.
+    /// the end alone. `Failed` comes only where the count of faults rises, and else that stays as it was.
     fn read(&mut self, out: &mut [u8]) -> Result<usize, Failed>
         ensures counted { faults self.old ≤ faults self.new }
+        ensures quiet { OnOk result (faults self.new ≡ faults self.old) }
         ensures failed { OnErr result (Rose (faults self.old) (faults self.new)) }
         ensures kept { OnErr result (remaining self.new ≡ remaining self.old) }
         ensures within { IfOk result (λ n. n ≤ length out.old) }
@@ -28,10 +29,11 @@ pub trait Source {
 const PIECE: usize = 4096;
 
 /// All the bytes that are left, of which there are at most `limit`. `Read` comes only where the count of
-/// faults rises, and `TooLong` exactly where more than `limit` bytes were taken. Whatever the answer, at most one
-/// byte more than `limit` was taken.
+/// faults rises, which at every other answer is as before, and `TooLong` exactly where more than `limit` bytes were
+/// taken. Whatever the answer, at most one byte more than `limit` was taken.
 pub fn read_all<S: Source>(alloc: Global, source: &mut S, limit: usize) -> Result<Bytes, ReadFault>
     ensures counted { S.faults source.old ≤ S.faults source.new }
+    ensures quiet { result ≢ Err ReadFault.Read → S.faults source.new ≡ S.faults source.old }
     ensures short { IfOk result (λ bytes. length bytes ≤ limit) }
     ensures taken { IfOk result (λ bytes. Takes (S.remaining source.old) (S.remaining source.new) bytes) }
     ensures end { IfOk result (λ bytes. IsAtEnd (S.remaining source.new)) }

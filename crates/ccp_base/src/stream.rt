@@ -1,5 +1,7 @@
-ghost use Rattle.std.specs.Prelude.{◌≡◌, ◌<◌, ◌≤◌, None, IfOk, OnErr};
-ghost use Rattle.ccp_base.specs.Outside.{Rose};
+//! Streams of bytes, of the process or in memory, as sources and sinks.
+
+ghost use Rattle.std.specs.Prelude.{◌≡◌, ◌<◌, ◌≤◌, Some, None, IfOk, OnErr, refl};
+ghost use Rattle.ccp_base.specs.Outside.{IsKnownByType, Rose};
 ghost use Rattle.ccp_base.specs.SystemAnswers.{read_answer, write_answer, flush_answer, faults_after};
 
 use crate::outside::{Failed, fault};
@@ -8,7 +10,39 @@ use crate::source::Source;
 use std::io;
 use std::io::{Read, Stderr, Stdin, Stdout, Write};
 
-/// What a read of the system comes to: its count exactly where the system tells one, else `Failed` and one more
+/// What bytes are read from. That the bytes that are left are known is a matter of the type: of all its values, or of
+/// none.
+pub trait ReadStream: Read {
+    ghost known_by_type: { IsKnownByType Self.remaining };
+}
+
+/// What bytes are written to. That the bytes that were written are known is a matter of the type: of all its values,
+/// or of none.
+pub trait WriteStream: Write {
+    ghost known_by_type: { IsKnownByType Self.contents };
+}
+
+impl ReadStream for Stdin {
+    ghost known_by_type = { λ x y. refl };
+}
+
+impl ReadStream for &[u8] {
+    ghost known_by_type = { λ x y. refl };
+}
+
+impl WriteStream for Stdout {
+    ghost known_by_type = { λ x y. refl };
+}
+
+impl WriteStream for Stderr {
+    ghost known_by_type = { λ x y. refl };
+}
+
+impl WriteStream for Vec<u8> {
+    ghost known_by_type = { λ x y. refl };
+}
+
+/// What a read of the system is turned into: its count exactly where the system gives one, else `Failed` and one more
 /// fault, and never an end.
 fn read_answer(answer: io::Result<usize>, faults: &mut u64) -> Result<usize, Failed>
     ensures told { result ≡ read_answer answer }
@@ -22,8 +56,8 @@ fn read_answer(answer: io::Result<usize>, faults: &mut u64) -> Result<usize, Fai
     Ok(count)
 }
 
-/// What a write of a piece of `size` bytes comes to: how many of them the system took, and `Failed` and one more
-/// fault exactly where it tells an error, or that it took none of some bytes.
+/// What a write of a piece of `size` bytes is turned into: how many of them the system took, and `Failed` and one more
+/// fault exactly where it reports an error, or that it took none of some bytes.
 fn write_answer(answer: io::Result<usize>, size: usize, faults: &mut u64) -> Result<usize, Failed>
     ensures told { result ≡ write_answer size answer }
     ensures faults { faults.new ≡ faults_after result faults.old }
@@ -37,7 +71,7 @@ fn write_answer(answer: io::Result<usize>, size: usize, faults: &mut u64) -> Res
     }
 }
 
-/// What a flush of the system comes to: `Failed` and one more fault exactly where it tells an error.
+/// What a flush of the system is turned into: `Failed` and one more fault exactly where it reports an error.
 fn flush_answer(answer: io::Result<()>, faults: &mut u64) -> Result<(), Failed>
     ensures told { result ≡ flush_answer answer }
     ensures faults { faults.new ≡ faults_after result faults.old }
@@ -50,25 +84,25 @@ fn flush_answer(answer: io::Result<()>, faults: &mut u64) -> Result<(), Failed>
     }
 }
 
-/// The process's standard input, which tells nothing of its bytes. A read fails exactly where the system's read
-/// does.
+/// A stream as a source. It tells of its bytes what the stream tells of them, and fails where a read of the stream does.
 #[derive(Drop)]
-pub struct StdIn {
-    stream: Stdin,
+pub struct Reader<R> {
+    stream: R,
     faults: u64,
 }
 
-impl StdIn {
+impl<R: ReadStream> Reader<R> {
     /// The stream as a source, with no faults counted.
-    pub fn new(stream: Stdin) -> Self
-        ensures { result.faults ≡ 0 }
+    pub fn new(stream: R) -> Self
+        ensures stream { result.stream ≡ stream }
+        ensures faults { result.faults ≡ 0 }
     {
-        StdIn { stream, faults: 0 }
+        Reader { stream, faults: 0 }
     }
 }
 
-impl Source for StdIn {
-    ghost remaining = { λ _. None };
+impl<R: ReadStream> Source for Reader<R> {
+    ghost remaining = { λ s. R.remaining s.stream };
 
     ghost faults = { λ s. s.faults };
 
@@ -78,25 +112,33 @@ impl Source for StdIn {
     }
 }
 
-/// The process's standard output, which tells nothing of its bytes. A write fails exactly where the system's write
-/// does or takes none of some bytes, and a finish exactly where the system's flush does.
+/// A stream as a sink. It tells of its bytes what the stream tells of them. A write fails where that of the stream does
+/// or takes none of some bytes, and a finish where a flush of the stream does.
 #[derive(Drop)]
-pub struct StdOut {
-    stream: Stdout,
+pub struct Writer<W> {
+    stream: W,
     faults: u64,
 }
 
-impl StdOut {
+impl<W: WriteStream> Writer<W> {
     /// The stream as a sink, with no faults counted.
-    pub fn new(stream: Stdout) -> Self
-        ensures { result.faults ≡ 0 }
+    pub fn new(stream: W) -> Self
+        ensures stream { result.stream ≡ stream }
+        ensures faults { result.faults ≡ 0 }
     {
-        StdOut { stream, faults: 0 }
+        Writer { stream, faults: 0 }
+    }
+
+    /// The stream.
+    pub fn into_stream(self) -> W
+        ensures { result ≡ self.stream }
+    {
+        self.stream
     }
 }
 
-impl Sink for StdOut {
-    ghost written = { λ _. None };
+impl<W: WriteStream> Sink for Writer<W> {
+    ghost written = { λ s. W.contents s.stream };
 
     ghost faults = { λ s. s.faults };
 
@@ -111,34 +153,11 @@ impl Sink for StdOut {
     }
 }
 
-/// The process's standard error, which tells nothing of its bytes, and fails where `StdOut` would.
-#[derive(Drop)]
-pub struct StdErr {
-    stream: Stderr,
-    faults: u64,
-}
+/// The process's standard input, whose bytes aren't known.
+pub type StdIn = Reader<Stdin>;
 
-impl StdErr {
-    /// The stream as a sink, with no faults counted.
-    pub fn new(stream: Stderr) -> Self
-        ensures { result.faults ≡ 0 }
-    {
-        StdErr { stream, faults: 0 }
-    }
-}
+/// The process's standard output, whose bytes aren't known.
+pub type StdOut = Writer<Stdout>;
 
-impl Sink for StdErr {
-    ghost written = { λ _. None };
-
-    ghost faults = { λ s. s.faults };
-
-    fn write(&mut self, bytes: &[u8]) -> Result<usize, Failed> {
-        let answer = self.stream.write(bytes);
-        write_answer(answer, bytes.len(), &mut self.faults)
-    }
-
-    fn finish(&mut self) -> Result<(), Failed> {
-        let answer = self.stream.flush();
-        flush_answer(answer, &mut self.faults)
-    }
-}
+/// The process's standard error, whose bytes aren't known.
+pub type StdErr = Writer<Stderr>;

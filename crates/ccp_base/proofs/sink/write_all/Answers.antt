@@ -16,6 +16,6 @@ Appends-piece old middle new bytes done more before after =
 pub loop-done-preserved : goal.loop-done-preserved
 loop-done-preserved g c = record {
   within = omega (arith, c.in_ok-done.ensures.within, length-drop c.loop-done.done c.args.bytes.now);
-  counted = omega arith;
+  counted = c.in_ok-done.ensures.quiet ∙ c.loop-done.invariant.counted;
   appends = Appends-piece _ _ _ c.args.bytes.now c.loop-done.done c.in_ok-done.field-0 c.loop-done.invariant.appends c.in_ok-done.ensures.appends;
 }

@@ -1,11 +1,11 @@
-use Rattle.std.proofs.Common.{◌≤◌, ◌-◌, length, take}
+use Rattle.std.proofs.Common.{◌≡◌, ◌≤◌, ◌-◌, length, take}
 use Rattle.ccp_base.specs.Outside.{Appends}
 use Rattle.ccp_base.proofs.sink.write_all.Given as goal
 
 abbrev pub invariant-loop-done : goal.invariant-loop-done
 invariant-loop-done g l = record {
   within : l.done ≤ length l.bytes;
-  counted : g.K.Sink.faults l.initial.sink ≤ g.K.Sink.faults l.sink;
+  counted : g.K.Sink.faults l.sink ≡ g.K.Sink.faults l.initial.sink;
   appends : Appends (g.K.Sink.written l.initial.sink) (g.K.Sink.written l.sink) (take l.done l.bytes);
 }
 
