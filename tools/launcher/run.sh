@@ -93,5 +93,5 @@ words_of_explain() {
 
 # A path of the repository, as you would type it where you are.
 path_from_here() {
-    if [ "$PWD" = "$here" ]; then printf '%s' "$1"; else printf '%s' "$here/$1"; fi
+    if [ "$PWD" = "$here" ]; then printf '%s' "$1"; else printf '%q' "$here/$1"; fi
 }
