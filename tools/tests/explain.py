@@ -40,8 +40,10 @@ def runs_of_rows(wanted):
     for path in sorted(glob.glob(os.path.join(TOP, "rows", "*.jsonl"))):
         known = Known()
         for row in rows_in(path, known):
+            if ROWS.OF_STREAMS & set(row):
+                continue
             for name, words, given in ROWS.runs_of(row, known):
-                if words and words[0] in wanted and row.get("status", 0) in (0, 3):
+                if words and isinstance(words[0], str) and words[0] in wanted and row.get("status", 0) in (0, 3):
                     told = known.bytes_of(row.get("errors", "")).decode()
                     refused = told[len("ccp: input refused: "):-1] if row.get("status", 0) == 3 else None
                     yield "%s: %s" % (os.path.basename(path), name), words[0], given, refused

@@ -6,7 +6,7 @@ mod exit;
 mod tests;
 mod words;
 
-use ccp_base::{StdErr, StdIn, StdOut};
+use ccp_base::{Reader, Writer};
 use exit::exit;
 use std::env;
 use std::process::ExitCode;
@@ -14,9 +14,9 @@ use words::words;
 
 fn main(rt: HostRuntime) -> ExitCode {
     let alloc = rt.alloc();
-    let mut source = StdIn::new(rt.stdin());
-    let mut sink = StdOut::new(rt.stdout());
-    let mut errors = StdErr::new(rt.stderr());
+    let mut source = Reader::new(rt.stdin());
+    let mut sink = Writer::new(rt.stdout());
+    let mut errors = Writer::new(rt.stderr());
     let words = words(alloc, env::args(&rt));
     exit(&rt, alloc, words, &mut source, &mut sink, &mut errors)
 }

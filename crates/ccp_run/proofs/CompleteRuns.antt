@@ -4,11 +4,13 @@ use Rattle.ccp_base.specs.Outside.{Known, Rose, Takes, IsAtEnd, TakesOver}
 use Rattle.ccp_run.specs.declared.outcome.ModeOutput.{ModeOutput}
 use Rattle.ccp_run.specs.declared.outcome.Outcome.{Outcome}
 use Rattle.ccp_run.specs.declared.refusal.Refusal.{Refusal}
+use Rattle.ccp_run.specs.declared.status.Status.{Status}
 use Rattle.ccp_run.specs.declared.status.Status.TheVariants as status
 use Rattle.ccp_run.specs.Attempts.{MakesOutput, RefusesBytes, RefusesAny}
 use Rattle.ccp_run.specs.Complete.{EndsAs, IsNoInput, IsComplete}
 use Rattle.ccp_run.specs.Modes.{Task, limit_of, is_read, is_stream, IsInput, IsMade, IsRefused}
-use Rattle.ccp_run.specs.Run.{IsRun, WritesAnyFront}
+use Rattle.ccp_run.specs.Run.{EndsWith, IsRun, WritesAnyFront}
+use Rattle.ccp_run.specs.Statuses.{number_of}
 use Rattle.ccp_run.specs.Streams.{Stream, HasInput}
 use Rattle.ccp_run.proofs.WorkerModes.{is_mode}
 
@@ -68,19 +70,17 @@ module _ (task : Task) (source : Stream) (bytes : List ℕ) (is : source.old ≡
   not_made : (output : ModeOutput) → IsNoInput task bytes → MakesOutput task source output → ⊥
   not_made output other m = not_made_of output other m (is_read task) refl m.read
 
-module _ (task : Task) (source sink errors : Stream) (is_finished : Type 0) (outcome : Outcome) (run : IsRun task source sink errors is_finished outcome) where
+module _ (task : Task) (source sink errors : Stream) (is_finished : Type 0) (outcome : Outcome) where
   answered : (bytes : List ℕ) → source.old ≡ Some bytes → length bytes ≤ limit_of task → IsInput task bytes
-      → (Rose source.before source.now → ⊥) → (Rose sink.before sink.now → ⊥) → (n : ℕ) → outcome.status ≡ n → EndsAs status.Done outcome
-  answered bytes is short input no_read no_write zero e = inl e
-  answered bytes is short input no_read no_write (suc zero) e = absurd (run.no_1 e)
-  answered bytes is short input no_read no_write (suc (suc zero)) e = absurd (run.words e)
-  answered bytes is short input no_read no_write (suc (suc (suc zero))) e =
-      absurd (not_refused task source bytes is (run.refused e).refusal short input (is_stream task) (run.refused e).refused)
-  answered bytes is short input no_read no_write (suc (suc (suc (suc zero)))) e = absurd (no_read (run.read_fault e))
-  answered bytes is short input no_read no_write (suc (suc (suc (suc (suc zero))))) e = absurd (no_write (run.write_fault e))
-  answered bytes is short input no_read no_write (suc (suc (suc (suc (suc (suc zero)))))) e = inr e
-  answered bytes is short input no_read no_write (suc (suc (suc (suc (suc (suc (suc n))))))) e =
-      let few = run.statuses in absurd (omega (arith, e, few))
+      → (Rose source.before source.now → ⊥) → (Rose sink.before sink.now → ⊥)
+      → (end : Status) → outcome.status ≡ number_of end → EndsWith end task source sink errors is_finished outcome → EndsAs status.Done outcome
+  answered bytes is short input no_read no_write status.Done e ended = inl e
+  answered bytes is short input no_read no_write status.WordsRefused e ended = absurd ended
+  answered bytes is short input no_read no_write status.InputRefused e ended =
+      absurd (not_refused task source bytes is ended.refusal short input (is_stream task) ended.refused)
+  answered bytes is short input no_read no_write status.ReadFailed e ended = absurd (no_read ended.rose)
+  answered bytes is short input no_read no_write status.WriteFailed e ended = absurd (no_write ended.rose)
+  answered bytes is short input no_read no_write status.NoMemory e ended = inr e
 
   no_front : (bytes : List ℕ) → source.old ≡ Some bytes → IsNoInput task bytes → (is_stream task ≡ true → Rose sink.before sink.now → ⊥) → Rose sink.before sink.now
       → (answers_early : Bool) → is_stream task ≡ answers_early → WritesAnyFront answers_early task source sink → ⊥
@@ -89,21 +89,18 @@ module _ (task : Task) (source sink errors : Stream) (is_finished : Type 0) (out
 
   refuses : (bytes : List ℕ) → source.old ≡ Some bytes → IsNoInput task bytes → (Rose source.before source.now → ⊥)
       → (is_stream task ≡ true → Rose sink.before sink.now → ⊥)
-      → (n : ℕ) → outcome.status ≡ n → EndsAs status.InputRefused outcome
-  refuses bytes is other no_read no_write zero e = absurd (not_made task source bytes is (run.done e).output other (run.done e).made)
-  refuses bytes is other no_read no_write (suc zero) e = absurd (run.no_1 e)
-  refuses bytes is other no_read no_write (suc (suc zero)) e = absurd (run.words e)
-  refuses bytes is other no_read no_write (suc (suc (suc zero))) e = inl e
-  refuses bytes is other no_read no_write (suc (suc (suc (suc zero)))) e = absurd (no_read (run.read_fault e))
-  refuses bytes is other no_read no_write (suc (suc (suc (suc (suc zero))))) e =
-      absurd (no_front bytes is other no_write (run.write_fault e) (is_stream task) refl (run.front e))
-  refuses bytes is other no_read no_write (suc (suc (suc (suc (suc (suc zero)))))) e = inr e
-  refuses bytes is other no_read no_write (suc (suc (suc (suc (suc (suc (suc n))))))) e =
-      let few = run.statuses in absurd (omega (arith, e, few))
+      → (end : Status) → outcome.status ≡ number_of end → EndsWith end task source sink errors is_finished outcome → EndsAs status.InputRefused outcome
+  refuses bytes is other no_read no_write status.Done e ended = absurd (not_made task source bytes is ended.output other ended.made)
+  refuses bytes is other no_read no_write status.WordsRefused e ended = absurd ended
+  refuses bytes is other no_read no_write status.InputRefused e ended = inl e
+  refuses bytes is other no_read no_write status.ReadFailed e ended = absurd (no_read ended.rose)
+  refuses bytes is other no_read no_write status.WriteFailed e ended =
+      absurd (no_front bytes is other no_write ended.rose (is_stream task) refl ended.front)
+  refuses bytes is other no_read no_write status.NoMemory e ended = inr e
 
   -- a run is complete
-  pub complete : IsComplete task source sink outcome
-  complete = record {
-    answered = λ bytes is short input no_read no_write. answered bytes is short input no_read no_write outcome.status refl;
-    refused = λ bytes is other no_read no_write. refuses bytes is other no_read no_write outcome.status refl;
+  pub complete : IsRun task source sink errors is_finished outcome → IsComplete task source sink outcome
+  complete run = record {
+    answered = λ bytes is short input no_read no_write. answered bytes is short input no_read no_write run.end run.numbered run.ended;
+    refused = λ bytes is other no_read no_write. refuses bytes is other no_read no_write run.end run.numbered run.ended;
   }

@@ -72,9 +72,18 @@ module _ (source sink errors : Stream) (is_finished : Type 0) (outcome : Outcome
       (inl (record { bytes = fed.bytes; taken = fed.answered.taken; cause = fed.end_is }))
       (record { taken = fed.bytes; takes = fed.answered.taken; within = fed.within }) tt (answers fed.bytes fed.answered) (e.told (e.too_long Input refl))
   run_of_feed ends.ReadFailed fed e =
-      ends_unread (Alone Feed) source sink errors is_finished outcome fed.rose
-      (record { taken = fed.bytes; takes = fed.answered.taken; goes_on = fed.goes_on })
-      (record { taken = fed.bytes; takes = fed.answered.taken; within = fed.within }) tt (answers fed.bytes fed.answered) e
+      ends_unread (Alone Feed) source sink errors is_finished outcome
+      (record {
+        reads = refl;
+        rose = fed.rose;
+        taken = fed.bytes;
+        takes = fed.answered.taken;
+        within = fed.within;
+        goes_on = fed.goes_on;
+        answers = fed.answered.written;
+        ends = e;
+      })
+      tt
   run_of_feed ends.WriteFailed fed e =
       ends_unwritten (Alone Feed) source sink errors is_finished outcome fed.rose
       (record { taken = fed.bytes; takes = fed.taken; front = fed.front })

@@ -4,6 +4,7 @@ use Rattle.ccp_base.specs.Outside.{Known, Rose, Takes, TakesWithin, Appends}
 use Rattle.ccp_run.specs.declared.outcome.ModeOutput.{ModeOutput}
 use Rattle.ccp_run.specs.declared.outcome.Outcome.{Outcome}
 use Rattle.ccp_run.specs.declared.refusal.Refusal.{Refusal}
+use Rattle.ccp_run.specs.declared.status.Status.{Status}
 use Rattle.ccp_run.specs.declared.status.Status.TheVariants as status
 use Rattle.ccp_run.specs.declared.stop.Stop.{Stop}
 use Rattle.ccp_run.specs.declared.stop.Stop.TheVariants as stop
@@ -11,9 +12,9 @@ use Rattle.ccp_run.specs.Attempts.{IsAttempt, MakesOutput, RefusesInput, Refuses
 use Rattle.ccp_run.specs.Endings.{Ends, IsEnding, Writes, WritesAll, Refuses}
 use Rattle.ccp_run.specs.ErrorLine.{refusal_line}
 use Rattle.ccp_run.specs.Modes.{Task, limit_in, limit_of, is_read, is_stream, answers_before}
-use Rattle.ccp_run.specs.Run.{IsRun, TellsRefusal, WritesFront, WritesAnyFront, WritesAnswers, WritesSomeAnswers, TakesOpen}
-use Rattle.ccp_run.specs.Statuses.{read_line, write_line, memory_line}
-use Rattle.ccp_run.specs.Streams.{Stream, HasInput, IsLeft, Tells}
+use Rattle.ccp_run.specs.Run.{EndsWith, IsReadFailed, IsRun, WritesFront, WritesAnyFront, WritesAnswers, WritesSomeAnswers}
+use Rattle.ccp_run.specs.Statuses.{number_of, read_line, write_line, memory_line}
+use Rattle.ccp_run.specs.Streams.{Stream, HasInput, IsLeft, IsUntouched}
 use Rattle.ccp_run.proofs.WorkerModes.{is_mode}
 
 appends_nothing : (old new : Known) → new ≡ old → Appends old new []
@@ -32,7 +33,7 @@ one_more limit old new few = record { taken = few.taken; takes = few.takes; with
 
 within_of : (task : Task) (source : Stream) (bytes : List ℕ) (read : Bool) → HasInput read source bytes → length bytes ≤ limit_of task → TakesWithin (limit_of task) source.old source.new
 within_of task source bytes true read short = record { taken = bytes; takes = read.taken; within = short }
-within_of task source bytes false read short = untouched_within (limit_of task) source.old source.new read.same
+within_of task source bytes false read short = untouched_within (limit_of task) source.old source.new read.same.bytes
 
 left_of : (source : Stream) (bytes : List ℕ) (read : Bool) → HasInput read source bytes → IsLeft read source
 left_of source bytes true has = tt
@@ -42,7 +43,7 @@ pub is_left : (read : Bool) (source : Stream) → read ≡ true → IsLeft read 
 is_left true source reads = tt
 is_left false source reads = let bad : ⊥ = cc in absurd bad
 
-left_alone : (read : Bool) (source : Stream) → source.new ≡ source.old → IsLeft read source
+left_alone : (read : Bool) (source : Stream) → IsUntouched source → IsLeft read source
 left_alone true source same = tt
 left_alone false source same = same
 
@@ -58,117 +59,83 @@ is_three (suc (suc (suc zero))) = inl refl
 is_three (suc (suc (suc (suc n)))) = inr (λ e. omega (arith, e))
 
 module _ (task : Task) (source sink errors : Stream) (is_finished : Type 0) (outcome : Outcome) where
-  -- there was no whole output, and the run ended with this status
-  pub ended : (n : ℕ) → outcome.status ≡ n → n ≢ 0 → n ≢ 1 → n ≢ 2 → n ≤ 6
-      → outcome.books ≡ [] → outcome.programs ≡ [] → outcome.ran ≡ 0
-      → (n ≡ 3 → TellsRefusal task source errors)
-      → (n ≡ 4 → Rose source.before source.now × TakesOpen task source × Tells errors read_line)
-      → (n ≡ 5 → Rose sink.before sink.now × WritesAnyFront (is_stream task) task source sink × Tells errors write_line)
-      → (n ≡ 6 → Tells errors memory_line × WritesSomeAnswers task source sink)
-      → (n ≢ 3 → TakesWithin (limit_of task) source.old source.new)
-      → TakesWithin (limit_of task + 1) source.old source.new
-      → IsLeft (is_read task) source
-      → (n ≢ 5 → n ≢ 6 → WritesAnswers task source sink)
-      → IsRun task source sink errors is_finished outcome
-  ended n is no0 no1 no2 below books programs ran refused read write memory within most left nothing = record {
-    done = λ at. absurd (no0 (sym is ∙ at));
-    refused = λ at. refused (sym is ∙ at);
-    read_fault = λ at. (read (sym is ∙ at)).0;
-    read_open = λ at. (read (sym is ∙ at)).1;
-    told_read = λ at. (read (sym is ∙ at)).2;
-    write_fault = λ at. (write (sym is ∙ at)).0;
-    front = λ at. (write (sym is ∙ at)).1;
-    told_write = λ at. (write (sym is ∙ at)).2;
-    told_memory = λ at. (memory (sym is ∙ at)).0;
-    within = λ other. within (λ at. other (is ∙ at));
-    most = most;
-    left = left;
-    nothing = λ _ not5 not6. nothing (λ at. not5 (is ∙ at)) (λ at. not6 (is ∙ at));
-    nothing_more = λ at. (memory (sym is ∙ at)).1;
-    books = λ _. books;
-    programs = λ _. programs;
-    ran = λ _. ran;
-    statuses = let e = is in omega (arith, e, below);
-    no_1 = λ at. no1 (sym is ∙ at);
-    words = λ at. no2 (sym is ∙ at);
-  }
-
-  -- memory was wanted, and these are the answers
+  -- out of memory, and these are the answers
   pub ends_wanting : TakesWithin (limit_of task) source.old source.new → IsLeft (is_read task) source → WritesSomeAnswers task source sink → Ends errors outcome status.NoMemory memory_line
       → IsRun task source sink errors is_finished outcome
-  ends_wanting few left some e =
-      ended 6 e.status (λ a. omega (arith, a)) (λ a. omega (arith, a)) (λ a. omega (arith, a)) (omega arith)
-      e.books e.programs e.ran (λ a. absurd (omega (arith, a))) (λ a. absurd (omega (arith, a))) (λ a. absurd (omega (arith, a))) (λ _. (e.told, some))
-      (λ _. few) (one_more (limit_of task) source.old source.new few) left (λ _ not6. absurd (not6 refl))
+  ends_wanting few left some e = record {
+    most = one_more (limit_of task) source.old source.new few;
+    left = left;
+    end = status.NoMemory;
+    numbered = e.status;
+    ended = record { within = few; answers = some; ends = e };
+  }
 
-  -- the refusal was told
+  -- the refusal was reported
   pub ends_refused : (refusal : Refusal) → RefusesAny (is_stream task) task source refusal → TakesWithin (limit_of task + 1) source.old source.new → IsLeft (is_read task) source → WritesAnswers task source sink
       → Ends errors outcome status.InputRefused (refusal_line refusal)
       → IsRun task source sink errors is_finished outcome
-  ends_refused refusal cause most left answers e =
-      ended 3 e.status (λ a. omega (arith, a)) (λ a. omega (arith, a)) (λ a. omega (arith, a)) (omega arith)
-      e.books e.programs e.ran (λ _. record { refusal = refusal; refused = cause; told = e.told })
-      (λ a. absurd (omega (arith, a))) (λ a. absurd (omega (arith, a))) (λ a. absurd (omega (arith, a)))
-      (λ other. absurd (other refl)) most left (λ _ _. answers)
+  ends_refused refusal cause most left answers e = record {
+    most = most;
+    left = left;
+    end = status.InputRefused;
+    numbered = e.status;
+    ended = record { refusal = refusal; refused = cause; answers = answers; ends = e };
+  }
 
   -- a read failed
-  pub ends_unread : Rose source.before source.now → TakesOpen task source → TakesWithin (limit_of task) source.old source.new → IsLeft (is_read task) source → WritesAnswers task source sink
-      → Ends errors outcome status.ReadFailed read_line
-      → IsRun task source sink errors is_finished outcome
-  ends_unread rose open_so_far few left answers e =
-      ended 4 e.status (λ a. omega (arith, a)) (λ a. omega (arith, a)) (λ a. omega (arith, a)) (omega arith)
-      e.books e.programs e.ran (λ a. absurd (omega (arith, a))) (λ _. (rose, open_so_far, e.told)) (λ a. absurd (omega (arith, a))) (λ a. absurd (omega (arith, a)))
-      (λ _. few) (one_more (limit_of task) source.old source.new few) left (λ _ _. answers)
+  pub ends_unread : IsReadFailed task source sink errors outcome → IsLeft (is_read task) source → IsRun task source sink errors is_finished outcome
+  ends_unread failed left = record {
+    most = one_more (limit_of task) source.old source.new (record { taken = failed.taken; takes = failed.takes; within = failed.within });
+    left = left;
+    end = status.ReadFailed;
+    numbered = failed.ends.status;
+    ended = failed;
+  }
 
   -- a write failed
   pub ends_unwritten : Rose sink.before sink.now → WritesAnyFront (is_stream task) task source sink → TakesWithin (limit_of task) source.old source.new → IsLeft (is_read task) source
       → Ends errors outcome status.WriteFailed write_line
       → IsRun task source sink errors is_finished outcome
-  ends_unwritten rose front few left e =
-      ended 5 e.status (λ a. omega (arith, a)) (λ a. omega (arith, a)) (λ a. omega (arith, a)) (omega arith)
-      e.books e.programs e.ran (λ a. absurd (omega (arith, a))) (λ a. absurd (omega (arith, a))) (λ _. (rose, front, e.told)) (λ a. absurd (omega (arith, a)))
-      (λ _. few) (one_more (limit_of task) source.old source.new few) left (λ not5 _. absurd (not5 refl))
+  ends_unwritten rose front few left e = record {
+    most = one_more (limit_of task) source.old source.new few;
+    left = left;
+    end = status.WriteFailed;
+    numbered = e.status;
+    ended = record { rose = rose; within = few; front = front; ends = e };
+  }
 
   -- the whole output was written, and the sink finished
   pub ends_done : (output : ModeOutput) → MakesOutput task source output → WritesAll sink errors is_finished outcome output → outcome.status ≡ 0
       → IsRun task source sink errors is_finished outcome
-  ends_done output made written is =
-      let few = within_of task source made.bytes (is_read task) made.read made.short in
-      record {
-        done = λ _. record { output = output; made = made; written = written };
-        refused = λ at. absurd (other 3 at (λ e. omega (arith, e)));
-        read_fault = λ at. absurd (other 4 at (λ e. omega (arith, e)));
-        read_open = λ at. absurd (other 4 at (λ e. omega (arith, e)));
-        told_read = λ at. absurd (other 4 at (λ e. omega (arith, e)));
-        write_fault = λ at. absurd (other 5 at (λ e. omega (arith, e)));
-        front = λ at. absurd (other 5 at (λ e. omega (arith, e)));
-        told_write = λ at. absurd (other 5 at (λ e. omega (arith, e)));
-        told_memory = λ at. absurd (other 6 at (λ e. omega (arith, e)));
-        within = λ _. few;
-        most = one_more (limit_of task) source.old source.new few;
-        left = left_of source made.bytes (is_read task) made.read;
-        nothing = λ not0 _ _. absurd (not0 is);
-        nothing_more = λ at. absurd (other 6 at (λ e. omega (arith, e)));
-        books = λ not0. absurd (not0 is);
-        programs = λ not0. absurd (not0 is);
-        ran = λ not0. absurd (not0 is);
-        statuses = let e = is in omega (arith, e);
-        no_1 = λ at. other 1 at (λ e. omega (arith, e));
-        words = λ at. other 2 at (λ e. omega (arith, e));
-      }
-    where
-      other : (n : ℕ) → outcome.status ≡ n → n ≢ 0 → ⊥
-      other n at no0 = no0 (sym at ∙ is)
+  ends_done output made written is = record {
+    most = one_more (limit_of task) source.old source.new (within_of task source made.bytes (is_read task) made.read made.short);
+    left = left_of source made.bytes (is_read task) made.read;
+    end = status.Done;
+    numbered = is;
+    ended = record { output = output; made = made; written = written };
+  }
+
+  not_words_refused : (end : Status) → outcome.status ≡ number_of end → EndsWith end task source sink errors is_finished outcome → outcome.status ≡ number_of status.WordsRefused → ⊥
+  not_words_refused status.Done is ended at = omega (arith, is, at)
+  not_words_refused status.WordsRefused is ended at = ended
+  not_words_refused status.InputRefused is ended at = omega (arith, is, at)
+  not_words_refused status.ReadFailed is ended at = omega (arith, is, at)
+  not_words_refused status.WriteFailed is ended at = omega (arith, is, at)
+  not_words_refused status.NoMemory is ended at = omega (arith, is, at)
+
+  -- a run of a task never ends as one whose words are refused
+  pub never_words_refused : IsRun task source sink errors is_finished outcome → outcome.status ≡ number_of status.WordsRefused → ⊥
+  never_words_refused run at = not_words_refused run.end run.numbered run.ended at
 
   -- memory was wanted before anything was read
-  pub wants_at_once : source.new ≡ source.old → sink.new ≡ sink.old → Ends errors outcome status.NoMemory memory_line → IsRun task source sink errors is_finished outcome
+  pub wants_at_once : IsUntouched source → sink.new ≡ sink.old → Ends errors outcome status.NoMemory memory_line → IsRun task source sink errors is_finished outcome
   wants_at_once same quiet e =
-      ends_wanting (untouched_within (limit_of task) source.old source.new same) (left_alone (is_read task) source same)
+      ends_wanting (untouched_within (limit_of task) source.old source.new same.bytes) (left_alone (is_read task) source same)
       (record {
         front = [];
         rest = [];
         later = [];
-        takes = takes_nothing source.old source.new same;
+        takes = takes_nothing source.old source.new same.bytes;
         answers = subst (Appends sink.old sink.new) (sym (is_mode task).begins) (appends_nothing sink.old sink.new quiet);
         begins = sym (append-nil (answers_before task []));
       })
@@ -176,12 +143,11 @@ module _ (task : Task) (source sink errors : Stream) (is_finished : Type 0) (out
 
 -- where the mode reads its source to the end before it writes
 module _ (task : Task) (plain : is_stream task ≡ false) (source sink errors : Stream) (is_finished : Type 0) (outcome : Outcome) where
+  no_answers : (taken : List ℕ) → sink.new ≡ sink.old → Appends sink.old sink.new (answers_before task taken)
+  no_answers taken same = subst (Appends sink.old sink.new) (sym ((is_mode task).plain plain taken).0) (appends_nothing sink.old sink.new same)
+
   answers : (taken : List ℕ) → Takes source.old source.new taken → sink.new ≡ sink.old → WritesAnswers task source sink
-  answers taken takes same = record {
-    taken = taken;
-    takes = takes;
-    answers = subst (Appends sink.old sink.new) (sym ((is_mode task).plain plain taken).0) (appends_nothing sink.old sink.new same);
-  }
+  answers taken takes same = record { taken = taken; takes = takes; answers = no_answers taken same }
 
   some_answers : TakesWithin (limit_of task) source.old source.new → sink.new ≡ sink.old → WritesSomeAnswers task source sink
   some_answers few same = record {
@@ -214,9 +180,19 @@ module _ (task : Task) (plain : is_stream task ≡ false) (source sink errors : 
 
   read_failed : FailsToRead task source → sink.new ≡ sink.old → Ends errors outcome status.ReadFailed read_line → IsRun task source sink errors is_finished outcome
   read_failed failed same e =
-      ends_unread task source sink errors is_finished outcome failed.rose
-      (record { taken = failed.within.taken; takes = failed.within.takes; goes_on = ((is_mode task).plain plain failed.within.taken).1 })
-      failed.within (is_left (is_read task) source failed.reads) (answers failed.within.taken failed.within.takes same) e
+      let taken = failed.within.taken in
+      ends_unread task source sink errors is_finished outcome
+      (record {
+        reads = failed.reads;
+        rose = failed.rose;
+        taken = taken;
+        takes = failed.within.takes;
+        within = failed.within.within;
+        goes_on = ((is_mode task).plain plain taken).1;
+        answers = no_answers taken same;
+        ends = e;
+      })
+      (is_left (is_read task) source failed.reads)
 
   refused_or_not : (refusal : Refusal) → RefusesInput task source refusal → sink.new ≡ sink.old → Refuses errors outcome refusal → (outcome.status ≡ 3) ⊎ (outcome.status ≢ 3) → IsRun task source sink errors is_finished outcome
   refused_or_not refusal (inl length) same r which =

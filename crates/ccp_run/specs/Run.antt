@@ -1,22 +1,19 @@
 -- What a run promises: the theorem of every task.
-use Rattle.std.specs.Prelude.{◌≡◌, ◌≢◌, ◌≤◌, ℕ, ◌+◌, Bool, true, false, List, [], ◌++◌}
+use Rattle.std.specs.Prelude.{◌≡◌, ◌≢◌, ◌≤◌, ℕ, ◌+◌, Bool, true, false, List, ◌++◌, length}
 use Rattle.ccp_base.specs.Outside.{Rose, Takes, TakesWithin, Appends, AppendsPrefix}
 use Rattle.ccp_run.specs.declared.outcome.ModeOutput.{ModeOutput}
 use Rattle.ccp_run.specs.declared.outcome.Outcome.{Outcome}
 use Rattle.ccp_run.specs.declared.refusal.Refusal.{Refusal}
+use Rattle.ccp_run.specs.declared.status.Status.{Status}
 use Rattle.ccp_run.specs.declared.status.Status.TheVariants as status
 use Rattle.ccp_run.specs.Attempts.{MakesOutput, RefusesAny}
 use Rattle.ccp_run.specs.Endings.{Ends, WritesAll}
 use Rattle.ccp_run.specs.ErrorLine.{refusal_line}
 use Rattle.ccp_run.specs.Modes.{Task, limit_of, is_read, is_stream, answers_before, GoesOn}
 use Rattle.ccp_run.specs.Statuses.{number_of, words_line, read_line, write_line, memory_line}
-use Rattle.ccp_run.specs.Streams.{Stream, IsLeft, Tells}
+use Rattle.ccp_run.specs.Streams.{Stream, IsLeft, IsUntouched}
 
--- the mode's whole output for the input was written, and the sink finished
-pub record IsDone (task : Task) (source sink errors : Stream) (is_finished : Type 0) (outcome : Outcome) : Type 0 where
-  pub output : ModeOutput
-  pub made : MakesOutput task source output
-  pub written : WritesAll sink errors is_finished outcome output
+-- ---- what was written
 
 -- the mode has an output for the input, of which a front was written
 pub record WritesFront (task : Task) (source sink : Stream) : Type 0 where
@@ -35,12 +32,6 @@ abbrev pub WritesAnyFront : Bool → Task → Stream → Stream → Type 0
 WritesAnyFront true task source sink = AnswersFront task source sink
 WritesAnyFront false task source sink = WritesFront task source sink
 
--- the input has a first refusal, and that was told
-pub record TellsRefusal (task : Task) (source errors : Stream) : Type 0 where
-  pub refusal : Refusal
-  pub refused : RefusesAny (is_stream task) task source refusal
-  pub told : Tells errors (refusal_line refusal)
-
 -- exactly the answers to what was taken were written, which most modes don't have
 pub record WritesAnswers (task : Task) (source sink : Stream) : Type 0 where
   pub taken : List ℕ
@@ -56,49 +47,71 @@ pub record WritesSomeAnswers (task : Task) (source sink : Stream) : Type 0 where
   pub answers : Appends sink.old sink.new (answers_before task front)
   pub begins : answers_before task (front ++ rest) ≡ answers_before task front ++ later
 
--- what was taken isn't refused so far
-pub record TakesOpen (task : Task) (source : Stream) : Type 0 where
+-- ---- each status
+
+-- 0: the input was read to its end, exactly the mode's output was written, and the sink was finished
+pub record IsDone (task : Task) (source sink errors : Stream) (is_finished : Type 0) (outcome : Outcome) : Type 0 where
+  pub output : ModeOutput
+  pub made : MakesOutput task source output
+  pub written : WritesAll sink errors is_finished outcome output
+
+-- 3: more bytes than the limit were taken, or the input was read to its end and has a first refusal; no output is
+-- written, but for the answers to what was taken, and the line says which refusal it is
+pub record IsInputRefused (task : Task) (source sink errors : Stream) (outcome : Outcome) : Type 0 where
+  pub refusal : Refusal
+  pub refused : RefusesAny (is_stream task) task source refusal
+  pub answers : WritesAnswers task source sink
+  pub ends : Ends errors outcome status.InputRefused (refusal_line refusal)
+
+-- 4: the task reads its source, and a read failed in this run, before what was taken was too long or refused; no output
+-- is written, but for the answers to what was taken
+pub record IsReadFailed (task : Task) (source sink errors : Stream) (outcome : Outcome) : Type 0 where
+  pub reads : is_read task ≡ true
+  pub rose : Rose source.before source.now
   pub taken : List ℕ
   pub takes : Takes source.old source.new taken
+  pub within : length taken ≤ limit_of task
   pub goes_on : GoesOn task taken
+  pub answers : Appends sink.old sink.new (answers_before task taken)
+  pub ends : Ends errors outcome status.ReadFailed read_line
+
+-- 5: a write failed in this run, and a front of the mode's output was written
+pub record IsWriteFailed (task : Task) (source sink errors : Stream) (outcome : Outcome) : Type 0 where
+  pub rose : Rose sink.before sink.now
+  pub within : TakesWithin (limit_of task) source.old source.new
+  pub front : WritesAnyFront (is_stream task) task source sink
+  pub ends : Ends errors outcome status.WriteFailed write_line
+
+-- 6: out of memory; no output is written, but for the answers to a front of what was taken
+pub record IsOutOfMemory (task : Task) (source sink errors : Stream) (outcome : Outcome) : Type 0 where
+  pub within : TakesWithin (limit_of task) source.old source.new
+  pub answers : WritesSomeAnswers task source sink
+  pub ends : Ends errors outcome status.NoMemory memory_line
+
+-- what a run of a task did that ended with this status; it never ends as one whose words are refused
+abbrev pub EndsWith : Status → Task → Stream → Stream → Stream → Type 0 → Outcome → Type 0
+EndsWith status.Done task source sink errors is_finished outcome = IsDone task source sink errors is_finished outcome
+EndsWith status.WordsRefused task source sink errors is_finished outcome = ⊥
+EndsWith status.InputRefused task source sink errors is_finished outcome = IsInputRefused task source sink errors outcome
+EndsWith status.ReadFailed task source sink errors is_finished outcome = IsReadFailed task source sink errors outcome
+EndsWith status.WriteFailed task source sink errors is_finished outcome = IsWriteFailed task source sink errors outcome
+EndsWith status.NoMemory task source sink errors is_finished outcome = IsOutOfMemory task source sink errors outcome
+
+-- ---- every run
 
 pub record IsRun (task : Task) (source sink errors : Stream) (is_finished : Type 0) (outcome : Outcome) : Type 0 where
-  -- 0: the input was read to its end, and exactly the mode's output was written
-  pub done : outcome.status ≡ number_of status.Done → IsDone task source sink errors is_finished outcome
-  -- 3: more bytes than the limit were taken and that is told, or the input was read to its end and its first refusal is
-  -- told
-  pub refused : outcome.status ≡ number_of status.InputRefused → TellsRefusal task source errors
-  -- 4: a read failed in this run, before the input was refused, and that is told
-  pub read_fault : outcome.status ≡ number_of status.ReadFailed → Rose source.before source.now
-  pub read_open : outcome.status ≡ number_of status.ReadFailed → TakesOpen task source
-  pub told_read : outcome.status ≡ number_of status.ReadFailed → Tells errors read_line
-  -- 5: a write failed in this run, a front of the mode's output was written, and that is told
-  pub write_fault : outcome.status ≡ number_of status.WriteFailed → Rose sink.before sink.now
-  pub front : outcome.status ≡ number_of status.WriteFailed → WritesAnyFront (is_stream task) task source sink
-  pub told_write : outcome.status ≡ number_of status.WriteFailed → Tells errors write_line
-  -- 6: want of memory is told
-  pub told_memory : outcome.status ≡ number_of status.NoMemory → Tells errors memory_line
-  -- but at 3 at most as many bytes as the limit are taken, and at 3 at most one more
-  pub within : outcome.status ≢ number_of status.InputRefused → TakesWithin (limit_of task) source.old source.new
+  -- at most one byte more than the limit is taken
   pub most : TakesWithin (limit_of task + 1) source.old source.new
-  -- a source that the task doesn't read is left as it was
+  -- a source that the task doesn't read isn't touched
   pub left : IsLeft (is_read task) source
-  -- but at 0 and 5 nothing is written, save the answers to all that was taken, or at 6 to a front of it
-  pub nothing : outcome.status ≢ number_of status.Done → outcome.status ≢ number_of status.WriteFailed
-      → outcome.status ≢ number_of status.NoMemory → WritesAnswers task source sink
-  pub nothing_more : outcome.status ≡ number_of status.NoMemory → WritesSomeAnswers task source sink
-  -- but at 0 nothing is kept
-  pub books : outcome.status ≢ number_of status.Done → outcome.books ≡ []
-  pub programs : outcome.status ≢ number_of status.Done → outcome.programs ≡ []
-  pub ran : outcome.status ≢ number_of status.Done → outcome.ran ≡ 0
-  -- there is no other status
-  pub statuses : outcome.status ≤ number_of status.NoMemory
-  pub no_1 : outcome.status ≢ 1
-  pub words : outcome.status ≢ number_of status.WordsRefused
+  -- how it ended: the outcome's number is that of this status, and what the status says holds
+  pub end : Status
+  pub numbered : outcome.status ≡ number_of end
+  pub ended : EndsWith end task source sink errors is_finished outcome
 
--- the words aren't accepted: nothing is read or written, and that is told, or want of memory
+-- the words aren't accepted: nothing is read or written, and that is reported, or out of memory
 pub record IsUnasked (source sink errors : Stream) (outcome : Outcome) : Type 0 where
-  pub untouched : source.new ≡ source.old
-  pub nothing : sink.new ≡ sink.old
+  pub unread : IsUntouched source
+  pub unwritten : IsUntouched sink
   pub told : outcome.status ≢ number_of status.NoMemory → Ends errors outcome status.WordsRefused words_line
   pub told_memory : outcome.status ≡ number_of status.NoMemory → Ends errors outcome status.NoMemory memory_line

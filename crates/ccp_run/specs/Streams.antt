@@ -19,15 +19,20 @@ pub record ReadsToEnd (source : Stream) (bytes : List ℕ) : Type 0 where
   pub taken : Takes source.old source.new bytes
   pub end : IsAtEnd source.new
 
+-- no call was made: the bytes and the count of faults are as they were
+pub record IsUntouched (stream : Stream) : Type 0 where
+  pub bytes : stream.new ≡ stream.old
+  pub faults : stream.now ≡ stream.before
+
 -- nothing is read of a source that isn't used
 pub record IsUnused (source : Stream) (bytes : List ℕ) : Type 0 where
   pub none : bytes ≡ []
-  pub same : source.new ≡ source.old
+  pub same : IsUntouched source
 
 -- a source that isn't read is as it was
 abbrev pub IsLeft : Bool → Stream → Type 0
 IsLeft true source = Unit {0}
-IsLeft false source = source.new ≡ source.old
+IsLeft false source = IsUntouched source
 
 -- these are the bytes of the input, where it says whether there is one
 abbrev pub HasInput : Bool → Stream → List ℕ → Type 0

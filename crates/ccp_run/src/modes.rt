@@ -15,7 +15,7 @@ mod timeline;
 ghost use Rattle.std.specs.Prelude.{◌≡◌, false};
 ghost use Rattle.ccp_words.specs.Words.{HasWorkers};
 ghost use Rattle.ccp_run.specs.Attempts.{IsAnswer, IsAttempt};
-ghost use Rattle.ccp_run.specs.Modes.{Task, is_stream, limit_in, task_of};
+ghost use Rattle.ccp_run.specs.Modes.{Task, is_alone, is_stream, limit_in, task_of};
 ghost use Rattle.ccp_run.specs.Run.{IsRun};
 ghost use Rattle.ccp_run.specs.Streams.{over};
 
@@ -74,13 +74,14 @@ fn limit(mode: Alone) -> Limit
 
 /// The output of a mode for an input that was read to its end. `feed` doesn't read its input so.
 fn output(alloc: Global, mode: Alone, bytes: &[u8]) -> Result<ModeOutput, Stop>
+    requires { is_stream (Task.Alone mode) ≡ false }
     ensures { IsAnswer (Task.Alone mode) bytes.now result }
 {
     match mode {
         Alone::Check => check_output(alloc, bytes),
         Alone::Fold => fold_output(alloc, bytes),
         Alone::Audit => audit_output(alloc, bytes),
-        Alone::Feed => Err(Stop::NoMemory),
+        Alone::Feed => unreachable!(),
     }
 }
 
@@ -114,7 +115,7 @@ pub fn asked_run<R: Threads + Wait + Sync, S: Source, K: Sink, E: Sink, G: Gate 
     }
 }
 
-/// What a mode comes to before anything is written.
+/// What a mode with workers comes to before anything is written.
 fn attempt<R: Threads + Wait + Sync, S: Source, G: Gate + Sync>(
     rt: &R,
     alloc: Global,
@@ -122,13 +123,14 @@ fn attempt<R: Threads + Wait + Sync, S: Source, G: Gate + Sync>(
     source: &mut S,
     gate: &G,
 ) -> Result<ModeOutput, Stop>
-    requires { HasWorkers asked }
+    requires workers { HasWorkers asked }
+    requires together { is_alone asked.mode ≡ false }
     ensures { IsAttempt (task_of asked) (over S.remaining S.faults source.old source.new) result }
 {
     let (workers, wire) = (asked.workers, asked.wire);
     let (datapaths, agents) = (asked.datapaths, asked.agents);
     match asked.mode {
-        ToolMode::Alone(mode) => read_output(alloc, mode, source),
+        ToolMode::Alone(_) => unreachable!(),
         ToolMode::Live => read_live(rt, alloc, datapaths, agents, wire, source, gate),
         ToolMode::Campaign => read_campaign(rt, alloc, workers, wire, source, gate),
         ToolMode::Soak => soak_output(rt, alloc, workers, asked.number, gate),
@@ -159,7 +161,7 @@ fn whole<S: Source, K: Sink, E: Sink>(
     end(alloc, made, sink, errors)
 }
 
-/// Does the work of a mode, on workers where it has them, and then writes.
+/// Does the work of a mode on workers, and then writes.
 fn workers_run<R: Threads + Wait + Sync, S: Source, K: Sink, E: Sink, G: Gate + Sync>(
     rt: &R,
     alloc: Global,
@@ -170,6 +172,7 @@ fn workers_run<R: Threads + Wait + Sync, S: Source, K: Sink, E: Sink, G: Gate + 
     gate: &G,
 ) -> Outcome
     requires workers { HasWorkers asked }
+    requires together { is_alone asked.mode ≡ false }
     requires plain { is_stream (task_of asked) ≡ false }
     ensures { IsRun (task_of asked)
         (over S.remaining S.faults source.old source.new)
@@ -183,6 +186,7 @@ fn workers_run<R: Threads + Wait + Sync, S: Source, K: Sink, E: Sink, G: Gate + 
 /// Reads the source to its end, and makes the mode's output.
 #[tactic(auto, using(crate::proofs::ReadLemmas::not_read, crate::proofs::ReadLemmas::answered))]
 fn read_output<S: Source>(alloc: Global, mode: Alone, source: &mut S) -> Result<ModeOutput, Stop>
+    requires { is_stream (Task.Alone mode) ≡ false }
     ensures { IsAttempt (Task.Alone mode) (over S.remaining S.faults source.old source.new) result }
 {
     match read_bytes(alloc, limit(mode), source) {

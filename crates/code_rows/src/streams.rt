@@ -1,7 +1,7 @@
 //! Streams in memory and those of the process.
 use ccp_base::{
-    Bytes, Failed, MemSink, MemSource, Numbers, ReadFault, Sink, Source, StdErr, StdIn, StdOut,
-    read_all, write_all,
+    Bytes, Failed, MemSink, MemSource, Numbers, ReadFault, Reader, Sink, Source, Writer, read_all,
+    write_all,
 };
 use std::alloc::Global;
 use std::test::Fail;
@@ -91,11 +91,11 @@ fn what_is_written(rt: HostRuntime) {
 // an empty piece, so that the test doesn't wait for input
 #[test]
 fn real_streams(rt: HostRuntime) {
-    let read = StdIn::new(rt.stdin()).read(&mut []);
+    let read = Reader::new(rt.stdin()).read(&mut []);
     assert!(rt; read == Ok(0));
-    let mut output = StdOut::new(rt.stdout());
+    let mut output = Writer::new(rt.stdout());
     assert!(rt; write_all(&mut output, b"to the standard output\n").is_ok());
-    let mut errors = StdErr::new(rt.stderr());
+    let mut errors = Writer::new(rt.stderr());
     assert!(rt; write_all(&mut errors, b"to the standard error\n").is_ok());
 }
 

@@ -2,7 +2,7 @@ ghost use Rattle.std.specs.Prelude.{◌≡◌, ◌≤◌, IfOk};
 ghost use Rattle.ccp_base.specs.Limits.{most_workers};
 ghost use Rattle.ccp_run.specs.Attempts.{IsAttempt};
 ghost use Rattle.ccp_run.specs.Soak.{IsSoakOutput};
-ghost use Rattle.ccp_run.specs.Streams.{Stream};
+ghost use Rattle.ccp_run.specs.Streams.{Stream, IsUntouched};
 ghost use Rattle.ccp_run.specs.Modes.{Task};
 
 use crate::outcome::ModeOutput;
@@ -25,7 +25,7 @@ pub fn soak_output<R: Threads + Wait + Sync, G: Gate + Sync>(
     gate: &G,
 ) -> Result<ModeOutput, Stop>
     requires workers { (1 ≤ workers) × (workers ≤ most_workers) }
-    ensures { (source : Stream) → source.new ≡ source.old → IsAttempt (Task.Soak number) source result }
+    ensures { (source : Stream) → IsUntouched source → IsAttempt (Task.Soak number) source result }
 {
     Ok(soaked(rt, alloc, workers, number, gate)?)
 }

@@ -9,4 +9,4 @@ pub returns-in-Soak : goal.returns-in-Soak
 returns-in-Soak g c =
     let source : Stream = over g.S.Source.remaining g.S.Source.faults c.args.source.now c.args.source.now in
     subst (λ (task : Task). IsAttempt task source c.soak_output.result) (sym (ap (λ mode. task_in mode c.args.asked) c.in-Soak.is))
-    (c.soak_output.ensures source refl)
+    (c.soak_output.ensures source (record { bytes = refl; faults = refl }))

@@ -7,7 +7,7 @@ use Rattle.ccp_run.specs.Run.{IsRun}
 use Rattle.ccp_run.specs.Streams.{Stream, over}
 use Rattle.ccp_run.proofs.CompleteRuns.{complete}
 use Rattle.ccp_run.proofs.ModeLaws.{no_both}
-use Rattle.ccp_run.proofs.RunLemmas.{wants_at_once}
+use Rattle.ccp_run.proofs.RunLemmas.{never_words_refused, wants_at_once}
 use Rattle.ccp_run.proofs.tool.run.Goals as goal
 
 one_some : (left right : Asked) → Some left ≡ Some right → left ≡ right
@@ -25,7 +25,7 @@ returns-in-Ok g c =
     let accepted : are_accepted given ≡ true = sym (ap (λ xs. are_accepted (map string_bytes xs)) words) ∙ c.in-Ok.ensures.accepted in
     let found : asked_in given ≡ Some c.in-Ok.asked = sym (ap (λ xs. asked_in (map string_bytes xs)) words) ∙ c.in-Ok.ensures.asked in
     record {
-      words = λ _. ((λ refused. absurd (run.words refused)), (λ not. no_both (sym accepted ∙ not)));
+      words = λ _. ((λ refused. absurd (never_words_refused (task_of c.in-Ok.asked) source sink errors (g.K.Sink.is_finished c.asked_run.new.sink) c.asked_run.result run refused)), (λ not. no_both (sym accepted ∙ not)));
       unasked = λ not. no_both (sym accepted ∙ not);
       asks = λ _ _. ap is_some found;
       asked = λ asked _ is.
@@ -44,10 +44,10 @@ returns g c =
     let errors : Stream = over g.E.Sink.written g.E.Sink.faults c.args.errors.now c.end_without-in-Err-NoMemory.new.errors in
     let ends = c.end_without-in-Err-NoMemory.ensures in
     let run : (asked : Asked) → IsRun (task_of asked) source sink errors (g.K.Sink.is_finished c.args.sink.now) c.end_without-in-Err-NoMemory.result =
-    λ asked. wants_at_once (task_of asked) source sink errors (g.K.Sink.is_finished c.args.sink.now) c.end_without-in-Err-NoMemory.result refl refl ends in
+    λ asked. wants_at_once (task_of asked) source sink errors (g.K.Sink.is_finished c.args.sink.now) c.end_without-in-Err-NoMemory.result (record { bytes = refl; faults = refl }) refl ends in
     record {
       words = λ not6. absurd (not6 ends.status);
-      unasked = λ _. record { untouched = refl; nothing = refl; told = λ not6. absurd (not6 ends.status); told_memory = λ _. ends };
+      unasked = λ _. record { unread = record { bytes = refl; faults = refl }; unwritten = record { bytes = refl; faults = refl }; told = λ not6. absurd (not6 ends.status); told_memory = λ _. ends };
       asks = λ _ not6. absurd (not6 ends.status);
       asked = λ asked _ _. run asked;
       complete = λ asked _ _.
