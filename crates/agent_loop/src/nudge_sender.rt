@@ -1,3 +1,5 @@
+//! Nudges that go through a channel.
+
 use crossbeam_channel::Sender;
 use flow_table::Nudges;
 use std::alloc::Global;

@@ -1,3 +1,5 @@
+//! The work of a datapath worker over a table of flows.
+
 ghost use Rattle.std.specs.Prelude.{◌≡◌, ◌<◌, length};
 ghost use Rattle.flow_table.specs.Duties.{duty};
 

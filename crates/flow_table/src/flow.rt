@@ -1,3 +1,5 @@
+//! What a flow is to its table, its workers and the caller.
+
 ghost use Rattle.std.specs.Prelude.{◌≡◌, ℕ, ◌<◌, ◌↔◌, true, false, IsTrue, IfOk, OnOk, OnErr};
 
 use ccp_base::NoMemory;

@@ -1,3 +1,5 @@
+//! The desk of a datapath worker over a table of flows.
+
 ghost use Rattle.std.specs.Prelude.{◌≡◌, ℕ, ◌+◌, ◌<◌, ◌≤◌, Option, Some, None, option_map, [], ◌∷◌, length};
 ghost use Rattle.worker_desk.specs.Logs.{Known, Logs};
 ghost use Rattle.worker_desk.specs.Serving.{heard};

@@ -1,3 +1,5 @@
+//! A flow while its lock is held.
+
 use std::sync::MutexGuard;
 
 /// A flow whose lock is held, with its number.

@@ -1,3 +1,5 @@
+//! A flow with its lock and its case.
+
 ghost use Rattle.std.specs.Prelude.{◌≡◌, Ok, IfOk};
 
 use crate::flow::LockedFlow;

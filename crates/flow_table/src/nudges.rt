@@ -1,3 +1,5 @@
+//! How datapath workers let agent workers know that something waits.
+
 use std::sync::Wait;
 
 /// Where datapath workers send the numbers of flows of which a report or a fault waits.

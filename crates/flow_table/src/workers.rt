@@ -1,3 +1,5 @@
+//! The numbers of workers of a run.
+
 ghost use Rattle.std.specs.Prelude.{◌≤◌};
 ghost use Rattle.ccp_base.specs.Limits.{most_workers};
 
