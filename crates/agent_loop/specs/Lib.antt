@@ -1,4 +1,3 @@
 -- The definitions of agent_loop, a file each.
 pub mod Crews
 pub mod LiveBooks
-pub mod Nearer

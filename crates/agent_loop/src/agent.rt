@@ -4,6 +4,7 @@ ghost use Rattle.agent_loop.specs.Crews.{post};
 use crate::nudged_desk::NudgedDesk;
 use ccp_base::Gate;
 use crossbeam_channel::Receiver;
+use flow_core::Cell;
 use flow_table::FlowTable;
 use std::alloc::Global;
 use std::sync::Wait;
@@ -13,7 +14,7 @@ use worker_desk::Attended;
 pub(crate) fn attend<R: Wait, G: Gate>(
     rt: &R,
     alloc: Global,
-    table: &FlowTable,
+    table: &FlowTable<Cell>,
     worker: u32,
     nudges: &Receiver<u32, Global>,
     gate: &G,

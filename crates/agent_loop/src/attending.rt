@@ -6,6 +6,7 @@ ghost use Rattle.agent_loop.specs.Crews.{post_of, post};
 use crate::agent::attend;
 use ccp_base::{Gate, NoMemory};
 use crossbeam_channel::Receiver;
+use flow_core::Cell;
 use flow_table::FlowTable;
 use std::alloc::Global;
 use std::sync::Wait;
@@ -26,7 +27,7 @@ pub(crate) fn begin<'s, 'e, R: Threads + Wait + Sync, G: Gate + Sync>(
     scope: &'s Scope<'s, &'e ()>,
     rt: &'e R,
     alloc: Global,
-    table: &'e FlowTable,
+    table: &'e FlowTable<Cell>,
     worker: u32,
     receiver: &Receiver<u32, Global>,
     gate: &'e G,
@@ -54,7 +55,7 @@ pub(crate) fn begin<'s, 'e, R: Threads + Wait + Sync, G: Gate + Sync>(
 fn end<R: Threads + Wait, G: Gate>(
     rt: &R,
     alloc: Global,
-    table: &FlowTable,
+    table: &FlowTable<Cell>,
     attending: Attending,
     receiver: &Receiver<u32, Global>,
     gate: &G,
@@ -71,7 +72,7 @@ fn end<R: Threads + Wait, G: Gate>(
 pub(crate) fn end_all<R: Threads + Wait, G: Gate>(
     rt: &R,
     alloc: Global,
-    table: &FlowTable,
+    table: &FlowTable<Cell>,
     attendings: Vec<Attending>,
     receiver: &Receiver<u32, Global>,
     gate: &G,

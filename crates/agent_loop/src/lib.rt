@@ -5,12 +5,10 @@ mod agent;
 mod attending;
 mod books;
 mod crew;
-mod datapath;
+mod nudge_sender;
 mod nudged_desk;
 mod run;
 mod serving;
-mod table_desk;
-mod turn;
 mod workers;
 
 use ccp_base::Sequence;

@@ -2,11 +2,11 @@ ghost use Rattle.std.specs.Prelude.{◌≡◌, ℕ, ◌+◌, ◌<◌, ◌≤◌,
 ghost use Rattle.worker_desk.specs.Logs.{Known, Logs};
 ghost use Rattle.worker_desk.specs.declared.event.Event.TheVariants.{Passed, Locked, Unlocked, Received, Took, Settled};
 
-use crate::table_desk::Held;
 use agent_core::{Answer, Ticket};
 use ccp_base::{Gate, Point};
 use crossbeam_channel::Receiver;
-use flow_table::FlowTable;
+use flow_core::Cell;
+use flow_table::{FlowTable, Held};
 use std::alloc::Global;
 use std::sync::Wait;
 use worker_desk::AgentDesk;
@@ -16,10 +16,10 @@ use worker_desk::AgentDesk;
 pub(crate) struct NudgedDesk<'a, R: Wait, G: Gate> {
     pub(crate) rt: &'a R,
     pub(crate) alloc: Global,
-    pub(crate) table: &'a FlowTable,
+    pub(crate) table: &'a FlowTable<Cell>,
     pub(crate) nudges: &'a Receiver<u32, Global>,
     pub(crate) gate: &'a G,
-    pub(crate) held: Option<Held<'a>>,
+    pub(crate) held: Option<Held<'a, Cell>>,
     /// How many numbers may still come; after the last one it waits forever.
     pub(crate) left: u64,
 }
@@ -52,8 +52,7 @@ impl<'a, R: Wait, G: Gate> AgentDesk for NudgedDesk<'a, R, G> {
     }
 
     fn lock(&mut self, flow: u32) {
-        let cell = self.table.cell(flow).lock(self.rt);
-        self.held = Some(Held { flow, cell });
+        self.held = Some(self.table.lock(self.rt, flow));
     }
 
     fn unlock(&mut self, _flow: u32) {

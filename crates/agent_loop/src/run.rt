@@ -4,10 +4,10 @@ ghost use Rattle.agent_loop.specs.LiveBooks.{AreBooksOf};
 
 use crate::Books;
 use crate::books::books;
-use crate::crew::Workers;
 use crate::workers::work;
 use ccp_base::{Gate, NoMemory};
-use flow_table::FlowTable;
+use flow_core::Cell;
+use flow_table::{FlowTable, Workers};
 use std::alloc::Global;
 use std::sync::Wait;
 use std::thread::Threads;
@@ -25,7 +25,7 @@ use std::thread::Threads;
 pub fn live<R: Threads + Wait + Sync, G: Gate + Sync>(
     rt: &R,
     alloc: Global,
-    table: FlowTable,
+    table: FlowTable<Cell>,
     datapaths: u32,
     agents: u32,
     gate: &G,

@@ -1,10 +1,12 @@
 ghost use Rattle.std.specs.Prelude.{IfOk, length};
 ghost use Rattle.agent_loop.specs.Crews.{HasWorked};
 
-use crate::crew::{Crew, Workers};
+use crate::crew::Crew;
+use crate::nudge_sender::NudgeSender;
 use crate::{attending, serving};
 use ccp_base::{Gate, NoMemory};
-use flow_table::FlowTable;
+use flow_core::Cell;
+use flow_table::{FlowTable, Workers, end_serving};
 use std::alloc::Global;
 use std::sync::Wait;
 use std::thread;
@@ -15,7 +17,7 @@ use std::thread::Threads;
 pub(crate) fn work<R: Threads + Wait + Sync, G: Gate + Sync>(
     rt: &R,
     alloc: Global,
-    table: &FlowTable,
+    table: &FlowTable<Cell>,
     workers: Workers,
     gate: &G,
 ) -> Result<Crew, NoMemory>
@@ -35,13 +37,11 @@ pub(crate) fn work<R: Threads + Wait + Sync, G: Gate + Sync>(
                     scope, rt, alloc, table, worker, &receiver, gate,
                 )?)?;
             }
-            let mut servings = Vec::new(alloc);
-            for worker in 0..workers.datapaths {
-                servings.push(serving::begin(scope, rt, table, workers, worker, &sender, gate)?)?;
-            }
-            let served = serving::end_all(rt, alloc, servings)?;
+            let nudges = NudgeSender { sender };
+            let servings = serving::begin_all(scope, rt, alloc, table, workers, &nudges, gate)?;
+            let served = end_serving(rt, alloc, servings)?;
             // Agent workers end where the last sender is gone.
-            drop(sender);
+            drop(nudges);
             let attended = attending::end_all(rt, alloc, table, attendings, &receiver, gate)?;
             Ok(Crew { served, attended })
         },

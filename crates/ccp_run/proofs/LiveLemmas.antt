@@ -1,5 +1,5 @@
 -- The books of a live run tell what their words come to over the sources of the programs.
-use Rattle.std.proofs.Common.{◌≡◌, ◌∙◌, ℕ, zero, suc, ◌+◌, Some, List, [], ◌∷◌, ◌++◌, map, slice_get, ap, sym, subst, refl, arith}
+use Rattle.std.proofs.Common.{◌≡◌, ◌∙◌, ℕ, suc, ◌+◌, List, [], ◌∷◌, ◌++◌, map, ap, sym, subst, refl, arith}
 use Rattle.std.specs.List.{All}
 use Rattle.std.proofs.lemmas.List.Elements.{All-cons, All-nil}
 use Rattle.ccp_base.specs.declared.exchange.Notice.{Notice}
@@ -18,30 +18,15 @@ use Rattle.flow_core.specs.Readings.{Flow, over_codes}
 use Rattle.flow_core.specs.Words.{world}
 use Rattle.flow_core.specs.World.{Failure, Content, of_report, of_failure, Answered, World, notice_of, told_as, track_of}
 use Rattle.flow_core.proofs.LiftLemmas.{link-lift, legal-lift, complete-lift}
-use Rattle.flow_table.specs.Tables.{AreNumbered}
-use Rattle.agent_loop.specs.LiveBooks.{IsWhole, AreBooksOf}
+use Rattle.flow_table.specs.WholeBooks.{IsWhole}
+use Rattle.agent_loop.specs.LiveBooks.{AreBooksOf}
 use Rattle.campaign_gate.proofs.LiftedRowLemmas.{track-lifts}
 use Rattle.campaign_report.specs.BookText.{failure_of, places_of}
 use Rattle.campaign_report.specs.BooksRead.{content_of, answered_of, read_flow, read_world, IsRead}
-use Rattle.scenario_json.specs.Cases.{IsCoded, AreFlowsFrom, AreNumberedFrom}
+use Rattle.scenario_json.specs.Cases.{IsCoded, AreNumberedFrom}
 use Rattle.scenario_json.specs.ScenePrograms.{forms_of}
 use Rattle.ccp_run.specs.Live.{IsRightBook, book_cases}
-use Rattle.ccp_run.proofs.CodedLemmas.{at_zero, one_some, no_some, simulated}
-
--- ---- cases in order
-
-numbered_from : (flow : ℕ) (cases : List Case) → AreFlowsFrom flow cases
-    → (place : ℕ) (case : Case) → slice_get cases place ≡ Some case → case.flow ≡ flow + place
-numbered_from flow [] flows place case is = absurd (no_some case is)
-numbered_from flow (first ∷ rest) flows zero case is =
-    let number : case.flow ≡ flow = ap (λ (c : Case). c.flow) (sym (one_some first case is)) ∙ flows.0 in
-    omega (arith, number)
-numbered_from flow (first ∷ rest) flows (suc place) case is =
-    let number : case.flow ≡ (flow + 1) + place = numbered_from (flow + 1) rest flows.1 place case is in
-    omega (arith, number)
-
-pub flows_numbered : (cases : List Case) → AreFlowsFrom 0 cases → AreNumbered cases
-flows_numbered cases flows place case is = numbered_from 0 cases flows place case is ∙ at_zero place
+use Rattle.ccp_run.proofs.CodedLemmas.{simulated}
 
 -- ---- what a book over codes tells, with the places of instructions
 

@@ -9,7 +9,7 @@ use Rattle.flow_core.specs.declared.letter.Letter.{Letter}
 use Rattle.flow_core.specs.Books.{IsBookOf}
 use Rattle.flow_core.specs.Cells.{CellState, flow_at, world_at, IsComplete, IsLifted}
 use Rattle.flow_core.specs.LiveText.{source_at}
-use Rattle.agent_loop.specs.LiveBooks.{IsWhole}
+use Rattle.flow_table.specs.WholeBooks.{IsWhole}
 use Rattle.campaign_gate.specs.CampaignBooks.{IsCampaignBook, AreCampaignBooks, HasSourcePlan, acks_of_case}
 use Rattle.campaign_gate.specs.CampaignWord.{plan}
 use Rattle.campaign_report.specs.BookText.{places_of}

@@ -6,7 +6,7 @@ use Rattle.scenario_json.specs.declared.open_case.OpenCase.{OpenCase}
 use Rattle.scenario_json.specs.OpenCases.{open_plan_of, AreOpenFlowsFrom}
 use Rattle.scenario_json.specs.Rollout.{OpenPlan, rollout_of}
 use Rattle.scenario_json.specs.ScenePrograms.{TextReading, ReadsTexts}
-use Rattle.open_flow.specs.declared.letter.OpenLetter.{OpenLetter}
+use Rattle.live_install.specs.declared.letter.OpenLetter.{OpenLetter}
 use Rattle.live_install.specs.RolloutText.{rollout_text}
 use Rattle.live_install.specs.WholeBooks.{IsHistory}
 use Rattle.ccp_run.specs.declared.outcome.ModeOutput.{ModeOutput}

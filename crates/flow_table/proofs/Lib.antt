@@ -1,2 +1,3 @@
 -- The lemmas of flow_table, a file a topic.
-pub mod TableLemmas
+pub mod BookLemmas
+pub mod TurnLemmas

@@ -1,2 +1,4 @@
 -- The definitions of flow_table, a file each.
-pub mod Tables
+pub mod Duties
+pub mod NextLetter
+pub mod WholeBooks

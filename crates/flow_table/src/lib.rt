@@ -1,15 +1,25 @@
-//! The flows of a live run, each behind a lock of its own.
+//! Flows behind locks: a table of them, what datapath workers do to them, and their books once all workers are done.
+//! What a flow is stands behind a trait.
 #![tactic(auto)]
 
+mod books;
+mod datapath;
+mod flow;
+mod flow_desk;
+mod held;
+mod live_flow;
 mod locked;
+mod nudges;
+mod serving;
 mod table;
+mod turn;
+mod workers;
 
-use ccp_base::Sequence;
-use flow_core::{Case, Cell};
+pub use books::make_books;
+pub use datapath::serve;
+pub use flow::LockedFlow;
+pub use held::Held;
+pub use nudges::{NoNudges, Nudges};
+pub use serving::{Serving, end_serving};
 pub use table::FlowTable;
-
-/// Cases in order.
-pub type Cases = Sequence<Case>;
-
-/// Flows in order.
-pub type Cells = Sequence<Cell>;
+pub use workers::Workers;

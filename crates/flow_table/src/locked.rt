@@ -1,51 +1,53 @@
+//! A flow with its lock and its case.
+
 ghost use Rattle.std.specs.Prelude.{◌≡◌, Ok, IfOk};
 
+use crate::flow::LockedFlow;
 use ccp_base::NoMemory;
-use flow_core::{Case, Cell};
 use std::alloc::Global;
 use std::sync::Mutex;
 
 /// A flow behind its lock, and its case beside it.
 #[derive(Drop)]
-pub(crate) struct Locked {
-    pub(crate) case: Case,
-    pub(crate) cell: Mutex<Cell>,
+pub(crate) struct Locked<F: LockedFlow> {
+    pub(crate) case: F::Case,
+    pub(crate) flow: Mutex<F>,
 }
 
-impl Locked {
+impl<F: LockedFlow> Locked<F> {
     /// A flow without a letter.
-    pub(crate) fn open(alloc: Global, case: Case) -> Result<Locked, NoMemory>
+    pub(crate) fn open(alloc: Global, case: F::Case) -> Result<Locked<F>, NoMemory>
         ensures { IfOk result (λ locked. locked.case ≡ case) }
     {
-        let kept = case.copy(alloc)?;
-        let cell = Mutex::new(Cell::new(alloc, case)?);
-        Ok(Locked { case: kept, cell })
+        let kept = F::copy(alloc, &case)?;
+        let flow = Mutex::new(F::open(alloc, case)?);
+        Ok(Locked { case: kept, flow })
     }
 
     /// The flow as its workers left it.
-    pub(crate) fn close(self, alloc: Global) -> Result<Cell, NoMemory>
-        ensures { IfOk result (λ cell. cell.case ≡ self.case) }
+    pub(crate) fn close(self, alloc: Global) -> Result<F, NoMemory>
+        ensures { IfOk result (λ flow. F.case_of flow ≡ self.case) }
     {
-        kept(alloc, self.cell.into_inner(), &self.case)
+        kept(alloc, self.flow.into_inner(), &self.case)
     }
 }
 
-/// The cell, where it is of this case; else a new one.
-fn kept(alloc: Global, cell: Cell, case: &Case) -> Result<Cell, NoMemory>
-    ensures case { IfOk result (λ cell. cell.case ≡ case.now) }
-    ensures kept { cell.case ≡ case.now → result ≡ Ok cell }
+/// The flow, where it is of this case; else a new one.
+fn kept<F: LockedFlow>(alloc: Global, flow: F, case: &F::Case) -> Result<F, NoMemory>
+    ensures case { IfOk result (λ flow. F.case_of flow ≡ case.now) }
+    ensures kept { F.case_of flow ≡ case.now → result ≡ Ok flow }
 {
-    if cell.case().same(case) {
-        Ok(cell)
+    if flow.is_of(case) {
+        Ok(flow)
     } else {
-        in_place_of(alloc, cell, case)
+        in_place_of(alloc, flow, case)
     }
 }
 
-/// A new cell of the case, in place of one of another.
-fn in_place_of(alloc: Global, cell: Cell, case: &Case) -> Result<Cell, NoMemory>
-    ensures { IfOk result (λ cell. cell.case ≡ case.now) }
+/// A new flow of the case, in place of one of another.
+fn in_place_of<F: LockedFlow>(alloc: Global, flow: F, case: &F::Case) -> Result<F, NoMemory>
+    ensures { IfOk result (λ flow. F.case_of flow ≡ case.now) }
 {
-    drop(cell);
-    Cell::new(alloc, case.copy(alloc)?)
+    drop(flow);
+    F::open(alloc, F::copy(alloc, case)?)
 }

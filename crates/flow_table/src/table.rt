@@ -1,39 +1,35 @@
-ghost use Rattle.std.specs.Prelude.{◌≡◌, ◌<◌, ◌≤◌, length, map, IfOk};
+ghost use Rattle.std.specs.Prelude.{◌≡◌, ◌<◌, ◌≤◌, length, map, slice_get, Some, IfOk};
 ghost use Rattle.ccp_base.specs.Limits.{most_flows};
-ghost use Rattle.flow_table.specs.Tables.{AreNumbered, case_of};
 
+use crate::flow::LockedFlow;
+use crate::held::Held;
 use crate::locked::Locked;
-use crate::{Cases, Cells};
-use ccp_base::NoMemory;
-use flow_core::Cell;
+use ccp_base::{NoMemory, Sequence};
 use std::alloc::Global;
 use std::marker::Model;
-use std::sync::Mutex;
+use std::sync::{Mutex, Wait};
 
-/// The flows of a live run, a flow a case, each behind a lock of its own. Contracts see the list of the cases.
+/// Flows, a flow a case, each behind a lock of its own. Contracts see the list of the cases.
 #[derive(Drop)]
-pub struct FlowTable {
-    flows: Vec<Locked>,
+pub struct FlowTable<F: LockedFlow> {
+    flows: Vec<Locked<F>>,
 }
 
-impl Model for FlowTable {
-    ghost use Rattle.std.specs.Prelude.{List, map};
-    ghost use Rattle.flow_core.specs.declared.case.Case.{Case};
-    ghost use Rattle.flow_table.specs.Tables.{IsTable};
-    ghost use Rattle.flow_table.specs.declared.locked.Locked.{Locked};
+impl<F: LockedFlow> Model for FlowTable<F> {
+    ghost use Rattle.std.specs.Prelude.{List, map, length, ◌≤◌};
+    ghost use Rattle.ccp_base.specs.Limits.{most_flows};
 
-    ghost Value = { List Case };
+    ghost Value = { List F.Case };
 
-    ghost view = { λ t. map (λ (locked : Locked). locked.case) t.flows.items };
+    ghost view = { λ t. map (λ locked. locked.case) t.flows.items };
 
-    ghost invariant = { λ t. IsTable (map (λ (locked : Locked). locked.case) t.flows.items) };
+    ghost invariant = { λ t. length t.flows.items ≤ most_flows };
 }
 
-impl FlowTable {
-    /// Flows without a letter. There are at most 64 cases, and the case at place `i`, counted from 0, has flow `i`.
-    pub fn new(alloc: Global, cases: Cases) -> Result<FlowTable, NoMemory>
-        requires few { length cases ≤ most_flows }
-        requires numbered { AreNumbered cases }
+impl<F: LockedFlow> FlowTable<F> {
+    /// Flows without a letter. There are at most 64 cases.
+    pub fn new(alloc: Global, cases: Sequence<F::Case>) -> Result<FlowTable<F>, NoMemory>
+        requires { length cases ≤ most_flows }
         ensures { IfOk result (λ table. table ≡ cases) }
     {
         let mut left = cases.into_vec();
@@ -53,24 +49,41 @@ impl FlowTable {
         self.flows.len() as u32
     }
 
-    /// The lock of a flow. Whoever holds it calls `Cell::ack`, `Cell::take` or `Cell::settle` on what it keeps.
-    pub fn cell(&self, flow: u32) -> &Mutex<Cell>
+    /// The case of a flow.
+    pub fn case(&self, flow: u32) -> &F::Case
+        requires { flow < length self.now }
+        ensures { slice_get self.now flow ≡ Some result.now }
+    {
+        &self.flows[flow as usize].case
+    }
+
+    /// The lock of a flow. Whoever holds it makes letters of the flow by the calls of its type.
+    pub fn cell(&self, flow: u32) -> &Mutex<F>
         requires { flow < length self.now }
     {
-        &self.flows[flow as usize].cell
+        &self.flows[flow as usize].flow
+    }
+
+    /// Takes a flow's lock.
+    pub fn lock<'a, R: Wait>(&'a self, rt: &R, flow: u32) -> Held<'a, F>
+        requires { flow < length self.now }
+        ensures { result.flow ≡ flow }
+    {
+        let cell = self.cell(flow).lock(rt);
+        Held { flow, cell }
     }
 
     /// The flows as their workers left them, each of its case, in order. A lock's type can't tell whose flow it keeps,
     /// so cases are compared, and a flow of another case would be made anew.
-    pub fn close(self, alloc: Global) -> Result<Cells, NoMemory>
-        ensures { IfOk result (λ cells. map case_of cells ≡ self) }
+    pub fn close(self, alloc: Global) -> Result<Sequence<F>, NoMemory>
+        ensures { IfOk result (λ flows. map F.case_of flows ≡ self) }
     {
         let mut left = self.flows;
-        let mut cells = Cells::new(alloc);
+        let mut flows = Sequence::new(alloc);
         while !left.is_empty() {
             let locked = left.remove(0);
-            cells.push(locked.close(alloc)?)?;
+            flows.push(locked.close(alloc)?)?;
         }
-        Ok(cells)
+        Ok(flows)
     }
 }

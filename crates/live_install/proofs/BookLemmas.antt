@@ -10,12 +10,12 @@ use Rattle.flow_core.specs.declared.book.EpochLine.{EpochLine}
 use Rattle.flow_core.specs.Books.{epoch_line}
 use Rattle.flow_core.specs.World.{Failure}
 use Rattle.scenario_json.specs.ScenePrograms.{TextReading}
-use Rattle.open_flow.specs.declared.book.OpenBook.{OpenBook}
-use Rattle.open_flow.specs.BuiltTexts.{EntryState}
-use Rattle.open_flow.specs.Entries.{place_at}
-use Rattle.open_flow.specs.OpenBooks.{failure_at, seen_of, seen_as}
-use Rattle.open_flow.specs.OpenWorld.{OpenWorld, eras_of, track_now}
-use Rattle.open_flow.specs.OpenWords.{install_world}
+use Rattle.live_install.specs.declared.book.OpenBook.{OpenBook}
+use Rattle.live_install.specs.BuiltTexts.{EntryState}
+use Rattle.live_install.specs.Entries.{place_at}
+use Rattle.live_install.specs.OpenBooks.{failure_at, seen_of, seen_as}
+use Rattle.live_install.specs.OpenWorld.{OpenWorld, eras_of, track_now}
+use Rattle.live_install.specs.OpenWords.{install_world}
 use Rattle.live_install.specs.RolloutText.{OpenAccount, account_of, account_text, end_of, fault_lines, open_part, rollout_text}
 use Rattle.report_lines.specs.EndLine.{is_faulted}
 use Rattle.live_install.specs.BookText.{account_in, book_text, books_text, end_in, failures_in, notice_lines, placed, placed_line}

@@ -12,8 +12,8 @@ use Rattle.scenario_json.specs.contracts.open_case.OpenCase as Case
 use Rattle.fold_machine.specs.contracts.machine.Machine as Machine
 use Rattle.link_model.specs.contracts.link.Link as Link
 use Rattle.link_model.proofs.link.Link.TheSendSync as link
-use Rattle.open_flow.specs.contracts.entry.Entry as Entry
-use Rattle.open_flow.specs.contracts.cell.OpenCell as Cell
+use Rattle.live_install.specs.contracts.entry.Entry as Entry
+use Rattle.live_install.specs.contracts.cell.OpenCell as Cell
 
 cmd-send : IsSend Cmd.the_row
 cmd-send = search (crosses, knot.crosses, sendable) depth 60 fits 20000

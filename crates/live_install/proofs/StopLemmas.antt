@@ -15,10 +15,10 @@ use Rattle.portus_core.proofs.EventLaws.{after-append}
 use Rattle.flow_core.specs.World.{Failure, Era, failures_met}
 use Rattle.scenario_json.specs.declared.open_case.OpenCase.{OpenCase}
 use Rattle.scenario_json.specs.ScenePrograms.{TextReading}
-use Rattle.open_flow.specs.declared.letter.OpenLetter.{OpenLetter}
-use Rattle.open_flow.specs.declared.letter.OpenLetter.TheVariants.{A, I, G}
-use Rattle.open_flow.specs.OpenWorld.{Running, OpenWorld, opening, track_of, track_in, track_now, run_in, with_entry, eras_in, eras_of, next_of, with_next, cwnd_of}
-use Rattle.open_flow.specs.OpenWords.{next_ack, after_letter, world_from, install_world}
+use Rattle.live_install.specs.declared.letter.OpenLetter.{OpenLetter}
+use Rattle.live_install.specs.declared.letter.OpenLetter.TheVariants.{A, I, G}
+use Rattle.live_install.specs.OpenWorld.{Running, OpenWorld, opening, track_of, track_in, track_now, run_in, with_entry, eras_in, eras_of, next_of, with_next, cwnd_of}
+use Rattle.live_install.specs.OpenWords.{next_ack, after_letter, world_from, install_world}
 
 -- one of the failures is of the epoch with this number
 abbrev pub fails_in : ℕ → List (Failure Place) → Bool

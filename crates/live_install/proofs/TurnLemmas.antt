@@ -1,31 +1,21 @@
--- Which letter may come, by what a cell answers, and that it brings the flow nearer to the end of its word.
-use Rattle.std.specs.Prelude.{◌≡◌, ◌≢◌, ◌<◌, Bool, true, false, not, is_some, ◌&&◌, Option, Some, None, option_map, List, ℕ, length, slice_get, refl}
-use Rattle.std.proofs.Common.{arith}
+-- Which letter may come, by what a cell answers, and that it is the one that the caller makes next.
+use Rattle.std.specs.Prelude.{◌≡◌, ◌≤◌, ◌<◌, Bool, true, false, not, is_some, ◌&&◌, Option, Some, None, option_map, List, [], ◌∷◌, ◌++◌, ℕ, ◌+◌, ◌-◌, length, refl}
+use Rattle.std.proofs.Common.{arith, ap, sym, ◌∙◌, length-append}
 use Rattle.portus_core.specs.Programs.{Form}
-use Rattle.scenario_json.specs.ScenePrograms.{TextReading}
-use Rattle.open_flow.specs.OpenWorld.{OpenWorld, after_ack, after_install, after_change, next_of}
-use Rattle.open_flow.specs.OpenCells.{OpenState, world_at, ack_at, next_at}
-use Rattle.live_install.specs.LettersLeft.{letters_left, left_at, IsNearer}
-use Rattle.live_install.proofs.LeftLemmas.{left-ack, left-install, left-change}
-
--- a flow of the same case, whose state has fewer letters left
-pub nearer : (read : TextReading) (old new : OpenState) (w : OpenWorld) → new.case ≡ old.case → world_at read new ≡ w
-    → letters_left old.case w < left_at read old → IsNearer read old new
-nearer read old new w case world less =
-    let same : left_at read new ≡ letters_left old.case w = λ i. letters_left (case i) (world i) in
-    record { case = case; fewer = omega (arith, same, less) }
-
-no-change : {X : Type 0} (next : Option X) → is_some next ≡ false → next ≡ None
-no-change None is = refl
-no-change (Some x) is = absurd (let wrong : true ≡ false = is in (cc))
+use Rattle.scenario_json.specs.ScenePrograms.{TextReading, ReadsTexts}
+use Rattle.scenario_json.proofs.ReadingLemmas.{some_reading}
+use Rattle.live_install.specs.declared.letter.OpenLetter.{OpenLetter}
+use Rattle.live_install.specs.declared.letter.OpenLetter.TheVariants as letters
+use Rattle.live_install.specs.OpenCells.{OpenState, is_legal_at, most_letters}
+use Rattle.live_install.specs.NextLetter.{next_letter, next_letter_at, HasNext, letters_left}
 
 pub none-next : (next : Option (ℕ × Form)) → option_map (λ (n : ℕ × Form). n.0) next ≡ None → is_some next ≡ false
 none-next None is = refl
 none-next (Some n) is = absurd (let wrong : Some n.0 ≡ None = is in (cc))
 
-pub some-next : (next : Option (ℕ × Form)) (step : ℕ) → option_map (λ (n : ℕ × Form). n.0) next ≡ Some step → next ≢ None
+pub some-next : (next : Option (ℕ × Form)) (step : ℕ) → option_map (λ (n : ℕ × Form). n.0) next ≡ Some step → is_some next ≡ true
 some-next None step is = absurd (let wrong : None ≡ Some step = is in (cc))
-some-next (Some n) step is = λ none. absurd (let wrong : Some n ≡ None = none in (cc))
+some-next (Some n) step is = refl
 
 -- an acknowledgement is left, where a word that isn't complete has no change and no entry left
 pub acks-left : (more entry change : Bool) → (not more && (not entry && not change)) ≡ false → entry ≡ false → change ≡ false → more ≡ true
@@ -34,20 +24,51 @@ acks-left false true change complete no_entry none = absurd (let wrong : true �
 acks-left false false true complete no_entry none = absurd (let wrong : true ≡ false = none in (cc))
 acks-left false false false complete no_entry none = absurd (let wrong : true ≡ false = complete in (cc))
 
-module _ (read : TextReading) (old new : OpenState) where
-  pub nearer-A : new.case ≡ old.case → world_at read new ≡ after_ack old.case (ack_at read old) (world_at read old)
-      → length (world_at read old).acks < old.case.acks → IsNearer read old new
-  nearer-A case world more =
-      nearer read old new (after_ack old.case (ack_at read old) (world_at read old)) case world (left-ack read old.case (ack_at read old) (world_at read old) more)
+next-G : (change entry : Bool) → change ≡ true → next_letter change entry ≡ letters.G
+next-G true entry is = refl
+next-G false entry is = absurd (let wrong : false ≡ true = is in (cc))
 
-  pub nearer-I : new.case ≡ old.case → world_at read new ≡ after_install read old.case (world_at read old)
-      → (text : List ℕ) → slice_get old.case.steps (length (world_at read old).entries) ≡ Some text → length (world_at read old).entries < length old.case.steps
-      → IsNearer read old new
-  nearer-I case world text is more =
-      nearer read old new (after_install read old.case (world_at read old)) case world (left-install read old.case (world_at read old) text is more)
+next-I : (change entry : Bool) → change ≡ false → entry ≡ true → next_letter change entry ≡ letters.I
+next-I true entry none is = absurd (let wrong : true ≡ false = none in (cc))
+next-I false true none is = refl
+next-I false false none is = absurd (let wrong : false ≡ true = is in (cc))
 
-  pub nearer-G : new.case ≡ old.case → world_at read new ≡ after_change old.case (world_at read old)
-      → (step : ℕ) → next_at read old ≡ Some step → IsNearer read old new
-  nearer-G case world step is =
-      nearer read old new (after_change old.case (world_at read old)) case world
-      (left-change read old.case (world_at read old) (some-next (next_of (world_at read old)) step is))
+next-A : (change entry : Bool) → change ≡ false → entry ≡ false → next_letter change entry ≡ letters.A
+next-A true entry none is = absurd (let wrong : true ≡ false = none in (cc))
+next-A false true none is = absurd (let wrong : true ≡ false = is in (cc))
+next-A false false none is = refl
+
+module _ (old new : OpenState) where
+  pub fewer-left : HasNext old new → letters_left new < letters_left old
+  fewer-left has =
+      let letter = next_letter_at some_reading.0 old in
+      let longer : length new.word ≡ length old.word + 1 =
+      ap (λ (w : List OpenLetter). length w) (has.word some_reading.0 some_reading.1) ∙ length-append old.word (letter ∷ []) in
+      let most : most_letters new.case ≡ most_letters old.case = ap most_letters has.case in
+      let within = has.within in
+      omega (arith, longer, most, within)
+
+  has-next : (letter : OpenLetter) → new.case ≡ old.case → new.word ≡ old.word ++ letter ∷ [] → length new.word ≤ most_letters new.case
+      → ((read : TextReading) → ReadsTexts read → next_letter_at read old ≡ letter) → HasNext old new
+  has-next letter case word within next = record {
+    case = case;
+    word = λ read is. word ∙ ap (λ (l : OpenLetter). old.word ++ l ∷ []) (sym (next read is));
+    within = within;
+  }
+
+  pub has-G : new.case ≡ old.case → new.word ≡ old.word ++ letters.G ∷ [] → length new.word ≤ most_letters new.case
+      → ((read : TextReading) → ReadsTexts read → is_legal_at read old letters.G ≡ true) → HasNext old new
+  has-G case word within may = has-next letters.G case word within
+      (λ read is. next-G (is_legal_at read old letters.G) (is_legal_at read old letters.I) (may read is))
+
+  pub has-I : new.case ≡ old.case → new.word ≡ old.word ++ letters.I ∷ [] → length new.word ≤ most_letters new.case
+      → ((read : TextReading) → ReadsTexts read → is_legal_at read old letters.G ≡ false)
+      → ((read : TextReading) → ReadsTexts read → is_legal_at read old letters.I ≡ true) → HasNext old new
+  has-I case word within none may = has-next letters.I case word within
+      (λ read is. next-I (is_legal_at read old letters.G) (is_legal_at read old letters.I) (none read is) (may read is))
+
+  pub has-A : new.case ≡ old.case → new.word ≡ old.word ++ letters.A ∷ [] → length new.word ≤ most_letters new.case
+      → ((read : TextReading) → ReadsTexts read → (is_legal_at read old letters.G ≡ false) × (is_legal_at read old letters.I ≡ false))
+      → HasNext old new
+  has-A case word within none = has-next letters.A case word within
+      (λ read is. next-A (is_legal_at read old letters.G) (is_legal_at read old letters.I) (none read is).0 (none read is).1)

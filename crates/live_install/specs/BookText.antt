@@ -7,10 +7,10 @@ use Rattle.report_lines.specs.declared.end_line.End.{End}
 use Rattle.report_lines.specs.FaultLine.{fault_line}
 use Rattle.report_lines.specs.EndLine.{is_faulted}
 use Rattle.flow_core.specs.World.{Failure}
-use Rattle.open_flow.specs.declared.book.OpenBook.{OpenBook}
-use Rattle.open_flow.specs.BuiltTexts.{EntryState}
-use Rattle.open_flow.specs.Entries.{installed_of, place_at}
-use Rattle.open_flow.specs.OpenBooks.{failure_at}
+use Rattle.live_install.specs.declared.book.OpenBook.{OpenBook}
+use Rattle.live_install.specs.BuiltTexts.{EntryState}
+use Rattle.live_install.specs.Entries.{installed_of, place_at}
+use Rattle.live_install.specs.OpenBooks.{failure_at}
 use Rattle.live_install.specs.RolloutText.{OpenAccount, account_text}
 
 -- a fault where its instruction has a place

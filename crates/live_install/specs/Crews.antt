@@ -1,34 +1,19 @@
 -- The workers of a rollout, and what shows that each worker's work was done.
 use Rattle.std.specs.Prelude.{◌≡◌, ℕ, zero, suc, ◌+◌, List, [], ◌∷◌, ◌++◌}
 use Rattle.worker_desk.specs.declared.receipt.Duty.{Duty}
-use Rattle.live_install.specs.declared.serving.Serving.{Serving}
-use Rattle.live_install.specs.declared.serving.Serving.TheVariants as serving
+use Rattle.flow_table.specs.Duties.{duties}
 use Rattle.live_install.specs.declared.equipping.Equipping.{Equipping}
 use Rattle.live_install.specs.declared.equipping.Equipping.TheVariants as equipping
 use Rattle.live_install.specs.declared.crew.Crew.{Crew}
-
--- the duty of a datapath worker, by how many datapath workers and how many flows there are
-abbrev pub duty : ℕ → ℕ → ℕ → Duty
-duty datapaths flows worker = record { worker = worker; first = worker; workers = datapaths; flows = flows }
 
 -- the duty of an installer, whose number at the gate comes after those of the datapath workers
 abbrev pub install_duty : ℕ → ℕ → ℕ → ℕ → Duty
 install_duty datapaths agents flows agent = record { worker = datapaths + agent; first = agent; workers = agents; flows = flows }
 
--- the duty of the datapath worker whose work was begun
-abbrev pub duty_of : Serving → Duty
-duty_of (serving.Thread handle) = handle.promise
-duty_of (serving.Here served) = served
-
 -- the duty of the installer whose work was begun
 abbrev pub install_duty_of : Equipping → Duty
 install_duty_of (equipping.Thread handle) = handle.promise
 install_duty_of (equipping.Here equipped) = equipped
-
--- the duties of the datapath workers below a number, in order
-abbrev pub duties : ℕ → ℕ → ℕ → List Duty
-duties datapaths flows zero = []
-duties datapaths flows (suc worker) = duties datapaths flows worker ++ duty datapaths flows worker ∷ []
 
 -- the duties of the installers below a number, in order
 abbrev pub install_duties : ℕ → ℕ → ℕ → ℕ → List Duty

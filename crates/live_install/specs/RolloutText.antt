@@ -16,9 +16,9 @@ use Rattle.flow_core.specs.World.{Failure}
 use Rattle.flow_core.specs.Books.{epoch_line}
 use Rattle.scenario_json.specs.declared.open_case.OpenCase.{OpenCase}
 use Rattle.scenario_json.specs.ScenePrograms.{TextReading}
-use Rattle.open_flow.specs.declared.letter.OpenLetter.{OpenLetter}
-use Rattle.open_flow.specs.OpenWorld.{Installed, OpenWorld, eras_of, track_now}
-use Rattle.open_flow.specs.OpenWords.{install_world}
+use Rattle.live_install.specs.declared.letter.OpenLetter.{OpenLetter}
+use Rattle.live_install.specs.OpenWorld.{Installed, OpenWorld, eras_of, track_now}
+use Rattle.live_install.specs.OpenWords.{install_world}
 
 -- ---- what is told of a flow
 

@@ -2,10 +2,11 @@
 use Rattle.std.specs.Prelude.{◌≡◌, true, List, map}
 use Rattle.scenario_json.specs.declared.open_case.OpenCase.{OpenCase}
 use Rattle.scenario_json.specs.ScenePrograms.{TextReading}
-use Rattle.open_flow.specs.declared.book.OpenBook.{OpenBook}
-use Rattle.open_flow.specs.declared.letter.OpenLetter.{OpenLetter}
-use Rattle.open_flow.specs.OpenWords.{install_world, legal, is_complete}
-use Rattle.open_flow.specs.OpenBooks.{IsOpenBookOf}
+use Rattle.live_install.specs.declared.book.OpenBook.{OpenBook}
+use Rattle.live_install.specs.declared.letter.OpenLetter.{OpenLetter}
+use Rattle.live_install.specs.OpenWords.{install_world, legal, is_complete}
+use Rattle.live_install.specs.OpenBooks.{IsOpenBookOf}
+use Rattle.live_install.specs.OpenCells.{OpenState}
 
 -- the word is legal and complete for the case
 pub record IsHistory (read : TextReading) (flow : OpenCase × List OpenLetter) : Type 0 where
@@ -29,3 +30,6 @@ pub record IsWhole (read : TextReading) (book : OpenBook) : Type 0 where
 
 abbrev pub case_in : OpenBook → OpenCase
 case_in book = book.case
+
+abbrev pub case_of : OpenState → OpenCase
+case_of cell = cell.case

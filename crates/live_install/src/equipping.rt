@@ -4,10 +4,10 @@ ghost use Rattle.std.specs.Prelude.{◌≡◌, ◌<◌, map, IfOk, length};
 ghost use Rattle.ccp_base.specs.Limits.{most_workers};
 ghost use Rattle.live_install.specs.Crews.{install_duty_of, install_duty, install_duties};
 
-use crate::crew::Workers;
+use crate::cell::OpenCell;
 use crate::installer::equip;
-use crate::table::OpenTable;
 use ccp_base::{Gate, NoMemory};
+use flow_table::{FlowTable, Workers};
 use std::alloc::Global;
 use std::sync::Wait;
 use std::thread::{PromisedHandle, Scope, Threads};
@@ -27,7 +27,7 @@ pub(crate) fn begin_all<'s, 'e, R: Threads + Wait + Sync, G: Gate + Sync>(
     scope: &'s Scope<'s, &'e ()>,
     rt: &'e R,
     alloc: Global,
-    table: &'e OpenTable,
+    table: &'e FlowTable<OpenCell>,
     workers: Workers,
     gate: &'e G,
 ) -> Result<Vec<Equipping>, NoMemory>
@@ -47,7 +47,7 @@ fn begin<'s, 'e, R: Threads + Wait + Sync, G: Gate + Sync>(
     scope: &'s Scope<'s, &'e ()>,
     rt: &'e R,
     alloc: Global,
-    table: &'e OpenTable,
+    table: &'e FlowTable<OpenCell>,
     workers: Workers,
     agent: u32,
     gate: &'e G,

@@ -1,11 +1,12 @@
-ghost use Rattle.std.specs.Prelude.{◌≡◌, ℕ, ◌<◌, ◌≤◌, Option, Some, None, option_map, [], ◌∷◌, length, is_some, IfSome};
+ghost use Rattle.std.specs.Prelude.{◌≡◌, ℕ, ◌<◌, ◌≤◌, Option, Some, None, option_map, [], ◌∷◌, length, is_some, slice_get, IfSome};
 ghost use Rattle.worker_desk.specs.Logs.{Known, Logs};
 ghost use Rattle.worker_desk.specs.declared.event.Event.TheVariants.{Passed, Locked, Unlocked, Built, Installed, Changed};
 
-use crate::open_desk::Held;
-use crate::table::OpenTable;
+use crate::cell::OpenCell;
+use crate::entry::Entry;
 use ccp_base::{Gate, Point};
-use open_flow::Entry;
+use flow_table::{FlowTable, Held};
+use scenario_json::OpenCase;
 use std::alloc::Global;
 use std::sync::Wait;
 
@@ -14,9 +15,9 @@ use std::sync::Wait;
 pub(crate) struct InstallDesk<'a, R: Wait, G: Gate> {
     pub(crate) rt: &'a R,
     pub(crate) alloc: Global,
-    pub(crate) table: &'a OpenTable,
+    pub(crate) table: &'a FlowTable<OpenCell>,
     pub(crate) gate: &'a G,
-    pub(crate) held: Option<Held<'a>>,
+    pub(crate) held: Option<Held<'a, OpenCell>>,
 }
 
 impl<'a, R: Wait, G: Gate> worker_desk::InstallDesk for InstallDesk<'a, R, G> {
@@ -37,16 +38,11 @@ impl<'a, R: Wait, G: Gate> worker_desk::InstallDesk for InstallDesk<'a, R, G> {
     }
 
     fn build(&mut self, flow: u32, step: u32) -> Option<Entry> {
-        let text = self.table.text(flow, step)?;
-        match Entry::make(self.alloc, step, text) {
-            Ok(entry) => Some(entry),
-            Err(_) => None,
-        }
+        entry_of(self.alloc, self.table.case(flow), step)
     }
 
     fn lock(&mut self, flow: u32) {
-        let cell = self.table.cell(flow).lock(self.rt);
-        self.held = Some(Held { flow, cell });
+        self.held = Some(self.table.lock(self.rt, flow));
     }
 
     fn unlock(&mut self, _flow: u32) {
@@ -75,5 +71,17 @@ impl<'a, R: Wait, G: Gate> worker_desk::InstallDesk for InstallDesk<'a, R, G> {
 
     fn pass(&mut self, worker: u32, point: Point, flow: u32) {
         self.gate.pass(worker, point, flow);
+    }
+}
+
+/// The entry of a case's step; None where the case has no such step, or memory runs out.
+fn entry_of(alloc: Global, case: &OpenCase, step: u32) -> Option<Entry>
+    ensures step { IfSome result (λ entry. entry.step ≡ step) }
+    ensures text { IfSome result (λ entry. slice_get case.now.steps step ≡ Some entry.text) }
+{
+    let text = case.steps.as_slice().get(step as usize)?;
+    match Entry::make(alloc, step, text.as_slice()) {
+        Ok(entry) => Some(entry),
+        Err(_) => None,
     }
 }

@@ -2,10 +2,10 @@ ghost use Rattle.std.specs.Prelude.{◌≡◌, ◌<◌, length};
 ghost use Rattle.ccp_base.specs.Limits.{most_workers};
 ghost use Rattle.live_install.specs.Crews.{install_duty};
 
-use crate::crew::Workers;
+use crate::cell::OpenCell;
 use crate::install_desk::InstallDesk;
-use crate::table::OpenTable;
 use ccp_base::Gate;
+use flow_table::{FlowTable, Workers};
 use std::alloc::Global;
 use std::sync::Wait;
 use worker_desk::Equipped;
@@ -14,7 +14,7 @@ use worker_desk::Equipped;
 pub(crate) fn equip<R: Wait, G: Gate>(
     rt: &R,
     alloc: Global,
-    table: &OpenTable,
+    table: &FlowTable<OpenCell>,
     workers: Workers,
     agent: u32,
     gate: &G,

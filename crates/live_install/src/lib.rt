@@ -1,28 +1,35 @@
 //! Rollouts: programs are compiled and installed while datapaths run, and the text of what came of it.
 #![tactic(auto)]
 
+mod account;
+mod book;
 mod books;
+mod cell;
 mod crew;
-mod datapath;
+mod entry;
 mod entry_lines;
 mod equipping;
+mod hearing;
 mod install_desk;
 mod installer;
-mod open_desk;
+mod letter;
+mod opening;
+mod rollout_flow;
 mod run;
 mod serving;
-mod table;
+mod starting;
+mod state;
 mod text;
 mod turn;
 mod workers;
 
+pub use book::OpenBook;
 use ccp_base::Sequence;
-pub use open_flow::{Entries, Entry, Late, Nothing, OpenBook, OpenCell, OpenLetter, OpenWord};
+pub use cell::{Late, Nothing, OpenCell};
+pub use entry::{Entries, Entry};
+pub use letter::{OpenLetter, OpenWord};
 pub use run::rollout;
 pub use text::rollout_text;
 
 /// Books in order.
 pub type OpenBooks = Sequence<OpenBook>;
-
-/// Flows in order.
-pub(crate) type OpenCells = Sequence<OpenCell>;

@@ -1,16 +1,14 @@
 ghost use Rattle.std.specs.Prelude.{◌≡◌, ◌≤◌, IfOk, length, map};
 ghost use Rattle.std.specs.List.{All};
 ghost use Rattle.ccp_base.specs.Limits.{most_flows, most_workers};
-ghost use Rattle.scenario_json.specs.OpenCases.{AreOpenFlowsFrom};
 ghost use Rattle.scenario_json.specs.ScenePrograms.{TextReading, ReadsTexts};
 ghost use Rattle.live_install.specs.WholeBooks.{IsWhole, case_in};
 
 use crate::OpenBooks;
 use crate::books::books;
-use crate::crew::Workers;
-use crate::table::OpenTable;
 use crate::workers::work;
 use ccp_base::{Gate, NoMemory};
+use flow_table::{FlowTable, Workers};
 use scenario_json::OpenCases;
 use std::alloc::Global;
 use std::sync::Wait;
@@ -18,8 +16,7 @@ use std::thread::Threads;
 
 /// One book a case, in order, whatever the numbers of workers, which are 1 to 32, and in whatever order threads take
 /// the flows' locks: each book has its case, a word that is legal and complete for it, and what that word comes to,
-/// read over the sources of the texts. Which such word it is nobody says. There are at most 64 cases, and the case at
-/// place `i`, counted from 0, has flow `i`.
+/// read over the sources of the texts. Which such word it is nobody says. There are at most 64 cases.
 ///
 /// Datapath worker `d` takes the acknowledgements of the flows `f` with `f mod datapaths = d`, one of each in turn. It
 /// passes the gate at `BeforeAck` and `AfterAck` without a lock and at `InAck` with the flow's. Installer `a`, whose
@@ -38,14 +35,13 @@ pub fn rollout<R: Threads + Wait + Sync, G: Gate + Sync>(
     requires datapaths { (1 ≤ datapaths) × (datapaths ≤ most_workers) }
     requires agents { (1 ≤ agents) × (agents ≤ most_workers) }
     requires few { length cases ≤ most_flows }
-    requires numbered { AreOpenFlowsFrom 0 cases }
     // There is a reading of program texts: each text comes to a program, or to its first refusal.
     ensures readable { (read : TextReading) × ReadsTexts read }
     // The books are those of the cases, and over every reading each tells of a legal and complete word.
     ensures cases { IfOk result (λ books. map case_in books ≡ cases) }
     ensures whole { (read : TextReading) → ReadsTexts read → IfOk result (λ books. All (IsWhole read) books) }
 {
-    let table = OpenTable::new(alloc, cases)?;
+    let table = FlowTable::new(alloc, cases)?;
     let workers = Workers { datapaths, agents };
     let crew = work(rt, alloc, &table, workers, gate)?;
     books(alloc, table.close(alloc)?, datapaths, agents, crew)

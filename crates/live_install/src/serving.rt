@@ -1,32 +1,22 @@
-//! The work of datapath workers, begun and ended.
+//! The work of datapath workers, begun.
 
 ghost use Rattle.std.specs.Prelude.{◌≡◌, map, IfOk, length};
-ghost use Rattle.live_install.specs.Crews.{duty_of, duty, duties};
+ghost use Rattle.flow_table.specs.Duties.{duty_of, duty, duties};
 
-use crate::crew::Workers;
-use crate::datapath::serve;
-use crate::table::OpenTable;
+use crate::cell::OpenCell;
 use ccp_base::{Gate, NoMemory};
+use flow_table::{FlowTable, NoNudges, Serving, Workers, serve};
 use std::alloc::Global;
 use std::sync::Wait;
-use std::thread::{PromisedHandle, Scope, Threads};
+use std::thread::{Scope, Threads};
 use worker_desk::{Duty, Served};
-
-/// The work of a datapath worker, which goes on in a thread or was done here.
-#[derive(Drop)]
-pub(crate) enum Serving {
-    /// In a thread.
-    Thread(PromisedHandle<Served, Duty>),
-    /// Done.
-    Here(Served),
-}
 
 /// Begins the work of the datapath workers, in order.
 pub(crate) fn begin_all<'s, 'e, R: Threads + Wait + Sync, G: Gate + Sync>(
     scope: &'s Scope<'s, &'e ()>,
     rt: &'e R,
     alloc: Global,
-    table: &'e OpenTable,
+    table: &'e FlowTable<OpenCell>,
     workers: Workers,
     gate: &'e G,
 ) -> Result<Vec<Serving>, NoMemory>
@@ -44,7 +34,7 @@ pub(crate) fn begin_all<'s, 'e, R: Threads + Wait + Sync, G: Gate + Sync>(
 fn begin<'s, 'e, R: Threads + Wait + Sync, G: Gate + Sync>(
     scope: &'s Scope<'s, &'e ()>,
     rt: &'e R,
-    table: &'e OpenTable,
+    table: &'e FlowTable<OpenCell>,
     workers: Workers,
     worker: u32,
     gate: &'e G,
@@ -61,37 +51,10 @@ fn begin<'s, 'e, R: Threads + Wait + Sync, G: Gate + Sync>(
         promise,
         move || -> Served
             ensures { result ≡ duty workers.datapaths (length table.entry.now) worker }
-        { serve(rt, table, workers, worker, gate) },
+        { serve(rt, table, workers, worker, &NoNudges, gate) },
     );
     match started {
         Ok(handle) => Serving::Thread(handle),
-        Err(_) => Serving::Here(serve(rt, table, workers, worker, gate)),
+        Err(_) => Serving::Here(serve(rt, table, workers, worker, &NoNudges, gate)),
     }
-}
-
-/// The end of a datapath worker's work.
-fn end<R: Threads>(rt: &R, serving: Serving) -> Served
-    ensures { result ≡ duty_of serving }
-{
-    match serving {
-        Serving::Thread(handle) => handle.join(rt),
-        Serving::Here(served) => served,
-    }
-}
-
-/// The ends of the datapath workers' work, in order.
-pub(crate) fn end_all<R: Threads>(
-    rt: &R,
-    alloc: Global,
-    servings: Vec<Serving>,
-) -> Result<Vec<Served>, NoMemory>
-    ensures { IfOk result (λ all. all.items ≡ map duty_of servings.items) }
-{
-    let mut left = servings;
-    let mut all = Vec::new(alloc);
-    while !left.is_empty() {
-        let serving = left.remove(0);
-        all.push(end(rt, serving))?;
-    }
-    Ok(all)
 }

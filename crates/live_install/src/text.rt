@@ -1,7 +1,7 @@
 ghost use Rattle.std.specs.Prelude.{◌≡◌, ◌≤◌, ◌++◌, IfOk, OnOk, [], map};
 ghost use Rattle.std.specs.List.{All};
 ghost use Rattle.scenario_json.specs.ScenePrograms.{TextReading, ReadsTexts};
-ghost use Rattle.open_flow.specs.Entries.{installed_of, place_at};
+ghost use Rattle.live_install.specs.Entries.{installed_of, place_at};
 ghost use Rattle.live_install.specs.RolloutText.{fault_lines, fields_at, fields_of, flow_line, last_fields, last_line};
 ghost use Rattle.live_install.specs.RolloutText.{rollout_text, shown_lines};
 ghost use Rattle.live_install.specs.BookText.{account_in, book_text, books_text, end_in, failures_in, notice_lines};
@@ -9,10 +9,11 @@ ghost use Rattle.live_install.specs.BookText.{placed_line};
 ghost use Rattle.live_install.specs.WholeBooks.{IsRightBook, flows_of};
 
 use crate::OpenBooks;
+use crate::book::OpenBook;
+use crate::entry::Entry;
 use crate::entry_lines::{put_changes, put_entries};
 use ccp_base::{Bytes, NoMemory, Notice, Place, Report};
 use flow_core::EpochLine;
-use open_flow::{Entry, OpenBook};
 use portus_core::Decl;
 use report_lines::{End, is_faulted, put_end, put_fault, put_flow_head, put_report};
 use std::alloc::Global;

@@ -1,13 +1,14 @@
 ghost use Rattle.std.specs.Prelude.{◌≡◌, ◌<◌, Ok, Some, true, false, length, slice_get, IfOk, OnOk};
 ghost use Rattle.scenario_json.specs.ScenePrograms.{TextReading, ReadsTexts};
-ghost use Rattle.open_flow.specs.declared.letter.OpenLetter.TheVariants as letters;
-ghost use Rattle.open_flow.specs.OpenWords.{is_complete, is_legal};
-ghost use Rattle.open_flow.specs.OpenCells.{world_at};
-ghost use Rattle.live_install.specs.LettersLeft.{IsNearer};
+ghost use Rattle.live_install.specs.declared.letter.OpenLetter.TheVariants as letters;
+ghost use Rattle.live_install.specs.OpenWords.{is_complete};
+ghost use Rattle.live_install.specs.OpenCells.{world_at, is_legal_at};
+ghost use Rattle.live_install.specs.NextLetter.{HasNext, letters_left};
 
+use crate::cell::OpenCell;
+use crate::entry::Entry;
 use ccp_base::NoMemory;
 use fold_machine::Steps;
-use open_flow::{Entry, OpenCell};
 use scenario_json::OpenCase;
 use std::alloc::Global;
 use std::sync::ledger::Ledger;
@@ -19,7 +20,8 @@ pub(crate) fn next<L: Ledger>(
     steps: &mut Steps<L>,
 ) -> Result<(), NoMemory>
     requires { (read : TextReading) → ReadsTexts read → is_complete cell.old.case (world_at read cell.old) ≡ false }
-    ensures { (read : TextReading) → ReadsTexts read → OnOk result (IsNearer read cell.old cell.new) }
+    ensures next { OnOk result (HasNext cell.old cell.new) }
+    ensures fewer { OnOk result (letters_left cell.new < letters_left cell.old) }
 {
     if change(cell) {
         return Ok(());
@@ -33,10 +35,10 @@ pub(crate) fn next<L: Ledger>(
 
 /// Changes the flow where an accepted entry is left, and says whether it did.
 fn change(cell: &mut OpenCell) -> bool
-    ensures made { result ≡ true → (read : TextReading) → ReadsTexts read → IsNearer read cell.old cell.new }
+    ensures made { result ≡ true → HasNext cell.old cell.new }
+    ensures fewer { result ≡ true → letters_left cell.new < letters_left cell.old }
     ensures not { result ≡ false → cell.new ≡ cell.old }
-    ensures none { result ≡ false → (read : TextReading) → ReadsTexts read
-        → is_legal cell.old.case (world_at read cell.old) letters.G ≡ false }
+    ensures none { result ≡ false → (read : TextReading) → ReadsTexts read → is_legal_at read cell.old letters.G ≡ false }
 {
     match cell.change() {
         Ok(_) => true,
@@ -46,10 +48,12 @@ fn change(cell: &mut OpenCell) -> bool
 
 /// Installs the entry of the next step where one is left, and says whether it did.
 fn install(alloc: Global, cell: &mut OpenCell) -> Result<bool, NoMemory>
-    ensures made { result ≡ Ok true → (read : TextReading) → ReadsTexts read → IsNearer read cell.old cell.new }
+    requires { (read : TextReading) → ReadsTexts read → is_legal_at read cell.old letters.G ≡ false }
+    ensures made { result ≡ Ok true → HasNext cell.old cell.new }
+    ensures fewer { result ≡ Ok true → letters_left cell.new < letters_left cell.old }
     ensures not { result ≡ Ok false → cell.new ≡ cell.old }
     ensures none { result ≡ Ok false → (read : TextReading) → ReadsTexts read
-        → is_legal cell.old.case (world_at read cell.old) letters.I ≡ false }
+        → is_legal_at read cell.old letters.I ≡ false }
 {
     let step = cell.entries().len();
     if step >= cell.case().steps.len() {
@@ -64,7 +68,9 @@ fn put(alloc: Global, cell: &mut OpenCell, step: u32) -> Result<(), NoMemory>
     requires next { step ≡ length cell.old.entries }
     requires more { step < length cell.old.case.steps }
     requires world { (read : TextReading) → ReadsTexts read → length (world_at read cell.old).entries ≡ step }
-    ensures { (read : TextReading) → ReadsTexts read → OnOk result (IsNearer read cell.old cell.new) }
+    requires none { (read : TextReading) → ReadsTexts read → is_legal_at read cell.old letters.G ≡ false }
+    ensures next { OnOk result (HasNext cell.old cell.new) }
+    ensures fewer { OnOk result (letters_left cell.new < letters_left cell.old) }
 {
     let entry = entry_of(alloc, cell.case(), step)?;
     let Ok(()) = cell.install(entry) else {
@@ -84,8 +90,11 @@ fn entry_of(alloc: Global, case: &OpenCase, step: u32) -> Result<Entry, NoMemory
 
 /// Takes the next acknowledgement.
 fn hear<L: Ledger>(cell: &mut OpenCell, steps: &mut Steps<L>)
-    requires { (read : TextReading) → ReadsTexts read → length (world_at read cell.old).acks < cell.old.case.acks }
-    ensures { (read : TextReading) → ReadsTexts read → IsNearer read cell.old cell.new }
+    requires more { (read : TextReading) → ReadsTexts read → length (world_at read cell.old).acks < cell.old.case.acks }
+    requires none { (read : TextReading) → ReadsTexts read
+        → (is_legal_at read cell.old letters.G ≡ false) × (is_legal_at read cell.old letters.I ≡ false) }
+    ensures next { HasNext cell.old cell.new }
+    ensures fewer { letters_left cell.new < letters_left cell.old }
 {
     let Ok(_) = cell.ack(steps) else {
         unreachable!()

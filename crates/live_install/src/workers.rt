@@ -1,10 +1,11 @@
 ghost use Rattle.std.specs.Prelude.{IfOk, length};
 ghost use Rattle.live_install.specs.Crews.{HasWorked};
 
-use crate::crew::{Crew, Workers};
-use crate::table::OpenTable;
+use crate::cell::OpenCell;
+use crate::crew::Crew;
 use crate::{equipping, serving};
 use ccp_base::{Gate, NoMemory};
+use flow_table::{FlowTable, Workers, end_serving};
 use std::alloc::Global;
 use std::sync::Wait;
 use std::thread;
@@ -15,7 +16,7 @@ use std::thread::Threads;
 pub(crate) fn work<R: Threads + Wait + Sync, G: Gate + Sync>(
     rt: &R,
     alloc: Global,
-    table: &OpenTable,
+    table: &FlowTable<OpenCell>,
     workers: Workers,
     gate: &G,
 ) -> Result<Crew, NoMemory>
@@ -30,7 +31,7 @@ pub(crate) fn work<R: Threads + Wait + Sync, G: Gate + Sync>(
             let equippings = equipping::begin_all(scope, rt, alloc, table, workers, gate)?;
             let servings = serving::begin_all(scope, rt, alloc, table, workers, gate)?;
             let equipped = equipping::end_all(rt, alloc, equippings)?;
-            let served = serving::end_all(rt, alloc, servings)?;
+            let served = end_serving(rt, alloc, servings)?;
             Ok(Crew { served, equipped })
         },
     )

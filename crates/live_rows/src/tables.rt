@@ -1,8 +1,9 @@
 //! Tables of flows.
 ghost use Rattle.std.specs.Prelude.{◌≡◌, ◌<◌};
 
+use ccp_base::Sequence;
 use flow_core::Cell;
-use flow_table::{Cells, FlowTable};
+use flow_table::FlowTable;
 use fold_machine::Steps;
 use scenario_json::SceneMode;
 use scenario_json::calls::scenario;
@@ -18,7 +19,7 @@ const TWO: &[u8] =
     b"{\"version\":1,\"traces\":{\"t\":\"10\\n\"},\"cases\":[{\"name\":\"a\",\"agent\":\"reno\",\"trace\":\"t\",\"mss\":1448,\"queue\":10,\"delay_us\":20000,\"timeout_us\":1000000,\"acks\":4},{\"name\":\"a\",\"agent\":\"reno\",\"trace\":\"t\",\"mss\":1448,\"queue\":10,\"delay_us\":20000,\"timeout_us\":1000000,\"acks\":4}]}";
 
 /// The table of a scenario's flows.
-fn table(alloc: Global, text: &[u8]) -> Result<FlowTable, Fail> {
+fn table(alloc: Global, text: &[u8]) -> Result<FlowTable<Cell>, Fail> {
     let scene = scenario(alloc, text, SceneMode::Live)?;
     Ok(FlowTable::new(alloc, scene.cases)?)
 }
@@ -37,25 +38,25 @@ fn hear<L: Ledger>(rt: &impl Wait, cell: &Mutex<Cell>, blank: Blank) -> bool
 }
 
 /// The flow of a cell and how many of its acknowledgements are in.
-fn shown(cells: &Cells, place: usize) -> Option<(u32, u32)> {
+fn shown(cells: &Sequence<Cell>, place: usize) -> Option<(u32, u32)> {
     let cell = cells.as_slice().get(place)?;
     Some((cell.case().flow, cell.acks()))
 }
 
 /// There are two flows, and an acknowledgement of the second one is taken.
-fn is_heard<R: Abort + Wait>(rt: &R, table: &FlowTable) {
+fn is_heard<R: Abort + Wait>(rt: &R, table: &FlowTable<Cell>) {
     let flows = table.flows();
     assert!(rt; flows == 2);
     assert!(rt; hear::<Brand>(rt, table.cell(1), Blank::new(1)));
 }
 
 /// At this place stands the flow of its number, with so many acknowledgements.
-fn stands(rt: &impl Abort, cells: &Cells, place: u32, acks: u32) {
+fn stands(rt: &impl Abort, cells: &Sequence<Cell>, place: u32, acks: u32) {
     assert!(rt; shown(cells, place as usize) == Some((place, acks)));
 }
 
 /// There are two flows, as they were left.
-fn come_back(rt: &impl Abort, cells: &Cells) {
+fn come_back(rt: &impl Abort, cells: &Sequence<Cell>) {
     assert!(rt; cells.len() == 2);
     stands(rt, cells, 0, 0);
     stands(rt, cells, 1, 1);

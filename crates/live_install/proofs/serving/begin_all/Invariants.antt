@@ -1,5 +1,5 @@
 use Rattle.std.proofs.Common.{◌≡◌, map, length}
-use Rattle.live_install.specs.Crews.{duty_of, duties}
+use Rattle.flow_table.specs.Duties.{duty_of, duties}
 use Rattle.live_install.proofs.serving.begin_all.Given as goal
 
 abbrev pub invariant-loop-worker : goal.invariant-loop-worker

@@ -1,5 +1,5 @@
 use Rattle.std.proofs.Common.{◌≡◌, [], drop, map}
-use Rattle.open_flow.specs.Entries.{installed_of}
+use Rattle.live_install.specs.Entries.{installed_of}
 use Rattle.live_install.specs.RolloutText.{last_fields}
 use Rattle.live_install.proofs.text.last_fields.Given as goal
 

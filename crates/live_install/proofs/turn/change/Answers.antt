@@ -1,9 +1,14 @@
 use Rattle.std.proofs.Common.{ap}
-use Rattle.open_flow.specs.OpenCells.{OpenState}
-use Rattle.live_install.proofs.TurnLemmas.{nearer-G}
+use Rattle.live_install.specs.OpenWorld.{next_of}
+use Rattle.live_install.specs.OpenCells.{OpenState, world_at}
+use Rattle.live_install.proofs.TurnLemmas.{some-next, has-G, fewer-left}
 use Rattle.live_install.proofs.turn.change.Goals as goal
 
 pub returns-in-Ok-clause-made : goal.returns-in-Ok-clause-made
-returns-in-Ok-clause-made c = λ made read is.
-    nearer-G read c.args.cell.now c.change.new.self (ap (λ (cell : OpenState). cell.case) c.in-Ok.ensures.ok) (c.in-Ok.ensures.world read is)
-    c.in-Ok.field-0 (c.in-Ok.ensures.step read is)
+returns-in-Ok-clause-made c = λ made.
+    has-G c.args.cell.now c.change.new.self (ap (λ (cell : OpenState). cell.case) c.in-Ok.ensures.ok) (ap (λ (cell : OpenState). cell.word) c.in-Ok.ensures.ok)
+    c.in-Ok.ensures.within
+    (λ read is. some-next (next_of (world_at read c.args.cell.now)) c.in-Ok.field-0 (c.in-Ok.ensures.step read is))
+
+pub returns-in-Ok-clause-fewer : goal.returns-in-Ok-clause-fewer
+returns-in-Ok-clause-fewer c = λ made. fewer-left c.args.cell.now c.change.new.self (returns-in-Ok-clause-made c made)

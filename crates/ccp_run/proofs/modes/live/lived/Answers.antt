@@ -1,8 +1,5 @@
-use Rattle.ccp_run.proofs.LiveLemmas.{books_of, flows_numbered}
+use Rattle.ccp_run.proofs.LiveLemmas.{books_of}
 use Rattle.ccp_run.proofs.modes.live.lived.Goals as goal
-
-pub new-requires-clause-numbered : goal.new-requires-clause-numbered
-new-requires-clause-numbered g c = flows_numbered c.args.scene.cases c.requires.flows
 
 pub written-requires : goal.written-requires
 written-requires g c =

@@ -1,10 +1,8 @@
 use Rattle.std.proofs.Common.{◌≡◌, ◌++◌, length, map}
-use Rattle.flow_table.specs.Tables.{case_of}
-use Rattle.flow_table.specs.declared.locked.Locked.{Locked}
 use Rattle.flow_table.proofs.table.FlowTable.close.Given as goal
 
 abbrev pub invariant-loop-alloc : goal.invariant-loop-alloc
-invariant-loop-alloc l = map case_of l.cells ++ map (λ (locked : Locked). locked.case) l.left.items ≡ l.fn.self
+invariant-loop-alloc g l = map g.F.LockedFlow.case_of l.flows ++ map (λ locked. locked.case) l.left.items ≡ l.fn.self
 
 abbrev pub decreases-loop-alloc : goal.decreases-loop-alloc
-decreases-loop-alloc l = length l.left.items
+decreases-loop-alloc g l = length l.left.items

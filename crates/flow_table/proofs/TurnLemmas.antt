@@ -1,0 +1,115 @@
+-- Which letter may come, by what a cell answers, and that it brings the flow nearer to the end of its word.
+use Rattle.std.specs.Prelude.{◌≡◌, ◌≢◌, ℕ, ◌<◌, Bool, true, false, not, nat_lt, is_some, is_none, ◌&&◌, Option, Some, None, option_map, [], ◌∷◌, ◌++◌, length, refl}
+use Rattle.std.proofs.Common.{arith, ap, sym, ◌∙◌}
+use Rattle.std.proofs.lemmas.Bool.{ltb-true}
+use Rattle.agent_core.specs.declared.ticket.Ticket.{Ticket}
+use Rattle.flow_core.specs.declared.letter.Letter.{Letter}
+use Rattle.flow_core.specs.World.{Taken, World, after_ack, after_take, after_answer}
+use Rattle.flow_core.specs.Words.{can_take, is_still, is_complete}
+use Rattle.flow_core.specs.Books.{ticket_of}
+use Rattle.flow_core.specs.Cells.{CellState, flow_at, world_at, ack_at, out_at}
+use Rattle.flow_core.specs.LettersLeft.{letters_left, left_at}
+use Rattle.flow_table.specs.NextLetter.{IsNearer, next_letter, next_at, with_letter}
+use Rattle.flow_core.proofs.LeftLemmas.{left-ack, left-take, left-answer}
+
+-- ---- the ticket that is out
+
+pub some-mapped : {X Y : Type 0} → (f : X → Y) (option : Option X) (y : Y) → option_map f option ≡ Some y → is_some option ≡ true
+some-mapped f None y is = absurd (let wrong : None ≡ Some y = is in (cc))
+some-mapped f (Some x) y is = refl
+
+pub none-mapped : {X Y : Type 0} → (f : X → Y) (option : Option X) → option_map f option ≡ None → is_none option ≡ true
+none-mapped f None is = refl
+none-mapped f (Some x) is = absurd (let wrong : Some (f x) ≡ None = is in (cc))
+
+-- something can be taken, where no ticket is out and not nothing is left
+pub may-take : (none can : Bool) → none ≡ true → (none && not can) ≢ true → (none && can) ≡ true
+may-take true true is left = refl
+may-take true false is left = absurd (left refl)
+may-take false can is left = absurd (let wrong : false ≡ true = is in (cc))
+
+-- nothing can be taken
+pub nothing-left : (none can : Bool) → (none && not can) ≡ true → can ≡ false
+nothing-left true true still = absurd (let wrong : false ≡ true = still in (cc))
+nothing-left true false still = refl
+nothing-left false can still = absurd (let wrong : false ≡ true = still in (cc))
+
+-- acknowledgements are left, where a word that isn't complete has no ticket out and nothing to take
+pub acks-left : (more none can : Bool) → (not more && (none && not can)) ≡ false → none ≡ true → can ≡ false → more ≡ true
+acks-left true none can complete is_none nothing = refl
+acks-left false true false complete is_none nothing = absurd (let wrong : true ≡ false = complete in (cc))
+acks-left false true true complete is_none nothing = absurd (let wrong : true ≡ false = nothing in (cc))
+acks-left false false can complete is_none nothing = absurd (let wrong : false ≡ true = is_none in (cc))
+
+-- no ticket is out and not nothing is left: something can be taken
+pub may-be-taken : (cell : CellState) → out_at cell ≡ None → is_still (world_at cell) ≢ true
+    → (is_none (world_at cell).out && can_take (world_at cell)) ≡ true
+may-be-taken cell none not_still =
+    let w = world_at cell in
+    may-take (is_none w.out) (can_take w) (none-mapped (λ (ticket : Taken ℕ). ticket_of (flow_at cell) w ticket.told) w.out none) not_still
+
+pub more-acks : (cell : CellState) → is_complete (flow_at cell) (world_at cell) ≡ false → out_at cell ≡ None → can_take (world_at cell) ≡ false
+    → length (world_at cell).acks < cell.case.acks
+more-acks cell complete none nothing =
+    let w = world_at cell in
+    let is = none-mapped (λ (ticket : Taken ℕ). ticket_of (flow_at cell) w ticket.told) w.out none in
+    ltb-true (length w.acks) cell.case.acks (acks-left (nat_lt (length w.acks) cell.case.acks) (is_none w.out) (can_take w) complete is nothing)
+
+-- ---- which letter comes next
+
+next-C : {X : Type 0} → (out : Option X) (can : Bool) → is_some out ≡ true → next_letter (is_some out) can ≡ Letter.C
+next-C None can is = absurd (let wrong : false ≡ true = is in (cc))
+next-C (Some ticket) can is = refl
+
+next-T : {X : Type 0} → (out : Option X) (can : Bool) → (is_none out && can) ≡ true → next_letter (is_some out) can ≡ Letter.T
+next-T None true may = refl
+next-T None false may = absurd (let wrong : false ≡ true = may in (cc))
+next-T (Some ticket) can may = absurd (let wrong : false ≡ true = may in (cc))
+
+next-A : {X : Type 0} → (out : Option X) (can : Bool) → is_none out ≡ true → can ≡ false → next_letter (is_some out) can ≡ Letter.A
+next-A None false none is = refl
+next-A None true none is = absurd (let wrong : true ≡ false = is in (cc))
+next-A (Some ticket) can none is = absurd (let wrong : false ≡ true = none in (cc))
+
+made : (old new : CellState) (letter : Letter) → next_at old ≡ letter → new ≡ with_letter letter old → new ≡ with_letter (next_at old) old
+made old new letter next grown = grown ∙ ap (λ (l : Letter). with_letter l old) (sym next)
+
+module _ (old new : CellState) where
+  pub made-C : new ≡ with_letter Letter.C old → (ticket : Ticket) → out_at old ≡ Some ticket → new ≡ with_letter (next_at old) old
+  made-C grown ticket out =
+      let w = world_at old in
+      made old new Letter.C (next-C w.out (can_take w) (some-mapped (λ (t : Taken ℕ). ticket_of (flow_at old) w t.told) w.out ticket out)) grown
+
+  pub made-T : new ≡ with_letter Letter.T old → (is_none (world_at old).out && can_take (world_at old)) ≡ true → new ≡ with_letter (next_at old) old
+  made-T grown may = made old new Letter.T (next-T (world_at old).out (can_take (world_at old)) may) grown
+
+  pub made-A : new ≡ with_letter Letter.A old → (out_at old ≡ None) × (can_take (world_at old) ≡ false) → new ≡ with_letter (next_at old) old
+  made-A grown still =
+      let w = world_at old in
+      made old new Letter.A (next-A w.out (can_take w) (none-mapped (λ (t : Taken ℕ). ticket_of (flow_at old) w t.told) w.out still.0) still.1) grown
+
+-- ---- a letter
+
+pub nearer : (old new : CellState) (letter : Letter) (w : World ℕ) → new ≡ record old { word = old.word ++ letter ∷ [] } → world_at new ≡ w
+    → letters_left (flow_at old) w < left_at old → IsNearer old new
+nearer old new letter w grown world less =
+    let same : left_at new ≡ letters_left (flow_at old) w = λ i. letters_left (flow_at (grown i)) (world i) in
+    record { case = ap (λ (cell : CellState). cell.case) grown; fewer = omega (arith, same, less) }
+
+module _ (old new : CellState) where
+  pub nearer-A : new ≡ record old { word = old.word ++ Letter.A ∷ [] } → world_at new ≡ after_ack (flow_at old) (ack_at old) (world_at old)
+      → length (world_at old).acks < old.case.acks → IsNearer old new
+  nearer-A grown world more =
+      nearer old new Letter.A (after_ack (flow_at old) (ack_at old) (world_at old)) grown world (left-ack (flow_at old) (ack_at old) (world_at old) more)
+
+  pub nearer-T : new ≡ record old { word = old.word ++ Letter.T ∷ [] } → world_at new ≡ after_take (world_at old)
+      → (is_none (world_at old).out && can_take (world_at old)) ≡ true → IsNearer old new
+  nearer-T grown world may =
+      nearer old new Letter.T (after_take (world_at old)) grown world (left-take (flow_at old) (world_at old) may)
+
+  pub nearer-C : new ≡ record old { word = old.word ++ Letter.C ∷ [] } → world_at new ≡ after_answer (flow_at old) (world_at old)
+      → (ticket : Ticket) → out_at old ≡ Some ticket → IsNearer old new
+  nearer-C grown world ticket out =
+      nearer old new Letter.C (after_answer (flow_at old) (world_at old)) grown world
+      (left-answer (flow_at old) (world_at old)
+      (some-mapped (λ (ticket : Taken ℕ). ticket_of (flow_at old) (world_at old) ticket.told) (world_at old).out ticket out))

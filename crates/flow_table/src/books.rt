@@ -1,0 +1,78 @@
+//! The books of flows, once their workers are done.
+
+ghost use Rattle.std.specs.Prelude.{◌≡◌, ◌<◌, [], map, IfOk, OnOk, length};
+ghost use Rattle.std.specs.List.{All};
+
+use crate::flow::LockedFlow;
+use ccp_base::{NoMemory, Sequence};
+use fold_machine::Steps;
+use std::alloc::Global;
+use std::marker::Brand;
+use std::sync::ledger::{Blank, Ledger};
+
+/// The books of flows, in order, after every letter that is left.
+pub fn make_books<F: LockedFlow>(
+    alloc: Global,
+    flows: Sequence<F>,
+) -> Result<Sequence<F::Book>, NoMemory>
+    ensures cases { IfOk result (λ books. map F.case_in books ≡ map F.case_of flows) }
+    ensures whole { IfOk result (λ books. All F.IsWhole books) }
+{
+    counted::<Brand, F>(alloc, flows, Blank::new(1))
+}
+
+/// The same, where a ledger of one part counts the steps.
+fn counted<L: Ledger, F: LockedFlow>(
+    alloc: Global,
+    flows: Sequence<F>,
+    blank: Blank,
+) -> Result<Sequence<F::Book>, NoMemory>
+    requires name { blank.name ≡ L.name }
+    requires parts { blank.parts ≡ L.parts }
+    requires some { 0 < blank.parts }
+    ensures cases { IfOk result (λ books. map F.case_in books ≡ map F.case_of flows) }
+    ensures whole { IfOk result (λ books. All F.IsWhole books) }
+{
+    let mut steps = Steps::<L>::new(blank);
+    let mut left = flows.into_vec();
+    let mut books = Sequence::new(alloc);
+    while !left.is_empty() {
+        let flow = left.remove(0);
+        books.push(finished(alloc, flow, &mut steps)?)?;
+    }
+    Ok(books)
+}
+
+/// The book of a flow, after every letter that is left.
+fn finished<L: Ledger, F: LockedFlow>(
+    alloc: Global,
+    flow: F,
+    steps: &mut Steps<L>,
+) -> Result<F::Book, NoMemory>
+    ensures case { IfOk result (λ book. F.case_in book ≡ F.case_of flow) }
+    ensures whole { IfOk result F.IsWhole }
+{
+    let mut flow = flow;
+    match complete(alloc, &mut flow, steps) {
+        Ok(()) => Ok(flow.finish()),
+        Err(NoMemory) => {
+            drop(flow);
+            Err(NoMemory)
+        }
+    }
+}
+
+/// Makes every letter that is left.
+fn complete<L: Ledger, F: LockedFlow>(
+    alloc: Global,
+    flow: &mut F,
+    steps: &mut Steps<L>,
+) -> Result<(), NoMemory>
+    ensures case { OnOk result (F.case_of flow.new ≡ F.case_of flow.old) }
+    ensures done { OnOk result (F.IsDone flow.new) }
+{
+    while !flow.is_done() {
+        flow.make_next(alloc, steps)?;
+    }
+    Ok(())
+}

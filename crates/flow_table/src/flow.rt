@@ -1,0 +1,73 @@
+//! What a flow is to its table, its workers and the caller.
+
+ghost use Rattle.std.specs.Prelude.{◌≡◌, ℕ, ◌<◌, ◌↔◌, true, false, IsTrue, IfOk, OnOk, OnErr};
+
+use ccp_base::NoMemory;
+use fold_machine::Steps;
+use std::alloc::Global;
+use std::sync::ledger::Ledger;
+use worker_desk::Heard;
+
+/// A flow that workers share behind a lock, and that the caller completes when they are done.
+pub trait LockedFlow: Drop {
+    /// What a flow is made of.
+    type Case: Drop;
+
+    /// What a flow's history came to.
+    type Book: Drop;
+
+    // the case of a flow
+    ghost case_of: { Self → Self.Case };
+
+    // the case of a book
+    ghost case_in: { Self.Book → Self.Case };
+
+    // nothing is left to do
+    ghost IsDone: { Self → Type 0 };
+
+    // something is left to do
+    ghost IsLeft: { Self → Type 0 };
+
+    // how many letters can come yet, at most
+    ghost letters: { Self → ℕ };
+
+    // the flow has got the letter that the caller makes next
+    ghost HasNext: { Self → Self → Type 0 };
+
+    // the book tells of a legal and complete word
+    ghost IsWhole: { Self.Book → Type 0 };
+
+    /// An equal case.
+    fn copy(alloc: Global, case: &Self::Case) -> Result<Self::Case, NoMemory>
+        ensures { IfOk result (λ copy. copy ≡ case.now) };
+
+    /// A flow without a letter.
+    fn open(alloc: Global, case: Self::Case) -> Result<Self, NoMemory>
+        ensures { IfOk result (λ flow. case_of flow ≡ case) };
+
+    /// Whether the flow is of this case.
+    fn is_of(&self, case: &Self::Case) -> bool
+        ensures { IsTrue result ↔ (case_of self.now ≡ case.now) };
+
+    /// Takes the next acknowledgement, and says what it came to for a worker.
+    fn hear<L: Ledger>(&mut self, steps: &mut Steps<L>) -> Heard
+        ensures { case_of self.new ≡ case_of self.old };
+
+    /// Whether nothing is left to do.
+    fn is_done(&self) -> bool
+        ensures done { result ≡ true → IsDone self.now }
+        ensures left { result ≡ false → IsLeft self.now };
+
+    /// Makes the letter that the caller makes next.
+    fn make_next<L: Ledger>(&mut self, alloc: Global, steps: &mut Steps<L>) -> Result<(), NoMemory>
+        requires { IsLeft self.old }
+        ensures case { OnOk result (case_of self.new ≡ case_of self.old) }
+        ensures fewer { OnOk result (letters self.new < letters self.old) }
+        ensures next { OnOk result (HasNext self.old self.new) };
+
+    /// The book of the flow.
+    fn finish(self) -> Self::Book
+        requires { IsDone self }
+        ensures case { case_in result ≡ case_of self }
+        ensures whole { IsWhole result };
+}

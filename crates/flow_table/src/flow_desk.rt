@@ -1,0 +1,80 @@
+//! The desk of a datapath worker over a table of flows.
+
+ghost use Rattle.std.specs.Prelude.{◌≡◌, ℕ, ◌+◌, ◌<◌, ◌≤◌, Option, Some, None, option_map, [], ◌∷◌, length};
+ghost use Rattle.worker_desk.specs.Logs.{Known, Logs};
+ghost use Rattle.worker_desk.specs.Serving.{heard};
+ghost use Rattle.worker_desk.specs.declared.event.Event.TheVariants.{Passed, Locked, Unlocked, Acked, Nudged};
+
+use crate::flow::LockedFlow;
+use crate::held::Held;
+use crate::nudges::Nudges;
+use crate::table::FlowTable;
+use ccp_base::{Gate, Point};
+use fold_machine::Steps;
+use std::sync::Wait;
+use std::sync::ledger::Ledger;
+use worker_desk::{Desk, Heard};
+
+/// The desk of a datapath worker over a table of flows.
+#[derive(Drop)]
+pub(crate) struct FlowDesk<'a, F: LockedFlow, N, L: Ledger, R, G> {
+    pub(crate) rt: &'a R,
+    pub(crate) table: &'a FlowTable<F>,
+    pub(crate) nudges: &'a N,
+    pub(crate) gate: &'a G,
+    pub(crate) steps: Steps<L>,
+    pub(crate) held: Option<Held<'a, F>>,
+    /// How many acknowledgements may still come; after the last one it waits forever.
+    pub(crate) left: u64,
+}
+
+impl<'a, F: LockedFlow, N: Nudges, L: Ledger, R: Wait, G: Gate> Desk
+    for FlowDesk<'a, F, N, L, R, G> {
+    ghost use Rattle.std.specs.Prelude.{None, option_map, length};
+
+    ghost log = { λ d. None };
+
+    ghost held = { λ d. option_map (λ held. held.flow) d.held };
+
+    ghost flows = { λ d. length d.table.now };
+
+    ghost coming = { λ d. d.left };
+
+    fn flow_count(&self) -> u32 {
+        self.table.flows()
+    }
+
+    fn lock(&mut self, flow: u32) {
+        self.held = Some(self.table.lock(self.rt, flow));
+    }
+
+    fn unlock(&mut self, _flow: u32) {
+        self.held = None;
+    }
+
+    fn ack(&mut self, _worker: u32, _flow: u32) -> Heard {
+        let Some(held) = self.held.take() else {
+            unreachable!()
+        };
+        let Held { flow, mut cell } = held;
+        let answer = cell.hear(&mut self.steps);
+        self.held = Some(Held { flow, cell });
+        if let Heard::Ended = answer {
+            return answer;
+        }
+        if self.left == 0 {
+            for _ in self.rt.forever() {}
+            unreachable!()
+        }
+        self.left -= 1;
+        answer
+    }
+
+    fn pass(&mut self, worker: u32, point: Point, flow: u32) {
+        self.gate.pass(worker, point, flow);
+    }
+
+    fn nudge(&mut self, flow: u32) {
+        self.nudges.nudge(self.rt, flow);
+    }
+}

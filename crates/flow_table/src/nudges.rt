@@ -1,0 +1,17 @@
+//! How datapath workers let agent workers know that something waits.
+
+use std::sync::Wait;
+
+/// Where datapath workers send the numbers of flows of which a report or a fault waits.
+pub trait Nudges {
+    /// Sends a flow's number. A nudge may get lost: what it points to is left to the caller.
+    fn nudge<R: Wait>(&self, rt: &R, flow: u32);
+}
+
+/// No agent waits for flows.
+#[derive(Drop)]
+pub struct NoNudges;
+
+impl Nudges for NoNudges {
+    fn nudge<R: Wait>(&self, _rt: &R, _flow: u32) {}
+}

@@ -1,0 +1,284 @@
+-- Each letter keeps what holds of what is kept.
+use Rattle.std.specs.Prelude.{◌≡◌, ℕ, ◌+◌, ◌-◌, ◌<◌, ◌≤◌, true, Option, Some, None, option_map, Result, Ok, Err, List, [], ◌∷◌, ◌++◌, length, map, slice_get, refl}
+use Rattle.std.proofs.Common.{ap, sym, ◌∙◌, subst, arith, length-append}
+use Rattle.std.proofs.lemmas.List.{map-append, length-map}
+use Rattle.std.proofs.lemmas.Option.{none-some, slice_get_within, slice_get-map}
+use Rattle.ccp_base.specs.declared.ack.Ack.{Ack}
+use Rattle.ccp_base.specs.declared.place.Place.{Place}
+use Rattle.ccp_base.specs.declared.exchange.Notice.{Notice}
+use Rattle.portus_core.specs.Programs.{Form}
+use Rattle.portus_core.specs.ProgramForm.{form_of}
+use Rattle.portus_core.specs.OneAcknowledgement.{IsEnvOf}
+use Rattle.portus_core.specs.Epoch.{acknowledged, Track, track_at, by_source, declared_env, after, after_outcome}
+use Rattle.portus_core.specs.Reports.{reports_met}
+use Rattle.portus_core.proofs.EventLaws.{after-append}
+use Rattle.portus_core.proofs.EnvShapes.{IsEnvOf-declared_env}
+use Rattle.portus_build.specs.declared.fault.BuildFault.{BuildFault}
+use Rattle.reg_compiler.specs.declared.built.Built.{Built}
+use Rattle.reg_compiler.specs.Simulation.{Simulates}
+use Rattle.fold_machine.specs.MachineState.{MachineState}
+use Rattle.fold_machine.specs.Heard.{started_by}
+use Rattle.link_model.specs.Standing.{LinkState, Stands}
+use Rattle.flow_core.specs.declared.book.EpochLine.{EpochLine}
+use Rattle.flow_core.specs.Readings.{env_of}
+use Rattle.flow_core.specs.Roomy.{RoomyState}
+use Rattle.flow_core.specs.World.{Failure, with_event, failures_met}
+use Rattle.flow_core.specs.Books.{epoch_line}
+use Rattle.flow_core.proofs.SimulatedEpochs.{IsEnvOf-after, declared-simulated}
+use Rattle.scenario_json.specs.ScenePrograms.{TextReading}
+use Rattle.live_install.specs.declared.account.Account.{Account}
+use Rattle.live_install.specs.declared.entry.Entry.{Entry}
+use Rattle.live_install.specs.Accounts.{reporter, met_in, Heard}
+use Rattle.live_install.specs.declared.letter.OpenLetter.{OpenLetter}
+use Rattle.live_install.specs.declared.state.State.{State}
+use Rattle.live_install.specs.OpenWorld.{Installed, Running, OpenWorld, track_of, cwnd_of, bare, met_by, after_ack, eras_of, with_entry, after_install, next_of, running_of, with_next, after_change}
+use Rattle.live_install.specs.BuiltTexts.{came_of, built_of}
+use Rattle.live_install.specs.Entries.{installed_of, built_in, built_at, place_of}
+use Rattle.live_install.specs.OpenBooks.{Seen, failure_at, seen_of, seen_as}
+use Rattle.live_install.specs.States.{kept_track, next_from, Runs, RunsAs, FitsBuilt, FitsAt, epoch_of, turn_of, Keeps}
+use Rattle.live_install.proofs.ListLemmas.{slice_get-front, time-push}
+use Rattle.live_install.proofs.NextLemmas.{was_started-same, passed-more, passed-push, next-entry}
+
+-- a track with one acknowledgement more counted
+abbrev counted : Track → Track
+counted track = record track { count = track.count + 1 }
+
+-- ---- an acknowledgement
+
+-- what is kept after an acknowledgement that isn't run
+abbrev pub counted_state : State → LinkState → Ack → RoomyState OpenLetter → State
+counted_state s link ack word = record s { link = link; acks = s.acks + 1; time = ack.now; word = word }
+
+module _ (s : State) (base : OpenWorld) (link : LinkState) (ack : Ack) (word : RoomyState OpenLetter) where
+  -- before the first change
+  pub keeps-counted : (running : Option ℕ) → s.running ≡ running
+      → Keeps s (record base { present = None })
+      → Stands link (base.windows ++ cwnd_of s.case (record base { present = None }) ∷ [])
+      → Keeps (counted_state s link ack word) (after_ack s.case ack (record base { present = None }))
+  keeps-counted running is keeps stands =
+      let more = length-append base.acks (ack ∷ []) in
+      record {
+        entries = keeps.entries;
+        installed = keeps.installed;
+        epochs = keeps.epochs;
+        reports = keeps.reports;
+        faults = keeps.faults;
+        acks = ap (λ (n : ℕ). n + 1) keeps.acks ∙ sym more;
+        time = sym (time-push base.acks ack);
+        track = ap counted keeps.track ∙ (λ i. bare s.case (sym more i));
+        runs = keeps.runs;
+        passed = keeps.passed;
+        stands = stands;
+      }
+
+  module _ (machine : MachineState) (account : Account) (step : ℕ) (running : Running) (is_running : s.running ≡ Some step)
+      (keeps : Keeps s (record base { present = Some running })) (runs : Runs s.entries.items step running)
+      (heard : Heard s.entries.items running.form (turn_of s step) s.machine machine s.account account ack) where
+    -- what runs after it
+    abbrev next : Running
+    next = record running { era = with_event (acknowledged ack true) running.era }
+
+    abbrev after_world : OpenWorld
+    after_world = after_ack s.case ack (record base { present = Some running })
+
+    track-next : track_of next ≡ after_outcome (met_by running ack) (track_of running)
+    track-next = after-append (by_source running.form) running.era.events (acknowledged ack true ∷ []) (track_at running.era.at running.era.first)
+
+    epoch-number : epoch_of s ≡ length base.past
+    epoch-number =
+        let long : length s.epochs.items ≡ length base.past + 1 =
+        ap length keeps.epochs ∙ length-map (base.past ++ running.era ∷ []) epoch_line ∙ length-append base.past (running.era ∷ []) in
+        omega (arith, long)
+
+    reporter-same : reporter (turn_of s step) ≡ record { flow = s.case.flow; program = running.era.program; number = length base.past }
+    reporter-same = λ i. record { flow = s.case.flow; program = sym runs.program i; number = epoch-number i }
+
+    met-same : met_in running.form (kept_track s) ack ≡ met_by running ack
+    met-same = ap (λ (t : Track). met_in running.form t ack) keeps.track
+
+    -- what is kept after an acknowledgement that is run
+    abbrev pub heard_state : State
+    heard_state = record (counted_state s link ack word) { machine = machine; account = account }
+
+    pub keeps-heard : Stands link (base.windows ++ cwnd_of s.case (record base { present = Some running }) ∷ [])
+        → Keeps heard_state after_world
+    keeps-heard stands =
+        let more = length-append base.acks (ack ∷ []) in
+        record {
+          entries = keeps.entries;
+          installed = keeps.installed;
+          epochs = keeps.epochs ∙ map-append epoch_line base.past (running.era ∷ []) ∙ sym (map-append epoch_line base.past (next.era ∷ []));
+          reports = heard.reports
+              ∙ (λ i. keeps.reports i ++ reports_met (reporter-same i) (keeps.track i) ack (met-same i).0 (met-same i).1);
+          faults = heard.faults
+              ∙ (λ i. keeps.faults i ++ map (seen_as s.case.flow) (failures_met (sym runs.program i) (epoch-number i) (keeps.track i).count ack (met-same i)))
+              ∙ sym (map-append (seen_as s.case.flow) base.faults _);
+          acks = ap (λ (n : ℕ). n + 1) keeps.acks ∙ sym more;
+          time = sym (time-push base.acks ack);
+          track =
+              (λ i. record { env = heard.env i; is_stopped = heard.stopping i; first = heard.first i; count = s.acks + 1 })
+              ∙ (λ i. after_outcome (met-same i) (keeps.track i)) ∙ sym track-next;
+          runs = subst (λ (r : Option ℕ). RunsAs s.entries.items r (Some next)) (sym is_running) (record {
+            program = runs.program;
+            form = runs.form;
+            shape = subst (λ (t : Track). IsEnvOf running.form t.env)
+                (sym (after-append (by_source running.form) running.era.events (acknowledged ack true ∷ []) (track_at running.era.at running.era.first)))
+                (IsEnvOf-after running.form (acknowledged ack true ∷ []) (track_of running) runs.shape);
+          });
+          passed = record {
+            before = λ i form below ok. sym (was_started-same i base.past running.era next.era refl) ∙ keeps.passed.before i form below ok;
+            after = λ i past. sym (was_started-same i base.past running.era next.era refl) ∙ keeps.passed.after i past;
+          };
+          stands = stands;
+        }
+
+-- ---- an entry is installed
+
+-- a step's entry stays where it is
+built-front : (entries more : List Entry) (step : ℕ) → step < length entries → built_at (entries ++ more) step ≡ built_at entries step
+built-front entries more step within = ap built_in (slice_get-front entries more step within)
+
+seen-front : (entries more : List Entry) (notice : Notice) (failure : Seen) (place : Failure Place) → seen_of entries notice ≡ seen_as failure.0 place
+    → seen_of (entries ++ more) notice ≡ seen_of entries notice
+seen-front entries more notice failure place is = by (slice_get entries notice.program) refl where
+  by : (found : Option Entry) → slice_get entries notice.program ≡ found → seen_of (entries ++ more) notice ≡ seen_of entries notice
+  by (Some entry) here =
+      let within = slice_get_within entries notice.program entry here in
+      ap (λ (b : Option Built). (notice.flow, option_map (failure_at notice) (place_of b notice.index))) (built-front entries more notice.program within)
+  by None here =
+      absurd (none-some place (ap (λ (b : Option Entry). option_map (failure_at notice) (place_of (built_in b) notice.index)) (sym here) ∙ ap (λ (p : Seen). p.1) is))
+
+seen-more : (entries more : List Entry) (flow : ℕ) (notices : List Notice) (failures : List (Failure Place))
+    → map (seen_of entries) notices ≡ map (seen_as flow) failures → map (seen_of (entries ++ more)) notices ≡ map (seen_of entries) notices
+seen-more entries more flow [] failures same = refl
+seen-more entries more flow (notice ∷ rest) [] same = absurd (omega (arith, ap length same, length-map rest (seen_of entries)))
+seen-more entries more flow (notice ∷ rest) (failure ∷ failures) same =
+    let head : seen_of entries notice ≡ seen_as flow failure = ap (first_of (seen_as flow failure)) same in
+    let tail : map (seen_of entries) rest ≡ map (seen_as flow) failures = ap rest_of same in
+    λ i. seen-front entries more notice (flow, None) failure head i ∷ seen-more entries more flow rest failures tail i where
+      first_of : Seen → List Seen → Seen
+      first_of default [] = default
+      first_of default (x ∷ xs) = x
+
+      rest_of : List Seen → List Seen
+      rest_of [] = []
+      rest_of (x ∷ xs) = xs
+
+runs-more : (entries more : List Entry) (running : Option ℕ) (present : Option Running) → next_from running ≤ length entries
+    → RunsAs entries running present → RunsAs (entries ++ more) running present
+runs-more entries more None None within runs = tt
+runs-more entries more None (Some r) within runs = runs
+runs-more entries more (Some step) None within runs = runs
+runs-more entries more (Some step) (Some r) within runs = record {
+  program = runs.program;
+  form = ap (option_map (λ (b : Built). form_of b.program)) (built-front entries more step (omega (arith, within))) ∙ runs.form;
+  shape = runs.shape;
+}
+
+pub fits-more : (machine : MachineState) (entries more : List Entry) (running : Option ℕ) → next_from running ≤ length entries
+    → FitsAt machine entries running → FitsAt machine (entries ++ more) running
+fits-more machine entries more None within fits = tt
+fits-more machine entries more (Some step) within fits =
+    subst (FitsBuilt machine) (sym (built-front entries more step (omega (arith, within)))) fits
+
+-- what is kept after an entry
+abbrev pub put_state : State → Entry → RoomyState Entry → RoomyState ℕ → RoomyState OpenLetter → State
+put_state s entry entries installed word = record s { entries = entries; installed = installed; word = word }
+
+pub keeps-put : (read : TextReading) (s : State) (w : OpenWorld) (entry : Entry) (entries : RoomyState Entry) (installed : RoomyState ℕ) (word : RoomyState OpenLetter)
+    → Keeps s w → next_from s.running ≤ length s.entries.items
+    → entries.items ≡ s.entries.items ++ entry ∷ [] → installed.items ≡ s.installed.items ++ s.acks ∷ []
+    → slice_get s.case.steps (length s.entries.items) ≡ Some entry.text → read entry.text ≡ installed_of entry
+    → Keeps (put_state s entry entries installed word) (after_install read s.case w)
+keeps-put read s w entry entries installed word keeps within pushed counted text came =
+    let count : length s.entries.items ≡ length w.entries = sym (length-map s.entries.items installed_of) ∙ ap length keeps.entries in
+    let next : OpenWorld = record w { entries = w.entries ++ installed_of entry ∷ []; installed = w.installed ++ length w.acks ∷ [] } in
+    let is : after_install read s.case w ≡ next =
+    (λ i. with_entry read ((ap (slice_get s.case.steps) (sym count) ∙ text) i) w)
+    ∙ (λ i. record w { entries = w.entries ++ came i ∷ []; installed = w.installed ++ length w.acks ∷ [] }) in
+    let whole : Keeps (record (put_state s entry entries installed word) { entries = record { items = s.entries.items ++ entry ∷ []; room = entries.room } }) next = record {
+      entries = map-append installed_of s.entries.items (entry ∷ []) ∙ (λ i. keeps.entries i ++ installed_of entry ∷ []);
+      installed = counted ∙ (λ i. keeps.installed i ++ keeps.acks i ∷ []);
+      epochs = keeps.epochs;
+      reports = keeps.reports;
+      faults = seen-more s.entries.items (entry ∷ []) s.case.flow s.account.faults.items w.faults keeps.faults ∙ keeps.faults;
+      acks = keeps.acks;
+      time = keeps.time;
+      track = keeps.track;
+      runs = runs-more s.entries.items (entry ∷ []) s.running w.present within keeps.runs;
+      passed = passed-more (next_from s.running) (eras_of w) w.entries (installed_of entry ∷ []) (omega (arith, within, count)) keeps.passed;
+      stands = keeps.stands;
+    } in
+    subst (λ (v : OpenWorld). Keeps (put_state s entry entries installed word) v) (sym is)
+    (subst (λ (items : List Entry). Keeps (record (put_state s entry entries installed word) { entries = record { items = items; room = entries.room } }) next) (sym pushed) whole)
+
+-- ---- a change
+
+abbrev built_form : Form → Option Built → Form
+built_form default None = default
+built_form default (Some built) = form_of built.program
+
+abbrev came_form : Form → Option Installed → Form
+came_form default None = default
+came_form default (Some (Ok form)) = form
+came_form default (Some (Err refusal)) = default
+
+-- the program of an accepted entry is what was built of it
+form-answer : (built : Built) (form : Form) (answer : Result Built BuildFault) → built_of answer ≡ Some built → Some (came_of answer) ≡ Some (Ok form) → form_of built.program ≡ form
+form-answer built form (Ok other) one two = sym (ap (built_form form) one) ∙ ap (came_form form) two
+form-answer built form (Err refusal) one two = absurd (none-some built one)
+
+form-found : (entries : List Entry) (step : ℕ) (built : Built) (form : Form) (found : Option Entry) → slice_get entries step ≡ found → built_at entries step ≡ Some built
+    → slice_get (map installed_of entries) step ≡ Some (Ok form) → form_of built.program ≡ form
+form-found entries step built form None here is ok = absurd (none-some built (ap built_in (sym here) ∙ is))
+form-found entries step built form (Some entry) here is ok =
+    form-answer built form entry.answer (ap built_in (sym here) ∙ is) (ap (option_map installed_of) (sym here) ∙ sym (slice_get-map installed_of entries step) ∙ ok)
+
+form-same : (entries : List Entry) (step : ℕ) (built : Built) (form : Form) → built_at entries step ≡ Some built
+    → slice_get (map installed_of entries) step ≡ Some (Ok form) → form_of built.program ≡ form
+form-same entries step built form is ok = form-found entries step built form (slice_get entries step) refl is ok
+
+-- what is kept after a change
+abbrev pub started_state : State → ℕ → MachineState → RoomyState EpochLine → RoomyState OpenLetter → State
+started_state s step machine epochs word = record s {
+  machine = machine;
+  running = Some step;
+  account = record s.account { first = s.acks };
+  epochs = epochs;
+  word = word;
+}
+
+pub keeps-started : (s : State) (w : OpenWorld) (step : ℕ) (form : Form) (built : Built) (machine : MachineState) (epochs : RoomyState EpochLine) (word : RoomyState OpenLetter)
+    → Keeps s w → next_of w ≡ Some (step, form) → built_at s.entries.items step ≡ Some built
+    → machine ≡ started_by built.code.code [] s.time s.machine
+    → epochs.items ≡ s.epochs.items ++ record { program = step; at = s.acks; cwnd = machine.kept.cwnd } ∷ []
+    → Keeps (started_state s step machine epochs word) (after_change s.case w)
+keeps-started s w step form built machine epochs word keeps left is started pushed =
+    let entry : slice_get w.entries step ≡ Some (Ok form) = next-entry (eras_of w) w.entries step form left in
+    let same_form : form_of built.program ≡ form =
+    form-same s.entries.items step built form is ((λ i. slice_get (keeps.entries i) step) ∙ entry) in
+    let running = running_of s.case w step form in
+    let next : OpenWorld = record w { past = eras_of w; present = Some running } in
+    let world_is : after_change s.case w ≡ next = ap (λ (left : Option (ℕ × Form)). with_next s.case left w) left in
+    let simulates : Simulates form built.code.code built.places = subst (λ (f : Form). Simulates f built.code.code built.places) same_form built.simulates in
+    let env : env_of machine.kept ≡ running.era.first =
+    ap (λ (m : MachineState). env_of m.kept) started
+    ∙ declared-simulated form built.code.code built.places simulates s.machine.kept.cwnd s.machine.kept.rate s.time
+    ∙ (λ i. declared_env form (keeps.track i).env.cwnd (keeps.track i).env.rate (keeps.time i)) in
+    let line : epoch_line running.era ≡ record { program = step; at = length w.acks; cwnd = running.era.first.cwnd } = refl in
+    let whole : Keeps (started_state s step machine epochs word) next = record {
+      entries = keeps.entries;
+      installed = keeps.installed;
+      epochs = pushed
+          ∙ (λ i. keeps.epochs i ++ record { program = step; at = keeps.acks i; cwnd = (env i).cwnd } ∷ [])
+          ∙ sym (map-append epoch_line (eras_of w) (running.era ∷ []));
+      reports = keeps.reports;
+      faults = keeps.faults;
+      acks = keeps.acks;
+      time = keeps.time;
+      track = λ i. record { env = env i; is_stopped = ap (λ (m : MachineState). m.is_stopped) started i; first = keeps.acks i; count = keeps.acks i };
+      runs = record { program = refl; form = ap (option_map (λ (b : Built). form_of b.program)) is ∙ ap Some same_form; shape = IsEnvOf-declared_env form _ _ _ };
+      passed = passed-push (next_from s.running) step form (eras_of w) running.era w.entries refl keeps.passed left;
+      stands = keeps.stands;
+    } in
+    subst (λ (v : OpenWorld). Keeps (started_state s step machine epochs word) v) (sym world_is) whole

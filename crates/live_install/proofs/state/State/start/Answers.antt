@@ -1,0 +1,49 @@
+use Rattle.std.proofs.Common.{refl, ap, sym, ◌∙◌, subst, ◌+◌, ℕ, ◌≡◌, None, Option, is_some, arith, List, [], ◌∷◌, ◌++◌}
+use Rattle.std.proofs.lemmas.Bool.{true≢false}
+use Rattle.ccp_base.specs.FieldReg.{Pair}
+use Rattle.reg_compiler.specs.declared.built.Built.{Built}
+use Rattle.fold_machine.specs.Heard.{started_by}
+use Rattle.live_install.specs.declared.entry.Entry.{Entry}
+use Rattle.live_install.specs.Entries.{built_at}
+use Rattle.live_install.specs.States.{IsOpen}
+use Rattle.live_install.proofs.KeepsLemmas.{started_state}
+use Rattle.live_install.proofs.OpenLemmas.{below, late, some-built, open-started}
+use Rattle.live_install.proofs.state.State.start.Goals as goal
+
+pub unreachable-requires : goal.unreachable-requires
+unreachable-requires c =
+    let s = c.args.self.now in
+    let built = some-built s c.requires.open_state c.args.step c.requires.next (built_at s.entries.items c.args.step) refl in
+    let none : built_at s.entries.items c.args.step ≡ None =
+    ap (λ (entries : List Entry). built_at entries c.args.step) (sym c.as_slice.ensures) ∙ sym c.in_default.ensures in
+    true≢false (sym built ∙ ap (λ (b : Option Built). is_some b) none)
+
+pub push-requires : goal.push-requires
+push-requires c =
+    let s = c.args.self.now in
+    let f = c.requires.open_state.fit in
+    let within = below s c.requires.open_state c.args.step c.requires.next in
+    let past = late s c.requires.open_state c.args.step c.requires.next in
+    omega (arith, within, past, f.epochs_most, f.entries_most, f.epochs_room)
+
+pub push-requires-2 : goal.push-requires-2
+push-requires-2 c =
+    let s = c.args.self.now in
+    let f = c.requires.open_state.fit in
+    let within = below s c.requires.open_state c.args.step c.requires.next in
+    let past = late s c.requires.open_state c.args.step c.requires.next in
+    omega (arith, within, past, f.letters, f.acks_most, f.epochs_most, f.entries_most, f.word_room)
+
+pub returns-clause-open_state : goal.returns-clause-open_state
+returns-clause-open_state c =
+    let s = c.args.self.now in
+    let machine = c.start.new.self in
+    let built = c.in-Some.built.now in
+    subst (λ (n : ℕ). IsOpen (record (started_state s c.args.step machine c.push.new.self c.push-2.new.self) { account = record s.account { first = n } }))
+    (sym c.from-self.ensures)
+    (open-started s c.requires.open_state c.args.step c.requires.next built machine c.push.new.self c.push-2.new.self
+    (ap (λ (entries : List Entry). built_at entries c.args.step) (sym c.as_slice.ensures) ∙ sym c.in-Some.ensures)
+    (c.in-Ok.ensures.started ∙ ap (λ (values : List Pair). started_by built.code.code values s.time s.machine) c.new.ensures)
+    c.in-Ok.ensures.fits
+    (c.push.ensures.items ∙ (λ i. s.epochs.items ++ record { program = c.args.step; at = s.acks; cwnd = c.cwnd.ensures i } ∷ []))
+    c.push.ensures.room c.push-2.ensures.items c.push-2.ensures.room)

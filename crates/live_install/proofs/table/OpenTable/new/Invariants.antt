@@ -1,9 +1,0 @@
-use Rattle.std.proofs.Common.{◌≡◌, ◌++◌, length, map}
-use Rattle.live_install.specs.declared.table.Locked.{Locked}
-use Rattle.live_install.proofs.table.OpenTable.new.Given as goal
-
-abbrev pub invariant-loop-alloc : goal.invariant-loop-alloc
-invariant-loop-alloc l = map (λ (locked : Locked). locked.case) l.flows.items ++ l.left.items ≡ l.fn.cases
-
-abbrev pub decreases-loop-alloc : goal.decreases-loop-alloc
-decreases-loop-alloc l = length l.left.items

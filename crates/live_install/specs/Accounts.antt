@@ -1,0 +1,98 @@
+-- What an acknowledgement that is run changes of what is kept.
+use Rattle.std.specs.Prelude.{◌≡◌, ℕ, ◌+◌, ◌<◌, ◌≤◌, Bool, true, false, List, ◌++◌, length, map}
+use Rattle.ccp_base.specs.declared.ack.Ack.{Ack}
+use Rattle.ccp_base.specs.declared.arithmetic.FaultKind.{FaultKind}
+use Rattle.ccp_base.specs.declared.exchange.Notice.{Notice}
+use Rattle.portus_core.specs.declared.env.Env.{Env}
+use Rattle.portus_core.specs.Programs.{Form}
+use Rattle.portus_core.specs.Value.{Cause}
+use Rattle.portus_core.specs.Epoch.{Outcome, Track, by_source, heard, stops, next_first}
+use Rattle.portus_core.specs.Reports.{Epoch, reports_met}
+use Rattle.reg_code.specs.declared.code.Code.{Code}
+use Rattle.fold_machine.specs.declared.acked.Acked.{Acked}
+use Rattle.fold_machine.specs.declared.acked.Acked.TheVariants as acked
+use Rattle.fold_machine.specs.MachineState.{MachineState}
+use Rattle.flow_core.specs.Readings.{by_code, env_of}
+use Rattle.flow_core.specs.Cores.{ran_by}
+use Rattle.flow_core.specs.States.{outcome_by}
+use Rattle.flow_core.specs.World.{Failure, failures_met}
+use Rattle.live_install.specs.declared.account.Account.{Account}
+use Rattle.live_install.specs.declared.account.Turn.{Turn}
+use Rattle.live_install.specs.declared.entry.Entry.{Entry}
+use Rattle.live_install.specs.OpenBooks.{seen_of, seen_as}
+
+-- ---- the machine's answer
+
+-- the outcome that the machine's answer tells, and the env that it keeps
+abbrev pub met_as : Acked → MachineState → Outcome (FaultKind × ℕ) × Env
+met_as answer machine = (outcome_by answer machine.report, env_of machine.kept)
+
+-- an acknowledgement, with room, takes the machine from the one state to the other with this answer, as its code says
+abbrev pub IsMet : Code → MachineState → Ack → MachineState → Acked → Type 0
+IsMet code old ack new answer =
+    heard (by_code code) old.is_stopped (env_of old.kept) ack true ≡ met_as answer new
+
+-- how many instructions the machine runs on an acknowledgement with room
+abbrev pub ran_on : Code → MachineState → Ack → ℕ
+ran_on code machine ack = ran_by machine.is_stopped code (env_of machine.kept) ack true
+
+-- there is a place for the fault, where the answer tells one
+abbrev pub HasPlaceFor : Acked → Account → Type 0
+HasPlaceFor answer account =
+    (kind : FaultKind) (index : ℕ) → answer ≡ acked.Faulted kind index → length account.faults.items < account.faults.room
+
+-- ---- what is put down
+
+-- whose reports they are
+abbrev pub reporter : Turn → Epoch
+reporter turn = record { flow = turn.flow; program = turn.step; number = turn.epoch }
+
+-- a fault of the code as its notice
+abbrev pub notice_by : ℕ → Failure ℕ → Notice
+notice_by flow failure = record {
+  flow = flow;
+  program = failure.program;
+  epoch = failure.epoch;
+  at = failure.at;
+  kind = failure.kind;
+  index = failure.site;
+  now = failure.now;
+  cwnd = failure.cwnd;
+}
+
+-- what an outcome of the code with this env changes
+pub record PutDown (turn : Turn) (old new : Account) (ack : Ack) (met : Outcome (FaultKind × ℕ) × Env) : Type 0 where
+  pub first : (track : Track) → track.first ≡ old.first → track.count ≡ turn.at → new.first ≡ next_first met.0 track
+  pub reports : (track : Track) → track.first ≡ old.first → track.count ≡ turn.at
+      → new.reports.items ≡ old.reports.items ++ reports_met (reporter turn) track ack met.0 met.1
+  pub faults : new.faults.items ≡ old.faults.items ++ map (notice_by turn.flow) (failures_met turn.step turn.epoch turn.at ack met)
+  pub reports_room : new.reports.room ≡ old.reports.room
+  pub faults_room : new.faults.room ≡ old.faults.room
+
+-- what an acknowledgement comes to where this program runs, with room always
+abbrev pub met_in : Form → Track → Ack → Outcome Cause × Env
+met_in form track ack = heard (by_source form) track.is_stopped track.env ack true
+
+-- where the flow stands before it
+abbrev pub track_by : Turn → MachineState → Account → Track
+track_by turn machine old = record { env = env_of machine.kept; is_stopped = machine.is_stopped; first = old.first; count = turn.at }
+
+-- how many faults a running program can still have
+abbrev pub faults_of : Bool → ℕ
+faults_of true = 0
+faults_of false = 1
+
+-- what an acknowledgement that is run changes where this program runs
+pub record Heard (entries : List Entry) (form : Form) (turn : Turn) (machine : MachineState) (new_machine : MachineState) (old new : Account) (ack : Ack) : Type 0 where
+  pub env : env_of new_machine.kept ≡ (met_in form (track_by turn machine old) ack).1
+  pub stopping : new_machine.is_stopped ≡ stops (met_in form (track_by turn machine old) ack).0
+  pub first : new.first ≡ next_first (met_in form (track_by turn machine old) ack).0 (track_by turn machine old)
+  pub reports : new.reports.items
+      ≡ old.reports.items ++ reports_met (reporter turn) (track_by turn machine old) ack (met_in form (track_by turn machine old) ack).0 (met_in form (track_by turn machine old) ack).1
+  pub faults : map (seen_of entries) new.faults.items
+      ≡ map (seen_of entries) old.faults.items ++ map (seen_as turn.flow) (failures_met turn.step turn.epoch turn.at ack (met_in form (track_by turn machine old) ack))
+  pub reports_most : length new.reports.items ≤ length old.reports.items + 1
+  pub faults_most : length new.faults.items + faults_of new_machine.is_stopped
+      ≤ length old.faults.items + faults_of machine.is_stopped
+  pub reports_room : new.reports.room ≡ old.reports.room
+  pub faults_room : new.faults.room ≡ old.faults.room

@@ -1,0 +1,32 @@
+-- The entries of a flow, by their steps.
+use Rattle.std.specs.Prelude.{◌≡◌, ℕ, ◌+◌, Option, Some, None, List, [], ◌∷◌, ⊤, slice_get}
+use Rattle.ccp_base.specs.declared.place.Place.{Place}
+use Rattle.reg_compiler.specs.declared.built.Built.{Built}
+use Rattle.live_install.specs.declared.entry.Entry.{Entry}
+use Rattle.live_install.specs.OpenWorld.{Installed}
+use Rattle.live_install.specs.BuiltTexts.{came_of, built_of}
+
+-- the program of an entry, or the refusal
+abbrev pub installed_of : Entry → Installed
+installed_of entry = came_of entry.answer
+
+abbrev pub built_in : Option Entry → Option Built
+built_in None = None
+built_in (Some entry) = built_of entry.answer
+
+-- what was built of a step, None where its entry isn't there or was refused
+abbrev pub built_at : List Entry → ℕ → Option Built
+built_at entries step = built_in (slice_get entries step)
+
+abbrev pub place_of : Option Built → ℕ → Option Place
+place_of None index = None
+place_of (Some built) index = slice_get built.places index
+
+-- the place of an instruction of a step's code
+abbrev pub place_at : List Entry → ℕ → ℕ → Option Place
+place_at entries step index = place_of (built_at entries step) index
+
+-- the entries are those of the steps from this one on, in order
+abbrev pub AreStepsFrom : ℕ → List Entry → Type 0
+AreStepsFrom step [] = ⊤
+AreStepsFrom step (entry ∷ rest) = (entry.step ≡ step) × AreStepsFrom (step + 1) rest

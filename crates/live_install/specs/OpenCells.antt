@@ -1,0 +1,105 @@
+-- A flow of a rollout: its case, its library and its word.
+use Rattle.std.specs.Prelude.{◌≡◌, ℕ, ◌+◌, ◌*◌, ◌≤◌, Bool, true, Option, Some, None, option_map, List, [], ◌∷◌, ◌++◌, ⊤, length, slice_get}
+use Rattle.ccp_base.specs.declared.ack.Ack.{Ack}
+use Rattle.portus_core.specs.Value.{Cause}
+use Rattle.portus_core.specs.Epoch.{Outcome, quiet, reported, held, failed, stopped}
+use Rattle.reg_compiler.specs.declared.built.Built.{Built}
+use Rattle.fold_machine.specs.declared.acked.Acked.{Acked}
+use Rattle.fold_machine.specs.declared.acked.Acked.TheVariants as acked
+use Rattle.flow_core.specs.Cores.{ran_by}
+use Rattle.scenario_json.specs.ScenePrograms.{TextReading}
+use Rattle.scenario_json.specs.declared.open_case.OpenCase.{OpenCase}
+use Rattle.live_install.specs.declared.entry.Entry.{Entry}
+use Rattle.live_install.specs.declared.letter.OpenLetter.{OpenLetter}
+use Rattle.live_install.specs.declared.letter.OpenLetter.TheVariants.{I}
+use Rattle.live_install.specs.OpenWorld.{Running, OpenWorld, track_of, met_by, next_of}
+use Rattle.live_install.specs.OpenWords.{next_ack, after_letter, install_world, is_legal, is_complete}
+use Rattle.live_install.specs.Entries.{built_at, place_of}
+
+pub record OpenState : Type 0 where
+  pub case : OpenCase
+  pub entries : List Entry
+  pub word : List OpenLetter
+
+-- the flow's state after its word
+abbrev pub world_at : TextReading → OpenState → OpenWorld
+world_at read cell = install_world read cell.case cell.word
+
+abbrev pub ack_at : TextReading → OpenState → Ack
+ack_at read cell = next_ack cell.case (world_at read cell)
+
+-- the new flow's state is the old one's after one more letter
+abbrev pub IsAfter : TextReading → OpenState → OpenLetter → OpenState → Type 0
+IsAfter read old letter new = world_at read new ≡ after_letter read old.case (world_at read old) letter
+
+-- the letter is legal at the end of the flow's word
+abbrev pub is_legal_at : TextReading → OpenState → OpenLetter → Bool
+is_legal_at read cell letter = is_legal cell.case (world_at read cell) letter
+
+-- all acknowledgements of the case are in
+abbrev pub HasAll : TextReading → OpenState → Type 0
+HasAll read cell = cell.case.acks ≤ length (world_at read cell).acks
+
+abbrev pub IsComplete : TextReading → OpenState → Type 0
+IsComplete read cell = is_complete cell.case (world_at read cell) ≡ true
+
+-- how many letters a word of a case has at most
+abbrev pub most_letters : OpenCase → ℕ
+most_letters case = case.acks + 2 * length case.steps
+
+-- ---- what an entry is answered
+
+-- the entry's step is the number of entries so far, and its text is the case's of that step
+abbrev pub IsNextEntry : OpenState → Entry → Type 0
+IsNextEntry cell entry = (entry.step ≡ length cell.entries) × (slice_get cell.case.steps (length cell.entries) ≡ Some entry.text)
+
+-- the flow with one more entry
+abbrev pub with_entry : OpenState → Entry → OpenState
+with_entry cell entry = record cell { entries = cell.entries ++ entry ∷ []; word = cell.word ++ I ∷ [] }
+
+-- ---- what an acknowledgement is answered
+
+-- the outcome that an answer tells with the fields of its report, where a fault's index stands for its place
+abbrev pub outcome_seen : Option Built → Acked → List ℕ → Option (Outcome Cause)
+outcome_seen built acked.Quiet fields = Some quiet
+outcome_seen built acked.Reported fields = Some (reported fields)
+outcome_seen built acked.Held fields = Some held
+outcome_seen built (acked.Faulted kind index) fields = option_map (λ place. failed (kind, place)) (place_of built index)
+outcome_seen built acked.Stopped fields = Some stopped
+
+-- an answer tells an outcome, whatever its report's fields are
+abbrev pub Tells : Option Built → Acked → Outcome Cause → Type 0
+Tells built answer (reported fields) = answer ≡ acked.Reported
+Tells built answer quiet = outcome_seen built answer [] ≡ Some quiet
+Tells built answer held = outcome_seen built answer [] ≡ Some held
+Tells built answer (failed cause) = outcome_seen built answer [] ≡ Some (failed cause)
+Tells built answer stopped = outcome_seen built answer [] ≡ Some stopped
+
+-- None before the first change, and then what the running program comes to
+abbrev pub AnswersTo : List Entry → Ack → Option Running → Option Acked → Type 0
+AnswersTo entries ack None None = ⊤
+AnswersTo entries ack None (Some answer) = ⊥
+AnswersTo entries ack (Some running) None = ⊥
+AnswersTo entries ack (Some running) (Some answer) = Tells (built_at entries running.era.program) answer (met_by running ack).0
+
+-- the answer to the next acknowledgement
+abbrev pub Answered : TextReading → OpenState → Option Acked → Type 0
+Answered read cell answer = AnswersTo cell.entries (ack_at read cell) (world_at read cell).present answer
+
+-- how many instructions an acknowledgement runs, none before the first change
+abbrev pub ran_with : Option Built → Running → Ack → ℕ
+ran_with None running ack = 0
+ran_with (Some built) running ack = ran_by (track_of running).is_stopped built.code.code (track_of running).env ack true
+
+abbrev pub ran_in : List Entry → Option Running → Ack → ℕ
+ran_in entries None ack = 0
+ran_in entries (Some running) ack = ran_with (built_at entries running.era.program) running ack
+
+abbrev pub ran_at : TextReading → OpenState → ℕ
+ran_at read cell = ran_in cell.entries (world_at read cell).present (ack_at read cell)
+
+-- ---- what a change is answered
+
+-- the step that the next change changes to, None where there is none
+abbrev pub next_at : TextReading → OpenState → Option ℕ
+next_at read cell = option_map (λ next. next.0) (next_of (world_at read cell))

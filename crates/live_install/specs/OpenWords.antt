@@ -1,0 +1,48 @@
+-- The history of a flow of a rollout as a word, and the states that words come to.
+use Rattle.std.specs.Prelude.{Bool, true, not, ◌&&◌, nat_lt, is_some, List, [], ◌∷◌, length}
+use Rattle.link_model.specs.Link.{ack_after}
+use Rattle.scenario_json.specs.ScenePrograms.{TextReading}
+use Rattle.scenario_json.specs.declared.open_case.OpenCase.{OpenCase}
+use Rattle.ccp_base.specs.declared.ack.Ack.{Ack}
+use Rattle.live_install.specs.declared.letter.OpenLetter.{OpenLetter}
+use Rattle.live_install.specs.declared.letter.OpenLetter.TheVariants.{A, I, G}
+use Rattle.live_install.specs.OpenWorld.{OpenWorld, opening, cwnd_of, after_ack, after_install, after_change, next_of}
+
+-- the link's next acknowledgement: for the windows so far and the present `Cwnd`
+abbrev pub next_ack : OpenCase → OpenWorld → Ack
+next_ack case w = ack_after case.link w.windows (cwnd_of case w)
+
+-- the state after one more letter: A is an acknowledgement, I an entry that is installed, G a change
+abbrev pub after_letter : TextReading → OpenCase → OpenWorld → OpenLetter → OpenWorld
+after_letter read case w A = after_ack case (next_ack case w) w
+after_letter read case w I = after_install read case w
+after_letter read case w G = after_change case w
+
+abbrev pub world_from : TextReading → OpenCase → OpenWorld → List OpenLetter → OpenWorld
+world_from read case w [] = w
+world_from read case w (letter ∷ rest) = world_from read case (after_letter read case w letter) rest
+
+-- the state after a word
+abbrev pub install_world : TextReading → OpenCase → List OpenLetter → OpenWorld
+install_world read case word = world_from read case opening word
+
+-- ---- legal and complete words
+
+-- an acknowledgement while fewer than the case's are in; an entry while there are fewer than steps; a change where an
+-- accepted entry is left that wasn't changed to
+abbrev pub is_legal : OpenCase → OpenWorld → OpenLetter → Bool
+is_legal case w A = nat_lt (length w.acks) case.acks
+is_legal case w I = nat_lt (length w.entries) (length case.steps)
+is_legal case w G = is_some (next_of w)
+
+abbrev pub legal_from : TextReading → OpenCase → OpenWorld → List OpenLetter → Bool
+legal_from read case w [] = true
+legal_from read case w (letter ∷ rest) = is_legal case w letter && legal_from read case (after_letter read case w letter) rest
+
+-- each letter is legal at its point
+abbrev pub legal : TextReading → OpenCase → List OpenLetter → Bool
+legal read case word = legal_from read case opening word
+
+-- all acknowledgements are in, all steps have entries, and no change is legal
+abbrev pub is_complete : OpenCase → OpenWorld → Bool
+is_complete case w = not (is_legal case w A) && not (is_legal case w I) && not (is_legal case w G)

@@ -1,0 +1,109 @@
+//! What comes of the acknowledgements that are run.
+ghost use Rattle.std.specs.Prelude.{◌≡◌, ◌+◌, ◌<◌, length};
+ghost use Rattle.portus_core.specs.Epoch.{stops, reported, failed};
+ghost use Rattle.fold_machine.specs.MachineState.{Fits};
+ghost use Rattle.flow_core.specs.Readings.{env_of};
+ghost use Rattle.flow_core.specs.States.{outcome_by};
+ghost use Rattle.live_install.specs.Accounts.{met_as, IsMet, ran_on, HasPlaceFor, PutDown};
+
+use ccp_base::{Ack, FaultKind, Notice, Report};
+use flow_core::Roomy;
+use fold_machine::{Acked, Machine, Steps};
+use reg_code::Checked;
+use std::sync::ledger::Ledger;
+
+/// The reports and the faults of a flow.
+#[derive(Drop)]
+pub(crate) struct Account {
+    /// The number of acknowledgements at which the unreported span begins.
+    pub(crate) first: u64,
+    pub(crate) reports: Roomy<Report>,
+    pub(crate) faults: Roomy<Notice>,
+}
+
+/// An acknowledgement's place in a flow: the running step, its epoch's number, and how many acknowledgements came
+/// before.
+#[derive(Clone, Copy)]
+pub(crate) struct Turn {
+    pub(crate) flow: u32,
+    pub(crate) step: u32,
+    pub(crate) epoch: u32,
+    pub(crate) at: u32,
+}
+
+/// Runs an acknowledgement on the machine, with room for a report.
+pub(crate) fn run<L: Ledger>(
+    machine: &mut Machine,
+    code: &Checked,
+    ack: &Ack,
+    steps: &mut Steps<L>,
+) -> Acked
+    requires { Fits machine.old code.now.code }
+    ensures met { IsMet code.now.code machine.old ack.entry.now machine.new result }
+    ensures stopped { machine.new.is_stopped ≡ stops (outcome_by result machine.new.report) }
+    ensures fits { Fits machine.new code.now.code }
+    ensures steps { steps.new ≡ steps.old + ran_on code.now.code machine.old ack.entry.now }
+{
+    machine.ack(code, ack, true, steps)
+}
+
+impl Account {
+    /// Puts down what an acknowledgement came to, by the machine's answer.
+    pub(crate) fn put_down(&mut self, turn: Turn, machine: &Machine, ack: &Ack, acked: Acked)
+        requires reports { length self.old.reports.items < self.old.reports.room }
+        requires faults { HasPlaceFor acked self.old }
+        ensures { PutDown turn self.old self.new ack.entry.now (met_as acked machine.now) }
+    {
+        match acked {
+            Acked::Quiet | Acked::Held | Acked::Stopped => {}
+            Acked::Reported => self.put_down_report(turn, machine, ack),
+            Acked::Faulted(kind, index) => self.put_down_fault(turn, machine, ack, kind, index),
+        }
+    }
+
+    /// Puts down the report that the machine made.
+    fn put_down_report(&mut self, turn: Turn, machine: &Machine, ack: &Ack)
+        requires { length self.old.reports.items < self.old.reports.room }
+        ensures { PutDown turn self.old self.new ack.entry.now (reported machine.now.report, env_of machine.now.kept) }
+    {
+        let end = u64::from(turn.at) + 1;
+        let report = Report {
+            flow: turn.flow,
+            program: turn.step,
+            epoch: turn.epoch,
+            first: self.first,
+            end,
+            now: ack.now,
+            cwnd: machine.cwnd(),
+            rate: machine.rate(),
+            fields: machine.reported(),
+        };
+        self.reports.push(report);
+        self.first = end;
+    }
+
+    /// Puts down a fault of this kind at the instruction with this index.
+    fn put_down_fault(
+        &mut self,
+        turn: Turn,
+        machine: &Machine,
+        ack: &Ack,
+        kind: FaultKind,
+        index: u16,
+    )
+        requires { length self.old.faults.items < self.old.faults.room }
+        ensures { PutDown turn self.old self.new ack.entry.now (failed (kind, index), env_of machine.now.kept) }
+    {
+        let notice = Notice {
+            flow: turn.flow,
+            program: turn.step,
+            epoch: turn.epoch,
+            at: u64::from(turn.at),
+            kind,
+            index,
+            now: ack.now,
+            cwnd: machine.cwnd(),
+        };
+        self.faults.push(notice);
+    }
+}

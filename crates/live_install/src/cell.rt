@@ -1,0 +1,230 @@
+ghost use Rattle.std.specs.Prelude.{◌≡◌, ◌+◌, ◌≤◌, ◌↔◌, ◌∷◌, [], ◌++◌, true, Some, None, slice_get, length, map};
+ghost use Rattle.std.specs.Prelude.{IsTrue, IsOk, IsErr, IfOk, IfErr, OnOk, OnErr};
+ghost use Rattle.scenario_json.specs.ScenePrograms.{TextReading, ReadsTexts};
+ghost use Rattle.live_install.specs.OpenWords.{legal, is_complete};
+ghost use Rattle.live_install.specs.Entries.{installed_of};
+ghost use Rattle.live_install.specs.OpenBooks.{IsOpenBookOf};
+ghost use Rattle.live_install.specs.OpenCells.{world_at, IsAfter, is_legal_at, HasAll, IsComplete, most_letters};
+ghost use Rattle.live_install.specs.OpenCells.{IsNextEntry, with_entry, Answered, ran_at, next_at};
+
+use crate::account::Account;
+use crate::book::OpenBook;
+use crate::entry::Entry;
+use crate::letter::OpenLetter;
+use crate::state::State;
+use ccp_base::{Bytes, NoMemory};
+use flow_core::Ended;
+use fold_machine::{Acked, Steps};
+use scenario_json::OpenCase;
+use std::alloc::Global;
+use std::marker::Model;
+use std::sync::ledger::Ledger;
+
+/// The entry isn't the one that comes next, which is that of the step `want`. It is handed back.
+#[derive(Drop)]
+pub struct Late {
+    pub entry: Entry,
+    pub want: u32,
+}
+
+/// No accepted entry is left that wasn't changed to.
+#[derive(Clone, Copy, PartialEq, Eq)]
+pub struct Nothing;
+
+/// One flow of a rollout. For every reading of program texts, its state is that of its case after its word.
+#[derive(Drop)]
+pub struct OpenCell {
+    state: State,
+}
+
+impl Model for OpenCell {
+    ghost use Rattle.live_install.specs.OpenCells.{OpenState};
+    ghost use Rattle.portus_core.specs.contracts.program.Expr as expr;
+    ghost use Rattle.std.specs.Coded.{codes};
+
+    ghost Value = { OpenState };
+
+    ghost coded = { Prim.hlevel (codes, expr.the_row.coded) };
+
+    ghost view = { λ c. record { case = c.state.case; entries = c.state.entries.items; word = c.state.word.items } };
+
+    ghost use Rattle.live_install.specs.States.{IsOpen};
+
+    ghost invariant = { λ c. IsOpen c.state };
+}
+
+/// Whether this is the text of the step with this number.
+fn is_text_of(steps: &[Bytes], step: usize, text: &[u8]) -> bool
+    ensures { IsTrue result ↔ (slice_get steps.now step ≡ Some text.now) }
+{
+    match steps.get(step) {
+        Some(expected) => same_bytes(expected.as_slice(), text),
+        None => false,
+    }
+}
+
+fn same_bytes(these: &[u8], others: &[u8]) -> bool
+    ensures { IsTrue result ↔ (these.now ≡ others.now) }
+{
+    these == others
+}
+
+impl OpenCell {
+    /// A flow without a letter. The word, a report for each acknowledgement of the case, and for each step an entry,
+    /// its number, an epoch and a fault are reserved here.
+    pub fn new(alloc: Global, case: OpenCase) -> Result<OpenCell, NoMemory>
+        // There is a reading of program texts: each text comes to a program, or to its first refusal.
+        ensures readable { (read : TextReading) × ReadsTexts read }
+        ensures opened { IfOk result (λ cell. cell ≡ record { case = case; entries = []; word = [] }) }
+    {
+        let state = State::open(alloc, case)?;
+        Ok(OpenCell { state })
+    }
+
+    /// Takes the link's next acknowledgement, which is only counted before the first change, and then run. Ended
+    /// exactly where all acknowledgements are in; then nothing has changed. None exactly where no change came yet.
+    /// `steps` counts the instructions that are run.
+    pub fn ack<L: Ledger>(&mut self, steps: &mut Steps<L>) -> Result<Option<Acked>, Ended>
+        ensures ended { (read : TextReading) → ReadsTexts read → (IsErr result ↔ HasAll read self.old) }
+        ensures ok { OnOk result (self.new ≡ record self.old { word = self.old.word ++ OpenLetter.A ∷ [] }) }
+        ensures within { OnOk result (length self.new.word ≤ most_letters self.new.case) }
+        ensures world { (read : TextReading) → ReadsTexts read
+            → OnOk result (IsAfter read self.old OpenLetter.A self.new) }
+        ensures acked { (read : TextReading) → ReadsTexts read → IfOk result (λ answer. Answered read self.old answer) }
+        ensures steps { (read : TextReading) → ReadsTexts read
+            → OnOk result (steps.new ≡ steps.old + ran_at read self.old) }
+        ensures unchanged { OnErr result (self.new ≡ self.old) }
+        ensures idle { OnErr result (steps.new ≡ steps.old) }
+    {
+        if self.state.acks >= self.state.case.acks {
+            return Err(Ended);
+        }
+        Ok(self.state.advance(steps))
+    }
+
+    /// Installs an entry. Late exactly where its step isn't the number of entries so far or its text isn't the case's
+    /// of that step; it is handed back then, and nothing has changed.
+    pub fn install(&mut self, entry: Entry) -> Result<(), Late>
+        ensures installed { IsOk result ↔ IsNextEntry self.old entry }
+        ensures ok { OnOk result (self.new ≡ with_entry self.old entry) }
+        ensures within { OnOk result (length self.new.word ≤ most_letters self.new.case) }
+        ensures world { (read : TextReading) → ReadsTexts read
+            → OnOk result (IsAfter read self.old OpenLetter.I self.new) }
+        ensures late { IfErr result (λ late. (late.entry ≡ entry) × (late.want ≡ length self.old.entries)) }
+        ensures unchanged { OnErr result (self.new ≡ self.old) }
+    {
+        let want = self.state.entries.len();
+        if entry.step() as usize != want
+            || !is_text_of(self.state.case.steps.as_slice(), want, entry.text())
+        {
+            let want = want as u32;
+            return Err(Late { entry, want });
+        }
+        self.state.put(entry);
+        Ok(())
+    }
+
+    /// Changes the flow to the first accepted entry that it wasn't changed to, and answers its step. Nothing exactly
+    /// where there is none; then nothing has changed.
+    pub fn change(&mut self) -> Result<u32, Nothing>
+        ensures nothing { (read : TextReading) → ReadsTexts read → (IsErr result ↔ (next_at read self.old ≡ None)) }
+        ensures ok { OnOk result (self.new ≡ record self.old { word = self.old.word ++ OpenLetter.G ∷ [] }) }
+        ensures within { OnOk result (length self.new.word ≤ most_letters self.new.case) }
+        ensures world { (read : TextReading) → ReadsTexts read
+            → OnOk result (IsAfter read self.old OpenLetter.G self.new) }
+        ensures step { (read : TextReading) → ReadsTexts read
+            → IfOk result (λ step. next_at read self.old ≡ Some step) }
+        ensures unchanged { OnErr result (self.new ≡ self.old) }
+    {
+        let Some(step) = self.state.next() else {
+            return Err(Nothing);
+        };
+        self.state.start(step);
+        Ok(step)
+    }
+
+    /// Whether all acknowledgements are in, all steps have entries, and no accepted entry is left that wasn't changed
+    /// to.
+    pub fn is_complete(&self) -> bool
+        ensures { (read : TextReading) → ReadsTexts read → result ≡ is_complete self.now.case (world_at read self.now) }
+    {
+        if self.state.acks < self.state.case.acks
+            || self.state.entries.len() < self.state.case.steps.len()
+        {
+            return false;
+        }
+        !self.can_change()
+    }
+
+    /// Whether an accepted entry is left that wasn't changed to.
+    pub fn can_change(&self) -> bool
+        ensures { (read : TextReading) → ReadsTexts read → result ≡ is_legal_at read self.now OpenLetter.G }
+    {
+        self.state.next().is_some()
+    }
+
+    /// How many acknowledgements are in.
+    pub fn acks(&self) -> u32
+        ensures { (read : TextReading) → ReadsTexts read → result ≡ length (world_at read self.now).acks }
+    {
+        self.state.acks
+    }
+
+    /// The flow's library: the entries in the order of the steps. Each is what its step's text stands for.
+    pub fn entries(&self) -> &[Entry]
+        ensures entries { result.now ≡ self.now.entries }
+        ensures world { (read : TextReading) → ReadsTexts read
+            → map installed_of self.now.entries ≡ (world_at read self.now).entries }
+    {
+        self.state.entries.as_slice()
+    }
+
+    /// The flow's case, for which each letter of the word is legal at its point. The word has at most one letter for
+    /// each acknowledgement and two for each step.
+    pub fn case(&self) -> &OpenCase
+        ensures case { result.now ≡ self.now.case }
+        ensures legal { (read : TextReading) → ReadsTexts read → legal read self.now.case self.now.word ≡ true }
+        ensures within { length self.now.word ≤ most_letters self.now.case }
+    {
+        &self.state.case
+    }
+
+    /// What the history came to. The word must be complete.
+    pub fn finish(self) -> OpenBook
+        requires { (read : TextReading) → ReadsTexts read → IsComplete read self }
+        ensures case { result.case ≡ self.case }
+        ensures word { result.word ≡ self.word }
+        ensures entries { result.entries ≡ self.entries }
+        ensures legal { (read : TextReading) → ReadsTexts read → legal read self.case self.word ≡ true }
+        ensures book { (read : TextReading) → ReadsTexts read → IsOpenBookOf (world_at read self) result }
+    {
+        let State {
+            case,
+            machine,
+            acks,
+            account,
+            entries,
+            installed,
+            epochs,
+            word,
+            ..
+        } = self.state;
+        let Account {
+            first,
+            reports,
+            faults,
+        } = account;
+        OpenBook {
+            case,
+            word: word.into_sequence(),
+            entries: entries.into_sequence(),
+            installed: installed.into_sequence(),
+            epochs: epochs.into_sequence(),
+            reports: reports.into_sequence(),
+            faults: faults.into_sequence(),
+            acks,
+            first,
+            machine,
+        }
+    }
+}

@@ -1,0 +1,114 @@
+ghost use Rattle.std.specs.Prelude.{◌≡◌, false, IfOk, option_copied};
+ghost use Rattle.scenario_json.specs.ScenePrograms.{TextReading, ReadsTexts};
+ghost use Rattle.live_install.specs.BuiltTexts.{is_accepted, is_no_memory, is_wanting, Answers, IsEntry, built_of};
+
+use ccp_base::{Bytes, NoMemory, Sequence};
+use portus_build::{BuildFault, build};
+use reg_compiler::Built;
+use std::alloc::Global;
+use std::marker::Model;
+
+/// What is installed: a step's text and what it is built into, a program with its code or the text's refusal.
+#[derive(Drop)]
+pub struct Entry {
+    step: u32,
+    text: Bytes,
+    answer: Result<Built, BuildFault>,
+}
+
+impl Model for Entry {
+    ghost use Rattle.live_install.specs.BuiltTexts.{EntryState};
+    ghost use Rattle.portus_core.specs.contracts.program.Expr as expr;
+    ghost use Rattle.std.specs.Coded.{codes};
+
+    ghost Value = { EntryState };
+
+    ghost coded = { Prim.hlevel (codes, expr.the_row.coded) };
+
+    ghost use Rattle.live_install.specs.BuiltTexts.{IsEntry};
+
+    ghost view = { λ e. record { step = e.step; text = e.text; answer = e.answer } };
+
+    ghost invariant = { λ e. IsEntry e.text e.answer };
+}
+
+/// Whether memory was wanting beside the steps of building.
+fn is_no_memory(refusal: &BuildFault) -> bool
+    ensures { result ≡ is_no_memory refusal.now }
+{
+    match refusal {
+        BuildFault::Parse(_) => false,
+        BuildFault::Scope(_) => false,
+        BuildFault::Compile(_) => false,
+        BuildFault::NoMemory => true,
+    }
+}
+
+/// What a text is built into.
+#[tactic(auto, using(crate::proofs::EntryLemmas::is_entry, crate::proofs::EntryLemmas::readable))]
+fn answer(alloc: Global, text: &[u8]) -> Result<Result<Built, BuildFault>, NoMemory>
+    ensures readable { (read : TextReading) × ReadsTexts read }
+    ensures entry { IfOk result (λ answer. IsEntry text.now answer) }
+{
+    match build(alloc, text) {
+        Ok(built) => Ok(Ok(built)),
+        Err(refusal) if is_no_memory(&refusal) => Err(NoMemory),
+        Err(refusal) => Ok(Err(refusal)),
+    }
+}
+
+/// The library of a flow: its entries in the order in which they were installed.
+pub type Entries = Sequence<Entry>;
+
+impl Entry {
+    /// Builds the text of a step.
+    pub fn make(alloc: Global, step: u32, text: &[u8]) -> Result<Entry, NoMemory>
+        // There is a reading of program texts: each text comes to a program, or to its first refusal.
+        ensures readable { (read : TextReading) × ReadsTexts read }
+        ensures step { IfOk result (λ entry. entry.step ≡ step) }
+        ensures text { IfOk result (λ entry. entry.text ≡ text.now) }
+    {
+        let answer = answer(alloc, text)?;
+        let text = Sequence::from_vec(text.to_vec(alloc)?);
+        Ok(Entry { step, text, answer })
+    }
+
+    /// The number of the step.
+    pub fn step(&self) -> u32
+        ensures { result ≡ self.now.step }
+    {
+        self.step
+    }
+
+    /// The text that was built. In every reading of program texts it comes to the answer.
+    pub fn text(&self) -> &[u8]
+        ensures text { result.now ≡ self.now.text }
+        ensures answers { Answers self.now.text self.now.answer }
+    {
+        self.text.as_slice()
+    }
+
+    /// What the text is built into: its program, which it comes to in every reading, or its first refusal, which is
+    /// never want of memory.
+    pub fn answer(&self) -> &Result<Built, BuildFault>
+        ensures answer { result.now ≡ self.now.answer }
+        ensures answers { Answers self.now.text self.now.answer }
+        ensures ruled { is_wanting self.now.answer ≡ false }
+    {
+        &self.answer
+    }
+
+    /// The program with its code, None exactly where the text was refused.
+    pub fn built(&self) -> Option<&Built>
+        ensures { option_copied result ≡ built_of self.now.answer }
+    {
+        self.answer.as_ref().ok()
+    }
+
+    /// Whether the text is that of a program.
+    pub fn accepted(&self) -> bool
+        ensures { result ≡ is_accepted self.now.answer }
+    {
+        self.answer.is_ok()
+    }
+}

@@ -1,0 +1,103 @@
+//! An acknowledgement: it is counted, and run where a program runs.
+ghost use Rattle.std.specs.Prelude.{◌≡◌, ◌+◌, ◌<◌, Some, None, option_copied, ◌∷◌, [], ◌++◌};
+ghost use Rattle.scenario_json.specs.ScenePrograms.{TextReading, ReadsTexts};
+ghost use Rattle.live_install.specs.Entries.{built_at};
+ghost use Rattle.live_install.specs.OpenCells.{ran_at, Answered};
+ghost use Rattle.live_install.specs.States.{cell_of, world_of, step_in, IsOpen};
+
+use crate::account::{Turn, run};
+use crate::entry::Entry;
+use crate::letter::OpenLetter;
+use crate::state::State;
+use fold_machine::{Acked, Steps};
+use reg_compiler::Built;
+use std::sync::ledger::Ledger;
+
+/// What was built of a step, None exactly where its entry isn't there or was refused.
+pub(crate) fn built_at(entries: &[Entry], step: u32) -> Option<&Built>
+    ensures { option_copied result ≡ built_at entries.now step }
+{
+    entries.get(step as usize)?.built()
+}
+
+impl State {
+    /// The step of the program that hears the next acknowledgement; None exactly before the first change.
+    fn hearer(&self) -> Option<u32>
+        requires { IsOpen self.now }
+        ensures kept { result ≡ self.now.running }
+        ensures present { (read : TextReading) → ReadsTexts read → result ≡ step_in (world_of read self.now).present }
+    {
+        self.running
+    }
+
+    /// Takes the link's next acknowledgement. It is only counted before the first change, and then run.
+    pub(crate) fn advance<L: Ledger>(&mut self, steps: &mut Steps<L>) -> Option<Acked>
+        requires open_state { IsOpen self.old }
+        requires left { self.old.acks < self.old.case.acks }
+        ensures open_state { IsOpen self.new }
+        ensures case { self.new.case ≡ self.old.case }
+        ensures entries { self.new.entries ≡ self.old.entries }
+        ensures word { self.new.word.items ≡ self.old.word.items ++ OpenLetter.A ∷ [] }
+        ensures answered { (read : TextReading) → ReadsTexts read → Answered read (cell_of self.old) result }
+        ensures steps { (read : TextReading) → ReadsTexts read
+            → steps.new ≡ steps.old + ran_at read (cell_of self.old) }
+    {
+        match self.hearer() {
+            Some(step) => Some(self.run_next(step, steps)),
+            None => {
+                self.count_next();
+                None
+            }
+        }
+    }
+
+    /// Takes the link's next acknowledgement, which is only counted.
+    fn count_next(&mut self)
+        requires open_state { IsOpen self.old }
+        requires left { self.old.acks < self.old.case.acks }
+        requires none { self.old.running ≡ None }
+        ensures open_state { IsOpen self.new }
+        ensures case { self.new.case ≡ self.old.case }
+        ensures entries { self.new.entries ≡ self.old.entries }
+        ensures word { self.new.word.items ≡ self.old.word.items ++ OpenLetter.A ∷ [] }
+        ensures answered { (read : TextReading) → ReadsTexts read → (world_of read self.old).present ≡ None }
+    {
+        let window = self.machine.cwnd();
+        let ack = self.link.next(window);
+        self.acks += 1;
+        self.time = ack.now;
+        self.word.push(OpenLetter::A);
+    }
+
+    /// Takes the link's next acknowledgement, which is run by this step's program.
+    fn run_next<L: Ledger>(&mut self, step: u32, steps: &mut Steps<L>) -> Acked
+        requires open_state { IsOpen self.old }
+        requires left { self.old.acks < self.old.case.acks }
+        requires running { self.old.running ≡ Some step }
+        ensures open_state { IsOpen self.new }
+        ensures case { self.new.case ≡ self.old.case }
+        ensures entries { self.new.entries ≡ self.old.entries }
+        ensures word { self.new.word.items ≡ self.old.word.items ++ OpenLetter.A ∷ [] }
+        ensures answered { (read : TextReading) → ReadsTexts read → Answered read (cell_of self.old) (Some result) }
+        ensures steps { (read : TextReading) → ReadsTexts read
+            → steps.new ≡ steps.old + ran_at read (cell_of self.old) }
+    {
+        let window = self.machine.cwnd();
+        let ack = self.link.next(window);
+        let turn = Turn {
+            flow: self.case.flow,
+            step,
+            epoch: (self.epochs.len() - 1) as u32,
+            at: self.acks,
+        };
+        let Some(built) = built_at(self.entries.as_slice(), step) else {
+            unreachable!()
+        };
+        let acked = run(&mut self.machine, &built.code, &ack, steps);
+        self.account.put_down(turn, &self.machine, &ack, acked);
+        self.acks += 1;
+        self.time = ack.now;
+        self.word.push(OpenLetter::A);
+        acked
+    }
+}

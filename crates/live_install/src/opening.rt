@@ -1,0 +1,128 @@
+//! A flow before its first letter.
+ghost use Rattle.std.specs.Prelude.{◌≡◌, ◌+◌, ◌*◌, ◌≤◌, [], IfOk};
+ghost use Rattle.link_model.specs.Standing.{Stands};
+ghost use Rattle.live_install.specs.Openings.{IsOpening};
+ghost use Rattle.live_install.specs.States.{IsOpen};
+
+use crate::account::Account;
+use crate::entry::Entry;
+use crate::letter::OpenLetter;
+use crate::state::State;
+use ccp_base::NoMemory;
+use flow_core::{EpochLine, Roomy};
+use fold_machine::Machine;
+use link_model::{Link, LinkCase};
+use scenario_json::OpenCase;
+use std::alloc::Global;
+
+/// A link of this case to which no window was given yet.
+fn opened_link(alloc: Global, case: &LinkCase) -> Result<Link, NoMemory>
+    ensures case { IfOk result (λ link. link.case ≡ case.now) }
+    ensures stands { IfOk result (λ link. Stands link []) }
+    ensures calls { IfOk result (λ link. link.standing.calls ≡ 0) }
+{
+    let case = case.copy(alloc)?;
+    Link::new(alloc, case)
+}
+
+/// No report and no fault, with room for a report of each acknowledgement and a fault of each step.
+fn opened_account(alloc: Global, acks: usize, steps: usize) -> Result<Account, NoMemory>
+    ensures first { IfOk result (λ account. account.first ≡ 0) }
+    ensures reports { IfOk result (λ account. (account.reports.items ≡ []) × (acks ≤ account.reports.room)) }
+    ensures faults { IfOk result (λ account. (account.faults.items ≡ []) × (steps ≤ account.faults.room)) }
+{
+    let reports = Roomy::with_room(alloc, acks)?;
+    let faults = Roomy::with_room(alloc, steps)?;
+    Ok(Account {
+        first: 0,
+        reports,
+        faults,
+    })
+}
+
+/// No entry, number of acknowledgements before one, and epoch, with room for one of each step; no letter, with room
+/// for so many.
+fn rooms(
+    alloc: Global,
+    steps: usize,
+    letters: usize,
+) -> Result<
+    (
+        Roomy<Entry>,
+        Roomy<u32>,
+        Roomy<EpochLine>,
+        Roomy<OpenLetter>,
+    ),
+    NoMemory,
+>
+    ensures entries { IfOk result (λ rooms. (rooms.0.items ≡ []) × (steps ≤ rooms.0.room)) }
+    ensures installed { IfOk result (λ rooms. (rooms.1.items ≡ []) × (steps ≤ rooms.1.room)) }
+    ensures epochs { IfOk result (λ rooms. (rooms.2.items ≡ []) × (steps ≤ rooms.2.room)) }
+    ensures word { IfOk result (λ rooms. (rooms.3.items ≡ []) × (letters ≤ rooms.3.room)) }
+{
+    let entries = Roomy::with_room(alloc, steps)?;
+    let installed = Roomy::with_room(alloc, steps)?;
+    let epochs = Roomy::with_room(alloc, steps)?;
+    let word = Roomy::with_room(alloc, letters)?;
+    Ok((entries, installed, epochs, word))
+}
+
+/// What a flow of a rollout has beside its case before its first letter.
+#[derive(Drop)]
+struct Opening {
+    link: Link,
+    machine: Machine,
+    account: Account,
+    entries: Roomy<Entry>,
+    installed: Roomy<u32>,
+    epochs: Roomy<EpochLine>,
+    word: Roomy<OpenLetter>,
+}
+
+impl Opening {
+    /// What a flow of this case has. All that letters take is reserved here.
+    fn of(alloc: Global, case: &OpenCase) -> Result<Opening, NoMemory>
+        ensures { IfOk result (IsOpening case.now) }
+    {
+        let acks = case.acks as usize;
+        let steps = case.steps.len();
+        let (entries, installed, epochs, word) = rooms(alloc, steps, acks + 2 * steps)?;
+        let account = opened_account(alloc, acks, steps)?;
+        let machine = Machine::new(alloc, case.cwnd, 0)?;
+        let link = opened_link(alloc, &case.link)?;
+        Ok(Opening {
+            link,
+            machine,
+            account,
+            entries,
+            installed,
+            epochs,
+            word,
+        })
+    }
+}
+
+impl State {
+    /// The state of a flow that has no letter yet. All that letters take is reserved here.
+    pub(crate) fn open(alloc: Global, case: OpenCase) -> Result<State, NoMemory>
+        ensures open_state { IfOk result (λ state. IsOpen state) }
+        ensures case { IfOk result (λ state. state.case ≡ case) }
+        ensures entries { IfOk result (λ state. state.entries.items ≡ []) }
+        ensures word { IfOk result (λ state. state.word.items ≡ []) }
+    {
+        let opening = Opening::of(alloc, &case)?;
+        Ok(State {
+            case,
+            link: opening.link,
+            machine: opening.machine,
+            running: None,
+            acks: 0,
+            time: 0,
+            account: opening.account,
+            entries: opening.entries,
+            installed: opening.installed,
+            epochs: opening.epochs,
+            word: opening.word,
+        })
+    }
+}

@@ -1,0 +1,89 @@
+//! A flow of a rollout, as its table and its workers see it.
+
+ghost use Rattle.std.specs.Prelude.{◌≡◌, ◌↔◌, ◌<◌, true, false, IsTrue, IfOk, OnOk};
+ghost use Rattle.scenario_json.specs.ScenePrograms.{TextReading, ReadsTexts};
+ghost use Rattle.live_install.specs.OpenCells.{IsComplete};
+ghost use Rattle.live_install.specs.WholeBooks.{IsWhole};
+
+use crate::book::OpenBook;
+use crate::cell::OpenCell;
+use crate::turn::next;
+use ccp_base::NoMemory;
+use flow_table::LockedFlow;
+use fold_machine::Steps;
+use scenario_json::OpenCase;
+use std::alloc::Global;
+use std::sync::ledger::Ledger;
+use worker_desk::Heard;
+
+impl LockedFlow for OpenCell {
+    ghost use Rattle.std.specs.Prelude.{◌≡◌, false};
+    ghost use Rattle.scenario_json.specs.ScenePrograms.{TextReading, ReadsTexts};
+    ghost use Rattle.live_install.specs.OpenWords.{is_complete};
+    ghost use Rattle.live_install.specs.OpenCells.{world_at, IsComplete};
+    ghost use Rattle.live_install.specs.NextLetter.{HasNext, letters_left};
+    ghost use Rattle.live_install.specs.WholeBooks.{IsWhole};
+
+    type Case = OpenCase;
+
+    type Book = OpenBook;
+
+    ghost case_of = { λ cell. cell.case };
+
+    ghost case_in = { λ book. book.case };
+
+    ghost IsDone = { λ cell. (read : TextReading) → ReadsTexts read → IsComplete read cell };
+
+    ghost IsLeft = { λ cell. (read : TextReading) → ReadsTexts read → is_complete cell.case (world_at read cell) ≡ false };
+
+    ghost letters = { λ cell. letters_left cell };
+
+    ghost HasNext = { λ old new. HasNext old new };
+
+    ghost IsWhole = { λ book. (read : TextReading) → ReadsTexts read → IsWhole read book };
+
+    fn copy(alloc: Global, case: &OpenCase) -> Result<OpenCase, NoMemory> {
+        case.copy(alloc)
+    }
+
+    fn open(alloc: Global, case: OpenCase) -> Result<OpenCell, NoMemory> {
+        OpenCell::new(alloc, case)
+    }
+
+    fn is_of(&self, case: &OpenCase) -> bool {
+        self.case().same(case)
+    }
+
+    fn hear<L: Ledger>(&mut self, steps: &mut Steps<L>) -> Heard {
+        // A report or a fault of a rollout waits for no agent.
+        match self.ack(steps) {
+            Ok(_) => Heard::Quiet,
+            Err(_) => Heard::Ended,
+        }
+    }
+
+    fn is_done(&self) -> bool {
+        self.is_complete()
+    }
+
+    fn make_next<L: Ledger>(
+        &mut self,
+        alloc: Global,
+        steps: &mut Steps<L>,
+    ) -> Result<(), NoMemory> {
+        next(alloc, self, steps)
+    }
+
+    fn finish(self) -> OpenBook {
+        closed(self)
+    }
+}
+
+/// The book of a flow whose word is complete.
+fn closed(cell: OpenCell) -> OpenBook
+    requires { (read : TextReading) → ReadsTexts read → IsComplete read cell }
+    ensures case { result.case ≡ cell.case }
+    ensures whole { (read : TextReading) → ReadsTexts read → IsWhole read result }
+{
+    cell.finish()
+}

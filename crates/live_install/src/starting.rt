@@ -1,0 +1,95 @@
+//! The library and its changes: an entry is put into it, and the first accepted one that wasn't changed to is started.
+ghost use Rattle.std.specs.Prelude.{◌≡◌, ◌+◌, ◌<◌, ◌≤◌, Some, slice_get, length, ◌∷◌, [], ◌++◌};
+ghost use Rattle.std.specs.Option.{ForSome};
+ghost use Rattle.ccp_base.specs.Limits.{most_steps};
+ghost use Rattle.scenario_json.specs.ScenePrograms.{TextReading, ReadsTexts};
+ghost use Rattle.live_install.specs.BuiltTexts.{Answers};
+ghost use Rattle.live_install.specs.OpenCells.{next_at};
+ghost use Rattle.live_install.specs.States.{next_from, first_accepted, accepted_from, cell_of, IsOpen};
+
+use crate::entry::Entry;
+use crate::hearing::built_at;
+use crate::letter::OpenLetter;
+use crate::state::State;
+use ccp_base::Fields;
+use flow_core::EpochLine;
+
+/// The place of the first accepted one of these entries.
+fn first_accepted(entries: &[Entry]) -> Option<usize>
+    ensures place { result ≡ first_accepted entries.now }
+    ensures within { ForSome result (λ place. place < length entries.now) }
+{
+    entries.iter().position(|entry| entry.accepted())
+}
+
+/// The step of the first accepted one of these entries, which are those from this step on.
+fn accepted_from(from: u32, entries: &[Entry]) -> Option<u32>
+    requires { from + length entries.now ≤ most_steps }
+    ensures { result ≡ accepted_from from entries.now }
+{
+    let place = first_accepted(entries)?;
+    Some(from + place as u32)
+}
+
+/// The first step that no change has looked at.
+fn next_from(running: Option<u32>) -> u32
+    requires { next_from running ≤ most_steps }
+    ensures { result ≡ next_from running }
+{
+    match running {
+        Some(step) => step + 1,
+        None => 0,
+    }
+}
+
+impl State {
+    /// The step of the first accepted entry that wasn't changed to, None exactly where there is none.
+    pub(crate) fn next(&self) -> Option<u32>
+        requires { IsOpen self.now }
+        ensures { (read : TextReading) → ReadsTexts read → result ≡ next_at read (cell_of self.now) }
+    {
+        let from = next_from(self.running);
+        accepted_from(from, &self.entries.as_slice()[from as usize..])
+    }
+
+    /// Changes the flow to the program of this step.
+    pub(crate) fn start(&mut self, step: u32)
+        requires open_state { IsOpen self.old }
+        requires next { (read : TextReading) → ReadsTexts read → next_at read (cell_of self.old) ≡ Some step }
+        ensures open_state { IsOpen self.new }
+        ensures case { self.new.case ≡ self.old.case }
+        ensures entries { self.new.entries ≡ self.old.entries }
+        ensures word { self.new.word.items ≡ self.old.word.items ++ OpenLetter.G ∷ [] }
+    {
+        let Some(built) = built_at(self.entries.as_slice(), step) else {
+            unreachable!()
+        };
+        let Ok(()) = self.machine.start(&built.code, &Fields::new(), self.time) else {
+            unreachable!()
+        };
+        self.running = Some(step);
+        self.account.first = u64::from(self.acks);
+        self.epochs.push(EpochLine {
+            program: step,
+            at: self.acks,
+            cwnd: self.machine.cwnd(),
+        });
+        self.word.push(OpenLetter::G);
+    }
+
+    /// Puts an entry into the library.
+    pub(crate) fn put(&mut self, entry: Entry)
+        requires open_state { IsOpen self.old }
+        requires step { entry.step ≡ length self.old.entries.items }
+        requires text { slice_get self.old.case.steps entry.step ≡ Some entry.text }
+        requires answers { Answers entry.text entry.answer }
+        ensures open_state { IsOpen self.new }
+        ensures case { self.new.case ≡ self.old.case }
+        ensures entries { self.new.entries.items ≡ self.old.entries.items ++ entry ∷ [] }
+        ensures word { self.new.word.items ≡ self.old.word.items ++ OpenLetter.I ∷ [] }
+    {
+        self.installed.push(self.acks);
+        self.entries.push(entry);
+        self.word.push(OpenLetter::I);
+    }
+}
