@@ -362,6 +362,55 @@ impl Bare {
         self.parts.machine.cwnd()
     }
 
+    /// The time of the last acknowledgement in microseconds, 0 where there is none.
+    pub fn time(&self) -> u64
+        ensures { result ≡ self.now.summary.time }
+    {
+        self.parts.time
+    }
+
+    /// The number of the present epoch, 0 for the opening one.
+    pub fn epoch(&self) -> u32
+        ensures { result ≡ self.now.summary.epoch }
+    {
+        self.parts.epoch
+    }
+
+    /// The number of acknowledgements at which the unreported span begins.
+    pub fn first(&self) -> u64
+        ensures { result ≡ self.now.summary.track.first }
+    {
+        self.parts.first
+    }
+
+    /// How many answered tickets told a report.
+    pub fn told(&self) -> u32
+        ensures { result ≡ self.now.summary.told }
+    {
+        self.parts.told
+    }
+
+    /// How many faults there were.
+    pub fn faults(&self) -> u32
+        ensures { result ≡ self.now.summary.faults }
+    {
+        self.parts.faults
+    }
+
+    /// How many reports were asked for while there was no room.
+    pub fn held(&self) -> u32
+        ensures { result ≡ self.now.summary.held }
+    {
+        self.parts.held
+    }
+
+    /// Whether a ticket is out.
+    pub fn has_out(&self) -> bool
+        ensures { result ≡ may_make (over_codes self.now.case) self.now.summary Letter.C }
+    {
+        self.parts.out.is_some()
+    }
+
     /// At how many acknowledgements the ticket that is out was taken, None exactly where none is out.
     pub fn taken(&self) -> Option<u32>
         ensures { result ≡ option_map (λ issued. issued.taken) self.now.summary.out }
