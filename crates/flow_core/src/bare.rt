@@ -21,11 +21,11 @@ ghost use Rattle.flow_core.specs.Bares.{IsFirst, closed_parts, UpdatesBare, Chan
 ghost use Rattle.flow_core.specs.Bares.{summary_by, told_ticket, instructions_at, IsBare, CanNote, HasSpace, NotesBare};
 
 use crate::case::Case;
+use crate::hearing::{put_report, run};
 use crate::letter::Letter;
 use crate::opening::opening_machine;
 use crate::outbox::Outbox;
 use crate::state::Issued;
-use crate::hearing::{put_report, run};
 use crate::taking::pop_told;
 use agent_core::{Agent, Answer, Ticket};
 use ccp_base::{Ack, FaultKind, Fields, NoMemory, Notice, Reply, Report, Told};
