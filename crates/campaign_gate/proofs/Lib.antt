@@ -4,6 +4,7 @@ pub mod PeakLemmas
 pub mod SumLemmas
 pub mod WalkLemmas
 pub mod DueLemmas
+pub mod LinkedLemmas
 pub mod ShareLemmas
 pub mod BookLemmas
 pub mod LiftedRowLemmas

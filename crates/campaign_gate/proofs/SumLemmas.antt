@@ -133,6 +133,10 @@ module _ (case : LinkCase) where
         acked = omega (arith, few, count, acked);
       }
 
+-- a link gives an acknowledgement a window
+pub calls-run : (case : LinkCase) (windows : List ℕ) → length (run_of case windows).givens ≡ length windows
+calls-run case windows = givens-run case windows (record { packets = []; givens = [] }) ∙ omega arith
+
 -- the sums of a flow with at most 65,536 acknowledgements
 pub roomy : {X : Type 0} → (flow : Flow X) (link : LinkCase) (word : List Letter) → length (world flow link word).acks ≤ 65536
     → AreRoomy (sums_of (world flow link word).acks)

@@ -2,8 +2,8 @@
 pub mod CampaignWord
 pub mod CampaignRow
 pub mod Walks
+pub mod LinkedFlows
 pub mod LiftedRow
-pub mod Tried
 pub mod Shares
 pub mod Parts
 pub mod CampaignBooks

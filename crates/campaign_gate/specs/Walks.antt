@@ -1,16 +1,19 @@
--- A flow on the way along its campaign word: what is kept, and what a letter changes of it.
-use Rattle.std.specs.Prelude.{◌≡◌, ℕ, ◌+◌, ◌-◌, ◌*◌, ◌<◌, ◌≤◌, max, if◌then◌else◌, Option, option_map, IfSome, List, [], ◌∷◌, ◌++◌, length}
+-- A flow on the way along its campaign word: what is kept beside it, and what a letter changes of it.
+use Rattle.std.specs.Prelude.{◌≡◌, ℕ, ◌+◌, ◌-◌, ◌*◌, ◌<◌, ◌≤◌, max, if◌then◌else◌, Option, Some, true, List, [], ◌∷◌, ◌++◌, length}
 use Rattle.std.specs.Option.{ForSome}
 use Rattle.ccp_base.specs.declared.ack.Ack.{Ack}
+use Rattle.flow_core.specs.declared.case.Case.{Case}
 use Rattle.flow_core.specs.declared.letter.Letter.{Letter}
 use Rattle.flow_core.specs.declared.letter.Letter.TheVariants.{A, T, C}
 use Rattle.flow_core.specs.World.{Taken}
+use Rattle.flow_core.specs.Words.{is_legal}
 use Rattle.flow_core.specs.Cells.{CellState, flow_at, world_at, ack_at}
 use Rattle.flow_core.specs.LettersLeft.{left_at}
 use Rattle.campaign_gate.specs.declared.sums.Sums.{Sums}
-use Rattle.campaign_gate.specs.declared.walk.Walk.{Walk}
+use Rattle.campaign_gate.specs.declared.walk.Tally.{Tally}
 use Rattle.campaign_gate.specs.CampaignWord.{next_of, plan_from, plan}
 use Rattle.campaign_gate.specs.CampaignRow.{lost_in, timeouts_in, acked_in, window_of, peak_of}
+use Rattle.campaign_gate.specs.CampaignBooks.{planned}
 
 -- the next letter of a cell's campaign word
 abbrev pub next_at : CellState → Option Letter
@@ -45,36 +48,72 @@ pub record AreRoomy (sums : Sums) : Type 0 where
 
 -- ---- the way
 
--- the word so far and the rest are the campaign word; and what is kept beside the cell is that of the word so far
-pub record IsOnWay (walk : Walk) : Type 0 where
-  pub word : walk.cell.word ++ plan_at walk.cell ≡ plan walk.cell.case
-  pub left : length walk.cell.word + left_at walk.cell ≤ 3 * walk.cell.case.acks
-  pub taken : ForSome (world_at walk.cell).out (λ (ticket : Taken ℕ). ticket.taken ≡ walk.taken)
-  pub sums : walk.sums ≡ sums_of (world_at walk.cell).acks
-  pub peak : walk.peak ≡ peak_of (flow_at walk.cell) walk.cell.case.link walk.cell.word
-  pub heard : IfSome walk.heard (λ (acks : List Ack). acks ≡ (world_at walk.cell).acks)
+-- a case without a letter
+abbrev pub opened : Case → CellState
+opened case = record { case = case; word = [] }
+
+abbrev pub longer : Letter → CellState → CellState
+longer letter cell = record { case = cell.case; word = cell.word ++ letter ∷ [] }
+
+-- where a ticket is out, it was taken at so many acknowledgements
+abbrev pub WasTaken : CellState → ℕ → Type 0
+WasTaken cell taken = ForSome (world_at cell).out (λ (ticket : Taken ℕ). ticket.taken ≡ taken)
+
+-- the flow is one after a word at whose end the letter is legal
+pub record MayMake {F : Type 0} (at : CellState → F) (letter : Letter) (flow : F) : Type 0 where
+  pub cell : CellState
+  pub after : flow ≡ at cell
+  pub legal : is_legal (flow_at cell) (world_at cell) letter ≡ true
+
+-- one letter was made: after whatever word the old flow is, the new one is after that word and the letter
+abbrev pub Makes : {F : Type 0} → (CellState → F) → Letter → F → F → Type 0
+Makes at letter old new = (cell : CellState) → old ≡ at cell → new ≡ at (longer letter cell)
+
+-- the flow is after a word that its campaign word goes on from, and what is kept beside it is that of this word
+pub record IsOnWay {F : Type 0} (at : CellState → F) (case : Case) (flow : F) (tally : Tally) : Type 0 where
+  pub word : List Letter
+  pub after : flow ≡ at (record { case = case; word = word })
+  pub plan : word ++ plan_at (record { case = case; word = word }) ≡ plan case
+  pub left : length word + left_at (record { case = case; word = word }) ≤ 3 * case.acks
+  pub taken : WasTaken (record { case = case; word = word }) tally.taken
+  pub sums : tally.sums ≡ sums_of (world_at (record { case = case; word = word })).acks
+  pub peak : tally.peak ≡ peak_of (flow_at (record { case = case; word = word })) case.link word
+
+-- and this letter is the next one of the campaign word
+pub record IsNext {F : Type 0} (at : CellState → F) (case : Case) (flow : F) (tally : Tally) (letter : Letter) : Type 0 where
+  pub on : IsOnWay at case flow tally
+  pub next : next_at (record { case = case; word = on.word }) ≡ Some letter
 
 abbrev pub sums_after : Letter → CellState → Sums → Sums
 sums_after A cell sums = with_ack (ack_at cell) sums
 sums_after T cell sums = sums
 sums_after C cell sums = sums
 
--- the acknowledgements that are kept, where they are
-abbrev pub heard_after : Letter → CellState → Option (List Ack) → Option (List Ack)
-heard_after A cell heard = option_map (λ (acks : List Ack). acks ++ ack_at cell ∷ []) heard
-heard_after T cell heard = heard
-heard_after C cell heard = heard
-
 -- where a ticket is out afterwards, it was taken at so many acknowledgements
-abbrev pub TakenAfter : Letter → Walk → Walk → Type 0
-TakenAfter A old new = new.taken ≡ old.taken
-TakenAfter T old new = new.taken ≡ length (world_at old.cell).acks
-TakenAfter C old new = Unit {0}
+abbrev pub TakenAfter : Letter → CellState → ℕ → ℕ → Type 0
+TakenAfter A cell old new = new ≡ old
+TakenAfter T cell old new = new ≡ length (world_at cell).acks
+TakenAfter C cell old new = Unit {0}
 
--- one letter was made
-pub record Makes (letter : Letter) (old new : Walk) : Type 0 where
-  pub cell : new.cell ≡ record old.cell { word = old.cell.word ++ letter ∷ [] }
-  pub taken : TakenAfter letter old new
-  pub sums : new.sums ≡ sums_after letter old.cell old.sums
-  pub peak : new.peak ≡ max old.peak (window_at new.cell)
-  pub heard : new.heard ≡ heard_after letter old.cell old.heard
+-- what is kept beside a flow after one more letter
+pub record IsTallied (letter : Letter) (cell : CellState) (old new : Tally) : Type 0 where
+  pub taken : TakenAfter letter cell old.taken new.taken
+  pub sums : new.sums ≡ sums_after letter cell old.sums
+  pub peak : new.peak ≡ max old.peak (window_at (longer letter cell))
+
+-- one letter was made, and put down
+pub record IsStep {F : Type 0} (at : CellState → F) (letter : Letter) (old : F) (old_tally : Tally) (new : F) (new_tally : Tally) : Type 0 where
+  pub made : Makes at letter old new
+  pub tally : (cell : CellState) → old ≡ at cell → IsTallied letter cell old_tally new_tally
+
+-- the flow is still on the way of its case, and fewer letters are left
+pub record Onward {F : Type 0} (at : CellState → F) (case_of : F → Case) (left_of : F → ℕ) (old new : F) (tally : Tally) : Type 0 where
+  pub on : IsOnWay at (case_of new) new tally
+  pub case : case_of new ≡ case_of old
+  pub fewer : left_of new < left_of old
+
+-- the flow is after its campaign word
+pub record IsEnded {F : Type 0} (at : CellState → F) (case : Case) (flow : F) (tally : Tally) : Type 0 where
+  pub after : flow ≡ at (planned case)
+  pub sums : tally.sums ≡ sums_of (world_at (planned case)).acks
+  pub peak : tally.peak ≡ peak_of (flow_at (planned case)) case.link (plan case)

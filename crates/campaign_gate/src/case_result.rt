@@ -4,6 +4,8 @@ ghost use Rattle.campaign_gate.specs.CampaignRow.{row_of};
 ghost use Rattle.campaign_gate.specs.CampaignBooks.{planned, acks_of_case};
 
 use crate::completion::completed;
+use crate::linked::Linked;
+use crate::listed::Listed;
 use crate::row::Row;
 use ccp_base::{Ack, Acks, NoMemory, Sequence};
 use flow_core::{Case, Cell};
@@ -23,7 +25,7 @@ impl CaseResult for Row {
     ghost of_case = { row_of };
 
     fn make(alloc: Global, case: Case) -> Result<Row, NoMemory> {
-        let walk = completed(alloc, case, None)?;
+        let walk = completed(alloc, Linked::new(alloc, case)?)?;
         Ok(walk.row())
     }
 }
@@ -33,18 +35,17 @@ impl CaseResult for Cell {
     ghost of_case = { planned };
 
     fn make(alloc: Global, case: Case) -> Result<Cell, NoMemory> {
-        let walk = completed(alloc, case, None)?;
-        Ok(walk.into_cell())
+        let walk = completed(alloc, Cell::new(alloc, case)?)?;
+        Ok(walk.flow)
     }
 }
 
-/// The acknowledgements on the way. A place for each of the case is reserved.
+/// The acknowledgements on the way.
 impl CaseResult for Sequence<Ack> {
     ghost of_case = { acks_of_case };
 
     fn make(alloc: Global, case: Case) -> Result<Acks, NoMemory> {
-        let heard = Acks::from_vec(Vec::with_capacity(alloc, case.acks as usize)?);
-        let walk = completed(alloc, case, Some(heard))?;
-        Ok(walk.into_acks())
+        let walk = completed(alloc, Listed::new(alloc, case)?)?;
+        Ok(walk.flow.acks)
     }
 }

@@ -4,13 +4,14 @@
 pub mod calls;
 mod case_result;
 mod completion;
-mod counts;
+mod linked;
+mod listed;
 mod queue;
 mod row;
 mod share;
-mod standing;
 mod sums;
 mod walk;
+mod walker;
 mod workers;
 
 pub use calls::{Books, CaseAcks, Cases};

@@ -1,68 +1,59 @@
-ghost use Rattle.std.specs.Prelude.{◌≡◌, ◌<◌, [], ◌∷◌, ◌++◌, Some, false, option_map, IsSome, IfSome, OnOk, IfOk};
+//! A flow on the way along its campaign word, with what a row sums up beside it.
+ghost use Rattle.std.specs.Prelude.{◌≡◌, ◌<◌, false, OnOk};
 ghost use Rattle.flow_core.specs.Words.{is_complete};
-ghost use Rattle.flow_core.specs.Cells.{flow_at, world_at, IsComplete};
+ghost use Rattle.flow_core.specs.Cells.{CellState, flow_at, world_at};
 ghost use Rattle.campaign_gate.specs.CampaignWord.{is_due};
 ghost use Rattle.campaign_gate.specs.CampaignRow.{row_of};
-ghost use Rattle.campaign_gate.specs.CampaignBooks.{planned, acks_of_case};
-ghost use Rattle.campaign_gate.specs.Tried.{Tried};
-ghost use Rattle.flow_core.specs.LettersLeft.{left_at};
-ghost use Rattle.campaign_gate.specs.Walks.{next_at, IsOnWay, Makes};
+ghost use Rattle.campaign_gate.specs.Walks.{opened, WasTaken, IsOnWay, IsNext, IsStep, Onward, IsEnded};
+ghost use Rattle.campaign_gate.specs.LinkedFlows.{linked_at};
 
-use crate::counts::Counts;
+use crate::linked::Linked;
 use crate::row::Row;
-use crate::standing::Standing;
 use crate::sums::Sums;
-use agent_core::calls::answer;
-use ccp_base::{Ack, Acks, NoMemory};
-use flow_core::{Cell, Letter, TakeFault};
+use crate::walker::Walker;
+use ccp_base::NoMemory;
+use flow_core::Letter;
 use fold_machine::Steps;
 use std::alloc::Global;
 use std::sync::ledger::Ledger;
 
-/// A flow on the way along its campaign word.
-#[derive(Drop)]
-pub(crate) struct Walk {
-    pub(crate) cell: Cell,
+/// What is kept beside a flow on its way.
+#[derive(Clone, Copy)]
+pub(crate) struct Tally {
     /// At how many acknowledgements the ticket that is out was taken.
     pub(crate) taken: u32,
     pub(crate) sums: Sums,
     /// The greatest window so far, in bytes.
     pub(crate) peak: u64,
-    /// The acknowledgements so far, where they are kept.
-    pub(crate) heard: Option<Acks>,
 }
 
-/// Puts an acknowledgement at the end of those that are kept, where they are.
-fn keep(heard: &mut Option<Acks>, ack: Ack) -> Result<(), NoMemory>
-    ensures { OnOk result (heard.new ≡ option_map (λ acks. acks ++ ack ∷ []) heard.old) }
-{
-    if let Some(acks) = heard {
-        acks.push(ack)?;
-    }
-    Ok(())
+/// A flow on the way along its campaign word.
+#[derive(Drop)]
+pub(crate) struct Walk<F: Walker> {
+    pub(crate) flow: F,
+    pub(crate) tally: Tally,
 }
 
-impl Walk {
-    /// The way of a flow without a letter. Its acknowledgements are kept where a list for them is given, which is empty.
-    pub(crate) fn begin(cell: Cell, heard: Option<Acks>) -> Walk
-        requires empty { cell.word ≡ [] }
-        requires none { IfSome heard (λ acks. acks ≡ []) }
-        ensures cell { result.cell ≡ cell }
-        ensures heard { result.heard ≡ heard }
-        ensures on { IsOnWay result }
+impl<F: Walker> Walk<F> {
+    /// The way of a flow without a letter.
+    pub(crate) fn begin(flow: F) -> Walk<F>
+        requires { flow ≡ F.at (opened (F.case_of flow)) }
+        ensures flow { result.flow ≡ flow }
+        ensures on { IsOnWay F.at (F.case_of flow) result.flow result.tally }
     {
-        let window = cell.cwnd();
+        let peak = flow.cwnd();
         let sums = Sums {
             lost: 0,
             timeouts: 0,
             acked: 0,
         };
         Walk {
-            cell,
-            taken: 0,
-            sums,
-            peak: window,
-            heard,
+            flow,
+            tally: Tally {
+                taken: 0,
+                sums,
+                peak,
+            },
         }
     }
 
@@ -72,131 +63,87 @@ impl Walk {
         alloc: Global,
         steps: &mut Steps<L>,
     ) -> Result<(), NoMemory>
-        requires on { IsOnWay self.old }
-        requires open { is_complete (flow_at self.old.cell) (world_at self.old.cell) ≡ false }
-        ensures on { OnOk result (IsOnWay self.new) }
-        ensures case { OnOk result (self.new.cell.case ≡ self.old.cell.case) }
-        ensures keeps { OnOk result (IsSome self.old.heard → IsSome self.new.heard) }
-        ensures fewer { OnOk result (left_at self.new.cell < left_at self.old.cell) }
+        requires on { IsOnWay F.at (F.case_of self.old.flow) self.old.flow self.old.tally }
+        requires open { (cell : CellState) → self.old.flow ≡ F.at cell → is_complete (flow_at cell) (world_at cell) ≡ false }
+        ensures { OnOk result (Onward F.at F.case_of F.left_of self.old.flow self.new.flow self.new.tally) }
     {
         if self.is_due() {
             self.settle();
             return Ok(());
         }
-        if self.take(alloc)? {
-            return Ok(());
+        if self.flow.may_take() {
+            return self.take(alloc);
         }
         self.hear(steps)
     }
 
     /// Whether an answer is due.
     fn is_due(&self) -> bool
-        requires { IsOnWay self.now }
-        ensures { result ≡ is_due (flow_at self.now.cell) self.now.cell.case.lag (world_at self.now.cell) }
+        ensures { (cell : CellState) → self.now.flow ≡ F.at cell → WasTaken cell self.now.tally.taken → result ≡ is_due (flow_at cell) cell.case.lag (world_at cell) }
     {
-        let case = self.cell.case();
-        let is_out = self.cell.out().is_some();
-        if self.cell.acks() >= case.acks {
+        let is_out = self.flow.has_out();
+        let case = self.flow.case();
+        let acks = self.flow.acks();
+        if acks >= case.acks {
             return is_out;
         }
-        is_out && u64::from(self.taken) + u64::from(case.lag) <= u64::from(self.cell.acks())
+        is_out && u64::from(self.tally.taken) + u64::from(case.lag) <= u64::from(acks)
     }
 
-    /// Applies the answer to the ticket that is out.
+    /// Answers the ticket that is out.
     fn settle(&mut self)
-        requires on { IsOnWay self.old }
-        requires due { next_at self.old.cell ≡ Some Letter.C }
-        ensures { Makes Letter.C self.old self.new }
+        requires { IsNext F.at (F.case_of self.old.flow) self.old.flow self.old.tally Letter.C }
+        ensures { IsStep F.at Letter.C self.old.flow self.old.tally self.new.flow self.new.tally }
     {
-        let Some(ticket) = self.cell.out() else {
-            unreachable!()
-        };
-        let Ok(()) = self.cell.settle(answer(ticket)) else {
-            unreachable!()
-        };
-        self.peak = self.peak.max(self.cell.cwnd());
+        self.flow.settle();
+        self.tally.peak = self.tally.peak.max(self.flow.cwnd());
     }
 
-    /// Takes a ticket where it is legal, and says whether it did.
-    fn take(&mut self, alloc: Global) -> Result<bool, NoMemory>
-        requires due { is_due (flow_at self.old.cell) self.old.cell.case.lag (world_at self.old.cell) ≡ false }
-        ensures { IfOk result (λ took. Tried took self.old self.new) }
+    /// Takes a ticket.
+    fn take(&mut self, alloc: Global) -> Result<(), NoMemory>
+        requires { IsNext F.at (F.case_of self.old.flow) self.old.flow self.old.tally Letter.T }
+        ensures { OnOk result (IsStep F.at Letter.T self.old.flow self.old.tally self.new.flow self.new.tally) }
     {
-        match self.cell.take(alloc) {
-            Ok(_) => {
-                let acks = self.cell.acks();
-                self.taken = acks;
-                self.peak = self.peak.max(self.cell.cwnd());
-                Ok(true)
-            }
-            Err(TakeFault::NotYet) => Ok(false),
-            Err(TakeFault::Out(_)) => Ok(false),
-            Err(TakeFault::NoMemory) => Err(NoMemory),
-        }
+        let acks = self.flow.acks();
+        self.flow.take(alloc)?;
+        self.tally.taken = acks;
+        self.tally.peak = self.tally.peak.max(self.flow.cwnd());
+        Ok(())
     }
 
     /// Takes the next acknowledgement.
     fn hear<L: Ledger>(&mut self, steps: &mut Steps<L>) -> Result<(), NoMemory>
-        requires on { IsOnWay self.old }
-        requires next { next_at self.old.cell ≡ Some Letter.A }
-        ensures { OnOk result (Makes Letter.A self.old self.new) }
+        requires { IsNext F.at (F.case_of self.old.flow) self.old.flow self.old.tally Letter.A }
+        ensures { OnOk result (IsStep F.at Letter.A self.old.flow self.old.tally self.new.flow self.new.tally) }
     {
-        let Ok(_) = self.cell.ack(steps) else {
-            unreachable!()
-        };
-        let Some(ack) = self.cell.last() else {
-            unreachable!()
-        };
-        self.sums = self.sums.with(ack);
-        self.peak = self.peak.max(self.cell.cwnd());
-        keep(&mut self.heard, ack)
+        let ack = self.flow.hear(steps)?;
+        self.tally.sums = self.tally.sums.with(ack);
+        self.tally.peak = self.tally.peak.max(self.flow.cwnd());
+        Ok(())
     }
+}
 
-    /// The row of the flow, whose word must be complete.
-    pub(crate) fn row(self) -> Row
-        requires on { IsOnWay self }
-        requires complete { IsComplete self.cell }
-        ensures { result ≡ row_of self.cell.case }
+impl Walk<Linked> {
+    /// The row of the flow, which is at the end of its campaign word.
+    pub(crate) fn row(&self) -> Row
+        requires { IsEnded linked_at self.now.flow.bare.case self.now.flow self.now.tally }
+        ensures { result ≡ row_of self.now.flow.bare.case }
     {
-        let standing = Standing::of(&self.cell);
-        let book = self.cell.finish();
-        let counts = Counts::of(&book);
-        drop(book);
+        let bare = &self.flow.bare;
+        let acks = u64::from(bare.acks());
         Row {
-            acks: standing.acks,
-            reports: counts.reports,
-            held: counts.held,
-            faults: counts.faults,
-            epochs: counts.epochs,
-            lost: self.sums.lost,
-            timeouts: self.sums.timeouts,
-            acked: self.sums.acked,
-            peak: self.peak,
-            cwnd: standing.cwnd,
-            now: standing.time,
-            tail: standing.acks.saturating_sub(counts.first),
+            acks,
+            reports: u64::from(bare.told()),
+            held: u64::from(bare.held()),
+            faults: u64::from(bare.faults()),
+            epochs: u64::from(bare.epoch()) + 1,
+            lost: self.tally.sums.lost,
+            timeouts: self.tally.sums.timeouts,
+            acked: self.tally.sums.acked,
+            peak: self.tally.peak,
+            cwnd: bare.cwnd(),
+            now: bare.time(),
+            tail: acks.saturating_sub(bare.first()),
         }
-    }
-
-    /// The flow, whose word must be complete.
-    pub(crate) fn into_cell(self) -> Cell
-        requires on { IsOnWay self }
-        requires complete { IsComplete self.cell }
-        ensures { result ≡ planned self.cell.case }
-    {
-        self.cell
-    }
-
-    /// The acknowledgements of the flow, whose word must be complete, where they are kept.
-    pub(crate) fn into_acks(self) -> Acks
-        requires on { IsOnWay self }
-        requires complete { IsComplete self.cell }
-        requires keeps { IsSome self.heard }
-        ensures { result ≡ acks_of_case self.cell.case }
-    {
-        let Walk { cell, heard, .. } = self;
-        drop(cell);
-        let Some(acks) = heard else { unreachable!() };
-        acks
     }
 }

@@ -1,0 +1,105 @@
+//! A flow without its history, and its link.
+ghost use Rattle.std.specs.Prelude.{◌≡◌, [], refl, IfOk};
+ghost use Rattle.flow_core.specs.Readings.{over_codes};
+ghost use Rattle.link_model.specs.Standing.{Stands};
+ghost use Rattle.flow_core.specs.LettersLeft.{left_at};
+ghost use Rattle.flow_core.proofs.SummaryLemmas.{summary-legal};
+ghost use Rattle.campaign_gate.specs.Walks.{opened};
+ghost use Rattle.campaign_gate.specs.LinkedFlows.{linked_at, left_in, left_linked};
+
+use crate::walker::Walker;
+use agent_core::calls::answer;
+use ccp_base::{Ack, NoMemory};
+use flow_core::{Bare, Case};
+use fold_machine::Steps;
+use link_model::Link;
+use std::alloc::Global;
+use std::sync::ledger::Ledger;
+
+/// A flow without its history, with the link that gives it its acknowledgements.
+#[derive(Drop)]
+pub(crate) struct Linked {
+    pub(crate) bare: Bare,
+    pub(crate) link: Link,
+}
+
+/// The link of a case, to which no window was given yet.
+fn link_of(alloc: Global, case: &Case) -> Result<Link, NoMemory>
+    ensures case { IfOk result (λ link. link.case ≡ case.now.link) }
+    ensures stands { IfOk result (λ link. Stands link []) }
+{
+    let link = case.link.copy(alloc)?;
+    Link::new(alloc, link)
+}
+
+impl Linked {
+    /// A flow without a letter.
+    pub(crate) fn new(alloc: Global, case: Case) -> Result<Linked, NoMemory>
+        ensures { IfOk result (λ linked. linked ≡ linked_at (opened case)) }
+    {
+        let bare = Bare::new(alloc, case)?;
+        match link_of(alloc, bare.case()) {
+            Ok(link) => Ok(Linked { bare, link }),
+            Err(fault) => {
+                drop(bare);
+                Err(fault)
+            }
+        }
+    }
+}
+
+/// What later letters depend on, and nothing else.
+impl Walker for Linked {
+    ghost at = { linked_at };
+
+    ghost case_of = { λ linked. linked.bare.case };
+
+    ghost left_of = { λ linked. left_in linked.bare.case linked.bare.summary };
+
+    ghost case_law = { λ cell. refl };
+
+    ghost left_law = { left_linked };
+
+    fn case(&self) -> &Case {
+        self.bare.case()
+    }
+
+    fn acks(&self) -> u32 {
+        self.bare.acks()
+    }
+
+    fn cwnd(&self) -> u64 {
+        self.bare.cwnd()
+    }
+
+    fn has_out(&self) -> bool {
+        self.bare.has_out()
+    }
+
+    fn may_take(&self) -> bool {
+        self.bare.may_take()
+    }
+
+    fn is_complete(&self) -> bool {
+        self.bare.is_done()
+    }
+
+    fn take(&mut self, _alloc: Global) -> Result<(), NoMemory> {
+        self.bare.take();
+        Ok(())
+    }
+
+    fn settle(&mut self) {
+        let Some(ticket) = self.bare.out() else {
+            unreachable!()
+        };
+        self.bare.settle(&answer(ticket));
+    }
+
+    fn hear<L: Ledger>(&mut self, steps: &mut Steps<L>) -> Result<Ack, NoMemory> {
+        let window = self.bare.cwnd();
+        let ack = self.link.next(window);
+        self.bare.ack(&ack, steps);
+        Ok(ack)
+    }
+}
