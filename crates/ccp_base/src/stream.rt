@@ -84,7 +84,7 @@ fn flush_answer(answer: io::Result<()>, faults: &mut u64) -> Result<(), Failed>
     }
 }
 
-/// A stream as a source. It tells of its bytes what the stream tells of them, and fails where a read of the stream does.
+/// A stream as a source. It knows of its bytes what the stream knows, and fails where a read of the stream does.
 #[derive(Drop)]
 pub struct Reader<R> {
     stream: R,
@@ -112,7 +112,7 @@ impl<R: ReadStream> Source for Reader<R> {
     }
 }
 
-/// A stream as a sink. It tells of its bytes what the stream tells of them. A write fails where that of the stream does
+/// A stream as a sink. It knows of its bytes what the stream knows. A write fails where that of the stream does
 /// or takes none of some bytes, and a finish where a flush of the stream does.
 #[derive(Drop)]
 pub struct Writer<W> {
