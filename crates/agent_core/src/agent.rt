@@ -1,3 +1,4 @@
+//! The agents Reno and CUBIC as one type: its replies, and the values that each reply writes.
 ghost use Rattle.std.specs.Prelude.{◌≡◌, ◌++◌, ◌+◌, ◌<◌, ◌≤◌, ◌↔◌, IsTrue, length};
 ghost use Rattle.agent_core.specs.Agents.{begun, replied, course_of, mss_of, cap_of, segment_of, window_pair, control_pair, values_of};
 ghost use Rattle.std.specs.Option.{ForSome};

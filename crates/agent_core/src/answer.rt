@@ -1,3 +1,4 @@
+//! The answer to a ticket: the agent after it, its reply, and the frame for the datapath.
 ghost use Rattle.std.specs.Prelude.{◌≡◌, ◌≤◌, length};
 ghost use Rattle.ccp_base.specs.Limits.{most_answer_bytes};
 

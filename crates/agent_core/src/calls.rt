@@ -1,3 +1,4 @@
+//! How an agent answers a ticket: it replies, and its reply becomes a frame.
 ghost use Rattle.std.specs.Prelude.{◌≡◌};
 ghost use Rattle.agent_core.specs.Agents.{replied, values_of};
 ghost use Rattle.agent_core.specs.Answers.{frame_by};

@@ -1,3 +1,4 @@
+//! The bytes of a reply's frame, an Update or a Change, held in place.
 ghost use Rattle.std.specs.Prelude.{◌≡◌, ◌≤◌, [], length};
 ghost use Rattle.ccp_base.specs.Limits.{most_answer_bytes};
 ghost use Rattle.reply_frames.specs.Replies.{update_bytes, change_bytes};

@@ -1,3 +1,4 @@
+//! Equality of agents, roles, reports and notices, part by part, by which tickets and cases are compared.
 ghost use Rattle.std.specs.Prelude.{◌≡◌, ◌↔◌, IsTrue};
 
 use crate::agent::Agent;

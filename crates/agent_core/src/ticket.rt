@@ -1,3 +1,4 @@
+//! The ticket: a report or a fault notice on its way to a flow's agent, with the agent before it.
 ghost use Rattle.std.specs.Prelude.{◌≡◌, ◌↔◌, IsTrue};
 
 use crate::agent::Agent;

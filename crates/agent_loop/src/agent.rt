@@ -1,3 +1,4 @@
+//! The work of an agent worker in a live run, from the first flow number that it receives to the last.
 ghost use Rattle.std.specs.Prelude.{◌≡◌, length};
 ghost use Rattle.agent_loop.specs.Crews.{post};
 

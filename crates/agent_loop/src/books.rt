@@ -1,3 +1,4 @@
+//! The books of a live run's flows, made once the work of each of their workers is done.
 ghost use Rattle.std.specs.Prelude.{IfOk, length, map};
 ghost use Rattle.agent_loop.specs.Crews.{HasWorked};
 ghost use Rattle.agent_loop.specs.LiveBooks.{AreBooksOf, case_of};

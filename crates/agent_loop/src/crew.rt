@@ -1,3 +1,4 @@
+//! What shows that the work of each worker of a live run was done.
 use worker_desk::{Attended, Served};
 
 /// What shows that each worker's work was done.

@@ -1,3 +1,4 @@
+//! The call of a live run: workers of both kinds run the flow of each case, and each flow has its book.
 ghost use Rattle.std.specs.Prelude.{◌≤◌, IfOk};
 ghost use Rattle.ccp_base.specs.Limits.{most_workers};
 ghost use Rattle.agent_loop.specs.LiveBooks.{AreBooksOf};

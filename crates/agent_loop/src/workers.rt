@@ -1,3 +1,4 @@
+//! The threads of a live run: datapath and agent workers on a table of flows, until their work is done.
 ghost use Rattle.std.specs.Prelude.{IfOk, length};
 ghost use Rattle.agent_loop.specs.Crews.{HasWorked};
 

@@ -1,3 +1,4 @@
+//! What a worker keeps of a case: its row, its flow after the campaign word, or its acknowledgements.
 ghost use Rattle.std.specs.Prelude.{◌≡◌, IfOk};
 ghost use Rattle.flow_core.specs.declared.case.Case.{Case};
 ghost use Rattle.campaign_gate.specs.CampaignRow.{row_of};

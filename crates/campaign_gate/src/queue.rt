@@ -1,3 +1,4 @@
+//! A first-in, first-out queue for the items that workers make.
 ghost use Rattle.std.specs.Prelude.{◌≡◌, [], ◌∷◌, ◌++◌, OnOk, drop, slice_get};
 
 use ccp_base::NoMemory;

@@ -1,3 +1,4 @@
+//! A campaign's row: the numbers that sum up a case's flow after its campaign word.
 use ccp_base::Sequence;
 
 /// What a case's flow came to on its campaign word.

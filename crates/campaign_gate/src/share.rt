@@ -1,3 +1,4 @@
+//! A worker's share of a campaign: the cases that fall to it by number, and what it makes of them.
 ghost use Rattle.std.specs.Prelude.{◌≡◌, ◌<◌, ◌≤◌, [], List, map, length, IfOk, OnOk};
 ghost use Rattle.ccp_base.specs.Limits.{most_cases, most_workers};
 ghost use Rattle.flow_core.specs.declared.case.Case.{Case};

@@ -1,3 +1,4 @@
+//! The sums of a row over a flow's acknowledgements: lost packets, timeouts and acknowledged bytes.
 ghost use Rattle.std.specs.Prelude.{◌≡◌};
 ghost use Rattle.campaign_gate.specs.Walks.{sums_of, with_ack, AreRoomy};
 

@@ -1,3 +1,4 @@
+//! How workers run a campaign's cases side by side, and how their items are merged in the order of the cases.
 ghost use Rattle.std.specs.Prelude.{◌≡◌, ℕ, ◌<◌, ◌≤◌, [], map, length, IfOk, OnOk, IfSome, slice_get};
 ghost use Rattle.ccp_base.specs.Limits.{most_cases, most_workers};
 ghost use Rattle.campaign_gate.specs.Parts.{HasPart};

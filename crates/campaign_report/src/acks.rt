@@ -1,3 +1,4 @@
+//! The text of acknowledgements: a line for each flow, then one for each of its acknowledgements.
 ghost use Rattle.std.specs.Prelude.{◌≡◌, ◌≤◌, ◌<◌, ◌++◌, ◌||◌, false, IfOk, OnOk, length, map};
 ghost use Rattle.ccp_base.specs.Limits.{most_cases, primitive_count};
 ghost use Rattle.campaign_report.specs.AcksText.{ack_line, ack_lines, acks_text, flow_text, flows_text, gap, is_shown};

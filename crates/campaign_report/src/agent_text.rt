@@ -1,3 +1,4 @@
+//! The names of the agents' kinds, as the lines of flows and cases show them.
 ghost use Rattle.std.specs.Prelude.{◌≡◌};
 ghost use Rattle.flow_core.specs.LiveText.{agent_text};
 

@@ -1,3 +1,4 @@
+//! The text of a checked program: how much it declares and needs, and the listing of its code.
 ghost use Rattle.std.specs.Prelude.{◌≡◌, None, IfOk};
 ghost use Rattle.portus_core.specs.ProgramForm.{form_of};
 ghost use Rattle.reg_compiler.specs.Counts.{form_count};

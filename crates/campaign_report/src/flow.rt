@@ -1,3 +1,4 @@
+//! The first line of a flow: its number, the name of its case, and its agent.
 ghost use Rattle.std.specs.Prelude.{◌≡◌, ◌++◌, OnOk};
 ghost use Rattle.flow_core.specs.LiveText.{flow_line};
 

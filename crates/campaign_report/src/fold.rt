@@ -1,3 +1,4 @@
+//! The text of a program's fold: the reports, the fault with its place in the source, and the end line.
 ghost use Rattle.std.specs.Prelude.{◌≡◌, ◌++◌, IfOk, OnOk, length, option_map};
 ghost use Rattle.std.specs.List.{All};
 ghost use Rattle.std.specs.Option.{ForSome};

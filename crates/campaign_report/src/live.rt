@@ -1,3 +1,4 @@
+//! The text of a live run: for each flow its epochs, faults with their places, tickets and end.
 ghost use Rattle.std.specs.Prelude.{◌≡◌, ◌≤◌, ◌++◌, IfOk, OnOk, map};
 ghost use Rattle.std.specs.List.{All};
 ghost use Rattle.flow_core.specs.LiveText.{epoch_lines, fault_lines};

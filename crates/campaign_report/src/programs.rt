@@ -1,3 +1,4 @@
+//! Look-ups by program number for texts: a program's fields, and the source places of its instructions.
 ghost use Rattle.std.specs.Prelude.{◌≡◌};
 ghost use Rattle.flow_core.specs.Lift.{place_at};
 ghost use Rattle.flow_core.specs.LiveText.{fields_at};

@@ -1,3 +1,4 @@
+//! The sums of a campaign's total, each over one column of its rows.
 ghost use Rattle.std.specs.Prelude.{◌≡◌, ◌≤◌, length};
 ghost use Rattle.ccp_base.specs.Limits.{most_cases};
 ghost use Rattle.campaign_report.specs.TableText.{sum_of};

@@ -1,3 +1,4 @@
+//! The table of a campaign, a line for each case and the total, and the total of a generated campaign.
 ghost use Rattle.std.specs.Prelude.{◌≡◌, ◌≤◌, ◌++◌, IfOk, OnOk, codes, length};
 ghost use Rattle.ccp_base.specs.Limits.{most_cases};
 ghost use Rattle.ccp_base.specs.Text.{◌⧺◌};

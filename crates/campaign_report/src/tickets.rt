@@ -1,3 +1,4 @@
+//! The lines of tickets: the report or fault, when the ticket was taken and answered, and the agent's reply.
 ghost use Rattle.std.specs.Prelude.{◌≡◌, ◌≤◌, ◌++◌, OnOk};
 ghost use Rattle.flow_core.specs.LiveText.{answer_text, reply_text, report_count, reports_told, ticket_lines};
 ghost use Rattle.campaign_report.specs.BookText.{sources_of, ticket_text, ticket_told};

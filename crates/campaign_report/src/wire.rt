@@ -1,3 +1,4 @@
+//! Programs' Install frames in hexadecimal, each of the version that its number of fields needs.
 ghost use Rattle.std.specs.Prelude.{◌≡◌, ◌++◌, IfOk, OnOk, length};
 ghost use Rattle.ccp_messages.specs.Messages.{Meets, frame_bytes};
 ghost use Rattle.ccp_messages.specs.declared.message.Message.TheVariants.{Install};

@@ -1,3 +1,4 @@
+//! The run of the tool on the process's words and streams, and the status for the process.
 ghost use Rattle.std.specs.Prelude.{◌≡◌, IfOk, OnErr, map, string_bytes};
 ghost use Rattle.std.specs.Process.{exit_status};
 ghost use Rattle.ccp_run.specs.Statuses.{memory_line};

@@ -1,3 +1,4 @@
+//! Tests of the process's status: 3 for a refused input, and 6 without memory for the words.
 use crate::exit::exit;
 use ccp_base::{MemSink, MemSource, NoMemory};
 use std::alloc::Global;

@@ -1,3 +1,4 @@
+//! The words of the command line, as the system gives them to the process.
 use ccp_base::NoMemory;
 use std::alloc::Global;
 use std::env::Args;

@@ -1,3 +1,4 @@
+//! The acknowledgement as the datapath sees it: fifteen primitives, by field and by number.
 ghost use Rattle.std.specs.Prelude.{◌≡◌, ◌<◌, length, slice_index};
 ghost use Rattle.ccp_base.specs.Acknowledgement.{number_of, primitives, prim, flag_number, is_flag, ack_of};
 ghost use Rattle.ccp_base.specs.Limits.{primitive_count};

@@ -1,3 +1,4 @@
+//! The course of an agent: its two programs, the opening from the initial window (RFC 5681), and its changes.
 ghost use Rattle.std.specs.Prelude.{◌≡◌};
 ghost use Rattle.ccp_base.specs.Course.{first_course, role_of, course_after, change_to, initial_segments, opening_of};
 

@@ -1,3 +1,4 @@
+//! What a datapath and an agent exchange about a flow: reports, fault notices and replies.
 use crate::arithmetic::FaultKind;
 use crate::sequence::Sequence;
 use crate::values::Values;

@@ -1,3 +1,4 @@
+//! The values that a change or an update writes, each with its register: at most 66, held in place.
 ghost use Rattle.std.specs.Prelude.{◌≡◌, ◌↔◌, IsTrue, ◌<◌, ◌≤◌, ◌++◌, ◌∷◌, [], IfSome, length, slice_get};
 ghost use Rattle.ccp_base.specs.FieldReg.{Pair, pair_of, is_bad, first_bad};
 ghost use Rattle.ccp_base.specs.Limits.{most_pairs};

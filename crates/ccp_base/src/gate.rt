@@ -1,3 +1,4 @@
+//! The gate that workers pass at points of their work, so that a test can see and hold them.
 /// A point of a worker's way at which it passes a gate.
 #[derive(Clone, Copy, PartialEq, Eq)]
 pub enum Point {

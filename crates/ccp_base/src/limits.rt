@@ -1,3 +1,4 @@
+//! A law: this crate's constants are the numbers of the rules.
 ghost use Rattle.std.specs.Prelude.{◌≡◌};
 ghost use Rattle.ccp_base.specs.Limits.{most_fields, most_name_bytes, most_pairs, primitive_count};
 

@@ -1,3 +1,4 @@
+//! Where a program keeps what agents read and write, and the role in which an agent starts it.
 ghost use Rattle.std.specs.Prelude.{◌<◌};
 ghost use Rattle.std.specs.Option.{ForSome};
 

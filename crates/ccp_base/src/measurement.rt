@@ -1,3 +1,4 @@
+//! What an agent reads of a report, at the places that the program's look gives.
 ghost use Rattle.std.specs.Prelude.{◌≡◌};
 ghost use Rattle.ccp_base.specs.Measurement.{field_at, measurement_of};
 

@@ -1,3 +1,4 @@
+//! Sources and sinks in memory for tests, whose calls fail at listed numbers.
 ghost use Rattle.std.specs.Prelude.{◌≡◌, false, ◌+◌, ◌<◌, ◌≤◌, ◌↔◌, [], Some, IsTrue, IfOk, OnOk, OnErr, IsErr, Contains, min, take, drop, length};
 ghost use Rattle.ccp_base.specs.Outside.{Rose, Takes, IsAtEnd, Appends};
 

@@ -1,3 +1,4 @@
+//! Short texts held in place: names and words of 1 to 64 bytes.
 ghost use Rattle.std.specs.Prelude.{◌≡◌, ◌≤◌, ◌++◌, drop, length};
 ghost use Rattle.ccp_base.specs.InPlace.{padded};
 ghost use Rattle.ccp_base.specs.Limits.{most_name_bytes};

@@ -1,3 +1,4 @@
+//! The value of a decimal numeral, if it is below 2^64.
 ghost use Rattle.std.specs.Prelude.{◌≡◌, Some};
 ghost use Rattle.ccp_base.specs.Numerals.{digit_after, value_after, numeral_of};
 

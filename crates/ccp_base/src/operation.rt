@@ -1,3 +1,4 @@
+//! The binary operations of the language and its code: their numbers, words, marks and results.
 ghost use Rattle.std.specs.Prelude.{◌≡◌, ◌<◌, Some, IfSome, length};
 ghost use Rattle.std.specs.List.{list_any};
 ghost use Rattle.std.specs.Str.{bytes_eq};

@@ -1,3 +1,4 @@
+//! Why calls to the outside fail: out of memory, or a read or a write that failed.
 ghost use Rattle.std.specs.Prelude.{◌≡◌, ◌+◌, ◌≤◌, min};
 ghost use Rattle.ccp_base.specs.Outside.{Rose};
 ghost use Rattle.ccp_base.specs.declared.outside.ReadFault.TheVariants as read_fault;

@@ -1,3 +1,4 @@
+//! How a text is cut at its first line feed or blank, and how a line loses the CR at its end.
 ghost use Rattle.std.specs.Prelude.{◌≡◌, ◌+◌, ◌<◌, ◌≤◌, ◌∷◌, length};
 ghost use Rattle.ccp_base.specs.Parts.{separates, parts_of, IsSplit, without_last};
 

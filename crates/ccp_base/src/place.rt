@@ -1,3 +1,4 @@
+//! A place in a program's text: its line and column.
 /// A place in a program's text. Lines and columns count from 1, columns count bytes, and a line ends after LF.
 #[derive(Clone, Copy, PartialEq, Eq, Debug)]
 pub struct Place {

@@ -1,3 +1,4 @@
+//! The list that contracts see as its items, wherever in memory it lies, with lists of numbers and bytes.
 ghost use Rattle.std.specs.Prelude.{◌≡◌, ◌↔◌, IsTrue, IfOk, OnOk, OnErr, ◌++◌, ◌∷◌, [], ◌<◌, length, slice_set};
 
 use std::alloc::{AllocError, Global};

@@ -1,3 +1,4 @@
+//! What bytes are written to, and the call that writes them all and finishes.
 ghost use Rattle.std.specs.Prelude.{◌≡◌, ℕ, ◌<◌, ◌≤◌, Option, List, IfOk, OnOk, OnErr, take, length};
 ghost use Rattle.ccp_base.specs.Outside.{Rose, Appends, AppendsPrefix};
 

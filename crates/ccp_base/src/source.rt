@@ -1,3 +1,4 @@
+//! What bytes are read from, and the call that reads all that are left, up to a limit.
 ghost use Rattle.std.specs.Prelude.{◌≡◌, ◌≢◌, ℕ, ◌+◌, ◌<◌, ◌≤◌, Option, List, IfOk, OnOk, OnErr, IsErrOf, take, length};
 ghost use Rattle.ccp_base.specs.Outside.{Rose, Takes, IsAtEnd, TakesOver, TakesWithin};
 

@@ -1,3 +1,4 @@
+//! Lists of at most 64 numbers, held in place, such as a report's fields.
 ghost use Rattle.std.specs.Prelude.{◌≡◌, ◌↔◌, IsTrue, ◌<◌, ◌≤◌, ◌++◌, ◌∷◌, [], length, slice_get};
 ghost use Rattle.ccp_base.specs.Limits.{most_fields};
 

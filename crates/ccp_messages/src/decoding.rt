@@ -1,3 +1,4 @@
+//! How a message is read from the bytes that its frame begins, or why no frame begins them.
 ghost use Rattle.std.specs.Prelude.{◌≡◌, ◌≢◌, ℕ, length, IfOk, Ok, Err};
 ghost use Rattle.reply_frames.specs.declared.fault.BadKind.{BadKind};
 ghost use Rattle.reply_frames.specs.declared.outline.Version.{Version};

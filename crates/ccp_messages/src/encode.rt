@@ -1,3 +1,4 @@
+//! How a message is written as its one frame of a version, into the caller's bytes.
 ghost use Rattle.std.specs.Prelude.{◌≡◌, ◌↔◌, ◌^◌, ◌<◌, ◌≤◌, length, take, IfOk, IfErr, OnErr, OnOk, IsErr};
 ghost use Rattle.ccp_base.specs.Limits.{most_fields, most_controls, most_blocks, most_instrs};
 ghost use Rattle.reply_frames.specs.FrameBytes.{outline_of, body_bytes};

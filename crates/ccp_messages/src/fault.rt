@@ -1,3 +1,4 @@
+//! Why bytes give no message, and why the reading of a part stops: cut, bad, or out of memory.
 ghost use Rattle.std.specs.Prelude.{◌≡◌};
 ghost use Rattle.ccp_messages.specs.declared.fault.Halt.TheVariants as halt;
 

@@ -1,3 +1,4 @@
+//! The laws of messages and frames: one frame for each version, and none a proper prefix of another.
 ghost use Rattle.ccp_messages.specs.Laws.{OneFrame, NoOther, BothVersions};
 ghost use Rattle.reply_frames.specs.Laws.{PrefixFree, Needed};
 

@@ -1,3 +1,4 @@
+//! The messages between agent and datapath, each about one flow.
 use ccp_base::{Ack, Fields, Notice, Report};
 use reg_code::Code;
 

@@ -1,3 +1,4 @@
+//! How a run ends: with its output, or with a line for the error stream that gives the cause.
 ghost use Rattle.std.specs.Prelude.{◌≡◌, ◌≤◌};
 ghost use Rattle.ccp_run.specs.Endings.{Ends, IsEnding, Refuses, Writes};
 ghost use Rattle.ccp_run.specs.Streams.{over};

@@ -1,3 +1,4 @@
+//! The laws of the modes: bytes are an input or have one first refusal, and how modes' outputs agree.
 ghost use Rattle.ccp_run.specs.Settled.{AreSettled};
 ghost use Rattle.ccp_run.specs.TextLaws.{AuditsTimelines, ReadsAcksBack, TellsRows};
 

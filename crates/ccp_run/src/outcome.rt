@@ -1,3 +1,4 @@
+//! What a mode makes of its input, and what a run gives its caller: text, status, books and programs.
 use agent_loop::Books;
 use ccp_base::Bytes;
 use reg_compiler::Builts;

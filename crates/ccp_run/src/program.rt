@@ -1,3 +1,4 @@
+//! The program of an input's text with its code, or the stop that refuses it.
 ghost use Rattle.std.specs.Prelude.{◌≡◌, ◌≤◌, ◌∷◌, [], IfOk, IfErr, length};
 ghost use Rattle.portus_core.specs.ProgramForm.{form_of};
 ghost use Rattle.reg_compiler.specs.Counts.{lean};

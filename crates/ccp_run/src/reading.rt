@@ -1,3 +1,4 @@
+//! How a mode reads its input to the end, within the input's limit.
 ghost use Rattle.ccp_run.specs.Attempts.{IsRead};
 ghost use Rattle.ccp_run.specs.Streams.{over};
 

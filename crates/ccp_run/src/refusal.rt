@@ -1,3 +1,4 @@
+//! Why an input is refused, how long inputs may be, and the line that reports a refusal.
 ghost use Rattle.std.specs.Prelude.{◌≡◌, ◌++◌, IfOk, OnOk, codes, decimal};
 ghost use Rattle.ccp_run.specs.ErrorLine.{field_name, most_bytes, refusal_line};
 

@@ -1,3 +1,4 @@
+//! The scenario of an input's bytes, or the stop that refuses it.
 ghost use Rattle.std.specs.Prelude.{◌≡◌, ◌≤◌, IfOk, IfErr, length};
 ghost use Rattle.scenario_json.specs.Cases.{case_names, AreNumberedFrom};
 ghost use Rattle.scenario_json.specs.Scene.{most_cases_of};

@@ -1,3 +1,4 @@
+//! The statuses with which a run ends, and the lines that report them.
 ghost use Rattle.std.specs.Prelude.{◌≡◌};
 ghost use Rattle.ccp_run.specs.Statuses.{number_of, words_line, read_line, write_line, memory_line};
 

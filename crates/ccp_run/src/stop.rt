@@ -1,3 +1,4 @@
+//! Why a mode has no output: a refusal, a failed read, or no memory.
 use crate::refusal::Refusal;
 use ccp_base::NoMemory;
 

@@ -1,3 +1,4 @@
+//! The public call `run`: the whole tool on its words, a source, a sink and an error stream.
 ghost use Rattle.std.specs.Prelude.{map, string_bytes};
 ghost use Rattle.ccp_run.specs.Streams.{over};
 ghost use Rattle.ccp_run.specs.Tool.{DoesWords};

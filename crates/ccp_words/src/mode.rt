@@ -1,3 +1,4 @@
+//! The modes that the command line can ask for, and their names.
 ghost use Rattle.std.specs.Prelude.{◌≡◌, map, option_map};
 ghost use Rattle.ccp_words.specs.Modes.{mode_named, mode_names};
 

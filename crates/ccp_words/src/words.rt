@@ -1,3 +1,4 @@
+//! How the command line's words are read: the mode, and each option with its range and default.
 ghost use Rattle.std.specs.Prelude.{◌≡◌, ◌≢◌, true, false, Some, IfOk, OnOk, IfErr, IfSome, option_map, map, string_bytes};
 ghost use Rattle.clap.specs.Words.{rule_of, found_of, one_text};
 ghost use Rattle.ccp_words.specs.Matches.{HasOptions, ReadsNumber, SaysMode, is_flag_text};

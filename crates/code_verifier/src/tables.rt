@@ -1,3 +1,4 @@
+//! Which temporaries and locals have a value so far in an event, as its instructions write them.
 ghost use Rattle.std.specs.Prelude.{◌≡◌, IsTrue, slice_set, true};
 ghost use Rattle.reg_code.specs.AcceptedCode.{no_marks, marked, writes, with_target, is_there};
 ghost use Rattle.code_verifier.specs.Marked.{has_mark, marks_of};

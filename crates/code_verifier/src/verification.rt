@@ -1,3 +1,4 @@
+//! The verifier's call: it accepts a code, or gives the first rule that it fails and the instruction.
 ghost use Rattle.std.specs.Prelude.{◌≡◌, ◌+◌, ◌<◌, ◌≤◌, ◌^◌, ◌↔◌, Some, None, IsOk, IfOk, IfErr, IfNone, length, take, drop};
 ghost use Rattle.std.specs.Option.{option_or};
 ghost use Rattle.ccp_base.specs.Limits.{most_blocks, most_instrs};

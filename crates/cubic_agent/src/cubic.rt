@@ -1,3 +1,4 @@
+//! The state of a CUBIC agent, and its replies to reports and fault notices (RFC 9438, section 4).
 ghost use Rattle.std.specs.Prelude.{◌≡◌, ◌≤◌};
 ghost use Rattle.ccp_base.specs.Limits.{most_segment_bytes};
 

@@ -1,3 +1,4 @@
+//! CUBIC's curve: the window W_cubic over time, and K, the time to its middle (RFC 9438, section 4.2).
 ghost use Rattle.std.specs.Prelude.{◌≡◌};
 ghost use Rattle.cubic_agent.specs.Curve.{distance_to, rise_of, w_cubic, k_of};
 

@@ -1,3 +1,4 @@
+//! CUBIC's windows in thousandths of a segment: their bounds, and what a loss event leaves (RFC 9438).
 ghost use Rattle.std.specs.Prelude.{◌≡◌};
 ghost use Rattle.cubic_agent.specs.Window.{bytes_of, clamped_window, decreased, converged};
 

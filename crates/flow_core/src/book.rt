@@ -1,3 +1,4 @@
+//! The book of a flow: its word, tickets, epochs, faults and counts, alone or with its acknowledgements.
 use crate::case::Case;
 use crate::letter::Words;
 use ccp_base::{Acks, Notice, Reply, Sequence, Told};

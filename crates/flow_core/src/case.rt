@@ -1,3 +1,4 @@
+//! The case of a flow: its programs, agent and link, and its limits, with copies and equality.
 ghost use Rattle.std.specs.Prelude.{◌≡◌, ◌≤◌, ◌↔◌, IsTrue, IfOk, length};
 ghost use Rattle.ccp_base.specs.Limits.{most_acks, most_slots, most_lag};
 ghost use Rattle.agent_core.specs.Agents.{course_of};

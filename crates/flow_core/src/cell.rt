@@ -1,3 +1,4 @@
+//! A flow with its link: each call makes one letter of its word, and its end gives the book.
 ghost use Rattle.std.specs.Prelude.{◌≡◌, ◌+◌, ◌-◌, ◌≤◌, ◌↔◌, ◌∷◌, [], ◌++◌, ℕ, true, Some, Err, slice_get, length};
 ghost use Rattle.std.specs.Prelude.{IsOk, IsErr, IfOk, IfErr, OnOk, OnErr};
 ghost use Rattle.link_model.specs.Standing.{Stands};

@@ -1,3 +1,4 @@
+//! A flow without its link: its caller gives it each acknowledgement, and its end gives the book.
 ghost use Rattle.std.specs.Prelude.{◌≡◌, ◌+◌, ◌-◌, ◌≤◌, ◌↔◌, ◌∷◌, [], ◌++◌, ℕ, true, Some, option_map, slice_get};
 ghost use Rattle.std.specs.Prelude.{length, Err, IsOk, IsErr, IfOk, IfErr, OnOk, OnErr};
 ghost use Rattle.flow_core.specs.World.{track_of, after_take, after_answer};

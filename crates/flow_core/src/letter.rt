@@ -1,3 +1,4 @@
+//! The letters of a flow's history: an acknowledgement, a taking, or an answer that is applied.
 use ccp_base::Sequence;
 
 /// One step of a flow's history.

@@ -1,3 +1,4 @@
+//! The outbox of a flow: reports that wait in slots of a pool, and at most one fault notice.
 ghost use Rattle.std.specs.Prelude.{◌≡◌, ◌+◌, ◌<◌, ◌≤◌, ◌↔◌, nat_lt, List, [], ◌∷◌, ◌++◌, length, drop, None, Some};
 ghost use Rattle.std.specs.Prelude.{IsNone, IsTrue, IfOk};
 ghost use Rattle.ccp_base.specs.Limits.{most_slots};

@@ -1,3 +1,4 @@
+//! Lists whose room is kept ahead, so that a later push takes no memory.
 ghost use Rattle.std.specs.Prelude.{◌≡◌, ◌+◌, ◌-◌, ◌<◌, ◌≤◌, [], ◌∷◌, ◌++◌, length, slice_get, option_copied, IfOk};
 ghost use Rattle.std.specs.Prelude.{OnOk, OnErr};
 

@@ -1,3 +1,4 @@
+//! The table of a run's flows: a flow for each case behind its lock, and the flows back at the end.
 ghost use Rattle.std.specs.Prelude.{◌≡◌, ◌<◌, ◌≤◌, length, map, slice_get, Some, IfOk};
 ghost use Rattle.ccp_base.specs.Limits.{most_flows};
 

@@ -1,3 +1,4 @@
+//! What the machine answers to an acknowledgement, and to a value for a control variable that isn't there.
 use ccp_base::FaultKind;
 
 /// What an acknowledgement came to.

@@ -1,3 +1,4 @@
+//! What the machine keeps between acknowledgements: start values, resets, written values and the report.
 ghost use Rattle.std.specs.Prelude.{◌≡◌, ◌+◌, ◌≤◌, length, slice_index};
 ghost use Rattle.ccp_base.specs.Limits.{most_fields};
 ghost use Rattle.reg_code.specs.AcceptedCode.{sizes_of};

@@ -1,3 +1,4 @@
+//! A law: the numbers of a machine's rest determine what contracts see of it, besides its further slots.
 ghost use Rattle.std.specs.Prelude.{◌≡◌};
 ghost use Rattle.fold_machine.specs.MachineState.{MachineState, rest_of};
 

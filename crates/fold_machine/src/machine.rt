@@ -1,3 +1,4 @@
+//! The machine: it runs accepted code on each acknowledgement, and hands out its further slots.
 ghost use Rattle.std.specs.Prelude.{◌≡◌, ◌+◌, ◌≤◌, ◌↔◌, Some, None, IsTrue, IsOk, true, IfOk, IfErr, OnOk, OnErr, length};
 ghost use Rattle.reg_code.specs.AcceptedCode.{sizes_of};
 ghost use Rattle.ccp_base.specs.FieldReg.{first_bad};

@@ -1,3 +1,4 @@
+//! The count of executed instructions, which takes no bytes at run time and grows one by one.
 ghost use Rattle.std.specs.Prelude.{◌≡◌, ◌+◌, ◌<◌};
 
 use std::marker::Model;

@@ -1,3 +1,4 @@
+//! The machine's memory: one pool with the registers, the last report and further slots for its caller.
 ghost use Rattle.std.specs.Prelude.{◌≡◌, ℕ, ◌+◌, ◌<◌, ◌≤◌, ◌≢◌, ◌↔◌, [], length, None, Some, IsErr, IfOk, OnOk, OnErr, replicate, slice_set};
 ghost use Rattle.slot_pool.specs.Pool.{PoolState, words_at, IsOut, free_of, unused, ChangesSlot, TakesZeros, WritesWord, with_run};
 ghost use Rattle.fold_machine.specs.Store.{slot_words};

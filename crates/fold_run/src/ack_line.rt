@@ -1,3 +1,4 @@
+//! How one line below the separator is read: it is blank, gives an acknowledgement, or is refused.
 ghost use Rattle.std.specs.Prelude.{◌≡◌, ◌≤◌, ◌<◌, ◌∷◌, if◌then◌else◌, IfSome, IfNone, Some, None, length};
 ghost use Rattle.std.specs.List.{list_all};
 ghost use Rattle.ccp_base.specs.declared.parts.Separator.TheVariants.{Blank};

@@ -1,3 +1,4 @@
+//! How the lines below the separator are read: at most 65,536 acknowledgements, or the first refused line.
 ghost use Rattle.std.specs.Prelude.{◌≡◌, ◌≢◌, ◌+◌, ◌^◌, ◌<◌, ◌≤◌, IfOk, IfErr, OnOk, Ok, Err, length};
 ghost use Rattle.ccp_base.specs.Limits.{most_acks};
 ghost use Rattle.ccp_base.specs.declared.parts.Separator.TheVariants.{LineFeed};

@@ -1,3 +1,4 @@
+//! How a fold ends: its counts, the unreported span, and the program's registers.
 use ccp_base::Values;
 
 /// How a fold ended.

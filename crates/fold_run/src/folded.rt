@@ -1,3 +1,4 @@
+//! The result of a program's fold: its reports, its fault, its end, and the instructions that ran.
 use crate::end::End;
 use ccp_base::{Notice, Reports};
 

@@ -1,3 +1,4 @@
+//! A fold under way: it runs one acknowledgement after another and keeps what the program reports.
 ghost use Rattle.std.specs.Prelude.{◌≡◌, ◌<◌, ◌+◌, ◌++◌, IfOk, OnOk, None, [], false, ◌^◌};
 ghost use Rattle.ccp_base.specs.Limits.{most_acks};
 ghost use Rattle.portus_core.specs.ProgramForm.{form_of};

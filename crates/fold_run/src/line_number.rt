@@ -1,3 +1,4 @@
+//! The number at the front of a text, up to a blank or the end, if it is below 2^64.
 ghost use Rattle.std.specs.Prelude.{◌≡◌, ◌<◌, IfSome, IfNone, Some, None, true, ◌^◌};
 ghost use Rattle.ccp_base.specs.declared.parts.Separator.TheVariants.{Blank};
 ghost use Rattle.ccp_base.specs.Numerals.{digit_after, value_after, numeral_of, is_digit};

@@ -1,3 +1,4 @@
+//! The values that a line gives its primitives, each at most once and within its range.
 ghost use Rattle.std.specs.Prelude.{◌≡◌, ◌<◌, Some, None, length};
 ghost use Rattle.std.specs.Option.{ForSome};
 ghost use Rattle.ccp_base.specs.Limits.{primitive_count};

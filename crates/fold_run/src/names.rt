@@ -1,3 +1,4 @@
+//! The look-up of a primitive by its name, tried first with the name that followed the last time.
 ghost use Rattle.std.specs.Prelude.{◌≡◌, ◌≤◌, ◌<◌, Some};
 ghost use Rattle.std.specs.Bool.{OnTrue};
 ghost use Rattle.std.specs.Option.{ForSome};

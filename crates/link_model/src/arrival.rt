@@ -1,3 +1,4 @@
+//! A packet in flight that isn't lost, with the time at which its acknowledgement arrives.
 /// A packet in flight that isn't lost.
 #[derive(Clone, Copy)]
 pub struct Arrival {

@@ -1,3 +1,4 @@
+//! A trace's chances to send a packet: when each comes, and which is the first at or after a time.
 ghost use Rattle.std.specs.Prelude.{IsTrue, ◌≡◌, ◌+◌, ◌-◌, ◌*◌, ◌%◌, ◌^◌, ◌<◌, ◌≤◌, ℕ, length, slice_index};
 ghost use Rattle.link_model.specs.Traces.{IsTrace, period, search_reach};
 ghost use Rattle.link_model.specs.Chances.{number_of, IsFirstChance, chance_time, first_chance};

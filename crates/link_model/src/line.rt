@@ -1,3 +1,4 @@
+//! The packets that wait for their chances on a link, as time passes and more packets get chances.
 ghost use Rattle.std.specs.Prelude.{◌≡◌, ◌+◌, ◌^◌, ◌<◌, ◌≤◌};
 ghost use Rattle.ccp_base.specs.Limits.{most_flight};
 ghost use Rattle.link_model.specs.Traces.{IsTrace, search_reach};

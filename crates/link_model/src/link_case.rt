@@ -1,3 +1,4 @@
+//! The case of a link: its trace, queue, delays, losses and mark, with copies and equality.
 ghost use Rattle.std.specs.Prelude.{◌≡◌, ◌≤◌, ◌↔◌, IfOk, IsTrue};
 ghost use Rattle.std.specs.Option.{ForSome};
 ghost use Rattle.ccp_base.specs.Limits.{most_segment_bytes, most_queue, most_mark, most_delay_us, most_timeout_us};

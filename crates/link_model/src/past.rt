@@ -1,3 +1,4 @@
+//! What a link's later acknowledgements take from earlier ones: the last round-trip sample.
 ghost use Rattle.std.specs.Prelude.{◌≡◌};
 ghost use Rattle.link_model.specs.Link.{no_past, past_in};
 

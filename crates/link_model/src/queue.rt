@@ -1,3 +1,4 @@
+//! The queue of a link at one time: its next free chance, and how many packets wait.
 ghost use Rattle.std.specs.Prelude.{◌≡◌, ◌+◌, ◌-◌, ◌^◌, ◌<◌, max, length};
 ghost use Rattle.link_model.specs.Chances.{number_of, chance_time, first_chance};
 

@@ -1,3 +1,4 @@
+//! The rules of a link: windows in packets, marks, losses and acknowledgements, and the law of its packets.
 ghost use Rattle.std.specs.Prelude.{◌≡◌, ℕ, ◌<◌, ◌≤◌, List, length, slice_index};
 ghost use Rattle.std.specs.List.Sorted.{IsStrictlyIncreasing};
 ghost use Rattle.ccp_base.specs.Limits.{most_flight, most_segment_bytes};

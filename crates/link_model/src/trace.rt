@@ -1,3 +1,4 @@
+//! The trace of a link: the times at which it can send a packet, read from a text.
 ghost use Rattle.std.specs.Prelude.{◌≡◌, ◌≢◌, ◌^◌, ◌<◌, Ok, Err, IfOk, IfErr, length};
 
 use crate::trace_text::read_lines;

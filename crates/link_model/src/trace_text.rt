@@ -1,3 +1,4 @@
+//! How the lines of a trace's text are read, up to the first bad one.
 ghost use Rattle.std.specs.Prelude.{◌≡◌, ℕ, ◌+◌, ◌^◌, ◌<◌, ◌≤◌, None, IfOk, IfErr, OnOk, ◌≢◌, [], ◌++◌, true, false, length};
 ghost use Rattle.link_model.specs.TraceText.{without_first_blanks, without_last_blanks, word_line, line_of, is_bad, with_time, time_after, times_of, first_bad, first_fall, fall_after, lines_of, IsAtFirstBad};
 ghost use Rattle.link_model.specs.declared.trace.TraceFault.TheVariants as fault;

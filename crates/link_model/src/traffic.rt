@@ -1,3 +1,4 @@
+//! What is under way on a link: packets sent, lost, in flight, acknowledged or timed out.
 ghost use Rattle.std.specs.Prelude.{◌≡◌, ℕ, ◌+◌, ◌-◌, ◌*◌, ◌<◌, ◌≤◌, [], ◌∷◌, ◌++◌, length, IfOk};
 ghost use Rattle.ccp_base.specs.Limits.{most_flight, most_acks};
 ghost use Rattle.link_model.specs.Counts.{most_packets};

@@ -1,3 +1,4 @@
+//! The book of a rollout's flow: its word, entries, epochs, reports, faults and counts.
 use crate::entry::Entries;
 use crate::letter::OpenWord;
 use ccp_base::{Notice, Reports, Sequence};

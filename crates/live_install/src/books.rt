@@ -1,3 +1,4 @@
+//! The books of a rollout's flows, made once the work of each of their workers is done.
 ghost use Rattle.std.specs.Prelude.{◌≡◌, map, IfOk, length};
 ghost use Rattle.std.specs.List.{All};
 ghost use Rattle.scenario_json.specs.ScenePrograms.{TextReading, ReadsTexts};

@@ -1,3 +1,4 @@
+//! A flow of a rollout: acknowledgements, installed entries and changes, each a letter of its word.
 ghost use Rattle.std.specs.Prelude.{◌≡◌, ◌+◌, ◌≤◌, ◌↔◌, ◌∷◌, [], ◌++◌, true, Some, None, slice_get, length, map};
 ghost use Rattle.std.specs.Prelude.{IsTrue, IsOk, IsErr, IfOk, IfErr, OnOk, OnErr};
 ghost use Rattle.scenario_json.specs.ScenePrograms.{TextReading, ReadsTexts};

@@ -1,3 +1,4 @@
+//! What shows that the work of each worker of a rollout was done.
 use worker_desk::{Equipped, Served};
 
 /// What shows that each worker's work was done.

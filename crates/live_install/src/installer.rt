@@ -1,3 +1,4 @@
+//! The work of an installer in a rollout, over the steps of its share of the flows.
 ghost use Rattle.std.specs.Prelude.{◌≡◌, ◌<◌, length};
 ghost use Rattle.ccp_base.specs.Limits.{most_workers};
 ghost use Rattle.live_install.specs.Crews.{install_duty};

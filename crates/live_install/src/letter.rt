@@ -1,3 +1,4 @@
+//! The letters of a rollout's history: an acknowledgement, an installed entry, or a change.
 use ccp_base::Sequence;
 
 /// One step of the history of a flow of a rollout.

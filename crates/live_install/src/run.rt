@@ -1,3 +1,4 @@
+//! The call of a rollout: datapath workers and installers run the flow of each case, and each has its book.
 ghost use Rattle.std.specs.Prelude.{◌≡◌, ◌≤◌, IfOk, length, map};
 ghost use Rattle.std.specs.List.{All};
 ghost use Rattle.ccp_base.specs.Limits.{most_flows, most_workers};

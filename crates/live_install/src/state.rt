@@ -1,3 +1,4 @@
+//! The state of a rollout's flow: its link, its machine, its library and its history so far.
 use crate::account::Account;
 use crate::entry::Entry;
 use crate::letter::OpenLetter;

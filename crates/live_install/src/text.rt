@@ -1,3 +1,4 @@
+//! The text of a rollout: for each flow its entries, changes, faults, reports and end.
 ghost use Rattle.std.specs.Prelude.{◌≡◌, ◌≤◌, ◌++◌, IfOk, OnOk, [], map};
 ghost use Rattle.std.specs.List.{All};
 ghost use Rattle.scenario_json.specs.ScenePrograms.{TextReading, ReadsTexts};

@@ -1,3 +1,4 @@
+//! The next letter of an incomplete word of a rollout: a change, else the next entry, else an acknowledgement.
 ghost use Rattle.std.specs.Prelude.{◌≡◌, ◌<◌, Ok, Some, true, false, length, slice_get, IfOk, OnOk};
 ghost use Rattle.scenario_json.specs.ScenePrograms.{TextReading, ReadsTexts};
 ghost use Rattle.live_install.specs.declared.letter.OpenLetter.TheVariants as letters;

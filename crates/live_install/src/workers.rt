@@ -1,3 +1,4 @@
+//! The threads of a rollout: datapath workers and installers on a table of flows, until their work is done.
 ghost use Rattle.std.specs.Prelude.{IfOk, length};
 ghost use Rattle.live_install.specs.Crews.{HasWorked};
 

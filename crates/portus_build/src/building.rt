@@ -1,3 +1,4 @@
+//! The build of a program's text: read, scoped and compiled, or the text's first refusal.
 ghost use Rattle.std.specs.Prelude.{◌≡◌, ◌≢◌, ◌≤◌, IfOk, IfErr, MatchResult, length};
 ghost use Rattle.portus_core.specs.Programs.{Form};
 ghost use Rattle.portus_core.specs.ProgramForm.{form_of};

@@ -1,3 +1,4 @@
+//! The texts of the built-in programs: Reno's two, and CUBIC's congestion avoidance.
 ghost use Rattle.std.specs.Prelude.{◌≡◌, ◌<◌};
 ghost use Rattle.portus_build.specs.Builtins.{builtin_text};
 

@@ -1,3 +1,4 @@
+//! Why a text isn't built: the refusal of the first step that refuses it.
 ghost use Rattle.std.specs.Prelude.{◌≡◌};
 ghost use Rattle.portus_build.specs.StepFaults.{parse_fault, scope_fault, compile_fault};
 

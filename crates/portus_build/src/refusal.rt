@@ -1,3 +1,4 @@
+//! The texts of refusals: the name of each, with its place or its number.
 ghost use Rattle.std.specs.Prelude.{◌≡◌, ◌++◌, Some, OnOk};
 ghost use Rattle.portus_build.specs.RefusalText.{parse_name, parse_place, too_many_name, scope_name, scope_place};
 ghost use Rattle.portus_build.specs.RefusalText.{place_text, compile_text, refusal_text};

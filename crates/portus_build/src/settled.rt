@@ -1,3 +1,4 @@
+//! A law: each text stands for one program that is compiled, or has one first refusal, and not both.
 ghost use Rattle.portus_build.specs.Settled.{AreSettled};
 
 /// The law of building: each text stands for one program that is compiled, or has one first refusal, which is that

@@ -1,3 +1,4 @@
+//! The evaluation of blocks in order, up to the first whose body runs and doesn't fall through.
 ghost use Rattle.std.specs.Prelude.{IsTrue, map};
 ghost use Rattle.portus_core.specs.Programs.{action_of, part_of};
 ghost use Rattle.portus_core.specs.Runnable.{is_runnable_body, are_runnable};

@@ -1,3 +1,4 @@
+//! The evaluation of one command of a block's body.
 ghost use Rattle.std.specs.Prelude.{IsTrue};
 ghost use Rattle.portus_core.specs.Programs.{action_of};
 ghost use Rattle.portus_core.specs.Runnable.{is_runnable};

@@ -1,3 +1,4 @@
+//! What a program keeps between acknowledgements, the result of one, and why a program isn't started.
 ghost use Rattle.std.specs.Prelude.{◌≡◌, IfOk};
 
 use ccp_base::{FaultKind, NoMemory, Numbers, Place, Values};

@@ -1,3 +1,4 @@
+//! The meaning of an acknowledgement for a program: its blocks run, and a report is made or held if asked for.
 ghost use Rattle.std.specs.Prelude.{◌≡◌, ◌<◌, ◌≤◌, IfOk, Ok, length, slice_set, if◌then◌else◌};
 ghost use Rattle.portus_core.specs.ProgramForm.{form_of};
 ghost use Rattle.portus_core.specs.OneAcknowledgement.{IsEnvOf, reset, answered, one_of};

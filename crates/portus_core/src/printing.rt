@@ -1,3 +1,4 @@
+//! The printed text of a source's forms, with one space between parts and a line for each form.
 ghost use Rattle.std.specs.Prelude.{◌≡◌, ◌++◌, IfOk, OnOk};
 ghost use Rattle.std.specs.Fmt.{decimal};
 ghost use Rattle.portus_core.specs.Trees.{node_of, nodes_of};

@@ -1,3 +1,4 @@
+//! Programs as trees: variables, expressions, commands, declarations and blocks.
 ghost use Rattle.std.specs.Prelude.{IsTrue};
 ghost use Rattle.portus_core.specs.Programs.{form_over};
 ghost use Rattle.portus_core.specs.ValidPrograms.{is_declared, is_valid};

@@ -1,3 +1,4 @@
+//! What the commands of one acknowledgement share: the env, the locals, the asked report and the fall-through.
 ghost use Rattle.std.specs.Prelude.{◌≡◌, IsTrue, slice_set};
 ghost use Rattle.portus_core.specs.Programs.{term_of};
 ghost use Rattle.portus_core.specs.Value.{read_of};

@@ -1,3 +1,4 @@
+//! The start of a program's epoch: declared values first, then the values of the change in order.
 ghost use Rattle.std.specs.Prelude.{◌≡◌, ◌↔◌, ℕ, ◌<◌, IfOk, IfSome, Some, Err, length, map};
 ghost use Rattle.portus_core.specs.declared.program.Decl.{Decl};
 ghost use Rattle.portus_core.specs.ProgramForm.{form_of};

@@ -1,3 +1,4 @@
+//! Trees of a program's text, each with its place, and how a list is taken apart by the number of its parts.
 ghost use Rattle.portus_core.specs.Trees.{nodes_of, SplitsInto};
 
 use ccp_base::{Name, Place};

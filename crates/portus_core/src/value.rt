@@ -1,3 +1,4 @@
+//! The value of an expression or a name, or the fault of an operation with its place.
 ghost use Rattle.std.specs.Prelude.{◌≡◌, slice_index, unwrap_or};
 ghost use Rattle.ccp_base.specs.Acknowledgement.{prim};
 ghost use Rattle.portus_core.specs.Programs.{term_of};

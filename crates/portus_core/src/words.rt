@@ -1,3 +1,4 @@
+//! Which words are shaped as names.
 ghost use Rattle.std.specs.Prelude.{◌≡◌};
 ghost use Rattle.std.specs.List.{list_all};
 ghost use Rattle.portus_core.specs.Words.{is_first, is_later, is_name_shaped};

@@ -1,3 +1,4 @@
+//! The call of the lexer: a text's tokens in order, or the first byte that isn't allowed.
 ghost use Rattle.std.specs.Prelude.{◌≡◌, ◌≤◌, List, length, IfOk, IfErr, OnOk};
 ghost use Rattle.ccp_base.specs.Limits.{most_text_bytes};
 ghost use Rattle.portus_lexer.specs.declared.token.Token.{Token};

@@ -1,3 +1,4 @@
+//! The scan of a text byte by byte: what each byte lies in, and which tokens end with it.
 ghost use Rattle.std.specs.Prelude.{◌≡◌, ◌+◌, ◌<◌, ◌≤◌, ◌++◌, ◌||◌, ◌==◌, [], IfOk, IfErr, OnOk, false, if◌then◌else◌};
 ghost use Rattle.ccp_base.specs.Limits.{most_text_bytes};
 ghost use Rattle.portus_lexer.specs.declared.within.Within.TheVariants.{Gap};

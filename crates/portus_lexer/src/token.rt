@@ -1,3 +1,4 @@
+//! Tokens with their places and spans, and why a text has none.
 ghost use Rattle.std.specs.Prelude.{◌≡◌};
 ghost use Rattle.portus_lexer.specs.declared.token.LexFault.TheVariants.{NoMemory};
 

@@ -1,3 +1,4 @@
+//! What the next byte of a text can lie in: a gap, a comment or an atom.
 use ccp_base::Place;
 
 /// What the next byte of a text lies in.

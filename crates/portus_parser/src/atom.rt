@@ -1,3 +1,4 @@
+//! How an atom becomes a numeral or a word of a form, or is refused.
 ghost use Rattle.std.specs.Prelude.{◌≡◌, ◌&&◌, IsTrue, IfOk, IfErr, Ok, Err, Some, None, if◌then◌else◌};
 ghost use Rattle.std.specs.Str.{bytes_eq};
 ghost use Rattle.portus_core.specs.Trees.{node_of};

@@ -1,3 +1,4 @@
+//! Why a program's text can't be read: the refusals of the lexer and of the parser.
 ghost use Rattle.std.specs.Prelude.{◌≡◌};
 ghost use Rattle.portus_parser.specs.LexFaults.{lex_fault};
 ghost use Rattle.portus_parser.specs.declared.fault.ParseFault.TheVariants.{NoMemory};

@@ -1,3 +1,4 @@
+//! A list that isn't closed yet, with the parts that wait before it.
 use ccp_base::Place;
 use portus_core::Tree;
 

@@ -1,3 +1,4 @@
+//! A law: a printed source of at most 65,536 bytes is read back as the same source, but for places.
 ghost use Rattle.portus_parser.specs.PrintedBack.{PrintsBack};
 
 /// The law of printing a source: for each text that can be read, what `print_tree` writes of its source, where it

@@ -1,3 +1,4 @@
+//! The call of the parser: the forms that a text spells, or the text's first refusal.
 ghost use Rattle.std.specs.Prelude.{◌≡◌, ◌≢◌, IfOk, IfErr, Ok, map};
 ghost use Rattle.std.specs.List.{All};
 ghost use Rattle.portus_core.specs.Trees.{Nodes, node_of, nodes_of};

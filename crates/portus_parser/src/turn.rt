@@ -1,3 +1,4 @@
+//! How one token moves the parser: it opens a list, closes one, or adds an atom.
 ghost use Rattle.std.specs.Prelude.{◌≡◌, IfOk, IfErr, Ok, [], length};
 ghost use Rattle.portus_core.specs.Trees.{node_of};
 ghost use Rattle.portus_parser.specs.Refusals.{is_opening, is_closing};

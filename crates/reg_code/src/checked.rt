@@ -1,3 +1,4 @@
+//! Code that each rule of acceptance accepts, for the machine to run.
 ghost use Rattle.std.specs.Prelude.{◌≡◌, IfOk};
 ghost use Rattle.reg_code.specs.AcceptedCode.{IsAccepted};
 ghost use Rattle.reg_code.specs.Sound.{IsSound, RunsWithin};

@@ -1,3 +1,4 @@
+//! The limits of register code, and the law that they are those of the rules.
 ghost use Rattle.std.specs.Prelude.{◌≡◌, ◌+◌};
 ghost use Rattle.ccp_base.specs.Limits.{most_controls, most_blocks, most_instrs, most_locals, most_temps, most_tenths};
 ghost use Rattle.reg_code.specs.Places.{all_places, immediates_at};

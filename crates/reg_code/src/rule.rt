@@ -1,3 +1,4 @@
+//! The rules of acceptance, and the parts of an event and sizes of a code that they speak of.
 /// A part of an event.
 #[derive(Clone, Copy)]
 pub enum Part {

@@ -1,3 +1,4 @@
+//! The listing of a code: a line for each report field, control variable, event and instruction.
 ghost use Rattle.std.specs.Prelude.{◌≡◌, ◌++◌, OnOk, IfOk, ◌^◌, ◌<◌, decimal};
 ghost use Rattle.reg_code.specs.ListingText.{op_text, implicit_text, numbered, reg_text, keeping_text, start_line};
 ghost use Rattle.reg_code.specs.ListingText.{start_lines, span_text, event_head, event_line, event_lines, operand_text};

@@ -1,3 +1,4 @@
+//! How blocks are compiled: each becomes an event with the lines of its condition and body.
 ghost use Rattle.std.specs.Prelude.{◌≡◌, ◌+◌, ◌++◌, ◌≤◌, IsTrue, IfOk, OnOk, length, map};
 ghost use Rattle.portus_core.specs.Programs.{term_of, action_of, part_of};
 ghost use Rattle.ccp_base.specs.Limits.{most_temps, most_instrs};

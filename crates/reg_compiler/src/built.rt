@@ -1,3 +1,4 @@
+//! A program with the code that simulates it and the source places of its instructions.
 ghost use Rattle.std.specs.Prelude.{◌≡◌, None};
 ghost use Rattle.portus_core.specs.ProgramForm.{form_of};
 ghost use Rattle.reg_compiler.specs.Refusal.{refusal_of};

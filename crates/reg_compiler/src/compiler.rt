@@ -1,3 +1,4 @@
+//! The call of the compiler: a program becomes code that simulates it, or is refused.
 ghost use Rattle.std.specs.Prelude.{◌≡◌, ◌≢◌, ◌≤◌, IfOk, IfErr, Some, None, length};
 ghost use Rattle.portus_core.specs.ProgramForm.{form_of};
 ghost use Rattle.reg_compiler.specs.declared.fault.CompileFault.TheVariants.{NoMemory};

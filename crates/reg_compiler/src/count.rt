@@ -1,3 +1,4 @@
+//! How many instructions a program counts, by its operations, commands, conditions and assignments.
 ghost use Rattle.std.specs.Prelude.{◌≡◌, ◌+◌, map};
 ghost use Rattle.portus_core.specs.Programs.{term_of, action_of, part_of};
 ghost use Rattle.portus_core.specs.ProgramForm.{form_of};

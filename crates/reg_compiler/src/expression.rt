@@ -1,3 +1,4 @@
+//! How expressions are compiled: operands in registers or temporaries, and the lines that fill them.
 ghost use Rattle.std.specs.Prelude.{◌≡◌, ◌+◌, ◌++◌, ◌∷◌, [], ◌≤◌, max, IsTrue, IfOk, OnOk};
 ghost use Rattle.ccp_base.specs.Limits.{most_temps};
 ghost use Rattle.portus_core.specs.Programs.{term_of};

@@ -1,3 +1,4 @@
+//! Why a program isn't compiled: it is too deep or too long, or memory runs out.
 use ccp_base::Place;
 use std::alloc::AllocError;
 

@@ -1,3 +1,4 @@
+//! A law: the compiler works out exactly the expressions without names that don't fault.
 ghost use Rattle.reg_compiler.specs.Known.{KnownExactly};
 
 /// The expressions that are worked out while a program is compiled are exactly those without a name whose value is no

@@ -1,3 +1,4 @@
+//! An instruction on its way into code, with the place in the source of its fault.
 ghost use Rattle.std.specs.Prelude.{◌≡◌};
 ghost use Rattle.reg_compiler.specs.CompiledCode.{no_place, line_of, bind_line};
 

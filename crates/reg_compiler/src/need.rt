@@ -1,3 +1,4 @@
+//! How many temporaries expressions need, and the first expression that needs too many.
 ghost use Rattle.std.specs.Prelude.{◌≡◌, ◌+◌, max, min, map};
 ghost use Rattle.std.specs.Option.{option_or};
 ghost use Rattle.ccp_base.specs.Limits.{most_temps};

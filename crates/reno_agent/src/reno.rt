@@ -1,3 +1,4 @@
+//! The state of a Reno agent, and its replies to reports and fault notices (RFC 5681, section 3).
 ghost use Rattle.std.specs.Prelude.{◌≡◌, ◌≤◌};
 ghost use Rattle.ccp_base.specs.Limits.{most_segment_bytes};
 

@@ -1,3 +1,4 @@
+//! How an Update or a Change is read at the front of bytes, or why the bytes don't begin with one.
 ghost use Rattle.std.specs.Prelude.{◌≡◌, ℕ, ◌-◌, List, length, Option, OnErr, IfOk, IfErr, Ok, Err};
 ghost use Rattle.reply_frames.specs.declared.fault.BadKind.{BadKind};
 ghost use Rattle.ccp_base.specs.FieldReg.{Pair};

@@ -1,3 +1,4 @@
+//! Why bytes give no frame: the bad field, where reading stopped, and how many bytes a frame needs.
 /// The field of a frame in which a byte is bad.
 #[derive(Clone, Copy, PartialEq, Eq)]
 pub enum BadKind {

@@ -1,3 +1,4 @@
+//! The laws of frames: their limits, their lengths, and that none is a proper prefix of another.
 ghost use Rattle.std.specs.Prelude.{◌≡◌};
 ghost use Rattle.ccp_base.specs.Limits.{most_operation};
 ghost use Rattle.reply_frames.specs.Laws.{PrefixFree, Needed, Longest};

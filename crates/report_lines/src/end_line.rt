@@ -1,3 +1,4 @@
+//! The last line of a flow: its counts, the unreported span, and its window and fields as they stand.
 ghost use Rattle.std.specs.Prelude.{◌≡◌, ◌++◌, OnOk};
 ghost use Rattle.report_lines.specs.EndLine.{end_head, end_line, end_tail, is_faulted, span_text, yes_or_no};
 

@@ -1,3 +1,4 @@
+//! The line of a fault: its epoch, its acknowledgement, its kind and its place in the source.
 ghost use Rattle.std.specs.Prelude.{◌≡◌, ◌++◌, OnOk};
 ghost use Rattle.report_lines.specs.FaultLine.{fault_head, notice_line, kind_text, place_tail};
 

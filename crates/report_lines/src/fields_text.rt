@@ -1,3 +1,4 @@
+//! The window, the rate and the named fields of a program, as lines show them.
 ghost use Rattle.std.specs.Prelude.{◌≡◌, ◌++◌, OnOk};
 ghost use Rattle.report_lines.specs.FieldsText.{field_text, fields_text, window_text};
 

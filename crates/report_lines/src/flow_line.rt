@@ -1,3 +1,4 @@
+//! The beginning of a flow's first line: its number and the name of its case.
 ghost use Rattle.std.specs.Prelude.{◌≡◌, ◌++◌, OnOk};
 ghost use Rattle.report_lines.specs.FlowLine.{flow_head};
 

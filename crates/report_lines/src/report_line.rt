@@ -1,3 +1,4 @@
+//! The lines of reports: program, epoch and span, then the window, the rate and the fields.
 ghost use Rattle.std.specs.Prelude.{◌≡◌, ◌++◌, OnOk};
 ghost use Rattle.report_lines.specs.ReportLine.{report_head, report_tail, report_line, report_lines};
 

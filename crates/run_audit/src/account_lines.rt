@@ -1,3 +1,4 @@
+//! What follows each kind of line of an account at the front of a text, if the text begins with it.
 ghost use Rattle.std.specs.Prelude.{IfOk, map};
 ghost use Rattle.flow_core.specs.LiveText.{end_line, epoch_lines, fault_lines, flow_line, ticket_lines};
 ghost use Rattle.source_flow.specs.SourceAccounts.{account_in, failure_of, sources_of};

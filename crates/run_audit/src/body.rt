@@ -1,3 +1,4 @@
+//! What follows an account's lines after the flow's first one, if a text begins with them.
 ghost use Rattle.std.specs.Prelude.{IfOk};
 ghost use Rattle.source_flow.specs.SourceAccounts.{account_in, sources_of};
 ghost use Rattle.run_audit.specs.Fronts.{IsLeftAfter};

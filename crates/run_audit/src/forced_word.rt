@@ -1,3 +1,4 @@
+//! The one word that the letters of a flow's tickets leave possible, if there is one.
 ghost use Rattle.std.specs.Prelude.{◌≡◌, IfOk, OnOk};
 ghost use Rattle.run_audit.specs.ForcedWord.{forced_word, with_acks};
 

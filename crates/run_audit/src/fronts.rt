@@ -1,3 +1,4 @@
+//! What follows a given front of a text, if the text begins with it.
 ghost use Rattle.std.specs.Prelude.{◌≡◌};
 ghost use Rattle.run_audit.specs.Fronts.{after, bytes_found};
 

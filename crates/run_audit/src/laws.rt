@@ -1,3 +1,4 @@
+//! A law: a text is the live text of at most one history of each flow.
 ghost use Rattle.scenario_json.specs.ScenePrograms.{forms_of};
 ghost use Rattle.run_audit.specs.Audit.{HaveOneHistory};
 

@@ -1,3 +1,4 @@
+//! The letters of a ticket, each with the number of acknowledgements at which it stands.
 use ccp_base::Sequence;
 use flow_core::Letter;
 

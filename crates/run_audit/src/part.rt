@@ -1,3 +1,4 @@
+//! What a text leaves after a case's part, if it begins with that of a legal and complete word.
 ghost use Rattle.std.specs.Prelude.{◌≡◌, IfOk};
 ghost use Rattle.source_flow.specs.SourceAccounts.{sources_of};
 ghost use Rattle.source_flow.specs.Sourced.{IsSourced};

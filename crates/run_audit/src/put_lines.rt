@@ -1,3 +1,4 @@
+//! The lines of an account by the programs' sources, for comparison with a live text.
 ghost use Rattle.std.specs.Prelude.{◌≡◌, ◌≤◌, ◌++◌, OnOk};
 ghost use Rattle.flow_core.specs.LiveText.{agent_text, answer_text, end_line, fields_at, flow_line, reply_text};
 ghost use Rattle.flow_core.specs.LiveText.{report_count, reports_told};

@@ -1,3 +1,4 @@
+//! How the letters of a flow's tickets are read off the lines of a live text.
 ghost use Rattle.std.specs.Prelude.{◌≡◌, ◌++◌, IfOk, OnOk, Some};
 ghost use Rattle.run_audit.specs.Fronts.{bytes_found};
 ghost use Rattle.run_audit.specs.Marks.{marks_in, number_at, number_by, past, text_marks};

@@ -1,3 +1,4 @@
+//! The verdict of an audit: yes, or how many flows' parts the text begins with.
 /// What is said of a text as the live text of a scenario.
 #[derive(Clone, Copy)]
 pub enum Verdict {

@@ -1,3 +1,4 @@
+//! The public calls: scenarios of live runs, campaigns, rollouts and shared links, and the generated one.
 ghost use Rattle.std.specs.Prelude.{◌≡◌, ◌≢◌, ◌≤◌, IfOk, IfErr, Ok, Err, length, map};
 ghost use Rattle.std.specs.List.{All};
 ghost use Rattle.serde_json.specs.View.{view};

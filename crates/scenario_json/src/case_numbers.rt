@@ -1,3 +1,4 @@
+//! How a case's numbers are read, with the defaults for slots and lag.
 ghost use Rattle.std.specs.Prelude.{◌≡◌, ◌≢◌, ◌≤◌, IfOk, IfErr, Ok, Err};
 ghost use Rattle.serde_json.specs.View.{view};
 ghost use Rattle.scenario_json.specs.Keys.{least_of, most_of};

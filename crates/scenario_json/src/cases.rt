@@ -1,3 +1,4 @@
+//! How a flow's case is put together from its plan and the scenario's programs, with a fresh agent.
 ghost use Rattle.std.specs.Prelude.{◌≡◌, ◌≤◌, ◌<◌, ◌+◌, IfOk, Some, Ok, length, map, slice_get};
 ghost use Rattle.std.specs.Option.{ForSome};
 ghost use Rattle.std.specs.List.{All};

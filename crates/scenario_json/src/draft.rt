@@ -1,3 +1,4 @@
+//! How a scenario's whole text is read into a draft: programs, traces, cases, and their limits.
 ghost use Rattle.std.specs.Prelude.{◌≡◌, ◌≢◌, ◌≤◌, ◌+◌, ◌*◌, ◌^◌, IfOk, IfErr, OnOk, Some, None, Ok, Err, [], length};
 ghost use Rattle.std.specs.List.{All};
 ghost use Rattle.serde_json.specs.View.{view, items_view};

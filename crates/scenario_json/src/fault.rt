@@ -1,3 +1,4 @@
+//! Why a text is no scenario: the first cause, in the order of the text's parts.
 use ccp_base::{Bytes, Name, NoMemory};
 use link_model::TraceFault;
 use portus_build::BuildFault;

@@ -1,3 +1,4 @@
+//! The members of a scenario's objects: their spelling, and the ranges of those that are numbers.
 ghost use Rattle.std.specs.Prelude.{◌≡◌};
 ghost use Rattle.scenario_json.specs.Keys.{word_of, least_of, most_of};
 

@@ -1,3 +1,4 @@
+//! What a scenario is read for, a live run or a campaign, which bounds its number of cases.
 ghost use Rattle.std.specs.Prelude.{◌≡◌};
 ghost use Rattle.scenario_json.specs.Scene.{most_cases_of};
 

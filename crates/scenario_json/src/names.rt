@@ -1,3 +1,4 @@
+//! Which names a scenario may give: 1 to 32 letters, digits, `_`, `-` and `.`.
 ghost use Rattle.std.specs.Prelude.{◌≡◌, ◌≢◌, IfOk, IfErr, Ok, Err};
 ghost use Rattle.std.specs.List.{list_all};
 ghost use Rattle.serde_json.specs.View.{view};

@@ -1,3 +1,4 @@
+//! The case of a rollout's flow: its link, its acknowledgements, its first window and its steps' texts.
 ghost use Rattle.std.specs.Prelude.{◌≡◌, ◌≤◌, ◌↔◌, IsTrue, IfOk, length};
 ghost use Rattle.ccp_base.specs.Limits.{most_acks, most_first_window, most_steps};
 

@@ -1,3 +1,4 @@
+//! The texts of a rollout's programs by name, and the copy that a step takes.
 ghost use Rattle.std.specs.Prelude.{◌≡◌, ◌≢◌, IfOk, IfErr, Ok, Err, [], option_map, bytes_eq};
 ghost use Rattle.serde_json.specs.View.{view, members_view};
 ghost use Rattle.scenario_json.specs.Rollout.{texts_from, texts_in, text_named, step_in};

@@ -1,3 +1,4 @@
+//! What one case of a scenario says: agent, trace, numbers, waits, fates, and its programs by number.
 use ccp_base::{Name, Sequence};
 use link_model::Trace;
 

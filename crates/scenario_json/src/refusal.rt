@@ -1,3 +1,4 @@
+//! The texts of scenarios' refusals: a word with the path, or a name with the refusal of its text.
 ghost use Rattle.std.specs.Prelude.{◌≡◌, ◌++◌, OnOk, decimal};
 ghost use Rattle.scenario_json.specs.RefusalText.{trace_text, refusal_text};
 

@@ -1,3 +1,4 @@
+//! The scenario that is run, and how it is put together from programs and plans.
 ghost use Rattle.std.specs.Prelude.{◌≡◌, ◌≤◌, [], IfOk, OnOk, length, map};
 ghost use Rattle.std.specs.List.{All};
 ghost use Rattle.scenario_json.specs.Plans.{IsPlan};

@@ -1,3 +1,4 @@
+//! The scenario of flows on one link, with the link and the most rounds.
 use crate::scenario::Scenario;
 use shared_link::SharedCase;
 

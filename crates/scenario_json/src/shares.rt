@@ -1,3 +1,4 @@
+//! How the member `shared` is read, and how each case becomes a flow's part of the shared link.
 ghost use Rattle.std.specs.Prelude.{◌≡◌, ◌≢◌, ◌≤◌, IfOk, IfErr, Ok, Err, map};
 ghost use Rattle.serde_json.specs.View.{view};
 ghost use Rattle.ccp_base.specs.Limits.{most_queue, most_quantum_us, most_rounds};

@@ -1,3 +1,4 @@
+//! Where a value stands in a scenario, with the refusal of a value that is missing, wrong or out of range.
 ghost use Rattle.std.specs.Prelude.{◌≡◌, ◌≢◌, ◌++◌, IfOk, OnOk};
 ghost use Rattle.scenario_json.specs.Paths.{path_of, printable, named_path, shown};
 ghost use Rattle.scenario_json.specs.declared.fault.SceneFault.TheVariants as fault;

@@ -1,3 +1,4 @@
+//! The traces of a scenario by name, and how members that it names are read.
 ghost use Rattle.std.specs.Prelude.{◌≡◌, ◌≢◌, IfOk, IfErr, Ok, Err, [], option_map};
 ghost use Rattle.serde_json.specs.View.{view, members_view};
 ghost use Rattle.scenario_json.specs.CaseWalk.{trace_named};

@@ -1,3 +1,4 @@
+//! The readers of JSON members: numbers within a key's range, texts, lists and objects.
 ghost use Rattle.std.specs.Prelude.{◌≡◌, ◌≢◌, ◌≤◌, IfOk, IfErr, Ok, Err, option_map};
 ghost use Rattle.serde_json.specs.View.{view, items_view, members_view};
 ghost use Rattle.scenario_json.specs.Keys.{least_of, most_of};

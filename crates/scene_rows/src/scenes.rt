@@ -1,3 +1,4 @@
+//! Tests of scenarios: a campaign's length, programs' numbers, rollout steps, shared links, generated cases.
 use crate::texts::{case, many, scene};
 use flow_core::Case;
 use scenario_json::calls::{rollout_scene, scenario, shared_scene, soak};

@@ -1,3 +1,4 @@
+//! How assignments are scoped: plain ones, `if`, `!if` and `ewma`, each with its target and types.
 ghost use Rattle.std.specs.Prelude.{◌≡◌, ◌≢◌, OnOk, OnErr, IfOk, IfErr, Ok, Err};
 ghost use Rattle.portus_core.specs.Trees.{node_of, nodes_of};
 ghost use Rattle.portus_core.specs.Programs.{action_of, term_of};

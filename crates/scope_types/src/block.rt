@@ -1,3 +1,4 @@
+//! How the forms after the first become blocks, each with its condition, commands and locals.
 ghost use Rattle.std.specs.Prelude.{◌≡◌, ◌≢◌, IfOk, IfErr, Ok, Err, [], length};
 ghost use Rattle.portus_core.specs.Trees.{node_of, nodes_of};
 ghost use Rattle.portus_core.specs.Programs.{term_of};

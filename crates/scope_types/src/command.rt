@@ -1,3 +1,4 @@
+//! How the commands of a block's body are scoped.
 ghost use Rattle.std.specs.Prelude.{◌≡◌, ◌≢◌, IfOk, IfErr, Ok, Err, []};
 ghost use Rattle.portus_core.specs.Trees.{node_of, nodes_of};
 ghost use Rattle.scope_types.specs.CommandWalk.{command_walk, body_walk};

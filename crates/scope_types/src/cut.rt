@@ -1,3 +1,4 @@
+//! A list's first part apart from the rest, and the place of a part.
 ghost use Rattle.std.specs.Prelude.{◌≡◌};
 ghost use Rattle.portus_core.specs.Trees.{node_of, nodes_of};
 ghost use Rattle.scope_types.specs.Cuts.{place_of, CutsInto};

@@ -1,3 +1,4 @@
+//! How the parts of `def` declare fields and control variables.
 ghost use Rattle.std.specs.Prelude.{◌≡◌, ◌≢◌, ◌++◌, ◌∷◌, [], OnOk, IfErr, Ok, Err, length};
 ghost use Rattle.portus_core.specs.Trees.{node_of, nodes_of};
 ghost use Rattle.portus_core.specs.Words.{has_dot, is_field_name, is_control_name};

@@ -1,3 +1,4 @@
+//! The declarations of a program in order, each found by its name through an index.
 ghost use Rattle.std.specs.Prelude.{◌≡◌, ◌≤◌, ◌++◌, ◌∷◌, [], None, OnOk, OnErr, IfOk};
 ghost use Rattle.std.specs.Prelude.{length, slice_get, option_copied, bytes_eq};
 ghost use Rattle.std.specs.Hash as fed;

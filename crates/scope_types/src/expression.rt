@@ -1,3 +1,4 @@
+//! How expressions and the words in them are scoped, the left part before the right one.
 ghost use Rattle.std.specs.Prelude.{◌≡◌, ◌≢◌, IfOk, IfErr, Ok, Err};
 ghost use Rattle.portus_core.specs.Trees.{node_of};
 ghost use Rattle.portus_core.specs.Programs.{term_of, pair};

@@ -1,3 +1,4 @@
+//! Why a text's forms are no program, with the place of the refused part.
 use ccp_base::Place;
 use std::alloc::{AllocError, AllocFailed};
 

@@ -1,3 +1,4 @@
+//! What a declared or local name stands for, and whether a variable or an expression is a Bool.
 ghost use Rattle.std.specs.Prelude.{◌≡◌, ◌≤◌, length, map, slice_get};
 ghost use Rattle.portus_core.specs.Programs.{term_of};
 ghost use Rattle.portus_core.specs.ValidPrograms.{declares_truth, is_bool_there};

@@ -1,3 +1,4 @@
+//! The names that have a meaning beside those of the language: declarations, and a body's locals.
 ghost use Rattle.std.specs.Prelude.{◌≡◌, ◌≤◌, length};
 ghost use Rattle.ccp_base.specs.Limits.{most_fields, most_controls, most_locals};
 

@@ -1,3 +1,4 @@
+//! The call `scope`: the program that a text's forms stand for, or their first refusal.
 ghost use Rattle.std.specs.Prelude.{◌≡◌, ◌≢◌, IsTrue, OnOk, IfOk, IfErr, MatchResult, Ok, Err};
 ghost use Rattle.portus_core.specs.Trees.{node_of, nodes_of};
 ghost use Rattle.portus_core.specs.Programs.{Form, form_over};

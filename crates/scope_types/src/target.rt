@@ -1,3 +1,4 @@
+//! The targets of assignments: variables, or new words that a plain assignment makes locals.
 ghost use Rattle.std.specs.Prelude.{◌≡◌};
 ghost use Rattle.portus_core.specs.Trees.{node_of};
 ghost use Rattle.portus_core.specs.Words.{variable_of};

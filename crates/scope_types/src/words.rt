@@ -1,3 +1,4 @@
+//! The words of the language: its variables and constants, and which words no program may declare.
 ghost use Rattle.std.specs.Prelude.{◌≡◌, bytes_eq};
 ghost use Rattle.portus_core.specs.Words.{is_constant, variable_of, is_heading, is_reserved};
 ghost use Rattle.portus_core.specs.Words.{is_field_use, is_primitive_use};

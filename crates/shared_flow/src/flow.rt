@@ -1,3 +1,4 @@
+//! A flow on a shared link: its part of each round, the close at the end, and its book with its row.
 ghost use Rattle.std.specs.Prelude.{◌≡◌, ◌+◌, ◌-◌, ◌<◌, ◌≤◌, Some, true, false, nat_le, length, OnOk, IfOk};
 ghost use Rattle.flow_core.specs.Readings.{over_codes};
 ghost use Rattle.flow_core.specs.Words.{is_still, is_legal, legal_over};

@@ -1,3 +1,4 @@
+//! How a flow's packets are acknowledged within a round, and when the flow times out.
 ghost use Rattle.std.specs.Prelude.{◌≡◌, ℕ, ◌+◌, ◌-◌, ◌*◌, ◌<◌, ◌≤◌, min, suc, [], ◌∷◌, ◌++◌, length, slice_get, Some, None, vec_capacity, IfOk, OnOk, IsTrue, IsFalse};
 ghost use Rattle.ccp_base.specs.Limits.{most_flight, most_rounds, most_quantum_us};
 ghost use Rattle.link_model.specs.Counts.{most_packets};

@@ -1,3 +1,4 @@
+//! How a flow sends packets within a round: each is lost, or takes the queue's next chance.
 ghost use Rattle.std.specs.Prelude.{◌≡◌, ℕ, ◌+◌, ◌^◌, ◌<◌, ◌≤◌, [], ◌∷◌, ◌++◌, length, if◌then◌else◌, ◌==◌, IfOk};
 ghost use Rattle.ccp_base.specs.Limits.{most_flight, most_queue};
 ghost use Rattle.link_model.specs.Chances.{number_of};

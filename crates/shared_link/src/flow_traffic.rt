@@ -1,3 +1,4 @@
+//! What is under way of one flow on a shared link, and its counts of packets.
 use ccp_base::Ack;
 use circular_buffer::HeapCircularBuffer;
 use link_model::{Arrival, Past};

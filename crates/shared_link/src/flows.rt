@@ -1,3 +1,4 @@
+//! The traffic of all flows: they send in turn, get their acknowledgements in order, and are counted.
 ghost use Rattle.std.specs.Prelude.{◌≡◌, ◌+◌, ◌*◌, ◌<◌, ◌≤◌, [], length, map, get_or, vec_capacity, IfOk, OnOk, IsTrue};
 ghost use Rattle.ccp_base.specs.Limits.{most_flight, most_rounds, most_quantum_us};
 ghost use Rattle.link_model.specs.Traces.{IsTrace};

@@ -1,3 +1,4 @@
+//! A law: no chance serves two packets, and each sent packet is acknowledged, lost or in flight.
 ghost use Rattle.std.specs.Prelude.{ℕ, List};
 ghost use Rattle.shared_link.specs.declared.round.Ask.{Ask};
 ghost use Rattle.shared_link.specs.SharedRounds.{shared_run_of};

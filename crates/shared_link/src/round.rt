@@ -1,3 +1,4 @@
+//! What a flow asks for in a round, and the counts of all flows' packets.
 /// What a flow asks for in a round.
 #[derive(Clone, Copy)]
 pub struct Ask {

@@ -1,3 +1,4 @@
+//! The queue of a shared link as the flows send within a round.
 ghost use Rattle.std.specs.Prelude.{◌≡◌, ◌+◌, ◌*◌, ◌<◌, ◌≤◌, length};
 ghost use Rattle.ccp_base.specs.Limits.{most_queue, most_rounds, most_quantum_us};
 ghost use Rattle.link_model.specs.Traces.{IsTrace};

@@ -1,3 +1,4 @@
+//! The case of a shared link: its trace, queue and round length, and each flow's part of it.
 use ccp_base::Sequence;
 use link_model::Trace;
 

@@ -1,3 +1,4 @@
+//! A link that several flows share: a round takes what the flows ask for and gives their acknowledgements.
 ghost use Rattle.std.specs.Prelude.{◌≡◌, ℕ, ◌+◌, ◌<◌, List, [], ◌∷◌, ◌++◌, length, IfOk, OnOk, OnErr};
 ghost use Rattle.ccp_base.specs.Limits.{most_rounds};
 ghost use Rattle.shared_link.specs.declared.round.Ask.{Ask};

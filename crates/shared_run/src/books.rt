@@ -1,3 +1,4 @@
+//! How a shared run ends: each flow closes and gives its book and row, beside the link's counts.
 ghost use Rattle.std.specs.Prelude.{◌≡◌, [], IfOk, OnOk, map};
 ghost use Rattle.std.specs.List.{All};
 ghost use Rattle.flow_core.specs.Readings.{over_codes};

@@ -1,3 +1,4 @@
+//! A flow of a shared run: its part of a round, what it asks the link for, and whether memory was short.
 ghost use Rattle.std.specs.Prelude.{◌≡◌, false, OnOk, IfOk, map};
 ghost use Rattle.flow_core.specs.Readings.{over_codes};
 ghost use Rattle.shared_flow.specs.RoundLetters.{opened};

@@ -1,3 +1,4 @@
+//! The rounds of a shared run: flows ask, the link answers, and workers do the flows' parts.
 ghost use Rattle.std.specs.Prelude.{◌≡◌, ◌+◌, ◌<◌, ◌≤◌, false, length, OnOk};
 ghost use Rattle.ccp_base.specs.Limits.{most_flows, most_rounds};
 ghost use Rattle.shared_run.specs.Lanes.{flows_in, some_short};

@@ -1,3 +1,4 @@
+//! The words under a pool's slots, read and written by slot number.
 ghost use Rattle.std.specs.Prelude.{◌≡◌, ℕ, ◌+◌, ◌*◌, ◌^◌, ◌<◌, ◌≤◌, length, IfOk, replicate, slice_index, slice_set};
 
 use std::alloc::{AllocError, Global};

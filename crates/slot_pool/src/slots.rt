@@ -1,3 +1,4 @@
+//! What hands out slots of words, for callers that needn't know the pool behind it.
 ghost use Rattle.std.specs.Prelude.{◌≡◌, ℕ, ◌+◌, ◌<◌, ◌↔◌, List, length, None, Some, IsErr, IfOk, OnOk, OnErr};
 ghost use Rattle.slot_pool.specs.Pool.{PoolState, words_at, IsOut, free_of, ChangesSlot, TakesZeros, WritesWord};
 

@@ -1,3 +1,4 @@
+//! The account of a case's flow after a word, by the meaning of its programs' sources.
 ghost use Rattle.std.specs.Prelude.{IfOk};
 ghost use Rattle.source_flow.specs.SourceAccounts.{flow_by, IsAccountAfter};
 ghost use Rattle.source_flow.specs.Sourced.{IsSourced};

@@ -1,3 +1,4 @@
+//! The account of a flow by its programs' sources, with each fault's place in the source.
 use ccp_base::{FaultKind, Place, Sequence};
 use flow_core::{EpochLine, TicketLine};
 use report_lines::End;

@@ -1,3 +1,4 @@
+//! A case with the source programs of its two roles, by their numbers.
 ghost use Rattle.std.specs.Prelude.{◌≡◌, option_map};
 ghost use Rattle.portus_core.specs.ProgramForm.{form_of};
 ghost use Rattle.source_flow.specs.Sourced.{built_at};

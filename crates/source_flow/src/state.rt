@@ -1,3 +1,4 @@
+//! The state of a flow by its programs' sources: the epoch that runs, what waits, and the ticket that is out.
 use crate::flow_account::SourceFault;
 use agent_core::Agent;
 use ccp_base::{Notice, Report, Sequence, Told};

@@ -1,3 +1,4 @@
+//! What agent workers do: they take tickets and settle answers, which they work out without a lock.
 ghost use Rattle.std.specs.Prelude.{◌≡◌, ◌<◌, None};
 ghost use Rattle.worker_desk.specs.Logs.{Logs};
 ghost use Rattle.worker_desk.specs.Attending.{taking, settling, Tends, Attends};

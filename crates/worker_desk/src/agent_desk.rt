@@ -1,3 +1,4 @@
+//! The trait for an agent worker's desk: numbers of flows that come in, locks, tickets and answers.
 ghost use Rattle.std.specs.Prelude.{◌≡◌, ℕ, ◌+◌, ◌<◌, ◌≤◌, Option, Some, None, List, [], ◌∷◌, IfSome, IsSome};
 ghost use Rattle.worker_desk.specs.Logs.{Logs};
 ghost use Rattle.worker_desk.specs.declared.event.Event.{Event};

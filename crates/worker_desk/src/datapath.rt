@@ -1,3 +1,4 @@
+//! What datapath workers do: acknowledgements of their flows, one of each in turn, under the flow's lock.
 ghost use Rattle.std.specs.Prelude.{◌≡◌, ℕ, ◌+◌, ◌-◌, ◌*◌, ◌<◌, ◌≤◌, [], ◌∷◌, ◌++◌, if◌then◌else◌, take, drop, slice_index, None, length};
 ghost use Rattle.worker_desk.specs.Logs.{Logs, Known};
 ghost use Rattle.worker_desk.specs.Serving.{hearing, flows_of, turn, again, heard, Serves};

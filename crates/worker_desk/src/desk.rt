@@ -1,3 +1,4 @@
+//! The trait for a datapath worker's desk: the flows' locks, acknowledgements, nudges and the gate.
 ghost use Rattle.std.specs.Prelude.{◌≡◌, ℕ, ◌+◌, ◌<◌, ◌≤◌, Option, Some, None, List, [], ◌∷◌};
 ghost use Rattle.worker_desk.specs.Logs.{Logs};
 ghost use Rattle.worker_desk.specs.Serving.{heard};

@@ -1,3 +1,4 @@
+//! What workers do at their desks, as events, and what an acknowledgement means for a datapath worker.
 use agent_core::Ticket;
 use ccp_base::Point;
 

@@ -1,3 +1,4 @@
+//! The trait for an installer's desk: texts to build, the flows' locks, entries and changes.
 ghost use Rattle.std.specs.Prelude.{◌≡◌, ℕ, ◌<◌, ◌≤◌, Option, Some, None, List, [], ◌∷◌, is_some, IfSome};
 ghost use Rattle.worker_desk.specs.Logs.{Logs};
 ghost use Rattle.worker_desk.specs.declared.event.Event.{Event};

@@ -1,3 +1,4 @@
+//! What installers do: they build texts without a lock, then install and change under the flow's lock.
 ghost use Rattle.std.specs.Prelude.{◌≡◌, ℕ, ◌<◌, ◌≤◌, None, [], ◌∷◌, slice_index, length};
 ghost use Rattle.ccp_base.specs.Limits.{most_steps};
 ghost use Rattle.worker_desk.specs.Logs.{Logs};

@@ -1,3 +1,4 @@
+//! The laws of workers: which flows a datapath worker asks, and that each worker holds one lock at a time.
 ghost use Rattle.worker_desk.specs.LocksLaw.{ServingKeepsLocks, AttendingKeepsLocks, EquippingKeepsLocks};
 ghost use Rattle.worker_desk.specs.ServingLaw.{ServingLaw};
 

@@ -1,3 +1,4 @@
+//! The duties and posts of workers, and the receipts that show their work done.
 use std::marker::Model;
 use std::thread::Promise;
 

@@ -1,3 +1,4 @@
+//! The mode `acks`: the cases of a scenario on their campaign words, as lines of acknowledgements.
 ghost use Rattle.std.specs.Prelude.{◌≡◌, ◌≤◌, [], IfOk, length};
 ghost use Rattle.std.specs.List.{All};
 ghost use Rattle.ccp_base.specs.Limits.{most_flows, most_workers};

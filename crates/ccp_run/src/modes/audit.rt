@@ -1,3 +1,4 @@
+//! The mode `audit`: the verdict on a text as the live text of the scenario above it.
 ghost use Rattle.std.specs.Prelude.{◌≡◌, ◌≤◌, [], IfOk, OnOk, ◌++◌, length};
 ghost use Rattle.std.specs.List.{All};
 ghost use Rattle.ccp_base.specs.Limits.{most_flows};

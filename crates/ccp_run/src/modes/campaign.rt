@@ -1,3 +1,4 @@
+//! The mode `campaign`: the table of a scenario's cases, after the programs' frames if the words ask for them.
 ghost use Rattle.std.specs.Prelude.{◌≡◌, ◌≤◌, ◌++◌, [], IfOk, map, length};
 ghost use Rattle.ccp_base.specs.Limits.{most_cases, most_workers};
 ghost use Rattle.flow_core.specs.declared.case.Case.{Case};

@@ -1,3 +1,4 @@
+//! The mode `check`: the summary and the listing of a program, or its refusal.
 ghost use Rattle.std.specs.Prelude.{◌≡◌};
 ghost use Rattle.ccp_run.specs.Attempts.{IsAnswer};
 ghost use Rattle.ccp_run.specs.Modes.{Task};

@@ -1,3 +1,4 @@
+//! The mode `fold`: a program over the acknowledgements below it, or the input's first refusal.
 ghost use Rattle.std.specs.Prelude.{◌≡◌, ◌≤◌, ◌∷◌, [], IfOk, length};
 ghost use Rattle.ccp_base.specs.Limits.{most_acks};
 ghost use Rattle.portus_core.specs.ProgramForm.{form_of};

@@ -1,3 +1,4 @@
+//! The mode `rollout`: a scenario's cases on datapath workers and installers, as the text of what happened.
 ghost use Rattle.std.specs.Prelude.{◌≤◌, IfOk, IfErr, length};
 ghost use Rattle.ccp_base.specs.Limits.{most_flows, most_workers};
 ghost use Rattle.scenario_json.specs.OpenCases.{AreOpenFlowsFrom};

@@ -1,3 +1,4 @@
+//! The mode `shared`: flows on one link, as their table and the line of the link's packets.
 ghost use Rattle.std.specs.Prelude.{◌≡◌, ◌≤◌, ◌++◌, [], OnOk, IfOk, IfErr, length, map};
 ghost use Rattle.std.specs.List.{All};
 ghost use Rattle.ccp_base.specs.Limits.{most_cases, most_flows, most_rounds, most_workers};

@@ -1,3 +1,4 @@
+//! The mode `soak`: the generated cases of a number, run and summed up.
 ghost use Rattle.std.specs.Prelude.{◌≡◌, ◌≤◌, IfOk};
 ghost use Rattle.ccp_base.specs.Limits.{most_workers};
 ghost use Rattle.ccp_run.specs.Attempts.{IsAttempt};

@@ -1,3 +1,4 @@
+//! The mode `timeline`: a scenario's cases on their campaign words, as the text of their books.
 ghost use Rattle.std.specs.Prelude.{◌≡◌, ◌≤◌, IfOk, length};
 ghost use Rattle.std.specs.List.{All};
 ghost use Rattle.ccp_base.specs.Limits.{most_flows, most_workers};
