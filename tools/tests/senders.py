@@ -29,7 +29,7 @@ def test_each_sender_is_accepted():
 
 
 def test_no_sender_is_answered_or_faults():
-    """Losses, timeouts, marks, small and large segments, a queue of one packet: one epoch, no fault, all reports told."""
+    """Losses, timeouts, marks, small and large segments, a queue of one packet: one epoch, no fault, no report held."""
     for mss in (1, 536, 65535):
         text = scenario_of(list(SENDERS), "--mss", mss, "--queue", "1,100", "--mark", "none,3", "--losses", "none,0+1+2+3+4+5,rate:0.2:1", "--delay-ms", "0,20", "--acks", 400, *TRACES)
         table, errors, status = ccp(["campaign", "--workers", "4"], text)
