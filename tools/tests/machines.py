@@ -23,11 +23,13 @@ def scenario_file(room, *words):
     return path
 
 
-def long_trace(room, name, step):
-    """A trace of some 400 kB, as a recording of a minute has."""
+def dense_trace(room, name, seconds):
+    """A trace of some 500 kB: twelve chances a millisecond, and one in the last second. A sender that loses much is soon at
+    its end."""
     path = os.path.join(room, name)
     with open(path, "w", encoding="ascii") as file:
-        file.writelines("%d\n" % (time + time // step) for time in range(1, 60_000))
+        file.writelines("%d\n" % (time // 12) for time in range(12, 12_000 * seconds))
+        file.write("%d\n" % (1000 * seconds + 1000))
     return path
 
 
@@ -72,23 +74,24 @@ def test_each_row_of_more_bytes_than_one_run_takes_is_that_of_its_case_alone():
     """Two long traces and lists of losses: no trace is cut on the way through both scripts."""
     needs("parallel")
     with tempfile.TemporaryDirectory() as room:
-        traces = [long_trace(room, "one.down", 7), long_trace(room, "one.up", 3), TRACES[1]]
-        words = ["--queue", "20,200", "--delay-ms", "10,40", "--losses", "none,rate:0.01,gilbert:0.01:0.4", "--seeds", "1..3", "--acks", 8000]
+        traces = [dense_trace(room, "one.down", 6), dense_trace(room, "one.up", 8), TRACES[1]]
+        words = ["--queue", "20", "--delay-ms", "10,40", "--losses", "none,rate:0.25,gilbert:0.01:0.4", "--seeds", "1..2", "--acks", 800]
         printed, errors, status = tool("scenario", *words, *traces)
         expect(status == 1 and not printed and "bytes" in errors and "campaign-over-machines" in errors, "one run takes it: %s" % errors)
         path = scenario_file(room, "--whole", *words, *traces)
         whole = json.loads(content(path))
-        expect(len(content(path)) > 1_048_576 and len(whole["cases"]) == 168, "%d bytes, %d cases" % (len(content(path)), len(whole["cases"])))
+        expect(len(content(path)) > 1_048_576 and len(whole["cases"]) == 60, "%d bytes, %d cases" % (len(content(path)), len(whole["cases"])))
         for trace, file in zip(whole["traces"].values(), traces):
             expect(trace == content(file), "a trace isn't that of its file")
         printed, errors, status = tool(NAME, "--quiet", "--program", PROGRAM, path)
         expect(status == 0, errors)
         rows = printed.split("\n")[1:-2]
-        expect(len(rows) == 168, "%d rows" % len(rows))
-        for at, (case, row) in enumerate(zip(whole["cases"], rows)):
-            # one case of each trace, sender and loss is enough, and each trace is run to its end
-            if at % 5 == 0:
-                expect(alone(whole, case).split("\n")[1] == row, "%s: %s" % (case["name"], row))
+        expect(len(rows) == 60, "%d rows" % len(rows))
+        for case, row in zip(whole["cases"], rows):
+            expect(alone(whole, case).split("\n")[1] == row, "%s: %s" % (case["name"], row))
+        ends = [int(row.split(" ")[12]) for row in rows]
+        for at in (0, 20, 40):
+            expect(max(ends[at : at + 20]) > 9_000_000, "no run has come to the trace's end: %s" % ends)
 
 
 def test_a_case_that_no_run_takes_is_refused():

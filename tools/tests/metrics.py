@@ -94,7 +94,7 @@ def test_a_steady_link():
     }
     found = figures(STEADY, table=STEADY_TABLE, acks=STEADY_ACKS, timeline=STEADY_TIMELINE)["cases"][0]
     same(found, by_hand)
-    # the acknowledgements alone tell what the table does, but for the reports
+    # the acknowledgements alone give all that the table gives, except the reports
     found = figures(STEADY, acks=STEADY_ACKS)["cases"][0]
     same(found, {**by_hand, "window_mean_bytes": None, "reports": None, "held": None, "faults": None})
     found = figures(STEADY, table=STEADY_TABLE)["cases"][0]
@@ -228,7 +228,7 @@ def test_a_campaign():
 
 
 def test_timelines_and_acknowledgements():
-    """All three texts of the program tell of one run, and the acknowledgements give the table's figures."""
+    """All three texts of the program are of one run, and the acknowledgements give the table's figures."""
     needs_mode("timeline")
     needs_mode("acks")
     text, errors, status = tool("scenario", "--for", "acks", "--losses", "none,rate:0.01", "--mark", "none,20", "--seconds", 2, *TRACES)
