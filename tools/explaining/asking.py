@@ -22,11 +22,11 @@ def asked(program, mode, data):
         return None
     except OSError as why:
         raise NoProgram("%s can't be run: %s" % (program, why.strerror))
-    told = ran.stderr.decode("utf-8", "replace")
-    found = re.fullmatch(r"ccp: input refused: (.*)\n", told, re.DOTALL)
+    errors = ran.stderr.decode("utf-8", "replace")
+    found = re.fullmatch(r"ccp: input refused: (.*)\n", errors, re.DOTALL)
     if ran.returncode == 0 or (ran.returncode == 3 and found):
         return found.group(1) if found else None
-    raise NoProgram("%s %s ended with status %d: %s" % (program, mode, ran.returncode, told.strip() or "it printed nothing"))
+    raise NoProgram("%s %s ended with status %d: %s" % (program, mode, ran.returncode, errors.strip() or "it printed nothing"))
 
 
 def sentences_of(page):

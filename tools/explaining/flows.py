@@ -57,8 +57,8 @@ class Report:
 
 
 class Ticket:
-    def __init__(self, told, taken):
-        self.told = told
+    def __init__(self, subject, taken):
+        self.subject = subject
         self.taken = taken
         self.answered = None
         self.reply = None
@@ -123,31 +123,31 @@ class Flow:
         if not self.can_take():
             raise Illegal("a ticket is out" if self.out else "no report and no fault waits")
         if self.waiting:
-            told = self.waiting.pop(0)
+            subject = self.waiting.pop(0)
         else:
-            told, self.notice = self.notice, None
-        self.out = Ticket(told, self.acks)
+            subject, self.notice = self.notice, None
+        self.out = Ticket(subject, self.acks)
         self.tickets.append(self.out)
 
     def settle(self):
         if self.out is None:
             raise Illegal("no ticket is out")
         ticket, self.out = self.out, None
-        ticket.answered, ticket.reply = self.acks, self._reply(ticket.told)
+        ticket.answered, ticket.reply = self.acks, self._reply(ticket.subject)
         if ticket.reply and ticket.reply[0] == "update":
             self.state.cwnd = ticket.reply[1]
         elif ticket.reply:
             self._change(*ticket.reply[1:])
         self.peak = max(self.peak, self.state.cwnd)
 
-    def _reply(self, told):
-        epoch = told.epoch if isinstance(told, Report) else told[0]
+    def _reply(self, subject):
+        epoch = subject.epoch if isinstance(subject, Report) else subject[0]
         if epoch != self.agent.epoch:
             return None
-        if not isinstance(told, Report):
+        if not isinstance(subject, Report):
             return self.agent.change(self.agent.phase)
         look = [name[len("Report."):] for name in self.programs[self.roles[self.agent.phase]].fields]
-        return self.agent.report(told.read(look))
+        return self.agent.report(subject.read(look))
 
     def settle_due(self):
         """What the campaign word has after an acknowledgement: answers that are due, and takings."""
@@ -186,9 +186,9 @@ class Flow:
 
     def _ticket_line(self, ticket):
         counts = " taken=%d answered=%d reply=%s" % (ticket.taken, ticket.answered, self._reply_text(ticket.reply))
-        if isinstance(ticket.told, Report):
-            return ticket.told.line() + counts + ticket.told.shown()
-        return "fault epoch=%d ack=%d" % ticket.told + counts
+        if isinstance(ticket.subject, Report):
+            return ticket.subject.line() + counts + ticket.subject.shown()
+        return "fault epoch=%d ack=%d" % ticket.subject + counts
 
     def _reply_text(self, reply):
         if reply is None:

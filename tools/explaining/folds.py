@@ -20,29 +20,29 @@ def separator_in(data):
     return None
 
 
-def no_separator(text, told):
+def no_separator(text, reason):
     """The finding of an input without a line `---`."""
     at = 0
     for line in text.split("\n"):
         bare = line.strip()
         if bare in ("---", "--", "----", "\u2014", "\u2013-", "-\u2013", "\u2014-") or re.fullmatch(r"[-\u2013\u2014= ]+", bare) and bare:
             why = "It has blanks beside it." if bare == "---" else "It isn't `---`."
-            return Finding("refused", at, at + len(line), told, ["The line between the two parts is `---` and nothing else. " + why])
+            return Finding("refused", at, at + len(line), reason, ["The line between the two parts is `---` and nothing else. " + why])
         if line.rstrip("\r").endswith("---"):
             where = at + line.rindex("---")
-            return Finding("refused", where, where + 3, told, ["`---` is on a line of its own: end the line before it."])
+            return Finding("refused", where, where + 3, reason, ["`---` is on a line of its own: end the line before it."])
         at += len(line) + 1
-    return Finding("refused", 0, 0, told, ["A line `---` is needed between the two parts of the input; there is none."])
+    return Finding("refused", 0, 0, reason, ["A line `---` is needed between the two parts of the input; there is none."])
 
 
-def line_refusal(text, number, told):
+def line_refusal(text, number, reason):
     """The finding of an acknowledgement line that is refused."""
     lines = text.split("\n")
     start = sum(len(line) + 1 for line in lines[: number - 1])
     line = lines[number - 1]
     line = line[:-1] if line.endswith("\r") else line
     first, last, why = cause_of(line)
-    return Finding("refused", start + first, start + last, told, [SENTENCE, *why])
+    return Finding("refused", start + first, start + last, reason, [SENTENCE, *why])
 
 
 def cause_of(line):
@@ -101,7 +101,7 @@ def cause_of_value(name, value):
     return []
 
 
-def too_many(text, told):
+def too_many(text, reason):
     """The finding of a 65,537th acknowledgement."""
     count, at, below = 0, 0, False
     for line in text.split("\n"):
@@ -109,7 +109,7 @@ def too_many(text, told):
         if below and bare.strip(" \t"):
             count += 1
         if count > 65536:
-            return Finding("refused", at, at + len(bare), told, ["At most 65,536 acknowledgements; this is the first one too many."])
+            return Finding("refused", at, at + len(bare), reason, ["At most 65,536 acknowledgements; this is the first one too many."])
         below = below or bare == "---"
         at += len(line) + 1
-    return Finding("refused", 0, 0, told)
+    return Finding("refused", 0, 0, reason)

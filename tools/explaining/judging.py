@@ -16,10 +16,10 @@ def judged(program, scenario, text):
         ran = subprocess.run([program, "audit"], input=data, stdout=subprocess.PIPE, stderr=subprocess.PIPE)
     except OSError as why:
         raise NoProgram("%s can't be run: %s" % (program, why.strerror))
-    told = ran.stderr.decode("utf-8", "replace").strip()
+    errors = ran.stderr.decode("utf-8", "replace").strip()
     if ran.returncode == 3:
-        raise Refused(told)
+        raise Refused(errors)
     found = re.fullmatch(rb"yes\n|no flow ([0-9]+)\n", ran.stdout)
     if ran.returncode or not found:
-        raise NoProgram("%s audit ended with status %d: %s" % (program, ran.returncode, told))
+        raise NoProgram("%s audit ended with status %d: %s" % (program, ran.returncode, errors))
     return int(found.group(1)) if found.group(1) else None

@@ -123,26 +123,26 @@ class Reno:
         self.epoch += 1
         return "change", phase, self.bytes(), self.ssthresh
 
-    def report(self, told):
+    def report(self, seen):
         """The reply to a report of the agent's own epoch."""
         if self.phase == "ss":
-            self.window = self._held(told["cwnd"])
-        flight = stop(told["inflight"] + stop(told["loss"] * self.mss))
+            self.window = self._held(seen["cwnd"])
+        flight = stop(seen["inflight"] + stop(seen["loss"] * self.mss))
         cut = min(max(flight // 2, 2 * self.mss), 4096 * self.mss)
-        if told["timeout"]:
+        if seen["timeout"]:
             self.ssthresh, self.window, self.calm = cut, self.mss, 0
             return self.change("ss")
-        if told["loss"] or told["ecn"]:
-            if told["now"] < self.calm:
+        if seen["loss"] or seen["ecn"]:
+            if seen["now"] < self.calm:
                 return None
             self.ssthresh = self.window = cut
-            self.calm = stop(told["now"] + told["rtt"])
+            self.calm = stop(seen["now"] + seen["rtt"])
             return self.change("ca")
         if self.phase == "ss":
-            return self.change("ca") if told["cwnd"] >= self.ssthresh else None
-        if not told["acked"]:
+            return self.change("ca") if seen["cwnd"] >= self.ssthresh else None
+        if not seen["acked"]:
             return None
-        self.window = self._held(stop(self.window + max(1, stop(self.mss * told["acked"] // self.window))))
+        self.window = self._held(stop(self.window + max(1, stop(self.mss * seen["acked"] // self.window))))
         return "update", self.window
 
 
@@ -175,37 +175,37 @@ class Cubic:
         off = 4 * distance**3 // 10000000
         return stop(self.w_max + off) if time >= self.k else stop(self.w_max - off)
 
-    def report(self, told):
+    def report(self, seen):
         """The reply to a report of the agent's own epoch."""
         if self.phase == "ss":
-            self.w = min(max(stop(told["cwnd"] * 1000 // self.mss), 1000), 4096000)
-        if told["timeout"]:
+            self.w = min(max(stop(seen["cwnd"] * 1000 // self.mss), 1000), 4096000)
+        if seen["timeout"]:
             self.w_prior = self.w
             self.ssthresh = max(2000, self.w * 7 // 10) * self.mss // 1000
             self.w, self.calm = 1000, 0
             return self.change("ss")
-        if told["loss"] or told["ecn"]:
-            return None if told["now"] < self.calm else self._cut(told)
+        if seen["loss"] or seen["ecn"]:
+            return None if seen["now"] < self.calm else self._cut(seen)
         if self.phase == "ss":
-            if told["cwnd"] < self.ssthresh:
+            if seen["cwnd"] < self.ssthresh:
                 return None
             self.w_max = self.w_est = self.w
-            self.k, self.t0 = 0, told["now"]
+            self.k, self.t0 = 0, seen["now"]
             return self.change("ca")
-        return self._grown(told) if told["acked"] else None
+        return self._grown(seen) if seen["acked"] else None
 
-    def _cut(self, told):
+    def _cut(self, seen):
         self.w_prior = self.w
         self.w_max = self.w * 17 // 20 if self.w < self.w_max else self.w
         self.w = self.w_est = max(2000, self.w * 7 // 10)
-        self.t0, self.k = told["now"], cube_root(max(0, self.w_max - self.w) * 2500000)
+        self.t0, self.k = seen["now"], cube_root(max(0, self.w_max - self.w) * 2500000)
         self.ssthresh = self.bytes()
-        self.calm = stop(told["now"] + told["rtt"])
+        self.calm = stop(seen["now"] + seen["rtt"])
         return self.change("ca")
 
-    def _grown(self, told):
-        part = min(4096000, stop(told["acked"] * 1000 // self.mss))
-        time, ahead = max(0, told["now"] - self.t0) // 1000, told["rtt"] // 1000
+    def _grown(self, seen):
+        part = min(4096000, stop(seen["acked"] * 1000 // self.mss))
+        time, ahead = max(0, seen["now"] - self.t0) // 1000, seen["rtt"] // 1000
         share = 9000 * part // (17 * self.w) if self.w_est < self.w_prior else 1000 * part // self.w
         self.w_est = min(4096000, self.w_est + share)
         if self.curve(time) < self.w_est:

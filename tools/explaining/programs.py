@@ -266,22 +266,22 @@ def hints_of_unknown(program, _start, node):
     word = node.text
     if word in INSTEAD:
         return [INSTEAD[word]]
-    told = ["`%s` has no meaning here." % cut(word)]
+    found = ["`%s` has no meaning here." % cut(word)]
     known = program.names(node)
     last = word.split(".")[-1]
     if last in program.fields and "Report." + last != word:
-        return told + ["A field is used with its prefix: `Report.%s`." % last]
+        return found + ["A field is used with its prefix: `Report.%s`." % last]
     for name in PRIMITIVES:
         if name.split(".")[1].lower() == last.lower():
-            return told + ["The primitive is `%s`." % name]
+            return found + ["The primitive is `%s`." % name]
     _, elsewhere = program.locals_before(node)
     if word in elsewhere:
-        return told + ["A local ends with its body: declare `%s` in `def`, or assign it in this body first." % cut(word)]
+        return found + ["A local ends with its body: declare `%s` in `def`, or assign it in this body first." % cut(word)]
     if word.startswith("Report."):
-        told += ["Declare the field in `(def (Report (%s 0)))`." % cut(word[7:])]
+        found += ["Declare the field in `(def (Report (%s 0)))`." % cut(word[7:])]
     elif word.startswith("Ack.") or word.startswith("Flow."):
-        return told + did_you_mean(word, PRIMITIVES)
-    return told + did_you_mean(word, known)
+        return found + did_you_mean(word, PRIMITIVES)
+    return found + did_you_mean(word, known)
 
 
 def hints_of_not_writable(_program, _start, node):
@@ -431,17 +431,17 @@ HINTS = {
 REFUSAL = re.compile(r"(\w+)(?: fields| controls| locals| blocks)?(?: at ([0-9]+):([0-9]+)| [0-9]+)?")
 
 
-def refusal_of(text, told, sentences):
+def refusal_of(text, reason, sentences):
     """The finding of a refusal of a program, as `Unknown at 3:36`, in a text of bytes as Latin-1."""
-    name, line, column = REFUSAL.fullmatch(told).group(1, 2, 3)
+    name, line, column = REFUSAL.fullmatch(reason).group(1, 2, 3)
     sentence, mend = sentences[name]
     hints = [sentence, mend]
     if line is None:
         if name == "SourceTooLong":
             hints.append("It has %d bytes." % len(text))
-        return Finding("refused", 0, 0, told, hints)
+        return Finding("refused", 0, 0, reason, hints)
     program = Program(text)
     start = start_of(text, int(line), int(column))
     node = program.node_at(start)
     hints += HINTS[name](program, start, node) if name in HINTS else []
-    return Finding("refused", start, node.end if node else start + 1, told, hints)
+    return Finding("refused", start, node.end if node else start + 1, reason, hints)

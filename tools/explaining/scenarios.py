@@ -46,14 +46,14 @@ class Rules:
         rule = self.members(of).get(name)
         if rule is None:
             return ""
-        told = rule["description"].rstrip(".")
+        sentence = rule["description"].rstrip(".")
         if rule.get("type") == "integer" and "maximum" in rule:
-            told += ": a whole number from %d to %d" % (rule["minimum"], rule["maximum"])
+            sentence += ": a whole number from %d to %d" % (rule["minimum"], rule["maximum"])
         elif "enum" in rule:
-            told += ": " + " or ".join('"%s"' % value for value in rule["enum"])
+            sentence += ": " + " or ".join('"%s"' % value for value in rule["enum"])
         elif rule.get("type") == "array" and "maxItems" in rule:
-            told += ": a list of %d to %d names" % (rule["minItems"], rule["maxItems"])
-        return "`%s`: %s." % (name, told)
+            sentence += ": a list of %d to %d names" % (rule["minItems"], rule["maxItems"])
+        return "`%s`: %s." % (name, sentence)
 
 
 class Scenario:
@@ -112,22 +112,22 @@ def path_name(key):
 # ---- the refusal
 
 
-def refusal_of(scenario, mode, told, sentences, program_sentences):
+def refusal_of(scenario, mode, reason, sentences, program_sentences):
     """The finding of a refusal, as `range cases[0].mss`."""
-    kind, _, rest = told.partition(" ")
+    kind, _, rest = reason.partition(" ")
     if kind == "json":
-        return json_refusal(scenario, told, sentences)
+        return json_refusal(scenario, reason, sentences)
     if kind == "program":
-        return program_refusal(scenario, mode, told, rest, sentences, program_sentences)
+        return program_refusal(scenario, mode, reason, rest, sentences, program_sentences)
     if kind == "trace":
-        return trace_refusal(scenario, told, rest, sentences)
+        return trace_refusal(scenario, reason, rest, sentences)
     hints = [" ".join(sentences[kind])]
     if kind == "totals":
-        return totals_refusal(scenario, mode, told, hints)
+        return totals_refusal(scenario, mode, reason, hints)
     within, name, value = scenario.found(rest)
     of = "bottleneck" if rest.startswith("shared.") else scenario.case_kind(mode) if rest.startswith("cases[") else "whole"
     found = {"missing": missing, "wrong": wrong, "range": out_of_range}[kind](scenario, mode, of, within, name, value, rest)
-    found.what = told.rstrip()
+    found.what = reason.rstrip()
     found.hints = hints + found.hints + wrong_mode(scenario, mode)
     return found
 
@@ -144,12 +144,12 @@ def wrong_mode(scenario, mode):
     return []
 
 
-def json_refusal(scenario, told, sentences):
+def json_refusal(scenario, reason, sentences):
     why = scenario.broken
     if why is None:
-        return Finding("refused", 0, 0, told, [" ".join(sentences["json"])])
+        return Finding("refused", 0, 0, reason, [" ".join(sentences["json"])])
     hints = ["%s." % (why.why[:1].upper() + why.why[1:])] + json_hints(scenario.text.text, why.start)
-    return Finding("refused", why.start, why.start + 1, told + ": the text isn't JSON", hints)
+    return Finding("refused", why.start, why.start + 1, reason + ": the text isn't JSON", hints)
 
 
 def json_hints(text, start):
@@ -302,26 +302,26 @@ def out_of_range(scenario, mode, of, _within, name, value, path):
     return Finding("refused", value.start, value.end, "", [allowed, "Here is %s." % value.is_])
 
 
-def totals_refusal(scenario, mode, told, hints):
+def totals_refusal(scenario, mode, reason, hints):
     total = sum(case.member("acks").whole() for case in scenario.cases())
     hints.append("Here are %d acknowledgements in %d cases; the limit is %d. `campaign` has no such limit.%s" % (total, len(scenario.cases()), TOTAL, MORE_CASES[mode] if mode in ("timeline", "acks") else ""))
     start = scenario.whole.member("cases").start
-    return Finding("refused", start, start + 1, told, hints)
+    return Finding("refused", start, start + 1, reason, hints)
 
 
-def program_refusal(scenario, mode, told, rest, sentences, program_sentences):
+def program_refusal(scenario, mode, reason, rest, sentences, program_sentences):
     """The refusal of a program's text: its place in the program, and in the scenario."""
     name, _, refusal = rest.partition(" ")
     value = scenario.table("programs")[name][1]
     data = value.is_.encode("utf-8")
     found = programs.refusal_of(data.decode("latin-1"), refusal, program_sentences)
-    found.what = told
+    found.what = reason
     if programs.looks_like_path(value.is_):
         found.hints = ["The text is `%s`, which looks like a path. A scenario holds the program's text itself;" % cut(value.is_),
                        "`tools/scenario --program %s=%s ..` puts it in." % (name, cut(value.is_.strip()))]
     found.hints += wrong_mode(scenario, mode)
     if not value.is_ or " at " not in refusal:
-        return Finding("refused", value.start, value.end, told, found.hints)
+        return Finding("refused", value.start, value.end, reason, found.hints)
     first = len(data[: found.start].decode("utf-8", "ignore"))
     last = max(first + 1, len(data[: found.end].decode("utf-8", "ignore")))
     lines = Text("", value.is_)
@@ -331,7 +331,7 @@ def program_refusal(scenario, mode, told, rest, sentences, program_sentences):
     return found
 
 
-def trace_refusal(scenario, told, rest, sentences):
+def trace_refusal(scenario, reason, rest, sentences):
     """The refusal of a trace's text."""
     name, _, refusal = rest.partition(" ")
     kind, _, number = refusal.partition(" ")
@@ -341,7 +341,7 @@ def trace_refusal(scenario, told, rest, sentences):
     if kind == "ZeroPeriod":
         number = 1 + max(at for at, line in enumerate(value.is_.split("\n")) if line.strip())
     if not number:
-        return Finding("refused", value.start, value.end, told, hints)
+        return Finding("refused", value.start, value.end, reason, hints)
     line = lines.line(int(number))
     if programs.looks_like_path(value.is_):
         hints = ["The text is `%s`, which looks like a path. A scenario holds the trace's text itself;" % cut(value.is_),
@@ -353,7 +353,7 @@ def trace_refusal(scenario, told, rest, sentences):
         hints.append("%s comes after %s." % (line.strip(), before[-1]))
     first = lines.start_of(int(number), 1)
     end = min(first + max(1, len(line)), len(value.is_))
-    return Finding("refused", value.starts[first], value.starts[end], told, hints, pointed(int(number), line, 1, len(line)))
+    return Finding("refused", value.starts[first], value.starts[end], reason, hints, pointed(int(number), line, 1, len(line)))
 
 
 def hints_of_trace_line(line):

@@ -44,8 +44,8 @@ def runs_of_rows(wanted):
                 continue
             for name, words, given in ROWS.runs_of(row, known):
                 if words and isinstance(words[0], str) and words[0] in wanted and row.get("status", 0) in (0, 3):
-                    told = known.bytes_of(row.get("errors", "")).decode()
-                    refused = told[len("ccp: input refused: "):-1] if row.get("status", 0) == 3 else None
+                    reason = known.bytes_of(row.get("errors", "")).decode()
+                    refused = reason[len("ccp: input refused: "):-1] if row.get("status", 0) == 3 else None
                     yield "%s: %s" % (os.path.basename(path), name), words[0], given, refused
 
 
@@ -86,14 +86,14 @@ def rest_at(text, start):
     return value_at('"' + text[start:], 0)
 
 
-def wrong_place(given, mode, told, text, found):
+def wrong_place(given, mode, reason, text, found):
     """What is wrong with the place of an explanation, or nothing."""
     line, column = text.place(found.start)
-    kind, _, rest = told.partition(" ")
+    kind, _, rest = reason.partition(" ")
     if kind == "acknowledgement":
-        return line != int(told.split()[2])
+        return line != int(reason.split()[2])
     if kind == "program" and mode in ("check", "fold"):
-        place = re.search(r" at ([0-9]+):([0-9]+)$", told)
+        place = re.search(r" at ([0-9]+):([0-9]+)$", reason)
         return place and (line, column) != (int(place.group(1)), int(place.group(2)))
     if kind not in ("program", "trace", "missing", "wrong", "range"):
         return False
@@ -124,10 +124,10 @@ def wrong_json_place(text, kind, rest, found):
 def test_explain_agrees_with_the_program_over_rows():
     modes = {"check", "fold", "campaign", "live", "timeline", "acks", "shared", "rollout", "audit"}
     seen = {True: 0, False: 0}
-    for name, mode, given, told in runs_of_rows(modes):
+    for name, mode, given, reason in runs_of_rows(modes):
         given = Input(given)
         refused, text, found = EXPLAIN.explained(PROGRAM, given, mode)
-        expect(refused == (told is not None), "%s: refused %s" % (name, refused))
+        expect(refused == (reason is not None), "%s: refused %s" % (name, refused))
         levels = [one.level for one in found]
         expect(levels == ["refused"] * refused + ["warning"] * (len(levels) - refused), "%s: %s" % (name, levels))
         seen[refused] += 1
@@ -135,25 +135,25 @@ def test_explain_agrees_with_the_program_over_rows():
             expect(EXPLAIN.printed(text, one), name)
         if refused:
             first = found[0]
-            expect(told.rstrip() in first.what and first.hints, "%s: %s %s" % (name, first.what, first.hints))
-            expect(not wrong_place(given, mode, told, text, first), "%s: %s at %s" % (name, told, text.place(first.start)))
+            expect(reason.rstrip() in first.what and first.hints, "%s: %s %s" % (name, first.what, first.hints))
+            expect(not wrong_place(given, mode, reason, text, first), "%s: %s at %s" % (name, reason, text.place(first.start)))
     expect(seen[True] > 300 and seen[False] > 300, str(seen))
 
 
 def test_explain_reads_json_as_the_program():
     """What isn't JSON to one of them isn't to the other."""
-    for name, mode, given, told in runs_of_rows({"campaign", "live", "timeline", "acks", "shared", "rollout"}):
+    for name, mode, given, reason in runs_of_rows({"campaign", "live", "timeline", "acks", "shared", "rollout"}):
         broken = scenarios.Scenario("row", Input(given).text).broken
-        expect((broken is not None) == (told == "json"), "%s: %s" % (name, broken))
+        expect((broken is not None) == (reason == "json"), "%s: %s" % (name, broken))
 
 
 def test_explain_has_a_sentence_for_each_refusal():
     """Each refusal of the definitions has its row, and no row is of none."""
     with open(os.path.join(TOP, "crates/portus_build/specs/RefusalText.antt"), encoding="utf-8") as file:
         names = set(re.findall(r'"([A-Z][A-Za-z]+)', file.read())) - {"NoMemory"}
-    told = asking.sentences_of("language.md")
-    expect(names and names == set(told), "%s" % sorted(names ^ set(told)))
-    expect(set(programs.HINTS) <= set(told), "hints")
+    sentences = asking.sentences_of("language.md")
+    expect(names and names == set(sentences), "%s" % sorted(names ^ set(sentences)))
+    expect(set(programs.HINTS) <= set(sentences), "hints")
     kinds = {"json", "missing", "wrong", "range", "program", "totals", "BadLine", "EmptyTrace", "NotRising", "ZeroPeriod"}
     expect(set(asking.sentences_of("scenarios.md")) == kinds, "scenarios")
 

@@ -58,24 +58,24 @@ def rows_of_scenarios():
     loader = importlib.machinery.SourceFileLoader("tests_explain", os.path.join(TOOLS, "tests", "explain.py"))
     module = importlib.util.module_from_spec(importlib.util.spec_from_loader(loader.name, loader))
     loader.exec_module(module)
-    for name, mode, data, told in module.runs_of_rows({"campaign", "live", "timeline", "acks", "shared", "rollout"}):
+    for name, mode, data, reason in module.runs_of_rows({"campaign", "live", "timeline", "acks", "shared", "rollout"}):
         try:
             text = data.decode("utf-8")
             json.loads(text)
         except ValueError:
-            expect(told is not None, "%s: ccp takes what Python doesn't" % name)
+            expect(reason is not None, "%s: ccp takes what Python doesn't" % name)
             continue
         # `timeline` and `acks` read what `live` reads
-        yield name, "live" if mode in ("timeline", "acks") else mode, text, told
+        yield name, "live" if mode in ("timeline", "acks") else mode, text, reason
 
 
 def is_whole_to_a_schema(value):
     return value is not None and value.kind == "number" and value.whole() is None and float(value.is_).is_integer()
 
 
-def beyond_a_schema(told, text):
+def beyond_a_schema(reason, text):
     """The name of what a schema can't say, for which ccp refuses a text; or nothing."""
-    kind, _, path = told.partition(" ")
+    kind, _, path = reason.partition(" ")
     if kind == "json":
         return "how deep values are nested, and how large a number is as it is written"
     if kind == "totals":
@@ -83,7 +83,7 @@ def beyond_a_schema(told, text):
     if kind == "program":
         return "the datapath language"
     if kind == "trace":
-        return "that times rise" if " NotRising " in told else None
+        return "that times rise" if " NotRising " in reason else None
     value = scenarios.Scenario("row", text).found(path)[2]
     if kind == "wrong" and is_whole_to_a_schema(value):
         return "how a whole number is written: 5.0, 1e2, -0 and numbers above 2^64"
@@ -104,17 +104,17 @@ def steps_of(path):
 
 def test_schema_is_as_ccp_over_rows():
     rows = list(rows_of_scenarios())
-    for (name, _, text, told), errors in zip(rows, validated([(mode, text) for _, mode, text, _ in rows])):
-        if told is None:
+    for (name, _, text, reason), errors in zip(rows, validated([(mode, text) for _, mode, text, _ in rows])):
+        if reason is None:
             expect(not errors, "%s: ccp takes it, the schema says %s" % (name, errors[:3]))
         elif not errors:
-            expect(beyond_a_schema(told, text), "%s: ccp says %s, the schema accepts it" % (name, told))
+            expect(beyond_a_schema(reason, text), "%s: ccp says %s, the schema accepts it" % (name, reason))
         else:
-            kind, _, path = told.partition(" ")
+            kind, _, path = reason.partition(" ")
             steps = steps_of(path)[: -1 if kind == "missing" else None]
             at = {"program": ["programs"], "trace": ["traces"]}.get(kind, steps)
             places = [place for _, place in errors]
-            expect(beyond_a_schema(told, text) or any(place[: len(at)] == at for place in places), "%s: ccp says %s, the schema %s" % (name, told, errors[:3]))
+            expect(beyond_a_schema(reason, text) or any(place[: len(at)] == at for place in places), "%s: ccp says %s, the schema %s" % (name, reason, errors[:3]))
 
 
 CASE = '{"name":"a","agent":"reno","trace":"t","mss":1448,"queue":10,"delay_us":20000,"timeout_us":1000000,"acks":4%s}'
@@ -135,10 +135,10 @@ BEYOND = [
 
 def test_schema_cannot_say_these():
     """Each kind of difference, by a scenario that the schema accepts and the program refuses."""
-    for (told, text), errors in zip(BEYOND, validated([("live", text) for _, text in BEYOND])):
+    for (reason, text), errors in zip(BEYOND, validated([("live", text) for _, text in BEYOND])):
         _, printed, status = ccp(["live"], text)
-        expect(status == 3 and printed == "ccp: input refused: %s\n" % told, printed)
-        expect(not errors and beyond_a_schema(told, text), "%s: %s" % (told, errors))
+        expect(status == 3 and printed == "ccp: input refused: %s\n" % reason, printed)
+        expect(not errors and beyond_a_schema(reason, text), "%s: %s" % (reason, errors))
 
 
 def test_schema_chooses_the_mode():
