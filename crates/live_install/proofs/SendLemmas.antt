@@ -7,6 +7,7 @@ use Rattle.portus_core.specs.contracts.program.Cmd as Cmd
 use Rattle.portus_core.specs.contracts.program.Block as Block
 use Rattle.portus_core.specs.contracts.program.Program as Program
 use Rattle.reg_code.specs.contracts.checked.Checked as Checked
+use Rattle.reg_code.specs.contracts.packed.Packed as Packed
 use Rattle.reg_compiler.specs.contracts.built.Built as Built
 use Rattle.scenario_json.specs.contracts.open_case.OpenCase as Case
 use Rattle.fold_machine.specs.contracts.machine.Machine as Machine
@@ -24,8 +25,11 @@ block-send = search (cmd-send, crosses, knot.crosses, sendable) depth 60 fits 20
 program-send : IsSend (Program.the_field).row
 program-send = search (block-send, crosses, knot.crosses, sendable) depth 60 fits 20000
 
+packed-send : IsSend Packed.the_row
+packed-send = search (crosses, sendable) depth 60 fits 20000
+
 checked-send : IsSend (Checked.the_field).row
-checked-send = search (crosses, sendable) depth 60 fits 20000
+checked-send = search (packed-send, crosses, sendable) depth 60 fits 20000
 
 built-send : IsSend Built.the_row
 built-send =
