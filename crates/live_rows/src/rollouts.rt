@@ -83,18 +83,18 @@ fn make_all<L: Ledger>(
 /// The book of a case after a word.
 fn book(alloc: Global, case: &OpenCase, word: &[OpenLetter]) -> Result<OpenBook, Fail> {
     let mut cell = OpenCell::new(alloc, case.copy(alloc)?)?;
-    let made = make_all::<Brand>(alloc, &mut cell, word, Blank::new(1));
-    if made == Ok(true) && cell.is_complete() {
+    let is_legal = make_all::<Brand>(alloc, &mut cell, word, Blank::new(1))?;
+    if is_legal && cell.is_complete() {
         return Ok(cell.finish());
     }
     drop(cell);
-    Err("the word isn't legal and complete")?
+    Err("the word isn't legal and complete".into())
 }
 
 /// The books of the first two cases.
 fn books(alloc: Global, cases: &[OpenCase]) -> Result<OpenBooks, Fail> {
     let [first, second] = cases else {
-        Err("not two cases")?
+        return Err("not two cases".into());
     };
     let mut books = OpenBooks::new(alloc);
     books.push(book(alloc, first, &FIRST)?)?;
