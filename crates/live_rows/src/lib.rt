@@ -4,6 +4,4 @@
 #[cfg(test)]
 mod entries;
 #[cfg(test)]
-mod rollouts;
-#[cfg(test)]
 mod tables;
