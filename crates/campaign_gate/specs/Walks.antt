@@ -55,7 +55,7 @@ opened case = record { case = case; word = [] }
 abbrev pub longer : Letter → CellState → CellState
 longer letter cell = record { case = cell.case; word = cell.word ++ letter ∷ [] }
 
--- where a ticket is out, it was taken at so many acknowledgements
+-- if a ticket is out, this is the number of acknowledgements at which it was taken
 abbrev pub WasTaken : CellState → ℕ → Type 0
 WasTaken cell taken = ForSome (world_at cell).out (λ (ticket : Taken ℕ). ticket.taken ≡ taken)
 

@@ -41,7 +41,7 @@ module _ {E : Type 0} (old new : Known) (alike : is_some old ≡ is_some new) (b
   read_takes (Ok count) known = taken_known old new (take count buffer) alike known.0
   read_takes (Err error) known = record {}
 
--- a write that took so many bytes, which is a failure or not
+-- a write that took this number of bytes, which is a failure or not
 abbrev taken_or : Bool → ℕ → Result ℕ Failed
 taken_or failed count = if failed then Err (record {}) else Ok count
 

@@ -115,7 +115,7 @@ pub fn asked_run<R: Threads + Wait + Sync, S: Source, K: Sink, E: Sink, G: Gate 
     }
 }
 
-/// What a mode with workers comes to before anything is written.
+/// The output of a mode with workers, or why there is none, before anything is written.
 fn attempt<R: Threads + Wait + Sync, S: Source, G: Gate + Sync>(
     rt: &R,
     alloc: Global,

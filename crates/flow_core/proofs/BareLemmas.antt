@@ -75,7 +75,7 @@ length-in pool (slot ∷ slots) = omega (arith, length-in pool slots)
 
 -- ---- a taking
 
--- what is told next, with what is left
+-- the next report or notice, with what is left
 told-next : (pool : PoolState) (slots : List ℕ) (untold : Option Notice) (told : Told)
     → Some told ≡ next_told (reports_in pool slots) untold
     → next_telling (reports_in pool slots) untold ≡ Some (told, (drop 1 (reports_in pool slots), notice_left slots untold))

@@ -50,7 +50,7 @@ new_notice Reported untold = None
 new_notice Held untold = None
 new_notice Stopped untold = None
 
--- the line of a ticket that was taken and answered at so many acknowledgements
+-- the line of a ticket, with the numbers of acknowledgements at which it was taken and answered
 abbrev pub line_of : Ticket → ℕ → ℕ → TicketLine
 line_of ticket taken answered = record { told = ticket.told; taken = taken; answered = answered; reply = reply_of ticket }
 

@@ -1,4 +1,4 @@
--- What an acknowledgement comes to on a machine.
+-- What a machine does with an acknowledgement.
 use Rattle.std.specs.Prelude.{ℕ, Bool}
 use Rattle.ccp_base.specs.declared.ack.Ack.{Ack}
 use Rattle.ccp_base.specs.declared.arithmetic.FaultKind.{FaultKind}

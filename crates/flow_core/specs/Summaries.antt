@@ -88,7 +88,7 @@ step_ack flow ack s = step_outcome flow ack (outcome_at flow ack s) s
 
 -- ---- a ticket is taken
 
--- what is told next, with what is left then
+-- the next report or notice, with what is left then
 abbrev pub next_telling : List Report → Option Notice → Option (Told × (List Report × Option Notice))
 next_telling (report ∷ rest) untold = Some (told.Report report, (rest, untold))
 next_telling [] (Some notice) = Some (told.Fault notice, ([], None))
