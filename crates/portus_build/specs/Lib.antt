@@ -6,3 +6,6 @@ pub mod Builtins
 pub mod Looks
 pub mod RefusalText
 pub mod Settled
+pub mod TextReadings
+pub mod TextWalk
+pub mod BuiltinPrograms

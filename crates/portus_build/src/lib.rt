@@ -12,4 +12,4 @@ pub use building::build;
 pub use builtins::builtin;
 pub use fault::BuildFault;
 pub use refusal::put_refusal;
-pub use settled::build_law;
+pub use settled::{build_law, builtin_law, walk_law};

@@ -1,10 +1,9 @@
--- What a case's codes keep within, that its losses rise, and that its agent and its programs are those of its plan.
-use Rattle.std.proofs.Common.{◌≡◌, ℕ, zero, suc, ◌+◌, ◌-◌, ◌<◌, ◌≤◌, List, [], ◌∷◌, ◌++◌, Some, None, cond, nat_lt, take, length, codes, refl, sym, ap, ◌∙◌, subst, arith, slice_get, slice_index}
+-- What a case's codes keep within, and that its agent and its programs are those of its plan.
+use Rattle.std.proofs.Common.{◌≡◌, ℕ, ◌<◌, ◌≤◌, List, Some, None, cond, nat_lt, take, length, codes, refl, sym, ap, ◌∙◌, arith}
 use Rattle.std.specs.Option.{ForSome}
 use Rattle.std.proofs.lemmas.Bool.Decides.{nat_tests}
 use Rattle.std.proofs.lemmas.List.{length-map, length-take}
 use Rattle.std.specs.List.{position_or_len}
-use Rattle.std.specs.List.Sorted.{IsStrictlyIncreasing}
 use Rattle.ccp_base.specs.Limits.{most_fields}
 use Rattle.ccp_base.specs.declared.look.Role.{Role}
 use Rattle.ccp_base.specs.declared.place.Place.{Place}
@@ -17,9 +16,8 @@ use Rattle.portus_build.specs.Looks.{has_name, number_of, look_of}
 use Rattle.agent_core.specs.Agents.{course_of}
 use Rattle.flow_core.specs.declared.case.Coded.{Coded}
 use Rattle.flow_core.specs.Cases.{KeepsWithin, AreOne}
-use Rattle.scenario_json.specs.declared.plan.Kind.{Kind}
-use Rattle.scenario_json.specs.declared.plan.Kind.TheVariants.{Reno, Cubic}
-use Rattle.scenario_json.specs.CaseWalk.{last_of}
+use Rattle.scene_members.specs.declared.plan.Kind.{Kind}
+use Rattle.scene_members.specs.declared.plan.Kind.TheVariants.{Reno, Cubic}
 use Rattle.scenario_json.specs.Cases.{coded_at, agent_of, kind_of}
 
 below_where : (n m limit x : ℕ) → m ≤ limit → cond (nat_lt n m) (Some n) None ≡ Some x → x < limit
@@ -64,26 +62,3 @@ ca_of_agent Cubic mss ss ca = refl
 pub kind_of_agent : (kind : Kind) (mss : ℕ) (ss ca : Role) → kind_of (agent_of kind mss ss ca) ≡ kind
 kind_of_agent Reno mss ss ca = refl
 kind_of_agent Cubic mss ss ca = refl
-
--- losses that rise, and one more above the last of them
-pub rising_pushed : (losses : List ℕ) (next : ℕ) → IsStrictlyIncreasing losses → ForSome (last_of losses) (λ b. b < next) → IsStrictlyIncreasing (losses ++ next ∷ [])
-rising_pushed [] next rise above = λ k within. absurd (omega (arith, within))
-rising_pushed (x ∷ []) next rise above = two (above x refl)
-  where
-    two : x < next → IsStrictlyIncreasing (x ∷ next ∷ [])
-    two below zero within = below
-    two below (suc k) within = absurd (omega (arith, within))
-rising_pushed (x ∷ y ∷ rest) next rise above =
-    let last : suc (suc (length rest)) - 1 ≡ suc (length rest) = omega arith in
-    let before : length rest ≡ suc (length rest) - 1 = omega arith in
-    let later : IsStrictlyIncreasing (y ∷ rest) =
-    λ k within.
-    let one : suc k + 1 ≡ suc (k + 1) = omega arith in
-    subst (λ n. slice_index (y ∷ rest) k < slice_index (x ∷ y ∷ rest) n) one (rise (suc k) (omega (arith, within))) in
-    more (rise 0 (omega arith)) (rising_pushed (y ∷ rest) next later (λ b is. above b (ap (slice_get (x ∷ y ∷ rest)) last ∙ ap (slice_get (y ∷ rest)) before ∙ is)))
-  where
-    more : x < y → IsStrictlyIncreasing (y ∷ (rest ++ next ∷ [])) → IsStrictlyIncreasing (x ∷ y ∷ (rest ++ next ∷ []))
-    more first later zero within = first
-    more first later (suc k) within =
-        let one : suc (k + 1) ≡ suc k + 1 = omega arith in
-        subst (λ n. slice_index (x ∷ y ∷ (rest ++ next ∷ [])) (suc k) < slice_index (x ∷ y ∷ (rest ++ next ∷ [])) n) one (later k (omega (arith, within)))

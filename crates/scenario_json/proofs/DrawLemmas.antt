@@ -1,8 +1,13 @@
--- What the generator's draws come to: its traces say their times, and one plan more is drawn.
-use Rattle.std.proofs.Common.{◌≡◌, ℕ, zero, suc, ◌-◌, ◌<◌, List, [], ◌∷◌, ◌++◌, Ok, length, refl, arith}
+-- What the generator's draws come to: its traces say their times, its names are names, and one plan more is drawn.
+use Rattle.std.proofs.Common.{◌≡◌, ℕ, zero, suc, ◌-◌, ◌<◌, ◌≤◌, ◌^◌, List, [], ◌∷◌, ◌++◌, Ok, Some, length, codes, refl, arith}
+use Rattle.std.proofs.lemmas.Bool.{le-leb}
+use Rattle.std.proofs.lemmas.Fmt.{length-decimal-le}
+use Rattle.std.specs.Fmt.{decimal}
+use Rattle.ccp_base.specs.Named.{name_of}
+use Rattle.ccp_base.specs.Text.{◌⧺◌}
 use Rattle.link_model.specs.TraceText.{trace_of}
 use Rattle.scenario_json.specs.Soak.{text_at, times_at, drawn_plan, drawn_plans}
-use Rattle.scenario_json.specs.declared.plan.Plan.{Plan}
+use Rattle.scene_members.specs.declared.plan.Plan.{Plan}
 
 -- the texts of the generated traces say their times
 pub text_read : (choice : ℕ) → trace_of (text_at choice) ≡ Ok (times_at choice)
@@ -10,6 +15,15 @@ text_read zero = refl
 text_read (suc zero) = refl
 text_read (suc (suc zero)) = refl
 text_read (suc (suc (suc n))) = refl
+
+held : (text : List ℕ) → 1 ≤ length text → length text ≤ 64 → name_of text ≡ Some text
+held text some short = rw (le-leb 1 (length text) some) (rw (le-leb (length text) 64 short) refl)
+
+-- the generated names are names
+pub name_named : (i : ℕ) → i < 2 ^ 64 → name_of (codes "s" ⧺ decimal i) ≡ Some (codes "s" ⧺ decimal i)
+name_named i small =
+    let digits : length (decimal i) ≤ 20 = length-decimal-le 20 i (omega arith) (omega (arith, small)) small in
+    held (codes "s" ⧺ decimal i) (omega arith) (omega (arith, digits))
 
 pub plans_done : (done : List Plan) (x : ℕ) → drawn_plans 0 done x ≡ done
 unfolding drawn_plans

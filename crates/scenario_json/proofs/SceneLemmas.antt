@@ -1,13 +1,12 @@
 -- The cases that are put together of plans, one more at a time.
-use Rattle.std.proofs.Common.{◌≡◌, ℕ, ◌+◌, ◌<◌, List, [], ◌∷◌, ◌++◌, length, map, refl, sym, ap, ap₂, ◌∙◌, arith, append_assoc, slice_index_or}
-use Rattle.std.proofs.lemmas.List.{append-nil}
+use Rattle.std.proofs.Common.{◌≡◌, ℕ, ◌+◌, ◌<◌, List, [], ◌∷◌, ◌++◌, length, map, sym, ap, ap₂, ◌∙◌, arith, append_assoc, slice_index_or}
 use Rattle.std.proofs.lemmas.List.{map_push}
 use Rattle.std.specs.List.{All, remove}
 use Rattle.reg_compiler.specs.declared.built.Built.{Built}
 use Rattle.flow_core.specs.declared.case.Case.{Case}
-use Rattle.scenario_json.specs.declared.plan.Plan.{Plan}
+use Rattle.scene_members.specs.declared.plan.Plan.{Plan}
 use Rattle.scenario_json.specs.Cases.{plan_of, case_names, IsCoded, AreFlowsFrom}
-use Rattle.scenario_json.proofs.ProgramLemmas.{all_pushed}
+use Rattle.scene_members.proofs.ListLemmas.{all_pushed}
 
 -- these cases are put together of the plans but for those that are left
 pub record ArePut (programs : List (ℕ × Built)) (plans : List Plan) (cases : List Case) (left : List Plan) (names : List (List ℕ)) : Type 0 where
@@ -40,9 +39,3 @@ put_step programs plans cases left rest plan one names is h flow said coded = re
       ap (λ ns. ns ++ plan.name ∷ []) h.named ∙ ap (λ n. case_names cases ++ n ∷ []) (sym (ap (λ p. p.name) said))
       ∙ sym (map_push (λ case. case.name) cases one);
 }
-
--- nothing is left
-pub put_all : (programs : List (ℕ × Built)) (plans : List Plan) (cases : List Case) (left : List Plan) (names : List (List ℕ))
-    → ArePut programs plans cases left names → left ≡ [] → map plan_of cases ≡ plans
-put_all programs plans cases left names h none =
-    sym (append-nil (map plan_of cases)) ∙ sym (ap (λ ps. map plan_of cases ++ ps) none) ∙ h.said

@@ -1,4 +1,4 @@
--- What the cases of a scenario are: what they say, with agents that are told nothing yet and the codes of their
+-- What the cases of a scenario are: what they say, with agents in their initial state and the codes of their
 -- programs.
 use Rattle.std.specs.Prelude.{◌≡◌, ℕ, ◌+◌, Option, Some, option_map, List, [], ◌∷◌, map, slice_get, ⊤}
 use Rattle.ccp_base.specs.declared.look.Role.{Role}
@@ -11,9 +11,9 @@ use Rattle.agent_core.specs.declared.agent.Agent.{Agent}
 use Rattle.agent_core.specs.declared.agent.Agent.TheVariants as agent
 use Rattle.flow_core.specs.declared.case.Coded.{Coded}
 use Rattle.flow_core.specs.declared.case.Case.{Case}
-use Rattle.scenario_json.specs.declared.plan.Kind.{Kind}
-use Rattle.scenario_json.specs.declared.plan.Kind.TheVariants.{Reno, Cubic}
-use Rattle.scenario_json.specs.declared.plan.Plan.{Plan}
+use Rattle.scene_members.specs.declared.plan.Kind.{Kind}
+use Rattle.scene_members.specs.declared.plan.Kind.TheVariants.{Reno, Cubic}
+use Rattle.scene_members.specs.declared.plan.Plan.{Plan}
 
 -- a built program as an agent's role has it: its number, where it keeps what agents read and write, and its code
 abbrev pub coded_of : ℕ → ℕ × Built → Coded
@@ -26,7 +26,7 @@ coded_of number one = record {
 abbrev pub coded_at : List (ℕ × Built) → ℕ → Option Coded
 coded_at programs number = option_map (coded_of number) (slice_get programs number)
 
--- an agent that was told nothing yet
+-- the agent in its initial state
 abbrev pub agent_of : Kind → ℕ → Role → Role → Agent
 agent_of Reno mss ss ca = agent.Reno (first_reno mss ss ca)
 agent_of Cubic mss ss ca = agent.Cubic (first_cubic mss ss ca)
@@ -41,19 +41,19 @@ plan_of case = record {
   name = case.name;
   kind = kind_of case.agent;
   trace = case.link.trace;
-  measures = record {
+  link_numbers = record {
     mss = case.link.mss;
     queue = case.link.queue;
     delay_us = case.link.delay_us;
     timeout_us = case.link.timeout_us;
     acks = case.acks;
   };
-  waits = record { slots = case.slots; lag = case.lag };
-  fates = record { losses = case.link.losses; mark = case.link.mark };
+  agent_numbers = record { slots = case.slots; lag = case.lag };
+  loss_plan = record { losses = case.link.losses; mark = case.link.mark };
   programs = record { ss = case.ss.role.number; ca = case.ca.role.number };
 }
 
--- a case's codes are those of its programs, and its agent was told nothing yet
+-- a case's codes are those of its programs, and its agent is in its initial state
 pub record IsCoded (programs : List (ℕ × Built)) (case : Case) : Type 0 where
   pub ss : coded_at programs case.ss.role.number ≡ Some case.ss
   pub ca : coded_at programs case.ca.role.number ≡ Some case.ca

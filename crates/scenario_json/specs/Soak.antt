@@ -2,13 +2,13 @@
 use Rattle.std.specs.Prelude.{ℕ, zero, suc, ◌+◌, ◌*◌, ◌/◌, ◌%◌, ◌^◌, ◌==◌, if◌then◌else◌, None, List, [], ◌∷◌, ◌++◌, length, codes, decimal}
 use Rattle.ccp_base.specs.Text.{◌⧺◌}
 use Rattle.ccp_base.specs.Limits.{most_flows}
-use Rattle.scenario_json.specs.declared.plan.Kind.{Kind}
-use Rattle.scenario_json.specs.declared.plan.Kind.TheVariants.{Reno, Cubic}
-use Rattle.scenario_json.specs.declared.plan.Measures.{Measures}
-use Rattle.scenario_json.specs.declared.plan.Waits.{Waits}
-use Rattle.scenario_json.specs.declared.plan.Plan.{Plan}
-use Rattle.scenario_json.specs.CaseWalk.{avoidance_of}
-use Rattle.scenario_json.specs.ScenePrograms.{TextReading, built_ins}
+use Rattle.scene_members.specs.declared.plan.Kind.{Kind}
+use Rattle.scene_members.specs.declared.plan.Kind.TheVariants.{Reno, Cubic}
+use Rattle.scene_members.specs.declared.plan.LinkNumbers.{LinkNumbers}
+use Rattle.scene_members.specs.declared.plan.AgentNumbers.{AgentNumbers}
+use Rattle.scene_members.specs.declared.plan.Plan.{Plan}
+use Rattle.scene_members.specs.CaseWalk.{avoidance_of}
+use Rattle.scenario_json.specs.ScenePrograms.{built_ins}
 use Rattle.scenario_json.specs.Scene.{Scene, scene_with}
 
 -- the number that is drawn from, after a draw
@@ -26,8 +26,8 @@ segment (suc zero) = 1448
 segment (suc (suc n)) = 8948
 
 -- acknowledgements, size of segments, queue and delay
-abbrev pub drawn_measures : ℕ → Measures × ℕ
-drawn_measures x =
+abbrev pub drawn_link_numbers : ℕ → LinkNumbers × ℕ
+drawn_link_numbers x =
     let acks = draw 2001 x in
     let mss = draw 3 acks.1 in
     let queue = draw 200 mss.1 in
@@ -50,11 +50,11 @@ drawn_losses (suc left) before done x =
     drawn_losses left (before + (50 + more.0)) (done ++ (before + (50 + more.0)) ∷ []) more.1
 
 -- a number of losses, then the losses
-abbrev pub drawn_fates : ℕ → List ℕ × ℕ
-drawn_fates x = let count = draw 8 x in drawn_losses count.0 0 [] count.1
+abbrev pub drawn_loss_plan : ℕ → List ℕ × ℕ
+drawn_loss_plan x = let count = draw 8 x in drawn_losses count.0 0 [] count.1
 
-abbrev pub drawn_waits : ℕ → Waits × ℕ
-drawn_waits x =
+abbrev pub drawn_agent_numbers : ℕ → AgentNumbers × ℕ
+drawn_agent_numbers x =
     let slots = draw 4 x in
     let lag = draw 20 slots.1 in (record { slots = 1 + slots.0; lag = lag.0 }, lag.1)
 
@@ -79,18 +79,18 @@ text_at (suc (suc (suc n))) = codes "10\n"
 -- the case of this number, and what is drawn from after it
 abbrev pub drawn_plan : ℕ → ℕ → Plan × ℕ
 drawn_plan i x =
-    let measures = drawn_measures x in
-    let losses = drawn_fates measures.1 in
-    let waits = drawn_waits losses.1 in
-    let kind = draw 2 waits.1 in
+    let link_numbers = drawn_link_numbers x in
+    let losses = drawn_loss_plan link_numbers.1 in
+    let agent_numbers = drawn_agent_numbers losses.1 in
+    let kind = draw 2 agent_numbers.1 in
     let trace = draw 4 kind.1 in (
       record {
         name = codes "s" ⧺ decimal i;
         kind = kind_at kind.0;
         trace = times_at trace.0;
-        measures = measures.0;
-        waits = waits.0;
-        fates = record { losses = losses.0; mark = None };
+        link_numbers = link_numbers.0;
+        agent_numbers = agent_numbers.0;
+        loss_plan = record { losses = losses.0; mark = None };
         programs = record { ss = 0; ca = avoidance_of (kind_at kind.0) };
       },
       trace.1,
@@ -103,5 +103,5 @@ drawn_plans (suc left) done x =
     let next = drawn_plan (length done) x in drawn_plans left (done ++ next.0 ∷ []) next.1
 
 -- the generated scene of a number
-abbrev pub gen : TextReading → ℕ → Scene
-gen reading number = scene_with (built_ins reading) (drawn_plans most_flows [] number)
+abbrev pub gen : ℕ → Scene
+gen number = scene_with built_ins (drawn_plans most_flows [] number)

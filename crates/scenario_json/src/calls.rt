@@ -4,64 +4,64 @@ ghost use Rattle.std.specs.List.{All};
 ghost use Rattle.serde_json.specs.View.{view};
 ghost use Rattle.ccp_base.specs.Chaining.{then_do};
 ghost use Rattle.ccp_base.specs.Limits.{most_flows, most_queue, most_quantum_us, most_rounds};
-ghost use Rattle.scenario_json.specs.ScenePrograms.{TextReading, ReadsTexts, forms_of};
-ghost use Rattle.scenario_json.specs.Scene.{scene_with, scene_of, parts_in, most_cases_of};
-ghost use Rattle.scenario_json.specs.Plans.{IsPlan};
-ghost use Rattle.scenario_json.specs.Traces.{table_of};
-ghost use Rattle.scenario_json.specs.Drafts.{parts_said};
-ghost use Rattle.scenario_json.specs.declared.mode.SceneMode.TheVariants as modes;
-ghost use Rattle.scenario_json.specs.Soak.{gen};
-ghost use Rattle.scenario_json.specs.Rollout.{rollout_of};
-ghost use Rattle.scenario_json.specs.OpenCases.{open_plan_of, AreOpenFlowsFrom};
-ghost use Rattle.scenario_json.specs.SharedScenes.{flow_link_of, shared_with, shared_of, shares_in, shared_scene_of};
+ghost use Rattle.portus_build.specs.TextWalk.{WalksAreExact};
+ghost use Rattle.scene_members.specs.OpenCases.{open_plan_of, AreOpenFlowsFrom};
+ghost use Rattle.scene_members.specs.Plans.{IsPlan};
+ghost use Rattle.scene_members.specs.SharedMembers.{shares_in};
+ghost use Rattle.scene_members.specs.Traces.{table_of};
+ghost use Rattle.scene_members.specs.Whole.{most_cases_of};
+ghost use Rattle.scene_members.specs.declared.mode.SceneMode.TheVariants as modes;
 ghost use Rattle.scenario_json.specs.Cases.{plan_of, case_names, IsCoded, AreFlowsFrom, AreNumberedFrom};
+ghost use Rattle.scenario_json.specs.MemberFaults.{in_scene};
+ghost use Rattle.scenario_json.specs.ParsedScenes.{parts_said};
+ghost use Rattle.scenario_json.specs.Rollout.{rollout_of};
+ghost use Rattle.scenario_json.specs.Scene.{scene_with, scene_of, parts_in};
+ghost use Rattle.scenario_json.specs.ScenePrograms.{forms_of};
+ghost use Rattle.scenario_json.specs.SharedScenes.{flow_link_of, shared_with, shared_of, shared_scene_of};
+ghost use Rattle.scenario_json.specs.Soak.{gen};
 ghost use Rattle.scenario_json.specs.declared.fault.SceneFault.TheVariants as fault;
 
-use crate::draft::{Draft, draft_in};
 use crate::draws::plans;
 use crate::fault::SceneFault;
-use crate::json::value_in;
-use crate::mode::SceneMode;
-use crate::open_case::OpenCases;
-use crate::open_cases::open_plans_in;
+use crate::flow_links::flow_links;
+use crate::parsed_scene::{ParsedScene, parsed_scene};
 use crate::scenario::{Scenario, put_together};
 use crate::scene_programs::{SceneProgramList, built_ins};
 use crate::shared_scene::SharedScene;
-use crate::shares::{Shares, flow_links, shares_in};
 use ccp_base::NoMemory;
+use scene_members::{OpenCases, SceneMode, Shares, open_plans_in, shares_in, value_in};
 use serde_json::Value;
 use shared_link::SharedCase;
 use std::alloc::Global;
 
 /// Reads a scenario: a JSON object with its programs, traces and cases. The refusals are those of `SceneFault`, the
 /// first one in the order of the scenario's parts.
-#[tactic(auto, using(crate::proofs::ReadingLemmas::some_reading))]
+#[tactic(auto, using(portus_build::proofs::WalkLemmas::walks_exact))]
 pub fn scenario(alloc: Global, text: &[u8], mode: SceneMode) -> Result<Scenario, SceneFault>
-    // There is a reading of program texts: each text comes to a program, or to its first refusal.
-    ensures readable { (read : TextReading) × ReadsTexts read }
+    // What each program's text comes to, a program or its first refusal, is what the walks over it find.
+    ensures readable { WalksAreExact }
 
-    // The answer is the scene of the text, and each refusal the text's first one, over every reading.
-    ensures found { (read : TextReading) → ReadsTexts read → IfOk result (λ s.
-        scene_of read mode text.now ≡ Ok (scene_with (forms_of s.programs) (map plan_of s.cases))) }
-    ensures refused { (read : TextReading) → ReadsTexts read
-        → IfErr result (λ e. e ≢ fault.NoMemory → scene_of read mode text.now ≡ Err e) }
+    // The answer is the scene of the text, and each refusal the text's first one.
+    ensures found { IfOk result (λ s.
+        scene_of mode text.now ≡ Ok (scene_with (forms_of s.programs) (map plan_of s.cases))) }
+    ensures refused { IfErr result (λ e. e ≢ fault.NoMemory → scene_of mode text.now ≡ Err e) }
 
     // The programs' numbers are their places, from 0 on.
     ensures numbered { IfOk result (λ s. AreNumberedFrom 0 s.programs) }
 
-    // Each case has the codes of its programs, and an agent that was told nothing yet; case i is flow i.
+    // Each case has the codes of its programs, and an agent in its initial state; case i is flow i.
     ensures coded { IfOk result (λ s. All (IsCoded s.programs) s.cases) }
     ensures flows { IfOk result (λ s. AreFlowsFrom 0 s.cases) }
     ensures names { IfOk result (λ s. s.names ≡ case_names s.cases) }
     ensures few { IfOk result (λ s. length s.cases ≤ most_cases_of mode) }
 {
-    let Draft {
+    let ParsedScene {
         programs,
         traces: _,
         plans,
     } = {
         let whole = value_in(alloc, text)?;
-        draft_in(alloc, mode, &whole)?
+        parsed_scene(alloc, mode, &whole)?
     };
     let SceneProgramList { names: _, builts } = programs;
     Ok(put_together(alloc, builts, plans)?)
@@ -69,8 +69,8 @@ pub fn scenario(alloc: Global, text: &[u8], mode: SceneMode) -> Result<Scenario,
 
 /// Generates the scenario of a number: 64 cases of the built-in programs, by draws from the number.
 pub fn soak(alloc: Global, number: u32) -> Result<Scenario, NoMemory>
-    ensures found { (read : TextReading) → ReadsTexts read → IfOk result (λ s.
-        scene_with (forms_of s.programs) (map plan_of s.cases) ≡ gen read number) }
+    ensures found { IfOk result (λ s.
+        scene_with (forms_of s.programs) (map plan_of s.cases) ≡ gen number) }
     ensures numbered { IfOk result (λ s. AreNumberedFrom 0 s.programs) }
     ensures coded { IfOk result (λ s. All (IsCoded s.programs) s.cases) }
     ensures flows { IfOk result (λ s. AreFlowsFrom 0 s.cases) }
@@ -94,13 +94,12 @@ pub fn rollout_scene(alloc: Global, text: &[u8]) -> Result<OpenCases, SceneFault
     ensures few { IfOk result (λ cases. length cases ≤ most_flows) }
 {
     let whole = value_in(alloc, text)?;
-    open_plans_in(alloc, &whole)
+    Ok(open_plans_in(alloc, &whole)?)
 }
 
 /// What a value says of flows that share one link.
-fn shared_draft_in(alloc: Global, whole: &Value) -> Result<(Draft, Shares), SceneFault>
-    ensures draft { (read : TextReading) → ReadsTexts read
-        → IfOk result (λ both. parts_in read modes.Live (view whole.now) ≡ Ok (parts_said both.0)) }
+fn shared_parts(alloc: Global, whole: &Value) -> Result<(ParsedScene, Shares), SceneFault>
+    ensures parsed { IfOk result (λ both. parts_in modes.Live (view whole.now) ≡ Ok (parts_said both.0)) }
     ensures shares { IfOk result (λ both. shares_in (table_of both.0.traces.entries) (view whole.now) ≡ Ok both.1) }
     ensures numbered { IfOk result (λ both. AreNumberedFrom 0 both.0.programs.builts) }
     ensures within { IfOk result (λ both. All (IsPlan (length both.0.programs.builts)) both.0.plans) }
@@ -108,28 +107,27 @@ fn shared_draft_in(alloc: Global, whole: &Value) -> Result<(Draft, Shares), Scen
     ensures queue { IfOk result (λ both. (1 ≤ both.1.queue) × (both.1.queue ≤ most_queue)) }
     ensures quantum_us { IfOk result (λ both. (1 ≤ both.1.quantum_us) × (both.1.quantum_us ≤ most_quantum_us)) }
     ensures rounds { IfOk result (λ both. (1 ≤ both.1.rounds) × (both.1.rounds ≤ most_rounds)) }
-    ensures err { (read : TextReading) → ReadsTexts read → IfErr result (λ e. e ≢ fault.NoMemory
-        → then_do (parts_in read modes.Live (view whole.now)) (λ parts.
-        then_do (shares_in parts.traces (view whole.now)) (λ shares. Ok (shared_of parts shares))) ≡ Err e) }
+    ensures err { IfErr result (λ e. e ≢ fault.NoMemory
+        → then_do (parts_in modes.Live (view whole.now)) (λ parts.
+        then_do (in_scene (shares_in parts.traces (view whole.now))) (λ shares. Ok (shared_of parts shares))) ≡ Err e) }
 {
-    let draft = draft_in(alloc, SceneMode::Live, whole)?;
-    let shares = shares_in(alloc, &draft.traces, whole)?;
-    Ok((draft, shares))
+    let parsed = parsed_scene(alloc, SceneMode::Live, whole)?;
+    let shares = shares_in(alloc, &parsed.traces, whole)?;
+    Ok((parsed, shares))
 }
 
 /// Reads the scenario of flows that share one link: that of a live run with the member `shared`. The link has one flow
 /// for each case, in order. The refusals of a live run come first, then those of `shared`.
 pub fn shared_scene(alloc: Global, text: &[u8]) -> Result<SharedScene, SceneFault>
-    // The answer is the scene of the text with its link, and each refusal the text's first one, over every reading.
-    ensures found { (read : TextReading) → ReadsTexts read → IfOk result (λ s. shared_scene_of read text.now
+    // The answer is the scene of the text with its link, and each refusal the text's first one.
+    ensures found { IfOk result (λ s. shared_scene_of text.now
         ≡ Ok (shared_with (scene_with (forms_of s.scene.programs) (map plan_of s.scene.cases)) s.link s.rounds)) }
-    ensures refused { (read : TextReading) → ReadsTexts read
-        → IfErr result (λ e. e ≢ fault.NoMemory → shared_scene_of read text.now ≡ Err e) }
+    ensures refused { IfErr result (λ e. e ≢ fault.NoMemory → shared_scene_of text.now ≡ Err e) }
 
     // The programs' numbers are their places, from 0 on.
     ensures numbered { IfOk result (λ s. AreNumberedFrom 0 s.scene.programs) }
 
-    // Each case has the codes of its programs, and an agent that was told nothing yet; case i is flow i.
+    // Each case has the codes of its programs, and an agent in its initial state; case i is flow i.
     ensures coded { IfOk result (λ s. All (IsCoded s.scene.programs) s.scene.cases) }
     ensures flows { IfOk result (λ s. AreFlowsFrom 0 s.scene.cases) }
     ensures names { IfOk result (λ s. s.scene.names ≡ case_names s.scene.cases) }
@@ -141,15 +139,15 @@ pub fn shared_scene(alloc: Global, text: &[u8]) -> Result<SharedScene, SceneFaul
     ensures quantum_us { IfOk result (λ s. (1 ≤ s.link.quantum_us) × (s.link.quantum_us ≤ most_quantum_us)) }
     ensures rounds { IfOk result (λ s. (1 ≤ s.rounds) × (s.rounds ≤ most_rounds)) }
 {
-    let (draft, shares) = {
+    let (parsed, shares) = {
         let whole = value_in(alloc, text)?;
-        shared_draft_in(alloc, &whole)?
+        shared_parts(alloc, &whole)?
     };
-    let Draft {
+    let ParsedScene {
         programs,
         traces: _,
         plans,
-    } = draft;
+    } = parsed;
     let SceneProgramList { names: _, builts } = programs;
     let scene = put_together(alloc, builts, plans)?;
     let flows = flow_links(alloc, scene.cases.as_slice())?;

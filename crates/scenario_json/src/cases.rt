@@ -7,10 +7,9 @@ ghost use Rattle.ccp_base.specs.Limits.{most_mark};
 ghost use Rattle.portus_core.specs.ProgramForm.{form_of};
 ghost use Rattle.reg_compiler.specs.Simulation.{Simulates};
 ghost use Rattle.flow_core.specs.Cases.{KeepsWithin, AreOne};
-ghost use Rattle.scenario_json.specs.Plans.{IsPlan, AreMeasures, AreWaits};
+ghost use Rattle.scene_members.specs.Plans.{IsPlan, AreLinkNumbers, AreAgentNumbers};
 ghost use Rattle.scenario_json.specs.Cases.{coded_of, coded_at, agent_of, kind_of, plan_of, IsCoded};
 
-use crate::plan::{Kind, Plan, Plans, Programs};
 use agent_core::Agent;
 use ccp_base::{NoMemory, Role, Sequence};
 use cubic_agent::Cubic;
@@ -19,11 +18,12 @@ use link_model::LinkCase;
 use portus_build::calls::look;
 use reg_compiler::Built;
 use reno_agent::Reno;
+use scene_members::{Kind, Plan, Programs};
 use std::alloc::Global;
 
 /// The program of this number, as an agent's role has it.
 #[tactic(auto, using(crate::proofs::CaseLemmas::looks_within))]
-fn coded(alloc: Global, programs: &[(u32, Built)], number: u32) -> Result<Coded, NoMemory>
+fn coded_program(alloc: Global, programs: &[(u32, Built)], number: u32) -> Result<Coded, NoMemory>
     requires { number < length programs.now }
     ensures coded { IfOk result (λ c. coded_at programs.now number ≡ Some c) }
     ensures number { IfOk result (λ c. c.role.number ≡ number) }
@@ -39,7 +39,7 @@ fn coded(alloc: Global, programs: &[(u32, Built)], number: u32) -> Result<Coded,
     })
 }
 
-/// An agent that was told nothing yet.
+/// The agent in its initial state.
 fn agent(kind: Kind, mss: u32, ss: Role, ca: Role) -> Agent
     requires least { 1 ≤ mss }
     requires most { mss ≤ 65535 }
@@ -53,7 +53,7 @@ fn agent(kind: Kind, mss: u32, ss: Role, ca: Role) -> Agent
 
 /// The programs of a case: that of slow start, and that of congestion avoidance.
 #[tactic(auto, using(crate::proofs::CaseLemmas::one_program))]
-fn both_coded(
+fn coded_programs(
     alloc: Global,
     programs: &[(u32, Built)],
     numbers: Programs,
@@ -68,18 +68,18 @@ fn both_coded(
     ensures ca_within { IfOk result (λ both. KeepsWithin both.1.role.look both.1.code.code) }
     ensures one { IfOk result (λ both. AreOne both.0 both.1) }
 {
-    let ss = coded(alloc, programs, numbers.ss)?;
-    let ca = coded(alloc, programs, numbers.ca)?;
+    let ss = coded_program(alloc, programs, numbers.ss)?;
+    let ca = coded_program(alloc, programs, numbers.ca)?;
     Ok((ss, ca))
 }
 
 /// The case of a flow whose programs these are.
 #[tactic(auto, using(crate::proofs::CaseLemmas::ss_of_agent, crate::proofs::CaseLemmas::ca_of_agent, crate::proofs::CaseLemmas::kind_of_agent))]
 fn case_of(flow: u32, plan: Plan, ss: Coded, ca: Coded) -> Case
-    requires measures { AreMeasures plan.measures }
-    requires waits { AreWaits plan.waits }
-    requires rise { IsStrictlyIncreasing plan.fates.losses }
-    requires mark { ForSome plan.fates.mark (λ m. (1 ≤ m) × (m ≤ most_mark)) }
+    requires link_numbers { AreLinkNumbers plan.link_numbers }
+    requires agent_numbers { AreAgentNumbers plan.agent_numbers }
+    requires rise { IsStrictlyIncreasing plan.loss_plan.losses }
+    requires mark { ForSome plan.loss_plan.mark (λ m. (1 ≤ m) × (m ≤ most_mark)) }
     requires ss_number { ss.role.number ≡ plan.programs.ss }
     requires ca_number { ca.role.number ≡ plan.programs.ca }
     requires ss_within { KeepsWithin ss.role.look ss.code.code }
@@ -91,16 +91,16 @@ fn case_of(flow: u32, plan: Plan, ss: Coded, ca: Coded) -> Case
     ensures ca { result.ca ≡ ca }
     ensures opening { result.agent ≡ agent_of (kind_of result.agent) result.link.mss ss.role ca.role }
 {
-    let measures = plan.measures;
-    let agent = agent(plan.kind, measures.mss, ss.role, ca.role);
+    let link_numbers = plan.link_numbers;
+    let agent = agent(plan.kind, link_numbers.mss, ss.role, ca.role);
     let link = LinkCase {
         trace: plan.trace,
-        mss: measures.mss,
-        queue: measures.queue,
-        delay_us: measures.delay_us,
-        timeout_us: measures.timeout_us,
-        losses: plan.fates.losses,
-        mark: plan.fates.mark,
+        mss: link_numbers.mss,
+        queue: link_numbers.queue,
+        delay_us: link_numbers.delay_us,
+        timeout_us: link_numbers.timeout_us,
+        losses: plan.loss_plan.losses,
+        mark: plan.loss_plan.mark,
     };
     Case {
         flow,
@@ -109,9 +109,9 @@ fn case_of(flow: u32, plan: Plan, ss: Coded, ca: Coded) -> Case
         ca,
         agent,
         link,
-        acks: measures.acks,
-        slots: plan.waits.slots,
-        lag: plan.waits.lag,
+        acks: link_numbers.acks,
+        slots: plan.agent_numbers.slots,
+        lag: plan.agent_numbers.lag,
     }
 }
 
@@ -127,6 +127,6 @@ pub(crate) fn case(
     ensures plan { IfOk result (λ c. plan_of c ≡ plan) }
     ensures coded { IfOk result (λ c. IsCoded programs.now c) }
 {
-    let (ss, ca) = both_coded(alloc, programs, plan.programs)?;
+    let (ss, ca) = coded_programs(alloc, programs, plan.programs)?;
     Ok(case_of(flow, plan, ss, ca))
 }

@@ -4,15 +4,16 @@ ghost use Rattle.std.specs.List.{All};
 ghost use Rattle.std.specs.List.Sorted.{IsStrictlyIncreasing};
 ghost use Rattle.ccp_base.specs.Limits.{most_flows};
 ghost use Rattle.ccp_base.specs.Text.{◌⧺◌};
-ghost use Rattle.scenario_json.specs.CaseWalk.{avoidance_of};
-ghost use Rattle.scenario_json.specs.Plans.{IsPlan, AreMeasures, AreWaits};
-ghost use Rattle.scenario_json.specs.Soak.{draw, segment, drawn_measures, drawn_losses, drawn_fates, drawn_waits};
+ghost use Rattle.scene_members.specs.CaseWalk.{avoidance_of};
+ghost use Rattle.scene_members.specs.Plans.{IsPlan, AreLinkNumbers, AreAgentNumbers};
+ghost use Rattle.scenario_json.specs.Soak.{draw, segment, drawn_link_numbers, drawn_losses, drawn_loss_plan, drawn_agent_numbers};
 ghost use Rattle.scenario_json.specs.Soak.{kind_at, text_at, times_at, drawn_plan, drawn_plans};
 
-use crate::case_programs::avoidance_of;
-use crate::plan::{Fates, Kind, Measures, Plan, Plans, Programs, Waits};
 use ccp_base::{Name, NoMemory, Sequence};
-use link_model::Trace;
+use link_model::{Trace, TraceFault};
+use scene_members::{
+    AgentNumbers, Kind, LinkNumbers, LossPlan, Plan, Plans, Programs, avoidance_of,
+};
 use std::alloc::Global;
 
 /// The cases of a generated scenario.
@@ -50,15 +51,15 @@ fn segment(choice: u64) -> u32
     }
 }
 
-fn measures(draws: &mut Draws) -> Measures
-    ensures drawn { (result, draws.new.x) ≡ drawn_measures draws.old.x }
-    ensures within { AreMeasures result }
+fn link_numbers(draws: &mut Draws) -> LinkNumbers
+    ensures drawn { (result, draws.new.x) ≡ drawn_link_numbers draws.old.x }
+    ensures within { AreLinkNumbers result }
 {
     let acks = draws.draw(2001);
     let mss = draws.draw(3);
     let queue = draws.draw(200);
     let delay = draws.draw(100);
-    Measures {
+    LinkNumbers {
         mss: segment(mss),
         queue: 5 + queue as u32,
         delay_us: 1000 * (5 + delay),
@@ -84,25 +85,25 @@ fn losses(alloc: Global, draws: &mut Draws, count: u64) -> Result<Sequence<u32>,
     Ok(losses)
 }
 
-fn fates(alloc: Global, draws: &mut Draws) -> Result<Fates, NoMemory>
-    ensures drawn { IfOk result (λ f. (f.losses, draws.new.x) ≡ drawn_fates draws.old.x) }
+fn loss_plan(alloc: Global, draws: &mut Draws) -> Result<LossPlan, NoMemory>
+    ensures drawn { IfOk result (λ f. (f.losses, draws.new.x) ≡ drawn_loss_plan draws.old.x) }
     ensures unmarked { IfOk result (λ f. f.mark ≡ None) }
     ensures rise { IfOk result (λ f. IsStrictlyIncreasing f.losses) }
 {
     let count = draws.draw(8);
-    Ok(Fates {
+    Ok(LossPlan {
         losses: losses(alloc, draws, count)?,
         mark: None,
     })
 }
 
-fn waits(draws: &mut Draws) -> Waits
-    ensures drawn { (result, draws.new.x) ≡ drawn_waits draws.old.x }
-    ensures within { AreWaits result }
+fn agent_numbers(draws: &mut Draws) -> AgentNumbers
+    ensures drawn { (result, draws.new.x) ≡ drawn_agent_numbers draws.old.x }
+    ensures within { AreAgentNumbers result }
 {
     let slots = draws.draw(4);
     let lag = draws.draw(20);
-    Waits {
+    AgentNumbers {
         slots: 1 + slots as u32,
         lag: lag as u32,
     }
@@ -131,17 +132,19 @@ fn trace_at(alloc: Global, choice: u64) -> Result<Trace, NoMemory>
 {
     match Trace::read(alloc, text_at(choice)) {
         Ok(trace) => Ok(trace),
-        Err(_) => Err(NoMemory),
+        Err(TraceFault::NoMemory) => Err(NoMemory),
+        Err(_) => unreachable!(),
     }
 }
 
+#[tactic(auto, using(crate::proofs::DrawLemmas::name_named))]
 fn case_name(alloc: Global, i: usize) -> Result<Name, NoMemory>
     ensures { IfOk result (λ n. n ≡ codes "s" ⧺ decimal i) }
 {
     let text = format!(in alloc; "s{i}")?;
     match Name::new(text.as_bytes()) {
         Some(name) => Ok(name),
-        None => Err(NoMemory),
+        None => unreachable!(),
     }
 }
 
@@ -151,18 +154,18 @@ fn plan(alloc: Global, draws: &mut Draws, i: usize) -> Result<Plan, NoMemory>
     ensures within { IfOk result (λ p. IsPlan 3 p) }
 {
     let name = case_name(alloc, i)?;
-    let measures = measures(draws);
-    let fates = fates(alloc, draws)?;
-    let waits = waits(draws);
+    let link_numbers = link_numbers(draws);
+    let loss_plan = loss_plan(alloc, draws)?;
+    let agent_numbers = agent_numbers(draws);
     let kind = kind_at(draws.draw(2));
     let trace = trace_at(alloc, draws.draw(4))?;
     Ok(Plan {
         name,
         kind,
         trace,
-        measures,
-        waits,
-        fates,
+        link_numbers,
+        agent_numbers,
+        loss_plan,
         programs: Programs {
             ss: 0,
             ca: avoidance_of(kind),
@@ -171,7 +174,7 @@ fn plan(alloc: Global, draws: &mut Draws, i: usize) -> Result<Plan, NoMemory>
 }
 
 /// The cases of the generated scenario of a number.
-#[tactic(auto, using(crate::proofs::ProgramLemmas::all_pushed))]
+#[tactic(auto, using(scene_members::proofs::ListLemmas::all_pushed))]
 pub(crate) fn plans(alloc: Global, number: u32) -> Result<Plans, NoMemory>
     ensures drawn { IfOk result (λ ps. ps ≡ drawn_plans most_flows [] number) }
     ensures within { IfOk result (λ ps. All (IsPlan 3) ps) }

@@ -1,12 +1,10 @@
 //! Why a text is no scenario: the first cause, in the order of the text's parts.
-use ccp_base::{Bytes, Name, NoMemory};
+use ccp_base::{Name, NoMemory};
 use link_model::TraceFault;
 use portus_build::BuildFault;
-use std::alloc::{AllocError, AllocFailed};
+use scene_members::{MemberFault, Path};
+use std::alloc::AllocError;
 use thiserror::Error;
-
-/// Where a value stands in a scenario, as `cases[0].mss`.
-pub type Path = Bytes;
 
 /// Why a text is no scenario: the first cause, in the order of the text's parts.
 #[derive(Debug, Drop, Error)]
@@ -37,6 +35,25 @@ pub enum SceneFault {
     NoMemory,
 }
 
+impl From<MemberFault> for SceneFault {
+    ghost use Rattle.std.specs.Prelude.{◌≡◌};
+    ghost use Rattle.scenario_json.specs.MemberFaults.{scene_fault};
+
+    ghost from_gives = { λ fault result. result ≡ scene_fault fault };
+
+    fn from(fault: MemberFault) -> SceneFault {
+        match fault {
+            MemberFault::Json => SceneFault::Json,
+            MemberFault::Missing(path) => SceneFault::Missing(path),
+            MemberFault::Wrong(path) => SceneFault::Wrong(path),
+            MemberFault::Range(path) => SceneFault::Range(path),
+            MemberFault::Trace(name, fault) => SceneFault::Trace(name, fault),
+            MemberFault::Totals => SceneFault::Totals,
+            MemberFault::NoMemory => SceneFault::NoMemory,
+        }
+    }
+}
+
 impl From<AllocError> for SceneFault {
     ghost use Rattle.std.specs.Prelude.{◌≡◌};
     ghost use Rattle.scenario_json.specs.declared.fault.SceneFault.TheVariants as fault;
@@ -44,17 +61,6 @@ impl From<AllocError> for SceneFault {
     ghost from_gives = { λ _ f. f ≡ fault.NoMemory };
 
     fn from(_error: AllocError) -> SceneFault {
-        SceneFault::NoMemory
-    }
-}
-
-impl<T: Drop> From<AllocFailed<T>> for SceneFault {
-    ghost use Rattle.std.specs.Prelude.{◌≡◌};
-    ghost use Rattle.scenario_json.specs.declared.fault.SceneFault.TheVariants as fault;
-
-    ghost from_gives = { λ _ f. f ≡ fault.NoMemory };
-
-    fn from(_error: AllocFailed<T>) -> SceneFault {
         SceneFault::NoMemory
     }
 }

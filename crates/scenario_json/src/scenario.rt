@@ -1,14 +1,14 @@
 //! The scenario that is run, and how it is put together from programs and plans.
 ghost use Rattle.std.specs.Prelude.{◌≡◌, ◌≤◌, [], IfOk, OnOk, length, map};
 ghost use Rattle.std.specs.List.{All};
-ghost use Rattle.scenario_json.specs.Plans.{IsPlan};
+ghost use Rattle.scene_members.specs.Plans.{IsPlan};
 ghost use Rattle.scenario_json.specs.Cases.{plan_of, case_names, IsCoded, AreFlowsFrom};
 
 use crate::cases::case;
-use crate::plan::Plans;
 use ccp_base::{Names, NoMemory, Sequence};
 use flow_core::Case;
 use reg_compiler::{Built, Builts};
+use scene_members::Plans;
 use std::alloc::Global;
 
 /// What is run: all programs with their numbers, and the cases with their names, in order. Case i is flow i.
@@ -20,7 +20,7 @@ pub struct Scenario {
 }
 
 /// Puts the cases of plans into an empty list, and their names into another.
-#[tactic(auto, using(crate::proofs::ProgramLemmas::all_pushed))]
+#[tactic(auto, using(scene_members::proofs::ListLemmas::all_pushed))]
 fn put_cases(
     alloc: Global,
     programs: &[(u32, Built)],

@@ -8,23 +8,18 @@ ghost use Rattle.portus_core.specs.ProgramForm.{form_of};
 ghost use Rattle.portus_build.specs.Builtins.{builtin_text};
 ghost use Rattle.portus_build.specs.declared.fault.BuildFault.TheVariants as build_fault;
 ghost use Rattle.scenario_json.specs.Cases.{AreNumberedFrom};
-ghost use Rattle.scenario_json.specs.ScenePrograms.{TextReading, ReadsTexts, named_program, programs_from, programs_in};
-ghost use Rattle.scenario_json.specs.ScenePrograms.{built_in, built_ins, few_members, names_of, forms_of};
+ghost use Rattle.portus_build.specs.TextWalk.{program_of};
+ghost use Rattle.scenario_json.specs.ScenePrograms.{named_program, programs_from, programs_in};
+ghost use Rattle.scenario_json.specs.ScenePrograms.{built_in, built_ins, names_of, forms_of};
 ghost use Rattle.scenario_json.specs.declared.fault.SceneFault.TheVariants as fault;
 
 use crate::fault::SceneFault;
-use crate::key::Key;
-use crate::spot::Spot;
-use crate::traces::named_text;
-use crate::values::object;
 use ccp_base::{Name, Names, NoMemory, Sequence};
 use portus_build::{BuildFault, build, builtin};
 use reg_compiler::{Built, Builts};
+use scene_members::{Key, named_text};
 use serde_json::{Map, Value};
 use std::alloc::Global;
-
-/// The most programs that a scenario names.
-const NAMED_PROGRAMS: usize = 13;
 
 /// A program under its name.
 #[derive(Drop)]
@@ -40,31 +35,31 @@ pub(crate) struct SceneProgramList {
     pub builts: Builts,
 }
 
-/// What a text is built into: what every reading gives for it.
-fn built(alloc: Global, text: &[u8]) -> Result<Built, BuildFault>
-    ensures ok { (read : TextReading) → ReadsTexts read → IfOk result (λ b. read text.now ≡ Ok (form_of b.program)) }
-    ensures err { (read : TextReading) → ReadsTexts read
-        → IfErr result (λ e. e ≢ build_fault.NoMemory → read text.now ≡ Err e) }
+/// What a text is built into: what it comes to.
+fn build_text(alloc: Global, text: &[u8]) -> Result<Built, BuildFault>
+    ensures ok { IfOk result (λ b. program_of text.now ≡ Ok (form_of b.program)) }
+    ensures err { IfErr result (λ e. e ≢ build_fault.NoMemory → program_of text.now ≡ Err e) }
 {
     build(alloc, text)
 }
 
-/// A built-in program. Its text is one of a program, so that it is refused only for want of memory.
+/// A built-in program. Its text is one of a program, so it is never refused.
+#[tactic(auto, using(portus_build::proofs::BuiltinLemmas::never_refused))]
 fn built_in(alloc: Global, number: u32) -> Result<Built, NoMemory>
     requires { number < 3 }
-    ensures { (read : TextReading) → ReadsTexts read
-        → IfOk result (λ b. built_in number (read (builtin_text number)) ≡ (number, form_of b.program) ∷ []) }
+    ensures { IfOk result (λ b. built_in number (program_of (builtin_text number)) ≡ (number, form_of b.program) ∷ []) }
 {
-    match built(alloc, builtin(number)) {
+    match build_text(alloc, builtin(number)) {
         Ok(built) => Ok(built),
-        Err(_) => Err(NoMemory),
+        Err(BuildFault::NoMemory) => Err(NoMemory),
+        Err(_) => unreachable!(),
     }
 }
 
 /// Puts the built-in programs into an empty list.
 fn put_built_ins(alloc: Global, builts: &mut Builts) -> Result<(), NoMemory>
     requires { builts.old ≡ [] }
-    ensures forms { (read : TextReading) → ReadsTexts read → OnOk result (forms_of builts.new ≡ built_ins read) }
+    ensures forms { OnOk result (forms_of builts.new ≡ built_ins) }
     ensures numbered { OnOk result (AreNumberedFrom 0 builts.new) }
     ensures count { OnOk result (length builts.new ≡ 3) }
 {
@@ -76,7 +71,7 @@ fn put_built_ins(alloc: Global, builts: &mut Builts) -> Result<(), NoMemory>
 
 /// The built-in programs.
 pub(crate) fn built_ins(alloc: Global) -> Result<Builts, NoMemory>
-    ensures forms { (read : TextReading) → ReadsTexts read → IfOk result (λ builts. forms_of builts ≡ built_ins read) }
+    ensures forms { IfOk result (λ builts. forms_of builts ≡ built_ins) }
     ensures numbered { IfOk result (AreNumberedFrom 0) }
     ensures count { IfOk result (λ builts. length builts ≡ 3) }
 {
@@ -86,34 +81,18 @@ pub(crate) fn built_ins(alloc: Global) -> Result<Builts, NoMemory>
 }
 
 fn named_program(alloc: Global, name: &str, value: &Value) -> Result<NamedProgram, SceneFault>
-    ensures ok { (read : TextReading) → ReadsTexts read
-        → IfOk result (λ p. named_program read name.now (view value.now) ≡ Ok (form_of p.built.program)) }
+    ensures ok { IfOk result (λ p. named_program name.now (view value.now) ≡ Ok (form_of p.built.program)) }
     ensures name { IfOk result (λ p. p.name ≡ name.now) }
-    ensures err { (read : TextReading) → ReadsTexts read
-        → IfErr result (λ e. e ≢ fault.NoMemory → named_program read name.now (view value.now) ≡ Err e) }
+    ensures err { IfErr result (λ e. e ≢ fault.NoMemory → named_program name.now (view value.now) ≡ Err e) }
 {
     let named = named_text(alloc, Key::Programs, name, value)?;
-    match built(alloc, named.text.as_bytes()) {
+    match build_text(alloc, named.text.as_bytes()) {
         Ok(built) => Ok(NamedProgram {
             name: named.name,
             built,
         }),
         Err(BuildFault::NoMemory) => Err(SceneFault::NoMemory),
         Err(fault) => Err(SceneFault::Program(named.name, fault)),
-    }
-}
-
-/// An object that doesn't have more members than a scenario names programs.
-#[tactic(auto, using(crate::proofs::ProgramLemmas::members_count))]
-pub(crate) fn few_members(alloc: Global, members: &Map<String, Value>) -> Result<(), SceneFault>
-    ensures ok { OnOk result (few_members (members_view members.now.entries) ≡ Ok (members_view members.now.entries)) }
-    ensures count { OnOk result (members_len (members_view members.now.entries) ≤ most_named_programs) }
-    ensures err { IfErr result (λ e. e ≢ fault.NoMemory → few_members (members_view members.now.entries) ≡ Err e) }
-{
-    if members.len() <= NAMED_PROGRAMS {
-        Ok(())
-    } else {
-        Err(Spot::Top(Key::Programs).out_of_range(alloc))
     }
 }
 
@@ -127,14 +106,14 @@ fn put_programs(
     requires few { length names.old + members_len (members_view members.now.entries) ≤ most_named_programs }
     requires numbered { AreNumberedFrom 0 builts.old }
     requires count { length builts.old ≡ length names.old + 3 }
-    ensures ok { (read : TextReading) → ReadsTexts read → OnOk result
-        (programs_from read (forms_of builts.old) (members_view members.now.entries) ≡ Ok (forms_of builts.new)) }
+    ensures ok { OnOk result
+        (programs_from (forms_of builts.old) (members_view members.now.entries) ≡ Ok (forms_of builts.new)) }
     ensures names { OnOk result (names.new ≡ names.old ++ names_of (members_view members.now.entries)) }
     ensures numbered { OnOk result (AreNumberedFrom 0 builts.new) }
     ensures count { OnOk result (length builts.new ≡ length names.new + 3) }
     ensures few { OnOk result (length names.new ≤ most_named_programs) }
-    ensures err { (read : TextReading) → ReadsTexts read → IfErr result (λ e. e ≢ fault.NoMemory
-        → programs_from read (forms_of builts.old) (members_view members.now.entries) ≡ Err e) }
+    ensures err { IfErr result (λ e. e ≢ fault.NoMemory
+        → programs_from (forms_of builts.old) (members_view members.now.entries) ≡ Err e) }
 {
     for (name, value) in members.iter() {
         let NamedProgram { name, built } = named_program(alloc, name.as_str(), value)?;
@@ -151,14 +130,12 @@ pub(crate) fn programs_in(
     members: &Map<String, Value>,
 ) -> Result<SceneProgramList, SceneFault>
     requires { members_len (members_view members.now.entries) ≤ most_named_programs }
-    ensures ok { (read : TextReading) → ReadsTexts read
-        → IfOk result (λ p. programs_in read (members_view members.now.entries) ≡ Ok (forms_of p.builts)) }
+    ensures ok { IfOk result (λ p. programs_in (members_view members.now.entries) ≡ Ok (forms_of p.builts)) }
     ensures names { IfOk result (λ p. p.names ≡ names_of (members_view members.now.entries)) }
     ensures numbered { IfOk result (λ p. AreNumberedFrom 0 p.builts) }
     ensures count { IfOk result (λ p. length p.builts ≡ length p.names + 3) }
     ensures few { IfOk result (λ p. length p.names ≤ most_named_programs) }
-    ensures err { (read : TextReading) → ReadsTexts read
-        → IfErr result (λ e. e ≢ fault.NoMemory → programs_in read (members_view members.now.entries) ≡ Err e) }
+    ensures err { IfErr result (λ e. e ≢ fault.NoMemory → programs_in (members_view members.now.entries) ≡ Err e) }
 {
     let mut names = Sequence::new(alloc);
     let mut builts = built_ins(alloc)?;

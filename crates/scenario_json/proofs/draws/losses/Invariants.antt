@@ -2,7 +2,7 @@ use Rattle.std.proofs.Common.{◌≡◌, ◌+◌, ◌*◌, ◌<◌, ◌≤◌, [
 use Rattle.std.specs.Option.{ForSome}
 use Rattle.std.specs.List.Sorted.{IsStrictlyIncreasing}
 use Rattle.scenario_json.specs.Soak.{drawn_losses}
-use Rattle.scenario_json.specs.CaseWalk.{last_of}
+use Rattle.scene_members.specs.CaseWalk.{last_of}
 use Rattle.scenario_json.proofs.draws.losses.Given as goal
 
 abbrev pub invariant-loop-left : goal.invariant-loop-left

@@ -1,10 +1,10 @@
 use Rattle.std.proofs.Common.{rules, arith, ◌≡◌, ◌+◌, ◌-◌, ◌<◌, [], ◌∷◌, ◌++◌, length, sym, ap, ◌∙◌, subst}
 use Rattle.std.proofs.lemmas.List.{length-append}
 use Rattle.std.specs.List.{All}
-use Rattle.scenario_json.specs.Plans.{IsPlan}
+use Rattle.scene_members.specs.Plans.{IsPlan}
 use Rattle.scenario_json.specs.Soak.{drawn_plan, drawn_plans}
 use Rattle.scenario_json.proofs.DrawLemmas.{plans_done, plans_more}
-use Rattle.scenario_json.proofs.ProgramLemmas.{all_pushed}
+use Rattle.scene_members.proofs.ListLemmas.{all_pushed}
 use Rattle.scenario_json.proofs.draws.plans.Goals as goal
 
 pub loop-left-preserved : goal.loop-left-preserved

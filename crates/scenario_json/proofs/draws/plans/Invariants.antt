@@ -2,7 +2,7 @@ use Rattle.std.proofs.Common.{◌≡◌, ◌+◌, []}
 use Rattle.std.specs.List.{All}
 use Rattle.std.proofs.Common.{length}
 use Rattle.ccp_base.specs.Limits.{most_flows}
-use Rattle.scenario_json.specs.Plans.{IsPlan}
+use Rattle.scene_members.specs.Plans.{IsPlan}
 use Rattle.scenario_json.specs.Soak.{drawn_plans}
 use Rattle.scenario_json.proofs.draws.plans.Given as goal
 

@@ -4,8 +4,8 @@ use Rattle.std.proofs.lemmas.List.Elements.{All-tail}
 use Rattle.std.specs.List.{All}
 use Rattle.std.specs.Vec.Iter.{into_iter_items, into_iter_len}
 use Rattle.flow_core.specs.declared.case.Case.{Case}
-use Rattle.scenario_json.specs.declared.plan.Plan.{Plan}
-use Rattle.scenario_json.specs.Plans.{IsPlan}
+use Rattle.scene_members.specs.declared.plan.Plan.{Plan}
+use Rattle.scene_members.specs.Plans.{IsPlan}
 use Rattle.scenario_json.specs.Cases.{plan_of, IsCoded}
 use Rattle.scenario_json.proofs.SceneLemmas.{ArePut, put_step}
 use Rattle.scenario_json.proofs.scenario.put_cases.Goals as goal

@@ -1,7 +1,7 @@
 use Rattle.std.proofs.Common.{◌≡◌, ◌+◌, length}
 use Rattle.std.specs.List.{All}
 use Rattle.std.specs.Vec.Iter.{into_iter_items, into_iter_len}
-use Rattle.scenario_json.specs.Plans.{IsPlan}
+use Rattle.scene_members.specs.Plans.{IsPlan}
 use Rattle.scenario_json.proofs.SceneLemmas.{ArePut}
 use Rattle.scenario_json.proofs.scenario.put_cases.Given as goal
 

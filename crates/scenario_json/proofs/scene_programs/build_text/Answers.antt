@@ -1,0 +1,8 @@
+use Rattle.portus_build.proofs.ReadingLemmas.{built_ok, built_err}
+use Rattle.scenario_json.proofs.scene_programs.build_text.Goals as goal
+
+pub returns-clause-ok : goal.returns-clause-ok
+returns-clause-ok c = built_ok c.args.text.now c.build.ensures.settled c.build.result c.build.ensures.found
+
+pub returns-clause-err : goal.returns-clause-err
+returns-clause-err c = built_err c.args.text.now c.build.ensures.settled c.build.result c.build.ensures.refused

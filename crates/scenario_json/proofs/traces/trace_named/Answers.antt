@@ -1,6 +1,0 @@
-use Rattle.std.proofs.Common.{◌∙◌}
-use Rattle.scenario_json.proofs.TableLemmas.{trace_lookup}
-use Rattle.scenario_json.proofs.traces.trace_named.Goals as goal
-
-pub returns : goal.returns
-returns c = c.get.ensures.value ∙ trace_lookup c.args.name.now c.args.traces.now.entries

@@ -1,0 +1,96 @@
+//! How a scenario's whole text is parsed: its programs, its traces and its cases.
+ghost use Rattle.std.specs.Prelude.{◌≡◌, ◌≢◌, ◌≤◌, ◌+◌, IfOk, IfErr, Some, None, Ok, Err, length};
+ghost use Rattle.std.specs.List.{All};
+ghost use Rattle.serde_json.specs.View.{view};
+ghost use Rattle.ccp_base.specs.Limits.{most_named_programs};
+ghost use Rattle.scene_members.specs.Plans.{IsPlan};
+ghost use Rattle.scene_members.specs.Values.{member_of};
+ghost use Rattle.scene_members.specs.Whole.{most_cases_of};
+ghost use Rattle.scene_members.specs.declared.key.Key.TheVariants as key;
+ghost use Rattle.scenario_json.specs.Cases.{AreNumberedFrom};
+ghost use Rattle.scenario_json.specs.ParsedScenes.{parts_said, programs_said};
+ghost use Rattle.scenario_json.specs.Scene.{parts_in};
+ghost use Rattle.scenario_json.specs.ScenePrograms.{all_programs};
+ghost use Rattle.scenario_json.specs.declared.fault.SceneFault.TheVariants as fault;
+
+use crate::fault::SceneFault;
+use crate::scene_programs::{SceneProgramList, built_ins, programs_in};
+use ccp_base::{NoMemory, Sequence};
+use scene_members::{
+    Key, Plans, SceneMode, Traces, cases_in, member, named_members, opening, traces_in,
+};
+use serde_json::Value;
+use std::alloc::Global;
+
+/// What a scenario says, before its cases are put together.
+#[derive(Drop)]
+pub(crate) struct ParsedScene {
+    pub programs: SceneProgramList,
+    pub traces: Traces,
+    pub plans: Plans,
+}
+
+/// The programs of a scenario that names none.
+fn unnamed_programs(alloc: Global) -> Result<SceneProgramList, NoMemory>
+    ensures ok { IfOk result (λ p. all_programs None ≡ Ok (programs_said p)) }
+    ensures numbered { IfOk result (λ p. AreNumberedFrom 0 p.builts) }
+    ensures count { IfOk result (λ p. length p.builts ≡ length p.names + 3) }
+    ensures few { IfOk result (λ p. length p.names ≤ most_named_programs) }
+{
+    let builts = built_ins(alloc)?;
+    Ok(SceneProgramList {
+        names: Sequence::new(alloc),
+        builts,
+    })
+}
+
+/// The programs of a scenario whose member `programs` is this.
+fn named_programs(alloc: Global, value: &Value) -> Result<SceneProgramList, SceneFault>
+    ensures ok { IfOk result (λ p. all_programs (Some (view value.now)) ≡ Ok (programs_said p)) }
+    ensures numbered { IfOk result (λ p. AreNumberedFrom 0 p.builts) }
+    ensures count { IfOk result (λ p. length p.builts ≡ length p.names + 3) }
+    ensures few { IfOk result (λ p. length p.names ≤ most_named_programs) }
+    ensures err { IfErr result (λ e. e ≢ fault.NoMemory
+        → all_programs (Some (view value.now)) ≡ Err e) }
+{
+    let members = named_members(alloc, value)?;
+    programs_in(alloc, members)
+}
+
+/// All programs of a scenario.
+fn all_programs(alloc: Global, whole: &Value) -> Result<SceneProgramList, SceneFault>
+    ensures ok { IfOk result (λ p. all_programs (member_of key.Programs (view whole.now)) ≡ Ok (programs_said p)) }
+    ensures numbered { IfOk result (λ p. AreNumberedFrom 0 p.builts) }
+    ensures count { IfOk result (λ p. length p.builts ≡ length p.names + 3) }
+    ensures few { IfOk result (λ p. length p.names ≤ most_named_programs) }
+    ensures err { IfErr result (λ e. e ≢ fault.NoMemory
+        → all_programs (member_of key.Programs (view whole.now)) ≡ Err e) }
+{
+    match member(whole, Key::Programs) {
+        Some(value) => named_programs(alloc, value),
+        None => Ok(unnamed_programs(alloc)?),
+    }
+}
+
+/// What a value says.
+pub(crate) fn parsed_scene(
+    alloc: Global,
+    mode: SceneMode,
+    whole: &Value,
+) -> Result<ParsedScene, SceneFault>
+    ensures ok { IfOk result (λ d. parts_in mode (view whole.now) ≡ Ok (parts_said d)) }
+    ensures numbered { IfOk result (λ d. AreNumberedFrom 0 d.programs.builts) }
+    ensures within { IfOk result (λ d. All (IsPlan (length d.programs.builts)) d.plans) }
+    ensures count { IfOk result (λ d. length d.plans ≤ most_cases_of mode) }
+    ensures err { IfErr result (λ e. e ≢ fault.NoMemory → parts_in mode (view whole.now) ≡ Err e) }
+{
+    opening(alloc, whole)?;
+    let programs = all_programs(alloc, whole)?;
+    let traces = traces_in(alloc, whole)?;
+    let plans = cases_in(alloc, mode, programs.names.as_slice(), &traces, whole)?;
+    Ok(ParsedScene {
+        programs,
+        traces,
+        plans,
+    })
+}

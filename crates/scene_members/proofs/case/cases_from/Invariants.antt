@@ -1,0 +1,16 @@
+use Rattle.std.proofs.Common.{◌≡◌, ◌+◌, [], length}
+use Rattle.std.specs.List.{All}
+use Rattle.serde_json.specs.View.{items_view}
+use Rattle.scene_members.specs.CaseWalk.{cases_from}
+use Rattle.scene_members.specs.Traces.{table_of}
+use Rattle.scene_members.specs.Plans.{IsPlan}
+use Rattle.scene_members.proofs.case.cases_from.Given as goal
+
+abbrev pub invariant-loop-value : goal.invariant-loop-value
+invariant-loop-value l =
+    (cases_from l.names (table_of l.traces.entries) l.plans (items_view l.rest) ≡ cases_from l.names (table_of l.traces.entries) [] (items_view l.values))
+    × All (IsPlan (length l.names + 3)) l.plans
+    × (length l.plans + length l.rest ≡ length l.values)
+
+abbrev pub decreases-loop-value : goal.decreases-loop-value
+decreases-loop-value l = length l.rest

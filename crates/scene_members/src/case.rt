@@ -1,0 +1,165 @@
+//! How a scenario's cases are read: name, agent, trace, and the other members of each.
+ghost use Rattle.std.specs.Prelude.{◌≡◌, ◌≢◌, ◌≤◌, ◌+◌, IfOk, IfErr, Ok, Err, [], length};
+ghost use Rattle.std.specs.List.{All};
+ghost use Rattle.serde_json.specs.View.{view};
+ghost use Rattle.ccp_base.specs.Limits.{most_named_programs};
+ghost use Rattle.scene_members.specs.CaseWalk.{case_name, kind_named, case_kind, trace_in, case_trace, case_members};
+ghost use Rattle.scene_members.specs.CaseWalk.{case_in};
+ghost use Rattle.scene_members.specs.CaseLists.{plans_in};
+ghost use Rattle.scene_members.specs.Traces.{table_of};
+ghost use Rattle.scene_members.specs.Plans.{IsPlan};
+ghost use Rattle.scene_members.specs.declared.fault.MemberFault.TheVariants as fault;
+
+use crate::case_losses::loss_plan;
+use crate::case_numbers::{agent_numbers, link_numbers};
+use crate::case_programs::programs;
+use crate::fault::MemberFault;
+use crate::json_place::JsonPlace;
+use crate::key::Key;
+use crate::names::name;
+use crate::plan::{Kind, Plan, Plans};
+use crate::traces::{Traces, trace_named};
+use crate::values::{needed, object, text};
+use ccp_base::{Name, Sequence};
+use link_model::Trace;
+use serde_json::Value;
+use std::alloc::Global;
+
+pub(crate) fn case_name(alloc: Global, i: usize, whole: &Value) -> Result<Name, MemberFault>
+    ensures ok { IfOk result (λ n. case_name i (view whole.now) ≡ Ok n) }
+    ensures err { IfErr result (λ e. e ≢ fault.NoMemory → case_name i (view whole.now) ≡ Err e) }
+{
+    let place = JsonPlace::In(i, Key::Name);
+    let value = needed(alloc, place, whole, Key::Name)?;
+    name(alloc, place, value)
+}
+
+fn kind_named(text: &[u8]) -> Option<Kind>
+    ensures { result ≡ kind_named text.now }
+{
+    if text == b"reno".as_slice() {
+        Some(Kind::Reno)
+    } else if text == b"cubic".as_slice() {
+        Some(Kind::Cubic)
+    } else {
+        None
+    }
+}
+
+fn case_kind(alloc: Global, i: usize, whole: &Value) -> Result<Kind, MemberFault>
+    ensures ok { IfOk result (λ k. case_kind i (view whole.now) ≡ Ok k) }
+    ensures err { IfErr result (λ e. e ≢ fault.NoMemory → case_kind i (view whole.now) ≡ Err e) }
+{
+    let place = JsonPlace::In(i, Key::Agent);
+    let value = needed(alloc, place, whole, Key::Agent)?;
+    let text = text(alloc, place, value)?;
+    match kind_named(text.as_bytes()) {
+        Some(kind) => Ok(kind),
+        None => Err(place.wrong(alloc)),
+    }
+}
+
+/// A copy of the trace that a value names.
+pub(crate) fn trace_in(
+    alloc: Global,
+    place: JsonPlace,
+    traces: &Traces,
+    value: &Value,
+) -> Result<Trace, MemberFault>
+    ensures ok { IfOk result (λ t. trace_in place (table_of traces.now.entries) (view value.now) ≡ Ok t) }
+    ensures err { IfErr result (λ e. e ≢ fault.NoMemory
+        → trace_in place (table_of traces.now.entries) (view value.now) ≡ Err e) }
+{
+    let name = text(alloc, place, value)?;
+    match trace_named(traces, name) {
+        Some(trace) => Ok(trace.copy(alloc)?),
+        None => Err(place.wrong(alloc)),
+    }
+}
+
+pub(crate) fn case_trace(
+    alloc: Global,
+    traces: &Traces,
+    i: usize,
+    whole: &Value,
+) -> Result<Trace, MemberFault>
+    ensures ok { IfOk result (λ t. case_trace (table_of traces.now.entries) i (view whole.now) ≡ Ok t) }
+    ensures err { IfErr result (λ e. e ≢ fault.NoMemory
+        → case_trace (table_of traces.now.entries) i (view whole.now) ≡ Err e) }
+{
+    let place = JsonPlace::In(i, Key::Trace);
+    let value = needed(alloc, place, whole, Key::Trace)?;
+    trace_in(alloc, place, traces, value)
+}
+
+/// What the members of a case say.
+fn members(
+    alloc: Global,
+    names: &[Name],
+    traces: &Traces,
+    i: usize,
+    whole: &Value,
+) -> Result<Plan, MemberFault>
+    requires { length names.now ≤ most_named_programs }
+    ensures ok { IfOk result (λ p. case_members names.now (table_of traces.now.entries) i (view whole.now) ≡ Ok p) }
+    ensures within { IfOk result (λ p. IsPlan (length names.now + 3) p) }
+    ensures err { IfErr result (λ e. e ≢ fault.NoMemory
+        → case_members names.now (table_of traces.now.entries) i (view whole.now) ≡ Err e) }
+{
+    let name = case_name(alloc, i, whole)?;
+    let kind = case_kind(alloc, i, whole)?;
+    let trace = case_trace(alloc, traces, i, whole)?;
+    let link_numbers = link_numbers(alloc, i, whole)?;
+    let agent_numbers = agent_numbers(alloc, i, whole)?;
+    let loss_plan = loss_plan(alloc, i, whole)?;
+    let programs = programs(alloc, names, kind, i, whole)?;
+    Ok(Plan {
+        name,
+        kind,
+        trace,
+        link_numbers,
+        agent_numbers,
+        loss_plan,
+        programs,
+    })
+}
+
+fn case_in(
+    alloc: Global,
+    names: &[Name],
+    traces: &Traces,
+    i: usize,
+    whole: &Value,
+) -> Result<Plan, MemberFault>
+    requires { length names.now ≤ most_named_programs }
+    ensures ok { IfOk result (λ p. case_in names.now (table_of traces.now.entries) i (view whole.now) ≡ Ok p) }
+    ensures within { IfOk result (λ p. IsPlan (length names.now + 3) p) }
+    ensures err { IfErr result (λ e. e ≢ fault.NoMemory
+        → case_in names.now (table_of traces.now.entries) i (view whole.now) ≡ Err e) }
+{
+    object(alloc, JsonPlace::Case(i), whole)?;
+    members(alloc, names, traces, i, whole)
+}
+
+/// What cases say, in order.
+#[tactic(auto, using(crate::proofs::ListLemmas::all_pushed))]
+pub(crate) fn cases_from(
+    alloc: Global,
+    names: &[Name],
+    traces: &Traces,
+    values: &[Value],
+) -> Result<Plans, MemberFault>
+    requires { length names.now ≤ most_named_programs }
+    ensures ok { IfOk result (λ ps. plans_in names.now traces.now.entries values.now ≡ Ok ps) }
+    ensures within { IfOk result (λ ps. All (IsPlan (length names.now + 3)) ps) }
+    ensures count { IfOk result (λ ps. length ps ≡ length values.now) }
+    ensures err { IfErr result (λ e. e ≢ fault.NoMemory → plans_in names.now traces.now.entries values.now ≡ Err e) }
+{
+    let mut plans = Sequence::new(alloc);
+    let mut rest = values;
+    while let Some((value, later)) = rest.split_first() {
+        plans.push(case_in(alloc, names, traces, plans.len(), value)?)?;
+        rest = later;
+    }
+    Ok(plans)
+}

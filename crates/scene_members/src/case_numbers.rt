@@ -1,0 +1,81 @@
+//! How a case's numbers are read, with the defaults for slots and lag.
+ghost use Rattle.std.specs.Prelude.{◌≡◌, ◌≢◌, ◌≤◌, IfOk, IfErr, Ok, Err};
+ghost use Rattle.serde_json.specs.View.{view};
+ghost use Rattle.scene_members.specs.Keys.{least_of, most_of};
+ghost use Rattle.scene_members.specs.Plans.{AreLinkNumbers, AreAgentNumbers};
+ghost use Rattle.scene_members.specs.CaseWalk.{case_number, case_link_numbers, case_agent_numbers};
+ghost use Rattle.scene_members.specs.declared.fault.MemberFault.TheVariants as fault;
+
+use crate::fault::MemberFault;
+use crate::json_place::JsonPlace;
+use crate::key::Key;
+use crate::plan::{AgentNumbers, LinkNumbers};
+use crate::values::{needed_number, number_or};
+use serde_json::Value;
+use std::alloc::Global;
+
+/// The slots of a case that says nothing of them.
+const SLOTS: u64 = 4;
+
+/// A number that every case gives.
+pub(crate) fn case_number(
+    alloc: Global,
+    i: usize,
+    key: Key,
+    whole: &Value,
+) -> Result<u64, MemberFault>
+    ensures ok { IfOk result (λ n. case_number i key (view whole.now) ≡ Ok n) }
+    ensures least { IfOk result (λ n. least_of key ≤ n) }
+    ensures most { IfOk result (λ n. n ≤ most_of key) }
+    ensures err { IfErr result (λ e. e ≢ fault.NoMemory → case_number i key (view whole.now) ≡ Err e) }
+{
+    needed_number(alloc, JsonPlace::In(i, key), whole, key)
+}
+
+/// The numbers that every case gives, each in its range.
+pub(crate) fn link_numbers(
+    alloc: Global,
+    i: usize,
+    whole: &Value,
+) -> Result<LinkNumbers, MemberFault>
+    ensures ok { IfOk result (λ m. case_link_numbers i (view whole.now) ≡ Ok m) }
+    ensures within { IfOk result AreLinkNumbers }
+    ensures err { IfErr result (λ e. e ≢ fault.NoMemory → case_link_numbers i (view whole.now) ≡ Err e) }
+{
+    let mss = case_number(alloc, i, Key::Mss, whole)?;
+    let queue = case_number(alloc, i, Key::Queue, whole)?;
+    let delay_us = case_number(alloc, i, Key::DelayUs, whole)?;
+    let timeout_us = case_number(alloc, i, Key::TimeoutUs, whole)?;
+    let acks = case_number(alloc, i, Key::Acks, whole)?;
+    Ok(LinkNumbers {
+        mss: mss as u32,
+        queue: queue as u32,
+        delay_us,
+        timeout_us,
+        acks: acks as u32,
+    })
+}
+
+/// How many reports may wait, and how late answers are.
+pub(crate) fn agent_numbers(
+    alloc: Global,
+    i: usize,
+    whole: &Value,
+) -> Result<AgentNumbers, MemberFault>
+    ensures ok { IfOk result (λ w. case_agent_numbers i (view whole.now) ≡ Ok w) }
+    ensures within { IfOk result AreAgentNumbers }
+    ensures err { IfErr result (λ e. e ≢ fault.NoMemory → case_agent_numbers i (view whole.now) ≡ Err e) }
+{
+    let slots = number_or(
+        alloc,
+        JsonPlace::In(i, Key::Slots),
+        whole,
+        Key::Slots,
+        SLOTS,
+    )?;
+    let lag = number_or(alloc, JsonPlace::In(i, Key::Lag), whole, Key::Lag, 0)?;
+    Ok(AgentNumbers {
+        slots: slots as u32,
+        lag: lag as u32,
+    })
+}

@@ -1,0 +1,105 @@
+//! How the names of a case's programs become numbers, and which built-in ones are the defaults.
+ghost use Rattle.std.specs.Prelude.{◌≡◌, ◌≢◌, ◌≤◌, ◌<◌, ◌+◌, IfOk, IfErr, Ok, Err, length, position, bytes_eq};
+ghost use Rattle.std.specs.Option.{ForSome};
+ghost use Rattle.serde_json.specs.View.{view};
+ghost use Rattle.ccp_base.specs.Limits.{most_named_programs};
+ghost use Rattle.scene_members.specs.Values.{member_of};
+ghost use Rattle.scene_members.specs.CaseWalk.{program_named, program_or, avoidance_of, case_programs};
+ghost use Rattle.scene_members.specs.declared.fault.MemberFault.TheVariants as fault;
+
+use crate::fault::MemberFault;
+use crate::json_place::JsonPlace;
+use crate::key::Key;
+use crate::plan::{Kind, Programs};
+use crate::values::{member, text};
+use ccp_base::Name;
+use serde_json::Value;
+use std::alloc::Global;
+
+/// How many programs are built in.
+const BUILT_IN: u32 = 3;
+
+fn is_named(known: &Name, name: &[u8]) -> bool
+    ensures { result ≡ bytes_eq known.now name.now }
+{
+    known.as_slice() == name
+}
+
+fn index_of(names: &[Name], name: &[u8]) -> Option<usize>
+    ensures index { result ≡ position (λ known. bytes_eq known name.now) names.now }
+    ensures within { ForSome result (λ i. i < length names.now) }
+{
+    names.iter().position(|known| is_named(known, name))
+}
+
+/// The number of a program that the scenario names.
+fn program_named(names: &[Name], name: &[u8]) -> Option<u32>
+    requires { length names.now ≤ most_named_programs }
+    ensures number { result ≡ program_named name.now names.now }
+    ensures within { ForSome result (λ n. n < length names.now + 3) }
+{
+    let index = index_of(names, name)?;
+    Some(index as u32 + BUILT_IN)
+}
+
+fn program_or(
+    alloc: Global,
+    place: JsonPlace,
+    names: &[Name],
+    default: u32,
+    whole: &Value,
+    key: Key,
+) -> Result<u32, MemberFault>
+    requires few { length names.now ≤ most_named_programs }
+    requires built_in { default < 3 }
+    ensures ok { IfOk result (λ n. program_or place names.now default (member_of key (view whole.now)) ≡ Ok n) }
+    ensures within { IfOk result (λ n. n < length names.now + 3) }
+    ensures err { IfErr result (λ e. e ≢ fault.NoMemory
+        → program_or place names.now default (member_of key (view whole.now)) ≡ Err e) }
+{
+    let Some(value) = member(whole, key) else {
+        return Ok(default);
+    };
+    let name = text(alloc, place, value)?;
+    match program_named(names, name.as_bytes()) {
+        Some(number) => Ok(number),
+        None => Err(place.wrong(alloc)),
+    }
+}
+
+/// The built-in program of congestion avoidance.
+pub fn avoidance_of(kind: Kind) -> u32
+    ensures number { result ≡ avoidance_of kind }
+    ensures built_in { result < 3 }
+{
+    match kind {
+        Kind::Reno => 1,
+        Kind::Cubic => 2,
+    }
+}
+
+/// The numbers of a case's programs.
+pub(crate) fn programs(
+    alloc: Global,
+    names: &[Name],
+    kind: Kind,
+    i: usize,
+    whole: &Value,
+) -> Result<Programs, MemberFault>
+    requires few { length names.now ≤ most_named_programs }
+    ensures ok { IfOk result (λ p. case_programs names.now kind i (view whole.now) ≡ Ok p) }
+    ensures ss_within { IfOk result (λ p. p.ss < length names.now + 3) }
+    ensures ca_within { IfOk result (λ p. p.ca < length names.now + 3) }
+    ensures err { IfErr result (λ e. e ≢ fault.NoMemory → case_programs names.now kind i (view whole.now) ≡ Err e) }
+{
+    let ss = program_or(alloc, JsonPlace::In(i, Key::Ss), names, 0, whole, Key::Ss)?;
+    let ca = program_or(
+        alloc,
+        JsonPlace::In(i, Key::Ca),
+        names,
+        avoidance_of(kind),
+        whole,
+        Key::Ca,
+    )?;
+    Ok(Programs { ss, ca })
+}

@@ -1,0 +1,24 @@
+//! What a scenario is read for, a live run or a campaign, which bounds its number of cases.
+ghost use Rattle.std.specs.Prelude.{◌≡◌};
+ghost use Rattle.scene_members.specs.Whole.{most_cases_of};
+
+/// What a scenario is read for.
+#[derive(Clone, Copy)]
+pub enum SceneMode {
+    /// A live run: at most 64 cases, with at most 262,144 acknowledgements in all.
+    Live,
+    /// A campaign: at most 1,024 cases.
+    Campaign,
+}
+
+impl SceneMode {
+    /// The most cases of a scenario.
+    pub(crate) fn most_cases(self) -> usize
+        ensures { result ≡ most_cases_of self }
+    {
+        match self {
+            SceneMode::Live => 64,
+            SceneMode::Campaign => 1024,
+        }
+    }
+}

@@ -1,0 +1,144 @@
+//! The readers of JSON members: numbers within a key's range, texts, lists and objects.
+ghost use Rattle.std.specs.Prelude.{◌≡◌, ◌≢◌, ◌≤◌, IfOk, IfErr, Ok, Err, option_map};
+ghost use Rattle.serde_json.specs.View.{view, items_view, members_view};
+ghost use Rattle.scene_members.specs.Keys.{least_of, most_of};
+ghost use Rattle.scene_members.specs.Values.{member_of, needed, in_range, number_in, text_in, list_in, object_in};
+ghost use Rattle.scene_members.specs.Values.{needed_number, number_or};
+ghost use Rattle.scene_members.specs.declared.fault.MemberFault.TheVariants as fault;
+
+use crate::fault::MemberFault;
+use crate::json_place::JsonPlace;
+use crate::key::Key;
+use serde_json::{Map, Value};
+use std::alloc::Global;
+
+/// The member of an object with this key.
+pub fn member(whole: &Value, key: Key) -> Option<&Value>
+    ensures { option_map (λ v. view v.now) result ≡ member_of key (view whole.now) }
+{
+    whole.get(key.word())
+}
+
+/// A member that must be there.
+pub(crate) fn needed(
+    alloc: Global,
+    place: JsonPlace,
+    whole: &Value,
+    key: Key,
+) -> Result<&Value, MemberFault>
+    ensures ok { IfOk result (λ v. needed place (member_of key (view whole.now)) ≡ Ok (view v.now)) }
+    ensures err { IfErr result (λ e. e ≢ fault.NoMemory → needed place (member_of key (view whole.now)) ≡ Err e) }
+{
+    match member(whole, key) {
+        Some(value) => Ok(value),
+        None => Err(place.missing(alloc)),
+    }
+}
+
+fn in_range(alloc: Global, place: JsonPlace, key: Key, number: u64) -> Result<u64, MemberFault>
+    ensures ok { IfOk result (λ n. in_range place key number ≡ Ok n) }
+    ensures least { IfOk result (λ n. least_of key ≤ n) }
+    ensures most { IfOk result (λ n. n ≤ most_of key) }
+    ensures err { IfErr result (λ e. e ≢ fault.NoMemory → in_range place key number ≡ Err e) }
+{
+    if key.least() <= number && number <= key.most() {
+        Ok(number)
+    } else {
+        Err(place.out_of_range(alloc))
+    }
+}
+
+/// A whole number in the range of this key. A negative one is out of range, and 5.0 is no whole number.
+pub(crate) fn number(
+    alloc: Global,
+    place: JsonPlace,
+    key: Key,
+    value: &Value,
+) -> Result<u64, MemberFault>
+    ensures ok { IfOk result (λ n. number_in place key (view value.now) ≡ Ok n) }
+    ensures least { IfOk result (λ n. least_of key ≤ n) }
+    ensures most { IfOk result (λ n. n ≤ most_of key) }
+    ensures err { IfErr result (λ e. e ≢ fault.NoMemory → number_in place key (view value.now) ≡ Err e) }
+{
+    match (value.as_u64(), value.as_i64()) {
+        (Some(number), _) => in_range(alloc, place, key, number),
+        (None, Some(_)) => Err(place.out_of_range(alloc)),
+        (None, None) => Err(place.wrong(alloc)),
+    }
+}
+
+pub(crate) fn text(alloc: Global, place: JsonPlace, value: &Value) -> Result<&str, MemberFault>
+    ensures ok { IfOk result (λ text. text_in place (view value.now) ≡ Ok text.now) }
+    ensures err { IfErr result (λ e. e ≢ fault.NoMemory → text_in place (view value.now) ≡ Err e) }
+{
+    match value.as_str() {
+        Some(text) => Ok(text),
+        None => Err(place.wrong(alloc)),
+    }
+}
+
+pub(crate) fn list(
+    alloc: Global,
+    place: JsonPlace,
+    value: &Value,
+) -> Result<&Vec<Value>, MemberFault>
+    ensures ok { IfOk result (λ list. list_in place (view value.now) ≡ Ok (items_view list.now.items)) }
+    ensures err { IfErr result (λ e. e ≢ fault.NoMemory → list_in place (view value.now) ≡ Err e) }
+{
+    match value.as_array() {
+        Some(list) => Ok(list),
+        None => Err(place.wrong(alloc)),
+    }
+}
+
+pub(crate) fn object(
+    alloc: Global,
+    place: JsonPlace,
+    value: &Value,
+) -> Result<&Map<String, Value>, MemberFault>
+    ensures ok { IfOk result (λ map. object_in place (view value.now) ≡ Ok (members_view map.now.entries)) }
+    ensures err { IfErr result (λ e. e ≢ fault.NoMemory → object_in place (view value.now) ≡ Err e) }
+{
+    match value.as_object() {
+        Some(map) => Ok(map),
+        None => Err(place.wrong(alloc)),
+    }
+}
+
+/// A number that must be there.
+pub(crate) fn needed_number(
+    alloc: Global,
+    place: JsonPlace,
+    whole: &Value,
+    key: Key,
+) -> Result<u64, MemberFault>
+    ensures ok { IfOk result (λ n. needed_number place key (view whole.now) ≡ Ok n) }
+    ensures least { IfOk result (λ n. least_of key ≤ n) }
+    ensures most { IfOk result (λ n. n ≤ most_of key) }
+    ensures err { IfErr result (λ e. e ≢ fault.NoMemory → needed_number place key (view whole.now) ≡ Err e) }
+{
+    let value = needed(alloc, place, whole, key)?;
+    number(alloc, place, key, value)
+}
+
+/// A number where there is one, else the default.
+pub(crate) fn number_or(
+    alloc: Global,
+    place: JsonPlace,
+    whole: &Value,
+    key: Key,
+    default: u64,
+) -> Result<u64, MemberFault>
+    requires least { least_of key ≤ default }
+    requires most { default ≤ most_of key }
+    ensures ok { IfOk result (λ n. number_or place key default (member_of key (view whole.now)) ≡ Ok n) }
+    ensures least { IfOk result (λ n. least_of key ≤ n) }
+    ensures most { IfOk result (λ n. n ≤ most_of key) }
+    ensures err { IfErr result (λ e. e ≢ fault.NoMemory
+        → number_or place key default (member_of key (view whole.now)) ≡ Err e) }
+{
+    match member(whole, key) {
+        Some(value) => number(alloc, place, key, value),
+        None => Ok(default),
+    }
+}
