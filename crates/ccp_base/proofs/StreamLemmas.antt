@@ -1,11 +1,11 @@
 -- What the system answers to a call of a stream, whose values all know their bytes or none does, says of the bytes.
-use Rattle.std.proofs.Common.{◌≡◌, ◌∙◌, ap, refl, subst, append-nil, ℕ, Bool, true, false, Option, Some, None, is_some, Result, Ok, Err, List, [], ◌++◌, take}
+use Rattle.std.proofs.Common.{◌≡◌, ◌∙◌, ap, refl, subst, append-nil, ℕ, Bool, true, false, Some, None, is_some, Result, Ok, Err, List, [], ◌++◌, take}
 use Rattle.std.proofs.lemmas.Bool.{eqb-true}
 use Rattle.std.specs.Prelude.{IfOk, OnErr, if◌then◌else◌, ◌==◌, ◌&&◌, not}
 use Rattle.std.specs.Io.KnownBytes.{Keeps, Consumes, ReadConsumes, WriteAppends}
 use Rattle.std.specs.Io.KnownBytes.{Appends as GrowsBy, IsAtEnd as HasNone}
 use Rattle.ccp_base.specs.declared.outside.Failed.{Failed}
-use Rattle.ccp_base.specs.Outside.{Known, Takes, Appends, IsAtEnd}
+use Rattle.ccp_base.specs.Outside.{Known, Takes, Appends}
 use Rattle.ccp_base.specs.SystemAnswers.{read_answer, write_answer}
 
 pub kept_known : (old new : Known) → is_some old ≡ is_some new → Keeps old new → new ≡ old
@@ -25,12 +25,6 @@ appended_known None None bytes alike grows = refl
 appended_known None (Some written) bytes alike grows = cc
 appended_known (Some written) None bytes alike grows = absurd grows
 appended_known (Some written) (Some after) bytes alike grows = ap Some grows
-
--- where nothing is left after nothing was taken, nothing was left before
-end_known : (old new : Known) (taken : List ℕ) → taken ≡ [] → Consumes old new taken → HasNone new → IsAtEnd old
-end_known None new taken none takes end = refl
-end_known (Some left) None taken none takes end = absurd takes
-end_known (Some left) (Some after) taken none takes end = ap Some (takes ∙ ap (λ bytes. bytes ++ after) none ∙ end)
 
 module _ {E : Type 0} (old new : Known) (alike : is_some old ≡ is_some new) (buffer : List ℕ) where
   pub read_keeps : (answer : Result ℕ E) → ReadConsumes old new answer buffer → OnErr (read_answer answer) (new ≡ old)

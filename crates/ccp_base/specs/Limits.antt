@@ -148,10 +148,6 @@ most_quantum_us = 1000000
 abbrev pub most_rounds : ℕ
 most_rounds = 10000
 
--- the number of a generated campaign
-abbrev pub most_soak_number : ℕ
-most_soak_number = 4294967295
-
 -- ---- frames
 
 -- the number of an instruction's operation

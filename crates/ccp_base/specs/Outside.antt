@@ -1,6 +1,6 @@
 -- What calls of streams do to the bytes that are left or written, and to their counts of faults.
 use Rattle.std.specs.Prelude.{◌≡◌, ℕ, ◌-◌, ◌^◌, ◌<◌, ◌≤◌, Option, Some, None, is_some, option_map, List, [], ◌++◌, length, take}
-use Rattle.std.proofs.Common.{ap, ◌∙◌, sym, arith, append_assoc, length-append}
+use Rattle.std.proofs.Common.{ap, ◌∙◌, sym, append_assoc}
 
 -- what a source has left, or what a sink was given, where it tells them
 abbrev pub Known : Type 0
@@ -55,12 +55,3 @@ pub Appends-append : (old middle new : Known) (first next : List ℕ) → Append
 Appends-append None middle new first next before after = cc
 Appends-append (Some written) middle new first next before after =
     after ∙ ap (option_map (λ bytes. bytes ++ next)) before ∙ ap Some (append_assoc written first next)
-
--- where a source tells its bytes, it isn't so that both more than the limit and at most the limit were taken
-pub TakesOver-within : (limit : ℕ) (before after : List ℕ) → TakesOver limit (Some before) (Some after) → TakesWithin limit (Some before) (Some after) → ⊥
-TakesOver-within limit before after more less =
-    let same : Some (more.taken ++ after) ≡ Some (less.taken ++ after) = sym more.takes ∙ less.takes in
-    let lists : more.taken ++ after ≡ less.taken ++ after = cc in
-    let over : limit < length more.taken = more.over in
-    let within : length less.taken ≤ limit = less.within in
-    absurd (omega (arith, ap length lists, length-append more.taken after, length-append less.taken after))

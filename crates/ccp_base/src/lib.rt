@@ -37,7 +37,7 @@ pub use measurement::Measurement;
 pub use memory::{MemSink, MemSource};
 pub use name::{NAME_BYTES, Name, Names};
 pub use numerals::numeral;
-pub use operation::{Op2, applied_by_number, is_operation_mark, operation_numbered, operator_of};
+pub use operation::{Op2, is_operation_mark, operation_numbered, operator_of};
 pub use outside::{Failed, NoMemory, ReadFault};
 pub use parts::{Separator, first_part, without_return};
 pub use place::Place;

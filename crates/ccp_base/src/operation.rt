@@ -1,8 +1,8 @@
 //! The binary operations of the language and its code: their numbers, words, marks and results.
-ghost use Rattle.std.specs.Prelude.{◌≡◌, ◌<◌, Some, IfSome, length};
+ghost use Rattle.std.specs.Prelude.{◌≡◌, Some};
 ghost use Rattle.std.specs.List.{list_any};
 ghost use Rattle.std.specs.Str.{bytes_eq};
-ghost use Rattle.ccp_base.specs.Operations.{written_as, gives_truth, applied, operations, first_where, operation_numbered};
+ghost use Rattle.ccp_base.specs.Operations.{written_as, gives_truth, applied, first_where, operation_numbered};
 ghost use Rattle.ccp_base.specs.Operations.{is_written, operator_of, is_operation_mark};
 
 use crate::ack::{bool_number, is_true};
@@ -176,30 +176,6 @@ pub fn operation_numbered(number: u8) -> Option<Op2>
         10 => Some(Op2::Or),
         _ => None,
     }
-}
-
-/// The operation with this number on two values, as `Op2::applied`, for a caller who has the number alone: one `match`
-/// then finds what is to be done.
-#[inline(always)]
-pub fn applied_by_number(number: u8, a: u64, b: u64) -> Result<u64, FaultKind>
-    requires { number < length operations }
-    ensures { IfSome (operation_numbered number) (λ operation. result ≡ applied operation a b) }
-{
-    let value = match number {
-        0 => Op2::Add.applied(a, b)?,
-        1 => Op2::Sub.applied(a, b)?,
-        2 => Op2::Mul.applied(a, b)?,
-        3 => Op2::Div.applied(a, b)?,
-        4 => Op2::Max.applied(a, b)?,
-        5 => Op2::Min.applied(a, b)?,
-        6 => Op2::Gt.applied(a, b)?,
-        7 => Op2::Lt.applied(a, b)?,
-        8 => Op2::Eq.applied(a, b)?,
-        9 => Op2::And.applied(a, b)?,
-        10 => Op2::Or.applied(a, b)?,
-        _ => unreachable!(),
-    };
-    Ok(value)
 }
 
 /// The operation that a program writes as this text, by its mark or its word; None exactly where there is none.

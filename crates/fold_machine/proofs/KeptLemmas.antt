@@ -1,12 +1,13 @@
 -- What start values make of the registers that are kept.
 use Rattle.std.proofs.Common.{◌≡◌, ◌≢◌, ℕ, zero, suc, ◌+◌, ◌<◌, ◌≤◌, Bool, true, false, cond, List, [], ◌∷◌, length, length-set, map, slice_index, slice_set, get_or-set_other, get_or-set_same, refl, ap, ◌∙◌, inl, inr, ◌⊎◌, arith}
+use Rattle.ccp_base.specs.Limits.{most_fields, most_controls}
 use Rattle.reg_code.specs.declared.code.Code.{Code}
 use Rattle.reg_code.specs.declared.code.Start.{Start}
 use Rattle.reg_code.specs.AcceptedCode.{sizes_of}
 use Rattle.reg_code.specs.CodeStep.{reset, reset_of}
 use Rattle.reg_code.specs.CodeStart.{declared_kept}
-use Rattle.fold_machine.specs.Store.{StoreState}
-use Rattle.fold_machine.specs.Layout.{words_from, kept_in, HasRoom, KeepsOthers}
+use Rattle.fold_machine.specs.Store.{StoreState, slot_words}
+use Rattle.fold_machine.specs.Layout.{words_from, kept_in, HasRoom, KeepsOthers, cwnd_word, rate_word, zero_word, first_field_word}
 use Rattle.fold_machine.specs.KeptWords.{declared_words, reset_words}
 use Rattle.fold_machine.proofs.LayoutLemmas.{from-same}
 
@@ -78,43 +79,43 @@ reset_words-from (start ∷ rest) at words fits =
     λ i. first i ∷ others i
 
 -- the registers that are kept, as a code declares them
-pub kept-declared : (code : Code) (words : List ℕ) (now : ℕ) → HasRoom (sizes_of code) words → kept_in (sizes_of code) (declared_words code.controls (3 + length code.reports) (declared_words code.reports 3 (slice_set words 2 now))) ≡ declared_kept code (slice_index words 0) (slice_index words 1) now
+pub kept-declared : (code : Code) (words : List ℕ) (now : ℕ) → HasRoom (sizes_of code) words → kept_in (sizes_of code) (declared_words code.controls (first_field_word + length code.reports) (declared_words code.reports first_field_word (slice_set words zero_word now))) ≡ declared_kept code (slice_index words cwnd_word) (slice_index words rate_word) now
 kept-declared code words now room =
-    let small_reports : length code.reports ≤ 64 = room.few.reports in
-    let small_controls : length code.controls ≤ 64 = room.few.controls in
-    let full : length words ≡ 160 = room.full in
-    let first : List ℕ = slice_set words 2 now in
-    let second : List ℕ = declared_words code.reports 3 first in
-    let third : List ℕ = declared_words code.controls (3 + length code.reports) second in
-    let long : length first ≡ 160 = length-set words 2 now ∙ full in
-    let also : length second ≡ 160 = declared-length code.reports 3 first ∙ long in
-    let before : (k : ℕ) → k < 3 → slice_index third k ≡ slice_index first k =
-    λ k below. declared-other code.controls (3 + length code.reports) second k (inl (omega arith)) ∙ declared-other code.reports 3 first k (inl (omega arith)) in
+    let small_reports : length code.reports ≤ most_fields = room.few.reports in
+    let small_controls : length code.controls ≤ most_controls = room.few.controls in
+    let full : length words ≡ slot_words = room.full in
+    let first : List ℕ = slice_set words zero_word now in
+    let second : List ℕ = declared_words code.reports first_field_word first in
+    let third : List ℕ = declared_words code.controls (first_field_word + length code.reports) second in
+    let long : length first ≡ slot_words = length-set words zero_word now ∙ full in
+    let also : length second ≡ slot_words = declared-length code.reports first_field_word first ∙ long in
+    let before : (k : ℕ) → k < first_field_word → slice_index third k ≡ slice_index first k =
+    λ k below. declared-other code.controls (first_field_word + length code.reports) second k (inl (omega arith)) ∙ declared-other code.reports first_field_word first k (inl (omega arith)) in
     λ i. record {
-      reports = (from-same third second 3 (length code.reports) (λ k least most. declared-other code.controls (3 + length code.reports) second k (inl (omega arith))) ∙ declared-from code.reports 3 first (omega arith)) i;
-      controls = declared-from code.controls (3 + length code.reports) second (omega arith) i;
-      cwnd = (before 0 (omega arith) ∙ get_or-set_other words 2 0 now 0 (λ e. omega arith)) i;
-      rate = (before 1 (omega arith) ∙ get_or-set_other words 2 1 now 0 (λ e. omega arith)) i;
-      zero = (before 2 (omega arith) ∙ get_or-set_same words 2 now 0 (omega arith)) i;
+      reports = (from-same third second first_field_word (length code.reports) (λ k least most. declared-other code.controls (first_field_word + length code.reports) second k (inl (omega arith))) ∙ declared-from code.reports first_field_word first (omega arith)) i;
+      controls = declared-from code.controls (first_field_word + length code.reports) second (omega arith) i;
+      cwnd = (before cwnd_word (omega arith) ∙ get_or-set_other words zero_word cwnd_word now 0 (λ e. omega arith)) i;
+      rate = (before rate_word (omega arith) ∙ get_or-set_other words zero_word rate_word now 0 (λ e. omega arith)) i;
+      zero = (before zero_word (omega arith) ∙ get_or-set_same words zero_word now 0 (omega arith)) i;
     }
 
 -- the registers that are kept, as a report leaves them
-pub kept-reset : (code : Code) (words : List ℕ) → HasRoom (sizes_of code) words → kept_in (sizes_of code) (reset_words code.controls (3 + length code.reports) (reset_words code.reports 3 words)) ≡ reset_of code (kept_in (sizes_of code) words)
+pub kept-reset : (code : Code) (words : List ℕ) → HasRoom (sizes_of code) words → kept_in (sizes_of code) (reset_words code.controls (first_field_word + length code.reports) (reset_words code.reports first_field_word words)) ≡ reset_of code (kept_in (sizes_of code) words)
 kept-reset code words room =
-    let small_reports : length code.reports ≤ 64 = room.few.reports in
-    let small_controls : length code.controls ≤ 64 = room.few.controls in
-    let full : length words ≡ 160 = room.full in
-    let second : List ℕ = reset_words code.reports 3 words in
-    let third : List ℕ = reset_words code.controls (3 + length code.reports) second in
-    let also : length second ≡ 160 = reset_words-length code.reports 3 words ∙ full in
-    let before : (k : ℕ) → k < 3 → slice_index third k ≡ slice_index words k =
-    λ k below. reset_words-other code.controls (3 + length code.reports) second k (inl (omega arith)) ∙ reset_words-other code.reports 3 words k (inl (omega arith)) in
+    let small_reports : length code.reports ≤ most_fields = room.few.reports in
+    let small_controls : length code.controls ≤ most_controls = room.few.controls in
+    let full : length words ≡ slot_words = room.full in
+    let second : List ℕ = reset_words code.reports first_field_word words in
+    let third : List ℕ = reset_words code.controls (first_field_word + length code.reports) second in
+    let also : length second ≡ slot_words = reset_words-length code.reports first_field_word words ∙ full in
+    let before : (k : ℕ) → k < first_field_word → slice_index third k ≡ slice_index words k =
+    λ k below. reset_words-other code.controls (first_field_word + length code.reports) second k (inl (omega arith)) ∙ reset_words-other code.reports first_field_word words k (inl (omega arith)) in
     λ i. record {
-      reports = (from-same third second 3 (length code.reports) (λ k least most. reset_words-other code.controls (3 + length code.reports) second k (inl (omega arith))) ∙ reset_words-from code.reports 3 words (omega arith)) i;
-      controls = (reset_words-from code.controls (3 + length code.reports) second (omega arith) ∙ ap (reset code.controls) (from-same second words (3 + length code.reports) (length code.controls) (λ k least most. reset_words-other code.reports 3 words k (inr (omega arith))))) i;
-      cwnd = before 0 (omega arith) i;
-      rate = before 1 (omega arith) i;
-      zero = before 2 (omega arith) i;
+      reports = (from-same third second first_field_word (length code.reports) (λ k least most. reset_words-other code.controls (first_field_word + length code.reports) second k (inl (omega arith))) ∙ reset_words-from code.reports first_field_word words (omega arith)) i;
+      controls = (reset_words-from code.controls (first_field_word + length code.reports) second (omega arith) ∙ ap (reset code.controls) (from-same second words (first_field_word + length code.reports) (length code.controls) (λ k least most. reset_words-other code.reports first_field_word words k (inr (omega arith))))) i;
+      cwnd = before cwnd_word (omega arith) i;
+      rate = before rate_word (omega arith) i;
+      zero = before zero_word (omega arith) i;
     }
 
 -- nothing but the registers changed
@@ -130,12 +131,12 @@ set-past [] i value past = refl
 set-past (x ∷ xs) zero value past = absurd (omega arith)
 set-past (x ∷ xs) (suc i) value past = ap (λ ys. x ∷ ys) (set-past xs i value (omega arith))
 
-pub declared-twice : (code : Code) (words : List ℕ) (now : ℕ) → length (declared_words code.controls (3 + length code.reports) (declared_words code.reports 3 (slice_set words 2 now))) ≡ length words
+pub declared-twice : (code : Code) (words : List ℕ) (now : ℕ) → length (declared_words code.controls (first_field_word + length code.reports) (declared_words code.reports first_field_word (slice_set words zero_word now))) ≡ length words
 declared-twice code words now =
-    declared-length code.controls (3 + length code.reports) (declared_words code.reports 3 (slice_set words 2 now))
-    ∙ declared-length code.reports 3 (slice_set words 2 now)
-    ∙ length-set words 2 now
+    declared-length code.controls (first_field_word + length code.reports) (declared_words code.reports first_field_word (slice_set words zero_word now))
+    ∙ declared-length code.reports first_field_word (slice_set words zero_word now)
+    ∙ length-set words zero_word now
 
-pub reset-twice : (code : Code) (words : List ℕ) → length (reset_words code.controls (3 + length code.reports) (reset_words code.reports 3 words)) ≡ length words
+pub reset-twice : (code : Code) (words : List ℕ) → length (reset_words code.controls (first_field_word + length code.reports) (reset_words code.reports first_field_word words)) ≡ length words
 reset-twice code words =
-    reset_words-length code.controls (3 + length code.reports) (reset_words code.reports 3 words) ∙ reset_words-length code.reports 3 words
+    reset_words-length code.controls (first_field_word + length code.reports) (reset_words code.reports first_field_word words) ∙ reset_words-length code.reports first_field_word words

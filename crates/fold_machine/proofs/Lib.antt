@@ -1,7 +1,7 @@
 -- The lemmas of fold_machine, a file a topic.
 pub mod StoreLemmas
 pub mod LayoutLemmas
-pub mod FrameLemmas
+pub mod WorkingWordLemmas
 pub mod LoadLemmas
 pub mod KeptLemmas
 pub mod RunnableLemmas

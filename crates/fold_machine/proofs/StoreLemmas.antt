@@ -9,7 +9,7 @@ use Rattle.std.specs.FinMap.{nat_cmp-IsAntisymmetric}
 use Rattle.slot_pool.specs.Pool.{PoolState, words_at, IsOut, free_of, unused, with_word, with_run, ChangesSlot}
 use Rattle.slot_pool.specs.PoolLaws.{IsOut-kept, free_apart}
 use Rattle.slot_pool.specs.Without.{without, words_at-without_same, words_at-without, without_apart, IsOut-from_without, IsOut-without, free_of-without, ChangesSlot-without, without-changed}
-use Rattle.fold_machine.specs.Store.{StoreState, words_in, further_of, store_of, fresh_store, IsOwned}
+use Rattle.fold_machine.specs.Store.{StoreState, words_in, further_of, store_of, fresh_store, IsOwned, slot_words}
 
 mapped-some : (held : Option (List ℕ)) (f : List ℕ → List ℕ) → is_some held ≡ true → unwrap_or (option_map f held) [] ≡ f (unwrap_or held [])
 mapped-some (Some words) f out = refl
@@ -121,7 +121,7 @@ OnOk-with (Err e) P Q R p q both = tt
 
 -- two slots were taken, one after another
 module _ (slots : ℕ) (p q r : PoolState) (a b : ℕ) (zeros : List ℕ)
-    (begins : p ≡ unused (slots + 2) 160) (zero : zeros ≡ replicate 160 0)
+    (begins : p ≡ unused (slots + 2) slot_words) (zero : zeros ≡ replicate slot_words 0)
     (free_a : words_at p a ≡ None) (took_a : ChangesSlot p q a (Some zeros))
     (free_b : words_at q b ≡ None) (took_b : ChangesSlot q r b (Some zeros)) where
   out_a : IsOut q a
@@ -159,7 +159,7 @@ module _ (slots : ℕ) (p q r : PoolState) (a b : ℕ) (zeros : List ℕ)
   slots_left : r.slots - 1 - 1 ≡ slots
   slots_left = let e : r.slots ≡ slots + 2 = took_b.slots ∙ took_a.slots ∙ ap (λ (t : PoolState). t.slots) begins in omega arith
 
-  zeros_at : (n : ℕ) → words_at r n ≡ Some zeros → words_in r n ≡ replicate 160 0
+  zeros_at : (n : ℕ) → words_at r n ≡ Some zeros → words_in r n ≡ replicate slot_words 0
   zeros_at n e = ap (λ o. unwrap_or o []) e ∙ zero
 
   pub fresh-taken : store_of r a b ≡ fresh_store slots

@@ -9,6 +9,8 @@ use Rattle.fold_machine.specs.declared.acked.Acked.{Acked}
 use Rattle.fold_machine.specs.declared.acked.Acked.TheVariants as acked
 use Rattle.fold_machine.specs.MachineState.{MachineState}
 
+-- ---- what a start, an update and an acknowledgement do, cited by the machine's clauses
+
 -- a start gives each register its start value and then writes the values, but keeps `Cwnd` and `Rate` where the
 -- values don't name them
 abbrev pub started_by : Code → List Pair → ℕ → MachineState → MachineState
@@ -58,6 +60,8 @@ heard_where false code ack room state = after_made (one_by_code code state.kept 
 -- the answer to an acknowledgement, and the machine after it
 abbrev pub heard : Code → Ack → Bool → MachineState → Option Acked × MachineState
 heard code ack room state = heard_where state.is_stopped code ack room state
+
+-- ---- what the code of the machine and of a fold reads off an answer; no public clause cites it
 
 -- whether an answer tells of a fault
 abbrev pub is_fault : Acked → Bool

@@ -1,7 +1,7 @@
 -- The definitions of fold_machine, a file each; files named ..Laws have what follows from them.
 pub mod Store
 pub mod Layout
-pub mod Frame
+pub mod WorkingWords
 pub mod Running
 pub mod KeptWords
 pub mod Ready

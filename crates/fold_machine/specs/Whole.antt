@@ -5,7 +5,7 @@ use Rattle.reg_code.specs.Places.{all_places}
 use Rattle.reg_code.specs.declared.rule.Sizes.{Sizes}
 use Rattle.fold_machine.specs.Store.{StoreState}
 use Rattle.fold_machine.specs.Layout.{words_from, kept_in}
-use Rattle.fold_machine.specs.Frame.{kept_on}
+use Rattle.fold_machine.specs.WorkingWords.{kept_on}
 use Rattle.fold_machine.specs.Ready.{IsReady}
 use Rattle.fold_machine.specs.MachineState.{MachineState}
 
@@ -21,6 +21,6 @@ machine_of store sizes reported started stopped ran = record {
 
 pub record IsWhole (store : StoreState) (words : List ℕ) (sizes : Sizes) (count : ℕ) : Type 0 where
   pub ready : IsReady sizes store
-  pub frame : length words ≡ all_places
+  pub full : length words ≡ all_places
   pub loaded : kept_on sizes words ≡ kept_in sizes store.registers
   pub reported : count ≤ most_fields

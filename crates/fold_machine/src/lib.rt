@@ -3,7 +3,6 @@
 #![tactic(auto)]
 
 mod acked;
-mod frame;
 mod general;
 mod kept;
 mod laws;
@@ -14,6 +13,7 @@ mod step;
 mod steps;
 mod store;
 mod work;
+mod working_words;
 
 pub use acked::{Acked, BadRegister};
 pub use laws::rest_determines_machine;

@@ -6,12 +6,12 @@ ghost use Rattle.fold_machine.specs.MachineState.{fresh_machine, Fits};
 ghost use Rattle.fold_machine.specs.Heard.{started_by, updated_by, heard, is_fault, count_after};
 
 use crate::acked::{Acked, BadRegister};
-use crate::frame::restore;
 use crate::kept::{declare, write_values};
 use crate::places::{CWND, RATE, REPORTS};
 use crate::steps::Steps;
 use crate::store::Store;
 use crate::work::work;
+use crate::working_words::load_kept;
 use ccp_base::{Ack, Fields, NoMemory, Values};
 use reg_code::{Checked, Code, Sizes, places};
 use slot_pool::{Full, Slot, Slots};
@@ -71,7 +71,7 @@ impl Machine {
             controls: 0,
         };
         let mut words = vec![in alloc; 0u64; places::ALL]?;
-        restore(&mut words, &store, sizes);
+        load_kept(&mut words, &store, sizes);
         Ok(Machine {
             store,
             words,
@@ -103,7 +103,7 @@ impl Machine {
         };
         declare(&mut self.store, code, now);
         write_values(&mut self.store, self.sizes, values);
-        restore(&mut self.words, &self.store, self.sizes);
+        load_kept(&mut self.words, &self.store, self.sizes);
         self.started = true;
         self.stopped = false;
         self.ran = 0;
@@ -170,7 +170,7 @@ impl Machine {
             return Err(BadRegister(i));
         }
         write_values(&mut self.store, self.sizes, values);
-        restore(&mut self.words, &self.store, self.sizes);
+        load_kept(&mut self.words, &self.store, self.sizes);
         Ok(())
     }
 

@@ -152,18 +152,6 @@ word-none values (byte ∷ rest) some other is =
     front : first_of Blank (byte ∷ rest) ≡ byte ∷ first_of Blank rest
     front = ap (λ b. cond b [] (byte ∷ first_of Blank rest)) other
 
--- a blank at the front ends an empty word
-pub blank-front : (text : List ℕ) → 0 < length text → separates Blank (slice_index text 0) ≡ true → (first_of Blank text ≡ []) × (after_of Blank text ≡ drop 1 text)
-blank-front [] some is = absurd (omega arith)
-blank-front (byte ∷ rest) some is = (ap (λ b. cond b [] (byte ∷ first_of Blank rest)) is, ap (λ b. cond b rest (after_of Blank rest)) is)
-
-pub no-name : (values : LineValues) (value : Option ℕ) → with_value values None value ≡ None
-no-name values value = refl
-
-pub no-value : (values : LineValues) (name : Option ℕ) → with_value values name None ≡ None
-no-value values None = refl
-no-value values (Some n) = refl
-
 -- ---- the first equals sign of a text
 
 abbrev has_blank : List ℕ → Bool

@@ -6,4 +6,5 @@ mod FirstWord
 mod SeparatedLemmas
 mod AcksLaws
 mod CutLaws
-mod ExpectedNames
+mod ItemLemmas
+mod LineLemmas

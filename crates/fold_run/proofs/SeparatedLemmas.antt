@@ -38,9 +38,3 @@ cut-found text left rest n is within here after =
       rest = (after_lines-next n text ∙ ap (after_of LineFeed) (sym here) ∙ sym after) i;
       next = n + 2;
     })
-
--- no line is a separator
-pub cut-none : (text : List ℕ) → position_or_len is_separator (parts_of LineFeed text) ≡ length (parts_of LineFeed text) → cut_of text ≡ None
-cut-none text is =
-    let test : nat_lt (position_or_len is_separator (parts_of LineFeed text)) (length (parts_of LineFeed text)) ≡ false = grind (arith, nat_tests) in
-    ap (λ b. option_map (cut_at text) (cond b (Some (position_or_len is_separator (parts_of LineFeed text))) None)) test

@@ -1,5 +1,5 @@
 -- What a line below the separator says.
-use Rattle.std.specs.Prelude.{ℕ, ◌+◌, ◌-◌, Bool, true, false, ◌||◌, ◌&&◌, ◌==◌, nat_lt, if◌then◌else◌, Option, Some, None, List, [], ◌∷◌, take, drop, replicate, position, slice_get, slice_index_or, slice_set, length}
+use Rattle.std.specs.Prelude.{ℕ, ◌+◌, ◌-◌, Bool, true, false, not, ◌||◌, ◌&&◌, ◌==◌, nat_lt, if◌then◌else◌, Option, Some, None, List, [], ◌∷◌, take, drop, replicate, position, slice_get, slice_index_or, slice_set, length}
 use Rattle.std.specs.Option.{option_and_then, option_map_or}
 use Rattle.std.specs.List.{list_all}
 use Rattle.ccp_base.specs.declared.ack.Ack.{Ack}
@@ -76,6 +76,11 @@ line_of line =
     if list_all (separates Blank) line then nothing
     else if begins_blank line || ends_blank line then refused
     else given_or_refused (with_words (Some no_values) (parts_of Blank line))
+
+-- whether the line has a first byte that is no blank
+abbrev pub begins_word : List ℕ → Bool
+begins_word [] = false
+begins_word (byte ∷ rest) = not (separates Blank byte)
 
 -- what the kind of a line and its values say
 abbrev pub line_told : LineKind → LineValues → AckLine

@@ -5,14 +5,13 @@ ghost use Rattle.ccp_base.specs.declared.parts.Separator.TheVariants.{Blank};
 ghost use Rattle.ccp_base.specs.Limits.{primitive_count};
 ghost use Rattle.ccp_base.specs.Parts.{separates, parts_of};
 ghost use Rattle.fold_run.specs.FirstPart.{first_of, after_of};
-ghost use Rattle.fold_run.specs.AckLine.{with_word, with_words, some_if, no_values, begins_blank, ends_blank};
-ghost use Rattle.fold_run.specs.AckLine.{line_told, line_of};
+ghost use Rattle.fold_run.specs.AckLine.{with_word, with_words, some_if, no_values, ends_blank};
+ghost use Rattle.fold_run.specs.AckLine.{begins_word, line_told, line_of};
 
 use crate::line_number::read_number;
 use crate::line_values::LineValues;
 use crate::names::{Followers, LINE_BEGIN};
 use ccp_base::Separator;
-use memchr::memchr;
 
 /// What a line below the separator says.
 #[derive(Clone, Copy)]
@@ -25,16 +24,21 @@ pub enum LineKind {
     Refused,
 }
 
+#[tactic(auto, using(crate::proofs::LineLemmas::line_begun, crate::proofs::LineLemmas::line_unbegun))]
 /// Reads a line that has no LF and no CR at its end. The values are those that it gives, where it gives an
 /// acknowledgement.
 pub fn read_line(values: &mut LineValues, followers: &mut Followers, line: &[u8]) -> LineKind
     requires { values.old ≡ no_values }
     ensures { line_told result values.new ≡ line_of line.now }
 {
-    if is_blank(line) {
-        return LineKind::Nothing;
+    if !begins_word(line) {
+        return if is_blank(line) {
+            LineKind::Nothing
+        } else {
+            LineKind::Refused
+        };
     }
-    if begins_blank(line) || ends_blank(line) || !read_words(values, followers, line) {
+    if ends_blank(line) || !read_words(values, followers, line) {
         return LineKind::Refused;
     }
     LineKind::Given
@@ -46,12 +50,13 @@ fn is_blank(line: &[u8]) -> bool
     line.iter().all(|byte| Separator::Blank.is(*byte))
 }
 
-fn begins_blank(line: &[u8]) -> bool
-    ensures { result ≡ begins_blank line.now }
+/// Whether a line has a first byte that is no blank.
+fn begins_word(line: &[u8]) -> bool
+    ensures { result ≡ begins_word line.now }
 {
     match line.first() {
         None => false,
-        Some(byte) => Separator::Blank.is(*byte),
+        Some(byte) => !Separator::Blank.is(*byte),
     }
 }
 
@@ -98,17 +103,14 @@ fn read_word<'a>(
     if Separator::Blank.is(text[0]) {
         return Some(&text[1..]);
     }
-    let Some(at) = memchr(b'=', text) else {
+    let Some(item) = followers.item(*before, text) else {
         return None;
     };
-    let Some(number) = followers.number_named(*before, &text[..at]) else {
+    *before = item.number;
+    let Some((value, after)) = read_number(item.rest) else {
         return None;
     };
-    *before = number;
-    let Some((value, after)) = read_number(&text[at + 1..]) else {
-        return None;
-    };
-    if values.take(number, value) {
+    if values.take(item.number, value) {
         Some(after)
     } else {
         None

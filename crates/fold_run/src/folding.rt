@@ -70,7 +70,7 @@ impl Folding {
                 reports: Reports::new(alloc),
                 fault: None,
             }),
-            Err(_) => Err(NoMemory),
+            Err(_) => unreachable!(),
         }
     }
 

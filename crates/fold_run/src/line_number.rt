@@ -6,8 +6,9 @@ ghost use Rattle.fold_run.specs.FirstPart.{first_of, after_of};
 
 use ccp_base::Separator;
 
-/// A number with one more digit is below 2^64 where it is below this before.
-const PLAIN: u64 = 1_844_674_407_370_955_161;
+/// Numbers below this one take another digit without a test of its size. It could be up to 2^64 / 10, but a test for a
+/// number below 2^31 is one instruction.
+const SHORT: u64 = 2_147_483_647;
 
 /// The number at the front of a text, up to a blank or the text's end, and what follows that blank; None exactly
 /// where there is no numeral or its value is past 2^64-1.
@@ -38,8 +39,8 @@ fn read_digits(text: &[u8]) -> Option<(u64, &[u8])>
                 None
             };
         }
-        if number >= PLAIN {
-            return read_last_digits(number, left);
+        if number >= SHORT {
+            return read_more_digits(number, left);
         }
         number = number * 10 + u64::from(byte - b'0');
         left = rest;
@@ -47,9 +48,9 @@ fn read_digits(text: &[u8]) -> Option<(u64, &[u8])>
     Some((number, left))
 }
 
-/// A number that is near 2^64 with the digits at the front of a text.
-#[cold]
-fn read_last_digits(before: u64, text: &[u8]) -> Option<(u64, &[u8])>
+/// A number of ten digits or more with the digits at the front of a text.
+#[inline(never)]
+fn read_more_digits(before: u64, text: &[u8]) -> Option<(u64, &[u8])>
     ensures number { IfSome result (λ read. value_after (Some before) (first_of Blank text.now) ≡ Some read.0) }
     ensures after { IfSome result (λ read. read.1.now ≡ after_of Blank text.now) }
     ensures wrong { IfNone result (value_after (Some before) (first_of Blank text.now) ≡ None) }

@@ -1,13 +1,12 @@
-//! The look-up of a primitive by its name, tried first with the name that followed the last time.
-ghost use Rattle.std.specs.Prelude.{◌≡◌, ◌≤◌, ◌<◌, Some};
-ghost use Rattle.std.specs.Bool.{OnTrue};
-ghost use Rattle.std.specs.Option.{ForSome};
-ghost use Rattle.std.specs.Str.{bytes_eq};
+//! The primitive that an item of a line names, tried first with the name that followed the last time.
+ghost use Rattle.std.specs.Prelude.{◌≡◌, ◌≤◌, ◌<◌, ◌∷◌, ◌++◌, IfSome, IfNone, Some, None, false, length, slice_index};
+ghost use Rattle.ccp_base.specs.declared.parts.Separator.TheVariants.{Blank};
 ghost use Rattle.ccp_base.specs.Limits.{primitive_count};
-ghost use Rattle.ccp_base.specs.PrimitiveNames.{value_named};
-ghost use Rattle.fold_run.specs.ExpectedName.{name_of};
+ghost use Rattle.ccp_base.specs.Parts.{separates};
+ghost use Rattle.fold_run.specs.Items.{name_of, Gives, GivesNothing};
 
-use ccp_base::{PRIMITIVES, value_named};
+use ccp_base::{PRIMITIVE_NAMES, PRIMITIVES, value_named};
+use memchr::memchr;
 
 /// The place of a line's begin among the numbers of names: after those of the primitives.
 pub const LINE_BEGIN: usize = PRIMITIVES as usize;
@@ -15,8 +14,17 @@ pub const LINE_BEGIN: usize = PRIMITIVES as usize;
 /// The places after which a name stands: each name, and a line's begin.
 const PLACES: usize = LINE_BEGIN + 1;
 
+/// An item `name=numeral` of a line, read up to its numeral.
+#[derive(Clone, Copy)]
+pub struct Item<'a> {
+    /// The number of the primitive with its name.
+    pub number: usize,
+    /// The line from the numeral on.
+    pub rest: &'a [u8],
+}
+
 /// Which name followed each name last, and a line's begin: lines mostly name the same values in the same order, so the
-/// name that is looked for first is mostly the right one.
+/// name that is tried first is mostly the right one.
 #[derive(Clone, Copy)]
 pub struct Followers {
     numbers: [usize; PLACES],
@@ -30,58 +38,81 @@ impl Followers {
         }
     }
 
-    /// The number of the primitive with this name, which stands after the one with the number `before` or at a line's
-    /// begin; None exactly where there is none.
-    pub fn number_named(&mut self, before: usize, name: &[u8]) -> Option<usize>
-        requires { before ≤ primitive_count }
-        ensures number { result ≡ value_named name.now }
-        ensures below { ForSome result (λ n. n < primitive_count) }
+    /// The item at the front of a text, after one of the primitive with the number `before` or at a line's begin; None
+    /// exactly where the first word gives no primitive a value.
+    #[inline(always)]
+    pub fn item<'a>(&mut self, before: usize, text: &'a [u8]) -> Option<Item<'a>>
+        requires before { before ≤ primitive_count }
+        requires some { 0 < length text.now }
+        requires word { separates Blank (slice_index text.now 0) ≡ false }
+        ensures gives { IfSome result (λ item. Gives text.now item.number item.rest.now) }
+        ensures below { IfSome result (λ item. item.number < primitive_count) }
+        ensures none { IfNone result (GivesNothing text.now) }
     {
         let expected = self.numbers[before];
-        if is_expected(name, expected) {
-            return Some(expected);
+        if let Some(rest) = after_name(text, expected) {
+            return Some(Item {
+                number: expected,
+                rest,
+            });
         }
-        match value_named(name) {
-            None => None,
-            Some(number) => {
-                self.numbers[before] = number;
-                Some(number)
-            }
-        }
+        let item = searched_item(text)?;
+        self.numbers[before] = item.number;
+        Some(item)
     }
 }
 
-/// Whether there is a primitive with this number, and this is its name.
-fn is_expected(name: &[u8], expected: usize) -> bool
-    ensures named { OnTrue result (value_named name.now ≡ Some expected) }
-    ensures below { OnTrue result (expected < primitive_count) }
+/// The item at the front of a text, by a search for its equals sign and for its name.
+#[inline(never)]
+fn searched_item(text: &[u8]) -> Option<Item<'_>>
+    requires some { 0 < length text.now }
+    requires word { separates Blank (slice_index text.now 0) ≡ false }
+    ensures gives { IfSome result (λ item. Gives text.now item.number item.rest.now) }
+    ensures below { IfSome result (λ item. item.number < primitive_count) }
+    ensures none { IfNone result (GivesNothing text.now) }
 {
-    if expected >= LINE_BEGIN {
-        return false;
-    }
-    is_name_of(name, expected)
+    let Some(at) = memchr(b'=', text) else {
+        return None;
+    };
+    let Some(number) = value_named(&text[..at]) else {
+        return None;
+    };
+    Some(Item {
+        number,
+        rest: &text[at + 1..],
+    })
 }
 
-/// Whether this is the name of the primitive with this number.
-fn is_name_of(name: &[u8], number: usize) -> bool
-    requires { number < primitive_count }
-    ensures { result ≡ bytes_eq name.now (name_of number) }
+/// Tries the name of the primitive with a number, by an arm for each of these numbers: with a name that the compiler knows
+/// the test takes a few instructions.
+macro_rules! after_name_of {
+    ($text:ident, $number:ident, $($known:literal)*) => {
+        match $number {
+            $($known => after_equals($text, PRIMITIVE_NAMES[$known].1),)*
+            _ => None,
+        }
+    };
+}
+
+/// What follows the name of the primitive with this number and an equals sign, where a text begins with them.
+#[inline(always)]
+fn after_name(text: &[u8], number: usize) -> Option<&[u8]>
+    ensures after { IfSome result (λ rest. text.now ≡ name_of number ++ 61 ∷ rest.now) }
+    ensures below { IfSome result (λ _. number < primitive_count) }
 {
-    match number {
-        0 => name == b"bytes_acked".as_slice(),
-        1 => name == b"packets_acked".as_slice(),
-        2 => name == b"bytes_misordered".as_slice(),
-        3 => name == b"packets_misordered".as_slice(),
-        4 => name == b"ecn_bytes".as_slice(),
-        5 => name == b"ecn_packets".as_slice(),
-        6 => name == b"lost_pkts_sample".as_slice(),
-        7 => name == b"now".as_slice(),
-        8 => name == b"bytes_in_flight".as_slice(),
-        9 => name == b"packets_in_flight".as_slice(),
-        10 => name == b"bytes_pending".as_slice(),
-        11 => name == b"rate_incoming".as_slice(),
-        12 => name == b"rate_outgoing".as_slice(),
-        13 => name == b"rtt_sample_us".as_slice(),
-        _ => name == b"was_timeout".as_slice(),
+    after_name_of!(text, number, 0 1 2 3 4 5 6 7 8 9 10 11 12 13 14)
+}
+
+/// What follows a name and an equals sign, where a text begins with them.
+#[inline(always)]
+fn after_equals<'a>(text: &'a [u8], name: &[u8]) -> Option<&'a [u8]>
+    ensures { IfSome result (λ rest. text.now ≡ name.now ++ 61 ∷ rest.now) }
+{
+    let Some(behind) = text.strip_prefix(name) else {
+        return None;
+    };
+    match behind.split_first() {
+        Some((first, rest)) if *first == b'=' => Some(rest),
+        _ => None,
     }
 }

@@ -2,22 +2,22 @@ use Rattle.std.proofs.Common.{◌≡◌, ◌+◌, List, length, ap, ◌∙◌}
 use Rattle.reg_code.specs.declared.code.Start.{Start}
 use Rattle.reg_code.specs.AcceptedCode.{sizes_of}
 use Rattle.fold_machine.specs.Store.{StoreState}
-use Rattle.fold_machine.specs.Layout.{kept_in}
+use Rattle.fold_machine.specs.Layout.{kept_in, first_field_word}
 use Rattle.fold_machine.specs.KeptWords.{reset_words}
 use Rattle.fold_machine.proofs.KeptLemmas.{kept-reset, reset-twice, others-from}
 use Rattle.fold_machine.proofs.kept.reset.Goals as goal
 
-whole : (c : goal.After-reset_from-2) → let code = c.args.code.now in c.reset_from-2.new.store ≡ record c.args.store.now { registers = reset_words code.controls (3 + length code.reports) (reset_words code.reports 3 c.args.store.now.registers) }
+whole : (c : goal.After-reset_from-2) → let code = c.args.code.now in c.reset_from-2.new.store ≡ record c.args.store.now { registers = reset_words code.controls (first_field_word + length code.reports) (reset_words code.reports first_field_word c.args.store.now.registers) }
 whole c =
     let code = c.args.code.now in
     let first = c.args.store.now in
     let second = c.reset_from.new.store in
     c.reset_from-2.ensures
-    ∙ ap (λ (starts : List Start). record second { registers = reset_words starts (3 + c.len.result) second.registers }) c.as_slice-2.ensures
-    ∙ ap (λ n. record second { registers = reset_words code.controls (3 + n) second.registers }) c.len.ensures
-    ∙ ap (λ (s : StoreState). record s { registers = reset_words code.controls (3 + length code.reports) s.registers })
+    ∙ ap (λ (starts : List Start). record second { registers = reset_words starts (first_field_word + c.len.result) second.registers }) c.as_slice-2.ensures
+    ∙ ap (λ n. record second { registers = reset_words code.controls (first_field_word + n) second.registers }) c.len.ensures
+    ∙ ap (λ (s : StoreState). record s { registers = reset_words code.controls (first_field_word + length code.reports) s.registers })
     (c.reset_from.ensures
-    ∙ ap (λ (starts : List Start). record first { registers = reset_words starts 3 first.registers }) c.as_slice.ensures)
+    ∙ ap (λ (starts : List Start). record first { registers = reset_words starts first_field_word first.registers }) c.as_slice.ensures)
 
 pub returns-clause-reset : goal.returns-clause-reset
 returns-clause-reset c =

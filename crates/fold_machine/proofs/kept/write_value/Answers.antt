@@ -2,7 +2,7 @@ use Rattle.std.proofs.Common.{◌≡◌, ◌+◌, ◌<◌, ◌≤◌, length, sl
 use Rattle.ccp_base.specs.declared.fields.FieldReg.{FieldReg}
 use Rattle.reg_code.specs.CodeStart.{with_value}
 use Rattle.fold_machine.specs.Store.{StoreState}
-use Rattle.fold_machine.specs.Layout.{words_from, kept_in}
+use Rattle.fold_machine.specs.Layout.{words_from, kept_in, first_field_word}
 use Rattle.fold_machine.proofs.LayoutLemmas.{from-length, kept-cwnd, kept-rate, kept-control}
 use Rattle.fold_machine.proofs.KeptLemmas.{set-past}
 use Rattle.fold_machine.proofs.kept.write_value.Goals as goal
@@ -27,8 +27,8 @@ returns-then-from-sizes-clause-written c =
     let i = c.in-Control.i in
     let here : i < c.args.sizes.controls = omega (arith, c.if-from-sizes.true, c.from.ensures) in
     ap (λ (s : StoreState). kept_in c.args.sizes s.registers) c.set_register-then-from-sizes.ensures
-    ∙ ap (λ n. kept_in c.args.sizes (slice_set words (3 + c.args.sizes.reports + n) c.args.value)) c.from-then-from-sizes.ensures
-    ∙ kept-control c.args.sizes words i (3 + c.args.sizes.reports + i) c.args.value c.requires (λ k. 3 + c.args.sizes.reports + i) here
+    ∙ ap (λ n. kept_in c.args.sizes (slice_set words (first_field_word + c.args.sizes.reports + n) c.args.value)) c.from-then-from-sizes.ensures
+    ∙ kept-control c.args.sizes words i (first_field_word + c.args.sizes.reports + i) c.args.value c.requires (λ k. first_field_word + c.args.sizes.reports + i) here
     ∙ ap (λ (r : FieldReg). with_value r c.args.value (kept_in c.args.sizes words)) (sym c.in-Control.is)
 
 pub returns-else-from-sizes-clause-written : goal.returns-else-from-sizes-clause-written
@@ -36,8 +36,8 @@ returns-else-from-sizes-clause-written c =
     let words = c.args.store.now.registers in
     let sizes = c.args.sizes in
     let i = c.in-Control.i in
-    let controls = words_from words (3 + sizes.reports) sizes.controls in
-    let many : length controls ≡ sizes.controls = from-length words (3 + sizes.reports) sizes.controls in
+    let controls = words_from words (first_field_word + sizes.reports) sizes.controls in
+    let many : length controls ≡ sizes.controls = from-length words (first_field_word + sizes.reports) sizes.controls in
     let past : length controls ≤ i = omega (arith, many, c.if-from-sizes.false, c.from.ensures) in
     ap (λ xs. record (kept_in sizes words) { controls = xs }) (sym (set-past controls i c.args.value past))
     ∙ ap (λ (r : FieldReg). with_value r c.args.value (kept_in sizes words)) (sym c.in-Control.is)

@@ -1,5 +1,6 @@
 use Rattle.std.proofs.Common.{◌≡◌, ℕ, Some, replicate, refl, ap, ◌∙◌, subst}
 use Rattle.slot_pool.specs.Pool.{PoolState, ChangesSlot}
+use Rattle.fold_machine.specs.Store.{slot_words}
 use Rattle.fold_machine.proofs.StoreLemmas.{fresh-taken}
 use Rattle.fold_machine.proofs.store.Store.new.Goals as goal
 
@@ -8,8 +9,8 @@ returns c =
     let p = c.in_ok-pool.pool in
     let q = c.own-registers.new.pool in
     let r = c.own-report.new.pool in
-    let begun : p.words ≡ 160 = ap (λ (t : PoolState). t.words) c.in_ok-pool.ensures.unused in
+    let begun : p.words ≡ slot_words = ap (λ (t : PoolState). t.words) c.in_ok-pool.ensures.unused in
     let first = subst (λ n. ChangesSlot p q c.own-registers.result (Some (replicate {A = ℕ} n 0))) begun c.own-registers.ensures.zeros in
-    let later : q.words ≡ 160 = c.own-registers.ensures.zeros.words ∙ begun in
+    let later : q.words ≡ slot_words = c.own-registers.ensures.zeros.words ∙ begun in
     let second = subst (λ n. ChangesSlot q r c.own-report.result (Some (replicate {A = ℕ} n 0))) later c.own-report.ensures.zeros in
-    fresh-taken c.args.slots p q r c.own-registers.result c.own-report.result (replicate 160 0) c.in_ok-pool.ensures.unused refl c.own-registers.ensures.was_free first c.own-report.ensures.was_free second
+    fresh-taken c.args.slots p q r c.own-registers.result c.own-report.result (replicate slot_words 0) c.in_ok-pool.ensures.unused refl c.own-registers.ensures.was_free first c.own-report.ensures.was_free second

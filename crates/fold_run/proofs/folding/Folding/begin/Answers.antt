@@ -6,8 +6,8 @@ use Rattle.fold_run.specs.Folding.{env_of}
 use Rattle.fold_run.proofs.MachineMeans.{start_shape}
 use Rattle.fold_run.proofs.folding.Folding.begin.Goals as goal
 
-pub returns-in-Ok-clause-track : goal.returns-in-Ok-clause-track
-returns-in-Ok-clause-track c =
+pub returns-clause-track : goal.returns-clause-track
+returns-clause-track c =
     let built = c.args.built.now in
     let env : env_of c.start.new.self.kept ≡ _ =
     ap (λ (m : MachineState). env_of m.kept) c.in-Ok.ensures.started

@@ -2,7 +2,7 @@ use Rattle.std.proofs.Common.{◌≡◌, ◌<◌, ◌^◌, Some, length}
 use Rattle.ccp_base.specs.declared.parts.Separator.TheVariants.{Blank}
 use Rattle.ccp_base.specs.Numerals.{value_after}
 use Rattle.fold_run.specs.FirstPart.{first_of, after_of}
-use Rattle.fold_run.proofs.line_number.read_last_digits.Given as goal
+use Rattle.fold_run.proofs.line_number.read_more_digits.Given as goal
 
 abbrev pub invariant-loop-byte : goal.invariant-loop-byte
 invariant-loop-byte l = record {
