@@ -1,17 +1,16 @@
 -- What readers answer.
-use Rattle.std.proofs.Common.{◌≡◌, ℕ, zero, suc, ◌-◌, List, length, Result, Ok, Err, refl, sym, ap, subst, ◌∙◌}
+use Rattle.std.proofs.Common.{◌≡◌, ℕ, zero, suc, ◌-◌, List, Result, Ok, Err, refl, sym, ap, subst, ◌∙◌}
 use Rattle.std.specs.Prelude.{map}
 use Rattle.std.specs.Int.{w32}
 use Rattle.reply_frames.specs.declared.fault.Stop.{Stop}
 use Rattle.reply_frames.specs.declared.outline.Counts.{Counts}
-use Rattle.reply_frames.specs.declared.outline.Outline.{Outline}
 use Rattle.reply_frames.specs.Parts.{Read, ◌>>=◌, number_at, repeated_at}
-use Rattle.reply_frames.specs.Frames.{start_at, event_at, instruction_at, install_at, Body}
+use Rattle.reply_frames.specs.Frames.{start_at, event_at, instruction_at, install_at}
 use Rattle.ccp_messages.specs.declared.fault.Halt.{Halt}
 use Rattle.ccp_messages.specs.declared.fault.Halt.TheVariants as halt
 use Rattle.ccp_messages.specs.CodeParts.{start_of, event_of, instr_of}
 use Rattle.ccp_messages.specs.Messages.{message_of}
-use Rattle.ccp_messages.specs.Decoding.{Answers, made, code_start_at, code_event_at, code_instr_at, code_at, found_from}
+use Rattle.ccp_messages.specs.Decoding.{Answers, made, code_start_at, code_event_at, code_instr_at, code_at}
 
 -- a `?` that passed on where reading stopped
 pub answers-stop : {X Y : Type 0} (view : X → Y) (result : Result X Halt) (y : Halt) (stop : Stop) (read : Result Y Stop) → result ≡ Err y → y ≡ halt.Stopped stop → read ≡ Err stop → Answers view result read
@@ -43,8 +42,3 @@ made-install flow counts bytes =
     (λ controls. made-both (message_of flow) (map event_of) (repeated_at event_at counts.n3 controls.1) (repeated_at code_event_at counts.n3 controls.1) _ _ (made-repeated event_of event_at counts.n3 controls.1)
     (λ events. made-both (message_of flow) (map instr_of) (repeated_at instruction_at counts.n4 events.1) (repeated_at code_instr_at counts.n4 events.1) _ _ (made-repeated instr_of instruction_at counts.n4 events.1)
     (λ instructions. refl)))))
-
--- what was made of a frame's body
-pub found-made : (total : ℕ) (head : Outline) (read : Read Body) → found_from total (read >>= λ body. Ok (record { outline = head; body = body.0 }, body.1)) ≡ (made (message_of head.flow) read >>= λ x. Ok (x.0, head.version, total - length x.1))
-found-made total head (Ok x) = refl
-found-made total head (Err stop) = refl

@@ -1,12 +1,12 @@
 -- Where a feed begins.
-use Rattle.std.proofs.Common.{◌≡◌, ℕ, ◌-◌, List, [], length, ap, sym, refl, subst, ◌∙◌, arith, append-nil}
+use Rattle.std.proofs.Common.{◌≡◌, inl, ℕ, ◌-◌, false, List, [], length, ap, sym, refl, subst, ◌∙◌, arith, append-nil}
 use Rattle.ccp_base.specs.Limits.{most_input_bytes}
 use Rattle.ccp_base.specs.Outside.{Known, Takes, Appends}
 use Rattle.feed_core.specs.declared.ending.FeedEnd.TheVariants as ends
 use Rattle.feed_core.specs.Feed.{FeedState, no_flows}
 use Rattle.feed_core.specs.FeedHolds.{IsFeed}
-use Rattle.feed_core.specs.FeedBytes.{Fed, with_answers, fed, feed_of, IsFeeding}
-use Rattle.feed_core.specs.FeedEnds.{answers_of, stream, IsFed}
+use Rattle.feed_core.specs.FeedBytes.{left, Fed, with_answers, fed, feed_of, IsFeeding}
+use Rattle.feed_core.specs.FeedEnds.{answers_of, end_from, stream, IsFed}
 use Rattle.feed_core.proofs.FrameEnds.{fed-nothing}
 use Rattle.feed_core.proofs.StreamEnds.{takes-nothing, appends-nothing}
 
@@ -31,10 +31,13 @@ feeding-first source sink state rest first is_feed none = record {
   within = omega (arith, ap length none);
 }
 
--- no bytes have no answers
-pub no-answers : answers_of [] ≡ []
+-- no bytes have no answers, and are whole
+nothing-fed : feed_of [] ≡ record { answers = []; tail = left 0 [] }
 unfolding feed_of
-no-answers = fed-nothing most_input_bytes 0 no_flows
+nothing-fed = fed-nothing most_input_bytes 0 no_flows
+
+pub no-answers : answers_of [] ≡ []
+no-answers = ap (λ (f : Fed). f.answers) nothing-fed
 
 -- no memory for a feed
 pub ends-unbegun : (source sink : Known) (rb rn wb wn : ℕ) (is_finished : Type 0) → IsFed (stream source source rb rn) (stream sink sink wb wn) is_finished ends.NoMemory
@@ -46,4 +49,7 @@ ends-unbegun source sink rb rn wb wn is_finished = record {
   within = omega arith;
   written = subst (Appends sink sink) (sym no-answers) (appends-nothing sink);
   begins = sym (append-nil (answers_of []));
+  whole = ap (λ (f : Fed). end_from f.tail false) nothing-fed;
+  kept = omega arith;
+  cause = inl refl;
 }

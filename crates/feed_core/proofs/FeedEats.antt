@@ -23,7 +23,7 @@ with-with : (a b : List ℕ) (f : Fed) → with_answers a (with_answers b f) ≡
 with-with a b f = λ i. record { answers = sym (append_assoc a b f.answers) i; tail = f.tail }
 
 -- the frames from a whole one on
-fed-frame : (frames place : ℕ) (state : FeedState) (frame more : List ℕ) (message : Message) (version : Version) → frame ≡ frame_bytes version message
+pub fed-frame : (frames place : ℕ) (state : FeedState) (frame more : List ℕ) (message : Message) (version : Version) → frame ≡ frame_bytes version message
     → decoded_of (frame ++ more) ≡ Ok (message, version, length frame)
     → fed (suc frames) place state (frame ++ more) ≡ with_answers (answer_bytes (answered state message version).0) (fed frames (place + length frame) (answered state message version).1 more)
 fed-frame frames place state frame more message version is read =

@@ -1,21 +1,28 @@
 -- How a feed ends from where it stands.
-use Rattle.std.proofs.Common.{◌≡◌, ℕ, suc, ◌+◌, ◌-◌, ◌<◌, ◌≤◌, true, false, nat_lt, Err, List, [], ◌∷◌, ◌++◌, length, take, drop, ap, sym, refl, subst, ◌∙◌, arith, append_assoc, length-append, append-nil}
+use Rattle.std.proofs.Common.{◌≡◌, ◌⊎◌, inl, inr, ℕ, suc, ◌+◌, ◌-◌, ◌<◌, ◌≤◌, Bool, true, false, cond, nat_lt, Option, Some, None, Ok, Err, List, [], ◌∷◌, ◌++◌, length, take, drop, ap, sym, refl, subst, ◌∙◌, arith, append_assoc, length-append, append-nil}
 use Rattle.std.proofs.lemmas.Bool.Decides.{nat_tests}
-use Rattle.std.proofs.lemmas.List.{take_all}
-use Rattle.ccp_base.specs.Limits.{most_input_bytes}
+use Rattle.std.proofs.lemmas.List.{take_all, take-append-le}
+use Rattle.ccp_base.specs.Limits.{most_flows, most_frame_bytes, most_input_bytes}
 use Rattle.ccp_base.specs.Outside.{Known, Rose, Takes, IsAtEnd, Appends, AppendsPrefix, Takes-append}
 use Rattle.reply_frames.specs.declared.fault.BadKind.{BadKind}
 use Rattle.ccp_messages.specs.declared.fault.DecodeFault.TheVariants.{More, Bad}
-use Rattle.ccp_messages.specs.Decoding.{decoded_of}
+use Rattle.reply_frames.specs.declared.outline.Version.{Version}
+use Rattle.ccp_messages.specs.declared.message.Message.{Message}
+use Rattle.ccp_messages.specs.declared.message.Message.TheVariants.{Create, Measure, Install, Update, Change, Fault, Refused}
+use Rattle.ccp_messages.specs.declared.message.Message.TheVariants as message
+use Rattle.ccp_messages.specs.Messages.{frame_bytes}
+use Rattle.ccp_messages.specs.Decoding.{Begins, BeginsInstall, decoded_of}
 use Rattle.ccp_messages.proofs.DecodeLaws.{begins-decoded}
 use Rattle.feed_core.specs.declared.ending.FeedEnd.{FeedEnd}
 use Rattle.feed_core.specs.declared.ending.FeedEnd.TheVariants as ends
-use Rattle.feed_core.specs.Feed.{FeedState, no_flows, answered}
+use Rattle.feed_core.specs.declared.flow.Flow.{Flow}
+use Rattle.feed_core.specs.Feed.{FeedState, there, no_flows, refused, created_at, counted, answered, TakesMemory}
 use Rattle.feed_core.specs.FeedBytes.{left, bad, Fed, answer_bytes, with_answers, fed_on, fed, feed_of, IsFeeding}
-use Rattle.feed_core.specs.FeedTurns.{FailsOne}
-use Rattle.feed_core.specs.FeedEnds.{answers_of, end_from, end_of, stream, Answers, IsOpen, IsFed}
+use Rattle.feed_core.specs.FeedTurns.{BeginsTaking, FailsOne}
+use Rattle.feed_core.specs.FeedEnds.{answers_of, end_from, end_of, stream, Answers, IsOpen, MakesFlow, TakesMemoryAt, IsFed}
 use Rattle.feed_core.specs.FeedLast.{IsLast}
 use Rattle.feed_core.proofs.FrameEnds.{take-front, fed-part, fed-bad, fed-nothing, bad-on}
+use Rattle.feed_core.proofs.FeedEats.{some-used, fed-frame}
 use Rattle.feed_core.proofs.StreamEnds.{appends-all, appends-front, rose-late}
 
 -- ---- ends
@@ -37,6 +44,13 @@ end-some place (byte ∷ rest) some = refl
 is-open : (place : ℕ) (rest : List ℕ) → IsOpen (end_from (left place rest) false)
 is-open place [] = tt
 is-open place (byte ∷ rest) = tt
+
+-- a Create of a flow that isn't there has no answer
+created-quiet : (state : FeedState) (version : Version) (n cwnd : ℕ) (b : Bool) (o : Option Flow) → b ≡ true → o ≡ None
+    → answer_bytes (counted (cond b (created_at o state version n cwnd) (refused state version n 1 0))).0 ≡ []
+created-quiet state version n cwnd true None below free = refl
+created-quiet state version n cwnd true (Some flow) below free = let bad : ⊥ = cc in absurd bad
+created-quiet state version n cwnd false o below free = let bad : ⊥ = cc in absurd bad
 
 module _ (source source' sink sink' : Known) (state : FeedState) (eaten : ℕ) (rest : List ℕ) (feeding : IsFeeding source source' sink sink' state eaten rest)
     (rb rn wb wn : ℕ) (is_finished : Type 0) where
@@ -187,23 +201,83 @@ module _ (source source' sink sink' : Known) (state : FeedState) (eaten : ℕ) (
             (appends-front sink sink' sink'' feeding.answers (answer_bytes (answered state fails.message fails.version).0) later.answers feeding.written fails.written);
       }
 
-  -- ---- where memory is wanted
+  -- ---- out of memory
 
-  front-here : length feeding.front ≤ most_input_bytes → feed_of feeding.front ≡ with_answers feeding.answers (fed frames eaten state [])
+  short : length feeding.front ≤ most_input_bytes
+  short = omega (arith, feeding.within, feeding.eaten_is)
+
+  front-here : feed_of feeding.front ≡ record { answers = feeding.answers; tail = left eaten [] }
   unfolding feed_of
-  front-here short = ap (fed most_input_bytes 0 no_flows) (take_all most_input_bytes feeding.front short ∙ sym (append-nil feeding.front)) ∙ feeding.goes []
+  front-here =
+      ap (fed most_input_bytes 0 no_flows) (take_all most_input_bytes feeding.front short ∙ sym (append-nil feeding.front))
+      ∙ feeding.goes []
+      ∙ ap (with_answers feeding.answers) (fed-nothing frames eaten state)
+      ∙ ap (λ (xs : List ℕ). record { answers = xs; tail = left eaten [] }) (append-nil feeding.answers)
 
-  pub ends-wanting : IsFed (stream source source' rb rn) (stream sink sink' wb wn) is_finished ends.NoMemory
-  ends-wanting =
-      let short : length feeding.front ≤ most_input_bytes = omega (arith, feeding.within, feeding.eaten_is) in
-      let so_far : feed_of feeding.front ≡ with_answers feeding.answers (fed frames eaten state []) = front-here short in
-      let now : answers_of feeding.front ≡ feeding.answers = ap (λ (f : Fed). f.answers) so_far ∙ ap (λ xs. feeding.answers ++ xs) (fed-nothing frames eaten state) ∙ append-nil feeding.answers in
-      record {
-        front = feeding.front;
-        rest = rest;
-        later = (fed frames eaten state rest).answers;
-        taken = feeding.taken;
-        within = fits;
-        written = subst (Appends sink sink') (sym now) feeding.written;
-        begins = ap (λ (f : Fed). f.answers) here ∙ ap (λ xs. xs ++ (fed frames eaten state rest).answers) (sym now);
-      }
+  front-answers : answers_of feeding.front ≡ feeding.answers
+  front-answers = ap (λ (f : Fed). f.answers) front-here
+
+  -- a further frame that has no answer
+  quiet-frame : (message : Message) (version : Version) (used : ℕ) → Begins rest message version used → answer_bytes (answered state message version).0 ≡ []
+      → answers_of (feeding.front ++ take used rest) ≡ feeding.answers
+  unfolding feed_of
+  quiet-frame message version used begins quiet =
+      let frame : List ℕ = frame_bytes version message in
+      let used' = some-used rest message version used begins in
+      let some : 0 < used = used'.0 in
+      let fit : used ≤ length rest = used'.1 in
+      let used_is : used ≡ length frame = begins.used_is in
+      let first : take used rest ≡ frame =
+      ap (λ n. take n rest) used_is ∙ ap (take (length frame)) begins.parts ∙ take-append-le (length frame) frame begins.rest (omega arith) ∙ take_all (length frame) frame (omega arith) in
+      let fuel : frames ≡ suc (frames - 1) = omega (arith, some, fit, feeding.few, feeding.within) in
+      let fits' : length (feeding.front ++ frame) ≤ most_input_bytes = omega (arith, feeding.within, feeding.eaten_is, fit, used_is, length-append feeding.front frame) in
+      let read : decoded_of (frame ++ []) ≡ Ok (message, version, length frame) =
+      begins-decoded (frame ++ []) message version (length frame) (record { rest = []; parts = refl; used_is = refl; meets = begins.meets; typed = begins.typed }) in
+      let next : FeedState = (answered state message version).1 in
+      let on' : fed frames eaten state frame ≡ with_answers (answer_bytes (answered state message version).0) (fed (frames - 1) (eaten + length frame) next []) =
+      ap (λ n. fed n eaten state frame) fuel ∙ ap (fed (suc (frames - 1)) eaten state) (sym (append-nil frame)) ∙ fed-frame (frames - 1) eaten state frame [] message version refl read in
+      let none : (fed (frames - 1) (eaten + length frame) next []).answers ≡ [] = ap (λ (f : Fed). f.answers) (fed-nothing (frames - 1) (eaten + length frame) next) in
+      ap (λ xs. answers_of (feeding.front ++ xs)) first
+      ∙ ap (λ xs. (fed most_input_bytes 0 no_flows xs).answers) (take_all most_input_bytes (feeding.front ++ frame) fits')
+      ∙ ap (λ (f : Fed). f.answers) (feeding.goes frame)
+      ∙ ap (λ (f : Fed). feeding.answers ++ f.answers) on'
+      ∙ ap (λ xs. feeding.answers ++ (xs ++ (fed (frames - 1) (eaten + length frame) next []).answers)) quiet
+      ∙ ap (λ xs. feeding.answers ++ xs) none
+      ∙ append-nil feeding.answers
+
+  makes-flow : (message : Message) (version : Version) (used : ℕ) → Begins rest message version used → TakesMemory state message → MakesFlow feeding.front rest
+  makes-flow (Create n mss cwnd) version used begins takes = record {
+    flow = n;
+    mss = mss;
+    cwnd = cwnd;
+    version = version;
+    used = used;
+    begins = begins;
+    unanswered = quiet-frame (Create n mss cwnd) version used begins (created-quiet state version n cwnd (nat_lt n most_flows) (there state.flows n) (grind (arith, nat_tests, takes.0)) takes.1) ∙ sym front-answers;
+  }
+  makes-flow (Measure report) version used begins takes = absurd takes
+  makes-flow (Install n program code) version used begins takes = absurd takes
+  makes-flow (Update n values) version used begins takes = absurd takes
+  makes-flow (Change n program values) version used begins takes = absurd takes
+  makes-flow (Fault notice) version used begins takes = absurd takes
+  makes-flow (message.Ack n ack) version used begins takes = absurd takes
+  makes-flow (Refused n reason index) version used begins takes = absurd takes
+
+  takes-memory : BeginsInstall rest ⊎ BeginsTaking state rest → TakesMemoryAt feeding.front rest
+  takes-memory (inl install) = inr (inl install)
+  takes-memory (inr taking) = inr (inr (makes-flow taking.message taking.version taking.used taking.begins taking.takes))
+
+  pub ends-wanting : length rest ≤ most_frame_bytes → BeginsInstall rest ⊎ BeginsTaking state rest → IsFed (stream source source' rb rn) (stream sink sink' wb wn) is_finished ends.NoMemory
+  ends-wanting few cause = record {
+    front = feeding.front;
+    rest = rest;
+    later = (fed frames eaten state rest).answers;
+    taken = feeding.taken;
+    within = fits;
+    written = subst (Appends sink sink') (sym front-answers) feeding.written;
+    begins = ap (λ (f : Fed). f.answers) here ∙ ap (λ xs. xs ++ (fed frames eaten state rest).answers) (sym front-answers);
+    whole = ap (λ (f : Fed). end_from f.tail (nat_lt most_input_bytes (length feeding.front))) front-here
+        ∙ ap (end_from (left eaten [])) (not-longer (length feeding.front) short);
+    kept = few;
+    cause = takes-memory cause;
+  }

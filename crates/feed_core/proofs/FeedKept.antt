@@ -1,5 +1,5 @@
 -- What holds of a feed's fields holds after each message, and each answer has a frame.
-use Rattle.std.proofs.Common.{◌≡◌, ℕ, zero, suc, ◌+◌, ◌<◌, ◌≤◌, Bool, true, false, nat_lt, Option, Some, None, option_map, List, [], ◌∷◌, length, replicate, slice_set, sym, refl, subst, ◌∙◌, arith, cond}
+use Rattle.std.proofs.Common.{◌≡◌, ℕ, zero, suc, ◌+◌, ◌*◌, ◌<◌, ◌≤◌, Bool, true, false, nat_lt, Option, Some, None, option_map, List, [], ◌∷◌, length, replicate, slice_set, sym, refl, subst, ◌∙◌, arith, cond}
 use Rattle.std.specs.List.{AllByRecursion}
 use Rattle.std.proofs.lemmas.Bool.Decides.{nat_tests}
 use Rattle.std.proofs.lemmas.List.{length-set, length-map}
@@ -7,20 +7,23 @@ use Rattle.ccp_base.specs.declared.ack.Ack.{Ack}
 use Rattle.ccp_base.specs.declared.fields.FieldReg.{FieldReg}
 use Rattle.ccp_base.specs.declared.fields.FieldReg.TheVariants as field
 use Rattle.ccp_base.specs.FieldReg.{Pair, first_bad}
-use Rattle.ccp_base.specs.Limits.{most_flows, most_kept_programs, most_messages}
+use Rattle.ccp_base.specs.declared.exchange.Notice.{Notice}
+use Rattle.ccp_base.specs.declared.exchange.Report.{Report}
+use Rattle.ccp_base.specs.Limits.{most_fields, most_flows, most_kept_programs, most_messages}
 use Rattle.ccp_base.specs.Truth.{is_true}
 use Rattle.reg_code.specs.declared.code.Code.{Code}
 use Rattle.reg_code.specs.AcceptedCode.{◌or_else◌, Refusal, rejected, IsAccepted, sizes_of, counts_refusal, events_refusal}
 use Rattle.reg_code.specs.CodeStart.{with_value, with_values, declared_kept}
-use Rattle.reg_code.specs.CodeStep.{Kept, IsKeptOf, Work, done, failed, stuck, events_of, begun, settled, one_by_code, made_of}
+use Rattle.reg_code.specs.CodeStep.{Kept, IsKeptOf, Work, done, failed, stuck, events_of, begun, settled, made_of}
 use Rattle.reg_code.specs.CodeStep as steps
-use Rattle.reg_code.specs.SoundLaws.{WorkSized, events-sized, none-next, IsSound-accepted}
+use Rattle.reg_code.specs.SoundLaws.{WorkSized, events-sized, none-first, none-next, refusal_where-none, IsSound-accepted}
 use Rattle.reply_frames.specs.declared.outline.Version.{Version}
 use Rattle.reply_frames.specs.declared.outline.Version.TheVariants.{One, Two}
 use Rattle.ccp_messages.specs.declared.message.Message.{Message}
 use Rattle.ccp_messages.specs.declared.message.Message.TheVariants.{Create, Measure, Install, Update, Change, Fault, Refused}
 use Rattle.ccp_messages.specs.declared.message.Message.TheVariants as message
-use Rattle.ccp_messages.specs.Messages.{AreFew, IsShortCount}
+use Rattle.ccp_messages.specs.Messages.{AreFew, IsShortCount, frame_bytes}
+use Rattle.ccp_messages.proofs.Encoding.{length-frame}
 use Rattle.fold_machine.specs.declared.acked.Acked.{Acked}
 use Rattle.fold_machine.specs.declared.acked.Acked.TheVariants as acked
 use Rattle.fold_machine.specs.MachineState.{MachineState, Fits}
@@ -28,7 +31,7 @@ use Rattle.fold_machine.specs.Heard.{heard, heard_where, after_made, started_by,
 use Rattle.feed_core.specs.declared.flow.Epoch.{Epoch}
 use Rattle.feed_core.specs.declared.flow.Flow.{Flow}
 use Rattle.feed_core.specs.Feed.{FeedState, there, Answer, Answered, refused, with_flow, fresh_flow, created_at, installed_as, installed_at, next_epoch, changed_flow, is_too_wide, changed_with, changed_to, changed_at, code_of, updated_flow, updated_with, updated_on, updated_at, counted_flow, first_after, flow_after, told_of, in_version, acked_on, acked_at, handled}
-use Rattle.feed_core.specs.FeedHolds.{RunsOn, IsFlow, IsFlowThere, IsAcceptedThere, AreFeedParts, IsFeed, HasFrame}
+use Rattle.feed_core.specs.FeedHolds.{RunsOn, IsFlow, IsFlowThere, IsAcceptedThere, AreFeedParts, IsFeed, longest_answer, HasFrame}
 
 -- ---- lists of places
 
@@ -45,10 +48,6 @@ each-set P (y ∷ xs) (suc n) x is all = (all.0, each-set P xs n x is all.1)
 each-too : {A : Type 0} (P Q : A → Type 0) → ((x : A) → P x → Q x) → (xs : List A) → AllByRecursion P xs → AllByRecursion Q xs
 each-too P Q too [] all = tt
 each-too P Q too (x ∷ xs) all = (too x all.0, each-too P Q too xs all.1)
-
-each-none : {A : Type 0} (P : Option A → Type 0) → P None → (n : ℕ) → AllByRecursion P (replicate n None)
-each-none P none zero = tt
-each-none P none (suc n) = (none, each-none P none n)
 
 -- what is there stays where something is put at a free place
 there-stays : {A : Type 0} (xs : List (Option A)) (p q : ℕ) (y : Option A) (x : A) → there xs p ≡ None → there xs q ≡ Some x → there (slice_set xs p y) q ≡ Some x
@@ -89,17 +88,72 @@ short : (version : Version) (n : ℕ) → n ≤ most_messages → IsShortCount v
 short One n small = omega (arith, small)
 short Two n small = tt
 
-module _ (code : Code) (ack : Ack) (n : ℕ) (epoch : Epoch) (flow : Flow) (first : flow.first ≤ flow.count) (count : flow.count < most_messages) (few : AreFew flow.version (length code.reports)) where
+-- no report, fault or refusal has a longer frame than the longest answer
+report-short : (version : Version) (report : Report) → length report.fields ≤ most_fields → length (frame_bytes version (Measure report)) ≤ longest_answer
+report-short One report few =
+    let long : length (frame_bytes One (Measure report)) ≡ 56 + 8 * length report.fields = length-frame One (Measure report) in
+    omega (arith, few, long)
+report-short Two report few =
+    let long : length (frame_bytes Two (Measure report)) ≡ 64 + 8 * length report.fields = length-frame Two (Measure report) in
+    omega (arith, few, long)
+
+notice-short : (version : Version) (notice : Notice) → length (frame_bytes version (Fault notice)) ≤ longest_answer
+notice-short One notice =
+    let long : length (frame_bytes One (Fault notice)) ≡ 47 = length-frame One (Fault notice) in
+    omega (arith, long)
+notice-short Two notice =
+    let long : length (frame_bytes Two (Fault notice)) ≡ 51 = length-frame Two (Fault notice) in
+    omega (arith, long)
+
+refusal-short : (version : Version) (n reason index : ℕ) → length (frame_bytes version (Refused n reason index)) ≤ longest_answer
+refusal-short version n reason index =
+    let long : length (frame_bytes version (Refused n reason index)) ≡ 21 = length-frame version (Refused n reason index) in
+    omega (arith, long)
+
+-- an accepted code has at most 64 report fields
+fields-few : (code : Code) → IsAccepted code → length code.reports ≤ most_fields
+fields-few code accepted =
+    let counts : counts_refusal code ≡ None = none-first _ _ (none-first _ _ accepted) in
+    let few : nat_lt most_fields (length code.reports) ≡ false = refusal_where-none _ _ 0 (none-first _ _ (none-first _ _ (none-first _ _ counts))) in
+    grind (arith, nat_tests, few)
+
+module _ (code : Code) (ack : Ack) (n : ℕ) (epoch : Epoch) (flow : Flow) (first : flow.first ≤ flow.count) (count : flow.count < most_messages) (few : AreFew flow.version (length code.reports)) (fit : length code.reports ≤ most_fields) where
   asked-framed : (asked : Bool) (machine : MachineState) (kept : Kept) (ran : ℕ) → length kept.reports ≡ length code.reports
       → HasFrame (in_version flow.version (told_of (after_made (made_of (steps.answered code asked true kept) ran) machine) ack n epoch flow))
   asked-framed false machine kept ran sized = tt
   asked-framed true machine kept ran sized =
-      (short flow.version flow.first (omega (arith, first, count)), short flow.version (flow.count + 1) (omega (arith, count)), subst (AreFew flow.version) (sym sized) few)
+      let told : MachineState = (after_made (made_of (steps.answered code true true kept) ran) machine).1 in
+      let report : Report = record {
+        flow = n;
+        program = epoch.program;
+        epoch = epoch.number;
+        first = flow.first;
+        end = flow.count + 1;
+        now = ack.now;
+        cwnd = told.kept.cwnd;
+        rate = told.kept.rate;
+        fields = told.report;
+      } in (
+        (short flow.version flow.first (omega (arith, first, count)), short flow.version (flow.count + 1) (omega (arith, count)), subst (AreFew flow.version) (sym sized) few),
+        report-short flow.version report (omega (arith, sized, fit)),
+      )
 
   work-framed : (work : Work) (kept : Kept) (machine : MachineState) → WorkSized (sizes_of code) work
       → HasFrame (in_version flow.version (told_of (after_made (settled code kept true work) machine) ack n epoch flow))
   work-framed (done ran regs) kept machine sized = asked-framed (is_true regs.send) machine regs.kept ran sized.reports
-  work-framed (failed kind index ran) kept machine sized = short flow.version flow.count (omega (arith, count))
+  work-framed (failed kind index ran) kept machine sized =
+      let told : MachineState = (after_made (settled code kept true (failed kind index ran)) machine).1 in
+      let notice : Notice = record {
+        flow = n;
+        program = epoch.program;
+        epoch = epoch.number;
+        at = flow.count;
+        kind = kind;
+        index = index;
+        now = ack.now;
+        cwnd = told.kept.cwnd;
+      } in
+      (short flow.version flow.count (omega (arith, count)), notice-short flow.version notice)
   work-framed (stuck ran) kept machine sized = absurd sized
 
   heard-framed : (stopped : Bool) (machine : MachineState) → IsAccepted code → Fits machine code
@@ -147,7 +201,7 @@ module _ (state : FeedState) (is_feed : IsFeed state) where
   )
 
   kept-refused : (version : Version) (n reason index : ℕ) → 1 ≤ reason → reason ≤ 9 → IsKept (state.messages + 1) (refused state version n reason index)
-  kept-refused version n reason index least most = kept-same (Some (Refused n reason index, version)) (least, most)
+  kept-refused version n reason index least most = kept-same (Some (Refused n reason index, version)) ((least, most), refusal-short version n reason index)
 
   kept-flow : (n : ℕ) (flow : Flow) (answer : Answer) → IsFlow state.programs (state.messages + 1) flow → HasFrame answer → IsKept (state.messages + 1) (answer, with_flow state n flow)
   kept-flow n flow answer is framed = (
@@ -294,10 +348,10 @@ module _ (state : FeedState) (is_feed : IsFeed state) where
           let count : flow.count < most_messages = omega (arith, is.counted, small) in
           kept-flow n (flow_after came ack flow) (in_version flow.version (told_of came ack n epoch flow)) (record {
             counted = omega (arith, is.counted);
-            spanned = first-within code ack n epoch flow is.spanned count runs.1 came;
+            spanned = first-within code ack n epoch flow is.spanned count runs.1 (fields-few code accepted) came;
             changed = omega (arith, is.changed);
             runs = runs-at epoch flow.epoch flow.version came.1 code e here (heard-fits flow.machine.is_stopped code ack flow.machine accepted runs.0) runs.1;
-          }) (heard-framed code ack n epoch flow is.spanned count runs.1 flow.machine.is_stopped flow.machine accepted runs.0)
+          }) (heard-framed code ack n epoch flow is.spanned count runs.1 (fields-few code accepted) flow.machine.is_stopped flow.machine accepted runs.0)
 
       kept-acked-on : (epoch : Option Epoch) → flow.epoch ≡ epoch → IsKept (state.messages + 1) (acked_on (code_of epoch state.programs) state n ack flow)
       kept-acked-on None e = kept-flow n (counted_flow ack flow) None (record {

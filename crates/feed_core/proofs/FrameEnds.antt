@@ -30,17 +30,20 @@ pub fed-bad : (frames place : ℕ) (state : FeedState) (bytes : List ℕ) (field
 fed-bad zero place state bytes field offset some e = absurd (omega (arith, some))
 fed-bad (suc frames) place state bytes field offset some e = ap (fed_on (fed frames) place state bytes) e
 
--- no bytes have no answers
-pub nothing-read : (frames place : ℕ) (state : FeedState) (read : Result Found DecodeFault) → decoded_of [] ≡ read → (fed_on (fed frames) place state [] read).answers ≡ []
+-- no bytes have no answers, and nothing is left of them
+nothing-read : (frames place : ℕ) (state : FeedState) (read : Result Found DecodeFault) → decoded_of [] ≡ read
+    → fed_on (fed frames) place state [] read ≡ record { answers = []; tail = left place [] }
 nothing-read frames place state (Ok (message, version, used)) e =
     let begins = decoded-begins [] (message, version, used) (λ i. omega arith) e in
     let used' = some-used [] message version used begins in
     absurd (omega (arith, used'.0, used'.1))
 nothing-read frames place state (Err (More needed)) e = refl
-nothing-read frames place state (Err (Bad field offset)) e = refl
+nothing-read frames place state (Err (Bad field offset)) e =
+    let within : offset < 0 = (decoded-bad [] field offset e).0.within in
+    absurd (omega (arith, within))
 nothing-read frames place state (Err NoMemory) e = refl
 
-pub fed-nothing : (frames place : ℕ) (state : FeedState) → (fed frames place state []).answers ≡ []
+pub fed-nothing : (frames place : ℕ) (state : FeedState) → fed frames place state [] ≡ record { answers = []; tail = left place [] }
 fed-nothing zero place state = refl
 fed-nothing (suc frames) place state = nothing-read frames place state (decoded_of []) refl
 

@@ -6,6 +6,7 @@ mod FeedKept
 mod FeedLemmas
 mod FeedSteps
 mod FrameEnds
+mod RefusalLemmas
 mod RestLemmas
 mod StreamEnds
 mod TurnLemmas

@@ -1,5 +1,5 @@
 -- What decoding says of the bytes of a feed.
-use Rattle.std.proofs.Common.{◌≡◌, ◌≢◌, ℕ, zero, suc, ◌<◌, ◌≤◌, Result, Err, List, [], ◌∷◌, ◌++◌, length, sym, refl, ◌∙◌, arith, length-append}
+use Rattle.std.proofs.Common.{◌≡◌, ◌≢◌, inl, ℕ, zero, suc, ◌<◌, ◌≤◌, Result, Err, List, [], ◌∷◌, ◌++◌, length, sym, refl, ◌∙◌, arith, length-append}
 use Rattle.ccp_base.specs.Limits.{most_frame_bytes}
 use Rattle.ccp_base.specs.Outside.{Known}
 use Rattle.reply_frames.specs.declared.fault.BadKind.{BadKind}
@@ -10,7 +10,7 @@ use Rattle.reply_frames.proofs.ExactParts.{AreBytes-append}
 use Rattle.reply_frames.proofs.NeededLaw.{longest}
 use Rattle.ccp_messages.specs.declared.fault.DecodeFault.{DecodeFault}
 use Rattle.ccp_messages.specs.declared.fault.DecodeFault.TheVariants.{More, Bad, NoMemory}
-use Rattle.ccp_messages.specs.Decoding.{Found, decoded_of, IsAnswer}
+use Rattle.ccp_messages.specs.Decoding.{Found, decoded_of, IsAnswer, BeginsInstall}
 use Rattle.feed_core.specs.Feed.{FeedState}
 use Rattle.feed_core.specs.FeedTurns.{without_frame, IsTurn}
 
@@ -38,17 +38,18 @@ pub turns-without : (faults : ℕ) (written : Known) (state : FeedState) (bytes 
     → (result : Result Found DecodeFault) → IsAnswer result (decoded_of bytes)
     → ((n : ℕ) → result ≡ Err (More n) → IsCut bytes × (n ≡ needed_of bytes))
     → ((field : BadKind) (place : ℕ) → result ≡ Err (Bad field place) → IsBadIn bytes field place)
+    → (result ≡ Err NoMemory → BeginsInstall bytes)
     → (fault : DecodeFault) → result ≡ Err fault → IsTurn faults faults written written state state bytes (without_frame fault)
-turns-without faults written state bytes fits result told more bad (More n) is = record {
+turns-without faults written state bytes fits result told more bad memory (More n) is = record {
   needed = n;
   more = told-fault result (decoded_of bytes) (More n) told is (λ (e : More n ≡ NoMemory). cc);
   short = cut-short bytes fits (more n is).0;
   same = refl;
   nothing = refl;
 }
-turns-without faults written state bytes fits result told more bad (Bad field place) is = (
+turns-without faults written state bytes fits result told more bad memory (Bad field place) is = (
   told-fault result (decoded_of bytes) (Bad field place) told is (λ (e : Bad field place ≡ NoMemory). cc),
   (bad field place is).0.within,
   refl,
 )
-turns-without faults written state bytes fits result told more bad NoMemory is = refl
+turns-without faults written state bytes fits result told more bad memory NoMemory is = record { cause = inl (memory is); nothing = refl }

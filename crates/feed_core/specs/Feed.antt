@@ -1,5 +1,5 @@
 -- What a datapath over a stream of frames keeps, and its answer to a message.
-use Rattle.std.specs.Prelude.{ℕ, ◌+◌, nat_lt, Bool, true, false, if◌then◌else◌, Option, Some, None, option_map, unwrap_or, List, length, slice_get, slice_set, replicate}
+use Rattle.std.specs.Prelude.{◌≡◌, ℕ, ◌+◌, ◌<◌, nat_lt, Bool, true, false, if◌then◌else◌, Option, Some, None, option_map, unwrap_or, List, length, slice_get, slice_set, replicate}
 use Rattle.ccp_base.specs.declared.ack.Ack.{Ack}
 use Rattle.ccp_base.specs.FieldReg.{Pair, first_bad}
 use Rattle.ccp_base.specs.Limits.{most_flows, most_kept_programs, most_short_fields}
@@ -209,3 +209,8 @@ counted (answer, state) = (answer, record state { messages = state.messages + 1 
 -- the answer to a message, and the state after it; every message counts
 abbrev pub answered : FeedState → Message → Version → Answered
 answered state message version = counted (handled state message version)
+
+-- the messages whose handling takes memory: a Create of a flow that isn't there, for its machine
+abbrev pub TakesMemory : FeedState → Message → Type 0
+TakesMemory state (Create n mss cwnd) = (n < most_flows) × (there state.flows n ≡ None)
+TakesMemory state _ = ⊥

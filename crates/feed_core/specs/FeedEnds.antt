@@ -1,7 +1,10 @@
 -- How an input of frames ends, and what a feed has taken and written then.
-use Rattle.std.specs.Prelude.{◌≡◌, ℕ, ◌+◌, ◌≤◌, nat_lt, Bool, true, false, List, [], ◌∷◌, ◌++◌, length}
+use Rattle.std.specs.Prelude.{◌≡◌, ◌⊎◌, ℕ, ◌+◌, ◌≤◌, nat_lt, Bool, true, false, List, [], ◌∷◌, ◌++◌, length, take}
 use Rattle.ccp_base.specs.Outside.{Known, Rose, Takes, IsAtEnd, Appends, AppendsPrefix}
-use Rattle.ccp_base.specs.Limits.{most_input_bytes}
+use Rattle.ccp_base.specs.Limits.{most_frame_bytes, most_input_bytes}
+use Rattle.reply_frames.specs.declared.outline.Version.{Version}
+use Rattle.ccp_messages.specs.declared.message.Message.TheVariants.{Create}
+use Rattle.ccp_messages.specs.Decoding.{Begins, BeginsInstall}
 use Rattle.feed_core.specs.declared.ending.FeedEnd.{FeedEnd}
 use Rattle.feed_core.specs.declared.ending.FeedEnd.TheVariants.{Whole, Bad, Cut, TooLong, ReadFailed, WriteFailed, NoMemory}
 use Rattle.feed_core.specs.FeedBytes.{Tail, left, bad, feed_of}
@@ -76,7 +79,22 @@ pub record FailsToWrite (source sink : Stream) : Type 0 where
   pub rose : Rose sink.before sink.now
   pub front : AppendsPrefix sink.old sink.new (answers_of bytes)
 
--- memory was wanted, and the frames before are answered
+-- a Create begins the bytes that follow the front, and makes a flow: it has no answer
+pub record MakesFlow (front rest : List ℕ) : Type 0 where
+  pub flow : ℕ
+  pub mss : ℕ
+  pub cwnd : ℕ
+  pub version : Version
+  pub used : ℕ
+  pub begins : Begins rest (Create flow mss cwnd) version used
+  pub unanswered : answers_of (front ++ take used rest) ≡ answers_of front
+
+-- why memory is taken at bytes that follow the front: for the state at first, for the code of an Install, or for a flow
+abbrev pub TakesMemoryAt : List ℕ → List ℕ → Type 0
+TakesMemoryAt front rest = (front ++ rest ≡ []) ⊎ (BeginsInstall rest ⊎ MakesFlow front rest)
+
+-- out of memory: exactly the answers to the front are written, whose frames are whole, and the rest of what was taken,
+-- at most a frame's bytes, begins with what takes memory
 pub record WantsMemory (source sink : Stream) : Type 0 where
   pub front : List ℕ
   pub rest : List ℕ
@@ -85,6 +103,9 @@ pub record WantsMemory (source sink : Stream) : Type 0 where
   pub within : length (front ++ rest) ≤ most_input_bytes
   pub written : Appends sink.old sink.new (answers_of front)
   pub begins : answers_of (front ++ rest) ≡ answers_of front ++ later
+  pub whole : end_of front ≡ Whole
+  pub kept : length rest ≤ most_frame_bytes
+  pub cause : TakesMemoryAt front rest
 
 -- what each end of a feed says
 abbrev pub IsFed : Stream → Stream → Type 0 → FeedEnd → Type 0

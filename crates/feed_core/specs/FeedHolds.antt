@@ -1,13 +1,13 @@
 -- What holds of a feed's fields.
-use Rattle.std.specs.Prelude.{◌≡◌, ℕ, ◌≤◌, Option, Some, None, option_map, List, length, map}
+use Rattle.std.specs.Prelude.{◌≡◌, ℕ, ◌+◌, ◌*◌, ◌≤◌, Option, Some, None, option_map, List, length, map}
 use Rattle.std.specs.List.{AllByRecursion}
 use Rattle.reg_code.specs.declared.code.Code.{Code}
 use Rattle.reg_code.specs.declared.checked.Checked.{Checked}
 use Rattle.reg_code.specs.AcceptedCode.{IsAccepted}
 use Rattle.reply_frames.specs.declared.outline.Version.{Version}
-use Rattle.ccp_messages.specs.Messages.{AreFew, Meets}
+use Rattle.ccp_messages.specs.Messages.{AreFew, Meets, frame_bytes}
 use Rattle.fold_machine.specs.MachineState.{MachineState, Fits}
-use Rattle.ccp_base.specs.Limits.{most_flows, most_kept_programs}
+use Rattle.ccp_base.specs.Limits.{most_fields, most_flows, most_kept_programs}
 use Rattle.feed_core.specs.declared.flow.Epoch.{Epoch}
 use Rattle.feed_core.specs.declared.flow.Flow.{Flow}
 use Rattle.feed_core.specs.declared.feed.Feed.{Feed}
@@ -54,7 +54,11 @@ pub record AreFeedParts (flows : List (Option Flow)) (programs : List (Option Co
 abbrev pub IsFeed : FeedState → Type 0
 IsFeed state = AreFeedParts state.flows state.programs state.messages
 
--- the answer has a frame
+-- the bytes of the longest answer, a report of all fields in version 2
+abbrev pub longest_answer : ℕ
+longest_answer = 64 + 8 * most_fields
+
+-- the answer has a frame, which isn't longer than the longest one
 abbrev pub HasFrame : Answer → Type 0
 HasFrame None = Unit {0}
-HasFrame (Some (message, version)) = Meets version message
+HasFrame (Some (message, version)) = Meets version message × (length (frame_bytes version message) ≤ longest_answer)

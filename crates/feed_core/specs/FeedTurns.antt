@@ -1,15 +1,15 @@
 -- What one more frame of a feed comes to.
-use Rattle.std.specs.Prelude.{◌≡◌, ℕ, ◌+◌, ◌<◌, ◌≤◌, List, length, Err}
+use Rattle.std.specs.Prelude.{◌≡◌, ◌⊎◌, ℕ, ◌+◌, ◌<◌, ◌≤◌, List, length, Err}
 use Rattle.ccp_base.specs.Outside.{Known, Rose, Appends, AppendsPrefix}
 use Rattle.ccp_base.specs.Limits.{most_frame_bytes}
 use Rattle.reply_frames.specs.declared.outline.Version.{Version}
 use Rattle.ccp_messages.specs.declared.message.Message.{Message}
 use Rattle.ccp_messages.specs.declared.fault.DecodeFault.{DecodeFault}
 use Rattle.ccp_messages.specs.declared.fault.DecodeFault.TheVariants.{More, Bad, NoMemory}
-use Rattle.ccp_messages.specs.Decoding.{Begins, decoded_of}
+use Rattle.ccp_messages.specs.Decoding.{Begins, BeginsInstall, decoded_of}
 use Rattle.feed_core.specs.declared.turn.Turn.{Turn}
 use Rattle.feed_core.specs.declared.turn.Turn.TheVariants as turn
-use Rattle.feed_core.specs.Feed.{FeedState, answered}
+use Rattle.feed_core.specs.Feed.{FeedState, answered, TakesMemory}
 use Rattle.feed_core.specs.FeedHolds.{IsFeed}
 use Rattle.feed_core.specs.FeedBytes.{answer_bytes}
 
@@ -50,9 +50,22 @@ pub record IsPart (old new : Known) (state state' : FeedState) (bytes : List ℕ
   pub same : state' ≡ state
   pub nothing : new ≡ old
 
+-- a frame begins the bytes whose message takes memory
+pub record BeginsTaking (state : FeedState) (bytes : List ℕ) : Type 0 where
+  pub message : Message
+  pub version : Version
+  pub used : ℕ
+  pub begins : Begins bytes message version used
+  pub takes : TakesMemory state message
+
+-- memory is taken to read the frame that the bytes begin with, or to answer it; nothing was written
+pub record LacksMemory (old new : Known) (state : FeedState) (bytes : List ℕ) : Type 0 where
+  pub cause : BeginsInstall bytes ⊎ BeginsTaking state bytes
+  pub nothing : new ≡ old
+
 abbrev pub IsTurn : (before now : ℕ) (old new : Known) (state state' : FeedState) (bytes : List ℕ) → Turn → Type 0
 IsTurn before now old new state state' bytes (turn.Answered used) = AnswersOne old new state state' bytes used
 IsTurn before now old new state state' bytes turn.Part = IsPart old new state state' bytes
 IsTurn before now old new state state' bytes (turn.Bad field offset) = (decoded_of bytes ≡ Err (Bad field offset)) × (offset < length bytes) × (new ≡ old)
 IsTurn before now old new state state' bytes turn.WriteFailed = FailsOne before now old new state bytes
-IsTurn before now old new state state' bytes turn.NoMemory = new ≡ old
+IsTurn before now old new state state' bytes turn.NoMemory = LacksMemory old new state bytes

@@ -6,4 +6,5 @@ pub mod FeedHolds
 pub mod FeedLast
 pub mod FeedStops
 pub mod FeedTurns
+pub mod Refusals
 pub mod Rests

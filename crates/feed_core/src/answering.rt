@@ -1,10 +1,10 @@
 //! The answer to one frame of a feed, written.
 
-ghost use Rattle.std.specs.Prelude.{◌≡◌, ◌+◌, ◌<◌, ◌≤◌, OnOk, IfErr};
+ghost use Rattle.std.specs.Prelude.{◌≡◌, ◌+◌, ◌<◌, ◌≤◌, length, OnOk, IfErr, Err};
 ghost use Rattle.ccp_base.specs.Outside.{Rose, Appends, AppendsPrefix};
 ghost use Rattle.ccp_base.specs.Limits.{most_messages};
-ghost use Rattle.feed_core.specs.Feed.{answered};
-ghost use Rattle.feed_core.specs.FeedHolds.{state_of, IsFeed};
+ghost use Rattle.feed_core.specs.Feed.{answered, TakesMemory};
+ghost use Rattle.feed_core.specs.FeedHolds.{state_of, longest_answer, IsFeed};
 ghost use Rattle.ccp_messages.specs.Messages.{Meets, frame_bytes};
 ghost use Rattle.feed_core.specs.FeedBytes.{answer_to};
 ghost use Rattle.feed_core.specs.FeedStops.{StopsAnswer};
@@ -15,8 +15,8 @@ use ccp_messages::{Message, encode_into};
 use reply_frames::Version;
 use std::alloc::Global;
 
-/// How many bytes an answer has at the most.
-const ANSWER: usize = 576;
+/// The bytes of the longest answer.
+const LONGEST: usize = 576;
 
 /// Why an answer wasn't written.
 #[derive(Clone, Copy)]
@@ -37,7 +37,7 @@ impl From<NoMemory> for Unanswered {
     }
 }
 
-/// Answers a message, and writes the answer.
+/// Answers a message, and writes the answer. Only a Create of a flow that isn't there takes memory.
 pub fn answer<K: Sink>(
     alloc: Global,
     feed: &mut Feed,
@@ -55,6 +55,7 @@ pub fn answer<K: Sink>(
     ensures counted { K.faults sink.old ≤ K.faults sink.new }
     ensures err { IfErr result (StopsAnswer (K.faults sink.old) (K.faults sink.new)
         (K.written sink.old) (K.written sink.new) (answer_to (state_of feed.old) message version)) }
+    ensures memory { result ≡ Err Unanswered.NoMemory → TakesMemory (state_of feed.old) message }
 {
     match feed.frame(alloc, message, version)? {
         None => Ok(()),
@@ -64,19 +65,21 @@ pub fn answer<K: Sink>(
 
 /// Writes the frame of a message.
 fn write<K: Sink>(sink: &mut K, message: &Message, version: Version) -> Result<(), Unanswered>
-    requires { Meets version message.now }
+    requires meets { Meets version message.now }
+    requires fits { length (frame_bytes version message.now) ≤ longest_answer }
     ensures written { OnOk result
         (Appends (K.written sink.old) (K.written sink.new) (frame_bytes version message.now)) }
     ensures counted { K.faults sink.old ≤ K.faults sink.new }
     ensures err { IfErr result (StopsAnswer (K.faults sink.old) (K.faults sink.new)
         (K.written sink.old) (K.written sink.new) (frame_bytes version message.now)) }
+    ensures failed { IfErr result (λ why. why ≡ Unanswered.Write) }
 {
-    let mut out = [0u8; ANSWER];
+    let mut out = [0u8; LONGEST];
     match encode_into(message, version, &mut out) {
         Ok(size) => match write_all(sink, &out[..size]) {
             Ok(()) => Ok(()),
             Err(_) => Err(Unanswered::Write),
         },
-        Err(_) => Err(Unanswered::NoMemory),
+        Err(_) => unreachable!(),
     }
 }

@@ -7,7 +7,7 @@ use reply_frames::BadKind;
 pub enum FeedEnd {
     /// The source was read to its end, and its frames are whole.
     Whole,
-    /// No frame goes on so: the field, and the offset of its first bad byte in the input.
+    /// From some byte on the input isn't the start of any frame: the field of that byte, and its offset in the input.
     Bad(BadKind, u64),
     /// The input ends within the frame that begins at this offset.
     Cut(u64),

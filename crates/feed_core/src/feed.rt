@@ -2,10 +2,10 @@
 
 ghost use Rattle.std.specs.Prelude.{◌≡◌, ℕ, ◌+◌, ◌<◌, ◌≤◌, None, Some, IfOk, OnOk};
 ghost use Rattle.std.specs.Prelude.{OnErr, IsTrue, ◌↔◌, true, option_map, map, replicate, length, List};
-ghost use Rattle.ccp_base.specs.Limits.{most_messages};
+ghost use Rattle.ccp_base.specs.Limits.{most_flows, most_messages};
 ghost use Rattle.reg_code.specs.declared.checked.Checked.{Checked};
 ghost use Rattle.feed_core.specs.Feed.{no_flows, there, refused, created, installed, is_too_wide, changed};
-ghost use Rattle.feed_core.specs.Feed.{code_of, updated, in_version, acked_by, handled, answered};
+ghost use Rattle.feed_core.specs.Feed.{code_of, updated, in_version, acked_by, handled, answered, TakesMemory};
 ghost use Rattle.feed_core.specs.FeedHolds.{state_of, codes_in, AreFeedParts, IsFeed, HasFrame};
 
 use crate::flow::{Epoch, Flow};
@@ -118,7 +118,8 @@ impl Feed {
         self.messages
     }
 
-    /// The answer to the next message, where it has one. After want of memory nothing has changed.
+    /// The answer to the next message, where it has one. Only a Create of a flow that isn't there takes memory. After
+    /// out of memory nothing has changed.
     pub fn frame(
         &mut self,
         alloc: Global,
@@ -130,6 +131,7 @@ impl Feed {
         ensures answered { IfOk result (λ answer.
             (answer, state_of self.new) ≡ answered (state_of self.old) message version) }
         ensures unchanged { OnErr result (state_of self.new ≡ state_of self.old) }
+        ensures memory { OnErr result (TakesMemory (state_of self.old) message) }
         ensures counted { OnOk result (self.new.messages ≡ self.old.messages + 1) }
         ensures is_feed { IsFeed (state_of self.new) }
         ensures frame { IfOk result HasFrame }
@@ -152,6 +154,7 @@ impl Feed {
             (answer, state_of self.new) ≡ handled (state_of self.old) message version) }
         ensures messages { self.new.messages ≡ self.old.messages }
         ensures unchanged { OnErr result (state_of self.new ≡ state_of self.old) }
+        ensures memory { OnErr result (TakesMemory (state_of self.old) message) }
     {
         match message {
             Message::Create { flow, cwnd, .. } => self.create(alloc, version, flow, cwnd),
@@ -184,6 +187,7 @@ impl Feed {
             (answer, state_of self.new) ≡ created (state_of self.old) version n cwnd) }
         ensures messages { self.new.messages ≡ self.old.messages }
         ensures unchanged { OnErr result (state_of self.new ≡ state_of self.old) }
+        ensures memory { OnErr result ((n < most_flows) × (there (state_of self.old).flows n ≡ None)) }
     {
         let at = n as usize;
         if at >= FLOWS {

@@ -46,7 +46,7 @@ impl Rest {
         &self.bytes[self.start..self.end]
     }
 
-    /// Takes so many bytes off the front.
+    /// Takes `count` bytes off the front.
     pub fn drop_front(&mut self, count: usize)
         requires { count ≤ length (between self.old.bytes self.old.start self.old.end) }
         ensures { between self.new.bytes self.new.start self.new.end

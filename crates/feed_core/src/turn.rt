@@ -18,7 +18,7 @@ pub enum Turn {
     Answered(usize),
     /// They are a proper prefix of a frame.
     Part,
-    /// No frame begins so: the field, and the offset of the first byte that no frame goes on with.
+    /// They aren't the start of any frame: the field of the first byte that is wrong, and its offset.
     Bad(BadKind, usize),
     /// A write failed; a front of the answer was written.
     WriteFailed,

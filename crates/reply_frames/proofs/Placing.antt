@@ -2,7 +2,7 @@
 use Rattle.std.proofs.Common.{◌≡◌, ℕ, ◌+◌, ◌*◌, ◌≤◌, ◌<◌, List, [], ◌∷◌, ◌++◌, length, take, drop, get_or, refl, sym, ap, subst, ◌∙◌, append_assoc, arith, length-append}
 use Rattle.std.specs.List.{flat_map}
 use Rattle.std.specs.Int.{w64, to_le_bytes}
-use Rattle.std.proofs.lemmas.List.{take_at, drop_at, drop-drop, length-take-le, take_more, append-nil, take-append-drop}
+use Rattle.std.proofs.lemmas.List.{take_at, drop_at, drop-drop, length-take-le, take_more, append-nil}
 use Rattle.std.proofs.lemmas.List.Concat.{flat_map-cons, flat_map-append}
 use Rattle.ccp_base.specs.declared.fields.FieldReg.{FieldReg}
 use Rattle.ccp_base.specs.declared.fields.FieldReg.TheVariants.{Cwnd, Rate, Control}
@@ -67,19 +67,12 @@ over-then front next out out' old n long a b = b ∙ ap (placed n next) a ∙ ov
 pub placed-then : (at : ℕ) (front next out out' old : List ℕ) (n : ℕ) → n ≡ at + length front → at ≤ length old → out ≡ placed at front old → out' ≡ placed n next out → out' ≡ placed at (front ++ next) old
 placed-then at front next out out' old n long within a b = b ∙ ap (placed n next) a ∙ placed-placed at front next old n long within
 
-pub over-first : (first old : List ℕ) → placed 0 first old ≡ over first old
-over-first first old = ap (λ k. first ++ drop k old) (let e : 0 + length first ≡ length first = omega arith in e)
-
 -- one more text after those that were written
 pub wrote-then : {at : ℕ} {a b old out out' : List ℕ} {end end' : ℕ} → Wrote at a old out end → Wrote end b out out' end' → at ≤ length old → Wrote at (a ++ b) old out' end'
 wrote-then {at = at} {a = a} {b = b} {old = old} {out = out} {out' = out'} {end = end} {end' = end'} first next within = record {
   is = placed-then at a b out out' old end first.end_is within first.is next.is;
   end_is = omega (arith, first.end_is, next.end_is, length-append a b);
 }
-
--- nothing was written yet
-pub wrote-none : (at : ℕ) (old : List ℕ) → Wrote at [] old old at
-wrote-none at old = record { is = sym (ap (λ xs. xs ++ drop (at + 0) old) (append-nil (take at old)) ∙ ap (λ n. take at old ++ drop n old) (let e : at + 0 ≡ at = omega arith in e) ∙ take-append-drop at old); end_is = omega arith }
 
 -- one more item of a list
 pub wrote-more : {A : Type 0} (text : A → List ℕ) (items : List A) (i at : ℕ) (item : A) (old out out' : List ℕ) (end end' : ℕ) → i < length items → at ≤ length old

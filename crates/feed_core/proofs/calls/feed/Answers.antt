@@ -1,9 +1,12 @@
 use Rattle.std.proofs.Common.{ℕ, ◌+◌, ◌-◌, List, refl, sym, subst, arith}
+use Rattle.ccp_base.specs.Limits.{most_frame_bytes}
 use Rattle.ccp_base.specs.Outside.{IsAtEnd}
 use Rattle.feed_core.specs.FeedHolds.{state_of}
 use Rattle.feed_core.specs.FeedBytes.{IsFeeding}
 use Rattle.feed_core.specs.FeedLast.{IsLast}
+use Rattle.feed_core.specs.FeedTurns.{LacksMemory}
 use Rattle.feed_core.specs.Rests.{between}
+use Rattle.feed_core.proofs.RestLemmas.{between-few}
 use Rattle.feed_core.proofs.FeedSteps.{feeds-frame, feeds-part, cut-part, feeds-same, feeds-quiet, feeds-piece}
 use Rattle.feed_core.proofs.FeedEnding.{ends-last, ends-unread, ends-long, ends-bad, ends-unwritten, ends-wanting}
 use Rattle.feed_core.proofs.FeedBegins.{feeding-first, ends-unbegun}
@@ -117,8 +120,10 @@ returns-in-WriteFailed-clause-fed g c =
 pub returns-in-NoMemory-clause-fed : goal.returns-in-NoMemory-clause-fed
 returns-in-NoMemory-clause-fed g c =
     let rest : List ℕ = between c.loop-used.rest.bytes c.loop-used.rest.start c.loop-used.rest.end in
+    let lacks = subst (LacksMemory (g.K.Sink.written c.loop-used.sink) (g.K.Sink.written c.next_frame.new.sink) (state_of c.loop-used.feed)) c.as_slice.ensures c.in-NoMemory.ensures.turn in
     let quiet = feeds-quiet (g.S.Source.remaining c.args.source.now) (g.S.Source.remaining c.loop-used.source)
-    (g.K.Sink.written c.args.sink.now) (g.K.Sink.written c.loop-used.sink) (g.K.Sink.written c.next_frame.new.sink) (state_of c.loop-used.feed) c.loop-used.eaten rest c.loop-used.invariant.feeding c.in-NoMemory.ensures.turn in
+    (g.K.Sink.written c.args.sink.now) (g.K.Sink.written c.loop-used.sink) (g.K.Sink.written c.next_frame.new.sink) (state_of c.loop-used.feed) c.loop-used.eaten rest c.loop-used.invariant.feeding lacks.nothing in
     ends-wanting (g.S.Source.remaining c.args.source.now) (g.S.Source.remaining c.loop-used.source) (g.K.Sink.written c.args.sink.now) (g.K.Sink.written c.next_frame.new.sink)
     (state_of c.loop-used.feed) c.loop-used.eaten rest quiet
     (g.S.Source.faults c.args.source.now) (g.S.Source.faults c.loop-used.source) (g.K.Sink.faults c.args.sink.now) (g.K.Sink.faults c.next_frame.new.sink) (g.K.Sink.is_finished c.next_frame.new.sink)
+    (between-few c.loop-used.rest.bytes c.loop-used.rest.start c.loop-used.rest.end most_frame_bytes c.loop-used.rest.within) lacks.cause

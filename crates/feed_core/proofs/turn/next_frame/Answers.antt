@@ -1,4 +1,4 @@
-use Rattle.std.proofs.Common.{sym, subst, arith}
+use Rattle.std.proofs.Common.{rules, inr, sym, subst, arith}
 use Rattle.feed_core.specs.FeedHolds.{state_of}
 use Rattle.feed_core.specs.FeedTurns.{IsTurn}
 use Rattle.feed_core.proofs.FeedEats.{some-used}
@@ -25,4 +25,16 @@ returns-in-Err-clause-turn g c =
     subst (IsTurn (g.K.Sink.faults c.args.sink.now) (g.K.Sink.faults c.args.sink.now) (g.K.Sink.written c.args.sink.now) (g.K.Sink.written c.args.sink.now) (state_of c.args.feed.now) (state_of c.args.feed.now) c.args.bytes.now)
     (sym c.without_frame.ensures)
     (turns-without (g.K.Sink.faults c.args.sink.now) (g.K.Sink.written c.args.sink.now) (state_of c.args.feed.now) c.args.bytes.now (λ i. omega (arith, c.type_inv.bytes i))
-    c.decode.result c.decode.ensures.told c.decode.ensures.more c.decode.ensures.bad c.in-Err.fault c.in-Err.is)
+    c.decode.result c.decode.ensures.told c.decode.ensures.more c.decode.ensures.bad c.decode.ensures.memory c.in-Err.fault c.in-Err.is)
+
+pub returns-in-Err-NoMemory-clause-turn : goal.returns-in-Err-NoMemory-clause-turn
+returns-in-Err-NoMemory-clause-turn g c = record {
+  cause = inr (record {
+    message = c.in-Ok.message;
+    version = c.in-Ok.version;
+    used = c.in-Ok.used;
+    begins = c.in-Ok.ensures.found;
+    takes = c.answer.ensures.memory (search rules);
+  });
+  nothing = search rules;
+}
