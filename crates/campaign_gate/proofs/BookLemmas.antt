@@ -30,9 +30,6 @@ pub record AreMade (cells left : List CellState) (books : List Book) : Type 0 wh
   pub books_are : All IsCampaignBook books
   pub left_are : All IsPlanned left
 
-pub made-none : (cells : List CellState) → All IsPlanned cells → AreMade cells cells []
-made-none cells are = record { cases = refl; books_are = λ k d within. absurd (omega (arith, within)); left_are = are }
-
 first-left : (left : List CellState) (cell : CellState) → Some cell ≡ slice_get left 0 → left ≡ cell ∷ drop 1 left
 first-left left cell first = drop-next left 0 cell (sym first)
 

@@ -28,7 +28,7 @@ use Rattle.flow_core.specs.Books.{ticket_line}
 use Rattle.flow_core.specs.LiveText.{report_count, reports_told}
 use Rattle.flow_core.proofs.LiftLemmas.{link-lift}
 use Rattle.flow_core.proofs.SimulatedEpochs.{after-simulated}
-use Rattle.campaign_gate.specs.CampaignWord.{is_late, first_letter, next_of, with_next, plan_from, plan_over}
+use Rattle.campaign_gate.specs.CampaignWord.{is_late, first_letter, next_of, then_rest, plan_from, plan_over}
 use Rattle.campaign_gate.specs.CampaignRow.{lost_in, timeouts_in, acked_in, window_of, peak_from, row_after, row_read, row_of}
 use Rattle.campaign_gate.specs.LiftedRow.{IsLifted}
 use Rattle.campaign_gate.specs.CampaignBooks.{acks_read, HasSourcePlan}
@@ -176,7 +176,7 @@ module _ (case : Case) (ss ca : Form) (ss_places ca_places : List Place)
       λ letter. ap (λ (w : World ℕ). plan_from codes link case.lag more w) (sym (world-append codes link word letter))
       ∙ plans-lift more (word ++ letter ∷ [])
       ∙ ap (λ (w : World Place). plan_from sources link case.lag more w) (world-append sources link word letter) in
-      λ i. with_next (next-lifts word i) (λ letter. step letter i)
+      λ i. then_rest (next-lifts word i) (λ letter. step letter i)
 
   plan-lifts : plan_over codes link case.lag ≡ plan_over sources link case.lag
   plan-lifts = plans-lift (3 * case.acks) []
@@ -188,12 +188,12 @@ module _ (case : Case) (ss ca : Form) (ss_places ca_places : List Place)
 
   -- ---- the row
 
-  peak-lifts : (rest front : List Letter) → peak_from codes link (by_code front) rest ≡ peak_from sources link (by_source front) rest
+  peak-lifts : (rest front : List Letter) → peak_from codes (from_link codes link) (by_code front) rest ≡ peak_from sources (from_link sources link) (by_source front) rest
   peak-lifts [] front = window-lifts front
   peak-lifts (letter ∷ rest) front =
-      let step = ap (λ (w : World ℕ). peak_from codes link w rest) (sym (world-append codes link front letter))
+      let step = ap (λ (w : World ℕ). peak_from codes (from_link codes link) w rest) (sym (world-append codes link front letter))
       ∙ peak-lifts rest (front ++ letter ∷ [])
-      ∙ ap (λ (w : World Place). peak_from sources link w rest) (world-append sources link front letter) in
+      ∙ ap (λ (w : World Place). peak_from sources (from_link sources link) w rest) (world-append sources link front letter) in
       λ i. max (window-lifts front i) (step i)
 
   told-placed : (told : Content ℕ) → reports_told (told_as codes told) ≡ reports_told (told_as sources (map_content place told))

@@ -1,6 +1,6 @@
 -- A flow without its history and its link after one more letter.
-use Rattle.std.specs.Prelude.{◌≡◌, ℕ, ◌+◌, ◌<◌, ◌≤◌, true, Option, List, [], ◌∷◌, ◌++◌, length, refl}
-use Rattle.std.proofs.Common.{ap, sym, ◌∙◌, subst, arith, length-append}
+use Rattle.std.specs.Prelude.{◌≡◌, ℕ, ◌+◌, ◌<◌, ◌≤◌, List, [], ◌∷◌, ◌++◌, length, refl}
+use Rattle.std.proofs.Common.{ap, sym, ◌∙◌, subst, arith}
 use Rattle.std.proofs.lemmas.Bool.{ltb-true}
 use Rattle.ccp_base.specs.declared.ack.Ack.{Ack}
 use Rattle.ccp_base.specs.Limits.{most_acks}
@@ -9,13 +9,12 @@ use Rattle.link_model.specs.Standing.{LinkState, Stands, IsAnswer, StandsOn, sta
 use Rattle.flow_core.specs.declared.case.Case.{Case}
 use Rattle.flow_core.specs.declared.letter.Letter.{Letter}
 use Rattle.flow_core.specs.declared.letter.Letter.TheVariants.{A, T, C}
-use Rattle.flow_core.specs.Readings.{Flow, over_codes}
-use Rattle.flow_core.specs.World.{World, after_take, after_answer, after_ack}
-use Rattle.flow_core.specs.Words.{is_legal, is_complete}
+use Rattle.flow_core.specs.Readings.{over_codes}
+use Rattle.flow_core.specs.World.{World, after_take, after_answer}
 use Rattle.flow_core.specs.Cells.{CellState, flow_at, world_at, ack_at}
-use Rattle.flow_core.specs.Summaries.{Summary, summary, step_ack, step_take, step_answer, may_make, is_done}
+use Rattle.flow_core.specs.Summaries.{Summary, summary, step_ack, step_take, step_answer}
 use Rattle.flow_core.specs.Bares.{BareState}
-use Rattle.flow_core.proofs.SummaryLemmas.{summary-ack, summary-take, summary-answer, summary-legal, summary-complete}
+use Rattle.flow_core.proofs.SummaryLemmas.{summary-ack, summary-take, summary-answer}
 use Rattle.flow_core.proofs.WordLemmas.{take-keeps, answer-keeps}
 use Rattle.flow_core.proofs.LinkWordLemmas.{length-world, length-windows}
 use Rattle.campaign_gate.specs.declared.linked.Linked.{Linked}
@@ -24,22 +23,6 @@ use Rattle.campaign_gate.specs.Walks.{longer, MayMake, Makes}
 use Rattle.campaign_gate.specs.LinkedFlows.{linked_at, listed_at}
 use Rattle.campaign_gate.proofs.SumLemmas.{calls-run}
 use Rattle.campaign_gate.proofs.WalkLemmas.{world-longer}
-
--- the letters that may be made, by the summary
-pub may-by : (linked : Linked) (letter : Letter) → MayMake linked_at letter linked → may_make (over_codes linked.bare.case) linked.bare.summary letter ≡ true
-may-by linked letter may =
-    ap (λ (l : Linked). may_make (over_codes l.bare.case) l.bare.summary letter) may.after
-    ∙ sym (summary-legal (flow_at may.cell) letter (world_at may.cell)) ∙ may.legal
-
-pub legal-by : (linked : Linked) (letter : Letter) (cell : CellState) → linked ≡ linked_at cell
-    → may_make (over_codes linked.bare.case) linked.bare.summary letter ≡ is_legal (flow_at cell) (world_at cell) letter
-legal-by linked letter cell is =
-    ap (λ (l : Linked). may_make (over_codes l.bare.case) l.bare.summary letter) is ∙ sym (summary-legal (flow_at cell) letter (world_at cell))
-
-pub complete-by : (linked : Linked) (cell : CellState) → linked ≡ linked_at cell
-    → is_done (over_codes linked.bare.case) linked.bare.summary ≡ is_complete (flow_at cell) (world_at cell)
-complete-by linked cell is =
-    ap (λ (l : Linked). is_done (over_codes l.bare.case) l.bare.summary) is ∙ sym (summary-complete (flow_at cell) (world_at cell))
 
 -- ---- a letter
 

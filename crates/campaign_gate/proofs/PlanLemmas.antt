@@ -8,7 +8,7 @@ use Rattle.flow_core.specs.declared.letter.Letter.TheVariants.{A, T, C}
 use Rattle.flow_core.specs.Readings.{Flow, over_codes}
 use Rattle.flow_core.specs.World.{Taken, World, opening}
 use Rattle.flow_core.specs.Words.{from_link, after_letter, world_from, world, can_take, is_legal, legal_from, legal, is_complete}
-use Rattle.campaign_gate.specs.CampaignWord.{is_late, is_due, first_letter, next_of, with_next, plan_from, plan_over, plan}
+use Rattle.campaign_gate.specs.CampaignWord.{is_late, is_due, first_letter, next_of, then_rest, plan_from, plan_over, plan}
 use Rattle.flow_core.specs.LettersLeft.{letters_left}
 use Rattle.flow_core.proofs.LeftLemmas.{left-letter}
 
@@ -104,7 +104,7 @@ module _ {X : Type 0} (flow : Flow X) (lag : ℕ) where
   module _ (link : LinkCase) where
     legal-next : (more : ℕ) (w : World X) (next : Option Letter) → next_of flow lag w ≡ next
         → ((letter : Letter) → legal_from flow (from_link flow link) (after_letter flow (from_link flow link) w letter) (plan_from flow link lag more (after_letter flow (from_link flow link) w letter)) ≡ true)
-        → legal_from flow (from_link flow link) w (with_next next (λ letter. plan_from flow link lag more (after_letter flow (from_link flow link) w letter))) ≡ true
+        → legal_from flow (from_link flow link) w (then_rest next (λ letter. plan_from flow link lag more (after_letter flow (from_link flow link) w letter))) ≡ true
     legal-next more w None is rest = refl
     legal-next more w (Some letter) is rest = λ i. next-legal w letter is i && rest letter i
 
@@ -122,7 +122,7 @@ module _ {X : Type 0} (flow : Flow X) (lag : ℕ) where
     complete-next : (more : ℕ) (w : World X) (next : Option Letter) → next_of flow lag w ≡ next → letters_left flow w ≤ suc more
         → ((letter : Letter) → letters_left flow (after_letter flow (from_link flow link) w letter) ≤ more
         → is_complete flow (world_from flow (from_link flow link) (after_letter flow (from_link flow link) w letter) (plan_from flow link lag more (after_letter flow (from_link flow link) w letter))) ≡ true)
-        → is_complete flow (world_from flow (from_link flow link) w (with_next next (λ letter. plan_from flow link lag more (after_letter flow (from_link flow link) w letter)))) ≡ true
+        → is_complete flow (world_from flow (from_link flow link) w (then_rest next (λ letter. plan_from flow link lag more (after_letter flow (from_link flow link) w letter)))) ≡ true
     complete-next more w None is enough rest = none-complete w is
     complete-next more w (Some letter) is enough rest =
         rest letter (let fewer = left-letter flow link letter w (next-legal w letter is) in omega (arith, fewer, enough))
@@ -140,13 +140,13 @@ module _ {X : Type 0} (flow : Flow X) (lag : ℕ) where
     plan-next zero w letter is some = absurd (omega (arith, some))
     plan-next (suc more) w letter is some =
         let less : more ≡ suc more - 1 = omega arith in
-        ap (λ (next : Option Letter). with_next next (λ l. plan_from flow link lag more (after_letter flow (from_link flow link) w l))) is
+        ap (λ (next : Option Letter). then_rest next (λ l. plan_from flow link lag more (after_letter flow (from_link flow link) w l))) is
         ∙ ap (λ (n : ℕ). letter ∷ plan_from flow link lag n (after_letter flow (from_link flow link) w letter)) less
 
     pub plan-none : (most : ℕ) (w : World X) → is_complete flow w ≡ true → plan_from flow link lag most w ≡ []
     plan-none zero w done = refl
     plan-none (suc more) w done =
-        ap (λ (next : Option Letter). with_next next (λ l. plan_from flow link lag more (after_letter flow (from_link flow link) w l))) (complete-none w done)
+        ap (λ (next : Option Letter). then_rest next (λ l. plan_from flow link lag more (after_letter flow (from_link flow link) w l))) (complete-none w done)
 
     -- ---- the laws
 

@@ -8,8 +8,8 @@ use Rattle.flow_core.specs.declared.letter.Letter.{Letter}
 use Rattle.flow_core.specs.Readings.{Flow}
 use Rattle.flow_core.specs.Words.{world}
 use Rattle.flow_core.proofs.LinkWordLemmas.{acks-of-world, length-world, length-windows}
-use Rattle.campaign_gate.specs.CampaignRow.{lost_in, timeouts_in, acked_in}
-use Rattle.campaign_gate.specs.Walks.{sums_of, with_ack, AreRoomy}
+use Rattle.campaign_gate.specs.CampaignRow.{lost_in, timeouts_in, acked_in, sums_of}
+use Rattle.campaign_gate.specs.Walks.{with_ack, AreRoomy}
 
 -- ---- one more acknowledgement
 

@@ -1,5 +1,5 @@
 -- One more letter of the campaign word keeps a flow on its way.
-use Rattle.std.specs.Prelude.{◌≡◌, ℕ, ◌+◌, ◌-◌, ◌*◌, ◌<◌, ◌≤◌, max, Bool, true, false, is_some, is_none, ◌&&◌, Option, Some, None, unwrap_or, slice_get, Result, Ok, Err, OnOk, List, [], ◌∷◌, ◌++◌, length, refl}
+use Rattle.std.specs.Prelude.{◌≡◌, ℕ, ◌+◌, ◌-◌, ◌*◌, ◌<◌, ◌≤◌, max, Bool, true, false, is_some, is_none, ◌&&◌, Option, Some, None, Result, Ok, Err, OnOk, List, [], ◌∷◌, ◌++◌, length, refl}
 use Rattle.std.specs.Option.{ForSome}
 use Rattle.std.proofs.Common.{arith, ap, sym, ◌∙◌, subst, append_assoc, append-nil, length-append}
 use Rattle.std.proofs.lemmas.Bool.{ltb-true}
@@ -17,14 +17,13 @@ use Rattle.flow_core.specs.World.{Failure, Content, Taken, World, opening, takin
 use Rattle.flow_core.specs.Words.{from_link, after_letter, world, can_take, is_legal, is_complete}
 use Rattle.flow_core.specs.WordLaws.{world-append}
 use Rattle.flow_core.specs.Cells.{CellState, flow_at, world_at, ack_at}
-use Rattle.flow_core.proofs.WordLemmas.{slice_get-next, take-keeps, answer-keeps}
-use Rattle.campaign_gate.specs.declared.sums.Sums.{Sums}
+use Rattle.flow_core.proofs.WordLemmas.{take-keeps, answer-keeps}
 use Rattle.campaign_gate.specs.declared.walk.Tally.{Tally}
 use Rattle.campaign_gate.specs.CampaignWord.{plan_from, plan}
-use Rattle.campaign_gate.specs.CampaignRow.{peak_of}
+use Rattle.campaign_gate.specs.CampaignRow.{sums_of, peak_of}
 use Rattle.campaign_gate.specs.CampaignBooks.{planned}
 use Rattle.flow_core.specs.LettersLeft.{letters_left, left_at}
-use Rattle.campaign_gate.specs.Walks.{next_at, window_at, plan_at, sums_of, with_ack, AreRoomy, opened, longer, WasTaken, MayMake, sums_after, TakenAfter, IsOnWay, IsNext, IsStep, Onward, IsEnded}
+use Rattle.campaign_gate.specs.Walks.{next_at, window_at, plan_at, with_ack, AreRoomy, opened, longer, WasTaken, MayMake, MayHear, sums_after, TakenAfter, IsOnWay, IsNext, IsStep, Onward, IsEnded}
 use Rattle.flow_core.proofs.LeftLemmas.{left-letter}
 use Rattle.campaign_gate.proofs.PlanLemmas.{next-legal, plan-next, plan-none}
 use Rattle.campaign_gate.proofs.PeakLemmas.{peak-append}
@@ -140,7 +139,7 @@ module _ {F : Type 0} (at : CellState → F) (case : Case) (flow : F) (tally : T
               ∙ ap (λ (w : World ℕ). sums_of w.acks) (sym (world-longer cell letter));
           peak =
               tallied.peak ∙ ap (λ (n : ℕ). max n (window_at next)) on.peak
-              ∙ sym (peak-append (flow_at cell) case.link cell.word letter (opening (flow_at cell)));
+              ∙ sym (peak-append (flow_at cell) (from_link (flow_at cell) case.link) cell.word letter (opening (flow_at cell)));
         }
 
     module _ (case_of : F → Case) (left_of : F → ℕ) (case_law : (cell : CellState) → case_of (at cell) ≡ cell.case)
@@ -170,19 +169,10 @@ pub on-ok : {T E P Q : Type 0} (result : Result T E) → (P → Q) → OnOk resu
 on-ok (Ok value) follows holds = follows holds
 on-ok (Err fault) follows holds = holds
 
--- the last of the list is the one that was added
-pub last-is : (before all : List Ack) (ack given : Ack) → all ≡ before ++ given ∷ [] → slice_get all (length all - 1) ≡ Some ack → ack ≡ given
-last-is before all ack given same last =
-    let at : length (before ++ given ∷ []) - 1 ≡ length before = omega (arith, length-append before (given ∷ [])) in
-    let is : Some given ≡ Some ack =
-    sym (slice_get-next before given []) ∙ sym (ap (slice_get (before ++ given ∷ [])) at)
-    ∙ sym (ap (λ (acks : List Ack). slice_get acks (length acks - 1)) same) ∙ last in
-    ap (λ (option : Option Ack). unwrap_or option ack) (sym is)
-
 -- the sums with the next acknowledgement are numbers of 64 bits
-pub roomy-heard : {F : Type 0} → (at : CellState → F) (case : Case) (flow : F) (tally : Tally) → (n : IsNext at case flow tally A) → (ack : Ack)
-    → ((cell : CellState) → flow ≡ at cell → ack ≡ ack_at cell) → AreRoomy (with_ack ack tally.sums)
-roomy-heard at case flow tally n ack is =
+pub may-hear : {F : Type 0} → (at : CellState → F) (case : Case) (flow : F) (tally : Tally) → IsNext at case flow tally A
+    → MayHear at flow tally.sums
+may-hear at case flow tally n =
     let cell : CellState = record { case = case; word = n.on.word } in
     let link = case.link in
     let before = world_at cell in
@@ -192,9 +182,12 @@ roomy-heard at case flow tally n ack is =
     let most : case.acks ≤ 65536 = case.acks_within in
     let few : length (world (flow_at cell) link word).acks ≤ 65536 =
     omega (arith, ap length made, length-append before.acks (ack_at cell ∷ []), more, most) in
-    subst AreRoomy
-    (ap sums_of made ∙ sums-append before.acks (ack_at cell) ∙ (λ i. with_ack (sym (is cell n.on.after) i) (sym n.on.sums i)))
-    (roomy (flow_at cell) link word few)
+    record {
+      may = record { cell = cell; after = n.on.after; legal = may cell A n.next };
+      roomy =
+          subst AreRoomy (ap sums_of made ∙ sums-append before.acks (ack_at cell) ∙ (λ i. with_ack (ack_at cell) (sym n.on.sums i)))
+          (roomy (flow_at cell) link word few);
+    }
 
 -- ---- the beginning and the end
 

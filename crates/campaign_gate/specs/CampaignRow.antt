@@ -6,9 +6,11 @@ use Rattle.flow_core.specs.declared.case.Case.{Case}
 use Rattle.flow_core.specs.declared.letter.Letter.{Letter}
 use Rattle.flow_core.specs.Readings.{Flow, over_codes}
 use Rattle.flow_core.specs.World.{World, opening, track_of, time_of}
-use Rattle.flow_core.specs.Words.{from_link, after_letter, world}
+use Rattle.flow_core.specs.Words.{Giving, from_link, after_letter, world}
 use Rattle.flow_core.specs.Books.{ticket_line}
 use Rattle.flow_core.specs.LiveText.{report_count}
+use Rattle.flow_core.specs.Summaries.{Summary}
+use Rattle.campaign_gate.specs.declared.sums.Sums.{Sums}
 use Rattle.campaign_gate.specs.declared.row.Row.{Row}
 use Rattle.campaign_gate.specs.CampaignWord.{plan_over}
 
@@ -29,6 +31,9 @@ abbrev pub acked_in : List Ack → ℕ
 acked_in [] = 0
 acked_in (ack ∷ rest) = ack.bytes_acked + acked_in rest
 
+abbrev pub sums_of : List Ack → Sums
+sums_of acks = record { lost = lost_in acks; timeouts = timeouts_in acks; acked = acked_in acks }
+
 -- ---- the window
 
 -- the present `Cwnd`
@@ -36,14 +41,13 @@ abbrev pub window_of : {X : Type 0} → Flow X → World X → ℕ
 window_of flow w = (track_of flow w).env.cwnd
 
 -- the greatest `Cwnd` in a state or after a letter of a word from there on
-abbrev pub peak_from : {X : Type 0} → Flow X → LinkCase → World X → List Letter → ℕ
-peak_from flow link w [] = window_of flow w
-peak_from flow link w (letter ∷ rest) =
-    max (window_of flow w) (peak_from flow link (after_letter flow (from_link flow link) w letter) rest)
+abbrev pub peak_from : {X : Type 0} → Flow X → Giving X → World X → List Letter → ℕ
+peak_from flow giving w [] = window_of flow w
+peak_from flow giving w (letter ∷ rest) = max (window_of flow w) (peak_from flow giving (after_letter flow giving w letter) rest)
 
--- the greatest `Cwnd` at the opening or after a letter of a word
+-- the greatest `Cwnd` at the opening or after a letter of a word, with the acknowledgements of a link
 abbrev pub peak_of : {X : Type 0} → Flow X → LinkCase → List Letter → ℕ
-peak_of flow link word = peak_from flow link (opening flow) word
+peak_of flow link word = peak_from flow (from_link flow link) (opening flow) word
 
 -- ---- the row
 
@@ -63,6 +67,23 @@ row_over flow w peak = record {
   cwnd = window_of flow w;
   now = time_of w.acks;
   tail = length w.acks - (track_of flow w).first;
+}
+
+-- the same, by the summary of the state, the sums over its acknowledgements and the greatest window
+abbrev pub row_in : Summary → Sums → ℕ → Row
+row_in s sums peak = record {
+  acks = s.acks;
+  reports = s.told;
+  held = s.held;
+  faults = s.faults;
+  epochs = s.epoch + 1;
+  lost = sums.lost;
+  timeouts = sums.timeouts;
+  acked = sums.acked;
+  peak = peak;
+  cwnd = s.track.env.cwnd;
+  now = s.time;
+  tail = s.acks - s.track.first;
 }
 
 -- the row of a flow after a word

@@ -1,12 +1,12 @@
 -- The campaign word of a case: when its tickets are taken, and after how many acknowledgements they are answered.
-use Rattle.std.specs.Prelude.{ℕ, zero, suc, ◌+◌, ◌*◌, Bool, true, false, nat_le, if◌then◌else◌, Option, Some, None, List, [], ◌∷◌, length}
+use Rattle.std.specs.Prelude.{ℕ, zero, suc, ◌+◌, Bool, true, false, nat_le, if◌then◌else◌, Option, Some, None, List, [], ◌∷◌, length}
 use Rattle.link_model.specs.declared.link_case.LinkCase.{LinkCase}
 use Rattle.flow_core.specs.declared.case.Case.{Case}
 use Rattle.flow_core.specs.declared.letter.Letter.{Letter}
 use Rattle.flow_core.specs.declared.letter.Letter.TheVariants.{A, T, C}
 use Rattle.flow_core.specs.Readings.{Flow, over_codes}
 use Rattle.flow_core.specs.World.{Taken, World, opening}
-use Rattle.flow_core.specs.Words.{from_link, after_letter, is_legal}
+use Rattle.flow_core.specs.Words.{from_link, after_letter, is_legal, most_letters}
 
 -- a ticket is out that was taken at least so many acknowledgements before
 abbrev pub is_late : {X : Type 0} → ℕ → ℕ → Option (Taken X) → Bool
@@ -28,19 +28,20 @@ first_letter false false false = None
 abbrev pub next_of : {X : Type 0} → Flow X → ℕ → World X → Option Letter
 next_of flow lag w = first_letter (is_due flow lag w) (is_legal flow w T) (is_legal flow w A)
 
-abbrev pub with_next : Option Letter → (Letter → List Letter) → List Letter
-with_next None rest = []
-with_next (Some letter) rest = letter ∷ rest letter
+-- the next letter, if there is one, and the rest of the word after it
+abbrev pub then_rest : Option Letter → (Letter → List Letter) → List Letter
+then_rest None rest = []
+then_rest (Some letter) rest = letter ∷ rest letter
 
 -- the word from a state on, of at most so many letters
 abbrev pub plan_from : {X : Type 0} → Flow X → LinkCase → ℕ → ℕ → World X → List Letter
 plan_from flow link lag zero w = []
 plan_from flow link lag (suc more) w =
-    with_next (next_of flow lag w) (λ letter. plan_from flow link lag more (after_letter flow (from_link flow link) w letter))
+    then_rest (next_of flow lag w) (λ letter. plan_from flow link lag more (after_letter flow (from_link flow link) w letter))
 
--- the word of a flow; each acknowledgement makes one ticket at most, and so three letters
+-- the word of a flow, which has no more letters than a word can have
 abbrev pub plan_over : {X : Type 0} → Flow X → LinkCase → ℕ → List Letter
-plan_over flow link lag = plan_from flow link lag (3 * flow.acks) (opening flow)
+plan_over flow link lag = plan_from flow link lag (most_letters flow.acks) (opening flow)
 
 -- the campaign word of a case
 abbrev pub plan : Case → List Letter

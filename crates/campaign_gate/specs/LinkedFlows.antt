@@ -4,6 +4,7 @@ use Rattle.link_model.specs.Link.{run_of}
 use Rattle.link_model.specs.Standing.{standing_of}
 use Rattle.flow_core.specs.declared.case.Case.{Case}
 use Rattle.flow_core.specs.World.{notice_of}
+use Rattle.flow_core.specs.Words.{most_letters}
 use Rattle.flow_core.specs.States.{issued_as, some_count}
 use Rattle.flow_core.specs.Summaries.{Summary, summary}
 use Rattle.flow_core.specs.Cells.{CellState, flow_at, world_at}
@@ -24,7 +25,7 @@ listed_at cell = record { linked = linked_at cell; acks = (world_at cell).acks }
 
 -- how many letters the word can have yet
 abbrev pub left_in : Case → Summary → ℕ
-left_in case s = 3 * (case.acks - s.acks) + (2 * (length s.waiting + some_count s.untold) + some_count s.out)
+left_in case s = most_letters (case.acks - s.acks) + (2 * (length s.waiting + some_count s.untold) + some_count s.out)
 
 some_mapped : {A B : Type 0} → (f : A → B) (option : Option A) → some_count (option_map f option) ≡ some_count option
 some_mapped f None = refl
@@ -35,5 +36,5 @@ pub left_linked : (cell : CellState) → left_in cell.case (summary (flow_at cel
 left_linked cell =
     let flow = flow_at cell in
     let w = world_at cell in
-    λ i. 3 * (cell.case.acks - length w.acks)
+    λ i. most_letters (cell.case.acks - length w.acks)
     + (2 * (length w.waiting + some_mapped (notice_of flow) w.untold i) + some_mapped (issued_as flow) w.out i)

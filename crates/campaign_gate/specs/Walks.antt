@@ -1,18 +1,18 @@
 -- A flow on the way along its campaign word: what is kept beside it, and what a letter changes of it.
-use Rattle.std.specs.Prelude.{◌≡◌, ℕ, ◌+◌, ◌-◌, ◌*◌, ◌<◌, ◌≤◌, max, if◌then◌else◌, Option, Some, true, List, [], ◌∷◌, ◌++◌, length}
+use Rattle.std.specs.Prelude.{◌≡◌, ℕ, ◌+◌, ◌-◌, ◌<◌, ◌≤◌, max, if◌then◌else◌, Option, Some, true, List, [], ◌∷◌, ◌++◌, length}
 use Rattle.std.specs.Option.{ForSome}
 use Rattle.ccp_base.specs.declared.ack.Ack.{Ack}
 use Rattle.flow_core.specs.declared.case.Case.{Case}
 use Rattle.flow_core.specs.declared.letter.Letter.{Letter}
 use Rattle.flow_core.specs.declared.letter.Letter.TheVariants.{A, T, C}
 use Rattle.flow_core.specs.World.{Taken}
-use Rattle.flow_core.specs.Words.{is_legal}
+use Rattle.flow_core.specs.Words.{is_legal, most_letters}
 use Rattle.flow_core.specs.Cells.{CellState, flow_at, world_at, ack_at}
 use Rattle.flow_core.specs.LettersLeft.{left_at}
 use Rattle.campaign_gate.specs.declared.sums.Sums.{Sums}
 use Rattle.campaign_gate.specs.declared.walk.Tally.{Tally}
 use Rattle.campaign_gate.specs.CampaignWord.{next_of, plan_from, plan}
-use Rattle.campaign_gate.specs.CampaignRow.{lost_in, timeouts_in, acked_in, window_of, peak_of}
+use Rattle.campaign_gate.specs.CampaignRow.{sums_of, window_of, peak_of}
 use Rattle.campaign_gate.specs.CampaignBooks.{planned}
 
 -- the next letter of a cell's campaign word
@@ -26,12 +26,9 @@ window_at cell = window_of (flow_at cell) (world_at cell)
 -- the rest of the campaign word
 abbrev pub plan_at : CellState → List Letter
 plan_at cell =
-    plan_from (flow_at cell) cell.case.link cell.case.lag (3 * cell.case.acks - length cell.word) (world_at cell)
+    plan_from (flow_at cell) cell.case.link cell.case.lag (most_letters cell.case.acks - length cell.word) (world_at cell)
 
 -- ---- sums
-
-abbrev pub sums_of : List Ack → Sums
-sums_of acks = record { lost = lost_in acks; timeouts = timeouts_in acks; acked = acked_in acks }
 
 abbrev pub with_ack : Ack → Sums → Sums
 with_ack ack sums = record {
@@ -65,6 +62,11 @@ pub record MayMake {F : Type 0} (at : CellState → F) (letter : Letter) (flow :
   pub after : flow ≡ at cell
   pub legal : is_legal (flow_at cell) (world_at cell) letter ≡ true
 
+-- the next letter may be an acknowledgement, and the sums with it are numbers of 64 bits
+pub record MayHear {F : Type 0} (at : CellState → F) (flow : F) (sums : Sums) : Type 0 where
+  pub may : MayMake at A flow
+  pub roomy : AreRoomy (with_ack (ack_at may.cell) sums)
+
 -- one letter was made: after whatever word the old flow is, the new one is after that word and the letter
 abbrev pub Makes : {F : Type 0} → (CellState → F) → Letter → F → F → Type 0
 Makes at letter old new = (cell : CellState) → old ≡ at cell → new ≡ at (longer letter cell)
@@ -74,7 +76,7 @@ pub record IsOnWay {F : Type 0} (at : CellState → F) (case : Case) (flow : F) 
   pub word : List Letter
   pub after : flow ≡ at (record { case = case; word = word })
   pub plan : word ++ plan_at (record { case = case; word = word }) ≡ plan case
-  pub left : length word + left_at (record { case = case; word = word }) ≤ 3 * case.acks
+  pub left : length word + left_at (record { case = case; word = word }) ≤ most_letters case.acks
   pub taken : WasTaken (record { case = case; word = word }) tally.taken
   pub sums : tally.sums ≡ sums_of (world_at (record { case = case; word = word })).acks
   pub peak : tally.peak ≡ peak_of (flow_at (record { case = case; word = word })) case.link word

@@ -16,3 +16,4 @@ mod workers;
 
 pub use calls::{Books, CaseAcks, Cases};
 pub use row::{Row, Rows};
+pub use sums::Sums;

@@ -4,13 +4,14 @@ ghost use Rattle.flow_core.specs.Readings.{over_codes};
 ghost use Rattle.link_model.specs.Standing.{Stands};
 ghost use Rattle.flow_core.specs.LettersLeft.{left_at};
 ghost use Rattle.flow_core.proofs.SummaryLemmas.{summary-legal};
-ghost use Rattle.campaign_gate.specs.Walks.{opened};
+ghost use Rattle.flow_core.specs.Cells.{CellState, ack_at};
+ghost use Rattle.campaign_gate.specs.Walks.{opened, MayMake, Makes};
 ghost use Rattle.campaign_gate.specs.LinkedFlows.{linked_at, left_in, left_linked};
 
+use crate::sums::Sums;
 use crate::walker::Walker;
-use agent_core::calls::answer;
 use ccp_base::{Ack, NoMemory};
-use flow_core::{Bare, Case};
+use flow_core::{Bare, Case, Letter};
 use fold_machine::Steps;
 use link_model::Link;
 use std::alloc::Global;
@@ -45,6 +46,19 @@ impl Linked {
                 Err(fault)
             }
         }
+    }
+
+    /// Takes the link's next acknowledgement, and gives it.
+    #[inline(always)]
+    pub(crate) fn take_ack<L: Ledger>(&mut self, steps: &mut Steps<L>) -> Ack
+        requires { MayMake linked_at Letter.A self.old }
+        ensures made { Makes linked_at Letter.A self.old self.new }
+        ensures ack { (cell : CellState) → self.old ≡ linked_at cell → result ≡ ack_at cell }
+    {
+        let window = self.bare.cwnd();
+        let ack = self.link.next(window);
+        self.bare.ack(&ack, steps);
+        ack
     }
 }
 
@@ -85,21 +99,17 @@ impl Walker for Linked {
     }
 
     fn take(&mut self, _alloc: Global) -> Result<(), NoMemory> {
-        self.bare.take();
+        self.bare.issue();
         Ok(())
     }
 
     fn settle(&mut self) {
-        let Some(ticket) = self.bare.out() else {
-            unreachable!()
-        };
-        self.bare.settle(&answer(ticket));
+        self.bare.consult();
     }
 
-    fn hear<L: Ledger>(&mut self, steps: &mut Steps<L>) -> Result<Ack, NoMemory> {
-        let window = self.bare.cwnd();
-        let ack = self.link.next(window);
-        self.bare.ack(&ack, steps);
-        Ok(ack)
+    fn hear<L: Ledger>(&mut self, sums: &mut Sums, steps: &mut Steps<L>) -> Result<(), NoMemory> {
+        let ack = self.take_ack(steps);
+        *sums = sums.with(&ack);
+        Ok(())
     }
 }

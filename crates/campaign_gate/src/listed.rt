@@ -4,8 +4,9 @@ ghost use Rattle.campaign_gate.specs.Walks.{opened};
 ghost use Rattle.campaign_gate.specs.LinkedFlows.{listed_at, left_in, left_linked};
 
 use crate::linked::Linked;
+use crate::sums::Sums;
 use crate::walker::Walker;
-use ccp_base::{Ack, Acks, NoMemory};
+use ccp_base::{Acks, NoMemory};
 use flow_core::Case;
 use fold_machine::Steps;
 use std::alloc::Global;
@@ -73,9 +74,10 @@ impl Walker for Listed {
         self.linked.settle();
     }
 
-    fn hear<L: Ledger>(&mut self, steps: &mut Steps<L>) -> Result<Ack, NoMemory> {
-        let ack = self.linked.hear(steps)?;
+    fn hear<L: Ledger>(&mut self, sums: &mut Sums, steps: &mut Steps<L>) -> Result<(), NoMemory> {
+        let ack = self.linked.take_ack(steps);
+        *sums = sums.with(&ack);
         self.acks.push(ack)?;
-        Ok(ack)
+        Ok(())
     }
 }

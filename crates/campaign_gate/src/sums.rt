@@ -1,22 +1,53 @@
 //! The sums of a row over a flow's acknowledgements: lost packets, timeouts and acknowledged bytes.
-ghost use Rattle.std.specs.Prelude.{◌≡◌};
-ghost use Rattle.campaign_gate.specs.Walks.{sums_of, with_ack, AreRoomy};
+ghost use Rattle.std.specs.Prelude.{◌≡◌, ◌<◌, []};
+ghost use Rattle.campaign_gate.specs.CampaignRow.{lost_in, acked_in, sums_of};
+ghost use Rattle.campaign_gate.specs.Walks.{with_ack, AreRoomy};
 
 use ccp_base::Ack;
 
 /// What is summed over a flow's acknowledgements.
 #[derive(Clone, Copy)]
-pub(crate) struct Sums {
-    pub(crate) lost: u64,
-    pub(crate) timeouts: u64,
-    pub(crate) acked: u64,
+pub struct Sums {
+    /// The lost packets, as the acknowledgements report them.
+    pub lost: u64,
+    /// How many acknowledgements are timeouts.
+    pub timeouts: u64,
+    /// The acknowledged bytes.
+    pub acked: u64,
 }
 
 impl Sums {
+    /// The sums over acknowledgements, in order. Those of packets and bytes must be below 2^64.
+    pub fn of(acks: &[Ack]) -> Sums
+        requires lost { lost_in acks.now < 18446744073709551616 }
+        requires acked { acked_in acks.now < 18446744073709551616 }
+        ensures { result ≡ sums_of acks.now }
+    {
+        let mut sums = Sums::none();
+        let mut left = acks;
+        while let Some((ack, rest)) = left.split_first() {
+            sums = sums.with(ack);
+            left = rest;
+        }
+        sums
+    }
+
+    /// The sums over no acknowledgement.
+    pub(crate) fn none() -> Sums
+        ensures { result ≡ sums_of [] }
+    {
+        Sums {
+            lost: 0,
+            timeouts: 0,
+            acked: 0,
+        }
+    }
+
     /// The sums with one more acknowledgement.
-    pub(crate) fn with(self, ack: Ack) -> Sums
-        requires { AreRoomy (with_ack ack self) }
-        ensures { result ≡ with_ack ack self }
+    #[inline(always)]
+    pub(crate) fn with(self, ack: &Ack) -> Sums
+        requires { AreRoomy (with_ack ack.now self) }
+        ensures { result ≡ with_ack ack.entry.now self }
     {
         Sums {
             lost: self.lost + ack.lost_pkts_sample,

@@ -42,16 +42,11 @@ impl<F: Walker> Walk<F> {
         ensures on { IsOnWay F.at (F.case_of flow) result.flow result.tally }
     {
         let peak = flow.cwnd();
-        let sums = Sums {
-            lost: 0,
-            timeouts: 0,
-            acked: 0,
-        };
         Walk {
             flow,
             tally: Tally {
                 taken: 0,
-                sums,
+                sums: Sums::none(),
                 peak,
             },
         }
@@ -116,8 +111,7 @@ impl<F: Walker> Walk<F> {
         requires { IsNext F.at (F.case_of self.old.flow) self.old.flow self.old.tally Letter.A }
         ensures { OnOk result (IsStep F.at Letter.A self.old.flow self.old.tally self.new.flow self.new.tally) }
     {
-        let ack = self.flow.hear(steps)?;
-        self.tally.sums = self.tally.sums.with(ack);
+        self.flow.hear(&mut self.tally.sums, steps)?;
         self.tally.peak = self.tally.peak.max(self.flow.cwnd());
         Ok(())
     }
@@ -129,21 +123,6 @@ impl Walk<Linked> {
         requires { IsEnded linked_at self.now.flow.bare.case self.now.flow self.now.tally }
         ensures { result ≡ row_of self.now.flow.bare.case }
     {
-        let bare = &self.flow.bare;
-        let acks = u64::from(bare.acks());
-        Row {
-            acks,
-            reports: u64::from(bare.told()),
-            held: u64::from(bare.held()),
-            faults: u64::from(bare.faults()),
-            epochs: u64::from(bare.epoch()) + 1,
-            lost: self.tally.sums.lost,
-            timeouts: self.tally.sums.timeouts,
-            acked: self.tally.sums.acked,
-            peak: self.tally.peak,
-            cwnd: bare.cwnd(),
-            now: bare.time(),
-            tail: acks.saturating_sub(bare.first()),
-        }
+        Row::of(&self.flow.bare, self.tally.sums, self.tally.peak)
     }
 }

@@ -1,11 +1,12 @@
 //! A flow that makes its campaign word letter by letter, with its history or without.
-ghost use Rattle.std.specs.Prelude.{◌≡◌, ℕ, length, refl, IfOk, OnOk};
+ghost use Rattle.std.specs.Prelude.{◌≡◌, ℕ, true, length, refl, OnOk};
 ghost use Rattle.flow_core.specs.declared.case.Case.{Case};
 ghost use Rattle.flow_core.specs.Words.{is_legal, is_complete};
 ghost use Rattle.flow_core.specs.Cells.{CellState, flow_at, world_at, ack_at};
 ghost use Rattle.flow_core.specs.LettersLeft.{left_at};
-ghost use Rattle.campaign_gate.specs.Walks.{window_at, MayMake, Makes};
+ghost use Rattle.campaign_gate.specs.Walks.{window_at, longer, with_ack, MayMake, MayHear, Makes};
 
+use crate::sums::Sums;
 use agent_core::calls::answer;
 use ccp_base::{Ack, NoMemory};
 use flow_core::{Case, Cell, Letter};
@@ -59,15 +60,30 @@ pub(crate) trait Walker: Drop {
         requires { MayMake at Letter.C self.old }
         ensures { Makes at Letter.C self.old self.new };
 
-    /// Takes the next acknowledgement, and gives it.
-    fn hear<L: Ledger>(&mut self, steps: &mut Steps<L>) -> Result<Ack, NoMemory>
-        requires { MayMake at Letter.A self.old }
+    /// Takes the next acknowledgement, and adds it to the sums.
+    fn hear<L: Ledger>(&mut self, sums: &mut Sums, steps: &mut Steps<L>) -> Result<(), NoMemory>
+        requires { MayHear at self.old sums.old }
         ensures made { OnOk result (Makes at Letter.A self.old self.new) }
-        ensures ack { IfOk result (λ ack. (cell : CellState) → self.old ≡ at cell → ack ≡ ack_at cell) };
+        ensures sums { OnOk result ((cell : CellState) → self.old ≡ at cell → sums.new ≡ with_ack (ack_at cell) sums.old) };
 
     ghost case_law: { (cell : CellState) → case_of (at cell) ≡ cell.case };
 
     ghost left_law: { (cell : CellState) → left_of (at cell) ≡ left_at cell };
+}
+
+/// Takes the next acknowledgement of a flow with its history, and gives it.
+fn take_ack<L: Ledger>(cell: &mut Cell, steps: &mut Steps<L>) -> Ack
+    requires { is_legal (flow_at cell.old) (world_at cell.old) Letter.A ≡ true }
+    ensures made { cell.new ≡ longer Letter.A cell.old }
+    ensures ack { result ≡ ack_at cell.old }
+{
+    let Ok(_) = cell.ack(steps) else {
+        unreachable!()
+    };
+    let Some(ack) = cell.last() else {
+        unreachable!()
+    };
+    ack
 }
 
 /// A flow with its history, which a book is made of.
@@ -122,13 +138,9 @@ impl Walker for Cell {
         };
     }
 
-    fn hear<L: Ledger>(&mut self, steps: &mut Steps<L>) -> Result<Ack, NoMemory> {
-        let Ok(_) = self.ack(steps) else {
-            unreachable!()
-        };
-        let Some(ack) = self.last() else {
-            unreachable!()
-        };
-        Ok(ack)
+    fn hear<L: Ledger>(&mut self, sums: &mut Sums, steps: &mut Steps<L>) -> Result<(), NoMemory> {
+        let ack = take_ack(self, steps);
+        *sums = sums.with(&ack);
+        Ok(())
     }
 }

@@ -1,5 +1,5 @@
 -- What is kept after an answer is the summary after it.
-use Rattle.std.specs.Prelude.{◌≡◌, ◌+◌, ◌≤◌, Option, Some, None, option_map, unwrap_or, List, length, refl}
+use Rattle.std.specs.Prelude.{◌≡◌, ℕ, ◌+◌, ◌≤◌, Option, Some, None, option_map, unwrap_or, List, length, refl}
 use Rattle.std.proofs.Common.{ap, sym, ◌∙◌, subst, arith}
 use Rattle.std.proofs.lemmas.Option.{none-some}
 use Rattle.ccp_base.specs.FieldReg.{Pair}
@@ -14,7 +14,6 @@ use Rattle.slot_pool.specs.Pool.{PoolState, free_of}
 use Rattle.agent_core.specs.declared.agent.Agent.{Agent}
 use Rattle.agent_core.specs.declared.ticket.Ticket.{Ticket}
 use Rattle.agent_core.specs.Agents.{course_of, replied, values_of}
-use Rattle.agent_core.specs.Answers.{after_of, reply_of}
 use Rattle.agent_core.specs.RoleLaws.{AreRoles, roles-kept}
 use Rattle.flow_core.specs.declared.bare.BareParts.{BareParts}
 use Rattle.flow_core.specs.declared.case.Case.{Case}
@@ -71,38 +70,39 @@ range-closed case s issued agent out roles range = record {
   held = range.held;
 }
 
-module _ (s : BareParts) (parts : IsBare s) (issued : Issued) (ticket : Ticket)
-    (out : s.out ≡ Some issued) (before : ticket.before ≡ s.agent) (told : ticket.told ≡ issued.told) where
-  -- the agent and its reply
-  turn-same : replied ticket.before ticket.told ≡ replied s.agent issued.told
-  turn-same = λ i. replied (before i) (told i)
+-- an agent answers a report or a notice: what is kept after that
+module _ (s : BareParts) (parts : IsBare s) (issued : Issued) (out : s.out ≡ Some issued) where
+  abbrev after : Agent
+  after = (replied s.agent issued.told).0
 
-  roles-after : AreRoles s.case.ss.role s.case.ca.role (course_of (after_of ticket))
-  roles-after =
-      roles-kept s.case.ss.role s.case.ca.role ticket.before ticket.told
-      (subst (λ (agent : Agent). AreRoles s.case.ss.role s.case.ca.role (course_of agent)) (sym before) (record { ss_same = parts.range.ss; ca_same = parts.range.ca }))
+  abbrev reply_given : Reply
+  reply_given = (replied s.agent issued.told).1
 
-  abbrev closed : BareParts
-  closed = closed_parts ticket s
+  abbrev closed : BareParts → BareParts
+  closed p = closed_parts after (reports_told issued.told) p
 
-  module _ (new : BareParts) (obeys : ObeysBare closed new (reply_of ticket) (values_of s.agent (reply_of ticket))) where
-    step-by : summary_by new ≡ step_out (over_codes s.case) (Some issued) (summary_by s)
-    step-by =
-        summary-obeyed closed new s.agent (reply_of ticket) obeys
-        ∙ (λ i. step_reply (over_codes s.case) s.agent (turn-same i).1
-        (record (summary_by s) { agent = (turn-same i).0; out = None; answered = s.answered + 1; told = s.told + reports_told (told i) }))
+  -- the reply may as well be obeyed once the ticket was closed
+  obeys-closed : (obeyed : BareParts) (reply : Reply) (values : List Pair) → ObeysBare s obeyed reply values
+      → ObeysBare (closed s) (closed obeyed) reply values
+  obeys-closed obeyed Nothing values obeys = ap closed obeys
+  obeys-closed obeyed (Update cwnd) values obeys = record { frame = ap closed obeys.frame; fits = obeys.fits }
+  obeys-closed obeyed (Change program cwnd cap_value) values obeys =
+      record { machine = obeys.machine; fits = obeys.fits; frame = ap closed obeys.frame }
 
-    pub step-settled : summary_by new ≡ step_answer (over_codes s.case) (summary_by s)
-    step-settled = step-by ∙ ap (λ (o : Option Issued). step_out (over_codes s.case) o (summary_by s)) (sym out)
+  step-closed : (obeyed : BareParts) → ObeysBare s obeyed reply_given (values_of s.agent reply_given)
+      → summary_by (closed obeyed) ≡ step_answer (over_codes s.case) (summary_by s)
+  step-closed obeyed obeys =
+      summary-obeyed (closed s) (closed obeyed) s.agent reply_given (obeys-closed obeyed reply_given (values_of s.agent reply_given) obeys)
+      ∙ ap (λ (o : Option Issued). step_out (over_codes s.case) o (summary_by s)) (sym out)
 
-  range-after : InRange s.case (summary_by closed)
+  range-after : InRange s.case (summary_by (closed s))
   range-after =
-      subst (λ (t : Told). InRange s.case (record (summary_by s) { agent = after_of ticket; out = None; answered = s.answered + 1; told = s.told + reports_told t })) (sym told)
-      (range-closed s.case (summary_by s) issued (after_of ticket) out roles-after parts.range)
+      let roles = roles-kept s.case.ss.role s.case.ca.role s.agent issued.told (record { ss_same = parts.range.ss; ca_same = parts.range.ca }) in
+      range-closed s.case (summary_by s) issued after out roles parts.range
 
-  pub is-settled : (new : BareParts) (reply : Reply) (values : List Pair) → ObeysBare closed new reply values → IsBare new
-  is-settled new Nothing values obeys =
-      let whole : IsBare closed = record {
+  is-closed : (obeyed : BareParts) (reply : Reply) (values : List Pair) → ObeysBare s obeyed reply values → IsBare (closed obeyed)
+  is-closed obeyed Nothing values obeys =
+      let whole : IsBare (closed s) = record {
         fits = parts.fits;
         words = parts.words;
         free = parts.free;
@@ -110,9 +110,9 @@ module _ (s : BareParts) (parts : IsBare s) (issued : Issued) (ticket : Ticket)
         lies = parts.lies;
         range = range-after;
       } in
-      subst IsBare (sym obeys) whole
-  is-settled new (Update cwnd) values obeys =
-      let literal : BareParts = record closed { machine = record s.machine { kept = with_values values s.machine.kept } } in
+      subst IsBare (sym (ap closed obeys)) whole
+  is-closed obeyed (Update cwnd) values obeys =
+      let literal : BareParts = record (closed s) { machine = record s.machine { kept = with_values values s.machine.kept } } in
       let range = range-after in
       let whole : IsBare literal = record {
         fits = subst (λ (p : BareParts). Fits p.machine (code_at s.case s.program)) obeys.frame obeys.fits;
@@ -122,14 +122,14 @@ module _ (s : BareParts) (parts : IsBare s) (issued : Issued) (ticket : Ticket)
         lies = parts.lies;
         range = record { ss = range.ss; ca = range.ca; acks = range.acks; tickets = range.tickets; epochs = range.epochs; told = range.told; faults = range.faults; held = range.held };
       } in
-      subst IsBare (sym obeys.frame) whole
-  is-settled new (Change program cwnd cap_value) values obeys =
-      let further : new.machine.further ≡ s.machine.further = ap (λ (m : MachineState). m.further) obeys.machine in
-      let literal : BareParts = record closed { machine = new.machine; program = program; epoch = s.epoch + 1; first = s.acks; outbox = record s.outbox { untold = None } } in
+      subst IsBare (sym (ap closed obeys.frame)) whole
+  is-closed obeyed (Change program cwnd cap_value) values obeys =
+      let further : obeyed.machine.further ≡ s.machine.further = ap (λ (m : MachineState). m.further) obeys.machine in
+      let literal : BareParts = record (closed s) { machine = obeyed.machine; program = program; epoch = s.epoch + 1; first = s.acks; outbox = record s.outbox { untold = None } } in
       let range = range-after in
       let epochs = parts.range.epochs in
       let tickets = range.tickets in
-      let waiting : length (reports_in new.machine.further s.outbox.slots) ≡ length (reports_in s.machine.further s.outbox.slots) =
+      let waiting : length (reports_in obeyed.machine.further s.outbox.slots) ≡ length (reports_in s.machine.further s.outbox.slots) =
       ap (λ (pool : PoolState). length (reports_in pool s.outbox.slots)) further in
       let whole : IsBare literal = record {
         fits = obeys.fits;
@@ -148,7 +148,22 @@ module _ (s : BareParts) (parts : IsBare s) (issued : Issued) (ticket : Ticket)
           held = range.held;
         };
       } in
-      subst IsBare (sym obeys.frame) whole
+      subst IsBare (sym (ap closed obeys.frame)) whole
+
+  module _ (obeyed new : BareParts) (agent : Agent) (reply : Reply) (reports : ℕ) (turn : (agent, reply) ≡ replied s.agent issued.told)
+      (count : reports ≡ reports_told issued.told) (obeys : ObeysBare s obeyed reply (values_of s.agent reply))
+      (new_is : new ≡ closed_parts agent reports obeyed) where
+    is-new : new ≡ closed obeyed
+    is-new = new_is ∙ (λ i. closed_parts (turn i).0 (count i) obeyed)
+
+    obeys-reply : ObeysBare s obeyed reply_given (values_of s.agent reply_given)
+    obeys-reply = subst (λ (r : Reply). ObeysBare s obeyed r (values_of s.agent r)) (λ i. (turn i).1) obeys
+
+    pub is-settled : IsBare new
+    is-settled = subst IsBare (sym is-new) (is-closed obeyed reply_given (values_of s.agent reply_given) obeys-reply)
+
+    pub step-settled : summary_by new ≡ step_answer (over_codes s.case) (summary_by s)
+    step-settled = ap summary_by is-new ∙ step-closed obeyed obeys-reply
 
 -- ---- by the ticket that is out
 

@@ -1,5 +1,5 @@
 -- One more letter at the word's end: what holds of a flow and its journal holds of both after it.
-use Rattle.std.specs.Prelude.{◌≡◌, ℕ, ◌+◌, ◌<◌, ◌≤◌, Bool, true, ◌&&◌, is_some, is_none, Option, Some, None, option_map, unwrap_or, List, [], ◌∷◌, length, refl}
+use Rattle.std.specs.Prelude.{◌≡◌, ℕ, ◌+◌, ◌<◌, ◌≤◌, Bool, true, ◌&&◌, nat_le, is_some, is_none, Option, Some, None, option_map, unwrap_or, List, [], ◌∷◌, length, refl}
 use Rattle.std.proofs.Common.{ap, sym, ◌∙◌, subst, arith, length-append}
 use Rattle.std.proofs.lemmas.Bool.{lt-ltb, true≢false}
 use Rattle.std.proofs.lemmas.List.{length-map}
@@ -19,16 +19,15 @@ use Rattle.flow_core.specs.declared.journal.Journal.{Journal}
 use Rattle.flow_core.specs.declared.letter.Letter.TheVariants.{A, T, C}
 use Rattle.flow_core.specs.declared.bare.Issued.{Issued}
 use Rattle.flow_core.specs.Readings.{Flow, over_codes}
-use Rattle.flow_core.specs.World.{Taken, World, opening, notice_of, after_ack, after_take, after_answer}
-use Rattle.flow_core.specs.Words.{world_over, legal_over}
-use Rattle.flow_core.specs.WordLaws.{acks_in, acks_in-A, acks_in-T, acks_in-C, world_over-append, legal_over-append}
+use Rattle.flow_core.specs.World.{Taken, World, notice_of, after_ack, after_take, after_answer}
+use Rattle.flow_core.specs.WordLaws.{acks_in-A, acks_in-T, acks_in-C, world_over-append, legal_over-append}
 use Rattle.flow_core.specs.Roomy.{RoomyState}
 use Rattle.flow_core.specs.Books.{ticket_of, out_ticket}
 use Rattle.flow_core.specs.Cores.{acked_as}
 use Rattle.flow_core.specs.States.{issued_as, some_count}
 use Rattle.flow_core.specs.Summaries.{Summary, summary, outcome_at, step_ack, next_telling, with_told, step_take, can_tell, step_reply, step_turn, step_out, step_answer, may_make}
 use Rattle.flow_core.specs.Bares.{BareState, told_ticket, InRange}
-use Rattle.flow_core.specs.Journals.{with_item, with_some, journal_ack, journal_take, journal_answer, new_notice, line_of, taken_at, begun_line, line_after, HasRoom, HaveRoom, HasLines, OpensJournal, Records, world_by, letter_count, IsCore}
+use Rattle.flow_core.specs.Journals.{with_item, with_some, journal_ack, journal_take, journal_answer, new_notice, line_of, taken_at, line_after, HasRoom, HaveRoom, HasLines, Records, world_by, letter_count, IsCore}
 use Rattle.flow_core.proofs.WordLemmas.{world_over-A, legal_over-A}
 use Rattle.flow_core.proofs.SummaryLemmas.{summary-ack, summary-take, summary-answer, summary-legal}
 use Rattle.flow_core.proofs.JournalLemmas.{records-ack, records-take, records-answer}
@@ -222,7 +221,7 @@ module _ (bare : BareState) (j : Journal) (core : IsCore bare j) where
       records = subst (λ (v : World ℕ). Records flow v (journal_take j)) (sym world-T) (records-take flow w j core.records);
       legal =
           let can = summary-legal flow T w ∙ ap (λ (t : Summary). may_make flow t T) (sym core.stands) ∙ may in
-          legal_over-append flow j.acks.items j.word.items T ∙ (λ i. core.legal i && can i);
+          legal_over-append flow j.acks.items j.word.items T (ap (λ (n : ℕ). nat_le n (length j.acks.items)) (acks_in-T j.word.items)) ∙ (λ i. core.legal i && can i);
       all = acks_in-T j.word.items ∙ core.all;
       letters =
           let more = count-told s.waiting s.untold s (none-out s.out (can_tell s) may) (can-out s.out (can_tell s) may) in
@@ -276,7 +275,7 @@ module _ (bare : BareState) (j : Journal) (core : IsCore bare j) where
       records = subst (λ (v : World ℕ). Records flow v journal-C) (sym world-C) records-C;
       legal =
           let can = summary-legal flow C w ∙ ap (λ (t : Summary). may_make flow t C) (sym core.stands) ∙ some-out in
-          legal_over-append flow j.acks.items j.word.items C ∙ (λ i. core.legal i && can i);
+          legal_over-append flow j.acks.items j.word.items C (ap (λ (n : ℕ). nat_le n (length j.acks.items)) (acks_in-C j.word.items)) ∙ (λ i. core.legal i && can i);
       all = acks_in-C j.word.items ∙ core.all;
       letters = length-append j.word.items (C ∷ []) ∙ ap (λ (n : ℕ). n + 1) core.letters ∙ sym counts-C.0;
       rooms = record { faults = core.rooms.faults; acks = core.rooms.acks; word = core.rooms.word };
@@ -307,27 +306,3 @@ module _ (bare : BareState) (j : Journal) (core : IsCore bare j) (may : may_make
       ∙ ap (λ (p : Journal). after_take (world_by bare p)) framed
 
 -- ---- before the first letter
-
-pub core-open : (case : Case) (j : Journal)
-    → OpensJournal case.acks (begun_line (summary (over_codes case) (opening (over_codes case)))) j
-    → IsCore (record { case = case; summary = summary (over_codes case) (opening (over_codes case)) }) j
-core-open case j opens =
-    let flow = over_codes case in
-    let bare : BareState = record { case = case; summary = summary flow (opening flow) } in
-    let word : length j.word.items ≡ 0 = ap length opens.word in
-    let acks : length j.acks.items ≡ 0 = ap length opens.acks in
-    let world : world_by bare j ≡ opening flow = ap (world_over flow j.acks.items) opens.word in
-    record {
-      stands = ap (summary flow) (sym world);
-      records = subst (λ (v : World ℕ). Records flow v j) (sym world) (record {
-        tickets = opens.tickets;
-        epochs = opens.epochs;
-        faults = opens.faults;
-        acks = opens.acks;
-      });
-      legal = ap (legal_over flow j.acks.items) opens.word;
-      all = ap acks_in opens.word ∙ sym acks;
-      letters = word;
-      rooms = opens.rooms;
-      lines = tt;
-    }

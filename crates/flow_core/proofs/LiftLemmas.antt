@@ -26,7 +26,7 @@ use Rattle.flow_core.specs.Lift.{Placing, place_in, map_failure, map_content, ma
 use Rattle.flow_core.proofs.SimulatedEpochs.{met_placed, heard-simulated, after-simulated, IsEnvOf-after, declared-simulated}
 use Rattle.flow_core.specs.declared.letter.Letter.{Letter}
 use Rattle.flow_core.specs.declared.letter.Letter.TheVariants.{A, T, C}
-use Rattle.flow_core.specs.Words.{Giving, from_list, from_link, with_given, after_letter, world_from, world_over, world, is_legal, legal_from, legal_over, legal, is_complete}
+use Rattle.flow_core.specs.Words.{Giving, from_list, from_link, with_given, after_letter, world_from, world_over, world, is_legal, legal_from, legal, is_complete}
 use Rattle.link_model.specs.declared.link_case.LinkCase.{LinkCase}
 use Rattle.link_model.specs.Link.{ack_after}
 use Rattle.flow_core.proofs.PlacedParts.{notice_of, replied-site, take-lifts, failures-placed, reports-placed, held-placed, untold-placed}
@@ -296,9 +296,10 @@ module _ (case : Case) (ss ca : Form) (ss_places ca_places : List Place)
       ∙ ap (λ (v : World Place). legal_from sources by_sources v word) opening-lifts
 
   -- a word is legal in both readings or in neither
-  pub legal_over-lift : (acks : List Ack) (word : List Letter)
-      → legal_over (over_codes case) acks word ≡ legal_over (over_sources case ss ca) acks word
-  legal_over-lift acks word = legals-lift (from_list acks) (from_list acks) (from_list-alike acks) word
+  pub legal_list-lift : (acks : List Ack) (word : List Letter)
+      → legal_from (over_codes case) (from_list acks) (opening (over_codes case)) word
+      ≡ legal_from (over_sources case ss ca) (from_list acks) (opening (over_sources case ss ca)) word
+  legal_list-lift acks word = legals-lift (from_list acks) (from_list acks) (from_list-alike acks) word
 
   pub legal-lift : (link : LinkCase) (word : List Letter)
       → legal (over_codes case) link word ≡ legal (over_sources case ss ca) link word

@@ -1,5 +1,5 @@
 -- A word over a list that has the link's acknowledgements is the word over the link.
-use Rattle.std.specs.Prelude.{◌≡◌, ℕ, ◌+◌, Option, Some, None, unwrap_or, List, [], ◌∷◌, ◌++◌, length, slice_get, refl}
+use Rattle.std.specs.Prelude.{◌≡◌, ℕ, ◌+◌, ◌&&◌, Option, Some, None, unwrap_or, List, [], ◌∷◌, ◌++◌, length, slice_get, refl}
 use Rattle.std.proofs.Common.{ap, sym, ◌∙◌, subst, arith, append_assoc, append-nil, length-append}
 use Rattle.ccp_base.specs.declared.ack.Ack.{Ack}
 use Rattle.link_model.specs.declared.link_case.LinkCase.{LinkCase}
@@ -11,7 +11,7 @@ use Rattle.flow_core.specs.Readings.{Flow}
 use Rattle.flow_core.specs.World.{World, opening, track_of, after_ack, after_take, after_answer}
 use Rattle.flow_core.specs.Words.{Giving, from_list, from_link, with_given, after_letter, world_from, world_over, world, legal_over, legal}
 use Rattle.flow_core.specs.WordLaws.{acks_in}
-use Rattle.flow_core.proofs.WordLemmas.{next-given, take-keeps, answer-keeps, Agree, world_from-agreed, legal_from-agreed}
+use Rattle.flow_core.proofs.WordLemmas.{all-given, next-given, take-keeps, answer-keeps, Agree, world_from-agreed, legal_from-agreed}
 
 -- ---- a list that goes on
 
@@ -131,8 +131,11 @@ module _ {X : Type 0} (flow : Flow X) where
   pub legal_over-link : (link : LinkCase) (acks : List Ack) (word : List Letter) → acks_in word ≡ length acks
       → acks ≡ acks_of link (world_over flow acks word).windows → legal_over flow acks word ≡ legal flow link word
   legal_over-link link acks word all same =
+      let given = all-given acks word (omega (arith, all)) in
+      let legals =
       legal_from-agreed flow (from_list acks) (from_link flow link) word (opening flow)
-      (link-agree link acks word (opening flow) acks refl all refl same)
+      (link-agree link acks word (opening flow) acks refl all refl same) in
+      λ i. given i && legals i
 
   -- ---- from the link to its list
 
@@ -213,4 +216,6 @@ module _ {X : Type 0} (flow : Flow X) where
   pub legal-over : (link : LinkCase) (word : List Letter) → legal_over flow (world flow link word).acks word ≡ legal flow link word
   legal-over link word =
       let acks = (world flow link word).acks in
-      sym (legal_from-agreed flow (from_link flow link) (from_list acks) word (opening flow) (list-agree link acks word (opening flow) refl))
+      let given = all-given acks word (omega (arith, length-world link word)) in
+      let legals = sym (legal_from-agreed flow (from_link flow link) (from_list acks) word (opening flow) (list-agree link acks word (opening flow) refl)) in
+      λ i. given i && legals i

@@ -1,6 +1,7 @@
 -- Which acknowledgements a word takes, and where two sources of them come to one state.
-use Rattle.std.specs.Prelude.{◌≡◌, ◌≤◌, Bool, ◌&&◌, Option, Some, None, List, [], ◌∷◌, ◌++◌, length, slice_get, refl}
-use Rattle.std.proofs.Common.{ap, sym, ◌∙◌, subst, arith, append_assoc, append-nil}
+use Rattle.std.specs.Prelude.{◌≡◌, ◌≤◌, Bool, true, ◌&&◌, nat_le, Option, Some, None, List, [], ◌∷◌, ◌++◌, length, slice_get, refl}
+use Rattle.std.proofs.Common.{ap, sym, ◌∙◌, subst, arith, append_assoc, append-nil, length-append}
+use Rattle.std.proofs.lemmas.Bool.{le-leb}
 use Rattle.ccp_base.specs.declared.ack.Ack.{Ack}
 use Rattle.ccp_base.specs.declared.exchange.Report.{Report}
 use Rattle.ccp_base.specs.declared.exchange.Reply.{Reply}
@@ -12,7 +13,7 @@ use Rattle.flow_core.specs.declared.letter.Letter.TheVariants.{A, T, C}
 use Rattle.flow_core.specs.Readings.{Flow}
 use Rattle.flow_core.specs.World.{Failure, Content, Taken, World, opening, taking, after_ack, with_taken, after_take, told_as, with_turn, answer_applied, after_answer}
 use Rattle.flow_core.specs.Words.{Giving, from_list, with_given, after_letter, world_from, world_over, is_legal, legal_from, legal_over}
-use Rattle.flow_core.specs.WordLaws.{acks_in, world_over-append, legal_over-append}
+use Rattle.flow_core.specs.WordLaws.{acks_in, acks_in-A, world_over-append, legal_over-append}
 
 -- ---- T and C leave the acknowledgements and the windows
 
@@ -27,6 +28,10 @@ pub record Keeps {X : Type 0} (before now : World X) : Type 0 where
 pub slice_get-next : (front : List Ack) (ack : Ack) (rest : List Ack) → slice_get (front ++ ack ∷ rest) (length front) ≡ Some ack
 slice_get-next [] ack rest = refl
 slice_get-next (first ∷ front) ack rest = slice_get-next front ack rest
+
+-- each acknowledgement of a word is given, if the list has as many
+pub all-given : (acks : List Ack) (word : List Letter) → acks_in word ≤ length acks → nat_le (acks_in word) (length acks) ≡ true
+all-given acks word enough = le-leb (acks_in word) (length acks) enough
 
 module _ {X : Type 0} (flow : Flow X) where
   taken-keeps : (taken : Option (Content X × (List Report × Option (Failure X)))) (w : World X) → Keeps w (with_taken taken w)
@@ -119,8 +124,11 @@ module _ {X : Type 0} (flow : Flow X) where
   pub legal_over-more : (acks more : List Ack) (word : List Letter) → acks_in word ≤ length acks
       → legal_over flow (acks ++ more) word ≡ legal_over flow acks word
   legal_over-more acks more word enough =
+      let longer = all-given (acks ++ more) word (omega (arith, enough, length-append acks more)) in
+      let legals =
       legal_from-agreed (from_list (acks ++ more)) (from_list acks) word (opening flow)
-      (more-agree acks more word (opening flow) acks refl enough)
+      (more-agree acks more word (opening flow) acks refl enough) in
+      λ i. (longer ∙ sym (all-given acks word enough)) i && legals i
 
   acks-taken : (acks : List Ack) (word : List Letter) (w : World X) (rest : List Ack)
       → acks ≡ w.acks ++ rest → acks_in word ≡ length rest
@@ -157,5 +165,8 @@ module _ {X : Type 0} (flow : Flow X) where
       → legal_over flow (acks ++ ack ∷ []) (word ++ A ∷ []) ≡ (legal_over flow acks word && is_legal flow (world_over flow acks word) A)
   legal_over-A acks ack word all =
       let longer = acks ++ ack ∷ [] in
-      legal_over-append flow longer word A
+      let one = length-append acks (ack ∷ []) in
+      let given =
+      all-given longer (word ++ A ∷ []) (omega (arith, all, one, acks_in-A word)) ∙ sym (all-given longer word (omega (arith, all, one))) in
+      legal_over-append flow longer word A given
       ∙ (λ i. legal_over-more acks (ack ∷ []) word (omega arith) i && is_legal flow (world_over-more acks (ack ∷ []) word (omega arith) i) A)

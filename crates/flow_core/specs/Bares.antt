@@ -10,12 +10,11 @@ use Rattle.portus_core.specs.Reports.{report_of}
 use Rattle.ccp_base.specs.declared.exchange.Reply.{Reply}
 use Rattle.ccp_base.specs.declared.exchange.Reply.TheVariants.{Nothing, Update, Change}
 use Rattle.ccp_base.specs.FieldReg.{Pair, first_bad}
-use Rattle.agent_core.specs.Answers.{after_of}
 use Rattle.fold_machine.specs.Heard.{started_by, updated_by}
-use Rattle.flow_core.specs.LiveText.{reports_told}
 use Rattle.slot_pool.specs.Pool.{PoolState, words_at, free_of}
 use Rattle.fold_machine.specs.MachineState.{Fits}
 use Rattle.fold_machine.specs.Store.{slot_words}
+use Rattle.agent_core.specs.declared.agent.Agent.{Agent}
 use Rattle.agent_core.specs.Agents.{course_of}
 use Rattle.agent_core.specs.declared.ticket.Ticket.{Ticket}
 use Rattle.flow_core.specs.declared.bare.BareParts.{BareParts}
@@ -134,13 +133,13 @@ instructions_at case ack s =
 
 -- ---- an answer
 
--- what is kept once the ticket that is out was answered
-abbrev pub closed_parts : Ticket → BareParts → BareParts
-closed_parts ticket s = record s {
-  agent = after_of ticket;
+-- what is kept once the ticket that is out was answered: the agent after it, and how many reports it told
+abbrev pub closed_parts : Agent → ℕ → BareParts → BareParts
+closed_parts after reports s = record s {
+  agent = after;
   out = None;
   answered = s.answered + 1;
-  told = s.told + reports_told ticket.told;
+  told = s.told + reports;
 }
 
 -- the code that a reply is for, while this program runs, has each control register that the values name

@@ -1,5 +1,5 @@
 -- A flow with its history: what a letter adds to the journal, and what holds of both.
-use Rattle.std.specs.Prelude.{◌≡◌, ℕ, ◌+◌, ◌*◌, ◌<◌, ◌≤◌, true, nat_lt, if◌then◌else◌, Option, Some, None, option_map, unwrap_or, [], ◌∷◌, ◌++◌, length, map}
+use Rattle.std.specs.Prelude.{◌≡◌, ℕ, ◌+◌, ◌<◌, ◌≤◌, true, nat_lt, if◌then◌else◌, Option, Some, None, option_map, unwrap_or, [], ◌∷◌, ◌++◌, length, map}
 use Rattle.ccp_base.specs.declared.ack.Ack.{Ack}
 use Rattle.ccp_base.specs.declared.exchange.Notice.{Notice}
 use Rattle.agent_core.specs.declared.ticket.Ticket.{Ticket}
@@ -13,7 +13,7 @@ use Rattle.flow_core.specs.declared.letter.Letter.TheVariants.{A, T, C}
 use Rattle.flow_core.specs.declared.bare.Issued.{Issued}
 use Rattle.flow_core.specs.Readings.{Flow, over_codes}
 use Rattle.flow_core.specs.World.{World, notice_of}
-use Rattle.flow_core.specs.Words.{world_over, legal_over}
+use Rattle.flow_core.specs.Words.{world_over, most_letters, legal_over}
 use Rattle.flow_core.specs.WordLaws.{acks_in}
 use Rattle.flow_core.specs.Roomy.{RoomyState}
 use Rattle.flow_core.specs.Books.{ticket_line, epoch_line}
@@ -84,7 +84,7 @@ HasLines (Some issued) tickets epochs = HaveRoom tickets epochs
 pub record HasRooms (most : ℕ) (j : Journal) : Type 0 where
   pub faults : most ≤ j.faults.room
   pub acks : most ≤ j.acks.room
-  pub word : 3 * most ≤ j.word.room
+  pub word : most_letters most ≤ j.word.room
 
 -- ---- what holds
 

@@ -1,5 +1,5 @@
 -- Laws of words: one that goes on, and how many acknowledgements it takes.
-use Rattle.std.specs.Prelude.{◌≡◌, ℕ, ◌+◌, Bool, ◌&&◌, List, [], ◌∷◌, ◌++◌, refl}
+use Rattle.std.specs.Prelude.{◌≡◌, ℕ, ◌+◌, Bool, ◌&&◌, nat_le, List, [], ◌∷◌, ◌++◌, length, refl}
 use Rattle.std.proofs.Common.{ap, sym, ◌∙◌}
 use Rattle.std.proofs.Math.Bool.{and_assoc, and-true}
 use Rattle.ccp_base.specs.declared.ack.Ack.{Ack}
@@ -9,13 +9,7 @@ use Rattle.flow_core.specs.declared.letter.Letter.TheVariants.{A, T, C}
 use Rattle.flow_core.specs.Readings.{Flow}
 use Rattle.flow_core.specs.World.{World, opening}
 use Rattle.flow_core.specs.Words.{Giving, from_list, from_link, after_letter, world_from, world_over, world, is_legal, legal_from, legal_over, legal}
-
--- how many of the letters are acknowledgements
-abbrev pub acks_in : List Letter → ℕ
-acks_in [] = 0
-acks_in (A ∷ rest) = acks_in rest + 1
-acks_in (T ∷ rest) = acks_in rest
-acks_in (C ∷ rest) = acks_in rest
+pub use Rattle.flow_core.specs.Words.{acks_in}
 
 pub acks_in-A : (word : List Letter) → acks_in (word ++ A ∷ []) ≡ acks_in word + 1
 acks_in-A [] = refl
@@ -68,8 +62,17 @@ legal-append flow link word letter =
     legal_from-append flow (from_link flow link) (opening flow) word (letter ∷ [])
     ∙ ap (λ (b : Bool). legal flow link word && b) (and-true (is_legal flow (world flow link word) letter))
 
-pub legal_over-append : {X : Type 0} → (flow : Flow X) (acks : List Ack) (word : List Letter) (letter : Letter)
-    → legal_over flow acks (word ++ letter ∷ []) ≡ (legal_over flow acks word && is_legal flow (world_over flow acks word) letter)
-legal_over-append flow acks word letter =
+legals-append : {X : Type 0} → (flow : Flow X) (acks : List Ack) (word : List Letter) (letter : Letter)
+    → legal_from flow (from_list acks) (opening flow) (word ++ letter ∷ [])
+    ≡ (legal_from flow (from_list acks) (opening flow) word && is_legal flow (world_over flow acks word) letter)
+legals-append flow acks word letter =
     legal_from-append flow (from_list acks) (opening flow) word (letter ∷ [])
-    ∙ ap (λ (b : Bool). legal_over flow acks word && b) (and-true (is_legal flow (world_over flow acks word) letter))
+    ∙ ap (λ (b : Bool). legal_from flow (from_list acks) (opening flow) word && b) (and-true (is_legal flow (world_over flow acks word) letter))
+
+-- over a list, where it has an acknowledgement for each of the longer word if it has one for each of the word
+pub legal_over-append : {X : Type 0} → (flow : Flow X) (acks : List Ack) (word : List Letter) (letter : Letter)
+    → nat_le (acks_in (word ++ letter ∷ [])) (length acks) ≡ nat_le (acks_in word) (length acks)
+    → legal_over flow acks (word ++ letter ∷ []) ≡ (legal_over flow acks word && is_legal flow (world_over flow acks word) letter)
+legal_over-append flow acks word letter given =
+    (λ i. given i && legals-append flow acks word letter i)
+    ∙ sym (and_assoc (nat_le (acks_in word) (length acks)) (legal_from flow (from_list acks) (opening flow) word) (is_legal flow (world_over flow acks word) letter))

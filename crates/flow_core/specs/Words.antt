@@ -1,5 +1,5 @@
 -- A flow's history as a word, and the states that words come to.
-use Rattle.std.specs.Prelude.{Bool, true, not, ◌&&◌, nat_lt, is_some, is_none, Option, Some, None, List, [], ◌∷◌, length, slice_get}
+use Rattle.std.specs.Prelude.{ℕ, ◌+◌, ◌*◌, Bool, true, not, ◌&&◌, nat_lt, nat_le, is_some, is_none, Option, Some, None, List, [], ◌∷◌, length, slice_get}
 use Rattle.ccp_base.specs.declared.ack.Ack.{Ack}
 use Rattle.link_model.specs.declared.link_case.LinkCase.{LinkCase}
 use Rattle.link_model.specs.Link.{ack_after}
@@ -58,10 +58,22 @@ abbrev pub legal_from : {X : Type 0} → Flow X → Giving X → World X → Lis
 legal_from flow giving w [] = true
 legal_from flow giving w (letter ∷ rest) = is_legal flow w letter && legal_from flow giving (after_letter flow giving w letter) rest
 
--- each letter is legal at its point
-abbrev pub legal_over : {X : Type 0} → Flow X → List Ack → List Letter → Bool
-legal_over flow acks word = legal_from flow (from_list acks) (opening flow) word
+-- the most letters that a word with so many acknowledgements has: each makes one ticket at most, which is taken and answered
+abbrev pub most_letters : ℕ → ℕ
+most_letters acks = 3 * acks
 
+-- how many of the letters are acknowledgements
+abbrev pub acks_in : List Letter → ℕ
+acks_in [] = 0
+acks_in (A ∷ rest) = acks_in rest + 1
+acks_in (T ∷ rest) = acks_in rest
+acks_in (C ∷ rest) = acks_in rest
+
+-- each letter is legal at its point, and the list has an acknowledgement for each that the word takes
+abbrev pub legal_over : {X : Type 0} → Flow X → List Ack → List Letter → Bool
+legal_over flow acks word = nat_le (acks_in word) (length acks) && legal_from flow (from_list acks) (opening flow) word
+
+-- each letter is legal at its point; a link always has an acknowledgement
 abbrev pub legal : {X : Type 0} → Flow X → LinkCase → List Letter → Bool
 legal flow link word = legal_from flow (from_link flow link) (opening flow) word
 

@@ -1,9 +1,10 @@
 //! What later letters of a flow depend on, without its history.
-ghost use Rattle.std.specs.Prelude.{◌≡◌, ◌+◌, ◌<◌, length, true, None, Some, option_map, IfOk};
+ghost use Rattle.std.specs.Prelude.{◌≡◌, ◌+◌, ◌<◌, ◌≤◌, length, true, is_some, None, Some, option_map, IfOk};
 ghost use Rattle.ccp_base.specs.FieldReg.{first_bad};
 ghost use Rattle.ccp_base.specs.Limits.{most_acks};
 ghost use Rattle.portus_core.specs.Epoch.{reported, failed};
 ghost use Rattle.slot_pool.specs.Pool.{free_of};
+ghost use Rattle.agent_core.specs.Agents.{values_of, window_pair};
 ghost use Rattle.fold_machine.specs.MachineState.{Fits};
 ghost use Rattle.flow_core.specs.Readings.{env_of, code_at, over_codes};
 ghost use Rattle.flow_core.specs.World.{opening};
@@ -21,7 +22,7 @@ use crate::machine_calls::{pop_told, put_report, run};
 use crate::opening::opening_machine;
 use crate::outbox::Outbox;
 use agent_core::{Agent, Answer, Ticket};
-use ccp_base::{Ack, FaultKind, Fields, NoMemory, Notice, Reply, Report, Told};
+use ccp_base::{Ack, FaultKind, FieldReg, Fields, NoMemory, Notice, Reply, Report, Told};
 use fold_machine::{Acked, Machine, Steps};
 use std::alloc::Global;
 use std::marker::Model;
@@ -139,16 +140,32 @@ impl BareParts {
         ensures step { summary_by self.new ≡ step_take (summary_by self.old) }
         ensures ticket { told_ticket self.old.case (summary_by self.new) ≡ Some result }
     {
+        self.issue();
+        let Some(issued) = self.out.as_ref() else {
+            unreachable!()
+        };
+        self.ticket(&issued.told)
+    }
+
+    /// The same, where the ticket isn't read.
+    fn issue(&mut self)
+        requires parts { IsBare self.old }
+        requires none_out { self.old.out ≡ None }
+        requires some { can_tell (summary_by self.old) ≡ true }
+        ensures parts { IsBare self.new }
+        ensures case { self.new.case ≡ self.old.case }
+        ensures step { summary_by self.new ≡ step_take (summary_by self.old) }
+        ensures out { is_some self.new.out ≡ true }
+    {
         let Some(told) = pop_told(&mut self.machine, &mut self.outbox) else {
             unreachable!()
         };
-        let ticket = self.ticket(&told);
         let taken = self.acks;
         self.out = Some(Issued { told, taken });
-        ticket
     }
 
     /// Takes an acknowledgement. One must be left.
+    #[inline(always)]
     pub(crate) fn hear<L: Ledger>(&mut self, ack: &Ack, steps: &mut Steps<L>) -> Acked
         requires parts { IsBare self.old }
         requires left { self.old.acks < self.old.case.acks }
@@ -167,8 +184,23 @@ impl BareParts {
         acked
     }
 
-    /// Puts down what an acknowledgement came to, by the machine's answer.
+    /// Puts down what an acknowledgement came to, by the machine's answer. Most come to nothing.
+    #[inline(always)]
     fn put_down(&mut self, ack: &Ack, acked: Acked)
+        requires can { CanNote self.old }
+        requires acks { self.old.acks < most_acks }
+        requires room { acked ≡ Acked.Reported → HasSpace self.old }
+        ensures { NotesBare self.old self.new ack.entry.now (outcome_by acked self.old.machine.report) }
+    {
+        if let Acked::Quiet = acked {
+            return;
+        }
+        self.put_down_any(ack, acked);
+    }
+
+    /// Puts down what an acknowledgement came to, by the machine's answer.
+    #[inline(never)]
+    fn put_down_any(&mut self, ack: &Ack, acked: Acked)
         requires can { CanNote self.old }
         requires acks { self.old.acks < most_acks }
         requires room { acked ≡ Acked.Reported → HasSpace self.old }
@@ -233,37 +265,76 @@ impl BareParts {
         ensures case { self.new.case ≡ self.old.case }
         ensures step { summary_by self.new ≡ step_answer (over_codes self.old.case) (summary_by self.old) }
     {
-        let reply = answer.reply();
-        let values = self.agent.values(&reply);
-        self.close(answer);
-        self.obey(&reply, &values);
+        let reports = reports_told(&answer.ticket().told);
+        self.obey(&answer.reply());
+        self.close(answer.after(), reports);
     }
 
-    /// Puts down that the ticket that is out was answered.
-    fn close(&mut self, answer: &Answer)
+    /// Has the agent answer the ticket that is out, and applies its answer.
+    fn consult(&mut self)
+        requires parts { IsBare self.old }
+        requires out { is_some self.old.out ≡ true }
+        ensures parts { IsBare self.new }
+        ensures case { self.new.case ≡ self.old.case }
+        ensures step { summary_by self.new ≡ step_answer (over_codes self.old.case) (summary_by self.old) }
+    {
+        let Some(issued) = self.out.as_ref() else {
+            unreachable!()
+        };
+        let mut after = self.agent;
+        let reply = after.reply(&issued.told);
+        let reports = reports_told(&issued.told);
+        self.obey(&reply);
+        self.close(&after, reports);
+    }
+
+    /// Puts down that the ticket that is out was answered, after which the agent is this, and how many reports it told.
+    fn close(&mut self, after: &Agent, reports: u32)
         requires answered { self.old.answered < most_acks }
         requires told { self.old.told < most_acks }
-        ensures { self.new ≡ closed_parts answer.now self.old }
+        requires one { reports ≤ 1 }
+        ensures { self.new ≡ closed_parts after.now reports self.old }
     {
-        let reports = reports_told(&answer.ticket().told);
-        self.agent = *answer.after();
+        self.agent = *after;
         self.out = None;
         self.answered += 1;
         self.told += reports;
     }
 
-    /// Does what a reply says, which writes these values.
-    fn obey(&mut self, reply: &Reply, values: &Fields)
+    /// Does what the agent's reply says.
+    fn obey(&mut self, reply: &Reply)
         requires fits { Fits self.old.machine (code_at self.old.case self.old.program) }
-        requires good { AreGood self.old.case self.old.program reply.now values.now }
+        requires good { AreGood self.old.case self.old.program reply.now (values_of self.old.agent reply.now) }
         requires epoch { self.old.epoch < most_acks }
-        ensures { ObeysBare self.old self.new reply.now values.now }
+        ensures { ObeysBare self.old self.new reply.now (values_of self.old.agent reply.now) }
     {
         match *reply {
             Reply::Nothing => {}
-            Reply::Update(_) => self.update(values),
-            Reply::Change { program, .. } => self.change(program, values),
+            Reply::Update(cwnd) => self.set_window(cwnd),
+            Reply::Change { program, .. } => self.follow(program, reply),
         }
+    }
+
+    /// Writes the window of an update, in bytes.
+    #[inline(never)]
+    fn set_window(&mut self, cwnd: u64)
+        requires { Fits self.old.machine (code_at self.old.case self.old.program) }
+        ensures { UpdatesBare self.old self.new (window_pair cwnd) }
+    {
+        let mut values = Fields::new();
+        values.push(FieldReg::Cwnd, cwnd);
+        self.update(&values);
+    }
+
+    /// Starts the program with this number, with the values of the reply that is a change to it.
+    #[inline(never)]
+    fn follow(&mut self, program: u32, reply: &Reply)
+        requires good { first_bad (length (code_at self.old.case program).controls) (values_of self.old.agent reply.now) ≡ None }
+        requires epoch { self.old.epoch < most_acks }
+        ensures { ChangesBare self.old self.new program (values_of self.old.agent reply.now) }
+    {
+        let values = self.agent.values(reply);
+        self.change(program, &values);
     }
 
     /// Writes an update's values.
@@ -316,7 +387,8 @@ impl BareParts {
 
 /// How many reports something that is told is: one or none.
 fn reports_told(told: &Told) -> u32
-    ensures { result ≡ reports_told told.now }
+    ensures told { result ≡ reports_told told.now }
+    ensures one { result ≤ 1 }
 {
     match told {
         Told::Report(_) => 1,
@@ -508,7 +580,16 @@ impl Bare {
         self.parts.take()
     }
 
+    /// Takes the oldest report, or else the notice, as a ticket that isn't read here.
+    pub fn issue(&mut self)
+        requires { may_make (over_codes self.old.case) self.old.summary Letter.T ≡ true }
+        ensures { self.new ≡ record self.old { summary = step_take self.old.summary } }
+    {
+        self.parts.issue();
+    }
+
     /// Takes an acknowledgement. One must be left.
+    #[inline(always)]
     pub fn ack<L: Ledger>(&mut self, ack: &Ack, steps: &mut Steps<L>) -> Acked
         requires { may_make (over_codes self.old.case) self.old.summary Letter.A ≡ true }
         ensures step { self.new ≡ record self.old { summary = step_ack (over_codes self.old.case) ack.entry.now self.old.summary } }
@@ -524,6 +605,14 @@ impl Bare {
         ensures { self.new ≡ record self.old { summary = step_answer (over_codes self.old.case) self.old.summary } }
     {
         self.parts.settle(answer)
+    }
+
+    /// Has the agent answer the ticket that is out, and applies its answer. No frame is made.
+    pub fn consult(&mut self)
+        requires { may_make (over_codes self.old.case) self.old.summary Letter.C ≡ true }
+        ensures { self.new ≡ record self.old { summary = step_answer (over_codes self.old.case) self.old.summary } }
+    {
+        self.parts.consult();
     }
 
     /// The flow's case, and the machine as the last epoch left it.

@@ -4,6 +4,7 @@ ghost use Rattle.std.specs.Prelude.{length, Err, IsOk, IsErr, IfOk, IfErr, OnOk,
 ghost use Rattle.flow_core.specs.World.{track_of, after_take, after_answer};
 ghost use Rattle.flow_core.specs.Words.{is_still, is_legal, legal_over};
 ghost use Rattle.flow_core.specs.Books.{IsBookOf};
+ghost use Rattle.flow_core.specs.Summaries.{summary};
 ghost use Rattle.flow_core.specs.Journals.{new_notice, taken_at, begun_line, line_after};
 ghost use Rattle.flow_core.specs.Cores.{flow_in, world_in, with_ack, heard_in, acked_with, ran_in, out_in, out_number};
 
@@ -63,6 +64,7 @@ impl Model for Core {
 
     ghost Value = { CoreState };
 
+    ghost use Rattle.flow_core.specs.Summaries.{summary};
     ghost use Rattle.flow_core.specs.Journals.{IsCore};
 
     ghost view = { λ c. record { case = c.bare.case; acks = c.journal.acks.items; word = c.journal.word.items } };
@@ -239,6 +241,22 @@ impl Core {
         ensures { result ≡ length self.now.acks }
     {
         self.bare.acks()
+    }
+
+    /// What later letters depend on.
+    pub fn bare(&self) -> &Bare
+        ensures case { result.now.case ≡ self.now.case }
+        ensures summary { result.now.summary ≡ summary (flow_in self.now) (world_in self.now) }
+    {
+        &self.bare
+    }
+
+    /// The acknowledgements that the flow was given, in order. Its letters take all of them.
+    pub fn given(&self) -> &[Ack]
+        ensures given { result.now ≡ self.now.acks }
+        ensures taken { (world_in self.now).acks ≡ self.now.acks }
+    {
+        self.journal.acks.as_slice()
     }
 
     /// The last acknowledgement, None exactly where there is none.

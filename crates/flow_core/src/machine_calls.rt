@@ -15,6 +15,7 @@ use reg_code::Checked;
 use std::sync::ledger::Ledger;
 
 /// Runs an acknowledgement on the machine.
+#[inline(always)]
 pub(crate) fn run<L: Ledger>(
     machine: &mut Machine,
     code: &Checked,

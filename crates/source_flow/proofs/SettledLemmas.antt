@@ -164,15 +164,6 @@ module _ (source : SourceCase) (s : State) (w : World Place) (at : IsAt (flow_of
   pub at-settled : (new : State) → Obeyed source s.agent reply closed new → IsAt flow' new (after_answer flow' w)
   at-settled new obeyed = at-by_out new obeyed w.out refl
 
--- no ticket is out: nothing changes
-pub at-idle : (source : SourceCase) (s : State) (w : World Place) → IsAt (flow_of source) s w → s.out ≡ None
-    → IsAt (flow_of source) s (after_answer (flow_of source) w)
-at-idle source s w at none = idle w.out refl where
-  idle : (out : Option (Taken Place)) → w.out ≡ out → IsAt (flow_of source) s (after_answer (flow_of source) w)
-  idle None is = subst (λ (o : Option (Taken Place)). IsAt (flow_of source) s (answer_applied (flow_of source) o w)) (sym is) at
-  idle (Some t) is =
-      absurd (none-some (issued_as (flow_of source) t) (sym none ∙ ap (λ (k : Kept). k.out) at.kept ∙ ap (option_map (issued_as (flow_of source))) is))
-
 -- ---- what holds whatever the history
 
 module _ (source : SourceCase) (s : State) (sound : IsSound source s) (issued : Issued) (agent : Agent) (reply : Reply) (closed : State)

@@ -1,9 +1,7 @@
-use Rattle.std.proofs.Common.{List, sym, subst}
-use Rattle.ccp_base.specs.FieldReg.{Pair}
-use Rattle.ccp_base.specs.declared.exchange.Reply.{Reply}
-use Rattle.agent_core.specs.Agents.{values_of}
-use Rattle.flow_core.specs.declared.bare.BareParts.{BareParts}
-use Rattle.flow_core.specs.Bares.{AreGood, closed_parts, ObeysBare}
+use Rattle.std.proofs.Common.{ap, ◌∙◌}
+use Rattle.agent_core.specs.declared.ticket.Ticket.{Ticket}
+use Rattle.agent_core.specs.Agents.{replied}
+use Rattle.flow_core.specs.LiveText.{reports_told}
 use Rattle.flow_core.proofs.ValueLemmas.{good-values}
 use Rattle.flow_core.proofs.BareAnswerLemmas.{is-out, step-settled, is-settled}
 use Rattle.flow_core.proofs.bare.BareParts.settle.Goals as goal
@@ -12,27 +10,22 @@ pub obey-requires-clause-good : goal.obey-requires-clause-good
 obey-requires-clause-good c =
     let s = c.args.self.now in
     let range = c.requires.parts.range in
-    let reply = c.reply-reply.result in
-    subst (λ (p : BareParts). AreGood p.case p.program reply c.values-values.result) (sym c.close.ensures)
-    (subst (λ (values : List Pair). AreGood s.case s.program reply values) (sym c.values-values.ensures.values)
-    (good-values s.case s.agent (record { ss_same = range.ss; ca_same = range.ca }) s.program reply))
+    good-values s.case s.agent (record { ss_same = range.ss; ca_same = range.ca }) s.program c.reply.result
 
 pub returns-clause-parts : goal.returns-clause-parts
 returns-clause-parts c =
     let s = c.args.self.now in
-    let new = c.obey.new.self in
     let ticket = c.args.answer.now in
     let o = is-out s ticket c.requires.out in
-    is-settled s c.requires.parts o.issued ticket o.out o.before o.told new c.reply-reply.result c.values-values.result
-    (subst (λ (p : BareParts). ObeysBare p new c.reply-reply.result c.values-values.result) c.close.ensures c.obey.ensures)
+    is-settled s c.requires.parts o.issued o.out c.obey.new.self c.close.new.self c.after.result.now c.reply.result c.reports_told-reports.result
+    ((λ i. (c.after.ensures i, c.reply.ensures i)) ∙ (λ i. replied (o.before i) (o.told i)))
+    (c.reports_told-reports.ensures.told ∙ ap (λ (t : Ticket). reports_told t.told) c.ticket.ensures ∙ ap reports_told o.told) c.obey.ensures c.close.ensures
 
 pub returns-clause-step : goal.returns-clause-step
 returns-clause-step c =
     let s = c.args.self.now in
-    let new = c.obey.new.self in
     let ticket = c.args.answer.now in
     let o = is-out s ticket c.requires.out in
-    step-settled s c.requires.parts o.issued ticket o.out o.before o.told new
-    (subst (λ (reply : Reply). ObeysBare (closed_parts ticket s) new reply (values_of s.agent reply)) c.reply-reply.ensures
-    (subst (λ (values : List Pair). ObeysBare (closed_parts ticket s) new c.reply-reply.result values) c.values-values.ensures.values
-    (subst (λ (p : BareParts). ObeysBare p new c.reply-reply.result c.values-values.result) c.close.ensures c.obey.ensures)))
+    step-settled s c.requires.parts o.issued o.out c.obey.new.self c.close.new.self c.after.result.now c.reply.result c.reports_told-reports.result
+    ((λ i. (c.after.ensures i, c.reply.ensures i)) ∙ (λ i. replied (o.before i) (o.told i)))
+    (c.reports_told-reports.ensures.told ∙ ap (λ (t : Ticket). reports_told t.told) c.ticket.ensures ∙ ap reports_told o.told) c.obey.ensures c.close.ensures

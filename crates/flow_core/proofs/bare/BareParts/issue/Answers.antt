@@ -1,6 +1,6 @@
 use Rattle.flow_core.specs.Bares.{reports_in}
 use Rattle.flow_core.proofs.BareLemmas.{is-taken, summary-taken}
-use Rattle.flow_core.proofs.bare.BareParts.take.Goals as goal
+use Rattle.flow_core.proofs.bare.BareParts.issue.Goals as goal
 
 pub returns-clause-parts : goal.returns-clause-parts
 returns-clause-parts c =

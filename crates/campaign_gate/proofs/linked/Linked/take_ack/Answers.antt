@@ -1,5 +1,5 @@
 use Rattle.campaign_gate.proofs.LinkedLemmas.{few-calls, makes-A}
-use Rattle.campaign_gate.proofs.linked.LinkedWalker.hear.Goals as goal
+use Rattle.campaign_gate.proofs.linked.Linked.take_ack.Goals as goal
 
 pub next-ack-requires : goal.next-ack-requires
 next-ack-requires g c = few-calls c.args.self.now c.requires
