@@ -12,7 +12,7 @@ use std::sync::Wait;
 use worker_desk::Attended;
 
 /// The work of an agent worker of a live run.
-pub(crate) fn attend<R: Wait, G: Gate>(
+pub(crate) fn run_agent_worker<R: Wait, G: Gate>(
     rt: &R,
     alloc: Global,
     table: &FlowTable<Cell>,
@@ -31,5 +31,5 @@ pub(crate) fn attend<R: Wait, G: Gate>(
         held: None,
         left: u64::MAX,
     };
-    worker_desk::attend(&mut desk, worker)
+    worker_desk::run_agent_worker(&mut desk, worker)
 }

@@ -3,7 +3,7 @@
 ghost use Rattle.std.specs.Prelude.{◌≡◌, map, IfOk, length};
 ghost use Rattle.agent_loop.specs.Crews.{post_of, post};
 
-use crate::agent::attend;
+use crate::agent::run_agent_worker;
 use ccp_base::{Gate, NoMemory};
 use crossbeam_channel::Receiver;
 use flow_core::Cell;
@@ -43,7 +43,7 @@ pub(crate) fn begin<'s, 'e, R: Threads + Wait + Sync, G: Gate + Sync>(
         promise,
         move || -> Attended
             ensures { result ≡ post (length table.entry.now) worker }
-        { attend(rt, alloc, table, worker, &nudges, gate) },
+        { run_agent_worker(rt, alloc, table, worker, &nudges, gate) },
     );
     match started {
         Ok(handle) => Ok(Attending::Thread(handle)),
@@ -64,7 +64,7 @@ fn end<R: Threads + Wait, G: Gate>(
 {
     match attending {
         Attending::Thread(handle) => handle.join(rt),
-        Attending::Left(worker) => attend(rt, alloc, table, worker, receiver, gate),
+        Attending::Left(worker) => run_agent_worker(rt, alloc, table, worker, receiver, gate),
     }
 }
 

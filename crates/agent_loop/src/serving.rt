@@ -6,7 +6,7 @@ ghost use Rattle.flow_table.specs.Duties.{duty_of, duty, duties};
 use crate::nudge_sender::NudgeSender;
 use ccp_base::{Gate, NoMemory};
 use flow_core::Cell;
-use flow_table::{FlowTable, Serving, Workers, serve};
+use flow_table::{FlowTable, Serving, Workers, run_datapath_worker};
 use std::alloc::Global;
 use std::sync::Wait;
 use std::thread::{Scope, Threads};
@@ -56,10 +56,10 @@ fn begin<'s, 'e, R: Threads + Wait + Sync, G: Gate + Sync>(
         promise,
         move || -> Served
             ensures { result ≡ duty workers.datapaths (length table.entry.now) worker }
-        { serve(rt, table, workers, worker, &own, gate) },
+        { run_datapath_worker(rt, table, workers, worker, &own, gate) },
     );
     match started {
         Ok(handle) => Ok(Serving::Thread(handle)),
-        Err(_) => Ok(Serving::Here(serve(rt, table, workers, worker, nudges, gate))),
+        Err(_) => Ok(Serving::Here(run_datapath_worker(rt, table, workers, worker, nudges, gate))),
     }
 }

@@ -7,9 +7,9 @@ use std::sync::Wait;
 use std::test::Fail;
 use std::thread::Threads;
 
-/// Two flows of Reno's, which in `shared` run over one bottleneck.
+/// Two flows of Reno's, which in `shared` run over one bottleneck: both have acknowledgements in each of two rounds.
 const TWO_FLOWS: &[u8] =
-    b"{\"version\":1,\"traces\":{\"t\":\"10\\n\"},\"cases\":[{\"name\":\"a\",\"agent\":\"reno\",\"trace\":\"t\",\"mss\":1448,\"queue\":10,\"delay_us\":20000,\"timeout_us\":1000000,\"acks\":4},{\"name\":\"b\",\"agent\":\"reno\",\"trace\":\"t\",\"mss\":1448,\"queue\":10,\"delay_us\":20000,\"timeout_us\":1000000,\"acks\":4}],\"shared\":{\"trace\":\"t\",\"queue\":10,\"quantum_us\":10000,\"rounds\":100}}";
+    b"{\"version\":1,\"traces\":{\"t\":\"10\\n\"},\"cases\":[{\"name\":\"a\",\"agent\":\"reno\",\"trace\":\"t\",\"mss\":1448,\"queue\":10,\"delay_us\":20000,\"timeout_us\":1000000,\"acks\":4},{\"name\":\"b\",\"agent\":\"reno\",\"trace\":\"t\",\"mss\":1448,\"queue\":10,\"delay_us\":20000,\"timeout_us\":1000000,\"acks\":4}],\"shared\":{\"trace\":\"t\",\"queue\":10,\"quantum_us\":100000,\"rounds\":100}}";
 
 /// A worker's passing of a point, the one of this count, with the number of a flow or case.
 fn moment(worker: u32, point: Point, time: u64, number: u32) -> Moment {
@@ -58,6 +58,23 @@ fn two_workers_do_parts_at_once(rt: HostRuntime) -> Result<(), Fail> {
     assert!(rt; is_one_output(&rt, rt.alloc(), "shared", &gate)?);
     assert!(rt; gate.held() == Some(1));
     assert!(rt; gate.passed(Point::InCase) > 2);
+    Ok(())
+}
+
+/// Worker 0 is held before its part of the first round until worker 1 has done its own, and so it is in the second round.
+#[test]
+fn two_workers_do_parts_at_once_in_two_rounds(rt: HostRuntime) -> Result<(), Fail> {
+    let first = Hold {
+        at: moment(0, Point::InCase, 1, 0),
+        until: moment(1, Point::AfterCase, 1, 1),
+    };
+    let second = Hold {
+        at: moment(0, Point::InCase, 2, 0),
+        until: moment(1, Point::AfterCase, 2, 1),
+    };
+    let gate = HoldGate::new(first, second);
+    assert!(rt; is_one_output(&rt, rt.alloc(), "shared", &gate)?);
+    assert!(rt; gate.held() == Some(2));
     Ok(())
 }
 
@@ -270,6 +287,25 @@ fn two_agents_answer_at_once(rt: HostRuntime) -> Result<(), Fail> {
     let lines: &[u8] = b"flow 1 case=b agent=reno\n";
     assert!(rt; shows_on(&rt, rt.alloc(), &words, TWO_LOSING, &gate, lines)?);
     assert!(rt; gate.held() == Some(2));
+    Ok(())
+}
+
+/// Two flows, of which only the second one reports: at each of its two acknowledgements a loss.
+const SECOND_LOSING: &[u8] =
+    b"{\"version\":1,\"programs\":{\"p\":\"(def (Report (volatile loss 0))) (when true (:= Report.loss 1) (report))\",\"q\":\"(def (Report (volatile loss 0))) (when true (:= Report.loss 1))\"},\"traces\":{\"t\":\"10\\n\"},\"cases\":[{\"name\":\"a\",\"agent\":\"reno\",\"trace\":\"t\",\"mss\":1448,\"queue\":10,\"delay_us\":20000,\"timeout_us\":1000000,\"acks\":1,\"ss\":\"q\",\"ca\":\"q\"},{\"name\":\"b\",\"agent\":\"reno\",\"trace\":\"t\",\"mss\":1448,\"queue\":10,\"delay_us\":20000,\"timeout_us\":1000000,\"acks\":2,\"ss\":\"p\",\"ca\":\"p\"}]}";
+
+/// The datapath is held before the second acknowledgement of flow 1, which it comes to as its fourth turn, until the
+/// agent has settled an answer of that flow.
+#[test]
+fn an_agent_settles_the_flow_that_reported(rt: HostRuntime) -> Result<(), Fail> {
+    let hold = Hold {
+        at: moment(0, Point::BeforeAck, 4, 1),
+        until: moment(1, Point::AfterSettle, 1, 1),
+    };
+    let gate = HoldGate::new(hold, hold);
+    let lines: &[u8] = b"ticket 0 report program=3 epoch=0 span=0..1 taken=1 answered=1 ";
+    assert!(rt; shows(&rt, rt.alloc(), "live", SECOND_LOSING, &gate, lines)?);
+    assert!(rt; gate.held() == Some(1));
     Ok(())
 }
 

@@ -10,7 +10,7 @@ use reno_agent::Reno;
 use std::alloc::Global;
 use std::process::Abort;
 use std::test::Fail;
-use worker_desk::{AgentDesk, Event, attend};
+use worker_desk::{AgentDesk, Event, run_agent_worker};
 
 /// A desk whose numbers and tickets come from lists.
 #[derive(Drop)]
@@ -100,7 +100,7 @@ fn work<R: Abort>(desk: &mut TicketDesk<R>, worker: u32)
     requires { desk.old.held ≡ None }
     ensures { Attends worker desk.old.flows (Some desk.old.events.items) (Some desk.new.events.items) }
 {
-    drop(attend(desk, worker));
+    drop(run_agent_worker(desk, worker));
 }
 
 /// A ticket of flow 1, with a fault of program 0.

@@ -9,7 +9,7 @@ use ccp_base::Point;
 use std::alloc::Global;
 use std::process::Abort;
 use std::test::Fail;
-use worker_desk::{Event, InstallDesk, equip};
+use worker_desk::{Event, InstallDesk, run_installer};
 
 /// A desk whose answers come from a list. An entry is the number of its step.
 #[derive(Drop)]
@@ -111,7 +111,7 @@ fn work<R: Abort>(desk: &mut StepDesk<R>, worker: u32, first: u32, workers: u32)
     requires free { desk.old.held ≡ None }
     ensures { Equips worker (tasks (flows_of first workers desk.old.flows) most_steps) (Some desk.old.events.items) (Some desk.new.events.items) }
 {
-    drop(equip(desk, worker, first, workers));
+    drop(run_installer(desk, worker, first, workers));
 }
 
 /// What worker 3, the first of two installers, does at first: flow 0 is changed to its step 0, flow 2 has nothing to

@@ -7,7 +7,7 @@ use ccp_base::Point;
 use std::alloc::Global;
 use std::process::Abort;
 use std::test::Fail;
-use worker_desk::{Desk, Event, Heard, serve};
+use worker_desk::{Desk, Event, Heard, run_datapath_worker};
 
 /// A desk of flows whose answers come from a list.
 #[derive(Drop)]
@@ -104,7 +104,7 @@ fn work<R: Abort>(desk: &mut AnswerDesk<R>, worker: u32, datapaths: u32)
     requires free { desk.old.held ≡ None }
     ensures { Serves worker (flows_of worker datapaths desk.old.flows) (Some desk.old.events.items) (Some desk.new.events.items) }
 {
-    drop(serve(desk, worker, datapaths));
+    drop(run_datapath_worker(desk, worker, datapaths));
 }
 
 /// What worker 0 of 2 does over three flows: it goes round flows 0 and 2.

@@ -1,11 +1,10 @@
 -- Which letter may come, by what a cell answers, and that it brings the flow nearer to the end of its word.
-use Rattle.std.specs.Prelude.{◌≡◌, ◌≢◌, ℕ, ◌<◌, Bool, true, false, not, nat_lt, is_some, is_none, ◌&&◌, Option, Some, None, option_map, [], ◌∷◌, ◌++◌, length, refl}
+use Rattle.std.specs.Prelude.{◌≡◌, ◌≢◌, ℕ, ◌<◌, Bool, true, false, not, is_some, is_none, ◌&&◌, Option, Some, None, option_map, [], ◌∷◌, ◌++◌, length, refl}
 use Rattle.std.proofs.Common.{arith, ap, sym, ◌∙◌}
-use Rattle.std.proofs.lemmas.Bool.{ltb-true}
 use Rattle.agent_core.specs.declared.ticket.Ticket.{Ticket}
 use Rattle.flow_core.specs.declared.letter.Letter.{Letter}
 use Rattle.flow_core.specs.World.{Taken, World, after_ack, after_take, after_answer}
-use Rattle.flow_core.specs.Words.{can_take, is_still, is_complete}
+use Rattle.flow_core.specs.Words.{can_take, is_still}
 use Rattle.flow_core.specs.Books.{ticket_of}
 use Rattle.flow_core.specs.Cells.{CellState, flow_at, world_at, ack_at, out_at}
 use Rattle.flow_core.specs.LettersLeft.{letters_left, left_at}
@@ -47,13 +46,6 @@ pub may-be-taken : (cell : CellState) → out_at cell ≡ None → is_still (wor
 may-be-taken cell none not_still =
     let w = world_at cell in
     may-take (is_none w.out) (can_take w) (none-mapped (λ (ticket : Taken ℕ). ticket_of (flow_at cell) w ticket.told) w.out none) not_still
-
-pub more-acks : (cell : CellState) → is_complete (flow_at cell) (world_at cell) ≡ false → out_at cell ≡ None → can_take (world_at cell) ≡ false
-    → length (world_at cell).acks < cell.case.acks
-more-acks cell complete none nothing =
-    let w = world_at cell in
-    let is = none-mapped (λ (ticket : Taken ℕ). ticket_of (flow_at cell) w ticket.told) w.out none in
-    ltb-true (length w.acks) cell.case.acks (acks-left (nat_lt (length w.acks) cell.case.acks) (is_none w.out) (can_take w) complete is nothing)
 
 -- ---- which letter comes next
 

@@ -1,4 +1,6 @@
 -- The definitions of flow_table, a file each.
 pub mod Duties
+pub mod Hearings
+pub mod Led
 pub mod NextLetter
 pub mod WholeBooks

@@ -25,3 +25,7 @@ next_at cell = next_letter (is_some (world_at cell).out) (can_take (world_at cel
 -- the flow with one letter more
 abbrev pub with_letter : Letter → CellState → CellState
 with_letter letter cell = record cell { word = cell.word ++ letter ∷ [] }
+
+-- the flow has got the letter that the caller makes next
+abbrev pub HasNext : CellState → CellState → Type 0
+HasNext old new = new ≡ with_letter (next_at old) old

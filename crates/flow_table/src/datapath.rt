@@ -16,7 +16,7 @@ use std::sync::ledger::{Blank, Ledger};
 use worker_desk::Served;
 
 /// The work of a datapath worker.
-pub fn serve<F: LockedFlow, N: Nudges, R: Wait, G: Gate>(
+pub fn run_datapath_worker<F: LockedFlow, N: Nudges, R: Wait, G: Gate>(
     rt: &R,
     table: &FlowTable<F>,
     workers: Workers,
@@ -26,11 +26,11 @@ pub fn serve<F: LockedFlow, N: Nudges, R: Wait, G: Gate>(
 ) -> Served
     ensures { result ≡ duty workers.datapaths (length table.now) worker }
 {
-    counted::<Brand, F, N, R, G>(rt, table, workers, worker, nudges, gate, Blank::new(1))
+    with_step_counter::<Brand, F, N, R, G>(rt, table, workers, worker, nudges, gate, Blank::new(1))
 }
 
 /// The same, where a ledger of one part counts the steps.
-fn counted<L: Ledger, F: LockedFlow, N: Nudges, R: Wait, G: Gate>(
+fn with_step_counter<L: Ledger, F: LockedFlow, N: Nudges, R: Wait, G: Gate>(
     rt: &R,
     table: &FlowTable<F>,
     workers: Workers,
@@ -54,5 +54,5 @@ fn counted<L: Ledger, F: LockedFlow, N: Nudges, R: Wait, G: Gate>(
         held: None,
         left: u64::MAX,
     };
-    worker_desk::serve(&mut desk, worker, workers.datapaths)
+    worker_desk::run_datapath_worker(&mut desk, worker, workers.datapaths)
 }

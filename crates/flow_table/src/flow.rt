@@ -1,6 +1,7 @@
 //! What a flow is to its table, its workers and the caller.
 
 ghost use Rattle.std.specs.Prelude.{◌≡◌, ℕ, ◌<◌, ◌↔◌, true, false, IsTrue, IfOk, OnOk, OnErr};
+ghost use Rattle.worker_desk.specs.declared.event.Heard.{Heard};
 
 use ccp_base::NoMemory;
 use fold_machine::Steps;
@@ -21,6 +22,15 @@ pub trait LockedFlow: Drop {
 
     // the case of a book
     ghost case_in: { Self.Book → Self.Case };
+
+    // the flow of a case without a letter
+    ghost fresh: { Self.Case → Self };
+
+    // the flow whose history a book tells
+    ghost flow_in: { Self.Book → Self };
+
+    // the flow took its next acknowledgement, where one was left, and this is what it meant for a worker
+    ghost HasHeard: { Self → Self → Heard → Type 0 };
 
     // nothing is left to do
     ghost IsDone: { Self → Type 0 };
@@ -43,15 +53,17 @@ pub trait LockedFlow: Drop {
 
     /// A flow without a letter.
     fn open(alloc: Global, case: Self::Case) -> Result<Self, NoMemory>
-        ensures { IfOk result (λ flow. case_of flow ≡ case) };
+        ensures case { IfOk result (λ flow. case_of flow ≡ case) }
+        ensures fresh { IfOk result (λ flow. flow ≡ fresh case) };
 
     /// Whether the flow is of this case.
     fn is_of(&self, case: &Self::Case) -> bool
         ensures { IsTrue result ↔ (case_of self.now ≡ case.now) };
 
-    /// Takes the next acknowledgement, and says what it came to for a worker.
+    /// Takes the next acknowledgement, and gives what it means for a worker; Ended exactly where none is left.
     fn hear<L: Ledger>(&mut self, steps: &mut Steps<L>) -> Heard
-        ensures { case_of self.new ≡ case_of self.old };
+        ensures case { case_of self.new ≡ case_of self.old }
+        ensures heard { HasHeard self.old self.new result };
 
     /// Whether nothing is left to do.
     fn is_done(&self) -> bool
@@ -69,5 +81,6 @@ pub trait LockedFlow: Drop {
     fn finish(self) -> Self::Book
         requires { IsDone self }
         ensures case { case_in result ≡ case_of self }
+        ensures flow { flow_in result ≡ self }
         ensures whole { IsWhole result };
 }

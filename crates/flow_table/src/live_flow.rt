@@ -2,10 +2,11 @@
 
 ghost use Rattle.std.specs.Prelude.{◌≡◌, ◌↔◌, ◌<◌, true, false, IsTrue, IfOk, OnOk};
 ghost use Rattle.flow_core.specs.Cells.{IsComplete};
-ghost use Rattle.flow_table.specs.WholeBooks.{IsWhole};
+ghost use Rattle.flow_table.specs.Hearings.{heard_as};
+ghost use Rattle.flow_table.specs.WholeBooks.{IsWhole, flow_of};
 
 use crate::flow::LockedFlow;
-use crate::turn::next;
+use crate::turn::make_letter;
 use ccp_base::NoMemory;
 use flow_core::{Book, Case, Cell, Ended};
 use fold_machine::{Acked, Steps};
@@ -14,12 +15,13 @@ use std::sync::ledger::Ledger;
 use worker_desk::Heard;
 
 impl LockedFlow for Cell {
-    ghost use Rattle.std.specs.Prelude.{◌≡◌, false};
+    ghost use Rattle.std.specs.Prelude.{◌≡◌, false, []};
     ghost use Rattle.flow_core.specs.Words.{is_complete};
     ghost use Rattle.flow_core.specs.Cells.{flow_at, world_at, IsComplete};
     ghost use Rattle.flow_core.specs.LettersLeft.{left_at};
-    ghost use Rattle.flow_table.specs.WholeBooks.{IsWhole};
-    ghost use Rattle.flow_table.specs.NextLetter.{next_at, with_letter};
+    ghost use Rattle.flow_table.specs.WholeBooks.{IsWhole, flow_of};
+    ghost use Rattle.flow_table.specs.Hearings.{hearing_at};
+    ghost use Rattle.flow_table.specs.NextLetter.{HasNext};
 
     type Case = Case;
 
@@ -29,13 +31,19 @@ impl LockedFlow for Cell {
 
     ghost case_in = { λ book. book.case };
 
+    ghost fresh = { λ case. record { case = case; word = [] } };
+
+    ghost flow_in = { λ book. flow_of book };
+
+    ghost HasHeard = { λ old new heard. (new, heard) ≡ hearing_at old };
+
     ghost IsDone = { λ cell. IsComplete cell };
 
     ghost IsLeft = { λ cell. is_complete (flow_at cell) (world_at cell) ≡ false };
 
     ghost letters = { λ cell. left_at cell };
 
-    ghost HasNext = { λ old new. new ≡ with_letter (next_at old) old };
+    ghost HasNext = { λ old new. HasNext old new };
 
     ghost IsWhole = { λ book. IsWhole book };
 
@@ -52,7 +60,10 @@ impl LockedFlow for Cell {
     }
 
     fn hear<L: Ledger>(&mut self, steps: &mut Steps<L>) -> Heard {
-        heard_of(self.ack(steps))
+        match self.ack(steps) {
+            Ok(acked) => news_of(acked),
+            Err(Ended) => Heard::Ended,
+        }
     }
 
     fn is_done(&self) -> bool {
@@ -64,28 +75,30 @@ impl LockedFlow for Cell {
         alloc: Global,
         steps: &mut Steps<L>,
     ) -> Result<(), NoMemory> {
-        next(alloc, self, steps)
+        make_letter(alloc, self, steps)
     }
 
     fn finish(self) -> Book {
-        closed(self)
+        whole_book(self)
     }
 }
 
-/// What an acknowledgement came to, for a worker.
-fn heard_of(acked: Result<Acked, Ended>) -> Heard {
+/// What the machine's answer to an acknowledgement means for a worker.
+fn news_of(acked: Acked) -> Heard
+    ensures { result ≡ heard_as acked }
+{
     match acked {
-        Ok(Acked::Reported) => Heard::Reported,
-        Ok(Acked::Faulted(_, _)) => Heard::Faulted,
-        Ok(Acked::Quiet | Acked::Held | Acked::Stopped) => Heard::Quiet,
-        Err(Ended) => Heard::Ended,
+        Acked::Reported => Heard::Reported,
+        Acked::Faulted(_, _) => Heard::Faulted,
+        Acked::Quiet | Acked::Held | Acked::Stopped => Heard::Quiet,
     }
 }
 
 /// The book of a flow whose word is complete.
-fn closed(cell: Cell) -> Book
+fn whole_book(cell: Cell) -> Book
     requires { IsComplete cell }
     ensures case { result.case ≡ cell.case }
+    ensures flow { flow_of result ≡ cell }
     ensures whole { IsWhole result }
 {
     cell.finish()

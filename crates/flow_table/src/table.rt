@@ -3,8 +3,8 @@ ghost use Rattle.std.specs.Prelude.{◌≡◌, ◌<◌, ◌≤◌, length, map, 
 ghost use Rattle.ccp_base.specs.Limits.{most_flows};
 
 use crate::flow::LockedFlow;
+use crate::guarded_flow::GuardedFlow;
 use crate::held::Held;
-use crate::locked::Locked;
 use ccp_base::{NoMemory, Sequence};
 use std::alloc::Global;
 use std::marker::Model;
@@ -13,7 +13,7 @@ use std::sync::{Mutex, Wait};
 /// Flows, a flow a case, each behind a lock of its own. Contracts see the list of the cases.
 #[derive(Drop)]
 pub struct FlowTable<F: LockedFlow> {
-    flows: Vec<Locked<F>>,
+    flows: Vec<GuardedFlow<F>>,
 }
 
 impl<F: LockedFlow> Model for FlowTable<F> {
@@ -37,7 +37,7 @@ impl<F: LockedFlow> FlowTable<F> {
         let mut flows = Vec::new(alloc);
         while !left.is_empty() {
             let case = left.remove(0);
-            flows.push(Locked::open(alloc, case)?)?;
+            flows.push(GuardedFlow::open(alloc, case)?)?;
         }
         Ok(FlowTable { flows })
     }

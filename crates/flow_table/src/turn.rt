@@ -14,7 +14,7 @@ use std::sync::ledger::Ledger;
 
 /// Makes one letter of a word that isn't complete: the answer to the ticket that is out, or else a taking, or else an
 /// acknowledgement.
-pub(crate) fn next<L: Ledger>(
+pub(crate) fn make_letter<L: Ledger>(
     alloc: Global,
     cell: &mut Cell,
     steps: &mut Steps<L>,
@@ -30,7 +30,7 @@ pub(crate) fn next<L: Ledger>(
     if take(alloc, cell)? {
         return Ok(());
     }
-    hear(cell, steps);
+    acknowledge(cell, steps);
     Ok(())
 }
 
@@ -61,7 +61,7 @@ fn take(alloc: Global, cell: &mut Cell) -> Result<bool, NoMemory>
 }
 
 /// Takes the next acknowledgement.
-fn hear<L: Ledger>(cell: &mut Cell, steps: &mut Steps<L>)
+fn acknowledge<L: Ledger>(cell: &mut Cell, steps: &mut Steps<L>)
     requires acks { length (world_at cell.old).acks < cell.old.case.acks }
     requires still { (out_at cell.old ≡ None) × (can_take (world_at cell.old) ≡ false) }
     ensures nearer { IsNearer cell.old cell.new }

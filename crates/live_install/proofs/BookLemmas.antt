@@ -9,7 +9,7 @@ use Rattle.ccp_base.specs.Text.{◌⧺◌}
 use Rattle.flow_core.specs.declared.book.EpochLine.{EpochLine}
 use Rattle.flow_core.specs.Books.{epoch_line}
 use Rattle.flow_core.specs.World.{Failure}
-use Rattle.scenario_json.specs.ScenePrograms.{TextReading}
+use Rattle.portus_build.specs.TextReadings.{TextReading}
 use Rattle.live_install.specs.declared.book.OpenBook.{OpenBook}
 use Rattle.live_install.specs.BuiltTexts.{EntryState}
 use Rattle.live_install.specs.Entries.{place_at}

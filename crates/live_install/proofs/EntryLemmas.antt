@@ -7,8 +7,8 @@ use Rattle.portus_build.specs.Settled.{IsSettled}
 use Rattle.portus_build.specs.Texts.{IsNoProgram, IsBuiltFrom}
 use Rattle.portus_build.specs.declared.fault.BuildFault.{BuildFault}
 use Rattle.portus_build.specs.declared.fault.BuildFault.TheVariants.{NoMemory}
-use Rattle.scenario_json.specs.ScenePrograms.{TextReading, ReadsTexts}
-use Rattle.scenario_json.proofs.ReadingLemmas.{some_reading, read_ok, read_err}
+use Rattle.portus_build.specs.TextReadings.{TextReading, ReadsTexts}
+use Rattle.portus_build.proofs.ReadingLemmas.{some_reading, read_ok, read_err}
 use Rattle.live_install.specs.BuiltTexts.{is_no_memory, IsEntry}
 
 pub is_entry : (text : List ℕ) → IsSettled text → (answer : Result Built BuildFault) → IfErr answer (λ e. is_no_memory e ≡ false)

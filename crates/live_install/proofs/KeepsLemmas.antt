@@ -25,7 +25,7 @@ use Rattle.flow_core.specs.Roomy.{RoomyState}
 use Rattle.flow_core.specs.World.{Failure, with_event, failures_met}
 use Rattle.flow_core.specs.Books.{epoch_line}
 use Rattle.flow_core.proofs.SimulatedEpochs.{IsEnvOf-after, declared-simulated}
-use Rattle.scenario_json.specs.ScenePrograms.{TextReading}
+use Rattle.portus_build.specs.TextReadings.{TextReading}
 use Rattle.live_install.specs.declared.account.Account.{Account}
 use Rattle.live_install.specs.declared.entry.Entry.{Entry}
 use Rattle.live_install.specs.Accounts.{reporter, met_in, Heard}

@@ -2,8 +2,8 @@
 use Rattle.std.specs.Prelude.{◌≡◌, Bool, ◌&&◌, List, [], ◌∷◌, ◌++◌, refl}
 use Rattle.std.proofs.Common.{ap, sym, ◌∙◌}
 use Rattle.std.proofs.Math.Bool.{and_assoc, and-true}
-use Rattle.scenario_json.specs.ScenePrograms.{TextReading}
-use Rattle.scenario_json.specs.declared.open_case.OpenCase.{OpenCase}
+use Rattle.portus_build.specs.TextReadings.{TextReading}
+use Rattle.scene_members.specs.declared.open_case.OpenCase.{OpenCase}
 use Rattle.live_install.specs.declared.letter.OpenLetter.{OpenLetter}
 use Rattle.live_install.specs.OpenWorld.{OpenWorld, opening}
 use Rattle.live_install.specs.OpenWords.{after_letter, world_from, install_world, is_legal, legal_from, legal}

@@ -11,5 +11,10 @@ pub mod OpeningLemmas
 pub mod StopLemmas
 pub mod BookLemmas
 pub mod TurnLemmas
+pub mod CountLemmas
+pub mod DigitLemmas
+pub mod WorldCountLemmas
+pub mod ShownLemmas
+pub mod WordsShownLemmas
 pub mod WholeLemmas
 pub mod SendLemmas

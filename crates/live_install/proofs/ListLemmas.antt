@@ -1,5 +1,5 @@
 -- Lists that go on.
-use Rattle.std.specs.Prelude.{◌≡◌, ℕ, ◌+◌, ◌<◌, zero, suc, Some, List, [], ◌∷◌, ◌++◌, length, slice_get, refl}
+use Rattle.std.specs.Prelude.{◌≡◌, ℕ, ◌+◌, ◌<◌, zero, suc, List, [], ◌∷◌, ◌++◌, length, slice_get, refl}
 use Rattle.std.proofs.Common.{◌∙◌, arith}
 use Rattle.ccp_base.specs.declared.ack.Ack.{Ack}
 use Rattle.flow_core.specs.World.{time_of}
@@ -11,10 +11,6 @@ pub slice_get-front : {X : Type 0} (xs more : List X) (i : ℕ) → i < length x
 slice_get-front [] more i within = absurd (omega (arith, within))
 slice_get-front (x ∷ xs) more zero within = refl
 slice_get-front (x ∷ xs) more (suc i) within = slice_get-front xs more i (omega (arith, within))
-
-pub slice_get-last : {X : Type 0} (xs : List X) (x : X) → slice_get (xs ++ x ∷ []) (length xs) ≡ Some x
-slice_get-last [] x = refl
-slice_get-last (y ∷ xs) x = slice_get-last xs x
 
 -- the time is that of the last acknowledgement
 pub time-push : (acks : List Ack) (ack : Ack) → time_of (acks ++ ack ∷ []) ≡ ack.now

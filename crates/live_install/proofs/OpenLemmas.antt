@@ -17,8 +17,8 @@ use Rattle.link_model.specs.Standing.{LinkState, Stands}
 use Rattle.flow_core.specs.declared.book.EpochLine.{EpochLine}
 use Rattle.flow_core.specs.Roomy.{RoomyState}
 use Rattle.flow_core.specs.Cores.{ran_by}
-use Rattle.scenario_json.specs.ScenePrograms.{TextReading, ReadsTexts}
-use Rattle.scenario_json.proofs.ReadingLemmas.{some_reading}
+use Rattle.portus_build.specs.TextReadings.{TextReading, ReadsTexts}
+use Rattle.portus_build.proofs.ReadingLemmas.{some_reading}
 use Rattle.live_install.specs.declared.account.Account.{Account}
 use Rattle.live_install.specs.declared.entry.Entry.{Entry}
 use Rattle.live_install.specs.declared.letter.OpenLetter.{OpenLetter}

@@ -1,6 +1,6 @@
 -- A table of flows may be shared by threads.
 use denote.Struct.Declared.{shape}
-use denote.Param.Send.{IsSend, IsSync, recorded_send, struct_send, sendable}
+use denote.Param.Send.{IsSend, recorded_send, struct_send, sendable}
 use Rattle.std.proofs.Crossing.{crosses}
 use Rattle.portus_core.proofs.program.Expr.TheLaws.TheKnot as knot
 use Rattle.portus_core.specs.contracts.program.Cmd as Cmd
@@ -9,7 +9,7 @@ use Rattle.portus_core.specs.contracts.program.Program as Program
 use Rattle.reg_code.specs.contracts.checked.Checked as Checked
 use Rattle.reg_code.specs.contracts.packed.Packed as Packed
 use Rattle.reg_compiler.specs.contracts.built.Built as Built
-use Rattle.scenario_json.specs.contracts.open_case.OpenCase as Case
+use Rattle.scene_members.specs.contracts.open_case.OpenCase as Case
 use Rattle.fold_machine.specs.contracts.machine.Machine as Machine
 use Rattle.link_model.specs.contracts.link.Link as Link
 use Rattle.link_model.proofs.link.Link.TheSendSync as link
@@ -38,9 +38,6 @@ built-send =
 
 entry-send : IsSend Entry.the_row
 entry-send = search (built-send, crosses, knot.crosses, sendable) depth 60 fits 20000
-
-pub case-sync : IsSync Case.the_row
-case-sync = search (crosses, sendable) depth 60 fits 20000
 
 machine-send : IsSend Machine.the_row
 machine-send = search (crosses, sendable) depth 60 fits 20000

@@ -13,8 +13,8 @@ use Rattle.portus_core.specs.Programs.{Form}
 use Rattle.portus_core.specs.Value.{Cause}
 use Rattle.portus_core.proofs.EventLaws.{after-append}
 use Rattle.flow_core.specs.World.{Failure, Era, failures_met}
-use Rattle.scenario_json.specs.declared.open_case.OpenCase.{OpenCase}
-use Rattle.scenario_json.specs.ScenePrograms.{TextReading}
+use Rattle.scene_members.specs.declared.open_case.OpenCase.{OpenCase}
+use Rattle.portus_build.specs.TextReadings.{TextReading}
 use Rattle.live_install.specs.declared.letter.OpenLetter.{OpenLetter}
 use Rattle.live_install.specs.declared.letter.OpenLetter.TheVariants.{A, I, G}
 use Rattle.live_install.specs.OpenWorld.{Running, OpenWorld, opening, track_of, track_in, track_now, run_in, with_entry, eras_in, eras_of, next_of, with_next, cwnd_of}

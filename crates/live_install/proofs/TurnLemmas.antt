@@ -2,8 +2,8 @@
 use Rattle.std.specs.Prelude.{◌≡◌, ◌≤◌, ◌<◌, Bool, true, false, not, is_some, ◌&&◌, Option, Some, None, option_map, List, [], ◌∷◌, ◌++◌, ℕ, ◌+◌, ◌-◌, length, refl}
 use Rattle.std.proofs.Common.{arith, ap, sym, ◌∙◌, length-append}
 use Rattle.portus_core.specs.Programs.{Form}
-use Rattle.scenario_json.specs.ScenePrograms.{TextReading, ReadsTexts}
-use Rattle.scenario_json.proofs.ReadingLemmas.{some_reading}
+use Rattle.portus_build.specs.TextReadings.{TextReading, ReadsTexts}
+use Rattle.portus_build.proofs.ReadingLemmas.{some_reading}
 use Rattle.live_install.specs.declared.letter.OpenLetter.{OpenLetter}
 use Rattle.live_install.specs.declared.letter.OpenLetter.TheVariants as letters
 use Rattle.live_install.specs.OpenCells.{OpenState, is_legal_at, most_letters}

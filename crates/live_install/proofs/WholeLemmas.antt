@@ -2,8 +2,8 @@
 use Rattle.std.specs.Prelude.{◌≡◌, true, List, Result, Ok, Err, IfOk}
 use Rattle.std.specs.List.{All}
 use Rattle.std.proofs.Common.{sym, subst}
-use Rattle.scenario_json.specs.declared.open_case.OpenCase.{OpenCase}
-use Rattle.scenario_json.specs.ScenePrograms.{TextReading, ReadsTexts}
+use Rattle.scene_members.specs.declared.open_case.OpenCase.{OpenCase}
+use Rattle.portus_build.specs.TextReadings.{TextReading, ReadsTexts}
 use Rattle.live_install.specs.declared.book.OpenBook.{OpenBook}
 use Rattle.live_install.specs.declared.letter.OpenLetter.{OpenLetter}
 use Rattle.live_install.specs.OpenWords.{install_world, legal, is_complete}

@@ -5,7 +5,7 @@ use Rattle.reg_compiler.specs.declared.built.Built.{Built}
 use Rattle.portus_build.specs.declared.fault.BuildFault.{BuildFault}
 use Rattle.portus_build.specs.declared.fault.BuildFault.TheVariants.{NoMemory, Parse, Scope, Compile}
 use Rattle.portus_build.specs.Settled.{is_want_of_memory}
-use Rattle.scenario_json.specs.ScenePrograms.{TextReading, ReadsTexts}
+use Rattle.portus_build.specs.TextReadings.{TextReading, ReadsTexts}
 use Rattle.live_install.specs.OpenWorld.{Installed}
 
 -- the program of what was built, or the refusal

@@ -10,6 +10,8 @@ pub mod States
 pub mod Openings
 pub mod RolloutText
 pub mod WholeBooks
+pub mod WordsShown
 pub mod BookText
 pub mod Crews
 pub mod NextLetter
+pub mod Hearings

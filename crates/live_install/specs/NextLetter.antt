@@ -1,6 +1,6 @@
 -- Which letter the caller makes next of a flow whose word isn't complete.
 use Rattle.std.specs.Prelude.{◌≡◌, ℕ, ◌-◌, ◌≤◌, Bool, true, false, [], ◌∷◌, ◌++◌, length}
-use Rattle.scenario_json.specs.ScenePrograms.{TextReading, ReadsTexts}
+use Rattle.portus_build.specs.TextReadings.{TextReading, ReadsTexts}
 use Rattle.live_install.specs.declared.letter.OpenLetter.{OpenLetter}
 use Rattle.live_install.specs.declared.letter.OpenLetter.TheVariants as letters
 use Rattle.live_install.specs.OpenCells.{OpenState, is_legal_at, most_letters}

@@ -1,8 +1,8 @@
 -- The history of a flow of a rollout as a word, and the states that words come to.
 use Rattle.std.specs.Prelude.{Bool, true, not, ◌&&◌, nat_lt, is_some, List, [], ◌∷◌, length}
 use Rattle.link_model.specs.Link.{ack_after}
-use Rattle.scenario_json.specs.ScenePrograms.{TextReading}
-use Rattle.scenario_json.specs.declared.open_case.OpenCase.{OpenCase}
+use Rattle.portus_build.specs.TextReadings.{TextReading}
+use Rattle.scene_members.specs.declared.open_case.OpenCase.{OpenCase}
 use Rattle.ccp_base.specs.declared.ack.Ack.{Ack}
 use Rattle.live_install.specs.declared.letter.OpenLetter.{OpenLetter}
 use Rattle.live_install.specs.declared.letter.OpenLetter.TheVariants.{A, I, G}

@@ -9,8 +9,8 @@ use Rattle.portus_core.specs.Value.{Cause}
 use Rattle.portus_core.specs.Epoch.{acknowledged, Outcome, Track, track_at, by_source, declared_env, heard, after}
 use Rattle.portus_core.specs.Reports.{reports_met}
 use Rattle.portus_build.specs.declared.fault.BuildFault.{BuildFault}
-use Rattle.scenario_json.specs.ScenePrograms.{TextReading}
-use Rattle.scenario_json.specs.declared.open_case.OpenCase.{OpenCase}
+use Rattle.portus_build.specs.TextReadings.{TextReading}
+use Rattle.scene_members.specs.declared.open_case.OpenCase.{OpenCase}
 use Rattle.flow_core.specs.World.{Failure, Era, with_event, time_of, failures_met}
 
 -- an entry of the flow's library: the program that a step's text stands for, or the text's refusal

@@ -2,7 +2,7 @@
 use Rattle.std.specs.Prelude.{◌≡◌, ◌+◌, ◌*◌, ◌≤◌, [], length}
 use Rattle.fold_machine.specs.MachineState.{fresh_machine}
 use Rattle.link_model.specs.Standing.{Stands}
-use Rattle.scenario_json.specs.declared.open_case.OpenCase.{OpenCase}
+use Rattle.scene_members.specs.declared.open_case.OpenCase.{OpenCase}
 use Rattle.live_install.specs.declared.opening.Opening.{Opening}
 
 -- what a flow of the case has before its first letter: a link without a call, a machine that runs nothing, and lists

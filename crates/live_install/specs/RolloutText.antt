@@ -14,8 +14,8 @@ use Rattle.report_lines.specs.EndLine.{end_head, end_tail}
 use Rattle.flow_core.specs.declared.book.EpochLine.{EpochLine}
 use Rattle.flow_core.specs.World.{Failure}
 use Rattle.flow_core.specs.Books.{epoch_line}
-use Rattle.scenario_json.specs.declared.open_case.OpenCase.{OpenCase}
-use Rattle.scenario_json.specs.ScenePrograms.{TextReading}
+use Rattle.scene_members.specs.declared.open_case.OpenCase.{OpenCase}
+use Rattle.portus_build.specs.TextReadings.{TextReading}
 use Rattle.live_install.specs.declared.letter.OpenLetter.{OpenLetter}
 use Rattle.live_install.specs.OpenWorld.{Installed, OpenWorld, eras_of, track_now}
 use Rattle.live_install.specs.OpenWords.{install_world}

@@ -10,7 +10,7 @@ use Rattle.link_model.specs.Standing.{Stands}
 use Rattle.flow_core.specs.Readings.{env_of}
 use Rattle.flow_core.specs.World.{Era, time_of}
 use Rattle.flow_core.specs.Books.{epoch_line}
-use Rattle.scenario_json.specs.ScenePrograms.{TextReading, ReadsTexts}
+use Rattle.portus_build.specs.TextReadings.{TextReading, ReadsTexts}
 use Rattle.live_install.specs.declared.entry.Entry.{Entry}
 use Rattle.live_install.specs.declared.state.State.{State}
 use Rattle.live_install.specs.declared.account.Turn.{Turn}

@@ -1,7 +1,7 @@
 -- What a book of a rollout is: it tells what a legal and complete word of its case came to.
 use Rattle.std.specs.Prelude.{◌≡◌, true, List, map}
-use Rattle.scenario_json.specs.declared.open_case.OpenCase.{OpenCase}
-use Rattle.scenario_json.specs.ScenePrograms.{TextReading}
+use Rattle.scene_members.specs.declared.open_case.OpenCase.{OpenCase}
+use Rattle.portus_build.specs.TextReadings.{TextReading}
 use Rattle.live_install.specs.declared.book.OpenBook.{OpenBook}
 use Rattle.live_install.specs.declared.letter.OpenLetter.{OpenLetter}
 use Rattle.live_install.specs.OpenWords.{install_world, legal, is_complete}
@@ -27,6 +27,10 @@ IsRightBook read book = IsOpenBookOf (install_world read book.case book.word) bo
 pub record IsWhole (read : TextReading) (book : OpenBook) : Type 0 where
   pub history : IsHistory read (flow_of book)
   pub right : IsRightBook read book
+
+-- the flow whose history a book tells
+abbrev pub state_of : OpenBook → OpenState
+state_of book = record { case = book.case; entries = book.entries; word = book.word }
 
 abbrev pub case_in : OpenBook → OpenCase
 case_in book = book.case

@@ -49,20 +49,20 @@ pub(crate) fn run<L: Ledger>(
 
 impl Account {
     /// Puts down what an acknowledgement came to, by the machine's answer.
-    pub(crate) fn put_down(&mut self, turn: Turn, machine: &Machine, ack: &Ack, acked: Acked)
+    pub(crate) fn record_outcome(&mut self, turn: Turn, machine: &Machine, ack: &Ack, acked: Acked)
         requires reports { length self.old.reports.items < self.old.reports.room }
         requires faults { HasPlaceFor acked self.old }
         ensures { PutDown turn self.old self.new ack.entry.now (met_as acked machine.now) }
     {
         match acked {
             Acked::Quiet | Acked::Held | Acked::Stopped => {}
-            Acked::Reported => self.put_down_report(turn, machine, ack),
-            Acked::Faulted(kind, index) => self.put_down_fault(turn, machine, ack, kind, index),
+            Acked::Reported => self.record_report(turn, machine, ack),
+            Acked::Faulted(kind, index) => self.record_fault(turn, machine, ack, kind, index),
         }
     }
 
     /// Puts down the report that the machine made.
-    fn put_down_report(&mut self, turn: Turn, machine: &Machine, ack: &Ack)
+    fn record_report(&mut self, turn: Turn, machine: &Machine, ack: &Ack)
         requires { length self.old.reports.items < self.old.reports.room }
         ensures { PutDown turn self.old self.new ack.entry.now (reported machine.now.report, env_of machine.now.kept) }
     {
@@ -83,7 +83,7 @@ impl Account {
     }
 
     /// Puts down a fault of this kind at the instruction with this index.
-    fn put_down_fault(
+    fn record_fault(
         &mut self,
         turn: Turn,
         machine: &Machine,

@@ -4,7 +4,7 @@ use crate::letter::OpenWord;
 use ccp_base::{Notice, Reports, Sequence};
 use flow_core::EpochLine;
 use fold_machine::Machine;
-use scenario_json::OpenCase;
+use scene_members::OpenCase;
 
 /// What the history of a flow of a rollout came to.
 #[derive(Drop)]

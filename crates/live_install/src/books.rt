@@ -1,9 +1,11 @@
 //! The books of a rollout's flows, made once the work of each of their workers is done.
 ghost use Rattle.std.specs.Prelude.{◌≡◌, map, IfOk, length};
 ghost use Rattle.std.specs.List.{All};
-ghost use Rattle.scenario_json.specs.ScenePrograms.{TextReading, ReadsTexts};
+ghost use Rattle.portus_build.specs.TextReadings.{TextReading, ReadsTexts};
+ghost use Rattle.flow_table.specs.Led.{AreLedTo};
 ghost use Rattle.live_install.specs.Crews.{HasWorked};
-ghost use Rattle.live_install.specs.WholeBooks.{IsWhole, case_in, case_of};
+ghost use Rattle.live_install.specs.NextLetter.{HasNext};
+ghost use Rattle.live_install.specs.WholeBooks.{IsWhole, case_in, case_of, state_of};
 
 use crate::OpenBooks;
 use crate::cell::OpenCell;
@@ -12,7 +14,8 @@ use ccp_base::{NoMemory, Sequence};
 use flow_table::make_books;
 use std::alloc::Global;
 
-/// The books of flows, in order, once the work of each of their workers is done.
+/// The books of flows, in order, once the work of each of their workers is done: each tells the history that the workers
+/// left, with the caller's letters after it.
 pub(crate) fn books(
     alloc: Global,
     cells: Sequence<OpenCell>,
@@ -22,6 +25,7 @@ pub(crate) fn books(
 ) -> Result<OpenBooks, NoMemory>
     requires { HasWorked crew datapaths agents (length (map case_of cells)) }
     ensures cases { IfOk result (λ books. map case_in books ≡ map case_of cells) }
+    ensures led { IfOk result (λ books. AreLedTo HasNext cells (map state_of books)) }
     ensures whole { (read : TextReading) → ReadsTexts read → IfOk result (λ books. All (IsWhole read) books) }
 {
     drop(crew);

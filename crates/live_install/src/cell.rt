@@ -1,7 +1,7 @@
 //! A flow of a rollout: acknowledgements, installed entries and changes, each a letter of its word.
 ghost use Rattle.std.specs.Prelude.{◌≡◌, ◌+◌, ◌≤◌, ◌↔◌, ◌∷◌, [], ◌++◌, true, Some, None, slice_get, length, map};
 ghost use Rattle.std.specs.Prelude.{IsTrue, IsOk, IsErr, IfOk, IfErr, OnOk, OnErr};
-ghost use Rattle.scenario_json.specs.ScenePrograms.{TextReading, ReadsTexts};
+ghost use Rattle.portus_build.specs.TextReadings.{TextReading, ReadsTexts};
 ghost use Rattle.live_install.specs.OpenWords.{legal, is_complete};
 ghost use Rattle.live_install.specs.Entries.{installed_of};
 ghost use Rattle.live_install.specs.OpenBooks.{IsOpenBookOf};
@@ -16,7 +16,7 @@ use crate::state::State;
 use ccp_base::{Bytes, NoMemory};
 use flow_core::Ended;
 use fold_machine::{Acked, Steps};
-use scenario_json::OpenCase;
+use scene_members::OpenCase;
 use std::alloc::Global;
 use std::marker::Model;
 use std::sync::ledger::Ledger;

@@ -1,6 +1,6 @@
 //! The entries of a flow's library: a step's text with its program and code, or with its refusal.
 ghost use Rattle.std.specs.Prelude.{◌≡◌, false, IfOk, option_copied};
-ghost use Rattle.scenario_json.specs.ScenePrograms.{TextReading, ReadsTexts};
+ghost use Rattle.portus_build.specs.TextReadings.{TextReading, ReadsTexts};
 ghost use Rattle.live_install.specs.BuiltTexts.{is_accepted, is_no_memory, is_wanting, Answers, IsEntry, built_of};
 
 use ccp_base::{Bytes, NoMemory, Sequence};

@@ -5,7 +5,7 @@ ghost use Rattle.ccp_base.specs.Limits.{most_workers};
 ghost use Rattle.live_install.specs.Crews.{install_duty_of, install_duty, install_duties};
 
 use crate::cell::OpenCell;
-use crate::installer::equip;
+use crate::installer::run_installer;
 use ccp_base::{Gate, NoMemory};
 use flow_table::{FlowTable, Workers};
 use std::alloc::Global;
@@ -66,11 +66,11 @@ fn begin<'s, 'e, R: Threads + Wait + Sync, G: Gate + Sync>(
         move || -> Equipped
             requires { agent < most_workers }
             ensures { result ≡ install_duty workers.datapaths workers.agents (length table.entry.now) agent }
-        { equip(rt, alloc, table, workers, agent, gate) },
+        { run_installer(rt, alloc, table, workers, agent, gate) },
     );
     match started {
         Ok(handle) => Equipping::Thread(handle),
-        Err(_) => Equipping::Here(equip(rt, alloc, table, workers, agent, gate)),
+        Err(_) => Equipping::Here(run_installer(rt, alloc, table, workers, agent, gate)),
     }
 }
 

@@ -1,6 +1,6 @@
 //! An acknowledgement: it is counted, and run where a program runs.
 ghost use Rattle.std.specs.Prelude.{◌≡◌, ◌+◌, ◌<◌, Some, None, option_copied, ◌∷◌, [], ◌++◌};
-ghost use Rattle.scenario_json.specs.ScenePrograms.{TextReading, ReadsTexts};
+ghost use Rattle.portus_build.specs.TextReadings.{TextReading, ReadsTexts};
 ghost use Rattle.live_install.specs.Entries.{built_at};
 ghost use Rattle.live_install.specs.OpenCells.{ran_at, Answered};
 ghost use Rattle.live_install.specs.States.{cell_of, world_of, step_in, IsOpen};
@@ -94,7 +94,8 @@ impl State {
             unreachable!()
         };
         let acked = run(&mut self.machine, &built.code, &ack, steps);
-        self.account.put_down(turn, &self.machine, &ack, acked);
+        self.account
+            .record_outcome(turn, &self.machine, &ack, acked);
         self.acks += 1;
         self.time = ack.now;
         self.word.push(OpenLetter::A);

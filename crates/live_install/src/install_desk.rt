@@ -7,7 +7,7 @@ use crate::cell::OpenCell;
 use crate::entry::Entry;
 use ccp_base::{Gate, Point};
 use flow_table::{FlowTable, Held};
-use scenario_json::OpenCase;
+use scene_members::OpenCase;
 use std::alloc::Global;
 use std::sync::Wait;
 

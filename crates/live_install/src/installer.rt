@@ -12,7 +12,7 @@ use std::sync::Wait;
 use worker_desk::Equipped;
 
 /// The work of an installer of a rollout.
-pub(crate) fn equip<R: Wait, G: Gate>(
+pub(crate) fn run_installer<R: Wait, G: Gate>(
     rt: &R,
     alloc: Global,
     table: &FlowTable<OpenCell>,
@@ -31,5 +31,5 @@ pub(crate) fn equip<R: Wait, G: Gate>(
         held: None,
     };
     let worker = workers.datapaths + agent;
-    worker_desk::equip(&mut desk, worker, agent, workers.agents)
+    worker_desk::run_installer(&mut desk, worker, agent, workers.agents)
 }

@@ -12,11 +12,11 @@ use ccp_base::NoMemory;
 use flow_core::{EpochLine, Roomy};
 use fold_machine::Machine;
 use link_model::{Link, LinkCase};
-use scenario_json::OpenCase;
+use scene_members::OpenCase;
 use std::alloc::Global;
 
 /// A link of this case to which no window was given yet.
-fn opened_link(alloc: Global, case: &LinkCase) -> Result<Link, NoMemory>
+fn fresh_link(alloc: Global, case: &LinkCase) -> Result<Link, NoMemory>
     ensures case { IfOk result (λ link. link.case ≡ case.now) }
     ensures stands { IfOk result (λ link. Stands link []) }
     ensures calls { IfOk result (λ link. link.standing.calls ≡ 0) }
@@ -26,7 +26,7 @@ fn opened_link(alloc: Global, case: &LinkCase) -> Result<Link, NoMemory>
 }
 
 /// No report and no fault, with room for a report of each acknowledgement and a fault of each step.
-fn opened_account(alloc: Global, acks: usize, steps: usize) -> Result<Account, NoMemory>
+fn fresh_account(alloc: Global, acks: usize, steps: usize) -> Result<Account, NoMemory>
     ensures first { IfOk result (λ account. account.first ≡ 0) }
     ensures reports { IfOk result (λ account. (account.reports.items ≡ []) × (acks ≤ account.reports.room)) }
     ensures faults { IfOk result (λ account. (account.faults.items ≡ []) × (steps ≤ account.faults.room)) }
@@ -40,9 +40,9 @@ fn opened_account(alloc: Global, acks: usize, steps: usize) -> Result<Account, N
     })
 }
 
-/// No entry, number of acknowledgements before one, and epoch, with room for one of each step; no letter, with room
-/// for so many.
-fn rooms(
+/// Lists without an entry, a number of acknowledgements before one, an epoch or a letter, with room for one of each step
+/// and for this many letters.
+fn reserve_lists(
     alloc: Global,
     steps: usize,
     letters: usize,
@@ -86,10 +86,10 @@ impl Opening {
     {
         let acks = case.acks as usize;
         let steps = case.steps.len();
-        let (entries, installed, epochs, word) = rooms(alloc, steps, acks + 2 * steps)?;
-        let account = opened_account(alloc, acks, steps)?;
+        let (entries, installed, epochs, word) = reserve_lists(alloc, steps, acks + 2 * steps)?;
+        let account = fresh_account(alloc, acks, steps)?;
         let machine = Machine::new(alloc, case.cwnd, 0)?;
-        let link = opened_link(alloc, &case.link)?;
+        let link = fresh_link(alloc, &case.link)?;
         Ok(Opening {
             link,
             machine,

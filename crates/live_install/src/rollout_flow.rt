@@ -1,28 +1,29 @@
 //! A flow of a rollout, as its table and its workers see it.
 
 ghost use Rattle.std.specs.Prelude.{◌≡◌, ◌↔◌, ◌<◌, true, false, IsTrue, IfOk, OnOk};
-ghost use Rattle.scenario_json.specs.ScenePrograms.{TextReading, ReadsTexts};
+ghost use Rattle.portus_build.specs.TextReadings.{TextReading, ReadsTexts};
 ghost use Rattle.live_install.specs.OpenCells.{IsComplete};
-ghost use Rattle.live_install.specs.WholeBooks.{IsWhole};
+ghost use Rattle.live_install.specs.WholeBooks.{IsWhole, state_of};
 
 use crate::book::OpenBook;
 use crate::cell::OpenCell;
-use crate::turn::next;
+use crate::turn::make_letter;
 use ccp_base::NoMemory;
 use flow_table::LockedFlow;
 use fold_machine::Steps;
-use scenario_json::OpenCase;
+use scene_members::OpenCase;
 use std::alloc::Global;
 use std::sync::ledger::Ledger;
 use worker_desk::Heard;
 
 impl LockedFlow for OpenCell {
-    ghost use Rattle.std.specs.Prelude.{◌≡◌, false};
-    ghost use Rattle.scenario_json.specs.ScenePrograms.{TextReading, ReadsTexts};
+    ghost use Rattle.std.specs.Prelude.{◌≡◌, false, []};
+    ghost use Rattle.portus_build.specs.TextReadings.{TextReading, ReadsTexts};
     ghost use Rattle.live_install.specs.OpenWords.{is_complete};
     ghost use Rattle.live_install.specs.OpenCells.{world_at, IsComplete};
     ghost use Rattle.live_install.specs.NextLetter.{HasNext, letters_left};
-    ghost use Rattle.live_install.specs.WholeBooks.{IsWhole};
+    ghost use Rattle.live_install.specs.Hearings.{hearing_at};
+    ghost use Rattle.live_install.specs.WholeBooks.{IsWhole, state_of};
 
     type Case = OpenCase;
 
@@ -31,6 +32,12 @@ impl LockedFlow for OpenCell {
     ghost case_of = { λ cell. cell.case };
 
     ghost case_in = { λ book. book.case };
+
+    ghost fresh = { λ case. record { case = case; entries = []; word = [] } };
+
+    ghost flow_in = { λ book. state_of book };
+
+    ghost HasHeard = { λ old new heard. (read : TextReading) → ReadsTexts read → (new, heard) ≡ hearing_at read old };
 
     ghost IsDone = { λ cell. (read : TextReading) → ReadsTexts read → IsComplete read cell };
 
@@ -71,18 +78,19 @@ impl LockedFlow for OpenCell {
         alloc: Global,
         steps: &mut Steps<L>,
     ) -> Result<(), NoMemory> {
-        next(alloc, self, steps)
+        make_letter(alloc, self, steps)
     }
 
     fn finish(self) -> OpenBook {
-        closed(self)
+        whole_book(self)
     }
 }
 
 /// The book of a flow whose word is complete.
-fn closed(cell: OpenCell) -> OpenBook
+fn whole_book(cell: OpenCell) -> OpenBook
     requires { (read : TextReading) → ReadsTexts read → IsComplete read cell }
     ensures case { result.case ≡ cell.case }
+    ensures flow { state_of result ≡ cell }
     ensures whole { (read : TextReading) → ReadsTexts read → IsWhole read result }
 {
     cell.finish()

@@ -2,7 +2,7 @@
 ghost use Rattle.std.specs.Prelude.{◌≡◌, ◌≤◌, IfOk, length, map};
 ghost use Rattle.std.specs.List.{All};
 ghost use Rattle.ccp_base.specs.Limits.{most_flows, most_workers};
-ghost use Rattle.scenario_json.specs.ScenePrograms.{TextReading, ReadsTexts};
+ghost use Rattle.portus_build.specs.TextReadings.{TextReading, ReadsTexts};
 ghost use Rattle.live_install.specs.WholeBooks.{IsWhole, case_in};
 
 use crate::OpenBooks;
@@ -10,7 +10,7 @@ use crate::books::books;
 use crate::workers::work;
 use ccp_base::{Gate, NoMemory};
 use flow_table::{FlowTable, Workers};
-use scenario_json::OpenCases;
+use scene_members::OpenCases;
 use std::alloc::Global;
 use std::sync::Wait;
 use std::thread::Threads;

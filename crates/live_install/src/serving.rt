@@ -5,7 +5,7 @@ ghost use Rattle.flow_table.specs.Duties.{duty_of, duty, duties};
 
 use crate::cell::OpenCell;
 use ccp_base::{Gate, NoMemory};
-use flow_table::{FlowTable, NoNudges, Serving, Workers, serve};
+use flow_table::{FlowTable, NoNudges, Serving, Workers, run_datapath_worker};
 use std::alloc::Global;
 use std::sync::Wait;
 use std::thread::{Scope, Threads};
@@ -51,10 +51,10 @@ fn begin<'s, 'e, R: Threads + Wait + Sync, G: Gate + Sync>(
         promise,
         move || -> Served
             ensures { result ≡ duty workers.datapaths (length table.entry.now) worker }
-        { serve(rt, table, workers, worker, &NoNudges, gate) },
+        { run_datapath_worker(rt, table, workers, worker, &NoNudges, gate) },
     );
     match started {
         Ok(handle) => Serving::Thread(handle),
-        Err(_) => Serving::Here(serve(rt, table, workers, worker, &NoNudges, gate)),
+        Err(_) => Serving::Here(run_datapath_worker(rt, table, workers, worker, &NoNudges, gate)),
     }
 }

@@ -5,7 +5,7 @@ use crate::letter::OpenLetter;
 use flow_core::{EpochLine, Roomy};
 use fold_machine::Machine;
 use link_model::Link;
-use scenario_json::OpenCase;
+use scene_members::OpenCase;
 
 /// All that a flow of a rollout keeps.
 #[derive(Drop)]

@@ -1,7 +1,7 @@
 //! The text of a rollout: for each flow its entries, changes, faults, reports and end.
 ghost use Rattle.std.specs.Prelude.{◌≡◌, ◌≤◌, ◌++◌, IfOk, OnOk, [], map};
 ghost use Rattle.std.specs.List.{All};
-ghost use Rattle.scenario_json.specs.ScenePrograms.{TextReading, ReadsTexts};
+ghost use Rattle.portus_build.specs.TextReadings.{TextReading, ReadsTexts};
 ghost use Rattle.live_install.specs.Entries.{installed_of, place_at};
 ghost use Rattle.live_install.specs.RolloutText.{fault_lines, fields_at, fields_of, flow_line, last_fields, last_line};
 ghost use Rattle.live_install.specs.RolloutText.{rollout_text, shown_lines};

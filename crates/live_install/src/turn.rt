@@ -1,6 +1,6 @@
 //! The next letter of an incomplete word of a rollout: a change, else the next entry, else an acknowledgement.
 ghost use Rattle.std.specs.Prelude.{◌≡◌, ◌<◌, Ok, Some, true, false, length, slice_get, IfOk, OnOk};
-ghost use Rattle.scenario_json.specs.ScenePrograms.{TextReading, ReadsTexts};
+ghost use Rattle.portus_build.specs.TextReadings.{TextReading, ReadsTexts};
 ghost use Rattle.live_install.specs.declared.letter.OpenLetter.TheVariants as letters;
 ghost use Rattle.live_install.specs.OpenWords.{is_complete};
 ghost use Rattle.live_install.specs.OpenCells.{world_at, is_legal_at};
@@ -10,12 +10,12 @@ use crate::cell::OpenCell;
 use crate::entry::Entry;
 use ccp_base::NoMemory;
 use fold_machine::Steps;
-use scenario_json::OpenCase;
+use scene_members::OpenCase;
 use std::alloc::Global;
 use std::sync::ledger::Ledger;
 
 /// Makes one letter of a word that isn't complete: a change, or else the next entry, or else an acknowledgement.
-pub(crate) fn next<L: Ledger>(
+pub(crate) fn make_letter<L: Ledger>(
     alloc: Global,
     cell: &mut OpenCell,
     steps: &mut Steps<L>,
@@ -30,7 +30,7 @@ pub(crate) fn next<L: Ledger>(
     if install(alloc, cell)? {
         return Ok(());
     }
-    hear(cell, steps);
+    acknowledge(cell, steps);
     Ok(())
 }
 
@@ -60,12 +60,12 @@ fn install(alloc: Global, cell: &mut OpenCell) -> Result<bool, NoMemory>
     if step >= cell.case().steps.len() {
         return Ok(false);
     }
-    put(alloc, cell, step as u32)?;
+    install_next(alloc, cell, step as u32)?;
     Ok(true)
 }
 
 /// Installs the entry of this step, which is the next one.
-fn put(alloc: Global, cell: &mut OpenCell, step: u32) -> Result<(), NoMemory>
+fn install_next(alloc: Global, cell: &mut OpenCell, step: u32) -> Result<(), NoMemory>
     requires next { step ≡ length cell.old.entries }
     requires more { step < length cell.old.case.steps }
     requires world { (read : TextReading) → ReadsTexts read → length (world_at read cell.old).entries ≡ step }
@@ -90,7 +90,7 @@ fn entry_of(alloc: Global, case: &OpenCase, step: u32) -> Result<Entry, NoMemory
 }
 
 /// Takes the next acknowledgement.
-fn hear<L: Ledger>(cell: &mut OpenCell, steps: &mut Steps<L>)
+fn acknowledge<L: Ledger>(cell: &mut OpenCell, steps: &mut Steps<L>)
     requires more { (read : TextReading) → ReadsTexts read → length (world_at read cell.old).acks < cell.old.case.acks }
     requires none { (read : TextReading) → ReadsTexts read
         → (is_legal_at read cell.old letters.G ≡ false) × (is_legal_at read cell.old letters.I ≡ false) }

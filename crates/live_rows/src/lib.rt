@@ -4,4 +4,6 @@
 #[cfg(test)]
 mod entries;
 #[cfg(test)]
+mod rollouts;
+#[cfg(test)]
 mod tables;

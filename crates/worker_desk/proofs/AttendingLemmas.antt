@@ -55,12 +55,6 @@ answered-then worker flow ticket answer old taken passed settled new same first 
           (subst (λ (t : Ticket). Logs passed settled (settling flow t)) same then) last));
     }
 
--- no ticket is taken
-pub nothing-then : (worker flow : ℕ) (old taken new : Known)
-    → Logs old taken (taking flow None) → Logs taken new (Passed worker AfterTake flow ∷ []) → Tends worker flow old new
-nothing-then worker flow old taken new first last =
-    record { taken = None; logs = Logs-append old taken new (taking flow None) (Passed worker AfterTake flow ∷ []) first last }
-
 -- an answer is settled under the lock
 pub settled-then : (flow : ℕ) (ticket : Ticket) (old locked settled new : Known) → Logs old locked (Locked flow ∷ [])
     → Logs locked settled (Settled flow ticket ∷ []) → Logs settled new (Unlocked flow ∷ []) → Logs old new (settling flow ticket)

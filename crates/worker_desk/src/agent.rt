@@ -11,7 +11,7 @@ use ccp_base::Point;
 
 /// The work of an agent worker: for each number that it receives a taking of that flow, until no more come. A number
 /// that isn't a flow's is ignored.
-pub fn attend<D: AgentDesk>(desk: &mut D, worker: u32) -> Attended
+pub fn run_agent_worker<D: AgentDesk>(desk: &mut D, worker: u32) -> Attended
     requires { D.held desk.old ≡ None }
     ensures attended { result ≡ record { worker = worker; flows = D.flows desk.old } }
     ensures attends { Attends worker (D.flows desk.old) (D.log desk.old) (D.log desk.new) }
@@ -19,7 +19,7 @@ pub fn attend<D: AgentDesk>(desk: &mut D, worker: u32) -> Attended
     let flows = desk.flow_count();
     while let Some(flow) = desk.receive() {
         if flow < flows {
-            tend(desk, worker, flow);
+            answer_one(desk, worker, flow);
         }
     }
     Attended {
@@ -28,7 +28,7 @@ pub fn attend<D: AgentDesk>(desk: &mut D, worker: u32) -> Attended
 }
 
 /// Takes a ticket of a flow, if there is one, and settles its answer, which is worked out while no lock is held.
-fn tend<D: AgentDesk>(desk: &mut D, worker: u32, flow: u32)
+fn answer_one<D: AgentDesk>(desk: &mut D, worker: u32, flow: u32)
     requires flow { flow < D.flows desk.old }
     requires free { D.held desk.old ≡ None }
     ensures tends { Tends worker flow (D.log desk.old) (D.log desk.new) }

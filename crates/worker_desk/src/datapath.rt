@@ -94,7 +94,7 @@ fn keep(row: &mut [u32; 64], count: usize, flow: u32, answer: Heard) -> usize
 
 /// The work of a datapath worker: the acknowledgements of the flows whose numbers leave the worker's when they are
 /// divided by the number of datapath workers, one of each in turn, until all of them are in.
-pub fn serve<D: Desk>(desk: &mut D, worker: u32, datapaths: u32) -> Served
+pub fn run_datapath_worker<D: Desk>(desk: &mut D, worker: u32, datapaths: u32) -> Served
     requires datapaths { 1 ≤ datapaths }
     requires free { D.held desk.old ≡ None }
     ensures served { result ≡ record { worker = worker; first = worker; workers = datapaths; flows = D.flows desk.old } }

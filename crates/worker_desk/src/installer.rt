@@ -15,7 +15,12 @@ const STEPS: u32 = 16;
 
 /// The work of an installer: the texts of the flows whose numbers leave `first` when they are divided by `workers`, one
 /// of each flow in turn, in the order of the steps.
-pub fn equip<D: InstallDesk>(desk: &mut D, worker: u32, first: u32, workers: u32) -> Equipped
+pub fn run_installer<D: InstallDesk>(
+    desk: &mut D,
+    worker: u32,
+    first: u32,
+    workers: u32,
+) -> Equipped
     requires workers { 1 ≤ workers }
     requires free { D.held desk.old ≡ None }
     ensures equipped { result ≡ record { worker = worker; first = first; workers = workers; flows = D.flows desk.old } }
@@ -24,7 +29,7 @@ pub fn equip<D: InstallDesk>(desk: &mut D, worker: u32, first: u32, workers: u32
     let flows = desk.flow_count();
     let (row, count) = row_of(flows, first, workers);
     for step in 0..STEPS {
-        equip_row(desk, worker, step, &row[..count]);
+        install_row(desk, worker, step, &row[..count]);
     }
     Equipped {
         duty: Duty {
@@ -37,7 +42,7 @@ pub fn equip<D: InstallDesk>(desk: &mut D, worker: u32, first: u32, workers: u32
 }
 
 /// One step of each flow of a row.
-fn equip_row<D: InstallDesk>(desk: &mut D, worker: u32, step: u32, row: &[u32])
+fn install_row<D: InstallDesk>(desk: &mut D, worker: u32, step: u32, row: &[u32])
     requires flows { (k : ℕ) → k < length row.now → slice_index row.now k < D.flows desk.old }
     requires free { D.held desk.old ≡ None }
     ensures equips { Equips worker (tasks_at step row.now) (D.log desk.old) (D.log desk.new) }
@@ -45,13 +50,13 @@ fn equip_row<D: InstallDesk>(desk: &mut D, worker: u32, step: u32, row: &[u32])
     ensures flows { D.flows desk.new ≡ D.flows desk.old }
 {
     for place in 0..row.len() {
-        equip_flow(desk, worker, row[place], step);
+        install_step(desk, worker, row[place], step);
     }
 }
 
 /// A step of a flow: builds its text while no lock is held, installs what came of it, and changes the flow to it where
 /// it is a program. A step for which memory runs out is left to the caller.
-fn equip_flow<D: InstallDesk>(desk: &mut D, worker: u32, flow: u32, step: u32)
+fn install_step<D: InstallDesk>(desk: &mut D, worker: u32, flow: u32, step: u32)
     requires flow { flow < D.flows desk.old }
     requires free { D.held desk.old ≡ None }
     ensures equips { Equips worker (record { flow = flow; step = step } ∷ []) (D.log desk.old) (D.log desk.new) }

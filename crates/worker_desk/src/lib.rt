@@ -12,12 +12,12 @@ mod laws;
 mod receipt;
 mod row;
 
-pub use agent::attend;
+pub use agent::run_agent_worker;
 pub use agent_desk::AgentDesk;
-pub use datapath::serve;
+pub use datapath::run_datapath_worker;
 pub use desk::Desk;
 pub use event::{Event, Heard};
 pub use install_desk::InstallDesk;
-pub use installer::equip;
+pub use installer::run_installer;
 pub use laws::{locks_law, serving_law};
 pub use receipt::{Attended, Duty, Equipped, Post, Served};

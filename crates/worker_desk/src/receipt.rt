@@ -12,7 +12,7 @@ pub struct Duty {
     pub flows: u32,
 }
 
-/// The work of a datapath worker was done. Only `serve` makes one; contracts see what the worker's duty was.
+/// The work of a datapath worker was done. Only `run_datapath_worker` makes one; contracts see what the worker's duty was.
 #[derive(Drop)]
 pub struct Served {
     pub(crate) duty: Duty,
@@ -32,7 +32,7 @@ impl Promise<Served> for Duty {
     ghost kept_by = { λ duty served. served ≡ duty };
 }
 
-/// The work of an installer was done. Only `equip` makes one; contracts see what the installer's duty was.
+/// The work of an installer was done. Only `run_installer` makes one; contracts see what the installer's duty was.
 #[derive(Drop)]
 pub struct Equipped {
     pub(crate) duty: Duty,
@@ -59,7 +59,7 @@ pub struct Post {
     pub flows: u32,
 }
 
-/// The work of an agent worker was done. Only `attend` makes one; contracts see what the worker's post was.
+/// The work of an agent worker was done. Only `run_agent_worker` makes one; contracts see what the worker's post was.
 #[derive(Drop)]
 pub struct Attended {
     pub(crate) post: Post,

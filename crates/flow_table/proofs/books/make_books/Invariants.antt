@@ -1,4 +1,4 @@
 use Rattle.flow_table.proofs.books.make_books.Given as goal
 
-abbrev pub ghosts-counted : goal.ghosts-counted
-ghosts-counted g a = record { name = a.blank.name; parts = a.blank.parts }
+abbrev pub ghosts-with_step_counter : goal.ghosts-with_step_counter
+ghosts-with_step_counter g a = record { name = a.blank.name; parts = a.blank.parts }

@@ -1,4 +1,4 @@
-use Rattle.scenario_json.proofs.ReadingLemmas.{some_reading}
+use Rattle.portus_build.proofs.ReadingLemmas.{some_reading}
 use Rattle.live_install.proofs.cell.OpenCell.new.Goals as goal
 
 pub returns-in_err-state-clause-readable : goal.returns-in_err-state-clause-readable

@@ -15,13 +15,13 @@ returns-clause-open_state g c =
     let s = c.args.self.now in
     let built = c.in-Some.built.now in
     let machine = c.run-acked.new.machine in
-    let account = c.put_down.new.self in
+    let account = c.record_outcome.new.self in
     let answer = c.run-acked.result in
     let is : built_at s.entries.items c.args.step ≡ Some built =
     ap (λ (entries : List Entry). built_at entries c.args.step) (sym c.as_slice.ensures) ∙ sym c.in-Some.ensures in
     let down : PutDown (turn_of s c.args.step) s.account account c.next-ack.result (outcome_by answer machine.report, env_of machine.kept) =
     subst (λ (t : Turn). PutDown t s.account account c.next-ack.result (outcome_by answer machine.report, env_of machine.kept))
-    (λ i. record { flow = s.case.flow; step = c.args.step; epoch = c.len.ensures.len i - 1; at = s.acks }) c.put_down.ensures in
+    (λ i. record { flow = s.case.flow; step = c.args.step; epoch = c.len.ensures.len i - 1; at = s.acks }) c.record_outcome.ensures in
     open-run s c.requires.open_state c.requires.left c.cwnd-window.result c.cwnd-window.ensures
     c.next-ack.new.self c.next-ack.result c.push.new.self c.next-ack.ensures.ack c.next-ack.ensures.stands c.next-ack.ensures.case c.next-ack.ensures.calls
     c.push.ensures.items c.push.ensures.room
@@ -35,13 +35,13 @@ returns-clause-answered g c = λ read reading.
     let s = c.args.self.now in
     let built = c.in-Some.built.now in
     let machine = c.run-acked.new.machine in
-    let account = c.put_down.new.self in
+    let account = c.record_outcome.new.self in
     let answer = c.run-acked.result in
     let is : built_at s.entries.items c.args.step ≡ Some built =
     ap (λ (entries : List Entry). built_at entries c.args.step) (sym c.as_slice.ensures) ∙ sym c.in-Some.ensures in
     let down : PutDown (turn_of s c.args.step) s.account account c.next-ack.result (outcome_by answer machine.report, env_of machine.kept) =
     subst (λ (t : Turn). PutDown t s.account account c.next-ack.result (outcome_by answer machine.report, env_of machine.kept))
-    (λ i. record { flow = s.case.flow; step = c.args.step; epoch = c.len.ensures.len i - 1; at = s.acks }) c.put_down.ensures in
+    (λ i. record { flow = s.case.flow; step = c.args.step; epoch = c.len.ensures.len i - 1; at = s.acks }) c.record_outcome.ensures in
     told-run s c.requires.open_state c.requires.left c.cwnd-window.result c.cwnd-window.ensures
     c.next-ack.new.self c.next-ack.result c.push.new.self c.next-ack.ensures.ack c.next-ack.ensures.stands c.next-ack.ensures.case c.next-ack.ensures.calls
     c.push.ensures.items c.push.ensures.room
@@ -56,13 +56,13 @@ returns-clause-steps g c = λ read reading.
     let s = c.args.self.now in
     let built = c.in-Some.built.now in
     let machine = c.run-acked.new.machine in
-    let account = c.put_down.new.self in
+    let account = c.record_outcome.new.self in
     let answer = c.run-acked.result in
     let is : built_at s.entries.items c.args.step ≡ Some built =
     ap (λ (entries : List Entry). built_at entries c.args.step) (sym c.as_slice.ensures) ∙ sym c.in-Some.ensures in
     let down : PutDown (turn_of s c.args.step) s.account account c.next-ack.result (outcome_by answer machine.report, env_of machine.kept) =
     subst (λ (t : Turn). PutDown t s.account account c.next-ack.result (outcome_by answer machine.report, env_of machine.kept))
-    (λ i. record { flow = s.case.flow; step = c.args.step; epoch = c.len.ensures.len i - 1; at = s.acks }) c.put_down.ensures in
+    (λ i. record { flow = s.case.flow; step = c.args.step; epoch = c.len.ensures.len i - 1; at = s.acks }) c.record_outcome.ensures in
     c.run-acked.ensures.steps
     ∙ ap (λ (n : ℕ). c.args.steps.now + n) (ran-run s c.requires.open_state c.requires.left c.cwnd-window.result c.cwnd-window.ensures
     c.next-ack.new.self c.next-ack.result c.push.new.self c.next-ack.ensures.ack c.next-ack.ensures.stands c.next-ack.ensures.case c.next-ack.ensures.calls

@@ -1,6 +1,0 @@
-use Rattle.flow_table.proofs.BookLemmas.{whole}
-use Rattle.flow_table.proofs.live_flow.closed.Goals as goal
-
-pub returns-clause-whole : goal.returns-clause-whole
-returns-clause-whole c =
-    whole c.args.cell c.finish.result c.finish.ensures.case c.finish.ensures.word c.requires c.finish.ensures.legal c.finish.ensures.book c.finish.ensures.lifted

@@ -1,0 +1,20 @@
+use Rattle.std.proofs.Common.{◌<◌, ◌≤◌, ap, arith, length, refl}
+use Rattle.portus_build.proofs.ReadingLemmas.{some_reading}
+use Rattle.live_install.specs.OpenCells.{OpenState, world_at}
+use Rattle.live_install.proofs.TurnLemmas.{has-A, fewer-left}
+use Rattle.live_install.proofs.turn.acknowledge.Goals as goal
+
+pub unreachable-requires : goal.unreachable-requires
+unreachable-requires g c =
+    let cell = c.args.cell.now in
+    let all : cell.case.acks ≤ length (world_at some_reading.0 cell).acks = (c.in_default.ensures.ended some_reading.0 some_reading.1).0 refl in
+    let more : length (world_at some_reading.0 cell).acks < cell.case.acks = c.requires.more some_reading.0 some_reading.1 in
+    absurd (omega (arith, all, more))
+
+pub returns-clause-next : goal.returns-clause-next
+returns-clause-next g c =
+    has-A c.args.cell.now c.ack.new.self (ap (λ (cell : OpenState). cell.case) c.in-Ok.ensures.ok) (ap (λ (cell : OpenState). cell.word) c.in-Ok.ensures.ok)
+    c.in-Ok.ensures.within c.requires.none
+
+pub returns-clause-fewer : goal.returns-clause-fewer
+returns-clause-fewer g c = fewer-left c.args.cell.now c.ack.new.self (returns-clause-next g c)

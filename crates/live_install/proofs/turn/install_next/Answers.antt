@@ -1,0 +1,18 @@
+use Rattle.std.proofs.Common.{◌≡◌, ◌<◌, ap, arith, length}
+use Rattle.std.proofs.lemmas.Bool.{lt-ltb}
+use Rattle.live_install.specs.OpenCells.{OpenState, world_at}
+use Rattle.live_install.proofs.TurnLemmas.{has-I, fewer-left}
+use Rattle.live_install.proofs.turn.install_next.Goals as goal
+
+pub returns-clause-next : goal.returns-clause-next
+returns-clause-next c =
+    let cell = c.args.cell.now in
+    let more : c.args.step < length cell.case.steps = c.requires.more in
+    has-I cell c.install.new.self (ap (λ (state : OpenState). state.case) c.in-Ok.ensures.ok) (ap (λ (state : OpenState). state.word) c.in-Ok.ensures.ok)
+    c.in-Ok.ensures.within c.requires.none
+    (λ read is.
+    let count : length (world_at read cell).entries ≡ c.args.step = c.requires.world read is in
+    lt-ltb (length (world_at read cell).entries) (length cell.case.steps) (omega (arith, count, more)))
+
+pub returns-clause-fewer : goal.returns-clause-fewer
+returns-clause-fewer c = fewer-left c.args.cell.now c.install.new.self (returns-clause-next c)

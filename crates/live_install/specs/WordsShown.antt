@@ -1,0 +1,56 @@
+-- What the text of a rollout shows of its flows' words: all but the order of entries and changes at one count of
+-- acknowledgements.
+use Rattle.std.specs.Prelude.{◌≡◌, ◌↔◌, ℕ, List, [], ◌∷◌, ⊤}
+use Rattle.scene_members.specs.declared.open_case.OpenCase.{OpenCase}
+use Rattle.portus_build.specs.TextReadings.{TextReading}
+use Rattle.live_install.specs.declared.letter.OpenLetter.{OpenLetter}
+use Rattle.live_install.specs.declared.letter.OpenLetter.TheVariants.{A, I, G}
+use Rattle.live_install.specs.RolloutText.{rollout_text}
+use Rattle.live_install.specs.WholeBooks.{IsHistory}
+
+abbrev pub without_changes : List OpenLetter → List OpenLetter
+without_changes [] = []
+without_changes (A ∷ rest) = A ∷ without_changes rest
+without_changes (I ∷ rest) = I ∷ without_changes rest
+without_changes (G ∷ rest) = without_changes rest
+
+abbrev pub without_entries : List OpenLetter → List OpenLetter
+without_entries [] = []
+without_entries (A ∷ rest) = A ∷ without_entries rest
+without_entries (I ∷ rest) = without_entries rest
+without_entries (G ∷ rest) = G ∷ without_entries rest
+
+-- two words differ at most in the order of entries and changes at one count of acknowledgements: without their changes
+-- they are equal, and so they are without their entries
+pub record AreAlike (word other : List OpenLetter) : Type 0 where
+  pub entries : without_changes word ≡ without_changes other
+  pub changes : without_entries word ≡ without_entries other
+
+abbrev pub AreAllAlike : List (List OpenLetter) → List (List OpenLetter) → Type 0
+AreAllAlike [] [] = ⊤
+AreAllAlike [] (other ∷ others) = ⊥
+AreAllAlike (word ∷ words) [] = ⊥
+AreAllAlike (word ∷ words) (other ∷ others) = AreAlike word other × AreAllAlike words others
+
+-- a legal and complete word for each case, in order
+abbrev pub AreHistories : TextReading → List OpenCase → List (List OpenLetter) → Type 0
+AreHistories read [] [] = ⊤
+AreHistories read [] (word ∷ words) = ⊥
+AreHistories read (case ∷ cases) [] = ⊥
+AreHistories read (case ∷ cases) (word ∷ words) = IsHistory read (case, word) × AreHistories read cases words
+
+-- each case with its word
+abbrev pub with_words : List OpenCase → List (List OpenLetter) → List (OpenCase × List OpenLetter)
+with_words [] words = []
+with_words (case ∷ cases) [] = []
+with_words (case ∷ cases) (word ∷ words) = (case, word) ∷ with_words cases words
+
+-- the text of the cases for these words
+abbrev pub text_of : TextReading → List OpenCase → List (List OpenLetter) → List ℕ
+text_of read cases words = rollout_text read (with_words cases words)
+
+-- two rollouts of the same cases have one text exactly where their words are alike
+abbrev pub TextShowsWords : Type 0
+TextShowsWords = (read : TextReading) (cases : List OpenCase) (words others : List (List OpenLetter))
+    → AreHistories read cases words → AreHistories read cases others
+    → (text_of read cases words ≡ text_of read cases others) ↔ AreAllAlike words others

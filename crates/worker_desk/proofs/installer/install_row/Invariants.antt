@@ -1,0 +1,10 @@
+use Rattle.std.proofs.Common.{◌≡◌, None, take}
+use Rattle.worker_desk.specs.Equipping.{tasks_at, Equips}
+use Rattle.worker_desk.proofs.installer.install_row.Given as goal
+
+abbrev pub invariant-loop-place : goal.invariant-loop-place
+invariant-loop-place g l = record {
+  free : g.D.InstallDesk.held l.desk ≡ None;
+  same : g.D.InstallDesk.flows l.desk ≡ g.D.InstallDesk.flows l.initial.desk;
+  equips : Equips l.worker (tasks_at l.step (take l.place l.row)) (g.D.InstallDesk.log l.initial.desk) (g.D.InstallDesk.log l.desk);
+}
