@@ -1,7 +1,7 @@
 -- The books of flows, one after another.
 use Rattle.std.specs.Prelude.{◌≡◌, suc, true, List, [], ◌∷◌, ◌++◌, map}
 use Rattle.std.specs.List.{All}
-use Rattle.std.proofs.Common.{arith, ap, sym, ◌∙◌, subst, append_assoc, append-nil}
+use Rattle.std.proofs.Common.{arith, ap, sym, ◌∙◌, subst, append_assoc}
 use Rattle.std.proofs.lemmas.List.{map-append}
 use Rattle.ccp_base.specs.declared.ack.Ack.{Ack}
 use Rattle.flow_core.specs.declared.book.Given.{Given}
@@ -10,9 +10,9 @@ use Rattle.flow_core.specs.Words.{legal_over, is_still}
 use Rattle.flow_core.specs.Books.{IsBookOf}
 use Rattle.flow_core.specs.Cores.{CoreState}
 use Rattle.campaign_gate.specs.declared.row.Row.{Row}
-use Rattle.shared_flow.specs.RoundLetters.{state_of, closed}
-use Rattle.shared_flow.specs.FlowRow.{flow_row, AreRoomy}
-use Rattle.shared_flow.proofs.TurnLemmas.{settled-acks}
+use Rattle.shared_run.specs.RoundLetters.{state_of, closed}
+use Rattle.shared_run.specs.FlowRow.{flow_row, AreRoomy}
+use Rattle.shared_run.proofs.TurnLemmas.{settled-acks}
 use Rattle.shared_run.specs.SharedBooks.{IsGivenOf, AreGivensOf}
 
 givens-last : (cores : List CoreState) (givens : List Given) (core : CoreState) (given : Given) → AreGivensOf cores givens → IsGivenOf core given
@@ -58,14 +58,6 @@ done-one all rest later core givens rows given row are is told same =
           (λ k d less.
           subst (λ (xs : List CoreState). All (λ (one : CoreState). AreRoomy one.acks) xs) is are.roomy (suc k) d (omega (arith, less)));
     }
-
-pub done-all : (all : List CoreState) (givens : List Given) (rows : List Row) → AreDone all [] givens rows
-    → AreGivensOf (map (closed over_codes) all) givens × (rows ≡ map (flow_row over_codes) (map (closed over_codes) all))
-done-all all givens rows are =
-    let whole : are.done ≡ map (closed over_codes) all = sym (append-nil are.done) ∙ are.split in (
-      subst (λ (xs : List CoreState). AreGivensOf xs givens) whole are.givens,
-      are.rows ∙ ap (map (flow_row over_codes)) whole,
-    )
 
 -- the next flow's sums are numbers of 64 bits
 pub roomy-next : (all rest later : List CoreState) (core : CoreState) (givens : List Given) (rows : List Row) → AreDone all rest givens rows → rest ≡ core ∷ later

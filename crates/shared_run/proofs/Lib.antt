@@ -1,8 +1,13 @@
 -- The lemmas of shared_run, a file a topic.
+pub mod PeakLemmas
+pub mod TurnLemmas
+pub mod OnWayLemmas
+pub mod LikeFlows
+pub mod LiftedFlowLemmas
 pub mod LiftedRunLemmas
-pub mod LaneLemmas
 pub mod AnswerLemmas
+pub mod LaneLemmas
 pub mod RoomyLemmas
-pub mod RoundLemmas
+pub mod CourseLemmas
 pub mod BookLemmas
 pub mod RunLemmas

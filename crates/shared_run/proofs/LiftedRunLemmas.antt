@@ -9,11 +9,11 @@ use Rattle.flow_core.specs.Cores.{CoreState}
 use Rattle.shared_link.specs.declared.round.Ask.{Ask}
 use Rattle.shared_link.specs.declared.shared_case.SharedCase.{SharedCase}
 use Rattle.shared_link.specs.SharedRounds.{acks_after}
-use Rattle.shared_flow.specs.RoundLetters.{Read, opened, part, closed}
-use Rattle.shared_flow.specs.FlowRow.{flow_row}
-use Rattle.shared_flow.specs.LiftedFlow.{AreAlike}
-use Rattle.shared_flow.proofs.TurnLemmas.{part-case, settled-case}
-use Rattle.shared_flow.proofs.LiftedFlowLemmas.{lifted as flow-lifted}
+use Rattle.shared_run.specs.RoundLetters.{Read, opened, part, closed}
+use Rattle.shared_run.specs.FlowRow.{flow_row}
+use Rattle.shared_run.specs.LiftedFlow.{AreAlike}
+use Rattle.shared_run.proofs.TurnLemmas.{part-case, settled-case}
+use Rattle.shared_run.proofs.LiftedFlowLemmas.{lifted as flow-lifted}
 use Rattle.shared_run.specs.SharedHistory.{Progress, progress, asks_of, parts, after_asks, after_round, have_all, ends_or, rounds_from, most_of, run_of, flows_of}
 use Rattle.shared_run.specs.LiftedRun.{AreSimulated, HaveOneRun, IsLifted}
 

@@ -10,13 +10,12 @@ use Rattle.campaign_gate.specs.CampaignRow.{lost_in, acked_in}
 use Rattle.shared_link.specs.declared.shared_case.SharedCase.{SharedCase}
 use Rattle.shared_link.specs.SharedLimits.{IsWithin}
 use Rattle.shared_link.specs.SharedRounds.{acks_after}
-use Rattle.shared_flow.specs.RoundLetters.{opened}
-use Rattle.shared_flow.specs.FlowRow.{AreRoomy}
-use Rattle.shared_flow.proofs.TurnLemmas.{part-case, part-acks}
+use Rattle.shared_run.specs.RoundLetters.{opened}
+use Rattle.shared_run.specs.FlowRow.{AreRoomy}
+use Rattle.shared_run.proofs.TurnLemmas.{part-case, part-acks}
 use Rattle.shared_run.specs.SharedHistory.{Progress, progress, asks_of, parts, after_round, have_all, rounds_from, most_of, run_of}
-use Rattle.shared_run.specs.Lanes.{KeepCounts}
 use Rattle.shared_run.proofs.AnswerLemmas.{AreSmall, AreAllSmall, after-all-small}
-use Rattle.shared_run.proofs.LaneLemmas.{Within, within-after}
+use Rattle.shared_run.proofs.LaneLemmas.{KeepCounts, Within, within-after}
 
 abbrev pub SmallFlows : List CoreState → Type 0
 SmallFlows [] = Unit {0}
@@ -45,11 +44,11 @@ parts-keep (acks ∷ others) (core ∷ rest) within keep =
       parts-keep others rest within.1 keep.1,
     )
 
-module _ (link : SharedCase) (within : IsWithin link) where
-  pub round-keeps : (run : Progress) → KeepCounts run.flows → KeepCounts (after_round link over_codes run).flows
-  round-keeps run keep =
-      parts-keep (acks_after link run.history (asks_of over_codes run.flows)) run.flows (within-after link run.history run.flows keep) keep
+pub round-keeps : (link : SharedCase) (run : Progress) → KeepCounts run.flows → KeepCounts (after_round link over_codes run).flows
+round-keeps link run keep =
+    parts-keep (acks_after link run.history (asks_of over_codes run.flows)) run.flows (within-after link run.history run.flows keep) keep
 
+module _ (link : SharedCase) (within : IsWithin link) where
   round-smalls : (run : Progress) → length run.history < 10000 → SmallFlows run.flows → SmallFlows (after_round link over_codes run).flows
   round-smalls run fewer small =
       parts-small (acks_after link run.history (asks_of over_codes run.flows)) run.flows
@@ -66,7 +65,7 @@ module _ (link : SharedCase) (within : IsWithin link) where
   rounds-keep zero run keep = keep
   rounds-keep (suc more) run keep =
       let next = after_round link over_codes run in
-      let here = round-keeps run keep in
+      let here = round-keeps link run keep in
       either KeepCounts (have_all next.flows) next (rounds_from link over_codes more next) here (rounds-keep more next here)
 
   rounds-small : (n : ℕ) (run : Progress) → length run.history + n ≤ 10000 → SmallFlows run.flows → SmallFlows (rounds_from link over_codes n run).flows
@@ -81,7 +80,7 @@ opened-small : (cases : List Case) → SmallFlows (map opened cases)
 opened-small [] = tt
 opened-small (case ∷ rest) = (tt, opened-small rest)
 
-opened-keep : (cases : List Case) → KeepCounts (map opened cases)
+pub opened-keep : (cases : List Case) → KeepCounts (map opened cases)
 opened-keep [] = tt
 opened-keep (case ∷ rest) = (omega arith, opened-keep rest)
 

@@ -1,7 +1,10 @@
 -- The definitions of shared_run, a file each.
+pub mod RoundLetters
+pub mod FlowRow
+pub mod OnWay
+pub mod LiftedFlow
 pub mod SharedHistory
 pub mod SharedBooks
 pub mod WholeRun
 pub mod LiftedRun
-pub mod Lanes
-pub mod Rounds
+pub mod Courses

@@ -5,8 +5,8 @@ use Rattle.flow_core.specs.declared.case.Case.{Case}
 use Rattle.flow_core.specs.Cores.{CoreState}
 use Rattle.campaign_gate.specs.declared.row.Row.{Row}
 use Rattle.campaign_gate.specs.CampaignRow.{window_of}
-use Rattle.shared_flow.specs.RoundLetters.{Read, state_of, opened, part, closed}
-use Rattle.shared_flow.specs.FlowRow.{flow_row}
+use Rattle.shared_run.specs.RoundLetters.{Read, state_of, opened, part, closed}
+use Rattle.shared_run.specs.FlowRow.{flow_row}
 use Rattle.shared_link.specs.declared.round.Ask.{Ask}
 use Rattle.shared_link.specs.declared.round.Counts.{Counts}
 use Rattle.shared_link.specs.declared.shared_case.SharedCase.{SharedCase}

@@ -3,16 +3,14 @@ ghost use Rattle.std.specs.Prelude.{◌≡◌, [], IfOk, OnOk, map};
 ghost use Rattle.std.specs.List.{All};
 ghost use Rattle.flow_core.specs.Readings.{over_codes};
 ghost use Rattle.flow_core.specs.Cores.{CoreState};
-ghost use Rattle.shared_flow.specs.FlowRow.{flow_row, AreRoomy};
-ghost use Rattle.shared_flow.specs.RoundLetters.{closed};
+ghost use Rattle.shared_run.specs.FlowRow.{flow_row, AreRoomy};
+ghost use Rattle.shared_run.specs.RoundLetters.{closed};
 ghost use Rattle.shared_run.specs.SharedBooks.{IsGivenOf, AreGivensOf};
-ghost use Rattle.shared_run.specs.Lanes.{ends_in, flows_in};
 
-use crate::lane::Lane;
+use crate::flow::SharedFlow;
 use campaign_gate::{Row, Rows};
 use ccp_base::{NoMemory, Sequence};
 use flow_core::Given;
-use shared_flow::SharedFlow;
 use shared_link::Counts;
 use std::alloc::Global;
 
@@ -29,32 +27,32 @@ pub struct SharedRun {
 }
 
 /// Closes the flows, each of which takes and answers until nothing is left, and tells what they came to.
-pub(crate) fn finished(alloc: Global, lanes: Vec<Lane>) -> Result<(Givens, Rows), NoMemory>
-    requires { All (λ (core : CoreState). AreRoomy core.acks) (flows_in lanes.items) }
-    ensures givens { IfOk result (λ made. AreGivensOf (ends_in lanes.items) made.0) }
-    ensures rows { IfOk result (λ made. made.1 ≡ map (flow_row over_codes) (ends_in lanes.items)) }
+pub(crate) fn finished(alloc: Global, flows: Vec<SharedFlow>) -> Result<(Givens, Rows), NoMemory>
+    requires { All (λ (core : CoreState). AreRoomy core.acks) flows.items }
+    ensures givens { IfOk result (λ made. AreGivensOf (map (closed over_codes) flows.items) made.0) }
+    ensures rows { IfOk result (λ made. made.1 ≡ map (flow_row over_codes) (map (closed over_codes) flows.items)) }
 {
     let mut givens = Givens::new(alloc);
     let mut rows = Rows::new(alloc);
-    finish_all(alloc, lanes, &mut givens, &mut rows)?;
+    finish_all(alloc, flows, &mut givens, &mut rows)?;
     Ok((givens, rows))
 }
 
 /// Puts what flows came to into two lists that have nothing yet.
 fn finish_all(
     alloc: Global,
-    lanes: Vec<Lane>,
+    flows: Vec<SharedFlow>,
     givens: &mut Givens,
     rows: &mut Rows,
 ) -> Result<(), NoMemory>
-    requires roomy { All (λ (core : CoreState). AreRoomy core.acks) (flows_in lanes.items) }
+    requires roomy { All (λ (core : CoreState). AreRoomy core.acks) flows.items }
     requires no_givens { givens.old ≡ [] }
     requires no_rows { rows.old ≡ [] }
-    ensures givens { OnOk result (AreGivensOf (ends_in lanes.items) givens.new) }
-    ensures rows { OnOk result (rows.new ≡ map (flow_row over_codes) (ends_in lanes.items)) }
+    ensures givens { OnOk result (AreGivensOf (map (closed over_codes) flows.items) givens.new) }
+    ensures rows { OnOk result (rows.new ≡ map (flow_row over_codes) (map (closed over_codes) flows.items)) }
 {
-    for lane in lanes {
-        let (given, row) = ended(alloc, lane.flow)?;
+    for flow in flows {
+        let (given, row) = ended(alloc, flow)?;
         givens.push(given)?;
         rows.push(row)?;
     }

@@ -1,96 +1,83 @@
-//! A flow of a shared run: its part of a round, what it asks the link for, and whether memory was short.
-ghost use Rattle.std.specs.Prelude.{◌≡◌, false, OnOk, IfOk, map};
-ghost use Rattle.flow_core.specs.Readings.{over_codes};
-ghost use Rattle.shared_flow.specs.RoundLetters.{opened};
-ghost use Rattle.shared_run.specs.SharedHistory.{asks_of, have_all};
-ghost use Rattle.shared_run.specs.Lanes.{flows_in, some_short, KeepCounts, MayHave, Does};
+//! A flow of a run between two rounds.
+ghost use Rattle.std.specs.Prelude.{◌≡◌, true, false, Some, slice_get, IfOk};
+ghost use Rattle.shared_run.specs.Courses.{flows_after, asks_in};
 
-use campaign_gate::Cases;
-use ccp_base::{Ack, Gate, NoMemory, Point, Sequence};
-use shared_flow::SharedFlow;
+use crate::course::Course;
+use crate::flow::SharedFlow;
+use crate::round_acks::RoundAcks;
+use ccp_base::NoMemory;
 use shared_link::Ask;
 use std::alloc::Global;
+use std::marker::PhantomData;
 
-/// A flow of a run, and whether memory was short in one of its parts.
+/// A flow of a run, its number, and how many rounds it is through. Unless memory was short, it is that flow of the run
+/// after these rounds.
 #[derive(Drop)]
-pub(crate) struct Lane {
-    pub(crate) flow: SharedFlow,
-    pub(crate) is_short: bool,
+pub(crate) struct Lane<C: Course> {
+    flow: SharedFlow,
+    number: u32,
+    round: u32,
+    /// Whether memory was short in its part of the next round.
+    is_short: bool,
+    of: PhantomData<C>,
+    ghost stands: { is_short ≡ false → slice_get (flows_after C.link C.cases round) number ≡ Some flow },
 }
 
-impl Lane {
-    /// The flow's part of a round, by this worker. It passes the gate at `InCase` before it and at `AfterCase` after
-    /// it.
-    pub(crate) fn part<G: Gate>(&mut self, alloc: Global, worker: u32, acks: &[Ack], gate: &G)
-        requires { MayHave acks.now self.old }
-        ensures { Does acks.now self.old self.new }
+impl<C: Course> Lane<C> {
+    /// A flow before the first round.
+    pub(crate) fn begin(flow: SharedFlow, number: u32) -> Self
+        requires { slice_get (flows_after C.link C.cases 0) number ≡ Some flow }
     {
-        let number = self.flow.number();
-        gate.pass(worker, Point::InCase, number);
-        if self.flow.part(alloc, acks).is_err() {
-            self.is_short = true;
-        }
-        gate.pass(worker, Point::AfterCase, number);
-    }
-}
-
-/// The flows of these cases, without a letter.
-pub(crate) fn opened(alloc: Global, cases: Cases) -> Result<Vec<Lane>, NoMemory>
-    ensures flows { IfOk result (λ lanes. flows_in lanes.items ≡ map opened cases) }
-    ensures well { IfOk result (λ lanes. some_short lanes.items ≡ false) }
-{
-    let mut lanes = Vec::new(alloc);
-    for case in cases.into_vec() {
-        let flow = SharedFlow::open(alloc, case)?;
-        lanes.push(Lane {
+        Lane {
             flow,
+            number,
+            round: 0,
             is_short: false,
-        })?;
-    }
-    Ok(lanes)
-}
-
-/// What the flows ask the link for, in order.
-pub(crate) fn asks(alloc: Global, lanes: &[Lane]) -> Result<Sequence<Ask>, NoMemory>
-    ensures asks { IfOk result (λ asks. asks ≡ asks_of over_codes (flows_in lanes.now)) }
-    ensures counts { OnOk result (KeepCounts (flows_in lanes.now)) }
-{
-    let mut asks = Sequence::new(alloc);
-    let mut rest = lanes;
-    while let Some((lane, later)) = rest.split_first() {
-        asks.push(Ask {
-            window: lane.flow.window(),
-            left: lane.flow.left(),
-        })?;
-        rest = later;
-    }
-    Ok(asks)
-}
-
-/// Whether all flows have all acknowledgements.
-pub(crate) fn have_all(lanes: &[Lane]) -> bool
-    ensures { result ≡ have_all (flows_in lanes.now) }
-{
-    let mut rest = lanes;
-    while let Some((lane, later)) = rest.split_first() {
-        if !lane.flow.has_all() {
-            return false;
+            of: PhantomData,
         }
-        rest = later;
     }
-    true
-}
 
-/// Whether memory was short in one of the flows' parts.
-pub(crate) fn some_short(lanes: &[Lane]) -> bool
-    ensures { result ≡ some_short lanes.now }
-{
-    let mut rest = lanes;
-    while let Some((lane, later)) = rest.split_first() {
-        if lane.is_short {
-            return true;
-        }
-        rest = later;
+    /// Whether this is that flow after this many rounds, where memory wasn't short.
+    fn is_at(&self, number: u32, round: u32) -> bool
+        ensures { result ≡ true → (self.now.is_short ≡ false) × (self.now.number ≡ number) × (self.now.round ≡ round) }
+    {
+        !self.is_short && self.number == number && self.round == round
     }
-    false
+
+    /// What that flow asks the link for after this many rounds. A lane that isn't there is reported as out of memory.
+    #[tactic(auto, using(crate::proofs::CourseLemmas::flow_asks))]
+    pub(crate) fn ask(&self, number: u32, round: u32) -> Result<Ask, NoMemory>
+        ensures { IfOk result (λ ask. slice_get (asks_in C.link C.cases round) number ≡ Some ask) }
+    {
+        if !self.is_at(number, round) {
+            return Err(NoMemory);
+        }
+        Ok(Ask {
+            window: self.flow.window(),
+            left: self.flow.left(),
+        })
+    }
+
+    /// The flow's part of its next round, if these are its acknowledgements in it.
+    pub(crate) fn hear(&mut self, alloc: Global, acks: &RoundAcks<C>)
+        ensures number { self.new.number ≡ self.old.number }
+    {
+        if !self.is_at(acks.number, acks.round) {
+            return;
+        }
+        match self.flow.part(alloc, acks.acks.as_slice()) {
+            Ok(()) => self.round += 1,
+            Err(NoMemory) => self.is_short = true,
+        }
+    }
+
+    /// That flow after this many rounds. A lane that isn't there is reported as out of memory.
+    pub(crate) fn into_flow(self, number: u32, round: u32) -> Result<SharedFlow, NoMemory>
+        ensures { IfOk result (λ flow. slice_get (flows_after C.link C.cases round) number ≡ Some flow) }
+    {
+        if !self.is_at(number, round) {
+            return Err(NoMemory);
+        }
+        Ok(self.flow)
+    }
 }

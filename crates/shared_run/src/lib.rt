@@ -2,10 +2,16 @@
 #![tactic(auto)]
 
 mod books;
+mod course;
+mod desk;
+mod flow;
 mod lane;
+mod lanes;
+mod round_acks;
 mod rounds;
 mod run;
-mod waves;
+mod sums;
+mod worker;
 
 pub use books::{Givens, SharedRun};
 pub use run::shared;

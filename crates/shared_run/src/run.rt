@@ -5,28 +5,36 @@ ghost use Rattle.scenario_json.specs.Cases.{plan_of, AreFlowsFrom};
 ghost use Rattle.scenario_json.specs.SharedScenes.{flow_link_of};
 ghost use Rattle.shared_link.specs.SharedLimits.{IsWithin};
 ghost use Rattle.shared_run.specs.SharedHistory.{most_of};
+ghost use Rattle.shared_run.specs.Courses.{Ends};
 ghost use Rattle.shared_run.specs.WholeRun.{IsRunOf};
 ghost use Rattle.shared_run.specs.LiftedRun.{IsLifted};
 
 use crate::books::{SharedRun, finished};
-use crate::lane::opened;
-use crate::rounds::rounds;
+use crate::course::Course;
+use crate::lanes::{flows, open_all};
+use crate::rounds::by_workers;
 use campaign_gate::Cases;
-use ccp_base::{Gate, NoMemory};
+use ccp_base::{Ack, Gate, NoMemory};
 use flow_core::Case;
 use scenario_json::SharedScene;
 use shared_link::{SharedCase, SharedLink};
 use std::alloc::Global;
+use std::marker::Brand;
+use std::sync::Wait;
 use std::thread::Threads;
 
+/// The acknowledgements for which the link reserves memory in a flow's list of a round.
+const LIST: usize = 4_096;
+
 /// Runs the flows of a scenario over its link, whatever the number of workers, which is 1 to 32. In each round the
-/// flows ask for acknowledgements, the link answers, and each flow's part is done by a worker: worker `w` does those of
-/// the flows whose number leaves `w` when it is divided by the number of workers, in order. As many flows as there are
-/// workers do their parts at once, and then the next ones. A worker passes the gate at `InCase` before a part and at
-/// `AfterCase` after it. Where a thread can't be started the caller does its work. The run ends after the round in
-/// which all flows have all acknowledgements, and at the latest after `rounds` rounds, where 0 flows run none; then
-/// each flow takes and answers until nothing is left.
-pub fn shared<R: Threads + Sync, G: Gate + Sync>(
+/// flows ask for acknowledgements, the link answers, and each flow that has some does its part on a worker: worker `w` does
+/// those of the flows whose number leaves `w` when it is divided by the number of workers, in order. Workers that have
+/// parts in a round do them side by side, each in a thread that lives for the whole run; the parts of the first of them
+/// are done by the caller, and so are those of a worker for which no thread can be started. A worker passes the gate at
+/// `InCase` before a part and at `AfterCase` after it. The run ends after the round in which all flows have all
+/// acknowledgements, and at the latest after `rounds` rounds, where 0 flows run none; then each flow takes and answers
+/// until nothing is left. A thread's answer that is lost is reported as out of memory.
+pub fn shared<R: Threads + Wait + Sync, G: Gate + Sync>(
     rt: &R,
     alloc: Global,
     scene: SharedScene,
@@ -40,6 +48,8 @@ pub fn shared<R: Threads + Sync, G: Gate + Sync>(
     requires links { scene.link.flows ≡ map flow_link_of (map plan_of scene.scene.cases) }
     requires rounds { scene.rounds ≤ most_rounds }
     ensures run { IfOk result (IsRunOf scene.link scene.scene.cases scene.rounds) }
+    // It ends after the first round in which all flows have all acknowledgements, or else after the last one.
+    ensures ends { Ends scene.link scene.scene.cases scene.rounds }
     // For all programs that the cases' codes simulate, the run is that of these sources.
     ensures lifted { IsLifted scene.link scene.scene.cases scene.rounds }
 {
@@ -47,7 +57,7 @@ pub fn shared<R: Threads + Sync, G: Gate + Sync>(
 }
 
 /// The run, over the codes of the cases.
-fn run<R: Threads + Sync, G: Gate + Sync>(
+fn run<R: Threads + Wait + Sync, G: Gate + Sync>(
     rt: &R,
     alloc: Global,
     scene: SharedScene,
@@ -66,11 +76,11 @@ fn run<R: Threads + Sync, G: Gate + Sync>(
         link,
         rounds: most,
     } = scene;
-    run_cases(rt, alloc, link, scene.cases, most, workers, gate)
+    run_course::<Brand, R, G>(rt, alloc, link, scene.cases, most, workers, gate)
 }
 
-/// The run of these cases over their link for at most so many rounds.
-fn run_cases<R: Threads + Sync, G: Gate + Sync>(
+/// The run of these cases over their link for at most so many rounds, of which the types of its parts speak.
+fn run_course<C: Course + Send + Sync, R: Threads + Wait + Sync, G: Gate + Sync>(
     rt: &R,
     alloc: Global,
     link: SharedCase,
@@ -80,31 +90,38 @@ fn run_cases<R: Threads + Sync, G: Gate + Sync>(
     gate: &G,
 ) -> Result<SharedRun, NoMemory>
     requires workers { 1 ≤ workers }
-    requires few { length cases ≤ most_flows }
-    requires link { IsWithin link }
-    requires links { link.flows ≡ map flow_link_of (map plan_of cases) }
+    requires link { link ≡ C.link }
+    requires cases { cases ≡ C.cases }
+    requires few { length C.cases ≤ most_flows }
+    requires within { IsWithin C.link }
+    requires links { C.link.flows ≡ map flow_link_of (map plan_of C.cases) }
     requires rounds { most ≤ most_rounds }
-    ensures { IfOk result (IsRunOf link cases most) }
+    ensures { IfOk result (IsRunOf C.link C.cases most) }
 {
     let most = most_of(cases.as_slice(), most);
-    let mut link = SharedLink::new(alloc, link)?;
-    let mut lanes = opened(alloc, cases)?;
-    rounds(
-        rt,
-        alloc,
-        &mut link,
-        lanes.as_mut_slice(),
-        most,
-        workers as usize,
-        gate,
-    )?;
-    let counts = link.counts();
-    let (givens, rows) = finished(alloc, lanes)?;
+    let link = SharedLink::new(alloc, link)?;
+    let lanes = open_all::<C>(alloc, cases)?;
+    take_round_memory(alloc, lanes.len())?;
+    let ended = by_workers(rt, alloc, link, lanes.as_slice(), most, workers, gate)?;
+    let counts = ended.link.counts();
+    let flows = flows(alloc, lanes, ended.rounds)?;
+    let (givens, rows) = finished(alloc, flows)?;
     Ok(SharedRun {
         givens,
         rows,
         counts,
     })
+}
+
+/// Takes the memory of a round's lists once, and gives it back. The link reserves each flow's list in each round. After
+/// this the allocator keeps their memory from round to round: else it would give it back to the system each time, and a
+/// run of short rounds would take four times as long.
+fn take_round_memory(alloc: Global, flows: usize) -> Result<(), NoMemory>
+    requires { flows ≤ most_flows }
+{
+    let lists = Vec::<Ack>::with_capacity(alloc, flows * LIST)?;
+    drop(lists);
+    Ok(())
 }
 
 /// How many rounds these cases are run for at most.

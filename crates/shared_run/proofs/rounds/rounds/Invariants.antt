@@ -1,17 +1,15 @@
-use Rattle.std.proofs.Common.{◌≡◌, ◌+◌, ◌≤◌, length}
-use Rattle.ccp_base.specs.Limits.{most_rounds}
-use Rattle.shared_run.specs.Lanes.{flows_in}
-use Rattle.shared_run.specs.Rounds.{HasStood}
-use Rattle.shared_run.proofs.RoundLemmas.{Goes}
+use Rattle.std.proofs.Common.{◌≡◌, ◌≤◌, ◌-◌, length}
+use Rattle.shared_run.specs.Courses.{asks_in, StandsAfter}
+use Rattle.shared_run.proofs.CourseLemmas.{IsOnWay}
 use Rattle.shared_run.proofs.rounds.rounds.Given as goal
 
-abbrev pub invariant-loop-left : goal.invariant-loop-left
-invariant-loop-left g l =
-    Goes l.rounds l.fn.link (flows_in l.fn.lanes) l.left l.link (flows_in l.lanes)
-    × HasStood l.link
-    × (length l.lanes ≡ length l.link.case.flows)
-    × (l.link.case ≡ l.fn.link.case)
-    × (l.link.rounds + l.left ≤ most_rounds)
+abbrev pub invariant-loop-done : goal.invariant-loop-done
+invariant-loop-done g l =
+    StandsAfter g.C.Course.link g.C.Course.cases l.done l.link
+    × (l.asked ≡ asks_in g.C.Course.link g.C.Course.cases l.done)
+    × IsOnWay g.C.Course.link g.C.Course.cases l.most l.done
+    × (l.done ≤ l.most)
+    × (1 ≤ length l.desks)
 
-abbrev pub decreases-loop-left : goal.decreases-loop-left
-decreases-loop-left g l = l.left
+abbrev pub decreases-loop-done : goal.decreases-loop-done
+decreases-loop-done g l = l.most - l.done

@@ -1,0 +1,4 @@
+use Rattle.shared_run.proofs.flow.SharedFlow.part.Given as goal
+
+abbrev pub ghosts-counted : goal.ghosts-counted
+ghosts-counted a = record { name = a.blank.name; parts = a.blank.parts }

@@ -1,0 +1,31 @@
+-- A flow of programs does the same as a flow of codes that simulate them: its letters, its windows and its row.
+use Rattle.std.specs.Prelude.{◌≡◌, List}
+use Rattle.ccp_base.specs.declared.ack.Ack.{Ack}
+use Rattle.ccp_base.specs.declared.place.Place.{Place}
+use Rattle.portus_core.specs.Programs.{Form}
+use Rattle.reg_compiler.specs.Simulation.{Simulates}
+use Rattle.flow_core.specs.declared.case.Case.{Case}
+use Rattle.flow_core.specs.declared.letter.Letter.{Letter}
+use Rattle.flow_core.specs.Readings.{over_codes, over_sources}
+use Rattle.flow_core.specs.Cores.{CoreState}
+use Rattle.campaign_gate.specs.CampaignRow.{window_of}
+use Rattle.shared_run.specs.RoundLetters.{Read, state_of, part, closed}
+use Rattle.shared_run.specs.FlowRow.{flow_row}
+
+-- two readings of a case are alike: whatever acknowledgements its flow has, it has one window, does one part of a round,
+-- closes with one word and has one row in both
+pub record AreAlike {X Y : Type 0} (read : Read X) (other : Read Y) (core : CoreState) : Type 0 where
+  pub window : window_of (read core.case) (state_of read core) ≡ window_of (other core.case) (state_of other core)
+  pub part : (acks : List Ack) → part read acks core ≡ part other acks core
+  pub closed : closed read core ≡ closed other core
+  pub row : flow_row read core ≡ flow_row other core
+
+-- where a case's codes simulate the two programs that this reading has for it, both readings are alike
+abbrev pub IsLifted : Case → Type 0
+IsLifted case =
+    (sources : Read Place) (ss ca : Form) (ss_places ca_places : List Place)
+    → sources case ≡ over_sources case ss ca
+    → Simulates ss case.ss.code.code ss_places
+    → Simulates ca case.ca.code.code ca_places
+    → (acks : List Ack) (word : List Letter)
+    → AreAlike over_codes sources (record { case = case; acks = acks; word = word })

@@ -1,0 +1,237 @@
+//! A flow on a shared link: its part of each round, the close at the end, and its book with its row.
+ghost use Rattle.std.specs.Prelude.{◌≡◌, ◌+◌, ◌-◌, ◌<◌, ◌≤◌, Some, true, false, nat_le, length, OnOk, IfOk};
+ghost use Rattle.flow_core.specs.Readings.{over_codes};
+ghost use Rattle.flow_core.specs.Words.{is_still, is_legal, legal_over};
+ghost use Rattle.flow_core.specs.Books.{IsBookOf};
+ghost use Rattle.campaign_gate.specs.CampaignRow.{window_of};
+ghost use Rattle.shared_run.specs.RoundLetters.{state_of, opened, with_ack, with_letter, is_answered, settled, part, closed};
+ghost use Rattle.shared_run.specs.FlowRow.{flow_row, AreRoomy};
+ghost use Rattle.shared_run.specs.LiftedFlow.{IsLifted};
+ghost use Rattle.shared_run.specs.OnWay.{Turned, Took};
+
+use crate::sums::{acked_in, lost_in, reports_in, timeouts_in};
+use agent_core::calls::answer;
+use campaign_gate::Row;
+use ccp_base::{Ack, NoMemory};
+use flow_core::{Case, Core, Given, Letter, TakeFault};
+use fold_machine::Steps;
+use std::alloc::Global;
+use std::marker::{Brand, Model};
+use std::sync::ledger::{Blank, Ledger};
+
+/// A flow that shares its link: it is given its acknowledgements round by round. Contracts see it as its case, its
+/// acknowledgements and its word.
+#[derive(Drop)]
+pub(crate) struct SharedFlow {
+    core: Core,
+    /// At how many acknowledgements the ticket that is out was taken.
+    taken: u32,
+    /// The greatest window so far, in bytes.
+    peak: u64,
+}
+
+impl Model for SharedFlow {
+    ghost use Rattle.flow_core.specs.Cores.{CoreState};
+    ghost use Rattle.shared_run.specs.OnWay.{IsOnWay};
+
+    ghost Value = { CoreState };
+
+    ghost view = { λ f. f.core };
+
+    ghost invariant = { λ f. IsOnWay f.core f.taken f.peak };
+}
+
+impl SharedFlow {
+    /// A flow without a letter. The word, the acknowledgements, the outbox and a place for one fault per acknowledgement
+    /// of the case are reserved here.
+    pub(crate) fn open(alloc: Global, case: Case) -> Result<SharedFlow, NoMemory>
+        ensures { IfOk result (λ flow. flow ≡ opened case) }
+    {
+        let core = Core::new(alloc, case)?;
+        let peak = core.cwnd();
+        Ok(SharedFlow {
+            core,
+            taken: 0,
+            peak,
+        })
+    }
+
+    /// The number of the flow.
+    pub(crate) fn number(&self) -> u32
+        ensures { result ≡ self.now.case.flow }
+    {
+        self.core.case().flow
+    }
+
+    /// The present congestion window, in bytes.
+    pub(crate) fn window(&self) -> u64
+        ensures { result ≡ window_of (over_codes self.now.case) (state_of over_codes self.now) }
+    {
+        self.core.cwnd()
+    }
+
+    /// How many acknowledgements of the case are left.
+    pub(crate) fn left(&self) -> u32
+        ensures within { length self.now.acks ≤ self.now.case.acks }
+        ensures left { result ≡ self.now.case.acks - length self.now.acks }
+    {
+        self.core.case().acks - self.core.acks()
+    }
+
+    /// Whether all acknowledgements of the case are in.
+    pub(crate) fn has_all(&self) -> bool
+        ensures { result ≡ nat_le self.now.case.acks (length self.now.acks) }
+    {
+        self.core.case().acks <= self.core.acks()
+    }
+
+    /// The flow's part of a round: each of these acknowledgements, and what is taken and answered after it. For want of
+    /// memory a front of its letters was made.
+    pub(crate) fn part(&mut self, alloc: Global, acks: &[Ack]) -> Result<(), NoMemory>
+        requires { length self.old.acks + length acks.now ≤ self.old.case.acks }
+        ensures { OnOk result (self.new ≡ part over_codes acks.now self.old) }
+    {
+        self.counted::<Brand>(alloc, acks, Blank::new(1))
+    }
+
+    /// The same, where a ledger of one part counts the steps.
+    fn counted<L: Ledger>(
+        &mut self,
+        alloc: Global,
+        acks: &[Ack],
+        blank: Blank,
+    ) -> Result<(), NoMemory>
+        requires name { blank.name ≡ L.name }
+        requires parts { blank.parts ≡ L.parts }
+        requires some { 0 < blank.parts }
+        requires left { length self.old.acks + length acks.now ≤ self.old.case.acks }
+        ensures { OnOk result (self.new ≡ part over_codes acks.now self.old) }
+    {
+        let mut steps = Steps::<L>::new(blank);
+        let mut left = acks;
+        while let Some((ack, rest)) = left.split_first() {
+            self.hear(ack, &mut steps);
+            self.settle_all(alloc, false)?;
+            left = rest;
+        }
+        Ok(())
+    }
+
+    /// The run's end: takes and answers until nothing is out and nothing is left to take.
+    pub(crate) fn close(&mut self, alloc: Global) -> Result<(), NoMemory>
+        ensures closed { OnOk result (self.new ≡ closed over_codes self.old) }
+        ensures still { OnOk result (is_still (state_of over_codes self.new) ≡ true) }
+    {
+        self.settle_all(alloc, true)
+    }
+
+    /// Takes and answers until nothing comes next.
+    fn settle_all(&mut self, alloc: Global, at_end: bool) -> Result<(), NoMemory>
+        ensures { OnOk result (self.new ≡ settled at_end over_codes self.old) }
+    {
+        while self.turn(alloc, at_end)? {}
+        Ok(())
+    }
+
+    /// Makes the next letter that takes no acknowledgement, and says whether there is one.
+    fn turn(&mut self, alloc: Global, at_end: bool) -> Result<bool, NoMemory>
+        ensures { IfOk result (λ made. Turned at_end made self.old self.new) }
+    {
+        if self.is_answered(at_end) {
+            self.settle();
+            return Ok(true);
+        }
+        self.take(alloc)
+    }
+
+    /// Whether an answer comes next.
+    fn is_answered(&self, at_end: bool) -> bool
+        ensures { result ≡ is_answered at_end over_codes self.now }
+    {
+        let is_out = self.core.out().is_some();
+        if at_end || self.has_all() {
+            return is_out;
+        }
+        let lag = self.core.case().lag;
+        is_out && u64::from(self.taken) + u64::from(lag) <= u64::from(self.core.acks())
+    }
+
+    /// Takes an acknowledgement.
+    fn hear<L: Ledger>(&mut self, ack: &Ack, steps: &mut Steps<L>)
+        requires { length self.old.acks < self.old.case.acks }
+        ensures { self.new ≡ with_ack ack.entry.now self.old }
+    {
+        let Ok(_) = self.core.ack(ack, steps) else {
+            unreachable!()
+        };
+        self.peak = self.peak.max(self.core.cwnd());
+    }
+
+    /// Applies the answer to the ticket that is out.
+    fn settle(&mut self)
+        requires { is_legal (over_codes self.old.case) (state_of over_codes self.old) Letter.C ≡ true }
+        ensures { self.new ≡ with_letter Letter.C self.old }
+    {
+        let Some(ticket) = self.core.out() else {
+            unreachable!()
+        };
+        let Ok(()) = self.core.settle(answer(ticket)) else {
+            unreachable!()
+        };
+        self.peak = self.peak.max(self.core.cwnd());
+    }
+
+    /// Takes a ticket where it is legal, and says whether it did.
+    fn take(&mut self, alloc: Global) -> Result<bool, NoMemory>
+        ensures { IfOk result (λ took. Took took self.old self.new) }
+    {
+        match self.core.take(alloc) {
+            Ok(_) => {
+                self.taken = self.core.acks();
+                self.peak = self.peak.max(self.core.cwnd());
+                Ok(true)
+            }
+            Err(TakeFault::NotYet) => Ok(false),
+            Err(TakeFault::Out(_)) => Ok(false),
+            Err(TakeFault::NoMemory) => Err(NoMemory),
+        }
+    }
+
+    /// What the flow's history came to, and its row. No ticket may be out, and nothing may be left to take. For all programs
+    /// that the case's codes simulate, the flow does the same over these sources.
+    pub(crate) fn finish(self) -> (Given, Row)
+        requires still { is_still (state_of over_codes self) ≡ true }
+        requires roomy { AreRoomy self.acks }
+        ensures case { result.0.book.case ≡ self.case }
+        ensures acks { result.0.acks ≡ self.acks }
+        ensures word { result.0.book.word ≡ self.word }
+        ensures legal { legal_over (over_codes self.case) self.acks self.word ≡ true }
+        ensures book { IsBookOf (over_codes self.case) (state_of over_codes self) result.0.book }
+        ensures row { result.1 ≡ flow_row over_codes self }
+        ensures lifted { IsLifted self.case }
+    {
+        let cwnd = self.core.cwnd();
+        let acks = u64::from(self.core.acks());
+        let now = match self.core.last() {
+            Some(ack) => ack.now,
+            None => 0,
+        };
+        let peak = self.peak;
+        let given = self.core.finish();
+        let row = Row {
+            acks,
+            reports: reports_in(given.book.tickets.as_slice()),
+            held: u64::from(given.book.held),
+            faults: given.book.faults.len() as u64,
+            epochs: given.book.epochs.len() as u64,
+            lost: lost_in(given.acks.as_slice()),
+            timeouts: timeouts_in(given.acks.as_slice()),
+            acked: acked_in(given.acks.as_slice()),
+            peak,
+            cwnd,
+            now,
+            tail: acks.saturating_sub(given.book.first),
+        };
+        (given, row)
+    }
+}
