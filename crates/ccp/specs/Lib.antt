@@ -1,2 +1,3 @@
 -- The definitions of ccp, a file each.
-pub mod Exit
+pub mod Process
+pub mod Words

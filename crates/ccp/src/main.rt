@@ -1,22 +1,23 @@
 //! The command `ccp`: runs the whole tool on the process's words and streams.
 #![tactic(auto)]
 
-mod exit;
+mod process;
 #[cfg(test)]
 mod tests;
 mod words;
 
 use ccp_base::{Reader, Writer};
-use exit::exit;
+use process::run_process;
 use std::env;
 use std::process::ExitCode;
-use words::words;
 
 fn main(rt: HostRuntime) -> ExitCode {
-    let alloc = rt.alloc();
-    let mut source = Reader::new(rt.stdin());
-    let mut sink = Writer::new(rt.stdout());
-    let mut errors = Writer::new(rt.stderr());
-    let words = words(alloc, env::args(&rt));
-    exit(&rt, alloc, words, &mut source, &mut sink, &mut errors)
+    run_process(
+        &rt,
+        rt.alloc(),
+        env::args(&rt),
+        &mut Reader::new(rt.stdin()),
+        &mut Writer::new(rt.stdout()),
+        &mut Writer::new(rt.stderr()),
+    )
 }

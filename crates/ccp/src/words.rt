@@ -1,20 +1,54 @@
 //! The words of the command line, as the system gives them to the process.
-use ccp_base::NoMemory;
-use std::alloc::Global;
-use std::env::Args;
-use std::io;
+ghost use Rattle.std.specs.Prelude.{◌≡◌, IfOk, IfErr};
+ghost use Rattle.std.specs.Iterator.{IsFinite};
+ghost use Rattle.ccp.specs.Words.{fault_of, AreWords, IsCause};
 
-/// The words that the system gives, the program's name first; none where one of them is no text.
-pub fn words(alloc: Global, args: io::Result<Args>) -> Result<Vec<String>, NoMemory> {
-    let mut words = Vec::new(alloc);
-    match args {
-        Ok(args) => {
-            for word in args {
-                words.push(word)?;
-            }
-            Ok(words)
-        }
-        Err(error) if error.kind() == io::ErrorKind::OutOfMemory => Err(NoMemory),
-        Err(_) => Ok(words),
+use std::alloc::{AllocError, Global};
+use std::io;
+use std::io::ErrorKind;
+
+/// Why there are no words.
+#[derive(Clone, Copy)]
+pub enum WordsFault {
+    /// The system reports an error other than out of memory: one of the words isn't UTF-8.
+    NotText,
+    /// Out of memory, for the words or for their list.
+    NoMemory,
+}
+
+impl From<AllocError> for WordsFault {
+    ghost use Rattle.std.specs.Prelude.{◌≡◌};
+    ghost use Rattle.ccp.specs.declared.words.WordsFault.TheVariants as fault;
+
+    ghost from_gives = { λ _ e. e ≡ fault.NoMemory };
+
+    fn from(_: AllocError) -> WordsFault {
+        WordsFault::NoMemory
+    }
+}
+
+/// What an error of the system says of the words.
+fn fault_of(kind: ErrorKind) -> WordsFault
+    ensures { result ≡ fault_of kind }
+{
+    match kind {
+        ErrorKind::OutOfMemory => WordsFault::NoMemory,
+        _ => WordsFault::NotText,
+    }
+}
+
+/// All the words that the system gives, in order, the program's name first. `NotText` exactly if the system reports an
+/// error other than out of memory.
+pub fn words<I: Iterator<Item = String> + Drop>(
+    alloc: Global,
+    given: io::Result<I>,
+) -> Result<Vec<String>, WordsFault>
+    requires ends { IfOk given (λ words. I.can_next words × IsFinite (I.remaining words)) }
+    ensures all { IfOk result (λ words. AreWords I.next_gives given words.items) }
+    ensures cause { IfErr result (IsCause given) }
+{
+    match given {
+        Ok(words) => Ok(words.collect(alloc)?),
+        Err(error) => Err(fault_of(error.kind())),
     }
 }

@@ -22,7 +22,7 @@ use Rattle.flow_core.specs.declared.case.Coded.{Coded}
 use Rattle.flow_core.specs.declared.letter.Letter.{Letter}
 use Rattle.flow_core.specs.LiveText.{Sources, source_at, account_of, flow_from, flow_line, live_text}
 use Rattle.flow_core.specs.Words.{world, legal, is_complete}
-use Rattle.scenario_json.specs.declared.plan.Plan.{Plan}
+use Rattle.scene_members.specs.declared.plan.Plan.{Plan}
 use Rattle.scenario_json.specs.Cases.{coded_of, coded_at, agent_of, kind_of, plan_of, IsCoded, AreFlowsFrom}
 use Rattle.scenario_json.specs.ScenePrograms.{Forms, forms_of}
 use Rattle.run_audit.specs.Audit.{IsWordOf, AreWordsOf, with_words}
@@ -165,7 +165,7 @@ module _ (these those : List (ℕ × Built)) (forms : forms_of these ≡ forms_o
   alike_of left right same flow l r =
       let ss = ap (λ (p : Plan). p.programs.ss) same in
       let ca = ap (λ (p : Plan). p.programs.ca) same in
-      let mss = ap (λ (p : Plan). p.measures.mss) same in
+      let mss = ap (λ (p : Plan). p.link_numbers.mss) same in
       let kind : kind_of left.agent ≡ kind_of right.agent = ap (λ (p : Plan). p.kind) same in
       let ss_role = one_role left.ss.role.number right.ss.role.number left.ss right.ss ss l.ss r.ss in
       let ca_role = one_role left.ca.role.number right.ca.role.number left.ca right.ca ca l.ca r.ca in
@@ -174,12 +174,12 @@ module _ (these those : List (ℕ × Built)) (forms : forms_of these ≡ forms_o
         name = ap (λ (p : Plan). p.name) same;
         agent = l.opening ∙ (λ i. agent_of (kind i) (mss i) (ss_role i) (ca_role i)) ∙ sym r.opening;
         link =
-            same_link left.link right.link (ap (λ (p : Plan). p.trace) same) mss (ap (λ (p : Plan). p.measures.queue) same)
-            (ap (λ (p : Plan). p.measures.delay_us) same) (ap (λ (p : Plan). p.measures.timeout_us) same)
-            (ap (λ (p : Plan). p.fates.losses) same) (ap (λ (p : Plan). p.fates.mark) same);
-        acks = ap (λ (p : Plan). p.measures.acks) same;
-        slots = ap (λ (p : Plan). p.waits.slots) same;
-        lag = ap (λ (p : Plan). p.waits.lag) same;
+            same_link left.link right.link (ap (λ (p : Plan). p.trace) same) mss (ap (λ (p : Plan). p.link_numbers.queue) same)
+            (ap (λ (p : Plan). p.link_numbers.delay_us) same) (ap (λ (p : Plan). p.link_numbers.timeout_us) same)
+            (ap (λ (p : Plan). p.loss_plan.losses) same) (ap (λ (p : Plan). p.loss_plan.mark) same);
+        acks = ap (λ (p : Plan). p.link_numbers.acks) same;
+        slots = ap (λ (p : Plan). p.agent_numbers.slots) same;
+        lag = ap (λ (p : Plan). p.agent_numbers.lag) same;
         ss = ss;
         ca = ca;
       }

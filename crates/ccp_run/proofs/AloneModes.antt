@@ -7,7 +7,7 @@ use Rattle.ccp_base.specs.Parts.{parts_of, without_last}
 use Rattle.std.proofs.lemmas.Bool.Decides.{leb_tells}
 use Rattle.feed_core.proofs.FeedBegins.{no-answers}
 use Rattle.scenario_json.specs.declared.fault.SceneFault.{SceneFault}
-use Rattle.scenario_json.specs.declared.mode.SceneMode.TheVariants as scene
+use Rattle.scene_members.specs.declared.mode.SceneMode.TheVariants as scene
 use Rattle.scenario_json.specs.Scene.{Scene, scene_of}
 use Rattle.portus_core.specs.Programs.{Form}
 use Rattle.portus_core.specs.ProgramForm.{form_of}
@@ -39,7 +39,7 @@ use Rattle.ccp_run.specs.ErrorLine.{most_bytes}
 use Rattle.ccp_run.specs.Scenes.{Says, HasFault, IsNoScenario}
 use Rattle.ccp_run.specs.Settled.{IsSettled}
 use Rattle.ccp_run.proofs.ModeLaws.{IsMode, no_both, reads_to_end}
-use Rattle.ccp_run.proofs.ScenarioInputs.{AreApart, by_readings, of_scene, some_input}
+use Rattle.ccp_run.proofs.ScenarioInputs.{AreApart, by_function, of_scene, some_input}
 
 -- ---- check
 
@@ -231,7 +231,7 @@ module _ (bytes : List ℕ) where
   AreParted cut = AreApart (Says scene.Live cut.program) (HasFault scene.Live cut.program)
 
   scene_parted : (cut : Cut) → AreParted cut
-  scene_parted cut = by_readings (λ read. scene_of read scene.Live cut.program)
+  scene_parted cut = by_function (scene_of scene.Live cut.program)
 
   audit_cut : (left right : Cut) → cut_of bytes ≡ Some left → cut_of bytes ≡ Some right → left ≡ right
   audit_cut left right l r = one_some (sym l ∙ r)

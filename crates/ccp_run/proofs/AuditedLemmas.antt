@@ -9,12 +9,11 @@ use Rattle.flow_core.specs.declared.letter.Letter.{Letter}
 use Rattle.flow_core.specs.LiveText.{Sources, live_text}
 use Rattle.fold_run.specs.Separated.{Cut, cut_of}
 use Rattle.campaign_report.specs.BooksRead.{flows_of}
-use Rattle.scenario_json.specs.declared.mode.SceneMode.TheVariants as scene
-use Rattle.scenario_json.specs.declared.plan.Plan.{Plan}
+use Rattle.scene_members.specs.declared.mode.SceneMode.TheVariants as scene
+use Rattle.scene_members.specs.declared.plan.Plan.{Plan}
 use Rattle.scenario_json.specs.Cases.{plan_of}
 use Rattle.scenario_json.specs.Scene.{Scene, scene_with, scene_of}
 use Rattle.scenario_json.specs.ScenePrograms.{forms_of}
-use Rattle.scenario_json.proofs.ReadingLemmas.{some_reading}
 use Rattle.run_audit.specs.declared.verdict.Verdict.TheVariants.{Yes}
 use Rattle.run_audit.specs.Audit.{IsWordOf, IsLiveText}
 use Rattle.run_audit.proofs.WordsLemmas.{yes_only}
@@ -36,7 +35,7 @@ one_ok found a b l r = let both : Ok a ≡ Ok b = sym l ∙ r in cc
 
 one_scene : (bytes : List ℕ) (left right : Scene) → Says scene.Live bytes left → Says scene.Live bytes right → left ≡ right
 one_scene bytes left right l r =
-    one_ok (scene_of some_reading.0 scene.Live bytes) left right (l some_reading.0 some_reading.1) (r some_reading.0 some_reading.1)
+    one_ok (scene_of scene.Live bytes) left right l r
 
 -- ---- the words of books
 

@@ -1,5 +1,5 @@
 -- A run of `feed`, from how its loop ended and what was told then.
-use Rattle.std.proofs.Common.{◌≡◌, ◌≢◌, ◌⊎◌, inl, inr, ◌∙◌, ℕ, true, List, [], ◌++◌, ap, sym, refl, subst, append-nil}
+use Rattle.std.proofs.Common.{◌≡◌, ◌≢◌, ◌⊎◌, inl, inr, ◌∙◌, ℕ, true, List, [], ◌++◌, arith, ap, sym, refl, subst, append-nil}
 use Rattle.ccp_base.specs.Limits.{most_input_bytes}
 use Rattle.ccp_base.specs.Outside.{Takes, TakesWithin}
 use Rattle.feed_core.specs.declared.ending.FeedEnd.{FeedEnd}
@@ -38,6 +38,7 @@ module _ (source sink errors : Stream) (is_finished : Type 0) (outcome : Outcome
     takes = subst (Takes source.old source.new) (sym (append-nil all.taken)) all.takes;
     answers = all.answers;
     begins = ap answers_of (append-nil all.taken) ∙ sym (append-nil (answers_of all.taken));
+    kept = omega arith;
   }
 
   -- a frame is bad or cut, and that is told, or memory is wanted for its line
@@ -91,4 +92,4 @@ module _ (source sink errors : Stream) (is_finished : Type 0) (outcome : Outcome
   run_of_feed ends.NoMemory fed e =
       ends_wanting (Alone Feed) source sink errors is_finished outcome
       (record { taken = fed.front ++ fed.rest; takes = fed.taken; within = fed.within }) tt
-      (record { front = fed.front; rest = fed.rest; later = fed.later; takes = fed.taken; answers = fed.written; begins = fed.begins }) e
+      (record { front = fed.front; rest = fed.rest; later = fed.later; takes = fed.taken; answers = fed.written; begins = fed.begins; kept = fed.kept }) e

@@ -2,8 +2,8 @@
 use Rattle.std.proofs.Common.{◌≡◌, List, [], ◌∷◌, map, ap, refl}
 use Rattle.std.specs.List.{All}
 use Rattle.std.proofs.lemmas.List.Elements.{All-map}
-use Rattle.scenario_json.specs.declared.open_case.OpenCase.{OpenCase}
-use Rattle.scenario_json.specs.ScenePrograms.{TextReading}
+use Rattle.scene_members.specs.declared.open_case.OpenCase.{OpenCase}
+use Rattle.portus_build.specs.TextReadings.{TextReading}
 use Rattle.live_install.specs.declared.letter.OpenLetter.{OpenLetter}
 use Rattle.live_install.specs.declared.book.OpenBook.{OpenBook}
 use Rattle.live_install.specs.WholeBooks.{IsHistory, flow_of, flows_of, case_in, IsRightBook, IsWhole}

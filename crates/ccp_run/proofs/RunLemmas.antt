@@ -138,6 +138,7 @@ module _ (task : Task) (source sink errors : Stream) (is_finished : Type 0) (out
         takes = takes_nothing source.old source.new same.bytes;
         answers = subst (Appends sink.old sink.new) (sym (is_mode task).begins) (appends_nothing sink.old sink.new quiet);
         begins = sym (append-nil (answers_before task []));
+        kept = omega arith;
       })
       e
 
@@ -157,6 +158,7 @@ module _ (task : Task) (plain : is_stream task ≡ false) (source sink errors : 
     takes = subst (Takes source.old source.new) (sym (append-nil few.taken)) few.takes;
     answers = subst (Appends sink.old sink.new) (sym ((is_mode task).plain plain few.taken).0) (appends_nothing sink.old sink.new same);
     begins = ap (answers_before task) (append-nil few.taken) ∙ sym (append-nil (answers_before task few.taken));
+    kept = omega arith;
   }
 
   plain_cause : (refusal : Refusal) → RefusesInput task source refusal → RefusesAny (is_stream task) task source refusal

@@ -1,26 +1,11 @@
--- Each text is a scenario's, or has one first refusal, over every reading of program texts.
-use Rattle.std.proofs.Common.{◌≡◌, ◌∙◌, ◌⊎◌, inl, inr, ℕ, Result, Ok, Err, List, ap, sym, refl}
-use Rattle.portus_core.specs.Programs.{Form}
-use Rattle.portus_build.specs.declared.fault.BuildFault.{BuildFault}
-use Rattle.portus_build.proofs.SettledTexts.{settled_text}
+-- Each text is a scenario's, or has one first refusal.
+use Rattle.std.proofs.Common.{◌≡◌, ◌≢◌, ◌∙◌, ◌⊎◌, inl, inr, Result, Ok, Err, ap, sym, subst, refl}
 use Rattle.scenario_json.specs.declared.fault.SceneFault.{SceneFault}
-use Rattle.scenario_json.specs.ScenePrograms.{TextReading, ComesTo, ReadsTexts}
-use Rattle.scenario_json.proofs.ReadingLemmas.{some_reading}
+use Rattle.scenario_json.specs.declared.fault.SceneFault.TheVariants as scene
 use Rattle.ccp_run.specs.declared.refusal.Refusal.{Refusal}
 use Rattle.ccp_run.specs.declared.refusal.Refusal.TheVariants.{TooLong, NoSeparator, Program, Line, TooManyAcks, Scene as SceneRefused, Frame, FrameCut}
-use Rattle.ccp_run.specs.Scenes.{IsOfScene, SaysSomething}
-
--- ---- a text comes to one thing
-
-one_outcome : (text : List ℕ) (x y : Result Form BuildFault) → ComesTo text x → ComesTo text y → x ≡ y
-one_outcome text (Ok f) (Ok g) p q = ap Ok ((settled_text text).one f g p q)
-one_outcome text (Ok f) (Err e) p q = absurd ((settled_text text).apart f e p q)
-one_outcome text (Err e) (Ok f) p q = absurd ((settled_text text).apart f e q p)
-one_outcome text (Err d) (Err e) p q = ap Err ((settled_text text).one_refusal d e p q)
-
--- there is one reading
-one_reading : (left right : TextReading) → ReadsTexts left → ReadsTexts right → left ≡ right
-one_reading left right l r = λ i text. one_outcome text (left text) (right text) (l.at text) (r.at text) i
+use Rattle.ccp_run.specs.declared.stop.Stop.{Stop}
+use Rattle.ccp_run.specs.Scenes.{IsOfScene, SaysSomething, StopsFor, scene_stop}
 
 -- ---- what is said, or the fault
 
@@ -49,27 +34,21 @@ module _ {Said : Type 0} (found : Result Said SceneFault) where
     one = one_err found;
   }
 
--- what a function of the reading finds, by every reading
-module _ {Said : Type 0} (found : TextReading → Result Said SceneFault) where
-  abbrev now : Result Said SceneFault
-  now = found some_reading.0
+-- ---- why there is no scenario
 
-  -- what holds of one reading holds of all
-  for_all : (came : Result Said SceneFault) → now ≡ came → (read : TextReading) → ReadsTexts read → found read ≡ came
-  for_all came is read reading = ap found (one_reading read some_reading.0 reading some_reading.1) ∙ is
+stops_of : (has : SceneFault → Type 0) (fault : SceneFault) → (fault ≢ scene.NoMemory → has fault) → StopsFor has (scene_stop fault)
+stops_of has scene.Json h = h (λ e. cc)
+stops_of has (scene.Missing path) h = h (λ e. cc)
+stops_of has (scene.Wrong path) h = h (λ e. cc)
+stops_of has (scene.Range path) h = h (λ e. cc)
+stops_of has (scene.Program name fault) h = h (λ e. cc)
+stops_of has (scene.Trace name fault) h = h (λ e. cc)
+stops_of has scene.Totals h = h (λ e. cc)
+stops_of has scene.NoMemory h = tt
 
-  some_read : (came : Result Said SceneFault) → now ≡ came
-      → SaysSomething (λ said. (read : TextReading) → ReadsTexts read → found read ≡ Ok said)
-      ⊎ ((fault : SceneFault) × ((read : TextReading) → ReadsTexts read → found read ≡ Err fault))
-  some_read (Ok said) is = inl (said, for_all (Ok said) is)
-  some_read (Err fault) is = inr (fault, for_all (Err fault) is)
-
-  pub by_readings : AreApart (λ (said : Said). (read : TextReading) → ReadsTexts read → found read ≡ Ok said) (λ fault. (read : TextReading) → ReadsTexts read → found read ≡ Err fault)
-  by_readings = record {
-    some = some_read now refl;
-    apart = λ said fault says has. ok_or_err now said fault (says some_reading.0 some_reading.1) (has some_reading.0 some_reading.1);
-    one = λ left right l r. one_err now left right (l some_reading.0 some_reading.1) (r some_reading.0 some_reading.1);
-  }
+-- a mode stops for the fault of its scenario
+pub scene_stops : (has : SceneFault → Type 0) (fault : SceneFault) (stop : Stop) → stop ≡ scene_stop fault → (fault ≢ scene.NoMemory → has fault) → StopsFor has stop
+scene_stops has fault stop is h = subst (λ (s : Stop). StopsFor has s) (sym is) (stops_of has fault h)
 
 -- ---- the same with refusals
 

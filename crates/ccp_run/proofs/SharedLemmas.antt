@@ -16,8 +16,8 @@ use Rattle.scenario_json.specs.SharedScenes.{flow_link_of}
 use Rattle.shared_link.specs.declared.shared_case.SharedCase.{SharedCase}
 use Rattle.shared_link.specs.SharedLimits.{IsFlowWithin, IsWithin}
 use Rattle.shared_link.specs.SharedRounds.{acks_after}
-use Rattle.shared_flow.specs.RoundLetters.{Read, opened, closed}
-use Rattle.shared_flow.specs.FlowRow.{flow_row}
+use Rattle.shared_run.specs.RoundLetters.{Read, opened, closed}
+use Rattle.shared_run.specs.FlowRow.{flow_row}
 use Rattle.shared_run.specs.LiftedRun.{AreSimulated}
 use Rattle.shared_run.specs.SharedHistory.{Progress, progress, asks_of, parts, after_round, have_all, rounds_from, most_of, run_of, flows_of, shared_rows}
 use Rattle.ccp_run.proofs.CodedLemmas.{simulated}

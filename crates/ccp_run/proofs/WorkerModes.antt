@@ -1,8 +1,8 @@
 -- The modes that have workers have what the theorem asks of a mode, and so has every task.
 use Rattle.std.proofs.Common.{◌≡◌, ◌⊎◌, refl, inl, inr, ℕ, Bool, List}
 use Rattle.scenario_json.specs.declared.fault.SceneFault.{SceneFault}
-use Rattle.scenario_json.specs.declared.mode.SceneMode.{SceneMode}
-use Rattle.scenario_json.specs.declared.mode.SceneMode.TheVariants as scene
+use Rattle.scene_members.specs.declared.mode.SceneMode.{SceneMode}
+use Rattle.scene_members.specs.declared.mode.SceneMode.TheVariants as scene
 use Rattle.scenario_json.specs.Rollout.{rollout_of}
 use Rattle.scenario_json.specs.Scene.{scene_of}
 use Rattle.scenario_json.specs.SharedScenes.{shared_scene_of}
@@ -15,10 +15,10 @@ use Rattle.ccp_run.specs.Settled.{IsSettled}
 use Rattle.ccp_run.specs.Shared.{SaysShared, HasSharedFault}
 use Rattle.ccp_run.proofs.AloneModes.{alone_mode}
 use Rattle.ccp_run.proofs.ModeLaws.{IsMode, reads_to_end}
-use Rattle.ccp_run.proofs.ScenarioInputs.{AreApart, by_function, by_readings, some_input, not_both, one_refused}
+use Rattle.ccp_run.proofs.ScenarioInputs.{AreApart, by_function, some_input, not_both, one_refused}
 
 scenes_apart : (mode : SceneMode) (bytes : List ℕ) → AreApart (Says mode bytes) (HasFault mode bytes)
-scenes_apart mode bytes = by_readings (λ read. scene_of read mode bytes)
+scenes_apart mode bytes = by_function (scene_of mode bytes)
 
 -- a mode whose inputs say something, or have a first fault
 settled_by : (task : Task) (bytes : List ℕ) {Said : Type 0} (says : Said → Type 0) (has : SceneFault → Type 0) → AreApart says has
@@ -55,7 +55,7 @@ settled_rollout bytes =
 
 settled_shared : (bytes : List ℕ) → IsSettled Shared bytes
 settled_shared bytes =
-    settled_by Shared bytes (SaysShared bytes) (HasSharedFault bytes) (by_readings (λ read. shared_scene_of read bytes))
+    settled_by Shared bytes (SaysShared bytes) (HasSharedFault bytes) (by_function (shared_scene_of bytes))
     (λ i. i) (λ i. i) (λ refusal r. r) (λ refusal r. r) (λ output made. (_, made.scenario.text))
 
 settled_timeline : (wire : Bool) (bytes : List ℕ) → IsSettled (Timeline wire) bytes

@@ -6,7 +6,7 @@ use Rattle.flow_core.specs.declared.case.Case.{Case}
 use Rattle.flow_core.specs.LiveText.{Sources, flow_from}
 use Rattle.campaign_gate.specs.CampaignBooks.{acks_read}
 use Rattle.campaign_report.specs.AcksText.{acks_text}
-use Rattle.scenario_json.specs.declared.mode.SceneMode.TheVariants as scene
+use Rattle.scene_members.specs.declared.mode.SceneMode.TheVariants as scene
 use Rattle.scenario_json.specs.Cases.{case_names}
 use Rattle.scenario_json.specs.ScenePrograms.{forms_of}
 use Rattle.ccp_run.specs.declared.outcome.ModeOutput.{ModeOutput}

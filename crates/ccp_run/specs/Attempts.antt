@@ -60,7 +60,7 @@ pub record FailsToRead (task : Task) (source : Stream) : Type 0 where
   pub rose : Rose source.before source.now
   pub within : TakesWithin (limit_of task) source.old source.new
 
--- memory was wanted, before more bytes were taken than the limit
+-- out of memory, before more bytes were taken than the limit
 pub record WantsMemory (task : Task) (source : Stream) : Type 0 where
   pub left : IsLeft (is_read task) source
   pub within : TakesWithin (limit_of task) source.old source.new

@@ -5,7 +5,7 @@ use Rattle.reg_compiler.specs.declared.built.Built.{Built}
 use Rattle.flow_core.specs.declared.case.Case.{Case}
 use Rattle.fold_run.specs.Separated.{Cut, cut_of}
 use Rattle.scenario_json.specs.declared.fault.SceneFault.{SceneFault}
-use Rattle.scenario_json.specs.declared.mode.SceneMode.TheVariants as scene
+use Rattle.scene_members.specs.declared.mode.SceneMode.TheVariants as scene
 use Rattle.scenario_json.specs.Scene.{Scene}
 use Rattle.scenario_json.specs.ScenePrograms.{forms_of}
 use Rattle.run_audit.specs.declared.verdict.Verdict.{Verdict}

@@ -9,7 +9,7 @@ use Rattle.campaign_gate.specs.declared.row.Row.{Row}
 use Rattle.campaign_gate.specs.CampaignRow.{row_read}
 use Rattle.campaign_report.specs.TableText.{table_text}
 use Rattle.campaign_report.specs.WireText.{wire_text}
-use Rattle.scenario_json.specs.declared.mode.SceneMode.TheVariants as scene
+use Rattle.scene_members.specs.declared.mode.SceneMode.TheVariants as scene
 use Rattle.scenario_json.specs.Cases.{case_names}
 use Rattle.scenario_json.specs.ScenePrograms.{forms_of}
 use Rattle.ccp_run.specs.declared.outcome.ModeOutput.{ModeOutput}

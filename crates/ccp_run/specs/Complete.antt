@@ -1,4 +1,4 @@
--- What decides whether a run refuses its input, where the source tells its bytes.
+-- What decides whether a run refuses its input, if the source shows its bytes.
 use Rattle.std.specs.Prelude.{◌≡◌, ◌≤◌, ◌<◌, ◌⊎◌, List, ℕ, true, Some, length}
 use Rattle.ccp_base.specs.Outside.{Rose}
 use Rattle.ccp_run.specs.declared.outcome.Outcome.{Outcome}
@@ -10,7 +10,7 @@ use Rattle.ccp_run.specs.Run.{IsRun}
 use Rattle.ccp_run.specs.Statuses.{number_of}
 use Rattle.ccp_run.specs.Streams.{Stream}
 
--- the run ended so, or memory was wanted
+-- the run ended so, or out of memory
 abbrev pub EndsAs : Status → Outcome → Type 0
 EndsAs end outcome = (outcome.status ≡ number_of end) ⊎ (outcome.status ≡ number_of status.NoMemory)
 

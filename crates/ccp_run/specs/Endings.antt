@@ -14,7 +14,7 @@ use Rattle.ccp_run.specs.ErrorLine.{refusal_line}
 use Rattle.ccp_run.specs.Statuses.{number_of, read_line, write_line, memory_line}
 use Rattle.ccp_run.specs.Streams.{Stream, Tells}
 
--- the run ends with this status, tells this line, and keeps nothing
+-- the run ends with this status, reports this line, and keeps nothing
 pub record Ends (errors : Stream) (outcome : Outcome) (end : Status) (line : List ℕ) : Type 0 where
   pub status : outcome.status ≡ number_of end
   pub books : outcome.books ≡ []
@@ -22,7 +22,7 @@ pub record Ends (errors : Stream) (outcome : Outcome) (end : Status) (line : Lis
   pub ran : outcome.ran ≡ 0
   pub told : Tells errors line
 
--- the whole output was written and the sink finished, nothing was told, and the rest of the output is kept
+-- the whole output was written and the sink finished, nothing was reported, and the rest of the output is kept
 pub record WritesAll (sink errors : Stream) (is_finished : Type 0) (outcome : Outcome) (output : ModeOutput) : Type 0 where
   pub written : Appends sink.old sink.new output.text
   pub finished : is_finished
@@ -42,7 +42,7 @@ pub record Writes (sink errors : Stream) (is_finished : Type 0) (outcome : Outco
   pub whole : outcome.status ≡ number_of status.Done → WritesAll sink errors is_finished outcome output
   pub failed : outcome.status ≢ number_of status.Done → FailsToWrite sink errors outcome output
 
--- the refusal is told, or memory is wanted for its line; that the input is too long is always told
+-- the refusal is reported, or out of memory for its line; that the input is too long is always reported
 pub record Refuses (errors : Stream) (outcome : Outcome) (refusal : Refusal) : Type 0 where
   pub told : outcome.status ≡ number_of status.InputRefused → Ends errors outcome status.InputRefused (refusal_line refusal)
   pub failed : outcome.status ≢ number_of status.InputRefused → Ends errors outcome status.NoMemory memory_line

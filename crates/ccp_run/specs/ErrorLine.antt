@@ -1,4 +1,4 @@
--- The line that tells why an input is refused.
+-- The line that reports why an input is refused.
 use Rattle.std.specs.Prelude.{ℕ, List, codes, decimal}
 use Rattle.ccp_base.specs.Limits.{most_input_bytes, most_audit_bytes}
 use Rattle.portus_build.specs.RefusalText.{refusal_text}

@@ -10,7 +10,7 @@ use Rattle.ccp_run.specs.Endings.{Ends, Refuses}
 use Rattle.ccp_run.specs.Statuses.{number_of, read_line, write_line, memory_line}
 use Rattle.ccp_run.specs.Streams.{Stream}
 
--- nothing was told, and nothing is kept
+-- nothing was reported, and nothing is kept
 pub record EndsWhole (errors : Stream) (outcome : Outcome) : Type 0 where
   pub status : outcome.status ≡ number_of status.Done
   pub books : outcome.books ≡ []
@@ -18,7 +18,7 @@ pub record EndsWhole (errors : Stream) (outcome : Outcome) : Type 0 where
   pub ran : outcome.ran ≡ 0
   pub quiet : errors.new ≡ errors.old
 
--- what each end of the loop is told as
+-- how each end of the loop is reported
 abbrev pub EndsFeed : Stream → Outcome → FeedEnd → Type 0
 EndsFeed errors outcome ends.Whole = EndsWhole errors outcome
 EndsFeed errors outcome (ends.Bad field place) = Refuses errors outcome (Frame field place)

@@ -8,7 +8,7 @@ use Rattle.flow_core.specs.declared.case.Case.{Case}
 use Rattle.flow_core.specs.LiveText.{live_text}
 use Rattle.flow_core.specs.Words.{legal, is_complete}
 use Rattle.campaign_report.specs.BooksRead.{IsRead, read_flow, read_world, flows_of}
-use Rattle.scenario_json.specs.declared.mode.SceneMode.TheVariants as scene
+use Rattle.scene_members.specs.declared.mode.SceneMode.TheVariants as scene
 use Rattle.scenario_json.specs.ScenePrograms.{forms_of}
 use Rattle.ccp_run.specs.declared.outcome.ModeOutput.{ModeOutput}
 use Rattle.ccp_run.specs.declared.refusal.Limit.TheVariants.{Input}

@@ -2,10 +2,11 @@
 use Rattle.std.specs.Prelude.{◌≡◌, ℕ, Ok, Err, List, [], map}
 use Rattle.std.specs.List.{All}
 use Rattle.scenario_json.specs.declared.fault.SceneFault.{SceneFault}
-use Rattle.scenario_json.specs.declared.open_case.OpenCase.{OpenCase}
-use Rattle.scenario_json.specs.OpenCases.{open_plan_of, AreOpenFlowsFrom}
-use Rattle.scenario_json.specs.Rollout.{OpenPlan, rollout_of}
-use Rattle.scenario_json.specs.ScenePrograms.{TextReading, ReadsTexts}
+use Rattle.scene_members.specs.declared.open_case.OpenCase.{OpenCase}
+use Rattle.scene_members.specs.OpenCases.{open_plan_of, AreOpenFlowsFrom}
+use Rattle.scene_members.specs.Rollout.{OpenPlan}
+use Rattle.scenario_json.specs.Rollout.{rollout_of}
+use Rattle.portus_build.specs.TextWalk.{program_of}
 use Rattle.live_install.specs.declared.letter.OpenLetter.{OpenLetter}
 use Rattle.live_install.specs.RolloutText.{rollout_text}
 use Rattle.live_install.specs.WholeBooks.{IsHistory}
@@ -25,8 +26,8 @@ pub record IsRolloutScenario (bytes : List ℕ) (cases : List OpenCase) : Type 0
 pub record TellsRollout (cases : List OpenCase) (output : ModeOutput) : Type 0 where
   pub histories : List (OpenCase × List OpenLetter)
   pub each : map (λ (flow : OpenCase × List OpenLetter). flow.0) histories ≡ cases
-  pub whole : (read : TextReading) → ReadsTexts read → All (IsHistory read) histories
-  pub written : (read : TextReading) → ReadsTexts read → output.text ≡ rollout_text read histories
+  pub whole : All (IsHistory program_of) histories
+  pub written : output.text ≡ rollout_text program_of histories
   pub no_books : output.books ≡ []
   pub no_programs : output.programs ≡ []
   pub idle : output.ran ≡ 0

@@ -1,5 +1,6 @@
 -- What a run promises: the theorem of every task.
 use Rattle.std.specs.Prelude.{◌≡◌, ◌≢◌, ◌≤◌, ℕ, ◌+◌, Bool, true, false, List, ◌++◌, length}
+use Rattle.ccp_base.specs.Limits.{most_frame_bytes}
 use Rattle.ccp_base.specs.Outside.{Rose, Takes, TakesWithin, Appends, AppendsPrefix}
 use Rattle.ccp_run.specs.declared.outcome.ModeOutput.{ModeOutput}
 use Rattle.ccp_run.specs.declared.outcome.Outcome.{Outcome}
@@ -38,7 +39,8 @@ pub record WritesAnswers (task : Task) (source sink : Stream) : Type 0 where
   pub takes : Takes source.old source.new taken
   pub answers : Appends sink.old sink.new (answers_before task taken)
 
--- exactly the answers to a front of what was taken were written, and those to the rest would follow them
+-- exactly the answers to a front of what was taken were written, and those to the rest, at most a frame's bytes, would
+-- follow them
 pub record WritesSomeAnswers (task : Task) (source sink : Stream) : Type 0 where
   pub front : List ℕ
   pub rest : List ℕ
@@ -46,6 +48,7 @@ pub record WritesSomeAnswers (task : Task) (source sink : Stream) : Type 0 where
   pub takes : Takes source.old source.new (front ++ rest)
   pub answers : Appends sink.old sink.new (answers_before task front)
   pub begins : answers_before task (front ++ rest) ≡ answers_before task front ++ later
+  pub kept : length rest ≤ most_frame_bytes
 
 -- ---- each status
 

@@ -3,11 +3,12 @@ use Rattle.std.specs.Prelude.{◌≡◌, ℕ, Ok, Err, List, map}
 use Rattle.std.specs.List.{All}
 use Rattle.flow_core.specs.declared.case.Case.{Case}
 use Rattle.reg_compiler.specs.declared.built.Built.{Built}
-use Rattle.scenario_json.specs.declared.mode.SceneMode.{SceneMode}
+use Rattle.scene_members.specs.declared.mode.SceneMode.{SceneMode}
 use Rattle.scenario_json.specs.Cases.{plan_of, IsCoded, AreFlowsFrom}
 use Rattle.scenario_json.specs.Scene.{Scene, scene_with, scene_of}
-use Rattle.scenario_json.specs.ScenePrograms.{TextReading, ReadsTexts, forms_of}
+use Rattle.scenario_json.specs.ScenePrograms.{forms_of}
 use Rattle.scenario_json.specs.declared.fault.SceneFault.{SceneFault}
+use Rattle.scenario_json.specs.declared.fault.SceneFault.TheVariants as scene
 use Rattle.ccp_run.specs.declared.refusal.Refusal.{Refusal}
 use Rattle.ccp_run.specs.declared.refusal.Refusal.TheVariants as refusal
 use Rattle.ccp_run.specs.declared.stop.Stop.{Stop}
@@ -15,7 +16,7 @@ use Rattle.ccp_run.specs.declared.stop.Stop.TheVariants as stop
 
 -- bytes are a scenario's text, which says this
 abbrev pub Says : SceneMode → List ℕ → Scene → Type 0
-Says mode bytes scene = (read : TextReading) → ReadsTexts read → scene_of read mode bytes ≡ Ok scene
+Says mode bytes scene = scene_of mode bytes ≡ Ok scene
 
 -- bytes are a scenario's text, and these are its programs and cases
 pub record IsScenario (mode : SceneMode) (bytes : List ℕ) (programs : List (ℕ × Built)) (cases : List Case) : Type 0 where
@@ -38,9 +39,14 @@ StopsFor has (stop.Refused refusal) = IsOfScene has refusal
 StopsFor has stop.ReadFailed = ⊥
 StopsFor has stop.NoMemory = Unit {0}
 
+-- why a mode has no output, where its text is no scenario for this fault
+abbrev pub scene_stop : SceneFault → Stop
+scene_stop scene.NoMemory = stop.NoMemory
+scene_stop fault = stop.Refused (refusal.Scene fault)
+
 -- bytes are no scenario's text, and this is the first fault
 abbrev pub HasFault : SceneMode → List ℕ → SceneFault → Type 0
-HasFault mode bytes fault = (read : TextReading) → ReadsTexts read → scene_of read mode bytes ≡ Err fault
+HasFault mode bytes fault = scene_of mode bytes ≡ Err fault
 
 -- bytes are no scenario's text, and this is their first refusal
 abbrev pub IsNoScenario : SceneMode → List ℕ → Refusal → Type 0

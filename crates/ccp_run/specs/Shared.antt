@@ -10,7 +10,7 @@ use Rattle.scenario_json.specs.declared.fault.SceneFault.{SceneFault}
 use Rattle.scenario_json.specs.declared.shared_scene.SharedScene.{SharedScene}
 use Rattle.scenario_json.specs.Cases.{plan_of, case_names, IsCoded, AreFlowsFrom}
 use Rattle.scenario_json.specs.Scene.{scene_with}
-use Rattle.scenario_json.specs.ScenePrograms.{TextReading, ReadsTexts, forms_of}
+use Rattle.scenario_json.specs.ScenePrograms.{forms_of}
 use Rattle.scenario_json.specs.SharedScenes.{SharedParts, shared_with, shared_scene_of}
 use Rattle.shared_link.specs.declared.round.Counts.{Counts}
 use Rattle.shared_link.specs.declared.shared_case.SharedCase.{SharedCase}
@@ -26,7 +26,7 @@ use Rattle.ccp_run.specs.Scenes.{IsOfScene, SaysSomething, StopsFor}
 
 -- bytes are the text of a scenario of flows on one link, which says this
 abbrev pub SaysShared : List ℕ → SharedParts → Type 0
-SaysShared bytes parts = (read : TextReading) → ReadsTexts read → shared_scene_of read bytes ≡ Ok parts
+SaysShared bytes parts = shared_scene_of bytes ≡ Ok parts
 
 -- bytes are such a text, and these are its programs and cases, its link, and the most rounds
 pub record IsSharedScenario (bytes : List ℕ) (programs : List (ℕ × Built)) (cases : List Case) (link : SharedCase) (rounds : ℕ) : Type 0 where
@@ -36,7 +36,7 @@ pub record IsSharedScenario (bytes : List ℕ) (programs : List (ℕ × Built)) 
 
 -- bytes are no such text, and this is the first fault
 abbrev pub HasSharedFault : List ℕ → SceneFault → Type 0
-HasSharedFault bytes fault = (read : TextReading) → ReadsTexts read → shared_scene_of read bytes ≡ Err fault
+HasSharedFault bytes fault = shared_scene_of bytes ≡ Err fault
 
 -- why there is no such scenario, but for want of memory
 abbrev pub StopsShared : List ℕ → Stop → Type 0

@@ -8,7 +8,7 @@ use Rattle.flow_core.specs.declared.letter.Letter.{Letter}
 use Rattle.flow_core.specs.LiveText.{Sources, flow_from, live_text}
 use Rattle.campaign_gate.specs.CampaignWord.{plan_over}
 use Rattle.campaign_report.specs.BooksRead.{flows_of}
-use Rattle.scenario_json.specs.declared.mode.SceneMode.TheVariants as scene
+use Rattle.scene_members.specs.declared.mode.SceneMode.TheVariants as scene
 use Rattle.scenario_json.specs.ScenePrograms.{forms_of}
 use Rattle.ccp_run.specs.declared.outcome.ModeOutput.{ModeOutput}
 use Rattle.ccp_run.specs.declared.refusal.Limit.TheVariants.{Input}

@@ -1,21 +1,21 @@
-//! The modes whose work is done by their caller alone, and the end without words.
+//! The modes whose work is done by their caller alone, and the ends without words.
 
 ghost use Rattle.ccp_run.specs.Complete.{DoesTask};
 ghost use Rattle.ccp_run.specs.Endings.{Ends};
 ghost use Rattle.ccp_run.specs.Modes.{Task};
-ghost use Rattle.ccp_run.specs.Statuses.{memory_line};
+ghost use Rattle.ccp_run.specs.Statuses.{memory_line, words_line};
 ghost use Rattle.ccp_run.specs.Streams.{over};
 
 use crate::ending::end_without;
 use crate::modes::alone_run;
 use crate::outcome::Outcome;
-use crate::status::{MEMORY_LINE, Status};
+use crate::status::{MEMORY_LINE, Status, WORDS_LINE};
 use ccp_base::{Sink, Source};
 use ccp_words::Alone;
 use std::alloc::Global;
 
 /// Does the work of a mode: in `feed` it answers the frames of the source as they come, in whatever pieces; else it
-/// reads the source to its end, works out the mode's output, and writes it to the sink. Where it can't, it tells why on
+/// reads the source to its end, works out the mode's output, and writes it to the sink. If it can't, it reports why on
 /// `errors`.
 pub fn alone<S: Source, K: Sink, E: Sink>(
     alloc: Global,
@@ -32,7 +32,14 @@ pub fn alone<S: Source, K: Sink, E: Sink>(
     alone_run(alloc, mode, source, sink, errors)
 }
 
-/// Ends where memory was wanted for the words: nothing is read or written.
+/// Ends if the words aren't text: reports that they are refused.
+pub fn refuse_words<E: Sink>(alloc: Global, errors: &mut E) -> Outcome
+    ensures { Ends (over E.written E.faults errors.old errors.new) result Status.WordsRefused words_line }
+{
+    end_without(alloc, errors, Status::WordsRefused, WORDS_LINE)
+}
+
+/// Ends if there is no memory for the words: reports that.
 pub fn without_words<E: Sink>(alloc: Global, errors: &mut E) -> Outcome
     ensures { Ends (over E.written E.faults errors.old errors.new) result Status.NoMemory memory_line }
 {

@@ -12,7 +12,7 @@ use ccp_base::{NoMemory, Sink, write_all};
 use reg_compiler::Builts;
 use std::alloc::Global;
 
-/// Writes the output, or tells why there is none.
+/// Writes the output, or reports why there is none.
 pub fn end<K: Sink, E: Sink>(
     alloc: Global,
     made: Result<ModeOutput, Stop>,
@@ -53,7 +53,7 @@ fn write_output<K: Sink, E: Sink>(
     }
 }
 
-/// Tells why the input is refused.
+/// Reports why the input is refused.
 pub fn refuse<E: Sink>(alloc: Global, refusal: Refusal, errors: &mut E) -> Outcome
     ensures { Refuses (over E.written E.faults errors.old errors.new) result refusal }
 {
@@ -66,7 +66,7 @@ pub fn refuse<E: Sink>(alloc: Global, refusal: Refusal, errors: &mut E) -> Outco
     }
 }
 
-/// Ends without an output: tells the line.
+/// Ends without an output: reports the line.
 pub fn end_without<E: Sink>(alloc: Global, errors: &mut E, status: Status, line: &[u8]) -> Outcome
     ensures { Ends (over E.written E.faults errors.old errors.new) result status line.now }
 {

@@ -4,6 +4,7 @@ mod acks;
 mod audit;
 mod campaign;
 mod check;
+mod common;
 mod feed;
 mod fold;
 mod live;
@@ -58,7 +59,9 @@ pub fn alone_run<S: Source, K: Sink, E: Sink>(
 {
     match mode {
         Alone::Feed => feed_run(alloc, source, sink, errors),
-        Alone::Check | Alone::Fold | Alone::Audit => whole(alloc, mode, source, sink, errors),
+        Alone::Check | Alone::Fold | Alone::Audit => read_then_write(
+            alloc, mode, source, sink, errors,
+        ),
     }
 }
 
@@ -72,7 +75,7 @@ fn limit(mode: Alone) -> Limit
     }
 }
 
-/// The output of a mode for an input that was read to its end. `feed` doesn't read its input so.
+/// The output of a mode for an input that was read to its end. `feed` never comes here: it answers as its input comes.
 fn output(alloc: Global, mode: Alone, bytes: &[u8]) -> Result<ModeOutput, Stop>
     requires { is_stream (Task.Alone mode) ≡ false }
     ensures { IsAnswer (Task.Alone mode) bytes.now result }
@@ -116,7 +119,7 @@ pub fn asked_run<R: Threads + Wait + Sync, S: Source, K: Sink, E: Sink, G: Gate 
 }
 
 /// The output of a mode with workers, or why there is none, before anything is written.
-fn attempt<R: Threads + Wait + Sync, S: Source, G: Gate + Sync>(
+fn make_output<R: Threads + Wait + Sync, S: Source, G: Gate + Sync>(
     rt: &R,
     alloc: Global,
     asked: Asked,
@@ -144,7 +147,7 @@ fn attempt<R: Threads + Wait + Sync, S: Source, G: Gate + Sync>(
 // ---- for every mode
 
 /// Does the work of a mode that reads its source to the end before it writes.
-fn whole<S: Source, K: Sink, E: Sink>(
+fn read_then_write<S: Source, K: Sink, E: Sink>(
     alloc: Global,
     mode: Alone,
     source: &mut S,
@@ -179,7 +182,7 @@ fn workers_run<R: Threads + Wait + Sync, S: Source, K: Sink, E: Sink, G: Gate + 
         (over K.written K.faults sink.old sink.new)
         (over E.written E.faults errors.old errors.new) (K.is_finished sink.new) result }
 {
-    let made = attempt(rt, alloc, asked, source, gate);
+    let made = make_output(rt, alloc, asked, source, gate);
     end(alloc, made, sink, errors)
 }
 
@@ -189,8 +192,6 @@ fn read_output<S: Source>(alloc: Global, mode: Alone, source: &mut S) -> Result<
     requires { is_stream (Task.Alone mode) ≡ false }
     ensures { IsAttempt (Task.Alone mode) (over S.remaining S.faults source.old source.new) result }
 {
-    match read_bytes(alloc, limit(mode), source) {
-        Ok(bytes) => output(alloc, mode, bytes.as_slice()),
-        Err(stop) => Err(stop),
-    }
+    let bytes = read_bytes(alloc, limit(mode), source)?;
+    output(alloc, mode, bytes.as_slice())
 }

@@ -16,7 +16,7 @@ pub struct ModeOutput {
     pub ran: u64,
 }
 
-/// What a run came to.
+/// How a run ended, and what it made.
 #[derive(Drop)]
 pub struct Outcome {
     /// The number of a `Status`.

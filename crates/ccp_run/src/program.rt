@@ -26,7 +26,7 @@ pub fn program(alloc: Global, text: &[u8]) -> Result<Built, Stop>
 }
 
 /// One program, under the number 0.
-pub fn only(alloc: Global, built: Built) -> Result<Builts, NoMemory>
+pub fn numbered_zero(alloc: Global, built: Built) -> Result<Builts, NoMemory>
     ensures { IfOk result (λ programs. programs ≡ (0, built) ∷ []) }
 {
     let mut programs = Builts::new(alloc);

@@ -17,10 +17,10 @@ pub enum Limit {
     Audit,
 }
 
-/// The line that tells of an input past the limit of every mode but `audit`.
+/// The line that reports an input past the limit of every mode but `audit`.
 const INPUT_LINE: &[u8] = b"ccp: input refused: more than 1048576 bytes\n";
 
-/// The line that tells of an input past the limit of `audit`.
+/// The line that reports an input past the limit of `audit`.
 const AUDIT_LINE: &[u8] = b"ccp: input refused: more than 67108864 bytes\n";
 
 impl Limit {
@@ -33,7 +33,7 @@ impl Limit {
         }
     }
 
-    /// The line that tells of a longer input.
+    /// The line that reports a longer input.
     pub fn line(self) -> &'static [u8]
         ensures { result.now ≡ refusal_line (Refusal.TooLong self) }
     {
@@ -59,13 +59,13 @@ pub enum Refusal {
     TooManyAcks,
     /// The text is no scenario.
     Scene(SceneFault),
-    /// No frame goes on so: the field, and the offset of its first bad byte in the input.
+    /// From some byte on the input isn't the start of any frame: the field of that byte, and its offset in the input.
     Frame(BadKind, u64),
     /// The input ends within the frame that begins at this offset.
     FrameCut(u64),
 }
 
-/// The line that tells why an input is refused.
+/// The line that reports why an input is refused.
 pub fn refusal_line(alloc: Global, refusal: &Refusal) -> Result<Bytes, NoMemory>
     ensures { IfOk result (λ line. line ≡ refusal_line refusal.now) }
 {

@@ -1,7 +1,7 @@
 //! The scenario of an input's bytes, or the stop that refuses it.
 ghost use Rattle.std.specs.Prelude.{◌≡◌, ◌≤◌, IfOk, IfErr, length};
 ghost use Rattle.scenario_json.specs.Cases.{case_names, AreNumberedFrom};
-ghost use Rattle.scenario_json.specs.Scene.{most_cases_of};
+ghost use Rattle.scene_members.specs.Whole.{most_cases_of};
 ghost use Rattle.ccp_run.specs.Scenes.{IsScenario, StopsScene};
 
 use crate::refusal::Refusal;
@@ -10,7 +10,22 @@ use scenario_json::calls::scenario;
 use scenario_json::{Scenario, SceneFault, SceneMode};
 use std::alloc::Global;
 
+impl From<SceneFault> for Stop {
+    ghost use Rattle.std.specs.Prelude.{◌≡◌};
+    ghost use Rattle.ccp_run.specs.Scenes.{scene_stop};
+
+    ghost from_gives = { λ fault stop. stop ≡ scene_stop fault };
+
+    fn from(fault: SceneFault) -> Stop {
+        match fault {
+            SceneFault::NoMemory => Stop::NoMemory,
+            fault => Stop::Refused(Refusal::Scene(fault)),
+        }
+    }
+}
+
 /// The scenario that the bytes stand for.
+#[tactic(auto, using(crate::proofs::ScenarioInputs::scene_stops))]
 pub fn scene(alloc: Global, bytes: &[u8], mode: SceneMode) -> Result<Scenario, Stop>
     ensures found { IfOk result (λ s. IsScenario mode bytes.now s.programs s.cases) }
     ensures numbered { IfOk result (λ s. AreNumberedFrom 0 s.programs) }
@@ -18,9 +33,5 @@ pub fn scene(alloc: Global, bytes: &[u8], mode: SceneMode) -> Result<Scenario, S
     ensures few { IfOk result (λ s. length s.cases ≤ most_cases_of mode) }
     ensures err { IfErr result (StopsScene mode bytes.now) }
 {
-    match scenario(alloc, bytes, mode) {
-        Ok(scene) => Ok(scene),
-        Err(SceneFault::NoMemory) => Err(Stop::NoMemory),
-        Err(fault) => Err(Stop::Refused(Refusal::Scene(fault))),
-    }
+    Ok(scenario(alloc, bytes, mode)?)
 }

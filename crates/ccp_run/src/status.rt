@@ -18,16 +18,16 @@ pub enum Status {
     NoMemory,
 }
 
-/// The line that tells that the words are refused.
+/// The line that reports refused words.
 pub const WORDS_LINE: &[u8] = b"ccp: words refused\n";
 
-/// The line that tells that a read failed.
+/// The line that reports a failed read.
 pub const READ_LINE: &[u8] = b"ccp: read fault\n";
 
-/// The line that tells that a write failed.
+/// The line that reports a failed write.
 pub const WRITE_LINE: &[u8] = b"ccp: write fault\n";
 
-/// The line that tells that memory was wanted.
+/// The line that reports out of memory.
 pub const MEMORY_LINE: &[u8] = b"ccp: no memory\n";
 
 impl Status {

@@ -13,8 +13,8 @@ use std::alloc::Global;
 use std::sync::Wait;
 use std::thread::Threads;
 
-/// Does what the words ask for, from the source to the sink, and tells on `errors` why where it can't. Workers pass
-/// the gate at their points.
+/// Does what the words ask for, from the source to the sink, or reports on `errors` why it can't. Workers pass the gate
+/// at their points.
 pub fn run<R: Threads + Wait + Sync, S: Source, K: Sink, E: Sink, G: Gate + Sync>(
     rt: &R,
     alloc: Global,

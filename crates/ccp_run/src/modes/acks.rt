@@ -8,7 +8,7 @@ ghost use Rattle.ccp_run.specs.Attempts.{IsAnswer, IsAttempt};
 ghost use Rattle.ccp_run.specs.Streams.{over};
 ghost use Rattle.ccp_run.specs.Modes.{Task};
 
-use crate::modes::campaign::agents;
+use crate::modes::common::agents;
 use crate::outcome::ModeOutput;
 use crate::reading::read_bytes;
 use crate::refusal::Limit;
@@ -35,10 +35,8 @@ pub fn read_acks<R: Threads + Wait + Sync, S: Source, G: Gate + Sync>(
     requires workers { (1 ≤ workers) × (workers ≤ most_workers) }
     ensures { IsAttempt Task.Acks (over S.remaining S.faults source.old source.new) result }
 {
-    match read_bytes(alloc, Limit::Input, source) {
-        Ok(bytes) => acks_output(rt, alloc, workers, bytes.as_slice(), gate),
-        Err(stop) => Err(stop),
-    }
+    let bytes = read_bytes(alloc, Limit::Input, source)?;
+    acks_output(rt, alloc, workers, bytes.as_slice(), gate)
 }
 
 /// The acknowledgements of the scenario that the bytes stand for, or its refusal.
@@ -53,11 +51,11 @@ fn acks_output<R: Threads + Wait + Sync, G: Gate + Sync>(
     ensures { IsAnswer Task.Acks bytes.now result }
 {
     let scene = scene(alloc, bytes, SceneMode::Live)?;
-    Ok(acknowledged(rt, alloc, workers, scene, gate)?)
+    Ok(run_acks(rt, alloc, workers, scene, gate)?)
 }
 
 /// The acknowledgements of the cases of a scenario.
-fn acknowledged<R: Threads + Wait + Sync, G: Gate + Sync>(
+fn run_acks<R: Threads + Wait + Sync, G: Gate + Sync>(
     rt: &R,
     alloc: Global,
     workers: u32,

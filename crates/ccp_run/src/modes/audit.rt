@@ -34,12 +34,12 @@ pub fn audit_output(alloc: Global, bytes: &[u8]) -> Result<ModeOutput, Stop>
         return Err(Stop::Refused(Refusal::TooLong(Limit::Input)));
     }
     let scene = scene(alloc, cut.program, SceneMode::Live)?;
-    let verdict = judged(alloc, &scene, cut.rest)?;
+    let verdict = judge(alloc, &scene, cut.rest)?;
     Ok(verdict_output(alloc, verdict)?)
 }
 
 /// What is said of a text as the live text of a scenario.
-fn judged(alloc: Global, scene: &Scenario, text: &[u8]) -> Result<Verdict, NoMemory>
+fn judge(alloc: Global, scene: &Scenario, text: &[u8]) -> Result<Verdict, NoMemory>
     requires few { length scene.now.cases ≤ most_flows }
     requires numbered { AreNumberedFrom 0 scene.now.programs }
     requires coded { All (IsCoded scene.now.programs) scene.now.cases }

@@ -6,10 +6,11 @@ ghost use Rattle.ccp_run.specs.Attempts.{IsAnswer, IsAttempt};
 ghost use Rattle.std.specs.List.{All};
 ghost use Rattle.campaign_report.specs.TableText.{table_text};
 ghost use Rattle.scenario_json.specs.Cases.{case_names, IsCoded, AreNumberedFrom};
-ghost use Rattle.ccp_run.specs.Campaign.{campaign_text, case_agents, frames_shown};
+ghost use Rattle.ccp_run.specs.Campaign.{campaign_text, frames_shown};
 ghost use Rattle.ccp_run.specs.Streams.{over};
 ghost use Rattle.ccp_run.specs.Modes.{Task};
 
+use crate::modes::common::{agents, frames};
 use crate::outcome::ModeOutput;
 use crate::reading::read_bytes;
 use crate::refusal::Limit;
@@ -18,9 +19,8 @@ use crate::stop::Stop;
 use agent_loop::Books;
 use campaign_gate::Rows;
 use campaign_gate::calls::rows;
-use campaign_report::{Agents, table_text, wire_text};
+use campaign_report::{Agents, table_text};
 use ccp_base::{Bytes, Gate, Names, NoMemory, Source};
-use flow_core::Case;
 use reg_compiler::Builts;
 use scenario_json::{Scenario, SceneMode};
 use std::alloc::Global;
@@ -40,14 +40,12 @@ pub fn read_campaign<R: Threads + Wait + Sync, S: Source, G: Gate + Sync>(
     requires workers { (1 ≤ workers) × (workers ≤ most_workers) }
     ensures { IsAttempt (Task.Campaign wire) (over S.remaining S.faults source.old source.new) result }
 {
-    match read_bytes(alloc, Limit::Input, source) {
-        Ok(bytes) => campaign(rt, alloc, workers, wire, bytes.as_slice(), gate),
-        Err(stop) => Err(stop),
-    }
+    let bytes = read_bytes(alloc, Limit::Input, source)?;
+    campaign_output(rt, alloc, workers, wire, bytes.as_slice(), gate)
 }
 
 /// The table of the scenario that the bytes stand for, or its refusal.
-fn campaign<R: Threads + Wait + Sync, G: Gate + Sync>(
+fn campaign_output<R: Threads + Wait + Sync, G: Gate + Sync>(
     rt: &R,
     alloc: Global,
     workers: u32,
@@ -59,12 +57,12 @@ fn campaign<R: Threads + Wait + Sync, G: Gate + Sync>(
     ensures { IsAnswer (Task.Campaign wire) bytes.now result }
 {
     let scene = scene(alloc, bytes, SceneMode::Campaign)?;
-    Ok(campaigned(rt, alloc, workers, wire, scene, gate)?)
+    Ok(run_campaign(rt, alloc, workers, wire, scene, gate)?)
 }
 
 /// What the cases of a scenario come to.
 #[tactic(auto, using(crate::proofs::CampaignLemmas::rows_over))]
-fn campaigned<R: Threads + Wait + Sync, G: Gate + Sync>(
+fn run_campaign<R: Threads + Wait + Sync, G: Gate + Sync>(
     rt: &R,
     alloc: Global,
     workers: u32,
@@ -85,7 +83,7 @@ fn campaigned<R: Threads + Wait + Sync, G: Gate + Sync>(
     let agents = agents(alloc, scene.cases.as_slice())?;
     let rows = rows(rt, alloc, scene.cases, workers, gate)?;
     Ok(ModeOutput {
-        text: written(alloc, wire, &scene.programs, &scene.names, &agents, &rows)?,
+        text: rows_text(alloc, wire, &scene.programs, &scene.names, &agents, &rows)?,
         books: Books::new(alloc),
         programs: scene.programs,
         ran: 0,
@@ -93,7 +91,7 @@ fn campaigned<R: Threads + Wait + Sync, G: Gate + Sync>(
 }
 
 /// The table of rows, after the programs' frames where they are asked for.
-fn written(
+fn rows_text(
     alloc: Global,
     wire: bool,
     programs: &Builts,
@@ -109,28 +107,4 @@ fn written(
     let mut text = frames(alloc, wire, programs)?;
     text.extend(table_text(alloc, names, agents, rows)?.as_slice())?;
     Ok(text)
-}
-
-/// The programs' Install frames, where they are asked for.
-pub fn frames(alloc: Global, wire: bool, programs: &Builts) -> Result<Bytes, NoMemory>
-    ensures { IfOk result (λ text. text ≡ frames_shown wire programs.now) }
-{
-    if wire {
-        wire_text(alloc, programs)
-    } else {
-        Ok(Bytes::new(alloc))
-    }
-}
-
-/// The agents of cases, in order.
-pub fn agents(alloc: Global, cases: &[Case]) -> Result<Agents, NoMemory>
-    ensures { IfOk result (λ agents. agents ≡ case_agents cases.now) }
-{
-    let mut agents = Agents::new(alloc);
-    let mut left = cases;
-    while let Some((case, rest)) = left.split_first() {
-        agents.push(case.agent)?;
-        left = rest;
-    }
-    Ok(agents)
 }

@@ -4,7 +4,7 @@ ghost use Rattle.ccp_run.specs.Attempts.{IsAnswer};
 ghost use Rattle.ccp_run.specs.Modes.{Task};
 
 use crate::outcome::ModeOutput;
-use crate::program::{only, program};
+use crate::program::{numbered_zero, program};
 use crate::stop::Stop;
 use agent_loop::Books;
 use campaign_report::check_text;
@@ -20,7 +20,7 @@ pub fn check_output(alloc: Global, bytes: &[u8]) -> Result<ModeOutput, Stop>
     Ok(ModeOutput {
         text,
         books: Books::new(alloc),
-        programs: only(alloc, built)?,
+        programs: numbered_zero(alloc, built)?,
         ran: 0,
     })
 }

@@ -18,7 +18,7 @@ use feed_core::calls::feed;
 use reg_compiler::Builts;
 use std::alloc::Global;
 
-/// Answers the frames of the source as they come, and tells why where it stops before a whole input's end.
+/// Answers the frames of the source as they come, and reports why if it stops before a whole input's end.
 pub fn feed_run<S: Source, K: Sink, E: Sink>(
     alloc: Global,
     source: &mut S,
@@ -34,7 +34,7 @@ pub fn feed_run<S: Source, K: Sink, E: Sink>(
     end_feed(alloc, errors, ended)
 }
 
-/// Tells how a feed ended, where its input isn't whole.
+/// Reports how a feed ended if its input isn't whole.
 fn end_feed<E: Sink>(alloc: Global, errors: &mut E, ended: FeedEnd) -> Outcome
     ensures { EndsFeed (over E.written E.faults errors.old errors.new) result ended }
 {

@@ -8,7 +8,7 @@ ghost use Rattle.ccp_run.specs.Fold.{folded_text, shown_end};
 ghost use Rattle.ccp_run.specs.Modes.{Task};
 
 use crate::outcome::ModeOutput;
-use crate::program::{only, program};
+use crate::program::{numbered_zero, program};
 use crate::refusal::Refusal;
 use crate::stop::Stop;
 use agent_loop::Books;
@@ -29,7 +29,7 @@ pub fn fold_output(alloc: Global, bytes: &[u8]) -> Result<ModeOutput, Stop>
     };
     let built = program(alloc, cut.program)?;
     match acknowledgements(alloc, cut.rest, cut.next) {
-        Ok(acks) => Ok(folded_output(alloc, built, acks.as_slice())?),
+        Ok(acks) => Ok(run_fold(alloc, built, acks.as_slice())?),
         Err(LineFault::Line(number)) => Err(Stop::Refused(Refusal::Line(number))),
         Err(LineFault::TooMany) => Err(Stop::Refused(Refusal::TooManyAcks)),
         Err(LineFault::NoMemory) => Err(Stop::NoMemory),
@@ -37,7 +37,7 @@ pub fn fold_output(alloc: Global, bytes: &[u8]) -> Result<ModeOutput, Stop>
 }
 
 /// What a program's fold over acknowledgements comes to.
-fn folded_output(alloc: Global, built: Built, acks: &[Ack]) -> Result<ModeOutput, NoMemory>
+fn run_fold(alloc: Global, built: Built, acks: &[Ack]) -> Result<ModeOutput, NoMemory>
     requires { length acks.now ≤ most_acks }
     ensures text { IfOk result (λ output. output.text ≡ folded_text (form_of built.program) acks.now) }
     ensures books { IfOk result (λ output. output.books ≡ []) }
@@ -55,7 +55,7 @@ fn folded_output(alloc: Global, built: Built, acks: &[Ack]) -> Result<ModeOutput
     Ok(ModeOutput {
         text,
         books: Books::new(alloc),
-        programs: only(alloc, built)?,
+        programs: numbered_zero(alloc, built)?,
         ran: folded.ran,
     })
 }

@@ -8,17 +8,15 @@ ghost use Rattle.ccp_run.specs.Live.{IsRightBook, book_cases, books_written};
 ghost use Rattle.ccp_run.specs.Streams.{over};
 ghost use Rattle.ccp_run.specs.Modes.{Task};
 
-use crate::modes::campaign::frames;
+use crate::modes::common::books_text;
 use crate::outcome::ModeOutput;
 use crate::reading::read_bytes;
 use crate::refusal::Limit;
 use crate::scene::scene;
 use crate::stop::Stop;
-use agent_loop::{Books, live};
-use campaign_report::live_text;
-use ccp_base::{Bytes, Gate, NoMemory, Source};
+use agent_loop::live;
+use ccp_base::{Gate, NoMemory, Source};
 use flow_table::FlowTable;
-use reg_compiler::Builts;
 use scenario_json::{Scenario, SceneMode};
 use std::alloc::Global;
 use std::sync::Wait;
@@ -39,10 +37,8 @@ pub fn read_live<R: Threads + Wait + Sync, S: Source, G: Gate + Sync>(
     requires agents { (1 ≤ agents) × (agents ≤ most_workers) }
     ensures { IsAttempt (Task.Live wire) (over S.remaining S.faults source.old source.new) result }
 {
-    match read_bytes(alloc, Limit::Input, source) {
-        Ok(bytes) => live_output(rt, alloc, datapaths, agents, wire, bytes.as_slice(), gate),
-        Err(stop) => Err(stop),
-    }
+    let bytes = read_bytes(alloc, Limit::Input, source)?;
+    live_output(rt, alloc, datapaths, agents, wire, bytes.as_slice(), gate)
 }
 
 /// What the flows of the scenario that the bytes stand for come to, or its refusal.
@@ -60,11 +56,11 @@ fn live_output<R: Threads + Wait + Sync, G: Gate + Sync>(
     ensures { IsAnswer (Task.Live wire) bytes.now result }
 {
     let scene = scene(alloc, bytes, SceneMode::Live)?;
-    Ok(lived(rt, alloc, datapaths, agents, wire, scene, gate)?)
+    Ok(run_live(rt, alloc, datapaths, agents, wire, scene, gate)?)
 }
 
 /// What the flows of a scenario come to.
-fn lived<R: Threads + Wait + Sync, G: Gate + Sync>(
+fn run_live<R: Threads + Wait + Sync, G: Gate + Sync>(
     rt: &R,
     alloc: Global,
     datapaths: u32,
@@ -88,24 +84,9 @@ fn lived<R: Threads + Wait + Sync, G: Gate + Sync>(
     let table = FlowTable::new(alloc, scene.cases)?;
     let books = live(rt, alloc, table, datapaths, agents, gate)?;
     Ok(ModeOutput {
-        text: written(alloc, wire, &books, &scene.programs)?,
+        text: books_text(alloc, wire, &books, &scene.programs)?,
         books,
         programs: scene.programs,
         ran: 0,
     })
-}
-
-/// The text of books that tell of their words, after the programs' frames where they are asked for.
-pub fn written(
-    alloc: Global,
-    wire: bool,
-    books: &Books,
-    programs: &Builts,
-) -> Result<Bytes, NoMemory>
-    requires { All (IsRightBook programs.now) books.now }
-    ensures { IfOk result (λ text. text ≡ books_written wire programs.now books.now) }
-{
-    let mut text = frames(alloc, wire, programs)?;
-    text.extend(live_text(alloc, books.as_slice(), programs)?.as_slice())?;
-    Ok(text)
 }

@@ -1,7 +1,7 @@
 //! The mode `rollout`: a scenario's cases on datapath workers and installers, as the text of what happened.
 ghost use Rattle.std.specs.Prelude.{◌≤◌, IfOk, IfErr, length};
 ghost use Rattle.ccp_base.specs.Limits.{most_flows, most_workers};
-ghost use Rattle.scenario_json.specs.OpenCases.{AreOpenFlowsFrom};
+ghost use Rattle.scene_members.specs.OpenCases.{AreOpenFlowsFrom};
 ghost use Rattle.ccp_run.specs.Attempts.{IsAnswer, IsAttempt};
 ghost use Rattle.ccp_run.specs.Rollout.{IsRolloutScenario, StopsRollout, TellsRollout};
 ghost use Rattle.ccp_run.specs.Streams.{over};
@@ -9,14 +9,14 @@ ghost use Rattle.ccp_run.specs.Modes.{Task};
 
 use crate::outcome::ModeOutput;
 use crate::reading::read_bytes;
-use crate::refusal::{Limit, Refusal};
+use crate::refusal::Limit;
 use crate::stop::Stop;
 use agent_loop::Books;
 use ccp_base::{Gate, NoMemory, Source};
 use live_install::{rollout, rollout_text};
 use reg_compiler::Builts;
+use scenario_json::OpenCases;
 use scenario_json::calls::rollout_scene;
-use scenario_json::{OpenCases, SceneFault};
 use std::alloc::Global;
 use std::sync::Wait;
 use std::thread::Threads;
@@ -36,10 +36,8 @@ pub fn read_rollout<R: Threads + Wait + Sync, S: Source, G: Gate + Sync>(
     requires agents { (1 ≤ agents) × (agents ≤ most_workers) }
     ensures { IsAttempt Task.Rollout (over S.remaining S.faults source.old source.new) result }
 {
-    match read_bytes(alloc, Limit::Input, source) {
-        Ok(bytes) => rollout_output(rt, alloc, datapaths, agents, bytes.as_slice(), gate),
-        Err(stop) => Err(stop),
-    }
+    let bytes = read_bytes(alloc, Limit::Input, source)?;
+    rollout_output(rt, alloc, datapaths, agents, bytes.as_slice(), gate)
 }
 
 /// The text of the scenario that the bytes stand for, or its refusal.
@@ -56,24 +54,21 @@ fn rollout_output<R: Threads + Wait + Sync, G: Gate + Sync>(
     ensures { IsAnswer Task.Rollout bytes.now result }
 {
     let cases = open_cases(alloc, bytes)?;
-    Ok(rolled_out(rt, alloc, cases, datapaths, agents, gate)?)
+    Ok(run_rollout(rt, alloc, cases, datapaths, agents, gate)?)
 }
 
 /// The cases that the bytes stand for.
+#[tactic(auto, using(crate::proofs::ScenarioInputs::scene_stops))]
 fn open_cases(alloc: Global, bytes: &[u8]) -> Result<OpenCases, Stop>
     ensures found { IfOk result (λ cases. IsRolloutScenario bytes.now cases) }
     ensures few { IfOk result (λ cases. length cases ≤ most_flows) }
     ensures err { IfErr result (StopsRollout bytes.now) }
 {
-    match rollout_scene(alloc, bytes) {
-        Ok(cases) => Ok(cases),
-        Err(SceneFault::NoMemory) => Err(Stop::NoMemory),
-        Err(fault) => Err(Stop::Refused(Refusal::Scene(fault))),
-    }
+    Ok(rollout_scene(alloc, bytes)?)
 }
 
 /// What cases come to.
-fn rolled_out<R: Threads + Wait + Sync, G: Gate + Sync>(
+fn run_rollout<R: Threads + Wait + Sync, G: Gate + Sync>(
     rt: &R,
     alloc: Global,
     cases: OpenCases,

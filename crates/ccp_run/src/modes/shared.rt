@@ -11,17 +11,17 @@ ghost use Rattle.ccp_run.specs.Shared.{IsSharedScenario, StopsShared, link_line,
 ghost use Rattle.ccp_run.specs.Streams.{over};
 ghost use Rattle.ccp_run.specs.Modes.{Task};
 
-use crate::modes::campaign::agents;
+use crate::modes::common::agents;
 use crate::outcome::ModeOutput;
 use crate::reading::read_bytes;
-use crate::refusal::{Limit, Refusal};
+use crate::refusal::Limit;
 use crate::stop::Stop;
 use agent_loop::Books;
 use campaign_report::{Agents, table_text};
 use ccp_base::{Bytes, Gate, Names, NoMemory, Source};
 use reg_compiler::Builts;
+use scenario_json::SharedScene;
 use scenario_json::calls::shared_scene;
-use scenario_json::{SceneFault, SharedScene};
 use shared_link::Counts;
 use shared_run::{SharedRun, shared};
 use std::alloc::Global;
@@ -40,10 +40,8 @@ pub fn read_shared<R: Threads + Wait + Sync, S: Source, G: Gate + Sync>(
     requires workers { (1 ≤ workers) × (workers ≤ most_workers) }
     ensures { IsAttempt Task.Shared (over S.remaining S.faults source.old source.new) result }
 {
-    match read_bytes(alloc, Limit::Input, source) {
-        Ok(bytes) => shared_output(rt, alloc, workers, bytes.as_slice(), gate),
-        Err(stop) => Err(stop),
-    }
+    let bytes = read_bytes(alloc, Limit::Input, source)?;
+    shared_output(rt, alloc, workers, bytes.as_slice(), gate)
 }
 
 /// What the flows of the scenario that the bytes stand for come to, or its refusal.
@@ -57,13 +55,13 @@ fn shared_output<R: Threads + Wait + Sync, G: Gate + Sync>(
     requires workers { (1 ≤ workers) × (workers ≤ most_workers) }
     ensures { IsAnswer Task.Shared bytes.now result }
 {
-    let scene = joined(alloc, bytes)?;
+    let scene = read_shared_scene(alloc, bytes)?;
     Ok(run_together(rt, alloc, workers, scene, gate)?)
 }
 
 /// The scenario of flows on one link that the bytes stand for.
-#[tactic(auto, using(crate::proofs::SharedLemmas::link_within))]
-fn joined(alloc: Global, bytes: &[u8]) -> Result<SharedScene, Stop>
+#[tactic(auto, using(crate::proofs::SharedLemmas::link_within, crate::proofs::ScenarioInputs::scene_stops))]
+fn read_shared_scene(alloc: Global, bytes: &[u8]) -> Result<SharedScene, Stop>
     ensures found { IfOk result (λ s. IsSharedScenario bytes.now s.scene.programs s.scene.cases s.link s.rounds) }
     ensures numbered { IfOk result (λ s. AreNumberedFrom 0 s.scene.programs) }
     ensures names { IfOk result (λ s. s.scene.names ≡ case_names s.scene.cases) }
@@ -73,11 +71,7 @@ fn joined(alloc: Global, bytes: &[u8]) -> Result<SharedScene, Stop>
     ensures rounds { IfOk result (λ s. s.rounds ≤ most_rounds) }
     ensures err { IfErr result (StopsShared bytes.now) }
 {
-    match shared_scene(alloc, bytes) {
-        Ok(scene) => Ok(scene),
-        Err(SceneFault::NoMemory) => Err(Stop::NoMemory),
-        Err(fault) => Err(Stop::Refused(Refusal::Scene(fault))),
-    }
+    Ok(shared_scene(alloc, bytes)?)
 }
 
 /// What the flows of a scenario come to on their link.
@@ -102,11 +96,11 @@ fn run_together<R: Threads + Wait + Sync, G: Gate + Sync>(
     ensures programs { IfOk result (λ output. output.programs ≡ []) }
     ensures ran { IfOk result (λ output. output.ran ≡ 0) }
 {
-    let names = copied(alloc, &scene.scene.names)?;
+    let names = copy_names(alloc, &scene.scene.names)?;
     let agents = agents(alloc, scene.scene.cases.as_slice())?;
     let made = shared(rt, alloc, scene, workers, gate)?;
     Ok(ModeOutput {
-        text: written(alloc, &names, &agents, &made)?,
+        text: shared_text(alloc, &names, &agents, &made)?,
         books: Books::new(alloc),
         programs: Builts::new(alloc),
         ran: 0,
@@ -114,7 +108,7 @@ fn run_together<R: Threads + Wait + Sync, G: Gate + Sync>(
 }
 
 /// The table of a run, and the line of its link's packets.
-fn written(
+fn shared_text(
     alloc: Global,
     names: &Names,
     agents: &Agents,
@@ -131,7 +125,7 @@ fn written(
 }
 
 /// Equal names.
-fn copied(alloc: Global, names: &Names) -> Result<Names, NoMemory>
+fn copy_names(alloc: Global, names: &Names) -> Result<Names, NoMemory>
     ensures { IfOk result (λ copy. copy ≡ names.now) }
 {
     Ok(Names::from_vec(names.as_slice().to_vec(alloc)?))

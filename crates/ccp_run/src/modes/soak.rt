@@ -28,10 +28,10 @@ pub fn soak_output<R: Threads + Wait + Sync, G: Gate + Sync>(
     requires workers { (1 ≤ workers) × (workers ≤ most_workers) }
     ensures { (source : Stream) → IsUntouched source → IsAttempt (Task.Soak number) source result }
 {
-    Ok(soaked(rt, alloc, workers, number, gate)?)
+    Ok(run_soak(rt, alloc, workers, number, gate)?)
 }
 
-fn soaked<R: Threads + Wait + Sync, G: Gate + Sync>(
+fn run_soak<R: Threads + Wait + Sync, G: Gate + Sync>(
     rt: &R,
     alloc: Global,
     workers: u32,

@@ -11,7 +11,7 @@ ghost use Rattle.ccp_run.specs.Streams.{over};
 ghost use Rattle.ccp_run.specs.Timeline.{planned_by, timeline_text};
 ghost use Rattle.ccp_run.specs.Modes.{Task};
 
-use crate::modes::live::written;
+use crate::modes::common::books_text;
 use crate::outcome::ModeOutput;
 use crate::reading::read_bytes;
 use crate::refusal::Limit;
@@ -37,10 +37,8 @@ pub fn read_timeline<R: Threads + Wait + Sync, S: Source, G: Gate + Sync>(
     requires workers { (1 ≤ workers) × (workers ≤ most_workers) }
     ensures { IsAttempt (Task.Timeline wire) (over S.remaining S.faults source.old source.new) result }
 {
-    match read_bytes(alloc, Limit::Input, source) {
-        Ok(bytes) => timeline_output(rt, alloc, workers, wire, bytes.as_slice(), gate),
-        Err(stop) => Err(stop),
-    }
+    let bytes = read_bytes(alloc, Limit::Input, source)?;
+    timeline_output(rt, alloc, workers, wire, bytes.as_slice(), gate)
 }
 
 /// The timeline of the scenario that the bytes stand for, or its refusal.
@@ -56,11 +54,11 @@ fn timeline_output<R: Threads + Wait + Sync, G: Gate + Sync>(
     ensures { IsAnswer (Task.Timeline wire) bytes.now result }
 {
     let scene = scene(alloc, bytes, SceneMode::Live)?;
-    Ok(timeline(rt, alloc, workers, wire, scene, gate)?)
+    Ok(run_timeline(rt, alloc, workers, wire, scene, gate)?)
 }
 
 /// What the cases of a scenario come to.
-fn timeline<R: Threads + Wait + Sync, G: Gate + Sync>(
+fn run_timeline<R: Threads + Wait + Sync, G: Gate + Sync>(
     rt: &R,
     alloc: Global,
     workers: u32,
@@ -80,7 +78,7 @@ fn timeline<R: Threads + Wait + Sync, G: Gate + Sync>(
 {
     let books = books(rt, alloc, scene.cases, workers, gate)?;
     Ok(ModeOutput {
-        text: written(alloc, wire, &books, &scene.programs)?,
+        text: books_text(alloc, wire, &books, &scene.programs)?,
         books,
         programs: scene.programs,
         ran: 0,

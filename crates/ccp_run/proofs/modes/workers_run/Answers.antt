@@ -5,8 +5,8 @@ use Rattle.ccp_run.proofs.modes.workers_run.Goals as goal
 
 pub returns : goal.returns
 returns g c =
-    let source : Stream = over g.S.Source.remaining g.S.Source.faults c.args.source.now c.attempt-made.new.source in
+    let source : Stream = over g.S.Source.remaining g.S.Source.faults c.args.source.now c.make_output-made.new.source in
     let sink : Stream = over g.K.Sink.written g.K.Sink.faults c.args.sink.now c.end.new.sink in
     let errors : Stream = over g.E.Sink.written g.E.Sink.faults c.args.errors.now c.end.new.errors in
     run_of (task_of c.args.asked) c.requires.plain source sink errors (g.K.Sink.is_finished c.end.new.sink) c.end.result
-    c.attempt-made.result c.attempt-made.ensures c.end.ensures
+    c.make_output-made.result c.make_output-made.ensures c.end.ensures

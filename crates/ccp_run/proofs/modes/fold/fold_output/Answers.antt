@@ -18,10 +18,10 @@ returns-in-Ok c =
         program = c.in_ok-built.ensures.found;
         lines = c.in-Ok.ensures.ok;
       };
-      written = c.in_ok-folded_output-in-Ok.ensures.text ∙ ap (folded_text form) c.as_slice.ensures;
+      written = c.in_ok-run_fold-in-Ok.ensures.text ∙ ap (folded_text form) c.as_slice.ensures;
       built = built;
       program = refl;
-      kept = c.in_ok-folded_output-in-Ok.ensures.programs;
-      no_books = c.in_ok-folded_output-in-Ok.ensures.books;
-      counted = c.in_ok-folded_output-in-Ok.ensures.ran ∙ ap (ran_of built.code.code) c.as_slice.ensures;
+      kept = c.in_ok-run_fold-in-Ok.ensures.programs;
+      no_books = c.in_ok-run_fold-in-Ok.ensures.books;
+      counted = c.in_ok-run_fold-in-Ok.ensures.ran ∙ ap (ran_of built.code.code) c.as_slice.ensures;
     }

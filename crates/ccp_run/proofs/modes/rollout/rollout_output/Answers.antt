@@ -4,5 +4,5 @@ pub returns : goal.returns
 returns g c = record {
   cases = c.in_ok-cases.cases;
   scenario = c.in_ok-cases.ensures.found;
-  tells = c.in_ok-rolled_out.ensures;
+  tells = c.in_ok-run_rollout.ensures;
 }

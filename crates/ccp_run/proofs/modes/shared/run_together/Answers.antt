@@ -13,22 +13,22 @@ use Rattle.ccp_run.specs.Shared.{link_line}
 use Rattle.ccp_run.proofs.SharedLemmas.{all_simulated, rows-count}
 use Rattle.ccp_run.proofs.modes.shared.run_together.Goals as goal
 
-pub written-requires-clause-within : goal.written-requires-clause-within
-written-requires-clause-within g c =
+pub shared_text-requires-clause-within : goal.shared_text-requires-clause-within
+shared_text-requires-clause-within g c =
     let scene = c.args.scene in
     let rows : c.in_ok-made.made.rows ≡ shared_rows scene.link over_codes scene.scene.cases scene.rounds = c.in_ok-made.ensures.run.rows in
     let count = rows-count scene.link scene.scene.cases scene.rounds in
     omega (arith, ap length rows, count, c.requires.few)
 
-pub written-requires-clause-names : goal.written-requires-clause-names
-written-requires-clause-names g c =
+pub shared_text-requires-clause-names : goal.shared_text-requires-clause-names
+shared_text-requires-clause-names g c =
     let scene = c.args.scene in
     let rows : c.in_ok-made.made.rows ≡ shared_rows scene.link over_codes scene.scene.cases scene.rounds = c.in_ok-made.ensures.run.rows in
     let names : c.in_ok-names.names ≡ case_names scene.scene.cases = c.in_ok-names.ensures ∙ c.requires.names in
     ap length names ∙ length-map scene.scene.cases (λ case. case.name) ∙ sym (ap length rows ∙ rows-count scene.link scene.scene.cases scene.rounds)
 
-pub written-requires-clause-agents : goal.written-requires-clause-agents
-written-requires-clause-agents g c =
+pub shared_text-requires-clause-agents : goal.shared_text-requires-clause-agents
+shared_text-requires-clause-agents g c =
     let scene = c.args.scene in
     let rows : c.in_ok-made.made.rows ≡ shared_rows scene.link over_codes scene.scene.cases scene.rounds = c.in_ok-made.ensures.run.rows in
     let agents : c.in_ok-agents.agents ≡ case_agents scene.scene.cases = search rules in
@@ -47,5 +47,5 @@ returns-clause-text g c =
     let rows : c.in_ok-made.made.rows ≡ shared_rows scene.link sources cases scene.rounds = c.in_ok-made.ensures.run.rows ∙ one.rows in
     let counts : c.in_ok-made.made.counts ≡ shared_counts scene.link sources cases scene.rounds =
     c.in_ok-made.ensures.run.counts ∙ ap (λ run. counts_of scene.link run.history) one.run in
-    let text : c.in_ok-written.field-0 ≡ table_text c.in_ok-names.names c.in_ok-agents.agents c.in_ok-made.made.rows ++ link_line c.in_ok-made.made.counts = search rules in
+    let text : c.in_ok-shared_text.field-0 ≡ table_text c.in_ok-names.names c.in_ok-agents.agents c.in_ok-made.made.rows ++ link_line c.in_ok-made.made.counts = search rules in
     text ∙ (λ i. table_text (names i) (agents i) (rows i) ++ link_line (counts i))

@@ -2,7 +2,7 @@ use Rattle.std.proofs.Common.{◌≡◌, ◌∙◌, List, ℕ, ap, sym, subst}
 use Rattle.std.specs.List.{All}
 use Rattle.reg_compiler.specs.declared.built.Built.{Built}
 use Rattle.campaign_report.specs.BooksRead.{flows_of}
-use Rattle.scenario_json.specs.declared.mode.SceneMode.TheVariants as scene
+use Rattle.scene_members.specs.declared.mode.SceneMode.TheVariants as scene
 use Rattle.scenario_json.specs.ScenePrograms.{forms_of}
 use Rattle.ccp_run.specs.Live.{IsRightBook}
 use Rattle.ccp_run.specs.Scenes.{IsScenario}
@@ -12,8 +12,8 @@ use Rattle.ccp_run.proofs.modes.timeline.timeline_output.Goals as goal
 pub returns : goal.returns
 returns g c =
     let cases = c.in_ok-scene.scene.cases in
-    let made = c.in_ok-timeline.ensures in
-    let output = c.in_ok-timeline.field-0 in
+    let made = c.in_ok-run_timeline.ensures in
+    let output = c.in_ok-run_timeline.field-0 in
     record {
       cases = cases;
       scenario = subst (λ (programs : List (ℕ × Built)). IsScenario scene.Live c.args.bytes.now programs cases) (sym made.programs) c.in_ok-scene.ensures.found;

@@ -1,0 +1,2 @@
+-- The lemmas of ccp.
+mod ProcessLemmas

@@ -1,4 +1,0 @@
-use Rattle.ccp.proofs.exit.run_on.Goals as goal
-
-pub returns : goal.returns
-returns g c = record { outcome = c.run-outcome.result; is = c.from.ensures; run = c.run-outcome.ensures }
