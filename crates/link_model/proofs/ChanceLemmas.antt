@@ -15,23 +15,6 @@ pub record IsFirst (passes : ℕ → Bool) (here k : ℕ) : Type 0 where
   pub passing : passes k ≡ true
   pub before : (j : ℕ) → here ≤ j → j < k → passes j ≡ false
 
-first_passing_step : (passes : ℕ → Bool) (later here k : ℕ) (b : Bool) → passes here ≡ b → IsFirst passes here k → (here < k → later ≡ k) → elim b as (λ _. ℕ) [ true ↦ here | false ↦ later ] ≡ k
-first_passing_step passes later here k true is first rest =
-    elim (cases_lt here k) as (λ _. here ≡ k)
-    [ inl below ↦ absurd (let h : passes here ≡ false = first.before here (omega arith) below in cc) | inr not_below ↦ omega (arith, first.from) ]
-first_passing_step passes later here k false is first rest =
-    elim (cases_lt here k) as (λ _. later ≡ k) [
-      | inl below ↦ rest below
-      | inr not_below ↦ absurd (let same : here ≡ k = omega (arith, first.from) in let e : passes here ≡ passes k = ap passes same in let p : passes k ≡ true = first.passing in cc)
-    ]
-
-pub first_passing_is : (passes : ℕ → Bool) (steps here k : ℕ) → k ≤ here + steps → IsFirst passes here k → first_passing passes steps here ≡ k
-first_passing_is passes zero here k within first = omega (arith, first.from)
-first_passing_is passes (suc steps) here k within first =
-    first_passing_step passes (first_passing passes steps (suc here)) here k (passes here) refl first
-    (λ below. first_passing_is passes steps (suc here) k (omega arith)
-    (record { from = omega arith; passing = first.passing; before = λ j above under. first.before j (omega arith) under }))
-
 first_step : (passes : ℕ → Bool) (later here : ℕ) (b : Bool) → passes here ≡ b → (b ≡ false → IsFirst passes (suc here) later) → IsFirst passes here (elim b as (λ _. ℕ) [ true ↦ here | false ↦ later ])
 first_step passes later here true is rest = record { from = omega arith; passing = is; before = λ j above under. absurd (omega arith) }
 first_step passes later here false is rest =

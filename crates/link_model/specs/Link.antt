@@ -158,9 +158,6 @@ acked_of (given ∷ earlier) = given.ack.packets_acked + acked_of earlier
 abbrev pub byte_rate : ℕ → ℕ → ℕ → ℕ
 byte_rate mss packets now = if now == 0 then 0 else mss * packets * 1000000 / now
 
-abbrev pub rate_of : LinkCase → ℕ → ℕ → ℕ
-rate_of case packets now = byte_rate case.mss packets now
-
 -- a number where something is so, and 0 where it isn't
 abbrev pub number_if : Bool → ℕ → ℕ
 number_if truth number = if truth then number else 0

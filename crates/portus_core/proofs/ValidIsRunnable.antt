@@ -1,6 +1,6 @@
 -- What is run of a valid program has a place for each local, and each weight is at most ten tenths.
 use Rattle.std.proofs.Common.{◌≡◌, refl, ℕ, ◌≤◌, ◌<◌, Bool, true, false, not, ◌&&◌, ◌||◌, ◌==◌, nat_lt, nat_le, ◌⊎◌, inl, inr, List, [], ◌∷◌, length, arith, length-append, lit≤}
-use Rattle.std.proofs.lemmas.Bool.{ltb-true, lt-ltb, leb-true, eqb-true}
+use Rattle.std.proofs.lemmas.Bool.{ltb-true, lt-ltb, eqb-true}
 use Rattle.portus_core.specs.declared.program.Var.{Var}
 use Rattle.portus_core.specs.declared.program.Var.TheVariants as var
 use Rattle.portus_core.specs.Programs.{Action, set, set_if, set_unless, ewma, zero_micros, report, fall, Part, Form}
@@ -107,11 +107,3 @@ pub are_runnable-from_valid : (form : Form) → is_valid form ≡ true → are_r
 are_runnable-from_valid form valid =
     parts_are_runnable (known_of form) form.blocks (lit≤ tt)
     (second (nat_le (length form.fields) 64 && nat_le (length form.controls) 64 && nat_le (length form.blocks) 64) (are_parts (known_of form) form.blocks) valid)
-
--- a valid program's fields fit into a report
-pub few_fields-from_valid : (form : Form) → is_valid form ≡ true → length form.fields ≤ 64
-few_fields-from_valid form valid =
-    let fields = nat_le (length form.fields) 64 in
-    let controls = nat_le (length form.controls) 64 in
-    let blocks = nat_le (length form.blocks) 64 in
-    leb-true (length form.fields) 64 (first fields controls (first (fields && controls) blocks (first (fields && controls && blocks) (are_parts (known_of form) form.blocks) valid)))

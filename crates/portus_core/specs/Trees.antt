@@ -8,7 +8,7 @@ use Rattle.portus_core.specs.declared.tree.Tree.{Tree, Num, Word, List as Group}
 use Rattle.portus_core.specs.declared.tree.Tree.TheOpen.{Tree-F}
 use Rattle.portus_core.specs.declared.tree.Tree.TheOpen as layer
 use Rattle.portus_core.specs.declared.tree.Tree.TheFolds.{fold-Tree, fold-roll-Tree}
-use Rattle.portus_core.specs.declared.tree.Tree.TheViews.{rolls-Num, rolls-Word, rolls-List}
+use Rattle.portus_core.specs.declared.tree.Tree.TheViews.{rolls-List}
 use Rattle.portus_core.specs.declared.tree.Parts.{Parts}
 use Rattle.portus_core.specs.declared.tree.Parts.TheVariants.{Nothing, One, Two, Three, Many}
 
@@ -40,12 +40,6 @@ node_of = fold-Tree Node node_step
 -- what the trees of a list stand for
 abbrev pub nodes_of : List Tree → Nodes
 nodes_of trees = collected (map node_of trees)
-
-pub node_of-Num : (place : Place) (value : ℕ) → node_of (Num place value) ≡ number place value
-node_of-Num place value = ap node_of (sym (rolls-Num place value)) ∙ fold-roll-Tree Node node_step (layer.Num place value)
-
-pub node_of-Word : (place : Place) (name : List ℕ) → node_of (Word place name) ≡ word place name
-node_of-Word place name = ap node_of (sym (rolls-Word place name)) ∙ fold-roll-Tree Node node_step (layer.Word place name)
 
 pub node_of-List : (place : Place) (parts : Vec Tree Global) → node_of (Group place parts) ≡ list place (nodes_of parts.items)
 node_of-List place parts = ap node_of (sym (rolls-List place parts)) ∙ fold-roll-Tree Node node_step (layer.List place parts)

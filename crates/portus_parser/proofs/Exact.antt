@@ -84,14 +84,6 @@ first-long text long (Nesting place) h = absurd (omega (arith, h.short))
 first-long text long (Unclosed place) h = absurd (omega (arith, h.short))
 first-long text long NoMemory h = absurd h
 
-pub exact-long : (text : List ℕ) → 65536 < length text → IsExact text (Err SourceTooLong)
-exact-long text long = record {
-  found = tt;
-  only = λ forms h. absurd (omega (arith, long, h.short));
-  refused = λ other. long;
-  first = first-long text long;
-}
-
 strayed : {X : Type 0} (text : List ℕ) (place : Place) (lexemes : List Lexeme) → stray_of text ≡ Some place → AreLexemesOf text lexemes → X
 strayed text place lexemes h k = let none = no_stray text lexemes k in absurd (cc)
 

@@ -133,9 +133,6 @@ control_part declared (list at (more (word head v) (more (word word_at w) (more 
     if_false (bytes_eq v (codes "Report")) _ _ _ (ap (λ u. bytes_eq u (codes "Report")) h.0) refl
 control_part declared node x h right = absurd h
 
-abbrev with_controls : Scope → List Decl → Scope
-with_controls names controls = record { fields = names.fields; controls = controls; locals = names.locals }
-
 control_part_given : (declared : walk.Declaring) (node : Node) (x : Decl) (ys : List Decl) → Declares node x → IsTrue (is_control_name x.name) → AreDistinct (declared.names.controls ++ x ∷ ys) → length (declared.names.controls ++ x ∷ ys) ≤ 64 → walk.part_walk declared node ≡ Ok (record { names = walk.with_control declared.names x; grouped = declared.grouped })
 control_part_given declared node x ys h right distinct few =
     let d = declaration_given node x h in

@@ -15,7 +15,7 @@ use Rattle.scope_types.specs.Scope.{Scope, known_in}
 use Rattle.scope_types.specs.ExpressionWalk.{expression_walk}
 use Rattle.scope_types.specs.DeclarationWalk as walk
 use Rattle.scope_types.specs.CommandWalk.{body_walk}
-use Rattle.scope_types.specs.ProgramWalk.{nothing_declared, without_locals, part_of, condition_walk, inner_walk, block_walk, form_walk, blocks_walk, def_walk, form_of, source_walk}
+use Rattle.scope_types.specs.ProgramWalk.{nothing_declared, without_locals, part_of, condition_walk, inner_walk, block_walk, form_walk, blocks_walk, def_walk, form_of}
 use Rattle.scope_types.proofs.Results.{if_ok, then_ok, both_true, ok_map}
 use Rattle.scope_types.proofs.ScopedExpressions.{some_case}
 use Rattle.scope_types.proofs.ValidExpressions.{expression_valid}
@@ -272,14 +272,6 @@ form_of_declared names blocks w b =
     both_true _ _
     (subst (λ (ds : List Decl). IsTrue (are_declared is_field_name ds)) (sym b.fields) w.right_fields)
     (subst (λ (ds : List Decl). IsTrue (are_declared is_control_name ds)) (sym b.controls) w.right_controls)
-
--- what the walk of a text's forms gives is valid
-pub source_valid : (nodes : Nodes) → IfOk (source_walk nodes) (λ form. IsTrue (is_valid form))
-source_valid none = tt
-source_valid (more first rest) =
-    then_ok (def_walk first) _ _ _ (def_within first) (λ names w.
-    then_ok (blocks_walk names [] rest) _ _ _ (blocks_valid names [] rest refl (lit≤ tt)) (λ blocks b.
-    form_of_valid names blocks w b))
 
 -- the same of its two parts
 pub parts_valid : (first : Node) (rest : Nodes) (names : Scope) (blocks : List Part × Scope) → def_walk first ≡ Ok names → blocks_walk names [] rest ≡ Ok blocks → IsTrue (is_valid (form_of blocks))
