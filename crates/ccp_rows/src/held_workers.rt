@@ -78,11 +78,11 @@ fn two_workers_do_parts_at_once_in_two_rounds(rt: HostRuntime) -> Result<(), Fai
     Ok(())
 }
 
-/// What the two flows come to in a live run, whatever the order of their letters.
+/// The ends of the two flows in a live run, whatever the order of their letters.
 const TWO_BOOKS: &[u8] =
     b"flow 0 case=a agent=reno\nepoch 0 program=0 at=0 cwnd=4344\nticket 0 report program=0 epoch=0 span=0..4 taken=4 answered=4 reply=none now=60000 cwnd=10136 rate=0 acked=5792 sacked=0 loss=0 timeout=0 rtt=30000 inflight=7240 ecn=0\nend acks=4 reports=1 held=0 faults=0 tail=4..4 stopped=no cwnd=10136 rate=0 acked=0 sacked=0 loss=0 timeout=0 rtt=30000 inflight=7240 ecn=0\nflow 1 case=b agent=reno\nepoch 0 program=0 at=0 cwnd=4344\nticket 0 report program=0 epoch=0 span=0..4 taken=4 answered=4 reply=none now=60000 cwnd=10136 rate=0 acked=5792 sacked=0 loss=0 timeout=0 rtt=30000 inflight=7240 ecn=0\nend acks=4 reports=1 held=0 faults=0 tail=4..4 stopped=no cwnd=10136 rate=0 acked=0 sacked=0 loss=0 timeout=0 rtt=30000 inflight=7240 ecn=0\n";
 
-/// Whether a live run of two datapath workers, of whom one is held, comes to this.
+/// Whether a live run of two datapath workers, of whom one is held, ends like this.
 fn two_datapaths_write<R: Threads + Wait + Sync>(
     rt: &R,
     alloc: Global,
@@ -219,7 +219,7 @@ const THREE_FLOWS: &[u8] =
     b"{\"version\":1,\"traces\":{\"t\":\"10\\n\"},\"cases\":[{\"name\":\"a\",\"agent\":\"reno\",\"trace\":\"t\",\"mss\":1448,\"queue\":10,\"delay_us\":20000,\"timeout_us\":1000000,\"acks\":4},{\"name\":\"b\",\"agent\":\"reno\",\"trace\":\"t\",\"mss\":1448,\"queue\":10,\"delay_us\":20000,\"timeout_us\":1000000,\"acks\":2},{\"name\":\"c\",\"agent\":\"reno\",\"trace\":\"t\",\"mss\":1448,\"queue\":10,\"delay_us\":20000,\"timeout_us\":1000000,\"acks\":1}]}";
 
 /// Worker 0 has flows 0 and 2, of which flow 2 ends first. It is held before the acknowledgement of flow 2 until worker 1
-/// has asked flow 1 three times, and again before the last one of flow 0, which it comes to as its seventh.
+/// has asked flow 1 three times, and again before the last one of flow 0, which is its seventh.
 #[test]
 fn a_datapath_serves_two_flows_to_their_ends(rt: HostRuntime) -> Result<(), Fail> {
     let second = Hold {
@@ -294,7 +294,7 @@ fn two_agents_answer_at_once(rt: HostRuntime) -> Result<(), Fail> {
 const SECOND_LOSING: &[u8] =
     b"{\"version\":1,\"programs\":{\"p\":\"(def (Report (volatile loss 0))) (when true (:= Report.loss 1) (report))\",\"q\":\"(def (Report (volatile loss 0))) (when true (:= Report.loss 1))\"},\"traces\":{\"t\":\"10\\n\"},\"cases\":[{\"name\":\"a\",\"agent\":\"reno\",\"trace\":\"t\",\"mss\":1448,\"queue\":10,\"delay_us\":20000,\"timeout_us\":1000000,\"acks\":1,\"ss\":\"q\",\"ca\":\"q\"},{\"name\":\"b\",\"agent\":\"reno\",\"trace\":\"t\",\"mss\":1448,\"queue\":10,\"delay_us\":20000,\"timeout_us\":1000000,\"acks\":2,\"ss\":\"p\",\"ca\":\"p\"}]}";
 
-/// The datapath is held before the second acknowledgement of flow 1, which it comes to as its fourth turn, until the
+/// The datapath is held before the second acknowledgement of flow 1, which is its fourth turn, until the
 /// agent has settled an answer of that flow.
 #[test]
 fn an_agent_settles_the_flow_that_reported(rt: HostRuntime) -> Result<(), Fail> {

@@ -199,7 +199,7 @@ module _ (state : FeedState) (version : Version) (r i : ℕ) where
     why-updated None is e = why-is state update n version r i 3 0 (is, refl) (omega arith) (omega arith) e
     why-updated (Some flow) is e = why-updated-on flow is (code_of flow.epoch state.programs) refl e
 
-  -- what is told of an acknowledgement is no refusal
+  -- the report of an acknowledgement is no refusal
   report-told : (n m : ℕ) (ack : Ack) (epoch : Epoch) (flow : Flow) (W : Type 0) (came : Option Acked × MachineState)
       → in_version flow.version (told_of came ack m epoch flow) ≡ refusal_of n r i version → W
   report-told n m ack epoch flow W (None, machine) e = none-told n W e

@@ -1,4 +1,4 @@
--- A flow's history as a word, and the states that words come to.
+-- A flow's history as a word, and the state after a word.
 use Rattle.std.specs.Prelude.{ℕ, ◌+◌, ◌*◌, Bool, true, not, ◌&&◌, nat_lt, nat_le, is_some, is_none, Option, Some, None, List, [], ◌∷◌, length, slice_get}
 use Rattle.ccp_base.specs.declared.ack.Ack.{Ack}
 use Rattle.link_model.specs.declared.link_case.LinkCase.{LinkCase}
@@ -58,7 +58,7 @@ abbrev pub legal_from : {X : Type 0} → Flow X → Giving X → World X → Lis
 legal_from flow giving w [] = true
 legal_from flow giving w (letter ∷ rest) = is_legal flow w letter && legal_from flow giving (after_letter flow giving w letter) rest
 
--- the most letters that a word with so many acknowledgements has: each makes one ticket at most, which is taken and answered
+-- the most letters of a word with `acks` acknowledgements: each makes one ticket at most, which is taken and answered
 abbrev pub most_letters : ℕ → ℕ
 most_letters acks = 3 * acks
 

@@ -184,7 +184,7 @@ impl BareParts {
         acked
     }
 
-    /// Puts down what an acknowledgement came to, by the machine's answer. Most come to nothing.
+    /// Records the outcome of an acknowledgement, by the machine's answer. Most have none.
     #[inline(always)]
     fn put_down(&mut self, ack: &Ack, acked: Acked)
         requires can { CanNote self.old }
@@ -198,7 +198,7 @@ impl BareParts {
         self.put_down_any(ack, acked);
     }
 
-    /// Puts down what an acknowledgement came to, by the machine's answer.
+    /// Records the outcome of an acknowledgement, by the machine's answer.
     #[inline(never)]
     fn put_down_any(&mut self, ack: &Ack, acked: Acked)
         requires can { CanNote self.old }
@@ -214,7 +214,7 @@ impl BareParts {
         }
     }
 
-    /// Puts down the report that the machine made.
+    /// Records the report that the machine made.
     fn put_down_report(&mut self, ack: &Ack)
         requires can { CanNote self.old }
         requires acks { self.old.acks < most_acks }
@@ -238,7 +238,7 @@ impl BareParts {
         self.first = end;
     }
 
-    /// Puts down a fault of this kind at the instruction with this index.
+    /// Records a fault of this kind at the instruction with this index.
     fn put_down_fault(&mut self, ack: &Ack, kind: FaultKind, index: u16)
         requires { CanNote self.old }
         ensures { NotesBare self.old self.new ack.entry.now (failed (kind, index)) }
@@ -288,7 +288,7 @@ impl BareParts {
         self.close(&after, reports);
     }
 
-    /// Puts down that the ticket that is out was answered, after which the agent is this, and how many reports it told.
+    /// Records that the ticket that is out was answered, the agent after that, and how many reports the ticket had.
     fn close(&mut self, after: &Agent, reports: u32)
         requires answered { self.old.answered < most_acks }
         requires told { self.old.told < most_acks }
@@ -385,7 +385,7 @@ impl BareParts {
     }
 }
 
-/// How many reports something that is told is: one or none.
+/// How many reports a ticket's content is: one or none.
 fn reports_told(told: &Told) -> u32
     ensures told { result ≡ reports_told told.now }
     ensures one { result ≤ 1 }

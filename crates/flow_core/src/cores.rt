@@ -72,8 +72,8 @@ impl Model for Core {
     ghost invariant = { λ c. IsCore c.bare c.journal };
 }
 
-/// The notice of the fault that an acknowledgement came to, by the machine's answer and the untold notice after it;
-/// None exactly where it came to none.
+/// The notice of an acknowledgement's fault, by the machine's answer and the undelivered notice after it;
+/// None exactly if it had no fault.
 fn new_notice(acked: Acked, untold: Option<Notice>) -> Option<Notice>
     ensures { result ≡ new_notice acked untold }
 {
@@ -150,7 +150,7 @@ impl Core {
     }
 
     /// Takes the oldest report, or else the untold fault notice, as a ticket. NotYet exactly where no ticket is out and
-    /// nothing can be taken, Out exactly where that ticket is out; nothing has changed then, nor for want of memory.
+    /// nothing can be taken, Out exactly where that ticket is out; nothing has changed then, nor if memory ran out.
     /// What the answer's settling needs is reserved here.
     pub fn take(&mut self, _alloc: Global) -> Result<Ticket, TakeFault>
         ensures not_yet { (result ≡ Err TakeFault.NotYet) ↔ (is_still (world_in self.old) ≡ true) }

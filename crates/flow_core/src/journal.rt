@@ -51,7 +51,7 @@ impl Journal {
         Ok(())
     }
 
-    /// Puts down an acknowledgement, and the fault that it came to, if it came to one.
+    /// Records an acknowledgement, and its fault, if it had one.
     pub(crate) fn put_ack(&mut self, ack: &Ack, fault: Option<Notice>)
         requires faults { HasRoom self.old.faults }
         requires acks { HasRoom self.old.acks }
@@ -65,7 +65,7 @@ impl Journal {
         self.word.push(Letter::A);
     }
 
-    /// Puts down that a ticket was taken.
+    /// Records that a ticket was taken.
     pub(crate) fn put_take(&mut self)
         requires { HasRoom self.old.word }
         ensures { self.new ≡ journal_take self.old }
@@ -73,7 +73,7 @@ impl Journal {
         self.word.push(Letter::T);
     }
 
-    /// Puts down an answer, whose ticket was taken at `taken` acknowledgements and which is applied at `answered`, and
+    /// Records an answer, whose ticket was taken at `taken` acknowledgements and which is applied at `answered`, and
     /// the epoch that it began, if it began one.
     pub(crate) fn put_answer(
         &mut self,

@@ -1,4 +1,4 @@
--- Steps that lead on: what the rest comes to, the whole comes to.
+-- Steps that lead on: where the rest leads, the whole leads.
 use Rattle.std.specs.Prelude.{◌≡◌, List, [], ◌∷◌, ◌++◌, length, refl}
 use Rattle.std.proofs.Common.{sym, subst, append_assoc, append-nil, arith}
 use Rattle.flow_table.specs.Led.{IsLedTo, AreLedTo}

@@ -1,4 +1,4 @@
--- What the book of a flow is: it tells what a legal and complete word of its case came to.
+-- What the book of a flow is: it shows the state after a legal and complete word of its case.
 use Rattle.std.specs.Prelude.{◌≡◌, true}
 use Rattle.flow_core.specs.declared.book.Book.{Book}
 use Rattle.flow_core.specs.Words.{legal}
@@ -9,7 +9,7 @@ use Rattle.flow_core.specs.Cells.{CellState, flow_at, world_at, IsComplete, IsLi
 abbrev pub flow_of : Book → CellState
 flow_of book = record { case = book.case; word = book.word }
 
--- the word is legal and complete for the case, and the book tells what it came to: the state after the word, read over
+-- the word is legal and complete for the case, and the book shows the state after it, read over
 -- the case's codes, and so, for all programs that these simulate, over the programs
 pub record IsWhole (book : Book) : Type 0 where
   pub legal : legal (flow_at (flow_of book)) book.case.link book.word ≡ true

@@ -1,4 +1,4 @@
--- The text of a book that tells what its word came to is its flow's part of the rollout text.
+-- The text of a book that shows the state after its word is its flow's part of the rollout text.
 use Rattle.std.specs.Prelude.{◌≡◌, ℕ, suc, ◌-◌, ◌==◌, ◌||◌, Option, Some, None, option_map, List, [], ◌∷◌, ◌++◌, length, map, refl}
 use Rattle.std.specs.List.{All}
 use Rattle.std.proofs.Common.{ap, sym, ◌∙◌, arith}
@@ -103,7 +103,7 @@ module _ (read : TextReading) (book : OpenBook) (told : IsRightBook read book) w
   pub book-part : book_text book ≡ open_part book.case w
   book-part = ap (λ (account : OpenAccount). account_text book.case account) accounts
 
--- the text of books that tell what their words came to
+-- the text of books that show the states after their words
 pub books-rollout : (read : TextReading) (books : List OpenBook) → All (IsRightBook read) books → books_text books ≡ rollout_text read (flows_of books)
 books-rollout read [] told = refl
 books-rollout read (book ∷ rest) told =

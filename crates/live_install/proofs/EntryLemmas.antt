@@ -1,4 +1,4 @@
--- What is built of a text is what the text comes to in every reading.
+-- What is built of a text is what every reading gives for it.
 use Rattle.std.specs.Prelude.{◌≡◌, ◌≢◌, ℕ, true, false, Result, Ok, Err, IfOk, IfErr, List, refl}
 use Rattle.std.proofs.Common.{ap}
 use Rattle.portus_core.specs.ProgramForm.{form_of}

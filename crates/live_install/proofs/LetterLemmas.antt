@@ -34,7 +34,7 @@ module _ (read : TextReading) (case : OpenCase) where
       legal_from-append opening word (letter ∷ [])
       ∙ ap (λ (b : Bool). legal read case word && b) (and-true (is_legal case (install_world read case word) letter))
 
--- a case and a word with one more letter have come to that letter's step
+-- the state of a case after a word with one more letter is that letter's step
 pub grown : (read : TextReading) (case other : OpenCase) (word more : List OpenLetter) (letter : OpenLetter) → other ≡ case → more ≡ word ++ letter ∷ []
     → install_world read other more ≡ after_letter read case (install_world read case word) letter
 grown read case other word more letter same longer =

@@ -83,7 +83,7 @@ few-outcome program epoch at ack (means.Reported fields) env = tt
 few-outcome program epoch at ack means.Held env = tt
 few-outcome program epoch at ack (means.Fault kind place) env = (omega arith, tt)
 
--- what an acknowledgement comes to, where the epoch was stopped before or not
+-- the outcome of an acknowledgement, where the epoch was stopped before or not
 abbrev met : Form → Bool → Env → Ack → Outcome Cause × Env
 met form before env ack = heard (by_source form) before env ack true
 

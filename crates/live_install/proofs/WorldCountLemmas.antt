@@ -1,4 +1,4 @@
--- What the state after a legal word tells of the word: its counts; and that the order of entries and changes at one
+-- What the state after a legal word shows of the word: its counts; and that the order of entries and changes at one
 -- count doesn't matter to it.
 use Rattle.std.specs.Prelude.{◌≡◌, ℕ, ◌+◌, ◌≤◌, Bool, true, false, ◌&&◌, not, is_some, cond, Option, Some, None, Ok, Err, List, [], ◌∷◌, ◌++◌, length, drop, map, slice_get, get_or, refl}
 use Rattle.std.proofs.Common.{ap, sym, ◌∙◌, subst, arith, suc, add-one, append_assoc, append-nil, length-append, drop-cons}
@@ -312,7 +312,7 @@ module _ (read : TextReading) (case : OpenCase) where
     pub all-with : with-all (install_world read case word) ≡ world_from read case (with-all opening) (without_entries word)
     all-with = all-after opening word refl history.legal
 
-  -- alike histories come to one state
+  -- alike histories have one state
   pub alike-worlds : (word other : List OpenLetter) → IsHistory read (case, word) → IsHistory read (case, other) → AreAlike word other
       → install_world read case word ≡ install_world read case other
   alike-worlds word other history other_history alike =

@@ -30,7 +30,7 @@ const FAULTING: [OpenLetter; 8] = [
     OpenLetter::A,
 ];
 
-/// What the first flow's word comes to.
+/// The text of the first flow after its word.
 const FAULTING_TEXT: &[u8] =
     b"flow 0 case=a\nstep 0 installed at=1\nstep 1 installed at=2\nepoch 0 step=0 at=1 cwnd=4344\nepoch 1 step=1 at=2 cwnd=4344\nfault epoch=1 ack=3 kind=Underflow at=1:31\nreport program=0 epoch=0 span=1..2 now=40000 cwnd=4344 rate=0\nend acks=4 reports=1 tail=2..4 stopped=yes cwnd=4344 rate=0\n";
 
@@ -46,7 +46,7 @@ const REPORTING: [OpenLetter; 7] = [
     OpenLetter::A,
 ];
 
-/// What the second flow's word comes to.
+/// The text of the second flow after its word.
 const REPORTING_TEXT: &[u8] =
     b"flow 1 case=b\nstep 0 installed at=0\nstep 1 installed at=0\nepoch 0 step=0 at=0 cwnd=2896\nepoch 1 step=1 at=1 cwnd=2896\nreport program=0 epoch=0 span=0..1 now=30000 cwnd=2896 rate=0\nreport program=1 epoch=1 span=1..3 now=50000 cwnd=2896 rate=0 acked=2896\nend acks=3 reports=2 tail=3..3 stopped=no cwnd=2896 rate=0 acked=0\n";
 
@@ -133,13 +133,13 @@ fn text_of(alloc: Global, book: OpenBook) -> Result<Bytes, Fail> {
     Ok(text?)
 }
 
-/// Whether this is what a flow's word comes to.
+/// Whether this is the text of a flow after its word.
 fn shows(alloc: Global, cell: OpenCell, expected: &[u8]) -> Result<bool, Fail> {
     let text = text_of(alloc, book(cell)?)?;
     Ok(text.as_slice() == expected)
 }
 
-/// Whether this is what a word of the flow at a place comes to.
+/// Whether this is the text of the flow at a place after a word.
 fn comes_to(
     alloc: Global,
     place: usize,

@@ -1,4 +1,4 @@
--- What the walks over a text end with is what the text comes to.
+-- The walks over a text find its program or its first refusal.
 use Rattle.std.proofs.Common.{◌≡◌, ◌∙◌, ℕ, ◌<◌, ◌≤◌, Bool, true, false, if◌then◌else◌, nat_lt, Option, Some, None, Result, Ok, Err, List, length, map, ap, sym, refl, arith}
 use Rattle.std.proofs.lemmas.Bool.Decides.{nat_tests}
 use Rattle.ccp_base.specs.Limits.{most_text_bytes}
@@ -86,7 +86,7 @@ text_comes : (text : List ℕ) (end : Result (List Node) ParseFault) → EndsAs 
 text_comes text (Ok forms) spelled = forms_come text (collected forms) spelled (source_walk (collected forms)) refl
 text_comes text (Err fault) refused = refused
 
--- the walks find what each text comes to
+-- the walks find each text's program or first refusal
 pub walks_exact : WalksAreExact
 unfolding program_of
 walks_exact text = text_comes text (text_forms text) (text_ends text (nat_lt most_text_bytes (length text)) refl)

@@ -41,10 +41,10 @@ abbrev pub scoped_form : Result (List Node) ParseFault → Result Form BuildFaul
 scoped_form (Ok forms) = compiled_form (source_walk (collected forms))
 scoped_form (Err fault) = Err (Parse fault)
 
--- what a text comes to: its program, or its first refusal
+-- a text's program, or its first refusal
 unfoldable pub program_of : List ℕ → Result Form BuildFault
 program_of text = scoped_form (text_forms text)
 
--- the walks find what each text comes to
+-- the walks find each text's program or first refusal
 abbrev pub WalksAreExact : Type 0
 WalksAreExact = (text : List ℕ) → ComesTo text (program_of text)

@@ -5,7 +5,7 @@ ghost use Rattle.portus_build.specs.Settled.{AreSettled};
 ghost use Rattle.portus_build.specs.TextWalk.{WalksAreExact};
 
 /// The law of building: each text stands for one program that is compiled, or has one first refusal, which is that
-/// of a rule and never want of memory, and not both.
+/// of a rule and never out of memory, and not both.
 pub fn build_law()
     ensures { AreSettled }
 {}

@@ -1,4 +1,4 @@
--- What the generator's draws come to: its traces say their times, its names are names, and one plan more is drawn.
+-- What the generator draws: its traces say their times, its names are names, and one plan more is drawn.
 use Rattle.std.proofs.Common.{◌≡◌, ℕ, zero, suc, ◌-◌, ◌<◌, ◌≤◌, ◌^◌, List, [], ◌∷◌, ◌++◌, Ok, Some, length, codes, refl, arith}
 use Rattle.std.proofs.lemmas.Bool.{le-leb}
 use Rattle.std.proofs.lemmas.Fmt.{length-decimal-le}

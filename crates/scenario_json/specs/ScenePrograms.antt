@@ -33,7 +33,7 @@ programs_from done no_members = Ok done
 programs_from done (member name value rest) =
     then_do (named_program name value) (λ form. programs_from (done ++ (length done, form) ∷ []) rest)
 
--- a built-in program, if this is what its text comes to; each is one of a program
+-- a built-in program, if its text has this result; each text is that of a program
 abbrev pub built_in : ℕ → Result Form BuildFault → Forms
 built_in number (Ok form) = (number, form) ∷ []
 built_in number (Err fault) = []

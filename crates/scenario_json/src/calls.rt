@@ -38,7 +38,7 @@ use std::alloc::Global;
 /// first one in the order of the scenario's parts.
 #[tactic(auto, using(portus_build::proofs::WalkLemmas::walks_exact))]
 pub fn scenario(alloc: Global, text: &[u8], mode: SceneMode) -> Result<Scenario, SceneFault>
-    // What each program's text comes to, a program or its first refusal, is what the walks over it find.
+    // The result of each program's text, a program or its first refusal, is what the walks over it find.
     ensures readable { WalksAreExact }
 
     // The answer is the scene of the text, and each refusal the text's first one.

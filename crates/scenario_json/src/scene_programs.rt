@@ -35,7 +35,7 @@ pub(crate) struct SceneProgramList {
     pub builts: Builts,
 }
 
-/// What a text is built into: what it comes to.
+/// What a text is built into, a program or its first refusal.
 fn build_text(alloc: Global, text: &[u8]) -> Result<Built, BuildFault>
     ensures ok { IfOk result (λ b. program_of text.now ≡ Ok (form_of b.program)) }
     ensures err { IfErr result (λ e. e ≢ build_fault.NoMemory → program_of text.now ≡ Err e) }

@@ -204,7 +204,7 @@ module _ (link : SharedCase) (cases : List Case) where
 
   -- ---- where it ends
 
-  -- from some round on it comes to that after this many
+  -- from some round on it is that after this many
   record EndsFrom (left done rounds : ℕ) : Type 0 where
     run : rounds_from link over_codes left (run_after link over_codes cases done) ≡ run_after link over_codes cases rounds
     from : done ≤ rounds

@@ -39,14 +39,14 @@ pub record StandsAfter (link : SharedCase) (cases : List Case) (rounds : ℕ) (s
   pub rounds_are : state.rounds ≡ rounds
   pub stands : Stands state (run_after link over_codes cases rounds).history
 
--- the run of at most so many rounds ended after this many, where the link stands so
+-- the run of at most `most` rounds ended after `rounds`, and the link is in this state
 pub record HasEnded (link : SharedCase) (cases : List Case) (most rounds : ℕ) (state : SharedState) : Type 0 where
   pub stands : StandsAfter link cases rounds state
   pub whole : run_after link over_codes cases rounds ≡ rounds_from link over_codes most (progress [] (map opened cases))
 
 -- ---- the end
 
--- the run of at most so many rounds is that after this many: after the first round in which all flows have all
+-- the run of at most `most` rounds is that after `rounds`: after the first round in which all flows have all
 -- acknowledgements, or else after the last one that may come
 pub record EndsAfter (link : SharedCase) (cases : List Case) (most rounds : ℕ) : Type 0 where
   pub run : run_of link over_codes cases most ≡ run_after link over_codes cases rounds

@@ -92,7 +92,7 @@ fn round<C: Course, R: Wait, G: Gate>(
     asks(rt, alloc, lanes, done + 1)
 }
 
-/// Rounds until all flows have all acknowledgements, at most so many. Answers how many there were.
+/// Rounds until all flows have all acknowledgements, at most `most`. Answers how many there were.
 fn rounds<C: Course, R: Wait, G: Gate>(
     rt: &R,
     alloc: Global,
@@ -122,7 +122,7 @@ fn rounds<C: Course, R: Wait, G: Gate>(
     Ok(done)
 }
 
-/// The rounds of a run by so many workers, until all flows have all acknowledgements, at most so many rounds.
+/// The rounds of a run by `workers` workers, until all flows have all acknowledgements, at most `most` rounds.
 pub(crate) fn by_workers<
     'e,
     C: Course + Send + Sync + 'e,

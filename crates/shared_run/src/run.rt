@@ -79,7 +79,7 @@ fn run<R: Threads + Wait + Sync, G: Gate + Sync>(
     run_course::<Brand, R, G>(rt, alloc, link, scene.cases, most, workers, gate)
 }
 
-/// The run of these cases over their link for at most so many rounds, of which the types of its parts speak.
+/// The run of these cases over their link for at most `most` rounds. Its parts have types that name it.
 fn run_course<C: Course + Send + Sync, R: Threads + Wait + Sync, G: Gate + Sync>(
     rt: &R,
     alloc: Global,
