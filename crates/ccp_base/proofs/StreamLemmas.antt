@@ -1,9 +1,9 @@
 -- What the system answers to a call of a stream, whose values all know their bytes or none does, says of the bytes.
-use Rattle.std.proofs.Common.{◌≡◌, ◌∙◌, ap, refl, subst, append-nil, ℕ, Bool, true, false, Some, None, is_some, Result, Ok, Err, List, [], ◌++◌, take}
+use Rattle.std.proofs.Common.{◌≡◌, ◌∙◌, ap, refl, subst, append-nil, ℕ, Bool, true, false, Some, None, is_some, Result, Ok, Err, List, [], take}
 use Rattle.std.proofs.lemmas.Bool.{eqb-true}
 use Rattle.std.specs.Prelude.{IfOk, OnErr, if◌then◌else◌, ◌==◌, ◌&&◌, not}
 use Rattle.std.specs.Io.KnownBytes.{Keeps, Consumes, ReadConsumes, WriteAppends}
-use Rattle.std.specs.Io.KnownBytes.{Appends as GrowsBy, IsAtEnd as HasNone}
+use Rattle.std.specs.Io.KnownBytes.{Appends as GrowsBy}
 use Rattle.ccp_base.specs.declared.outside.Failed.{Failed}
 use Rattle.ccp_base.specs.Outside.{Known, Takes, Appends}
 use Rattle.ccp_base.specs.SystemAnswers.{read_answer, write_answer}

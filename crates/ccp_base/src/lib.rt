@@ -24,6 +24,7 @@ mod sink;
 mod source;
 mod stream;
 mod values;
+mod workers;
 
 pub use ack::{Ack, Acks, PRIMITIVES, ack_of, bool_number, is_flag, is_true, prim, primitives};
 pub use arithmetic::{FaultKind, add, blended, div, mul, sub};
@@ -47,6 +48,7 @@ pub use sink::{Sink, write_all};
 pub use source::{Source, read_all};
 pub use stream::{ReadStream, Reader, StdErr, StdIn, StdOut, WriteStream, Writer};
 pub use values::{VALUES, Values};
+pub use workers::Workers;
 
 /// The most report fields that a program declares.
 pub const FIELDS: u32 = 64;

@@ -88,8 +88,8 @@ impl Source for MemSource<'_> {
     }
 }
 
-/// A sink in memory, with calls that fail at the listed numbers. A finish fails there alone. A write also fails where
-/// there is no memory for its bytes, and no clause says where that is.
+/// A sink in memory, whose calls fail at the listed numbers. A `finish` fails only there. A `write` also fails if memory
+/// for its bytes is refused, which `refusals` counts.
 #[derive(Drop)]
 pub struct MemSink<'a> {
     bytes: Bytes,
@@ -97,6 +97,7 @@ pub struct MemSink<'a> {
     failing: &'a [u64],
     calls: u64,
     faults: u64,
+    refusals: u64,
     finished: bool,
     ghost some: { 1 ≤ most },
 }
@@ -111,6 +112,7 @@ impl<'a> MemSink<'a> {
         ensures failing { result.failing.now ≡ failing.entry.now }
         ensures calls { result.calls ≡ 0 }
         ensures faults { result.faults ≡ 0 }
+        ensures refusals { result.refusals ≡ 0 }
         ensures finished { result.finished ≡ false }
     {
         MemSink {
@@ -119,6 +121,7 @@ impl<'a> MemSink<'a> {
             failing,
             calls: 0,
             faults: 0,
+            refusals: 0,
             finished: false,
         }
     }
@@ -135,6 +138,13 @@ impl<'a> MemSink<'a> {
         ensures { result ≡ self.now.faults }
     {
         self.faults
+    }
+
+    /// How many writes failed because memory for their bytes was refused.
+    pub fn refusals(&self) -> u64
+        ensures { result ≡ self.now.refusals }
+    {
+        self.refusals
     }
 
     /// Whether a finish succeeded and no write came after it.
@@ -160,6 +170,9 @@ impl Sink for MemSink<'_> {
         ensures within { IfOk result (λ n. n ≤ length bytes.now) }
         ensures appends { IfOk result (λ n. Appends (Some self.old.bytes) (Some self.new.bytes) (take n bytes.now)) }
         ensures listed { Contains self.old.failing.now self.old.calls → IsErr result }
+        // Any other call fails only where it counts a refusal of memory.
+        ensures unlisted { IsErr result → (Contains self.old.failing.now self.old.calls → ⊥) → self.new.refusals ≡ min (self.old.refusals + 1) u64.MAX }
+        ensures refusals { OnOk result (self.new.refusals ≡ self.old.refusals) }
         ensures most { IfOk result (λ n. n ≡ min self.old.most (length bytes.now)) }
         ensures calls { self.new.calls ≡ min (self.old.calls + 1) u64.MAX }
         ensures same_most { self.new.most ≡ self.old.most }
@@ -173,6 +186,7 @@ impl Sink for MemSink<'_> {
         }
         let count = self.most.min(bytes.len());
         if self.bytes.extend(&bytes[..count]).is_err() {
+            self.refusals = self.refusals.saturating_add(1);
             return Err(fault(&mut self.faults));
         }
         Ok(count)
@@ -186,6 +200,7 @@ impl Sink for MemSink<'_> {
         ensures calls { self.new.calls ≡ min (self.old.calls + 1) u64.MAX }
         ensures same_most { self.new.most ≡ self.old.most }
         ensures same_failing { self.new.failing.now ≡ self.old.failing.now }
+        ensures refusals { self.new.refusals ≡ self.old.refusals }
         ensures quiet { OnOk result (self.new.faults ≡ self.old.faults) }
         ensures finished { OnOk result (IsTrue self.new.finished) }
         ensures unfinished { OnErr result (self.new.finished ≡ self.old.finished) }
