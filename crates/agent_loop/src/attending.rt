@@ -1,13 +1,13 @@
 //! The work of agent workers, begun and ended.
 
 ghost use Rattle.std.specs.Prelude.{◌≡◌, map, IfOk, length};
-ghost use Rattle.agent_loop.specs.Crews.{post_of, post};
+ghost use Rattle.agent_loop.specs.Crews.{post_of, post, posts};
 
 use crate::agent::run_agent_worker;
 use ccp_base::{Gate, NoMemory};
 use crossbeam_channel::Receiver;
 use flow_core::Cell;
-use flow_table::FlowTable;
+use flow_table::{FlowTable, WorkerCounts};
 use std::alloc::Global;
 use std::sync::Wait;
 use std::thread::{PromisedHandle, Scope, Threads};
@@ -22,8 +22,29 @@ pub(crate) enum Attending {
     Left(u32),
 }
 
+/// Begins the work of the agent workers, in order. Their numbers come after those of the datapath workers.
+pub(crate) fn begin_all<'s, 'e, R: Threads + Wait + Sync, G: Gate + Sync>(
+    scope: &'s Scope<'s, &'e ()>,
+    rt: &'e R,
+    alloc: Global,
+    table: &'e FlowTable<Cell>,
+    workers: WorkerCounts,
+    receiver: &Receiver<u32, Global>,
+    gate: &'e G,
+) -> Result<Vec<Attending>, NoMemory>
+    ensures { IfOk result (λ all. map (post_of (length table.now)) all.items
+        ≡ posts workers.datapaths.count (length table.now) workers.agents.count) }
+{
+    let mut attendings = Vec::new(alloc);
+    for agent in 0..workers.agents.count() {
+        let worker = workers.datapaths.count() + agent;
+        attendings.push(begin(scope, rt, alloc, table, worker, receiver, gate)?)?;
+    }
+    Ok(attendings)
+}
+
 /// Begins the work of an agent worker. Where no thread can be started for it, it is left to the end.
-pub(crate) fn begin<'s, 'e, R: Threads + Wait + Sync, G: Gate + Sync>(
+fn begin<'s, 'e, R: Threads + Wait + Sync, G: Gate + Sync>(
     scope: &'s Scope<'s, &'e ()>,
     rt: &'e R,
     alloc: Global,

@@ -1,21 +1,19 @@
 //! The call of a live run: workers of both kinds run the flow of each case, and each flow has its book.
-ghost use Rattle.std.specs.Prelude.{◌≤◌, IfOk};
-ghost use Rattle.ccp_base.specs.Limits.{most_workers};
+ghost use Rattle.std.specs.Prelude.{IfOk};
 ghost use Rattle.agent_loop.specs.LiveBooks.{AreBooksOf};
 
 use crate::Books;
 use crate::books::books;
 use crate::workers::work;
-use ccp_base::{Gate, NoMemory};
+use ccp_base::{Gate, NoMemory, Workers};
 use flow_core::Cell;
-use flow_table::{FlowTable, Workers};
+use flow_table::{FlowTable, WorkerCounts};
 use std::alloc::Global;
 use std::sync::Wait;
 use std::thread::Threads;
 
-/// One book a case, in order, whatever the numbers of workers, which are 1 to 32, and in whatever order threads take
-/// the flows' locks: each book has its case and a word that is legal and complete for it. Which such word it is nobody
-/// says.
+/// One book a case, in order, whatever the numbers of workers, and in whatever order threads take the flows' locks: each
+/// book has its case and a word that is legal and complete for it. Which such word it is nobody says.
 ///
 /// Datapath worker `d` takes the acknowledgements of the flows `f` with `f mod datapaths = d`, one of each in turn. It
 /// passes the gate at `BeforeAck` and `AfterAck` without a lock and at `InAck` with the flow's. Agent workers, whose
@@ -27,15 +25,13 @@ pub fn live<R: Threads + Wait + Sync, G: Gate + Sync>(
     rt: &R,
     alloc: Global,
     table: FlowTable<Cell>,
-    datapaths: u32,
-    agents: u32,
+    datapaths: Workers,
+    agents: Workers,
     gate: &G,
 ) -> Result<Books, NoMemory>
-    requires datapaths { (1 ≤ datapaths) × (datapaths ≤ most_workers) }
-    requires agents { (1 ≤ agents) × (agents ≤ most_workers) }
     ensures { IfOk result (λ books. AreBooksOf table books) }
 {
-    let workers = Workers { datapaths, agents };
+    let workers = WorkerCounts { datapaths, agents };
     let crew = work(rt, alloc, &table, workers, gate)?;
-    books(alloc, table.close(alloc)?, datapaths, agents, crew)
+    books(alloc, table.close(alloc)?, workers, crew)
 }

@@ -7,7 +7,7 @@ use crate::nudge_sender::NudgeSender;
 use crate::{attending, serving};
 use ccp_base::{Gate, NoMemory};
 use flow_core::Cell;
-use flow_table::{FlowTable, Workers, end_serving};
+use flow_table::{FlowTable, WorkerCounts, end_serving};
 use std::alloc::Global;
 use std::sync::Wait;
 use std::thread;
@@ -19,27 +19,31 @@ pub(crate) fn work<R: Threads + Wait + Sync, G: Gate + Sync>(
     rt: &R,
     alloc: Global,
     table: &FlowTable<Cell>,
-    workers: Workers,
+    workers: WorkerCounts,
     gate: &G,
 ) -> Result<Crew, NoMemory>
-    ensures { IfOk result (λ crew. HasWorked crew workers.datapaths workers.agents (length table.now)) }
+    ensures { IfOk result (λ crew. HasWorked crew workers.datapaths.count workers.agents.count (length table.now)) }
 {
     let (sender, receiver) = crossbeam_channel::unbounded::<u32, Global>(alloc)?;
     thread::scope(
         thread::scope_env(),
         rt,
         move |scope| -> Result<Crew, NoMemory>
-            ensures { IfOk result (λ crew. HasWorked crew workers.datapaths workers.agents (length table.entry.now)) }
+            ensures { IfOk result (λ crew. HasWorked crew workers.datapaths.count workers.agents.count (length table.entry.now)) }
         {
-            let mut attendings = Vec::new(alloc);
-            for agent in 0..workers.agents {
-                let worker = workers.datapaths + agent;
-                attendings.push(attending::begin(
-                    scope, rt, alloc, table, worker, &receiver, gate,
-                )?)?;
-            }
+            let attendings = attending::begin_all(
+                scope, rt, alloc, table, workers, &receiver, gate,
+            )?;
             let nudges = NudgeSender { sender };
-            let servings = serving::begin_all(scope, rt, alloc, table, workers, &nudges, gate)?;
+            let servings = serving::begin_all(
+                scope,
+                rt,
+                alloc,
+                table,
+                workers.datapaths,
+                &nudges,
+                gate,
+            )?;
             let served = end_serving(rt, alloc, servings)?;
             // Agent workers end where the last sender is gone.
             drop(nudges);

@@ -1,7 +1,7 @@
 //! The run of one case, and of many.
 ghost use Rattle.std.specs.Prelude.{◌≡◌, ◌≤◌, true, map, length, IfOk};
 ghost use Rattle.std.specs.List.{All};
-ghost use Rattle.ccp_base.specs.Limits.{most_cases, most_workers};
+ghost use Rattle.ccp_base.specs.Limits.{most_cases};
 ghost use Rattle.flow_core.specs.Readings.{over_codes};
 ghost use Rattle.flow_core.specs.Words.{world, legal, is_complete};
 ghost use Rattle.flow_core.specs.Cells.{CellState};
@@ -15,7 +15,7 @@ use crate::case_result::CaseResult;
 use crate::queue::Queue;
 use crate::row::{Row, Rows};
 use crate::workers::by_workers;
-use ccp_base::{Acks, Gate, NoMemory, Sequence};
+use ccp_base::{Acks, Gate, NoMemory, Sequence, Workers};
 use flow_core::{Book, Case, Cell};
 use std::alloc::Global;
 use std::marker::Brand;
@@ -35,19 +35,18 @@ pub fn run_case(alloc: Global, case: Case) -> Result<Row, NoMemory>
 /// The cases of a campaign in order.
 pub type Cases = Sequence<Case>;
 
-/// The rows of cases, in their order, whatever the number of workers, which is 1 to 32. Worker `w` runs the cases whose
-/// number leaves `w` when it is divided by the number of workers, in order, each in a cell that is dropped after it. It
-/// passes the gate at `InCase` before a case and at `AfterCase` after it. Where a thread can't be started the caller does
-/// its work. There are at most 1,024 cases. The row of each case is that of its programs.
+/// The rows of cases, in their order, whatever the number of workers. Worker `w` runs the cases whose number leaves `w`
+/// when it is divided by the number of workers, in order, each in a cell that is dropped after it. It passes the gate at
+/// `InCase` before a case and at `AfterCase` after it. Where a thread can't be started the caller does its work. There
+/// are at most 1,024 cases. The row of each case is that of its programs.
 pub fn rows<R: Threads + Sync, G: Gate + Sync>(
     rt: &R,
     alloc: Global,
     cases: Cases,
-    workers: u32,
+    workers: Workers,
     gate: &G,
 ) -> Result<Rows, NoMemory>
     requires few { length cases ≤ most_cases }
-    requires workers { (1 ≤ workers) × (workers ≤ most_workers) }
     ensures rows { IfOk result (λ rows. rows ≡ map row_of cases) }
     ensures lifted { (case : Case) → IsLifted case }
 {
@@ -80,17 +79,16 @@ fn book_of(cell: Cell) -> Book
     cell.finish()
 }
 
-/// The book of each case after its campaign word, in the order of the cases, whatever the number of workers, which is 1
-/// to 32: the same workers as those of `rows`, with the same gates, run the same cases. There are at most 1,024 cases.
+/// The book of each case after its campaign word, in the order of the cases, whatever the number of workers: the same
+/// workers as those of `rows`, with the same gates, run the same cases. There are at most 1,024 cases.
 pub fn books<R: Threads + Sync, G: Gate + Sync>(
     rt: &R,
     alloc: Global,
     cases: Cases,
-    workers: u32,
+    workers: Workers,
     gate: &G,
 ) -> Result<Books, NoMemory>
     requires few { length cases ≤ most_cases }
-    requires workers { (1 ≤ workers) × (workers ≤ most_workers) }
     ensures books { IfOk result (λ books. AreCampaignBooks cases books) }
     ensures source { (case : Case) → HasSourcePlan case }
 {
@@ -101,18 +99,16 @@ pub fn books<R: Threads + Sync, G: Gate + Sync>(
 /// The acknowledgements of each case of a campaign, in the order of the cases.
 pub type CaseAcks = Sequence<Acks>;
 
-/// The acknowledgements of each case on its campaign word, in the order of the cases, whatever the number of workers,
-/// which is 1 to 32: the same workers as those of `rows`, with the same gates, run the same cases. There are at most
-/// 1,024 cases.
+/// The acknowledgements of each case on its campaign word, in the order of the cases, whatever the number of workers:
+/// the same workers as those of `rows`, with the same gates, run the same cases. There are at most 1,024 cases.
 pub fn acks<R: Threads + Sync, G: Gate + Sync>(
     rt: &R,
     alloc: Global,
     cases: Cases,
-    workers: u32,
+    workers: Workers,
     gate: &G,
 ) -> Result<CaseAcks, NoMemory>
     requires few { length cases ≤ most_cases }
-    requires workers { (1 ≤ workers) × (workers ≤ most_workers) }
     ensures acks { IfOk result (λ acks. acks ≡ map acks_of_case cases) }
     ensures source { (case : Case) → HasSourcePlan case }
 {

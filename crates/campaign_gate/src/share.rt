@@ -1,12 +1,12 @@
 //! A worker's share of a campaign: the cases that fall to it by number, and what it makes of them.
 ghost use Rattle.std.specs.Prelude.{◌≡◌, ◌<◌, ◌≤◌, [], List, map, length, IfOk, OnOk};
-ghost use Rattle.ccp_base.specs.Limits.{most_cases, most_workers};
+ghost use Rattle.ccp_base.specs.Limits.{most_cases};
 ghost use Rattle.flow_core.specs.declared.case.Case.{Case};
 ghost use Rattle.campaign_gate.specs.Shares.{every};
 
 use crate::case_result::CaseResult;
 use crate::queue::Queue;
-use ccp_base::{Gate, NoMemory, Point};
+use ccp_base::{Gate, NoMemory, Point, Workers};
 use flow_core::Case;
 use std::alloc::Global;
 use std::marker::{Brand, PhantomData};
@@ -25,24 +25,23 @@ impl Campaign for Brand {
 #[derive(Drop)]
 pub(crate) struct Share<C: Campaign, M: CaseResult> {
     pub(crate) worker: u32,
-    pub(crate) workers: u32,
+    pub(crate) workers: Workers,
     pub(crate) made: Queue<M>,
     of: PhantomData<C>,
-    ghost is_share: { made ≡ every workers worker (map M.of_case C.cases) },
+    ghost is_share: { made ≡ every workers.count worker (map M.of_case C.cases) },
 }
 
 /// The work of one worker. It passes the gate at `InCase` before a case and at `AfterCase` after it.
 pub(crate) fn share_of<C: Campaign, M: CaseResult, G: Gate>(
     alloc: Global,
     cases: &[Case],
-    workers: u32,
+    workers: Workers,
     worker: u32,
     gate: &G,
 ) -> Result<Share<C, M>, NoMemory>
     requires cases { cases.now ≡ C.cases }
     requires few { length cases.now ≤ most_cases }
-    requires workers { (1 ≤ workers) × (workers ≤ most_workers) }
-    requires worker { worker < workers }
+    requires worker { worker < workers.count }
     ensures worker { IfOk result (λ share. share.worker ≡ worker) }
     ensures workers { IfOk result (λ share. share.workers ≡ workers) }
 {
@@ -61,15 +60,14 @@ fn put_share<M: CaseResult, G: Gate>(
     alloc: Global,
     made: &mut Queue<M>,
     cases: &[Case],
-    workers: u32,
+    workers: Workers,
     worker: u32,
     gate: &G,
 ) -> Result<(), NoMemory>
     requires empty { made.old ≡ [] }
     requires few { length cases.now ≤ most_cases }
-    requires workers { (1 ≤ workers) × (workers ≤ most_workers) }
-    requires worker { worker < workers }
-    ensures { OnOk result (made.new ≡ every workers worker (map M.of_case cases.now)) }
+    requires worker { worker < workers.count }
+    ensures { OnOk result (made.new ≡ every workers.count worker (map M.of_case cases.now)) }
 {
     let mut number = worker;
     while let Some(case) = cases.get(number as usize) {
@@ -77,7 +75,7 @@ fn put_share<M: CaseResult, G: Gate>(
         let one = M::make(alloc, case.copy(alloc)?)?;
         gate.pass(worker, Point::AfterCase, number);
         made.put(one)?;
-        number += workers;
+        number += workers.count();
     }
     Ok(())
 }

@@ -1,13 +1,13 @@
 //! How workers run a campaign's cases side by side, and how their items are merged in the order of the cases.
 ghost use Rattle.std.specs.Prelude.{◌≡◌, ℕ, ◌<◌, ◌≤◌, [], map, length, IfOk, OnOk, IfSome, slice_get};
-ghost use Rattle.ccp_base.specs.Limits.{most_cases, most_workers};
+ghost use Rattle.ccp_base.specs.Limits.{most_cases};
 ghost use Rattle.campaign_gate.specs.Parts.{HasPart};
 ghost use Rattle.campaign_gate.specs.Shares.{shares, front_of, turned};
 
 use crate::case_result::CaseResult;
 use crate::queue::Queue;
 use crate::share::{Campaign, Share, share_of};
-use ccp_base::{Gate, NoMemory, Sequence};
+use ccp_base::{Gate, NoMemory, Sequence, Workers};
 use flow_core::Case;
 use std::alloc::Global;
 use std::thread;
@@ -20,10 +20,15 @@ pub(crate) fn by_workers<
     M: CaseResult + Send,
     R: Threads + Sync,
     G: Gate + Sync,
->(rt: &R, alloc: Global, cases: &[Case], workers: u32, gate: &G) -> Result<Sequence<M>, NoMemory>
+>(
+    rt: &R,
+    alloc: Global,
+    cases: &[Case],
+    workers: Workers,
+    gate: &G,
+) -> Result<Sequence<M>, NoMemory>
     requires cases { cases.now ≡ C.cases }
     requires few { length cases.now ≤ most_cases }
-    requires workers { (1 ≤ workers) × (workers ≤ most_workers) }
     ensures { IfOk result (λ made. made ≡ map M.of_case cases.now) }
 {
     let part = |worker: usize| -> Result<Share<C, M>, NoMemory>
@@ -31,7 +36,7 @@ pub(crate) fn by_workers<
         ensures worker { IfOk result (λ share. share.worker ≡ worker) }
         ensures workers { IfOk result (λ share. share.workers ≡ workers) }
     { share_of::<C, M, G>(alloc, cases, workers, worker as u32, gate) };
-    let parts = thread::map_indices(rt, alloc, workers as usize, &part)?;
+    let parts = thread::map_indices(rt, alloc, workers.count() as usize, &part)?;
     let queues = queues::<C, M>(alloc, Queue::from_vec(parts), workers)?;
     merged::<C, M>(alloc, queues, workers)
 }
@@ -40,11 +45,11 @@ pub(crate) fn by_workers<
 fn queues<C: Campaign, M: CaseResult>(
     alloc: Global,
     parts: Queue<Result<Share<C, M>, NoMemory>>,
-    workers: u32,
+    workers: Workers,
 ) -> Result<Queue<Queue<M>>, NoMemory>
-    requires len { length parts ≡ workers }
+    requires len { length parts ≡ workers.count }
     requires each { (worker : ℕ) → IfSome (slice_get parts worker) (λ part. IfOk part (λ share. (share.worker ≡ worker) × (share.workers ≡ workers))) }
-    ensures { IfOk result (λ queues. queues ≡ shares workers (map M.of_case C.cases)) }
+    ensures { IfOk result (λ queues. queues ≡ shares workers.count (map M.of_case C.cases)) }
 {
     let mut parts = parts;
     let mut queues = Queue::new(alloc);
@@ -59,10 +64,9 @@ fn queues<C: Campaign, M: CaseResult>(
 fn merged<C: Campaign, M: CaseResult>(
     alloc: Global,
     queues: Queue<Queue<M>>,
-    workers: u32,
+    workers: Workers,
 ) -> Result<Sequence<M>, NoMemory>
-    requires workers { 1 ≤ workers }
-    requires queues { queues ≡ shares workers (map M.of_case C.cases) }
+    requires queues { queues ≡ shares workers.count (map M.of_case C.cases) }
     ensures { IfOk result (λ made. made ≡ map M.of_case C.cases) }
 {
     let mut queues = queues;

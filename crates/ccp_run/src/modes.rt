@@ -28,7 +28,7 @@ use crate::stop::Stop;
 use acks::read_acks;
 use audit::audit_output;
 use campaign::read_campaign;
-use ccp_base::{Gate, Sink, Source};
+use ccp_base::{Gate, Sink, Source, Workers};
 use ccp_words::{Alone, Asked, ToolMode};
 use check::check_output;
 use feed::feed_run;
@@ -130,8 +130,10 @@ fn make_output<R: Threads + Wait + Sync, S: Source, G: Gate + Sync>(
     requires together { is_alone asked.mode ≡ false }
     ensures { IsAttempt (task_of asked) (over S.remaining S.faults source.old source.new) result }
 {
-    let (workers, wire) = (asked.workers, asked.wire);
-    let (datapaths, agents) = (asked.datapaths, asked.agents);
+    let wire = asked.wire;
+    let workers = Workers::new(asked.workers);
+    let datapaths = Workers::new(asked.datapaths);
+    let agents = Workers::new(asked.agents);
     match asked.mode {
         ToolMode::Alone(_) => unreachable!(),
         ToolMode::Live => read_live(rt, alloc, datapaths, agents, wire, source, gate),

@@ -7,33 +7,40 @@ use crate::flow::LockedFlow;
 use crate::flow_desk::FlowDesk;
 use crate::nudges::Nudges;
 use crate::table::FlowTable;
-use crate::workers::Workers;
-use ccp_base::Gate;
+use ccp_base::{Gate, Workers};
 use fold_machine::Steps;
 use std::marker::Brand;
 use std::sync::Wait;
 use std::sync::ledger::{Blank, Ledger};
 use worker_desk::Served;
 
-/// The work of a datapath worker.
+/// The work of a datapath worker, one of `datapaths`.
 pub fn run_datapath_worker<F: LockedFlow, N: Nudges, R: Wait, G: Gate>(
     rt: &R,
     table: &FlowTable<F>,
-    workers: Workers,
+    datapaths: Workers,
     worker: u32,
     nudges: &N,
     gate: &G,
 ) -> Served
-    ensures { result ≡ duty workers.datapaths (length table.now) worker }
+    ensures { result ≡ duty datapaths.count (length table.now) worker }
 {
-    with_step_counter::<Brand, F, N, R, G>(rt, table, workers, worker, nudges, gate, Blank::new(1))
+    with_step_counter::<Brand, F, N, R, G>(
+        rt,
+        table,
+        datapaths,
+        worker,
+        nudges,
+        gate,
+        Blank::new(1),
+    )
 }
 
 /// The same, where a ledger of one part counts the steps.
 fn with_step_counter<L: Ledger, F: LockedFlow, N: Nudges, R: Wait, G: Gate>(
     rt: &R,
     table: &FlowTable<F>,
-    workers: Workers,
+    datapaths: Workers,
     worker: u32,
     nudges: &N,
     gate: &G,
@@ -42,7 +49,7 @@ fn with_step_counter<L: Ledger, F: LockedFlow, N: Nudges, R: Wait, G: Gate>(
     requires name { blank.name ≡ L.name }
     requires parts { blank.parts ≡ L.parts }
     requires some { 0 < blank.parts }
-    ensures { result ≡ duty workers.datapaths (length table.now) worker }
+    ensures { result ≡ duty datapaths.count (length table.now) worker }
 {
     let steps = Steps::<L>::new(blank);
     let mut desk = FlowDesk {
@@ -54,5 +61,5 @@ fn with_step_counter<L: Ledger, F: LockedFlow, N: Nudges, R: Wait, G: Gate>(
         held: None,
         left: u64::MAX,
     };
-    worker_desk::run_datapath_worker(&mut desk, worker, workers.datapaths)
+    worker_desk::run_datapath_worker(&mut desk, worker, datapaths.count())
 }

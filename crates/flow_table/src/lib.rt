@@ -22,4 +22,4 @@ pub use held::Held;
 pub use nudges::{NoNudges, Nudges};
 pub use serving::{Serving, end_serving};
 pub use table::FlowTable;
-pub use workers::Workers;
+pub use workers::WorkerCounts;

@@ -11,7 +11,7 @@ use crate::OpenBooks;
 use crate::cell::OpenCell;
 use crate::crew::Crew;
 use ccp_base::{NoMemory, Sequence};
-use flow_table::make_books;
+use flow_table::{WorkerCounts, make_books};
 use std::alloc::Global;
 
 /// The books of flows, in order, once the work of each of their workers is done: each tells the history that the workers
@@ -19,11 +19,10 @@ use std::alloc::Global;
 pub(crate) fn books(
     alloc: Global,
     cells: Sequence<OpenCell>,
-    datapaths: u32,
-    agents: u32,
+    workers: WorkerCounts,
     crew: Crew,
 ) -> Result<OpenBooks, NoMemory>
-    requires { HasWorked crew datapaths agents (length (map case_of cells)) }
+    requires { HasWorked crew workers.datapaths.count workers.agents.count (length (map case_of cells)) }
     ensures cases { IfOk result (λ books. map case_in books ≡ map case_of cells) }
     ensures led { IfOk result (λ books. AreLedTo HasNext cells (map state_of books)) }
     ensures whole { (read : TextReading) → ReadsTexts read → IfOk result (λ books. All (IsWhole read) books) }

@@ -1,13 +1,12 @@
 //! The work of installers, begun and ended.
 
 ghost use Rattle.std.specs.Prelude.{◌≡◌, ◌<◌, map, IfOk, length};
-ghost use Rattle.ccp_base.specs.Limits.{most_workers};
 ghost use Rattle.live_install.specs.Crews.{install_duty_of, install_duty, install_duties};
 
 use crate::cell::OpenCell;
 use crate::installer::run_installer;
 use ccp_base::{Gate, NoMemory};
-use flow_table::{FlowTable, Workers};
+use flow_table::{FlowTable, WorkerCounts};
 use std::alloc::Global;
 use std::sync::Wait;
 use std::thread::{PromisedHandle, Scope, Threads};
@@ -28,14 +27,14 @@ pub(crate) fn begin_all<'s, 'e, R: Threads + Wait + Sync, G: Gate + Sync>(
     rt: &'e R,
     alloc: Global,
     table: &'e FlowTable<OpenCell>,
-    workers: Workers,
+    workers: WorkerCounts,
     gate: &'e G,
 ) -> Result<Vec<Equipping>, NoMemory>
     ensures { IfOk result (λ all. map install_duty_of all.items
-        ≡ install_duties workers.datapaths workers.agents (length table.now) workers.agents) }
+        ≡ install_duties workers.datapaths.count workers.agents.count (length table.now) workers.agents.count) }
 {
     let mut equippings = Vec::new(alloc);
-    for agent in 0..workers.agents {
+    for agent in 0..workers.agents.count() {
         let equipping = begin(scope, rt, alloc, table, workers, agent, gate);
         equippings.push(equipping)?;
     }
@@ -48,24 +47,24 @@ fn begin<'s, 'e, R: Threads + Wait + Sync, G: Gate + Sync>(
     rt: &'e R,
     alloc: Global,
     table: &'e FlowTable<OpenCell>,
-    workers: Workers,
+    workers: WorkerCounts,
     agent: u32,
     gate: &'e G,
 ) -> Equipping
-    requires { agent < most_workers }
-    ensures { install_duty_of result ≡ install_duty workers.datapaths workers.agents (length table.now) agent }
+    requires { agent < workers.agents.count }
+    ensures { install_duty_of result ≡ install_duty workers.datapaths.count workers.agents.count (length table.now) agent }
 {
     let promise = Duty {
-        worker: workers.datapaths + agent,
+        worker: workers.datapaths.count() + agent,
         first: agent,
-        workers: workers.agents,
+        workers: workers.agents.count(),
         flows: table.flows(),
     };
     let started = scope.spawn_with(
         promise,
         move || -> Equipped
-            requires { agent < most_workers }
-            ensures { result ≡ install_duty workers.datapaths workers.agents (length table.entry.now) agent }
+            requires { agent < workers.agents.count }
+            ensures { result ≡ install_duty workers.datapaths.count workers.agents.count (length table.entry.now) agent }
         { run_installer(rt, alloc, table, workers, agent, gate) },
     );
     match started {

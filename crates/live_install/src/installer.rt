@@ -1,12 +1,11 @@
 //! The work of an installer in a rollout, over the steps of its share of the flows.
 ghost use Rattle.std.specs.Prelude.{◌≡◌, ◌<◌, length};
-ghost use Rattle.ccp_base.specs.Limits.{most_workers};
 ghost use Rattle.live_install.specs.Crews.{install_duty};
 
 use crate::cell::OpenCell;
 use crate::install_desk::InstallDesk;
 use ccp_base::Gate;
-use flow_table::{FlowTable, Workers};
+use flow_table::{FlowTable, WorkerCounts};
 use std::alloc::Global;
 use std::sync::Wait;
 use worker_desk::Equipped;
@@ -16,12 +15,12 @@ pub(crate) fn run_installer<R: Wait, G: Gate>(
     rt: &R,
     alloc: Global,
     table: &FlowTable<OpenCell>,
-    workers: Workers,
+    workers: WorkerCounts,
     agent: u32,
     gate: &G,
 ) -> Equipped
-    requires { agent < most_workers }
-    ensures { result ≡ install_duty workers.datapaths workers.agents (length table.now) agent }
+    requires { agent < workers.agents.count }
+    ensures { result ≡ install_duty workers.datapaths.count workers.agents.count (length table.now) agent }
 {
     let mut desk = InstallDesk {
         rt,
@@ -30,6 +29,6 @@ pub(crate) fn run_installer<R: Wait, G: Gate>(
         gate,
         held: None,
     };
-    let worker = workers.datapaths + agent;
-    worker_desk::run_installer(&mut desk, worker, agent, workers.agents)
+    let worker = workers.datapaths.count() + agent;
+    worker_desk::run_installer(&mut desk, worker, agent, workers.agents.count())
 }

@@ -1,23 +1,23 @@
 //! The call of a rollout: datapath workers and installers run the flow of each case, and each has its book.
 ghost use Rattle.std.specs.Prelude.{◌≡◌, ◌≤◌, IfOk, length, map};
 ghost use Rattle.std.specs.List.{All};
-ghost use Rattle.ccp_base.specs.Limits.{most_flows, most_workers};
+ghost use Rattle.ccp_base.specs.Limits.{most_flows};
 ghost use Rattle.portus_build.specs.TextReadings.{TextReading, ReadsTexts};
 ghost use Rattle.live_install.specs.WholeBooks.{IsWhole, case_in};
 
 use crate::OpenBooks;
 use crate::books::books;
 use crate::workers::work;
-use ccp_base::{Gate, NoMemory};
-use flow_table::{FlowTable, Workers};
+use ccp_base::{Gate, NoMemory, Workers};
+use flow_table::{FlowTable, WorkerCounts};
 use scene_members::OpenCases;
 use std::alloc::Global;
 use std::sync::Wait;
 use std::thread::Threads;
 
-/// One book a case, in order, whatever the numbers of workers, which are 1 to 32, and in whatever order threads take
-/// the flows' locks: each book has its case, a word that is legal and complete for it, and what that word comes to,
-/// read over the sources of the texts. Which such word it is nobody says. There are at most 64 cases.
+/// One book a case, in order, whatever the numbers of workers, and in whatever order threads take the flows' locks: each
+/// book has its case, a word that is legal and complete for it, and what that word results in, read over the sources of
+/// the texts. Which such word it is nobody says. There are at most 64 cases.
 ///
 /// Datapath worker `d` takes the acknowledgements of the flows `f` with `f mod datapaths = d`, one of each in turn. It
 /// passes the gate at `BeforeAck` and `AfterAck` without a lock and at `InAck` with the flow's. Installer `a`, whose
@@ -29,12 +29,10 @@ pub fn rollout<R: Threads + Wait + Sync, G: Gate + Sync>(
     rt: &R,
     alloc: Global,
     cases: OpenCases,
-    datapaths: u32,
-    agents: u32,
+    datapaths: Workers,
+    agents: Workers,
     gate: &G,
 ) -> Result<OpenBooks, NoMemory>
-    requires datapaths { (1 ≤ datapaths) × (datapaths ≤ most_workers) }
-    requires agents { (1 ≤ agents) × (agents ≤ most_workers) }
     requires few { length cases ≤ most_flows }
     // There is a reading of program texts: each text comes to a program, or to its first refusal.
     ensures readable { (read : TextReading) × ReadsTexts read }
@@ -43,7 +41,7 @@ pub fn rollout<R: Threads + Wait + Sync, G: Gate + Sync>(
     ensures whole { (read : TextReading) → ReadsTexts read → IfOk result (λ books. All (IsWhole read) books) }
 {
     let table = FlowTable::new(alloc, cases)?;
-    let workers = Workers { datapaths, agents };
+    let workers = WorkerCounts { datapaths, agents };
     let crew = work(rt, alloc, &table, workers, gate)?;
-    books(alloc, table.close(alloc)?, datapaths, agents, crew)
+    books(alloc, table.close(alloc)?, workers, crew)
 }

@@ -4,8 +4,8 @@ ghost use Rattle.std.specs.Prelude.{◌≡◌, map, IfOk, length};
 ghost use Rattle.flow_table.specs.Duties.{duty_of, duty, duties};
 
 use crate::cell::OpenCell;
-use ccp_base::{Gate, NoMemory};
-use flow_table::{FlowTable, NoNudges, Serving, Workers, run_datapath_worker};
+use ccp_base::{Gate, NoMemory, Workers};
+use flow_table::{FlowTable, NoNudges, Serving, run_datapath_worker};
 use std::alloc::Global;
 use std::sync::Wait;
 use std::thread::{Scope, Threads};
@@ -17,14 +17,14 @@ pub(crate) fn begin_all<'s, 'e, R: Threads + Wait + Sync, G: Gate + Sync>(
     rt: &'e R,
     alloc: Global,
     table: &'e FlowTable<OpenCell>,
-    workers: Workers,
+    datapaths: Workers,
     gate: &'e G,
 ) -> Result<Vec<Serving>, NoMemory>
-    ensures { IfOk result (λ all. map duty_of all.items ≡ duties workers.datapaths (length table.now) workers.datapaths) }
+    ensures { IfOk result (λ all. map duty_of all.items ≡ duties datapaths.count (length table.now) datapaths.count) }
 {
     let mut servings = Vec::new(alloc);
-    for worker in 0..workers.datapaths {
-        let serving = begin(scope, rt, table, workers, worker, gate);
+    for worker in 0..datapaths.count() {
+        let serving = begin(scope, rt, table, datapaths, worker, gate);
         servings.push(serving)?;
     }
     Ok(servings)
@@ -35,26 +35,26 @@ fn begin<'s, 'e, R: Threads + Wait + Sync, G: Gate + Sync>(
     scope: &'s Scope<'s, &'e ()>,
     rt: &'e R,
     table: &'e FlowTable<OpenCell>,
-    workers: Workers,
+    datapaths: Workers,
     worker: u32,
     gate: &'e G,
 ) -> Serving
-    ensures { duty_of result ≡ duty workers.datapaths (length table.now) worker }
+    ensures { duty_of result ≡ duty datapaths.count (length table.now) worker }
 {
     let promise = Duty {
         worker,
         first: worker,
-        workers: workers.datapaths,
+        workers: datapaths.count(),
         flows: table.flows(),
     };
     let started = scope.spawn_with(
         promise,
         move || -> Served
-            ensures { result ≡ duty workers.datapaths (length table.entry.now) worker }
-        { run_datapath_worker(rt, table, workers, worker, &NoNudges, gate) },
+            ensures { result ≡ duty datapaths.count (length table.entry.now) worker }
+        { run_datapath_worker(rt, table, datapaths, worker, &NoNudges, gate) },
     );
     match started {
         Ok(handle) => Serving::Thread(handle),
-        Err(_) => Serving::Here(run_datapath_worker(rt, table, workers, worker, &NoNudges, gate)),
+        Err(_) => Serving::Here(run_datapath_worker(rt, table, datapaths, worker, &NoNudges, gate)),
     }
 }

@@ -6,7 +6,7 @@ use crate::cell::OpenCell;
 use crate::crew::Crew;
 use crate::{equipping, serving};
 use ccp_base::{Gate, NoMemory};
-use flow_table::{FlowTable, Workers, end_serving};
+use flow_table::{FlowTable, WorkerCounts, end_serving};
 use std::alloc::Global;
 use std::sync::Wait;
 use std::thread;
@@ -18,19 +18,19 @@ pub(crate) fn work<R: Threads + Wait + Sync, G: Gate + Sync>(
     rt: &R,
     alloc: Global,
     table: &FlowTable<OpenCell>,
-    workers: Workers,
+    workers: WorkerCounts,
     gate: &G,
 ) -> Result<Crew, NoMemory>
-    ensures { IfOk result (λ crew. HasWorked crew workers.datapaths workers.agents (length table.now)) }
+    ensures { IfOk result (λ crew. HasWorked crew workers.datapaths.count workers.agents.count (length table.now)) }
 {
     thread::scope(
         thread::scope_env(),
         rt,
         move |scope| -> Result<Crew, NoMemory>
-            ensures { IfOk result (λ crew. HasWorked crew workers.datapaths workers.agents (length table.entry.now)) }
+            ensures { IfOk result (λ crew. HasWorked crew workers.datapaths.count workers.agents.count (length table.entry.now)) }
         {
             let equippings = equipping::begin_all(scope, rt, alloc, table, workers, gate)?;
-            let servings = serving::begin_all(scope, rt, alloc, table, workers, gate)?;
+            let servings = serving::begin_all(scope, rt, alloc, table, workers.datapaths, gate)?;
             let equipped = equipping::end_all(rt, alloc, equippings)?;
             let served = end_serving(rt, alloc, servings)?;
             Ok(Crew { served, equipped })

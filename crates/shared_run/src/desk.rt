@@ -4,7 +4,7 @@ ghost use Rattle.std.specs.Prelude.{◌≡◌, ◌≤◌, length, IfOk};
 use crate::course::Course;
 use crate::lane::Lane;
 use crate::worker::{Order, do_parts, receive, serve};
-use ccp_base::{Gate, NoMemory};
+use ccp_base::{Gate, NoMemory, Workers};
 use crossbeam_channel::{Receiver, Sender};
 use std::alloc::Global;
 use std::sync::{Mutex, Wait};
@@ -39,13 +39,13 @@ pub(crate) fn begin_all<
     rt: &'e R,
     alloc: Global,
     lanes: &'e [Mutex<Lane<C>>],
-    workers: u32,
+    workers: Workers,
     gate: &'e G,
 ) -> Result<Vec<Desk<C>>, NoMemory>
-    ensures { IfOk result (λ desks. length desks.items ≡ workers) }
+    ensures { IfOk result (λ desks. length desks.items ≡ workers.count) }
 {
     let mut desks = Vec::new(alloc);
-    for worker in 0..workers {
+    for worker in 0..workers.count() {
         let line = begin(scope, rt, alloc, lanes, worker, gate)?;
         desks.push(Desk {
             worker,

@@ -8,7 +8,7 @@ use crate::desk::{Desk, begin_all, do_orders};
 use crate::lane::Lane;
 use crate::lanes::{asks, hear, none_left};
 use crate::round_acks::RoundAcks;
-use ccp_base::{Gate, NoMemory, Sequence};
+use ccp_base::{Gate, NoMemory, Sequence, Workers};
 use shared_link::{AckLists, Ask, SharedLink};
 use std::alloc::Global;
 use std::sync::{Mutex, Wait};
@@ -122,7 +122,7 @@ fn rounds<C: Course, R: Wait, G: Gate>(
     Ok(done)
 }
 
-/// The rounds of a run by `workers` workers, until all flows have all acknowledgements, at most `most` rounds.
+/// The rounds of a run by workers, until all flows have all acknowledgements, at most `most` rounds.
 pub(crate) fn by_workers<
     'e,
     C: Course + Send + Sync + 'e,
@@ -134,10 +134,9 @@ pub(crate) fn by_workers<
     link: SharedLink,
     lanes: &'e [Mutex<Lane<C>>],
     most: u32,
-    workers: u32,
+    workers: Workers,
     gate: &'e G,
 ) -> Result<Ended, NoMemory>
-    requires workers { 1 ≤ workers }
     requires flows { length lanes.now ≡ length C.cases }
     requires few { length lanes.now ≤ most_flows }
     requires links { length C.link.flows ≡ length C.cases }
@@ -149,7 +148,6 @@ pub(crate) fn by_workers<
         thread::scope_env(),
         rt,
         move |scope| -> Result<Ended, NoMemory>
-            requires workers { 1 ≤ workers }
             requires flows { length lanes.now ≡ length C.cases }
             requires few { length lanes.now ≤ most_flows }
             requires links { length C.link.flows ≡ length C.cases }

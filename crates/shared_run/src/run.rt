@@ -1,6 +1,6 @@
 //! The run of a scenario's cases over one link.
 ghost use Rattle.std.specs.Prelude.{◌≡◌, ◌≤◌, length, map, IfOk};
-ghost use Rattle.ccp_base.specs.Limits.{most_flows, most_rounds, most_workers};
+ghost use Rattle.ccp_base.specs.Limits.{most_flows, most_rounds};
 ghost use Rattle.scenario_json.specs.Cases.{plan_of, AreFlowsFrom};
 ghost use Rattle.scenario_json.specs.SharedScenes.{flow_link_of};
 ghost use Rattle.shared_link.specs.SharedLimits.{IsWithin};
@@ -14,7 +14,7 @@ use crate::course::Course;
 use crate::lanes::{flows, open_all};
 use crate::rounds::by_workers;
 use campaign_gate::Cases;
-use ccp_base::{Ack, Gate, NoMemory};
+use ccp_base::{Ack, Gate, NoMemory, Workers};
 use flow_core::Case;
 use scenario_json::SharedScene;
 use shared_link::{SharedCase, SharedLink};
@@ -26,22 +26,21 @@ use std::thread::Threads;
 /// The acknowledgements for which the link reserves memory in a flow's list of a round.
 const LIST: usize = 4_096;
 
-/// Runs the flows of a scenario over its link, whatever the number of workers, which is 1 to 32. In each round the
-/// flows ask for acknowledgements, the link answers, and each flow that has some does its part on a worker: worker `w` does
-/// those of the flows whose number leaves `w` when it is divided by the number of workers, in order. Workers that have
-/// parts in a round do them side by side, each in a thread that lives for the whole run; the parts of the first of them
-/// are done by the caller, and so are those of a worker for which no thread can be started. A worker passes the gate at
-/// `InCase` before a part and at `AfterCase` after it. The run ends after the round in which all flows have all
-/// acknowledgements, and at the latest after `rounds` rounds, where 0 flows run none; then each flow takes and answers
-/// until nothing is left. A thread's answer that is lost is reported as out of memory.
+/// Runs the flows of a scenario over its link, whatever the number of workers. In each round the flows ask for
+/// acknowledgements, the link answers, and each flow that has some does its part on a worker: worker `w` does those of
+/// the flows whose number leaves `w` when it is divided by the number of workers, in order. Workers that have parts in a
+/// round do them side by side, each in a thread that lives for the whole run; the parts of the first of them are done by
+/// the caller, and so are those of a worker for which no thread can be started. A worker passes the gate at `InCase`
+/// before a part and at `AfterCase` after it. The run ends after the round in which all flows have all acknowledgements,
+/// and at the latest after `rounds` rounds, where 0 flows run none; then each flow takes and answers until nothing is
+/// left. A thread's answer that is lost is reported as out of memory.
 pub fn shared<R: Threads + Wait + Sync, G: Gate + Sync>(
     rt: &R,
     alloc: Global,
     scene: SharedScene,
-    workers: u32,
+    workers: Workers,
     gate: &G,
 ) -> Result<SharedRun, NoMemory>
-    requires workers { (1 ≤ workers) × (workers ≤ most_workers) }
     requires few { length scene.scene.cases ≤ most_flows }
     requires flows { AreFlowsFrom 0 scene.scene.cases }
     requires link { IsWithin scene.link }
@@ -61,10 +60,9 @@ fn run<R: Threads + Wait + Sync, G: Gate + Sync>(
     rt: &R,
     alloc: Global,
     scene: SharedScene,
-    workers: u32,
+    workers: Workers,
     gate: &G,
 ) -> Result<SharedRun, NoMemory>
-    requires workers { 1 ≤ workers }
     requires few { length scene.scene.cases ≤ most_flows }
     requires link { IsWithin scene.link }
     requires links { scene.link.flows ≡ map flow_link_of (map plan_of scene.scene.cases) }
@@ -86,10 +84,9 @@ fn run_course<C: Course + Send + Sync, R: Threads + Wait + Sync, G: Gate + Sync>
     link: SharedCase,
     cases: Cases,
     most: u32,
-    workers: u32,
+    workers: Workers,
     gate: &G,
 ) -> Result<SharedRun, NoMemory>
-    requires workers { 1 ≤ workers }
     requires link { link ≡ C.link }
     requires cases { cases ≡ C.cases }
     requires few { length C.cases ≤ most_flows }

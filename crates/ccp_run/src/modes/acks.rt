@@ -1,7 +1,7 @@
 //! The mode `acks`: the cases of a scenario on their campaign words, as lines of acknowledgements.
 ghost use Rattle.std.specs.Prelude.{◌≡◌, ◌≤◌, [], IfOk, length};
 ghost use Rattle.std.specs.List.{All};
-ghost use Rattle.ccp_base.specs.Limits.{most_flows, most_workers};
+ghost use Rattle.ccp_base.specs.Limits.{most_flows};
 ghost use Rattle.scenario_json.specs.Cases.{case_names, IsCoded, AreNumberedFrom};
 ghost use Rattle.ccp_run.specs.AcksRuns.{acks_written};
 ghost use Rattle.ccp_run.specs.Attempts.{IsAnswer, IsAttempt};
@@ -17,7 +17,7 @@ use crate::stop::Stop;
 use agent_loop::Books;
 use campaign_gate::calls::acks;
 use campaign_report::acks_text;
-use ccp_base::{Gate, NoMemory, Source};
+use ccp_base::{Gate, NoMemory, Source, Workers};
 use scenario_json::{Scenario, SceneMode};
 use std::alloc::Global;
 use std::sync::Wait;
@@ -28,11 +28,10 @@ use std::thread::Threads;
 pub fn read_acks<R: Threads + Wait + Sync, S: Source, G: Gate + Sync>(
     rt: &R,
     alloc: Global,
-    workers: u32,
+    workers: Workers,
     source: &mut S,
     gate: &G,
 ) -> Result<ModeOutput, Stop>
-    requires workers { (1 ≤ workers) × (workers ≤ most_workers) }
     ensures { IsAttempt Task.Acks (over S.remaining S.faults source.old source.new) result }
 {
     let bytes = read_bytes(alloc, Limit::Input, source)?;
@@ -43,11 +42,10 @@ pub fn read_acks<R: Threads + Wait + Sync, S: Source, G: Gate + Sync>(
 fn acks_output<R: Threads + Wait + Sync, G: Gate + Sync>(
     rt: &R,
     alloc: Global,
-    workers: u32,
+    workers: Workers,
     bytes: &[u8],
     gate: &G,
 ) -> Result<ModeOutput, Stop>
-    requires workers { (1 ≤ workers) × (workers ≤ most_workers) }
     ensures { IsAnswer Task.Acks bytes.now result }
 {
     let scene = scene(alloc, bytes, SceneMode::Live)?;
@@ -58,11 +56,10 @@ fn acks_output<R: Threads + Wait + Sync, G: Gate + Sync>(
 fn run_acks<R: Threads + Wait + Sync, G: Gate + Sync>(
     rt: &R,
     alloc: Global,
-    workers: u32,
+    workers: Workers,
     scene: Scenario,
     gate: &G,
 ) -> Result<ModeOutput, NoMemory>
-    requires workers { (1 ≤ workers) × (workers ≤ most_workers) }
     requires names { scene.names ≡ case_names scene.cases }
     requires few { length scene.cases ≤ most_flows }
     requires numbered { AreNumberedFrom 0 scene.programs }

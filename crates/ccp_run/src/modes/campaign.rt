@@ -1,6 +1,6 @@
 //! The mode `campaign`: the table of a scenario's cases, after the programs' frames if the words ask for them.
 ghost use Rattle.std.specs.Prelude.{◌≡◌, ◌≤◌, ◌++◌, [], IfOk, map, length};
-ghost use Rattle.ccp_base.specs.Limits.{most_cases, most_workers};
+ghost use Rattle.ccp_base.specs.Limits.{most_cases};
 ghost use Rattle.flow_core.specs.declared.case.Case.{Case};
 ghost use Rattle.ccp_run.specs.Attempts.{IsAnswer, IsAttempt};
 ghost use Rattle.std.specs.List.{All};
@@ -20,7 +20,7 @@ use agent_loop::Books;
 use campaign_gate::Rows;
 use campaign_gate::calls::rows;
 use campaign_report::{Agents, table_text};
-use ccp_base::{Bytes, Gate, Names, NoMemory, Source};
+use ccp_base::{Bytes, Gate, Names, NoMemory, Source, Workers};
 use reg_compiler::Builts;
 use scenario_json::{Scenario, SceneMode};
 use std::alloc::Global;
@@ -32,12 +32,11 @@ use std::thread::Threads;
 pub fn read_campaign<R: Threads + Wait + Sync, S: Source, G: Gate + Sync>(
     rt: &R,
     alloc: Global,
-    workers: u32,
+    workers: Workers,
     wire: bool,
     source: &mut S,
     gate: &G,
 ) -> Result<ModeOutput, Stop>
-    requires workers { (1 ≤ workers) × (workers ≤ most_workers) }
     ensures { IsAttempt (Task.Campaign wire) (over S.remaining S.faults source.old source.new) result }
 {
     let bytes = read_bytes(alloc, Limit::Input, source)?;
@@ -48,12 +47,11 @@ pub fn read_campaign<R: Threads + Wait + Sync, S: Source, G: Gate + Sync>(
 fn campaign_output<R: Threads + Wait + Sync, G: Gate + Sync>(
     rt: &R,
     alloc: Global,
-    workers: u32,
+    workers: Workers,
     wire: bool,
     bytes: &[u8],
     gate: &G,
 ) -> Result<ModeOutput, Stop>
-    requires workers { (1 ≤ workers) × (workers ≤ most_workers) }
     ensures { IsAnswer (Task.Campaign wire) bytes.now result }
 {
     let scene = scene(alloc, bytes, SceneMode::Campaign)?;
@@ -65,12 +63,11 @@ fn campaign_output<R: Threads + Wait + Sync, G: Gate + Sync>(
 fn run_campaign<R: Threads + Wait + Sync, G: Gate + Sync>(
     rt: &R,
     alloc: Global,
-    workers: u32,
+    workers: Workers,
     wire: bool,
     scene: Scenario,
     gate: &G,
 ) -> Result<ModeOutput, NoMemory>
-    requires workers { (1 ≤ workers) × (workers ≤ most_workers) }
     requires names { scene.names ≡ case_names scene.cases }
     requires few { length scene.cases ≤ most_cases }
     requires numbered { AreNumberedFrom 0 scene.programs }

@@ -1,7 +1,7 @@
 //! The mode `live`: a scenario's flows on datapath and agent workers, as the text of their books.
 ghost use Rattle.std.specs.Prelude.{◌≡◌, ◌≤◌, IfOk, length};
 ghost use Rattle.std.specs.List.{All};
-ghost use Rattle.ccp_base.specs.Limits.{most_flows, most_workers};
+ghost use Rattle.ccp_base.specs.Limits.{most_flows};
 ghost use Rattle.scenario_json.specs.Cases.{IsCoded, AreFlowsFrom, AreNumberedFrom};
 ghost use Rattle.ccp_run.specs.Attempts.{IsAnswer, IsAttempt};
 ghost use Rattle.ccp_run.specs.Live.{IsRightBook, book_cases, books_written};
@@ -15,7 +15,7 @@ use crate::refusal::Limit;
 use crate::scene::scene;
 use crate::stop::Stop;
 use agent_loop::live;
-use ccp_base::{Gate, NoMemory, Source};
+use ccp_base::{Gate, NoMemory, Source, Workers};
 use flow_table::FlowTable;
 use scenario_json::{Scenario, SceneMode};
 use std::alloc::Global;
@@ -27,14 +27,12 @@ use std::thread::Threads;
 pub fn read_live<R: Threads + Wait + Sync, S: Source, G: Gate + Sync>(
     rt: &R,
     alloc: Global,
-    datapaths: u32,
-    agents: u32,
+    datapaths: Workers,
+    agents: Workers,
     wire: bool,
     source: &mut S,
     gate: &G,
 ) -> Result<ModeOutput, Stop>
-    requires datapaths { (1 ≤ datapaths) × (datapaths ≤ most_workers) }
-    requires agents { (1 ≤ agents) × (agents ≤ most_workers) }
     ensures { IsAttempt (Task.Live wire) (over S.remaining S.faults source.old source.new) result }
 {
     let bytes = read_bytes(alloc, Limit::Input, source)?;
@@ -45,14 +43,12 @@ pub fn read_live<R: Threads + Wait + Sync, S: Source, G: Gate + Sync>(
 fn live_output<R: Threads + Wait + Sync, G: Gate + Sync>(
     rt: &R,
     alloc: Global,
-    datapaths: u32,
-    agents: u32,
+    datapaths: Workers,
+    agents: Workers,
     wire: bool,
     bytes: &[u8],
     gate: &G,
 ) -> Result<ModeOutput, Stop>
-    requires datapaths { (1 ≤ datapaths) × (datapaths ≤ most_workers) }
-    requires agents { (1 ≤ agents) × (agents ≤ most_workers) }
     ensures { IsAnswer (Task.Live wire) bytes.now result }
 {
     let scene = scene(alloc, bytes, SceneMode::Live)?;
@@ -63,14 +59,12 @@ fn live_output<R: Threads + Wait + Sync, G: Gate + Sync>(
 fn run_live<R: Threads + Wait + Sync, G: Gate + Sync>(
     rt: &R,
     alloc: Global,
-    datapaths: u32,
-    agents: u32,
+    datapaths: Workers,
+    agents: Workers,
     wire: bool,
     scene: Scenario,
     gate: &G,
 ) -> Result<ModeOutput, NoMemory>
-    requires datapaths { (1 ≤ datapaths) × (datapaths ≤ most_workers) }
-    requires agents { (1 ≤ agents) × (agents ≤ most_workers) }
     requires few { length scene.cases ≤ most_flows }
     requires flows { AreFlowsFrom 0 scene.cases }
     requires numbered { AreNumberedFrom 0 scene.programs }

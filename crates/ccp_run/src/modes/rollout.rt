@@ -1,6 +1,6 @@
 //! The mode `rollout`: a scenario's cases on datapath workers and installers, as the text of what happened.
 ghost use Rattle.std.specs.Prelude.{◌≤◌, IfOk, IfErr, length};
-ghost use Rattle.ccp_base.specs.Limits.{most_flows, most_workers};
+ghost use Rattle.ccp_base.specs.Limits.{most_flows};
 ghost use Rattle.scene_members.specs.OpenCases.{AreOpenFlowsFrom};
 ghost use Rattle.ccp_run.specs.Attempts.{IsAnswer, IsAttempt};
 ghost use Rattle.ccp_run.specs.Rollout.{IsRolloutScenario, StopsRollout, TellsRollout};
@@ -12,7 +12,7 @@ use crate::reading::read_bytes;
 use crate::refusal::Limit;
 use crate::stop::Stop;
 use agent_loop::Books;
-use ccp_base::{Gate, NoMemory, Source};
+use ccp_base::{Gate, NoMemory, Source, Workers};
 use live_install::{rollout, rollout_text};
 use reg_compiler::Builts;
 use scenario_json::OpenCases;
@@ -27,13 +27,11 @@ use std::thread::Threads;
 pub fn read_rollout<R: Threads + Wait + Sync, S: Source, G: Gate + Sync>(
     rt: &R,
     alloc: Global,
-    datapaths: u32,
-    agents: u32,
+    datapaths: Workers,
+    agents: Workers,
     source: &mut S,
     gate: &G,
 ) -> Result<ModeOutput, Stop>
-    requires datapaths { (1 ≤ datapaths) × (datapaths ≤ most_workers) }
-    requires agents { (1 ≤ agents) × (agents ≤ most_workers) }
     ensures { IsAttempt Task.Rollout (over S.remaining S.faults source.old source.new) result }
 {
     let bytes = read_bytes(alloc, Limit::Input, source)?;
@@ -44,13 +42,11 @@ pub fn read_rollout<R: Threads + Wait + Sync, S: Source, G: Gate + Sync>(
 fn rollout_output<R: Threads + Wait + Sync, G: Gate + Sync>(
     rt: &R,
     alloc: Global,
-    datapaths: u32,
-    agents: u32,
+    datapaths: Workers,
+    agents: Workers,
     bytes: &[u8],
     gate: &G,
 ) -> Result<ModeOutput, Stop>
-    requires datapaths { (1 ≤ datapaths) × (datapaths ≤ most_workers) }
-    requires agents { (1 ≤ agents) × (agents ≤ most_workers) }
     ensures { IsAnswer Task.Rollout bytes.now result }
 {
     let cases = open_cases(alloc, bytes)?;
@@ -72,12 +68,10 @@ fn run_rollout<R: Threads + Wait + Sync, G: Gate + Sync>(
     rt: &R,
     alloc: Global,
     cases: OpenCases,
-    datapaths: u32,
-    agents: u32,
+    datapaths: Workers,
+    agents: Workers,
     gate: &G,
 ) -> Result<ModeOutput, NoMemory>
-    requires datapaths { (1 ≤ datapaths) × (datapaths ≤ most_workers) }
-    requires agents { (1 ≤ agents) × (agents ≤ most_workers) }
     requires few { length cases ≤ most_flows }
     requires numbered { AreOpenFlowsFrom 0 cases }
     ensures { IfOk result (λ output. TellsRollout cases output) }

@@ -1,7 +1,7 @@
 //! The mode `shared`: flows on one link, as their table and the line of the link's packets.
 ghost use Rattle.std.specs.Prelude.{◌≡◌, ◌≤◌, ◌++◌, [], OnOk, IfOk, IfErr, length, map};
 ghost use Rattle.std.specs.List.{All};
-ghost use Rattle.ccp_base.specs.Limits.{most_cases, most_flows, most_rounds, most_workers};
+ghost use Rattle.ccp_base.specs.Limits.{most_cases, most_flows, most_rounds};
 ghost use Rattle.campaign_report.specs.TableText.{table_text};
 ghost use Rattle.scenario_json.specs.Cases.{plan_of, case_names, IsCoded, AreFlowsFrom, AreNumberedFrom};
 ghost use Rattle.scenario_json.specs.SharedScenes.{flow_link_of};
@@ -18,7 +18,7 @@ use crate::refusal::Limit;
 use crate::stop::Stop;
 use agent_loop::Books;
 use campaign_report::{Agents, table_text};
-use ccp_base::{Bytes, Gate, Names, NoMemory, Source};
+use ccp_base::{Bytes, Gate, Names, NoMemory, Source, Workers};
 use reg_compiler::Builts;
 use scenario_json::SharedScene;
 use scenario_json::calls::shared_scene;
@@ -33,11 +33,10 @@ use std::thread::Threads;
 pub fn read_shared<R: Threads + Wait + Sync, S: Source, G: Gate + Sync>(
     rt: &R,
     alloc: Global,
-    workers: u32,
+    workers: Workers,
     source: &mut S,
     gate: &G,
 ) -> Result<ModeOutput, Stop>
-    requires workers { (1 ≤ workers) × (workers ≤ most_workers) }
     ensures { IsAttempt Task.Shared (over S.remaining S.faults source.old source.new) result }
 {
     let bytes = read_bytes(alloc, Limit::Input, source)?;
@@ -48,11 +47,10 @@ pub fn read_shared<R: Threads + Wait + Sync, S: Source, G: Gate + Sync>(
 fn shared_output<R: Threads + Wait + Sync, G: Gate + Sync>(
     rt: &R,
     alloc: Global,
-    workers: u32,
+    workers: Workers,
     bytes: &[u8],
     gate: &G,
 ) -> Result<ModeOutput, Stop>
-    requires workers { (1 ≤ workers) × (workers ≤ most_workers) }
     ensures { IsAnswer Task.Shared bytes.now result }
 {
     let scene = read_shared_scene(alloc, bytes)?;
@@ -78,11 +76,10 @@ fn read_shared_scene(alloc: Global, bytes: &[u8]) -> Result<SharedScene, Stop>
 fn run_together<R: Threads + Wait + Sync, G: Gate + Sync>(
     rt: &R,
     alloc: Global,
-    workers: u32,
+    workers: Workers,
     scene: SharedScene,
     gate: &G,
 ) -> Result<ModeOutput, NoMemory>
-    requires workers { (1 ≤ workers) × (workers ≤ most_workers) }
     requires names { scene.scene.names ≡ case_names scene.scene.cases }
     requires few { length scene.scene.cases ≤ most_flows }
     requires numbered { AreNumberedFrom 0 scene.scene.programs }

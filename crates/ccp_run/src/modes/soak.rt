@@ -1,6 +1,5 @@
 //! The mode `soak`: the generated cases of a number, run and summed up.
 ghost use Rattle.std.specs.Prelude.{◌≡◌, ◌≤◌, IfOk};
-ghost use Rattle.ccp_base.specs.Limits.{most_workers};
 ghost use Rattle.ccp_run.specs.Attempts.{IsAttempt};
 ghost use Rattle.ccp_run.specs.Soak.{IsSoakOutput};
 ghost use Rattle.ccp_run.specs.Streams.{Stream, IsUntouched};
@@ -11,7 +10,7 @@ use crate::stop::Stop;
 use agent_loop::Books;
 use campaign_gate::calls::rows;
 use campaign_report::soak_text;
-use ccp_base::{Gate, NoMemory};
+use ccp_base::{Gate, NoMemory, Workers};
 use scenario_json::calls::soak;
 use std::alloc::Global;
 use std::sync::Wait;
@@ -21,11 +20,10 @@ use std::thread::Threads;
 pub fn soak_output<R: Threads + Wait + Sync, G: Gate + Sync>(
     rt: &R,
     alloc: Global,
-    workers: u32,
+    workers: Workers,
     number: u32,
     gate: &G,
 ) -> Result<ModeOutput, Stop>
-    requires workers { (1 ≤ workers) × (workers ≤ most_workers) }
     ensures { (source : Stream) → IsUntouched source → IsAttempt (Task.Soak number) source result }
 {
     Ok(run_soak(rt, alloc, workers, number, gate)?)
@@ -34,11 +32,10 @@ pub fn soak_output<R: Threads + Wait + Sync, G: Gate + Sync>(
 fn run_soak<R: Threads + Wait + Sync, G: Gate + Sync>(
     rt: &R,
     alloc: Global,
-    workers: u32,
+    workers: Workers,
     number: u32,
     gate: &G,
 ) -> Result<ModeOutput, NoMemory>
-    requires workers { (1 ≤ workers) × (workers ≤ most_workers) }
     ensures { IfOk result (IsSoakOutput number) }
 {
     let scene = soak(alloc, number)?;

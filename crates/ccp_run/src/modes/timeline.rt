@@ -1,7 +1,7 @@
 //! The mode `timeline`: a scenario's cases on their campaign words, as the text of their books.
 ghost use Rattle.std.specs.Prelude.{◌≡◌, ◌≤◌, IfOk, length};
 ghost use Rattle.std.specs.List.{All};
-ghost use Rattle.ccp_base.specs.Limits.{most_flows, most_workers};
+ghost use Rattle.ccp_base.specs.Limits.{most_flows};
 ghost use Rattle.campaign_report.specs.BooksRead.{flows_of};
 ghost use Rattle.scenario_json.specs.Cases.{IsCoded, AreNumberedFrom};
 ghost use Rattle.scenario_json.specs.ScenePrograms.{forms_of};
@@ -18,7 +18,7 @@ use crate::refusal::Limit;
 use crate::scene::scene;
 use crate::stop::Stop;
 use campaign_gate::calls::books;
-use ccp_base::{Gate, NoMemory, Source};
+use ccp_base::{Gate, NoMemory, Source, Workers};
 use scenario_json::{Scenario, SceneMode};
 use std::alloc::Global;
 use std::sync::Wait;
@@ -29,12 +29,11 @@ use std::thread::Threads;
 pub fn read_timeline<R: Threads + Wait + Sync, S: Source, G: Gate + Sync>(
     rt: &R,
     alloc: Global,
-    workers: u32,
+    workers: Workers,
     wire: bool,
     source: &mut S,
     gate: &G,
 ) -> Result<ModeOutput, Stop>
-    requires workers { (1 ≤ workers) × (workers ≤ most_workers) }
     ensures { IsAttempt (Task.Timeline wire) (over S.remaining S.faults source.old source.new) result }
 {
     let bytes = read_bytes(alloc, Limit::Input, source)?;
@@ -45,12 +44,11 @@ pub fn read_timeline<R: Threads + Wait + Sync, S: Source, G: Gate + Sync>(
 fn timeline_output<R: Threads + Wait + Sync, G: Gate + Sync>(
     rt: &R,
     alloc: Global,
-    workers: u32,
+    workers: Workers,
     wire: bool,
     bytes: &[u8],
     gate: &G,
 ) -> Result<ModeOutput, Stop>
-    requires workers { (1 ≤ workers) × (workers ≤ most_workers) }
     ensures { IsAnswer (Task.Timeline wire) bytes.now result }
 {
     let scene = scene(alloc, bytes, SceneMode::Live)?;
@@ -61,12 +59,11 @@ fn timeline_output<R: Threads + Wait + Sync, G: Gate + Sync>(
 fn run_timeline<R: Threads + Wait + Sync, G: Gate + Sync>(
     rt: &R,
     alloc: Global,
-    workers: u32,
+    workers: Workers,
     wire: bool,
     scene: Scenario,
     gate: &G,
 ) -> Result<ModeOutput, NoMemory>
-    requires workers { (1 ≤ workers) × (workers ≤ most_workers) }
     requires few { length scene.cases ≤ most_flows }
     requires numbered { AreNumberedFrom 0 scene.programs }
     requires coded { All (IsCoded scene.programs) scene.cases }

@@ -9,7 +9,7 @@ loop-made-smaller g c =
     let l = c.loop-made in
     let one = c.in-Some.one in
     let front : Some one ≡ front_of l.queues = sym c.in-Some.is ∙ c.in_ok-one.ensures.item in
-    let fewer : length l.made < length all = merged-fewer c.args.workers all l.queues l.made one c.requires.workers l.invariant front in
+    let fewer : length l.made < length all = merged-fewer c.args.workers.count all l.queues l.made one c.args.workers.some l.invariant front in
     let put : c.push.new.self ≡ l.made ++ one ∷ [] = c.in_ok-push.ensures.ok in
     let count : length c.push.new.self ≡ length l.made + 1 = ap (λ (xs : List _). length xs) put ∙ length-append l.made (one ∷ []) in
     omega (arith, fewer, count)
@@ -20,7 +20,7 @@ loop-made-preserved g c =
     let l = c.loop-made in
     let one = c.in-Some.one in
     let front : Some one ≡ front_of l.queues = sym c.in-Some.is ∙ c.in_ok-one.ensures.item in
-    merged-goes-on c.args.workers all l.queues c.next.new.queues l.made c.push.new.self one c.requires.workers l.invariant front
+    merged-goes-on c.args.workers.count all l.queues c.next.new.queues l.made c.push.new.self one c.args.workers.some l.invariant front
     c.in_ok-one.ensures.rest c.in_ok-push.ensures.ok
 
 pub returns : goal.returns
@@ -28,4 +28,4 @@ returns g c =
     let all = map g.M.CaseResult.of_case g.C.Campaign.cases in
     let l = c.loop-made in
     let front : None ≡ front_of l.queues = sym c.in_default.is ∙ c.in_ok-one.ensures.item in
-    merged-ends c.args.workers all l.queues l.made c.requires.workers l.invariant front
+    merged-ends c.args.workers.count all l.queues l.made c.args.workers.some l.invariant front

@@ -16,8 +16,8 @@ loop-part-preserved g c =
     let told : (share.worker ≡ count) × (share.workers ≡ workers) =
     subst (λ (p : Result _ NoMemory). IfOk p (λ s. (s.worker ≡ count) × (s.workers ≡ workers))) c.in_ok-share.was
     (subst (λ (o : Option _). IfSome o (λ p. IfOk p (λ s. (s.worker ≡ count) × (s.workers ≡ workers)))) parts.0 (c.requires.each count)) in
-    let made = share.is_share ∙ (λ i. every (told.1 i) (told.0 i) all) in (
-      queues-go-on workers all l.queues c.put.new.self share.made l.invariant.0 made put,
+    let made = share.is_share ∙ (λ i. every (told.1 i).count (told.0 i) all) in (
+      queues-go-on workers.count all l.queues c.put.new.self share.made l.invariant.0 made put,
       parts.1,
       parts.2 ∙ l.invariant.2,
     )

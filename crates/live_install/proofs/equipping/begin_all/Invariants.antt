@@ -4,4 +4,4 @@ use Rattle.live_install.proofs.equipping.begin_all.Given as goal
 
 abbrev pub invariant-loop-agent : goal.invariant-loop-agent
 invariant-loop-agent g l =
-    map install_duty_of l.equippings.items ≡ install_duties l.workers.datapaths l.workers.agents (length l.table) l.agent
+    map install_duty_of l.equippings.items ≡ install_duties l.workers.datapaths.count l.workers.agents.count (length l.table) l.agent
