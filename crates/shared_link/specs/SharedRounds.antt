@@ -85,7 +85,7 @@ turn_of case now may givens (suc flow) sent =
     then with_packet case now flow (turn_of case now may givens flow sent)
     else turn_of case now may givens flow sent
 
--- turn after turn until no flow has fewer packets in flight than it may have, at most so many turns
+-- turn after turn until no flow has fewer packets in flight than it may have, at most `turns` turns
 abbrev pub turns_of : SharedCase → ℕ → (ℕ → ℕ) → (ℕ → List GivenAck) → ℕ → List Sent → List Sent
 turns_of case now may givens zero sent = sent
 turns_of case now may givens (suc turns) sent =
@@ -97,7 +97,8 @@ turns_of case now may givens (suc turns) sent =
 abbrev pub round_time : SharedCase → ℕ → ℕ
 round_time case rounds = rounds * case.quantum_us
 
--- the packets after the sending of one more round; no flow may have more packets in flight than there are turns
+-- the packets after the sending of one more round: the 4,096 turns are always enough, since afterwards no flow has fewer
+-- packets in flight than it may have, by the law `SharedCase::sending_law`
 abbrev pub sent_by : SharedCase → List Ask → SharedRun → List Sent
 sent_by case asks run = turns_of case (round_time case run.rounds) (allowed case asks) run.givens most_flight run.sent
 
