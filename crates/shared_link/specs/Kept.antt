@@ -193,11 +193,16 @@ pub record AreReady (case : SharedCase) (rounds : ℕ) (flows : List FlowTraffic
   pub each : (flow : ℕ) (other : FlowTraffic) → flow < length flows
       → IsFlowReady (flow_at case flow) rounds (get_or flows flow other)
 
--- there is room for each of the first flows' acknowledgements, so many flows
-abbrev pub HaveRoom : List Ask → ℕ → List FlowTraffic → Type 0
-HaveRoom asks first flows =
+-- the most acknowledgements that a flow with this traffic can get in a round: one for each packet that is in flight or
+-- that it may have in flight, and no more than it has left
+abbrev pub most_answers : SharedCase → List Ask → ℕ → FlowTraffic → ℕ
+most_answers case asks flow traffic = min (ask_at asks flow).left (max traffic.in_flight (allowed case asks flow))
+
+-- there is room for the acknowledgements of each of the first `first` flows
+abbrev pub HaveRoom : SharedCase → List Ask → ℕ → List FlowTraffic → Type 0
+HaveRoom case asks first flows =
     (flow : ℕ) (other : FlowTraffic) → flow < first
-    → min (ask_at asks flow).left most_flight ≤ vec_capacity (get_or flows flow other).acks
+    → most_answers case asks flow (get_or flows flow other) ≤ vec_capacity (get_or flows flow other).acks
 
 -- some turns of a round's sending were made: the packets sent so far, after which so many turns more come to all
 pub record Turned (case : SharedCase) (asks : List Ask) (flows : List FlowTraffic) (sending : Sending) (left : ℕ) (sent : List Sent) (givens : ℕ → List GivenAck) : Type 0 where

@@ -1,5 +1,5 @@
 -- What is kept of all flows, step by step: who sends next, what is sent in a round, and what is acknowledged.
-use Rattle.std.specs.Prelude.{vec_capacity, ◌≡◌, ◌≢◌, ℕ, ◌≤◌, min, Bool, if◌then◌else◌, List, [], length, get_or}
+use Rattle.std.specs.Prelude.{vec_capacity, ◌≡◌, ◌≢◌, ℕ, ◌≤◌, Bool, if◌then◌else◌, List, [], length, get_or}
 use Rattle.ccp_base.specs.declared.ack.Ack.{Ack}
 use Rattle.ccp_base.specs.Limits.{most_flight}
 use Rattle.link_model.specs.Link.{GivenAck}
@@ -11,7 +11,7 @@ use Rattle.shared_link.specs.declared.flows.Flows.{Flows}
 use Rattle.shared_link.specs.declared.sending.Sending.{Sending}
 use Rattle.shared_link.specs.SharedRounds.{Sent, flow_at, ask_at, allowed, lacks, some_lacks, with_packet, turn_of, turns_of, counts_in}
 use Rattle.shared_link.specs.Reached.{Settled}
-use Rattle.shared_link.specs.Kept.{flow_in, answered_all, IsFlowReady, AnsweredTo, FlowsFollow, Follows}
+use Rattle.shared_link.specs.Kept.{flow_in, answered_all, IsFlowReady, most_answers, AnsweredTo, FlowsFollow, Follows}
 
 -- ---- who sends next
 
@@ -65,9 +65,10 @@ IsReadyAt case rounds flows flow =
     (other : FlowTraffic) → IsFlowReady (flow_at case flow) rounds (get_or flows.traffic.items flow other)
 
 -- there is room for the flow's acknowledgements of a round
-abbrev pub HasRoomAt : List Ask → Flows → ℕ → Type 0
-HasRoomAt asks flows flow =
-    (other : FlowTraffic) → min (ask_at asks flow).left most_flight ≤ vec_capacity (get_or flows.traffic.items flow other).acks
+abbrev pub HasRoomAt : SharedCase → List Ask → Flows → ℕ → Type 0
+HasRoomAt case asks flows flow =
+    (other : FlowTraffic) → most_answers case asks flow (get_or flows.traffic.items flow other)
+    ≤ vec_capacity (get_or flows.traffic.items flow other).acks
 
 -- all flows but this one are as they were
 abbrev pub AreOthersKept : ℕ → Flows → Flows → Type 0

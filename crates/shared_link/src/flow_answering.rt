@@ -1,11 +1,10 @@
 //! How a flow's packets are acknowledged within a round, and when the flow times out.
-ghost use Rattle.std.specs.Prelude.{◌≡◌, ℕ, ◌+◌, ◌-◌, ◌*◌, ◌<◌, ◌≤◌, min, suc, [], ◌∷◌, ◌++◌, length, slice_get, Some, None, vec_capacity, IfOk, OnOk, IsTrue, IsFalse};
+ghost use Rattle.std.specs.Prelude.{◌≡◌, ℕ, ◌+◌, ◌-◌, ◌*◌, ◌<◌, ◌≤◌, min, max, suc, [], ◌∷◌, ◌++◌, length, slice_get, Some, None, vec_capacity, IfOk, OnOk, IsTrue, IsFalse};
 ghost use Rattle.ccp_base.specs.Limits.{most_flight, most_rounds, most_quantum_us};
 ghost use Rattle.link_model.specs.Counts.{most_packets};
 ghost use Rattle.shared_link.specs.SharedLimits.{IsFlowWithin};
 ghost use Rattle.shared_link.specs.Kept.{flow_in, answered_in, IsFlowKept, with_arrival, timed_out, answered_all};
 
-use crate::flow_sending::PACKETS;
 use crate::flow_traffic::FlowTraffic;
 use crate::shared_case::FlowLink;
 use ccp_base::{Acks, NoMemory, Sequence};
@@ -13,11 +12,13 @@ use link_model::{Arrival, Past, arrival_ack, timeout_ack};
 use std::alloc::Global;
 
 impl FlowTraffic {
-    /// Keeps room for the acknowledgements of a round, at most so many.
+    /// Reserves memory for the acknowledgements of a round, at most `left`. The flow gets at most one for each packet
+    /// that is in flight or that it sends until `may` are in flight.
     pub(crate) fn make_room(
         &mut self,
         alloc: Global,
         link: &FlowLink,
+        may: u64,
         left: u32,
     ) -> Result<(), NoMemory>
         requires kept { IsFlowKept link.now self.old }
@@ -27,10 +28,11 @@ impl FlowTraffic {
         ensures in_flight { self.new.in_flight ≡ self.old.in_flight }
         ensures sent { self.new.sent ≡ self.old.sent }
         ensures acks { self.new.acks.items ≡ [] }
-        ensures room { OnOk result (min left most_flight ≤ vec_capacity self.new.acks) }
+        ensures room { OnOk result (min left (max self.new.in_flight may) ≤ vec_capacity self.new.acks) }
     {
         let _ = link;
-        self.acks = Vec::with_capacity(alloc, (left as usize).min(PACKETS))?;
+        let most = u64::from(left).min(self.in_flight.max(may));
+        self.acks = Vec::with_capacity(alloc, most as usize)?;
         Ok(())
     }
 

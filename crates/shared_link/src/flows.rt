@@ -63,6 +63,8 @@ impl Flows {
         requires flow { flow < length self.now.traffic.items }
         ensures few { IsTrue result
             → (other : FlowTraffic) → (get_or self.now.traffic.items flow other).in_flight < most_flight }
+        ensures below { IsTrue result
+            → (other : FlowTraffic) → (get_or self.now.traffic.items flow other).in_flight < allowed case.now asks.now flow }
         ensures lacks { TellsLack case.now asks.now self.now flow result }
     {
         let _ = sending;
@@ -90,12 +92,12 @@ impl Flows {
     fn send_one(&mut self, case: &SharedCase, asks: &[Ask], sending: &mut Sending, flow: usize)
         requires case { IsWithin case.now }
         requires ready { AreReady case.now sending.old.rounds self.old.traffic.items }
-        requires room { HaveRoom asks.now (length self.old.traffic.items) self.old.traffic.items }
+        requires room { HaveRoom case.now asks.now (length self.old.traffic.items) self.old.traffic.items }
         requires asks { length asks.now ≡ length case.now.flows }
         requires flow { flow < length self.old.traffic.items }
         requires sending { IsSending case.now.trace sending.old }
         ensures ready { AreReady case.now sending.new.rounds self.new.traffic.items }
-        ensures room { HaveRoom asks.now (length self.new.traffic.items) self.new.traffic.items }
+        ensures room { HaveRoom case.now asks.now (length self.new.traffic.items) self.new.traffic.items }
         ensures sending { IsSending case.now.trace sending.new }
         ensures rounds { sending.new.rounds ≡ sending.old.rounds }
         ensures now { sending.new.now ≡ sending.old.now }
@@ -111,11 +113,11 @@ impl Flows {
     fn send_turn(&mut self, case: &SharedCase, asks: &[Ask], sending: &mut Sending)
         requires case { IsWithin case.now }
         requires ready { AreReady case.now sending.old.rounds self.old.traffic.items }
-        requires room { HaveRoom asks.now (length self.old.traffic.items) self.old.traffic.items }
+        requires room { HaveRoom case.now asks.now (length self.old.traffic.items) self.old.traffic.items }
         requires asks { length asks.now ≡ length case.now.flows }
         requires sending { IsSending case.now.trace sending.old }
         ensures ready { AreReady case.now sending.new.rounds self.new.traffic.items }
-        ensures room { HaveRoom asks.now (length self.new.traffic.items) self.new.traffic.items }
+        ensures room { HaveRoom case.now asks.now (length self.new.traffic.items) self.new.traffic.items }
         ensures sending { IsSending case.now.trace sending.new }
         ensures rounds { sending.new.rounds ≡ sending.old.rounds }
         ensures now { sending.new.now ≡ sending.old.now }
@@ -132,11 +134,11 @@ impl Flows {
     pub(crate) fn send_all(&mut self, case: &SharedCase, asks: &[Ask], sending: &mut Sending)
         requires case { IsWithin case.now }
         requires ready { AreReady case.now sending.old.rounds self.old.traffic.items }
-        requires room { HaveRoom asks.now (length self.old.traffic.items) self.old.traffic.items }
+        requires room { HaveRoom case.now asks.now (length self.old.traffic.items) self.old.traffic.items }
         requires asks { length asks.now ≡ length case.now.flows }
         requires sending { IsSending case.now.trace sending.old }
         ensures ready { AreReady case.now sending.new.rounds self.new.traffic.items }
-        ensures room { HaveRoom asks.now (length self.new.traffic.items) self.new.traffic.items }
+        ensures room { HaveRoom case.now asks.now (length self.new.traffic.items) self.new.traffic.items }
         ensures sending { IsSending case.now.trace sending.new }
         ensures rounds { sending.new.rounds ≡ sending.old.rounds }
         ensures now { sending.new.now ≡ sending.old.now }
@@ -166,7 +168,7 @@ impl Flows {
         Ok(Flows { traffic })
     }
 
-    /// Keeps room for each flow's acknowledgements of a round.
+    /// Reserves memory for the most acknowledgements that each flow can get in a round.
     pub(crate) fn make_rooms(
         &mut self,
         alloc: Global,
@@ -174,16 +176,19 @@ impl Flows {
         asks: &[Ask],
         rounds: u32,
     ) -> Result<(), NoMemory>
+        requires case { IsWithin case.now }
         requires ready { AreReady case.now rounds self.old.traffic.items }
         requires asks { length asks.now ≡ length case.now.flows }
         ensures ready { AreReady case.now rounds self.new.traffic.items }
-        ensures room { OnOk result (HaveRoom asks.now (length self.new.traffic.items) self.new.traffic.items) }
+        ensures room { OnOk result (HaveRoom case.now asks.now (length self.new.traffic.items) self.new.traffic.items) }
         ensures same { map flow_in self.new.traffic.items ≡ map flow_in self.old.traffic.items }
     {
         let _ = rounds;
         let mut flow = 0;
         while flow < self.traffic.len() {
-            self.traffic[flow].make_room(alloc, link_of(case, flow), ask_of(asks, flow).left)?;
+            let may = allowed(case, asks, flow);
+            let left = ask_of(asks, flow).left;
+            self.traffic[flow].make_room(alloc, link_of(case, flow), may, left)?;
             flow += 1;
         }
         Ok(())
@@ -206,7 +211,7 @@ impl Flows {
         requires end { end ≤ most_rounds * most_quantum_us }
         requires rounds { rounds < most_rounds }
         requires ready { IsReadyAt case.now rounds self.old flow }
-        requires room { HasRoomAt asks.now self.old flow }
+        requires room { HasRoomAt case.now asks.now self.old flow }
         ensures ready { IsReadyAt case.now (rounds + 1) self.new flow }
         ensures count { length self.new.traffic.items ≡ length self.old.traffic.items }
         ensures others { AreOthersKept flow self.old self.new }
@@ -234,7 +239,7 @@ impl Flows {
         requires case { IsWithin case.now }
         requires asks { length asks.now ≡ length case.now.flows }
         requires ready { AreReady case.now rounds self.old.traffic.items }
-        requires room { HaveRoom asks.now (length self.old.traffic.items) self.old.traffic.items }
+        requires room { HaveRoom case.now asks.now (length self.old.traffic.items) self.old.traffic.items }
         requires end { end ≤ most_rounds * most_quantum_us }
         requires rounds { rounds < most_rounds }
         requires none { answers.old.items ≡ [] }

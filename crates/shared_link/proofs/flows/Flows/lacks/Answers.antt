@@ -15,6 +15,14 @@ returns-clause-few c = λ is other.
     let same = ap (λ (t : FlowTraffic). t.in_flight) (same_there flows f c.index.result.now other c.requires.flow c.index.ensures) in
     omega (arith, below, same, c.allowed-may.ensures.within)
 
+pub returns-clause-below : goal.returns-clause-below
+returns-clause-below c = λ is other.
+    let f = c.args.flow in
+    let flows = c.args.self.now.traffic.items in
+    let below : c.index.result.now.in_flight < c.allowed-may.result = ltb-true c.index.result.now.in_flight c.allowed-may.result (search rules) in
+    let same = ap (λ (t : FlowTraffic). t.in_flight) (same_there flows f c.index.result.now other c.requires.flow c.index.ensures) in
+    omega (arith, below, same, c.allowed-may.ensures.value)
+
 pub returns-clause-lacks : goal.returns-clause-lacks
 returns-clause-lacks c = λ sent givens follows.
     let f = c.args.flow in
