@@ -4,10 +4,7 @@ use Rattle.link_model.specs.Chances.{chance_time}
 use Rattle.link_model.specs.Link.{Packet, Fate, Lost, Served, GivenAck, chances_past, in_flight, acked_of}
 use Rattle.link_model.specs.Counts.{served_chances, lost_of}
 use Rattle.link_model.specs.Standing.{packets_of}
-use Rattle.link_model.proofs.ServedLemmas.{AllServedWithin}
-use Rattle.link_model.proofs.FlightLemmas.{RisesFrom, AllBelow, AllTakeBelow}
-use Rattle.link_model.proofs.CountLemmas.{RiseBelow}
-use Rattle.link_model.proofs.QueueLemmas.{IsQueued}
+use Rattle.link_model.specs.Flights.{AllServedWithin, RisesFrom, AllBelow, AllTakeBelow, RiseBelow, IsQueued}
 use Rattle.shared_link.specs.declared.shared_case.SharedCase.{SharedCase}
 use Rattle.shared_link.specs.SharedRounds.{Sent, flow_at, every_packet, own_packets}
 

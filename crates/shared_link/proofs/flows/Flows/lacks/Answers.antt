@@ -1,5 +1,5 @@
 use Rattle.std.proofs.Common.{◌≡◌, ◌<◌, ltb, length, subst, ap, sym, ◌∙◌, arith, ltb-true, rules}
-use Rattle.link_model.specs.Steps.{count_of}
+use Rattle.link_model.specs.LinkMoves.{count_of}
 use Rattle.shared_link.specs.declared.flow_traffic.FlowTraffic.{FlowTraffic}
 use Rattle.shared_link.specs.SharedRounds.{flow_at, own_packets, own_flight}
 use Rattle.shared_link.specs.Kept.{flow_in, IsFlowReady}
