@@ -21,13 +21,13 @@ TellsLack case asks flows flow answer =
     (sent : List Sent) (givens : ℕ → List GivenAck) → FlowsFollow case flows.traffic.items sent givens
     → answer ≡ lacks (allowed case asks) givens flow sent
 
--- the answer says whether some flow has
+-- the answer says whether some flow has fewer packets in flight than it may have, whatever was sent
 abbrev pub TellsSomeLack : SharedCase → List Ask → Flows → Bool → Type 0
 TellsSomeLack case asks flows answer =
     (sent : List Sent) (givens : ℕ → List GivenAck) → FlowsFollow case flows.traffic.items sent givens
     → answer ≡ some_lacks (allowed case asks) givens (length case.flows) sent
 
--- the counts are those of what was sent and acknowledged in so many rounds, whatever that was
+-- the counts are those of what was sent and acknowledged in `rounds` rounds, whatever that was
 abbrev pub TellsCounts : SharedCase → ℕ → Flows → Counts → Type 0
 TellsCounts case rounds flows counts =
     (sent : List Sent) (givens : ℕ → List GivenAck) → FlowsFollow case flows.traffic.items sent givens
@@ -35,31 +35,32 @@ TellsCounts case rounds flows counts =
 
 -- ---- what is sent
 
--- the sending goes on: whatever packets and acknowledgements it was after, it is then after these packets
+-- the flows send more: if the link had these packets and acknowledgements before, it has the packets that `more` gives
+-- afterwards
 abbrev pub SendsOn : SharedCase → Flows → Sending → Flows → Sending → ((ℕ → List GivenAck) → List Sent → List Sent) → Type 0
 SendsOn case old from new to more =
     (sent : List Sent) (givens : ℕ → List GivenAck) → Follows case old.traffic.items from sent givens
     → Follows case new.traffic.items to (more givens sent) givens
 
--- by one packet of a flow that has fewer in flight than it may have
+-- a flow sends one packet if it has fewer in flight than it may have
 abbrev pub SendsOne : SharedCase → List Ask → ℕ → Flows → Sending → Flows → Sending → Type 0
 SendsOne case asks flow old from new to =
     SendsOn case old from new to
     (λ givens sent. if lacks (allowed case asks) givens flow sent then with_packet case from.now flow sent else sent)
 
--- by a turn of all flows
+-- all flows take a turn
 abbrev pub SendsTurn : SharedCase → List Ask → Flows → Sending → Flows → Sending → Type 0
 SendsTurn case asks old from new to =
     SendsOn case old from new to (λ givens sent. turn_of case from.now (allowed case asks) givens (length case.flows) sent)
 
--- by all turns of a round
+-- all flows take all turns of a round
 abbrev pub SendsAll : SharedCase → List Ask → Flows → Sending → Flows → Sending → Type 0
 SendsAll case asks old from new to =
     SendsOn case old from new to (λ givens sent. turns_of case from.now (allowed case asks) givens most_flight sent)
 
 -- ---- what is acknowledged
 
--- the flow's traffic is ready after so many rounds
+-- the flow's traffic is ready after `rounds` rounds
 abbrev pub IsReadyAt : SharedCase → ℕ → Flows → ℕ → Type 0
 IsReadyAt case rounds flows flow =
     (other : FlowTraffic) → IsFlowReady (flow_at case flow) rounds (get_or flows.traffic.items flow other)

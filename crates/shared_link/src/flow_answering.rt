@@ -36,7 +36,7 @@ impl FlowTraffic {
         Ok(())
     }
 
-    /// The acknowledgements of the round, which leaves none.
+    /// Takes the acknowledgements of the round out.
     pub(crate) fn take_acks(&mut self, alloc: Global, link: &FlowLink) -> Acks
         requires kept { IsFlowKept link.now self.old }
         ensures kept { IsFlowKept link.now self.new }
@@ -50,8 +50,8 @@ impl FlowTraffic {
         Sequence::from_vec(std::mem::replace(&mut self.acks, Vec::new(alloc)))
     }
 
-    /// Acknowledges what arrives before a time, at most so many packets; then, where one acknowledgement is left, times
-    /// out before that time where every packet in flight is lost.
+    /// Acknowledges the packets that arrive before `end`, in microseconds, at most `left`. If the flow has an
+    /// acknowledgement left then and every packet in flight is lost, it times out, if that is before `end`.
     pub(crate) fn answer(&mut self, link: &FlowLink, end: u64, left: u32)
         requires link { IsFlowWithin link.now }
         requires kept { IsFlowKept link.now self.old }
@@ -71,8 +71,8 @@ impl FlowTraffic {
         }
     }
 
-    /// Gives the next acknowledgement before a time, where so many are left. Answers whether a packet arrived; else
-    /// there are no more.
+    /// Gives the next acknowledgement before `end`, in microseconds, if there is one; `left` are left. Answers whether a
+    /// packet arrived: if not, no more acknowledgements follow.
     fn answer_one(&mut self, link: &FlowLink, end: u64, left: u32) -> bool
         requires link { IsFlowWithin link.now }
         requires kept { IsFlowKept link.now self.old }
@@ -100,7 +100,7 @@ impl FlowTraffic {
         true
     }
 
-    /// Acknowledges the first packet in flight that isn't lost.
+    /// Acknowledges `arrival`, the first packet in flight that isn't lost.
     fn acknowledge(&mut self, link: &FlowLink, arrival: Arrival)
         requires link { IsFlowWithin link.now }
         requires kept { IsFlowKept link.now self.old }
@@ -130,7 +130,8 @@ impl FlowTraffic {
         self.acks.push_reserved(ack);
     }
 
-    /// Times out before a time, where there are packets in flight and all are lost.
+    /// Times out if there are packets in flight, all of which must be lost, and if the timeout is before `end`, in
+    /// microseconds.
     fn time_out(&mut self, link: &FlowLink, end: u64)
         requires link { IsFlowWithin link.now }
         requires kept { IsFlowKept link.now self.old }

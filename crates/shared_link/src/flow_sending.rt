@@ -19,7 +19,7 @@ use std::alloc::{AllocError, Global};
 pub(crate) const PACKETS: usize = 4096;
 
 impl FlowTraffic {
-    /// Nothing was sent yet. The room for the packets in flight is reserved.
+    /// The traffic of a flow that has sent nothing. Reserves memory for its packets in flight.
     pub(crate) fn new(
         alloc: Global,
         link: &FlowLink,
@@ -48,7 +48,7 @@ impl FlowTraffic {
         })
     }
 
-    /// Sends one packet, where the queue holds so many.
+    /// Sends one packet; the queue holds `room` packets.
     pub(crate) fn send(&mut self, link: &FlowLink, trace: &Trace, room: u32, sending: &mut Sending)
         requires link { IsFlowWithin link.now }
         requires kept { IsFlowKept link.now self.old }
@@ -76,7 +76,7 @@ impl FlowTraffic {
         self.serve(link, trace, sending);
     }
 
-    /// Sends a packet that is lost.
+    /// Sends a packet that is lost, at `now`, in microseconds.
     fn lose(&mut self, link: &FlowLink, now: u64)
         requires kept { IsFlowKept link.now self.old }
         requires room { self.old.in_flight < most_flight }
@@ -130,7 +130,8 @@ impl FlowTraffic {
     }
 }
 
-/// When the first lost packet was sent, where so many were there before one that is sent now.
+/// When the first of the lost packets was sent, after one more is lost at `now`: before it there were `lost`, the first of
+/// which was sent at `since`.
 fn first_since(lost: u64, since: u64, now: u64) -> u64
     ensures { result ≡ (if lost == 0 then now else since) }
 {

@@ -1,4 +1,4 @@
-//! The traffic of all flows: they send in turn, get their acknowledgements in order, and are counted.
+//! The traffic of all flows: they send in turn and get their acknowledgements in order, and their packets are counted.
 ghost use Rattle.std.specs.Prelude.{◌≡◌, ◌+◌, ◌*◌, ◌<◌, ◌≤◌, [], length, map, get_or, vec_capacity, IfOk, OnOk, IsTrue};
 ghost use Rattle.ccp_base.specs.Limits.{most_flight, most_rounds, most_quantum_us};
 ghost use Rattle.link_model.specs.Traces.{IsTrace};
@@ -34,7 +34,7 @@ pub(crate) fn ask_of(asks: &[Ask], flow: usize) -> Ask
 }
 
 /// How many packets a flow may have in flight.
-fn allowed(case: &SharedCase, asks: &[Ask], flow: usize) -> u64
+fn allowance_of(case: &SharedCase, asks: &[Ask], flow: usize) -> u64
     requires case { IsWithin case.now }
     requires flow { flow < length case.now.flows }
     requires asks { length asks.now ≡ length case.now.flows }
@@ -68,7 +68,7 @@ impl Flows {
         ensures lacks { TellsLack case.now asks.now self.now flow result }
     {
         let _ = sending;
-        let may = allowed(case, asks, flow);
+        let may = allowance_of(case, asks, flow);
         self.traffic[flow].in_flight < may
     }
 
@@ -88,7 +88,7 @@ impl Flows {
         found
     }
 
-    /// A flow sends a packet where it has fewer in flight than it may have.
+    /// A flow sends a packet if it has fewer in flight than it may have.
     fn send_one(&mut self, case: &SharedCase, asks: &[Ask], sending: &mut Sending, flow: usize)
         requires case { IsWithin case.now }
         requires ready { AreReady case.now sending.old.rounds self.old.traffic.items }
@@ -109,7 +109,7 @@ impl Flows {
         self.traffic[flow].send(link_of(case, flow), &case.trace, case.queue, sending);
     }
 
-    /// Each flow in turn sends a packet where it has fewer in flight than it may have.
+    /// Each flow in turn sends a packet if it has fewer in flight than it may have.
     fn send_turn(&mut self, case: &SharedCase, asks: &[Ask], sending: &mut Sending)
         requires case { IsWithin case.now }
         requires ready { AreReady case.now sending.old.rounds self.old.traffic.items }
@@ -154,7 +154,7 @@ impl Flows {
         }
     }
 
-    /// Nothing was sent yet.
+    /// The traffic of flows that have sent nothing.
     pub(crate) fn new(alloc: Global, case: &SharedCase) -> Result<Flows, NoMemory>
         ensures ready { IfOk result (λ flows. AreReady case.now 0 flows.traffic.items) }
         ensures follows { IfOk result (λ flows. FlowsFollow case.now flows.traffic.items [] (λ flow. [])) }
@@ -186,7 +186,7 @@ impl Flows {
         let _ = rounds;
         let mut flow = 0;
         while flow < self.traffic.len() {
-            let may = allowed(case, asks, flow);
+            let may = allowance_of(case, asks, flow);
             let left = ask_of(asks, flow).left;
             self.traffic[flow].make_room(alloc, link_of(case, flow), may, left)?;
             flow += 1;
@@ -194,7 +194,7 @@ impl Flows {
         Ok(())
     }
 
-    /// The acknowledgements of a flow before a time.
+    /// The acknowledgements of a flow before `end`, in microseconds.
     fn answer_one(
         &mut self,
         alloc: Global,
@@ -225,7 +225,7 @@ impl Flows {
         traffic.take_acks(alloc, link)
     }
 
-    /// Each flow's acknowledgements before a time, in order.
+    /// Puts each flow's acknowledgements before `end`, in microseconds, into `answers`, in the order of the flows.
     pub(crate) fn answer_all(
         &mut self,
         alloc: Global,
@@ -255,7 +255,7 @@ impl Flows {
         }
     }
 
-    /// The packets of all flows after so many rounds.
+    /// Counts the packets of all flows after `rounds` rounds.
     pub(crate) fn counts(&self, case: &SharedCase, rounds: u32) -> Counts
         requires case { IsWithin case.now }
         requires ready { AreReady case.now rounds self.now.traffic.items }

@@ -26,9 +26,9 @@ loop-flow-preserved c =
     let asks = c.args.asks.now in
     let within : f + 1 ≤ length flows = omega (arith, c.loop-flow-test.true, c.len.ensures) in
     let ready = subst (λ (x : FlowTraffic). IsFlowReady (flow_at case f) rounds x) (sym c.index_mut.ensures.value) (c.loop-flow.invariant.1.each f old (omega (arith, within))) in
-    let room : min c.ask_of-left.result.left (max new.in_flight c.allowed-may.result) ≤ vec_capacity new.acks = c.in_ok-make_room.ensures.room in
-    let asked : min (ask_at asks f).left (max new.in_flight c.allowed-may.result) ≤ vec_capacity new.acks = subst (λ (a : Ask). min a.left (max new.in_flight c.allowed-may.result) ≤ vec_capacity new.acks) c.ask_of-left.ensures room in
-    let here : min (ask_at asks f).left (max new.in_flight (allowed case asks f)) ≤ vec_capacity new.acks = subst (λ (m : ℕ). min (ask_at asks f).left (max new.in_flight m) ≤ vec_capacity new.acks) c.allowed-may.ensures.value asked in (
+    let room : min c.ask_of-left.result.left (max new.in_flight c.allowance_of-may.result) ≤ vec_capacity new.acks = c.in_ok-make_room.ensures.room in
+    let asked : min (ask_at asks f).left (max new.in_flight c.allowance_of-may.result) ≤ vec_capacity new.acks = subst (λ (a : Ask). min a.left (max new.in_flight c.allowance_of-may.result) ≤ vec_capacity new.acks) c.ask_of-left.ensures room in
+    let here : min (ask_at asks f).left (max new.in_flight (allowed case asks f)) ≤ vec_capacity new.acks = subst (λ (m : ℕ). min (ask_at asks f).left (max new.in_flight m) ≤ vec_capacity new.acks) c.allowance_of-may.ensures.value asked in (
       omega (arith, within, length-set flows f new),
       ready-set case rounds flows f new (omega (arith, within)) c.loop-flow.invariant.1
           (record {
