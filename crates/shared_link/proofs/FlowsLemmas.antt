@@ -2,7 +2,8 @@
 use Rattle.std.proofs.Common.{◌≡◌, ◌≢◌, ℕ, zero, suc, ◌+◌, ◌-◌, ◌<◌, ◌≤◌, true, false, cond, eqb, max, List, [], ◌∷◌, ◌++◌, length, get_or, set, vec_capacity, ap, sym, ◌∙◌, subst, arith, inl, inr, get_or-set_other, get_or-set_same}
 use Rattle.std.proofs.lemmas.Bool.{cases_lt}
 use Rattle.std.proofs.lemmas.Bool.Decides.{nat_tests}
-use Rattle.std.proofs.lemmas.List.{length-set}
+use Rattle.std.proofs.lemmas.List.{length-set, get_or_append_left}
+use Rattle.std.proofs.Math.Seq.{get_or-append_seam}
 use Rattle.ccp_base.specs.declared.ack.Ack.{Ack}
 use Rattle.link_model.specs.Traces.{IsTrace}
 use Rattle.link_model.specs.Chances.{number_of, first_chance}
@@ -39,6 +40,18 @@ each_set P flows at traffic within all here flow other inside =
                 subst (λ (k : ℕ). P k (get_or (set flows at traffic) k other)) same
                 (subst (λ (t : FlowTraffic). P at t) (sym (get_or-set_same flows at traffic other within)) here))
           ]
+    ]
+
+-- what holds of each flow, where one is put after all others
+pub each_push : (P : ℕ → FlowTraffic → Type 0) (flows : List FlowTraffic) (last : FlowTraffic) → ((flow : ℕ) (other : FlowTraffic) → flow < length flows → P flow (get_or flows flow other)) → P (length flows) last
+    → (flow : ℕ) (other : FlowTraffic) → flow < length flows + 1 → P flow (get_or (flows ++ last ∷ []) flow other)
+each_push P flows last all here flow other inside =
+    elim (cases_lt flow (length flows)) as (λ _. P flow (get_or (flows ++ last ∷ []) flow other)) [
+      | inl below ↦ subst (λ (t : FlowTraffic). P flow t) (sym (get_or_append_left flows (last ∷ []) other flow below)) (all flow other below)
+      | inr not_below ↦
+          (let same : length flows ≡ flow = omega (arith, inside) in
+          subst (λ (k : ℕ). P k (get_or (flows ++ last ∷ []) k other)) same
+          (subst (λ (t : FlowTraffic). P (length flows) t) (sym (get_or-append_seam flows last [] other)) here))
     ]
 
 pub ready-set : (case : SharedCase) (rounds : ℕ) (flows : List FlowTraffic) (at : ℕ) (traffic : FlowTraffic) → at < length flows → AreReady case rounds flows → IsFlowReady (flow_at case at) rounds traffic

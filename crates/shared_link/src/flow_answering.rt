@@ -30,6 +30,7 @@ impl FlowTraffic {
         ensures acks { self.new.acks.items ≡ [] }
         ensures room { OnOk result (min left (max self.new.in_flight may) ≤ vec_capacity self.new.acks) }
     {
+        // for the contract alone: what holds of a flow depends on its listed losses
         let _ = link;
         let most = u64::from(left).min(self.in_flight.max(may));
         self.acks = Vec::with_capacity(alloc, most as usize)?;
@@ -46,6 +47,7 @@ impl FlowTraffic {
         ensures acks { self.new.acks.items ≡ [] }
         ensures taken { result ≡ self.old.acks.items }
     {
+        // for the contract alone: what holds of a flow depends on its listed losses
         let _ = link;
         Sequence::from_vec(std::mem::replace(&mut self.acks, Vec::new(alloc)))
     }

@@ -67,6 +67,7 @@ impl Flows {
             → (other : FlowTraffic) → (get_or self.now.traffic.items flow other).in_flight < allowed case.now asks.now flow }
         ensures lacks { TellsLack case.now asks.now self.now flow result }
     {
+        // for the contract alone: what holds of the flows depends on the rounds so far
         let _ = sending;
         let may = allowance_of(case, asks, flow);
         self.traffic[flow].in_flight < may
@@ -162,7 +163,7 @@ impl Flows {
         let mut traffic = Vec::new(alloc);
         let mut flow = 0;
         while flow < case.flows.len() {
-            traffic.push(FlowTraffic::new(alloc, link_of(case, flow), &case.trace)?)?;
+            traffic.push(FlowTraffic::new(alloc)?)?;
             flow += 1;
         }
         Ok(Flows { traffic })
@@ -183,6 +184,7 @@ impl Flows {
         ensures room { OnOk result (HaveRoom case.now asks.now (length self.new.traffic.items) self.new.traffic.items) }
         ensures same { map flow_in self.new.traffic.items ≡ map flow_in self.old.traffic.items }
     {
+        // for the contract alone: what holds of the flows depends on the rounds so far
         let _ = rounds;
         let mut flow = 0;
         while flow < self.traffic.len() {
@@ -217,6 +219,7 @@ impl Flows {
         ensures others { AreOthersKept flow self.old self.new }
         ensures answered { AnswersAt case.now asks.now end flow self.old self.new result }
     {
+        // for the contract alone: what holds of the flows depends on the rounds so far
         let _ = rounds;
         let link = link_of(case, flow);
         let left = ask_of(asks, flow).left;
@@ -262,6 +265,7 @@ impl Flows {
         requires rounds { rounds ≤ most_rounds }
         ensures { TellsCounts case.now rounds self.now result }
     {
+        // for the contract alone: the definition counts the packets of the flows of a case
         let _ = case;
         let mut sent = 0;
         let mut acked = 0;
