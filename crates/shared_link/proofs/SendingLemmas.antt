@@ -38,9 +38,6 @@ enough_is count may enough = grind (arith, nat_tests)
 enough_of : (count may : ℕ) → ltb count may ≡ false → may ≤ count
 enough_of count may is = grind (arith, nat_tests)
 
-same_of : (a b : ℕ) → eqb a b ≡ true → a ≡ b
-same_of a b is = grind (arith, nat_tests)
-
 or_false : (a b : Bool) → a ≡ false → b ≡ false → a || b ≡ false
 or_false true b not_a not_b = not_a
 or_false false b not_a not_b = not_b
