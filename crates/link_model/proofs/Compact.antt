@@ -7,7 +7,7 @@ use Rattle.link_model.specs.Traces.{IsTrace}
 use Rattle.link_model.specs.Chances.{first_chance}
 use Rattle.link_model.specs.Link.{Packet, Fate, Lost, Served, allowance, is_listed, is_marked, arrival_of, past_in, arrival_ack, timeout_ack, run_of, ack_after}
 use Rattle.link_model.specs.Standing.{Standing, arrival_by, arrivals_by, arrivals_of, lost_last_by, lost_last, standing_of}
-use Rattle.link_model.specs.Steps.{count_of, with_fate, with_packet, sending, ack_by, acked_by, next_ack, next_standing}
+use Rattle.link_model.specs.LinkMoves.{count_of, with_fate, with_packet, sending, ack_by, acked_by, next_ack, next_standing}
 use Rattle.link_model.proofs.Whole.{Landing, Arrived, AllLost, Whole, whole_of, packet_by, landing, landing_by, staying, with_flight, with_ack, sent_whole, next_whole}
 use Rattle.link_model.proofs.Whole as whole
 use Rattle.link_model.proofs.Refinement as refinement

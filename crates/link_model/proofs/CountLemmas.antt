@@ -3,17 +3,12 @@ use Rattle.std.proofs.Common.{◌≡◌, ℕ, ◌+◌, ◌<◌, ◌≤◌, Bool,
 use Rattle.std.proofs.lemmas.Bool.{cases_lt}
 use Rattle.std.proofs.lemmas.List.{get_or_append_left}
 use Rattle.std.proofs.Math.Seq.{get_or-append_seam}
-use Rattle.std.specs.List.Sorted.{IsStrictlyIncreasing}
 use Rattle.link_model.specs.Link.{Packet, Fate, Lost, Served, Numbered, Next, arrives, all_lost, packet_and_lost_below, all_below, left_by, lost_by, chances_past}
 use Rattle.link_model.specs.Counts.{served_chances}
+use Rattle.link_model.specs.Flights.{RiseBelow, AllBelow}
 use Rattle.link_model.specs.Standing.{packets_of}
 use Rattle.link_model.proofs.Whole.{Landing, Arrived, AllLost, landing, landing_by, staying}
-use Rattle.link_model.proofs.FlightLemmas.{MatchNext, AllBelow, left_by-all_below, length-packets_of}
-
--- the chances rise and are below this number
-pub record RiseBelow (bound : ℕ) (chances : List ℕ) : Type 0 where
-  pub rise : IsStrictlyIncreasing chances
-  pub below : (i : ℕ) → i < length chances → get_or chances i 0 < bound
+use Rattle.link_model.proofs.FlightLemmas.{MatchNext, left_by-all_below, length-packets_of}
 
 pub rise_below-none : (bound : ℕ) → RiseBelow bound []
 rise_below-none bound = record { rise = λ k within. absurd (omega arith); below = λ i within. absurd (omega arith) }

@@ -2,19 +2,11 @@
 use Rattle.std.proofs.Common.{◌≡◌, ℕ, suc, ◌+◌, ◌<◌, ◌≤◌, Bool, true, false, cond, eqb, ltb, ◌||◌, ◌&&◌, List, [], ◌∷◌, ◌++◌, length, refl, ap, ◌∙◌, arith}
 use Rattle.std.proofs.lemmas.Bool.Decides.{nat_tests}
 use Rattle.link_model.specs.Link.{Packet, Fate, Lost, Served, Taking, packet_and_lost_below, all_below, GivenAck, Numbered, takes, left_by, lost_by, is_lost, in_flight, Next, arrives, all_lost, next_by, next_of}
+use Rattle.link_model.specs.Flights.{RisesFrom, AllBelow, TakesBelow, AllTakeBelow}
 use Rattle.link_model.specs.Standing.{packets_of}
 use Rattle.link_model.proofs.Whole.{Arrived, AllLost, landing, staying}
 
 -- ---- numbers in flight
-
--- the numbers rise, from this one on
-abbrev pub RisesFrom : ℕ → List Numbered → Type 0
-RisesFrom from [] = Unit {0}
-RisesFrom from (sent ∷ rest) = (from ≤ sent.number) × RisesFrom (sent.number + 1) rest
-
-abbrev pub AllBelow : ℕ → List Numbered → Type 0
-AllBelow bound [] = Unit {0}
-AllBelow bound (sent ∷ rest) = (sent.number < bound) × AllBelow bound rest
 
 pub RisesFrom-less : (from less : ℕ) (flight : List Numbered) → less ≤ from → RisesFrom from flight → RisesFrom less flight
 RisesFrom-less from less [] order rises = tt
@@ -51,15 +43,6 @@ AllBelow-left_by taking bound [] below = tt
 AllBelow-left_by taking bound (sent ∷ rest) below = below_if (takes taking sent) bound sent (left_by taking rest) below.0 (AllBelow-left_by taking bound rest below.1)
 
 -- ---- one more packet
-
--- what was taken away was sent before
-abbrev pub TakesBelow : ℕ → Taking → Type 0
-TakesBelow bound (packet_and_lost_below number) = number < bound
-TakesBelow bound (all_below sent) = sent ≤ bound
-
-abbrev pub AllTakeBelow : ℕ → List GivenAck → Type 0
-AllTakeBelow bound [] = Unit {0}
-AllTakeBelow bound (given ∷ earlier) = TakesBelow bound given.taking × AllTakeBelow bound earlier
 
 takes_below-more : (bound more : ℕ) (taking : Taking) → bound ≤ more → TakesBelow bound taking → TakesBelow more taking
 takes_below-more bound more (packet_and_lost_below number) order below = omega (arith, below)

@@ -6,7 +6,7 @@ use Rattle.link_model.specs.declared.arrival.Arrival.{Arrival}
 use Rattle.link_model.specs.Traces.{longest_period, period, IsTrace}
 use Rattle.link_model.specs.Chances.{chance_time, first_chance}
 use Rattle.link_model.specs.Standing.{Standing, arrival_by}
-use Rattle.link_model.specs.Steps.{count_of, with_lost, with_served, chance_now}
+use Rattle.link_model.specs.LinkMoves.{count_of, with_lost, with_served, chance_now}
 use Rattle.link_model.specs.Horizon.{horizon, ArriveWithin, ArriveInOrder, IsTimely}
 use Rattle.link_model.proofs.ChanceLemmas.{chance_time_rises, chance_time-suc, first_chance_soon, le_first_chance}
 

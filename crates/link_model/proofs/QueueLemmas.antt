@@ -5,11 +5,8 @@ use Rattle.link_model.specs.declared.link_case.LinkCase.{LinkCase}
 use Rattle.link_model.specs.Traces.{IsTrace}
 use Rattle.link_model.specs.Chances.{chance_time, first_chance}
 use Rattle.link_model.specs.Link.{Packet, Lost, Served, waiting, chances_past, is_listed, is_marked, packet_after}
+use Rattle.link_model.specs.Flights.{IsQueued}
 use Rattle.link_model.proofs.ChanceLemmas.{not_below, first_chance_le, le_first_chance, first_chance_max}
-
--- at each time from now on, the packets that wait are counted by their chances
-abbrev pub IsQueued : List ℕ → ℕ → List Packet → Type 0
-IsQueued times now packets = (at : ℕ) → now ≤ at → waiting times at packets ≡ chances_past packets - first_chance times (at + 1) 0
 
 pub IsQueued-later : (times : List ℕ) (now then_ : ℕ) (packets : List Packet) → now ≤ then_ → IsQueued times now packets → IsQueued times then_ packets
 IsQueued-later times now then_ packets order queued at after = queued at (omega arith)

@@ -7,12 +7,13 @@ use Rattle.link_model.specs.Link.{Run, Packet, Fate, Lost, Served, GivenAck, Num
 use Rattle.link_model.specs.LinkLaws.{run_from-push}
 use Rattle.link_model.specs.Counts.{served_chances, lost_of}
 use Rattle.link_model.specs.Standing.{packets_of}
+use Rattle.link_model.specs.Flights.{IsServedWithin, AllServedWithin, RisesFrom, AllBelow, AllTakeBelow, TakesBelow, RiseBelow, IsQueued}
 use Rattle.link_model.proofs.Whole.{Landing, Arrived, AllLost, Whole, whole_of, packet_by, with_packet, sending, sending_whole, landing, landing_by, staying, staying_by, ack_by, with_flight, with_ack, sent_whole, next_ack, next_whole}
 use Rattle.link_model.proofs.ChanceLemmas.{chance_time_rises, first_chance_max, first_chance_from, first_chance_at}
-use Rattle.link_model.proofs.ServedLemmas.{IsServedWithin, AllServedWithin, all_served_within-more, all_served_within-push, all_served_within-staying}
-use Rattle.link_model.proofs.FlightLemmas.{RisesFrom, AllBelow, AllTakeBelow, TakesBelow, RisesFrom-push, AllBelow-push, AllBelow-more, RisesFrom-left_by, AllBelow-left_by, all_take_below-more, in_flight-sent, packets_of-push, length-packets_of, left_by-all_below, MatchNext, match_next, IsNextBelow, next_below}
-use Rattle.link_model.proofs.CountLemmas.{RiseBelow, rise_below-none, rise_below-sent, CountNext, count_next}
-use Rattle.link_model.proofs.QueueLemmas.{IsQueued, IsQueued-later, IsQueued-sent}
+use Rattle.link_model.proofs.ServedLemmas.{all_served_within-more, all_served_within-push, all_served_within-staying}
+use Rattle.link_model.proofs.FlightLemmas.{RisesFrom-push, AllBelow-push, AllBelow-more, RisesFrom-left_by, AllBelow-left_by, all_take_below-more, in_flight-sent, packets_of-push, length-packets_of, left_by-all_below, MatchNext, match_next, IsNextBelow, next_below}
+use Rattle.link_model.proofs.CountLemmas.{rise_below-none, rise_below-sent, CountNext, count_next}
+use Rattle.link_model.proofs.QueueLemmas.{IsQueued-later, IsQueued-sent}
 
 -- ---- arrivals in flight
 

@@ -11,7 +11,7 @@ use Rattle.link_model.specs.Traces.{IsTrace}
 use Rattle.link_model.specs.Chances.{number_of, chance_time, first_chance}
 use Rattle.link_model.specs.Link.{Lost, Served, is_listed, is_marked, arrival_of}
 use Rattle.link_model.specs.Standing.{Standing}
-use Rattle.link_model.specs.Steps.{standing_in, with_lost, with_served, with_fate, with_packet, waiting_now, chance_now, sending}
+use Rattle.link_model.specs.LinkMoves.{standing_in, with_lost, with_served, with_fate, with_packet, waiting_now, chance_now, sending}
 use Rattle.link_model.proofs.ChanceLemmas.{first_chance_le, le_first_chance}
 
 -- ---- the queue at one time, by when a chance comes

@@ -1,18 +1,8 @@
 -- Packets in flight have chances that were given, and none before its sending time.
-use Rattle.std.proofs.Common.{ℕ, ◌<◌, ◌≤◌, List, [], ◌∷◌, ◌++◌, arith}
-use Rattle.link_model.specs.Chances.{chance_time}
+use Rattle.std.proofs.Common.{ℕ, ◌≤◌, List, [], ◌∷◌, ◌++◌, arith}
 use Rattle.link_model.specs.Link.{Packet, Fate, Lost, Served}
+use Rattle.link_model.specs.Flights.{IsServedWithin, AllServedWithin}
 use Rattle.link_model.proofs.Whole.{staying, staying_by}
-
--- a packet's chance was given, and isn't before its sending time
-abbrev pub IsServedWithin : List ℕ → ℕ → ℕ → Fate → Type 0
-IsServedWithin times chance sent_at Lost = Unit {0}
-IsServedWithin times chance sent_at (Served own marked) = (own < chance) × (sent_at ≤ chance_time times own)
-
-abbrev pub AllServedWithin : List ℕ → ℕ → List Packet → Type 0
-AllServedWithin times chance [] = Unit {0}
-AllServedWithin times chance (packet ∷ rest) =
-    IsServedWithin times chance packet.sent_at packet.fate × AllServedWithin times chance rest
 
 is_served_within-more : (times : List ℕ) (chance more sent_at : ℕ) (fate : Fate) → chance ≤ more → IsServedWithin times chance sent_at fate → IsServedWithin times more sent_at fate
 is_served_within-more times chance more sent_at Lost order within = tt

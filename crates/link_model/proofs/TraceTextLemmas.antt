@@ -1,5 +1,5 @@
 -- The blanks at the end of a line, and a text that is read line by line.
-use Rattle.std.proofs.Common.{◌≡◌, ℕ, ◌+◌, true, false, cond, List, [], ◌∷◌, ◌++◌, Option, refl, ap, sym, ◌∙◌}
+use Rattle.std.proofs.Common.{◌≡◌, ℕ, true, false, cond, List, [], ◌∷◌, ◌++◌, Option, refl, ap, sym, ◌∙◌}
 use Rattle.std.specs.Option.{option_or}
 use Rattle.ccp_base.specs.Parts.{separates}
 use Rattle.ccp_base.specs.declared.parts.Separator.TheVariants.{Blank}

@@ -5,7 +5,7 @@ use Rattle.std.specs.List.Sorted.{IsStrictlyIncreasing}
 use Rattle.link_model.specs.Chances.{chance_time}
 use Rattle.link_model.specs.Link.{ack_after, run_of}
 use Rattle.link_model.specs.Standing.{Standing, standing_of}
-use Rattle.link_model.specs.Steps.{sent_standing, next_ack, next_standing}
+use Rattle.link_model.specs.LinkMoves.{sent_standing, next_ack, next_standing}
 use Rattle.link_model.specs.declared.link_case.LinkCase.{LinkCase}
 use Rattle.ccp_base.specs.declared.ack.Ack.{Ack}
 

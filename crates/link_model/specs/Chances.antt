@@ -17,7 +17,7 @@ pub record IsFirstChance (times : List ℕ) (at start k : ℕ) : Type 0 where
   pub late : at ≤ chance_time times k
   pub before : (j : ℕ) → start ≤ j → j < k → chance_time times j < at
 
--- the first number from here on that passes a test, where so many steps are enough
+-- the first number from `here` on that passes a test, if at most `steps` numbers before it fail
 abbrev pub first_passing : (ℕ → Bool) → ℕ → ℕ → ℕ
 first_passing passes zero here = here
 first_passing passes (suc steps) here = elim (passes here) as (λ _. ℕ) [ true ↦ here | false ↦ first_passing passes steps (suc here) ]

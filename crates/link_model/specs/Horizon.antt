@@ -8,7 +8,7 @@ use Rattle.link_model.specs.Traces.{longest_period, IsTrace}
 use Rattle.link_model.specs.Chances.{chance_time}
 use Rattle.link_model.specs.Lines.{IsLine}
 use Rattle.link_model.specs.Standing.{Standing}
-use Rattle.link_model.specs.Steps.{count_of, standing_in}
+use Rattle.link_model.specs.LinkMoves.{count_of, standing_in}
 
 -- the longest that a call may take beside its packets, in microseconds: a delay and a timeout
 abbrev pub longest_call : ℕ

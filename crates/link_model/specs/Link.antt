@@ -75,8 +75,8 @@ abbrev pub is_marked : Option ℕ → ℕ → Bool
 is_marked None queued = false
 is_marked (Some mark) queued = nat_le mark queued
 
--- the fate of a packet of this number, where these are lost, the queue holds so many, packets are marked from so many
--- on, and so many wait: lost, or served at this chance
+-- the fate of the packet `number` of a flow, if `losses` are listed as lost, the queue holds `queue` packets, packets are
+-- marked if at least `mark` wait, and `queued` wait: lost, or served at `chance`
 abbrev pub fate_of : List ℕ → ℕ → Option ℕ → ℕ → ℕ → ℕ → Fate
 fate_of losses queue mark number queued chance =
     if is_listed number losses || nat_le queue queued then Lost
@@ -93,7 +93,7 @@ packet_after case now earlier = record {
       (first_chance case.trace now (chances_past earlier));
 }
 
--- so many more packets are sent at this time
+-- the packets after `more` more are sent at this time
 abbrev pub with_sent : LinkCase → ℕ → ℕ → List Packet → List Packet
 with_sent case now zero packets = packets
 with_sent case now (suc more) packets = with_sent case now more (packet_after case now packets ∷ packets)
@@ -158,7 +158,7 @@ acked_of (given ∷ earlier) = given.ack.packets_acked + acked_of earlier
 abbrev pub byte_rate : ℕ → ℕ → ℕ → ℕ
 byte_rate mss packets now = if now == 0 then 0 else mss * packets * 1000000 / now
 
--- a number where something is so, and 0 where it isn't
+-- the number if the truth holds, and 0 otherwise
 abbrev pub number_if : Bool → ℕ → ℕ
 number_if truth number = if truth then number else 0
 
@@ -166,8 +166,8 @@ number_if truth number = if truth then number else 0
 abbrev pub arrival_of : LinkCase → ℕ → ℕ
 arrival_of case chance = chance_time case.trace chance + case.delay_us
 
--- the acknowledgement of a packet of this size with this sending time, arrival and mark after this past, where so many
--- lost packets leave, so many stay in flight, and so many were acknowledged and sent so far
+-- the acknowledgement of a packet of `mss` bytes with this sending time, arrival and mark after this past, if `lost`
+-- lost packets leave, `stay` packets stay in flight, and `acked` packets were acknowledged and `sent` sent so far
 abbrev pub arrival_ack_of : ℕ → ℕ → ℕ → Bool → Past → ℕ → ℕ → ℕ → ℕ → Ack
 arrival_ack_of mss sent_at arrival marked past lost stay acked sent = record {
   bytes_acked = mss;
@@ -191,7 +191,8 @@ abbrev pub arrival_ack : LinkCase → ℕ → ℕ → Bool → Past → ℕ → 
 arrival_ack case sent_at arrival marked past lost stay acked sent =
     arrival_ack_of case.mss sent_at arrival marked past lost stay acked sent
 
--- the acknowledgement at a timeout at this time after this past, where so many packets of this size leave
+-- the acknowledgement of a timeout at this time after this past, if `lost` packets of `mss` bytes leave, `stay` stay in
+-- flight, and `acked` were acknowledged and `sent` sent so far
 abbrev pub timeout_ack_of : ℕ → ℕ → Past → ℕ → ℕ → ℕ → ℕ → Ack
 timeout_ack_of mss now past lost stay acked sent = record {
   bytes_acked = 0;

@@ -37,7 +37,7 @@ arrivals_by case lost sent_at Lost after_lost after_served = after_lost
 arrivals_by case lost sent_at (Served chance marked) after_lost after_served =
     arrival_by case lost sent_at chance marked ∷ after_served
 
--- the packets that aren't lost, where so many lost ones lie before them all
+-- the packets that aren't lost, if `lost` lost ones lie before them all
 abbrev pub arrivals_of : LinkCase → ℕ → List Packet → List Arrival
 arrivals_of case lost [] = []
 arrivals_of case lost (packet ∷ rest) =
@@ -47,7 +47,7 @@ abbrev pub lost_last_by : Fate → ℕ → ℕ → ℕ
 lost_last_by Lost after_lost after_served = after_lost
 lost_last_by (Served chance marked) after_lost after_served = after_served
 
--- how many lost ones lie after the last one that isn't lost, where so many lie before them all
+-- how many lost ones lie after the last one that isn't lost, if `lost` lie before them all
 abbrev pub lost_last : ℕ → List Packet → ℕ
 lost_last lost [] = lost
 lost_last lost (packet ∷ rest) = lost_last_by packet.fate (lost_last (lost + 1) rest) (lost_last 0 rest)
@@ -86,8 +86,8 @@ IsAnswer link window ack = (windows : List ℕ) → Stands link windows → ack 
 abbrev pub StandsOn : LinkState → ℕ → LinkState → Type 0
 StandsOn old window new = (windows : List ℕ) → Stands old windows → Stands new (windows ++ window ∷ [])
 
--- the acknowledgement of a packet after this past, where so many stay in flight, and so many were acknowledged and
--- sent so far
+-- the acknowledgement of a packet after this past, if `stay` packets stay in flight, and `acked` were acknowledged and
+-- `sent` sent so far
 abbrev pub ack_at : LinkCase → Arrival → Past → ℕ → ℕ → ℕ → Ack
 ack_at case arrival past stay acked sent =
     arrival_ack case arrival.sent_at arrival.at arrival.marked past arrival.lost stay acked sent

@@ -1,8 +1,8 @@
 //! A packet in flight that isn't lost, with the time at which its acknowledgement arrives.
-/// A packet in flight that isn't lost.
+/// A packet in flight that isn't lost. It is acknowledged when it arrives.
 #[derive(Clone, Copy)]
 pub struct Arrival {
-    /// How many lost packets lie between the one before and this one.
+    /// How many lost packets have numbers between that of the arrival before and this one's.
     pub lost: u64,
     /// When it was sent, in microseconds.
     pub sent_at: u64,

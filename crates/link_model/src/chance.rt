@@ -33,7 +33,7 @@ impl Trace {
         time_of(self.as_slice(), chance)
     }
 
-    /// The chance after this one.
+    /// The chance after `chance`.
     #[inline]
     pub fn after(&self, chance: Chance) -> Chance
         requires place { chance.place < length self.now }
@@ -44,7 +44,7 @@ impl Trace {
         after(self.as_slice(), chance)
     }
 
-    /// The chance after one whose time is known, and its time.
+    /// The chance after `coming`, with its time.
     #[inline(always)]
     pub(crate) fn coming_after(&self, coming: Coming) -> Coming
         requires coming { IsComing self.now coming }
@@ -55,8 +55,8 @@ impl Trace {
         coming_after(self.as_slice(), coming)
     }
 
-    /// The first chance at or after a time, in microseconds, where this one comes before it. The one after that is
-    /// looked at first.
+    /// The first chance at or after `now`, in microseconds, where `coming` is before it. Looks at the chance after
+    /// `coming` before it searches the trace.
     #[inline(always)]
     pub(crate) fn due(&self, coming: Coming, now: u64) -> Coming
         requires valid { IsTrace self.now }
@@ -73,7 +73,7 @@ impl Trace {
         self.searched(now, coming.chance.place)
     }
 
-    /// The first chance at or after a time, in microseconds. It is looked for at the place `near` first.
+    /// The first chance at or after `now`, in microseconds. Looks at the place `near` first.
     #[inline(never)]
     fn searched(&self, now: u64, near: usize) -> Coming
         requires valid { IsTrace self.now }
@@ -86,7 +86,7 @@ impl Trace {
         Coming { chance, at }
     }
 
-    /// How many chances there are from one on, up to another one that isn't before it.
+    /// How many chances there are from `from` on before `to`, which isn't before it.
     #[inline]
     pub(crate) fn between(&self, from: Chance, to: Chance) -> u128
         requires from { from.place < length self.now }
@@ -97,8 +97,8 @@ impl Trace {
         between(self.as_slice(), from, to)
     }
 
-    /// The first chance that comes at or after a time in microseconds. It goes straight to the turn of the trace in
-    /// which that chance comes, and there looks at the place `near` first, whatever that is.
+    /// The first chance at or after `at`, in microseconds. Goes straight to the turn of the trace in which that chance
+    /// comes, and there looks at the place `near` first. Any number may be `near`.
     #[inline(always)]
     pub(crate) fn find_first_chance(&self, at: u64, near: usize) -> Chance
         requires { at + 1000 < 2 ^ 64 }
@@ -110,7 +110,7 @@ impl Trace {
         find_first_chance(self.as_slice(), at, near)
     }
 
-    /// The first chance is what its name says, from every number on.
+    /// The definition's `first_chance` is the first chance at or after a time, from every number on.
     pub fn first_chance_law(&self)
         ensures { (at start : ℕ) → IsFirstChance self.now at start (first_chance self.now at start) }
     {
@@ -138,7 +138,7 @@ fn time_of(times: &[u32], chance: Chance) -> u64
     1000 * (period(times) * chance.turn + u64::from(times[chance.place]))
 }
 
-/// The chance after this one.
+/// The chance after `chance`.
 #[inline]
 fn after(times: &[u32], chance: Chance) -> Chance
     requires place { chance.place < length times.now }
@@ -158,7 +158,7 @@ fn after(times: &[u32], chance: Chance) -> Chance
     }
 }
 
-/// The chance after one whose time is known, and its time.
+/// The chance after `coming`, with its time.
 #[inline(always)]
 fn coming_after(times: &[u32], coming: Coming) -> Coming
     requires valid { IsTrace times.now }
@@ -185,7 +185,7 @@ fn coming_after(times: &[u32], coming: Coming) -> Coming
     }
 }
 
-/// How many chances there are from one on, up to another one that isn't before it.
+/// How many chances there are from `from` on before `to`, which isn't before it.
 #[inline]
 fn between(times: &[u32], from: Chance, to: Chance) -> u128
     requires from { from.place < length times.now }
@@ -196,8 +196,8 @@ fn between(times: &[u32], from: Chance, to: Chance) -> u128
     u128::from(to.turn - from.turn) * times.len() as u128 + to.place as u128 - from.place as u128
 }
 
-/// The first chance of a trace that comes at or after a time in microseconds. It goes straight to the turn of the
-/// trace in which that chance comes, and there looks at the place `near` first, whatever that is.
+/// The first chance of a trace at or after `at`, in microseconds. Goes straight to the turn of the trace in which that
+/// chance comes, and there looks at the place `near` first. Any number may be `near`.
 #[inline(always)]
 fn find_first_chance(times: &[u32], at: u64, near: usize) -> Chance
     requires valid { IsTrace times.now }
@@ -214,8 +214,8 @@ fn find_first_chance(times: &[u32], at: u64, near: usize) -> Chance
     Chance { turn, place }
 }
 
-/// The place of the first time that is at least so many milliseconds, or the number of times. It is found without
-/// a search where it is the place `near` or the one after that.
+/// The place of the first time that is at least `millis`, in milliseconds, or the number of times. Searches only if
+/// this is neither the place `near` nor the one after it.
 #[inline]
 fn place_from(times: &[u32], millis: u64, near: usize) -> usize
     requires { IsTrace times.now }
@@ -233,7 +233,7 @@ fn place_from(times: &[u32], millis: u64, near: usize) -> usize
     searched_place(times, millis)
 }
 
-/// Whether the place is that of the first time that is at least so many milliseconds.
+/// Whether `place` is that of the first time that is at least `millis`, in milliseconds.
 #[inline]
 fn is_place(times: &[u32], millis: u64, place: usize) -> bool
     requires { IsTrace times.now }
@@ -250,7 +250,7 @@ fn is_place(times: &[u32], millis: u64, place: usize) -> bool
     place == 0 || u64::from(times[place - 1]) < millis
 }
 
-/// The place of the first time that is at least so many milliseconds, or the number of times.
+/// Searches for the place of the first time that is at least `millis`, in milliseconds, or gives the number of times.
 #[inline(never)]
 fn searched_place(times: &[u32], millis: u64) -> usize
     requires { IsTrace times.now }

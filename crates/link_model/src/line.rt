@@ -13,9 +13,9 @@ use crate::trace::Trace;
 pub(crate) struct Line {
     /// The chance after the last one that a packet got.
     pub(crate) next: Coming,
-    /// The first chance that wasn't found to be gone by, or the next one.
+    /// The first chance that isn't known to be gone by; it is `next` if all chances before `next` are.
     pub(crate) later: Coming,
-    /// How many chances there are from that one up to the next one; a packet has each of them.
+    /// How many chances there are from `later` on before `next`. Each of them belongs to a packet.
     pub(crate) waiting: u64,
 }
 
@@ -36,7 +36,7 @@ impl Line {
         }
     }
 
-    /// The line at this time, in microseconds: without the chances that are gone by.
+    /// The line at the time `now`, in microseconds, without the chances that are gone by then.
     #[inline(always)]
     pub(crate) fn moved_to(self, trace: &Trace, now: u64) -> Line
         requires valid { IsTrace trace.now }
@@ -52,7 +52,7 @@ impl Line {
         line
     }
 
-    /// The line without one more chance, which is gone by at this time.
+    /// The line without its chance `later`, which is gone by at the time `now`.
     #[inline(always)]
     fn past_one(self, trace: &Trace, now: u64) -> Line
         requires valid { IsTrace trace.now }
@@ -71,7 +71,8 @@ impl Line {
         }
     }
 
-    /// The line whose next chance isn't before this time, in microseconds.
+    /// The line whose next chance isn't before `now`, in microseconds: chances before then that no packet has are left
+    /// out.
     #[inline(always)]
     pub(crate) fn due(self, trace: &Trace, now: u64) -> Line
         requires valid { IsTrace trace.now }
@@ -96,7 +97,7 @@ impl Line {
         }
     }
 
-    /// The line after a packet got its next chance at this time, in microseconds.
+    /// The line after a packet that was sent at `now`, in microseconds, got its next chance.
     #[inline(always)]
     pub(crate) fn taken(self, trace: &Trace, now: u64) -> Line
         requires valid { IsTrace trace.now }

@@ -3,7 +3,7 @@ ghost use Rattle.std.specs.Prelude.{◌≡◌, ◌+◌, ◌<◌, ◌≤◌, [], 
 ghost use Rattle.ccp_base.specs.Limits.{most_acks};
 ghost use Rattle.link_model.specs.Traces.{IsTrace};
 ghost use Rattle.link_model.specs.Standing.{Stands, IsAnswer, StandsOn};
-ghost use Rattle.link_model.specs.Steps.{next_ack, next_standing};
+ghost use Rattle.link_model.specs.LinkMoves.{next_ack, next_standing};
 
 use crate::link_case::LinkCase;
 use crate::traffic::Traffic;
@@ -20,7 +20,7 @@ pub struct Link {
 
 impl Model for Link {
     ghost use Rattle.link_model.specs.Standing.{LinkState};
-    ghost use Rattle.link_model.specs.Steps.{standing_in};
+    ghost use Rattle.link_model.specs.LinkMoves.{standing_in};
     ghost use Rattle.link_model.specs.Horizon.{IsKept, IsCounted};
 
     ghost Value = { LinkState };
@@ -31,7 +31,7 @@ impl Model for Link {
 }
 
 impl Link {
-    /// A link to which no window was given yet. The room for the packets in flight is reserved here.
+    /// A link before its first call. Reserves memory for 4,096 packets in flight; later calls need no more.
     pub fn new(alloc: Global, case: LinkCase) -> Result<Link, NoMemory>
         ensures case { IfOk result (λ link. link.case ≡ case) }
         ensures stands { IfOk result (λ link. Stands link []) }
@@ -48,10 +48,14 @@ impl Link {
         self.traffic.calls
     }
 
-    /// Gives the link a window, in bytes, and answers the acknowledgement. At most 65,536 windows are given. A
-    /// call takes a step for each packet that it serves or that is listed as lost, one for all further ones where the
-    /// queue is full, and one for each chance of an earlier packet that went by since the call before, so over all
-    /// calls at most one more a packet. The trace is searched at most once, and only after an idle time.
+    /// Sends the packets that `window`, in bytes, allows, and answers with the next acknowledgement. A link takes at
+    /// most 65,536 calls.
+    ///
+    /// A call takes a turn for each packet that it serves or that is listed as lost; once the queue is full, one turn
+    /// sends all packets that are left. A call also catches up on the chances of earlier packets that went by since the
+    /// call before, and on the listed losses among packets that a full queue lost: one call may take a turn for each of
+    /// them, but all calls together take at most one for each packet and one for each listed loss. A call searches the
+    /// trace at most once, and only after an idle time.
     #[inline(always)]
     pub fn next(&mut self, window: u64) -> Ack
         requires { self.old.standing.calls < most_acks }

@@ -11,7 +11,7 @@ use std::alloc::Global;
 /// What a link is: its trace, its queue, its delays and which packets it loses.
 #[derive(Drop)]
 pub struct LinkCase {
-    /// When the link has a chance to send a packet.
+    /// When the link can send a packet.
     pub trace: Trace,
     /// A packet's size, in bytes, 1 to 65,535.
     pub mss: u32,
@@ -19,11 +19,11 @@ pub struct LinkCase {
     pub queue: u32,
     /// From a packet's chance to its acknowledgement, in microseconds, at most 10,000,000.
     pub delay_us: u64,
-    /// How long the sender waits where every packet in flight is lost, in microseconds, 1 to 60,000,000.
+    /// How long the sender waits if every packet in flight is lost, in microseconds, 1 to 60,000,000.
     pub timeout_us: u64,
-    /// The numbers of packets that are lost whatever the queue, each above the one before.
+    /// The numbers of packets that are lost however full the queue is, each above the one before.
     pub losses: Sequence<u32>,
-    /// From how many waiting packets on a packet is marked, 1 to 4,096, or no marks.
+    /// How many packets must wait at least for the next one to be marked, 1 to 4,096. If `None`, no packet is marked.
     pub mark: Option<u32>,
     ghost mss_within: { (1 ≤ mss) × (mss ≤ most_segment_bytes) },
     ghost queue_within: { (1 ≤ queue) × (queue ≤ most_queue) },

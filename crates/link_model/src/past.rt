@@ -20,7 +20,7 @@ impl Past {
         Past { rtt_sample_us: 0 }
     }
 
-    /// What those after this acknowledgement take.
+    /// What acknowledgements after `ack` take from it.
     #[inline(always)]
     pub fn after(ack: &Ack) -> Past
         ensures { result ≡ past_in ack.entry.now }

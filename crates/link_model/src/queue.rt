@@ -12,13 +12,13 @@ pub struct Queue {
     pub next: Chance,
     /// How many packets have a chance later than that time.
     pub waiting: u128,
-    /// The place in the trace where a chance is looked for first at a later time.
+    /// The place in the trace at which a search at a later time looks first.
     pub near: usize,
 }
 
 impl Trace {
-    /// The queue at a time, where `next` is the chance after the last one that a packet got. A chance is looked for at
-    /// the place `near` first, whatever that is.
+    /// The queue at `now`, in microseconds, where `next` is the chance after the last one that a packet got. Looks at the
+    /// place `near` of the trace first. Any number may be `near`.
     #[inline(always)]
     pub fn queue(&self, next: Chance, now: u64, near: usize) -> Queue
         requires place { next.place < length self.now }

@@ -13,7 +13,7 @@ use crate::traffic::PACKETS;
 use ccp_base::Ack;
 
 impl LinkCase {
-    /// How many packets a window allows to be in flight: one at least, and 4,096 at most.
+    /// How many packets a window of `window` bytes allows to be in flight: at least 1 and at most 4,096.
     #[inline]
     pub(crate) fn allowance(&self, window: u64) -> u64
         ensures value { result ≡ allowance self.now window }
@@ -22,7 +22,7 @@ impl LinkCase {
         allowance(self.mss, window)
     }
 
-    /// Whether a packet is marked, where so many packets wait.
+    /// Whether a packet is marked if `queued` packets wait when it is sent.
     #[inline]
     pub(crate) fn marks(&self, queued: u128) -> bool
         ensures { result ≡ is_marked self.now.mark queued }
@@ -30,7 +30,7 @@ impl LinkCase {
         is_marked(self.mark, queued)
     }
 
-    /// The place of the first listed loss from this number on, where those before a place are below the number.
+    /// The place of the first listed loss that isn't below `number`. The first `passed` losses must be below it.
     #[inline]
     pub(crate) fn next_loss(&self, passed: usize, number: u64) -> usize
         requires { (i : ℕ) → i < passed → slice_index self.now.losses i < number }
@@ -40,7 +40,7 @@ impl LinkCase {
         next_loss(self.losses.as_slice(), passed, number)
     }
 
-    /// Whether a number is listed, where the losses before a place are below it, and the one there isn't.
+    /// Whether `number` is listed. The losses before `place` must be below it, and the one there must not be.
     #[inline]
     pub(crate) fn loses(&self, place: usize, number: u64) -> bool
         requires before { (i : ℕ) → i < place → slice_index self.now.losses i < number }
@@ -50,8 +50,8 @@ impl LinkCase {
         is_at(self.losses.as_slice(), place, number)
     }
 
-    /// The acknowledgement of a packet after this past, where so many packets stay in flight, and so many were
-    /// acknowledged and sent, this one counted.
+    /// The acknowledgement of `arrival` after `past`, if `stay` packets stay in flight and `acked` packets were
+    /// acknowledged, this one counted, of `sent` that were sent.
     #[inline]
     pub(crate) fn arrival_ack(
         &self,
@@ -70,8 +70,8 @@ impl LinkCase {
         arrival_ack(self.mss, arrival, past, stay, acked, sent)
     }
 
-    /// The acknowledgement at a timeout at this time after this past, where all of so many packets are lost, and so
-    /// many were acknowledged and sent.
+    /// The acknowledgement of a timeout at `now`, in microseconds, after `past`, if all `lost` packets in flight are lost
+    /// and `acked` packets were acknowledged of `sent` that were sent.
     pub(crate) fn timeout_ack(&self, now: u64, past: Past, lost: u64, acked: u64, sent: u64) -> Ack
         requires acked { acked ≤ most_packets }
         requires sent { sent ≤ most_packets }
@@ -90,7 +90,7 @@ impl LinkCase {
     }
 }
 
-/// How many packets of this size, in bytes, a window allows to be in flight: one at least, and 4,096 at most.
+/// How many packets of `mss` bytes a window of `window` bytes allows to be in flight: at least 1 and at most 4,096.
 #[inline]
 pub fn allowance(mss: u32, window: u64) -> u64
     requires { 1 ≤ mss }
@@ -100,7 +100,7 @@ pub fn allowance(mss: u32, window: u64) -> u64
     (window / u64::from(mss)).max(1).min(PACKETS as u64)
 }
 
-/// Bytes a second: that many packets of this size, in bytes, up to now, or 0 at time 0.
+/// The rate in bytes a second of `packets` packets of `mss` bytes from time 0 to `now`, in microseconds; 0 at time 0.
 #[inline]
 fn rate(mss: u32, packets: u64, now: u64) -> u64
     requires mss { mss ≤ most_segment_bytes }
@@ -113,7 +113,7 @@ fn rate(mss: u32, packets: u64, now: u64) -> u64
     u64::from(mss) * packets * 1_000_000 / now
 }
 
-/// Whether a packet is marked, where so many packets wait and this many or more mean a mark.
+/// Whether a packet is marked if `queued` packets wait when it is sent: at least `mark` of them mean a mark.
 #[inline]
 pub fn is_marked(mark: Option<u32>, queued: u128) -> bool
     ensures { result ≡ is_marked mark queued }
@@ -124,8 +124,8 @@ pub fn is_marked(mark: Option<u32>, queued: u128) -> bool
     }
 }
 
-/// The acknowledgement of a packet of this size, in bytes, after this past, where so many packets stay in flight, and
-/// so many were acknowledged and sent, this one counted.
+/// The acknowledgement of `arrival`, a packet of `mss` bytes, after `past`, if `stay` packets stay in flight and `acked`
+/// packets were acknowledged, this one counted, of `sent` that were sent.
 #[inline]
 pub fn arrival_ack(mss: u32, arrival: Arrival, past: Past, stay: u64, acked: u64, sent: u64) -> Ack
     requires mss { mss ≤ most_segment_bytes }
@@ -156,8 +156,8 @@ pub fn arrival_ack(mss: u32, arrival: Arrival, past: Past, stay: u64, acked: u64
     }
 }
 
-/// The acknowledgement at a timeout at this time after this past, where all of so many packets of this size, in bytes,
-/// are lost, and so many were acknowledged and sent.
+/// The acknowledgement of a timeout at `now`, in microseconds, after `past`, if all `lost` packets in flight, of `mss`
+/// bytes each, are lost and `acked` packets were acknowledged of `sent` that were sent.
 pub fn timeout_ack(mss: u32, now: u64, past: Past, lost: u64, acked: u64, sent: u64) -> Ack
     requires mss { mss ≤ most_segment_bytes }
     requires acked { acked ≤ most_packets }
@@ -175,7 +175,7 @@ pub fn timeout_ack(mss: u32, now: u64, past: Past, lost: u64, acked: u64, sent: 
     }
 }
 
-/// The place of the first listed loss from this number on, where those before a place are below the number.
+/// The place of the first listed loss that isn't below `number`. The first `passed` losses must be below it.
 #[inline]
 pub fn next_loss(losses: &[u32], passed: usize, number: u64) -> usize
     requires { (i : ℕ) → i < passed → slice_index losses.now i < number }
@@ -192,7 +192,7 @@ pub fn next_loss(losses: &[u32], passed: usize, number: u64) -> usize
     place
 }
 
-/// Whether a number is listed, where the losses before a place are below it, and the one there isn't.
+/// Whether `number` is listed. The losses before `place` must be below it, and the one there must not be.
 #[inline]
 pub fn is_at(losses: &[u32], place: usize, number: u64) -> bool
     requires rises { IsStrictlyIncreasing losses.now }
@@ -206,7 +206,7 @@ pub fn is_at(losses: &[u32], place: usize, number: u64) -> bool
     u64::from(losses[place]) == number
 }
 
-/// A number where something is so, and 0 where it isn't.
+/// `number` if `truth` holds, and 0 otherwise.
 #[inline]
 fn number_if(truth: bool, number: u64) -> u64
     ensures { result ≡ number_if truth number }

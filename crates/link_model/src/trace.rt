@@ -68,8 +68,9 @@ impl Trace {
     ghost use Rattle.link_model.specs.TraceText.{trace_of};
     ghost use Rattle.link_model.specs.declared.trace.TraceFault.TheVariants as fault;
 
-    /// The trace of a text: a whole number from 0 to 3,600,000 a line, in decimal digits. A CR at a line's end,
-    /// blanks around and blank lines are passed over. The refusals come in the order of their variants.
+    /// The trace of a text: a whole number from 0 to 3,600,000 a line, in decimal digits. A CR at a line's end, blanks
+    /// around the number and blank lines are ignored. If several refusals hold, the error is the first one in the order
+    /// of `TraceFault`.
     pub fn read(alloc: Global, text: &[u8]) -> Result<Trace, TraceFault>
         ensures ok { IfOk result (λ trace. trace_of text.now ≡ Ok trace) }
         ensures err { IfErr result (λ f. f ≢ fault.NoMemory → trace_of text.now ≡ Err f) }

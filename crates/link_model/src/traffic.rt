@@ -3,7 +3,7 @@ ghost use Rattle.std.specs.Prelude.{◌≡◌, ℕ, ◌+◌, ◌-◌, ◌*◌, �
 ghost use Rattle.ccp_base.specs.Limits.{most_flight, most_acks};
 ghost use Rattle.link_model.specs.Counts.{most_packets};
 ghost use Rattle.link_model.specs.Standing.{first_standing};
-ghost use Rattle.link_model.specs.Steps.{standing_in, TakesStep, SendsOn, with_lost, served_now, sending, ack_of, after_ack};
+ghost use Rattle.link_model.specs.LinkMoves.{standing_in, TakesStep, SendsOn, with_lost, served_now, sending, ack_of, after_ack};
 ghost use Rattle.link_model.specs.Lines.{IsMovedTo};
 ghost use Rattle.link_model.specs.Horizon.{IsKept, IsCounted};
 
@@ -44,7 +44,7 @@ pub(crate) struct Traffic {
 }
 
 impl Traffic {
-    /// Nothing was sent yet. The room for the packets in flight is reserved.
+    /// What is under way before the first call: nothing. Reserves memory for the packets in flight.
     pub(crate) fn new(alloc: Global, case: &LinkCase) -> Result<Traffic, AllocError>
         ensures kept { IfOk result (λ t. IsKept case.now t) }
         ensures counted { IfOk result (λ t. IsCounted t) }
@@ -67,7 +67,7 @@ impl Traffic {
         })
     }
 
-    /// Sends so many packets now.
+    /// Sends `more` packets at the link's time.
     #[inline(always)]
     pub(crate) fn send(&mut self, case: &LinkCase, more: u64)
         requires kept { IsKept case.now self.old }
@@ -91,7 +91,8 @@ impl Traffic {
         }
     }
 
-    /// Sends one packet of so many, or all of them where the queue is full. Answers how many are left to be sent.
+    /// Sends one of the `left` packets that are left to be sent, or all of them if the queue is full. Answers how many are
+    /// left then.
     #[inline(always)]
     fn send_some(&mut self, case: &LinkCase, left: u64) -> u64
         requires kept { IsKept case.now self.old }
@@ -122,7 +123,7 @@ impl Traffic {
         left - 1
     }
 
-    /// Sends so many packets that are lost.
+    /// Sends `more` packets, all of which are lost.
     #[inline]
     fn lose(&mut self, case: &LinkCase, more: u64)
         requires kept { IsKept case.now self.old }

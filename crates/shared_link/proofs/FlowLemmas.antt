@@ -6,10 +6,11 @@ use Rattle.link_model.specs.Chances.{chance_time}
 use Rattle.link_model.specs.Link.{Packet, Fate, Lost, Served, GivenAck, Numbered, packet_and_lost_below, all_below, chance_past, left_by, lost_by, in_flight, acked_of, Next, arrives, all_lost, next_of}
 use Rattle.link_model.specs.Link as link
 use Rattle.link_model.specs.Standing.{packets_of}
+use Rattle.link_model.specs.Flights.{IsServedWithin, AllServedWithin, RisesFrom, AllBelow}
 use Rattle.link_model.proofs.Whole.{staying, staying_by}
 use Rattle.link_model.proofs.ChanceLemmas.{chance_time_rises}
-use Rattle.link_model.proofs.ServedLemmas.{IsServedWithin, AllServedWithin, all_served_within-more, all_served_within-push, all_served_within-staying}
-use Rattle.link_model.proofs.FlightLemmas.{RisesFrom, AllBelow, RisesFrom-push, AllBelow-push, AllBelow-more, RisesFrom-left_by, AllBelow-left_by, all_take_below-more, in_flight-sent, packets_of-push, left_by-all_below, MatchNext, match_next}
+use Rattle.link_model.proofs.ServedLemmas.{all_served_within-more, all_served_within-push, all_served_within-staying}
+use Rattle.link_model.proofs.FlightLemmas.{RisesFrom-push, AllBelow-push, AllBelow-more, RisesFrom-left_by, AllBelow-left_by, all_take_below-more, in_flight-sent, packets_of-push, left_by-all_below, MatchNext, match_next}
 use Rattle.link_model.proofs.CountLemmas.{count_next}
 use Rattle.shared_link.specs.declared.shared_case.FlowLink.{FlowLink}
 use Rattle.shared_link.specs.Reached.{ArrivesFrom, after_arrival, ArriveFrom, FlowSettled}

@@ -1,10 +1,10 @@
 -- The flows of a shared link, of which one after the other is changed.
-use Rattle.std.proofs.Common.{◌≡◌, ◌≢◌, ℕ, zero, suc, ◌+◌, ◌-◌, ◌<◌, ◌≤◌, true, false, cond, eqb, min, max, List, [], ◌∷◌, ◌++◌, length, get_or, set, vec_capacity, ap, sym, ◌∙◌, subst, arith, inl, inr, get_or-set_other, get_or-set_same}
+use Rattle.std.proofs.Common.{◌≡◌, ◌≢◌, ℕ, zero, suc, ◌+◌, ◌-◌, ◌<◌, ◌≤◌, true, false, cond, eqb, max, List, [], ◌∷◌, ◌++◌, length, get_or, set, vec_capacity, ap, sym, ◌∙◌, subst, arith, inl, inr, get_or-set_other, get_or-set_same}
 use Rattle.std.proofs.lemmas.Bool.{cases_lt}
 use Rattle.std.proofs.lemmas.Bool.Decides.{nat_tests}
-use Rattle.std.proofs.lemmas.List.{length-set}
+use Rattle.std.proofs.lemmas.List.{length-set, get_or_append_left}
+use Rattle.std.proofs.Math.Seq.{get_or-append_seam}
 use Rattle.ccp_base.specs.declared.ack.Ack.{Ack}
-use Rattle.ccp_base.specs.Limits.{most_flight}
 use Rattle.link_model.specs.Traces.{IsTrace}
 use Rattle.link_model.specs.Chances.{number_of, first_chance}
 use Rattle.link_model.specs.Link.{Fate, GivenAck, chance_past, chances_past, waiting, fate_of}
@@ -17,7 +17,7 @@ use Rattle.shared_link.specs.declared.round.Counts.{Counts}
 use Rattle.shared_link.specs.SharedRounds.{Sent, flow_at, ask_at, every_packet, own_packets, packet_after, with_packet, with_givens, acks_in, each_flow, sum_of}
 use Rattle.shared_link.specs.SharedStanding.{flow_standing}
 use Rattle.shared_link.specs.Reached.{Settled}
-use Rattle.shared_link.specs.Kept.{flow_in, Answered, answered_all, with_one, fate_now, IsSending, Follows, IsFlowReady, AreReady, HaveRoom, answers_of, AnsweredTo}
+use Rattle.shared_link.specs.Kept.{flow_in, Answered, answered_all, with_one, fate_now, IsSending, Follows, IsFlowReady, AreReady, most_answers, HaveRoom, answers_of, AnsweredTo}
 use Rattle.shared_link.proofs.KeptLemmas.{kept-sent, kept-answers}
 use Rattle.shared_link.proofs.RoundLemmas.{settled-packet}
 
@@ -42,6 +42,18 @@ each_set P flows at traffic within all here flow other inside =
           ]
     ]
 
+-- what holds of each flow, where one is put after all others
+pub each_push : (P : ℕ → FlowTraffic → Type 0) (flows : List FlowTraffic) (last : FlowTraffic) → ((flow : ℕ) (other : FlowTraffic) → flow < length flows → P flow (get_or flows flow other)) → P (length flows) last
+    → (flow : ℕ) (other : FlowTraffic) → flow < length flows + 1 → P flow (get_or (flows ++ last ∷ []) flow other)
+each_push P flows last all here flow other inside =
+    elim (cases_lt flow (length flows)) as (λ _. P flow (get_or (flows ++ last ∷ []) flow other)) [
+      | inl below ↦ subst (λ (t : FlowTraffic). P flow t) (sym (get_or_append_left flows (last ∷ []) other flow below)) (all flow other below)
+      | inr not_below ↦
+          (let same : length flows ≡ flow = omega (arith, inside) in
+          subst (λ (k : ℕ). P k (get_or (flows ++ last ∷ []) k other)) same
+          (subst (λ (t : FlowTraffic). P (length flows) t) (sym (get_or-append_seam flows last [] other)) here))
+    ]
+
 pub ready-set : (case : SharedCase) (rounds : ℕ) (flows : List FlowTraffic) (at : ℕ) (traffic : FlowTraffic) → at < length flows → AreReady case rounds flows → IsFlowReady (flow_at case at) rounds traffic
     → AreReady case rounds (set flows at traffic)
 ready-set case rounds flows at traffic within ready here = record {
@@ -50,11 +62,11 @@ ready-set case rounds flows at traffic within ready here = record {
       each_set (λ f t. IsFlowReady (flow_at case f) rounds t) flows at traffic within (λ f o i apart. ready.each f o i) here flow other (omega (arith, inside, length-set flows at traffic));
 }
 
-pub room-set : (asks : List Ask) (bound more : ℕ) (flows : List FlowTraffic) (at : ℕ) (traffic : FlowTraffic) → at < length flows → more ≤ length flows → HaveRoom asks bound flows
-    → ((flow : ℕ) → flow < more → flow ≢ at → flow < bound) → min (ask_at asks at).left most_flight ≤ vec_capacity traffic.acks
-    → HaveRoom asks more (set flows at traffic)
-room-set asks bound more flows at traffic within most room before here flow other below =
-    each_set (λ f t. f < more → min (ask_at asks f).left most_flight ≤ vec_capacity t.acks) flows at traffic within
+pub room-set : (case : SharedCase) (asks : List Ask) (bound more : ℕ) (flows : List FlowTraffic) (at : ℕ) (traffic : FlowTraffic) → at < length flows → more ≤ length flows → HaveRoom case asks bound flows
+    → ((flow : ℕ) → flow < more → flow ≢ at → flow < bound) → most_answers case asks at traffic ≤ vec_capacity traffic.acks
+    → HaveRoom case asks more (set flows at traffic)
+room-set case asks bound more flows at traffic within most room before here flow other below =
+    each_set (λ f t. f < more → most_answers case asks f t ≤ vec_capacity t.acks) flows at traffic within
     (λ f o i apart under. room f o (before f under apart)) (λ under. here) flow other (omega arith) below
 
 -- ---- one more packet

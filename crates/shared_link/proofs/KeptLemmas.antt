@@ -9,7 +9,7 @@ use Rattle.link_model.specs.Link.{Packet, Fate, Lost, Served, GivenAck, Numbered
 use Rattle.link_model.specs.Link as model
 use Rattle.link_model.specs.Counts.{lost_of}
 use Rattle.link_model.specs.Standing.{packets_of}
-use Rattle.link_model.specs.Steps.{count_of}
+use Rattle.link_model.specs.LinkMoves.{count_of}
 use Rattle.link_model.proofs.Whole.{Landing, Arrived, AllLost, landing, landing_by, staying}
 use Rattle.link_model.proofs.HorizonLemmas.{count-lost, count-push}
 use Rattle.link_model.proofs.FlightLemmas.{MatchNext, IsNextBelow, next_below, left_by-all_below, length-packets_of}

@@ -4,5 +4,6 @@ mod FlowsLemmas
 mod KeptLemmas
 mod LinkLemmas
 mod RoundLemmas
+mod SendingLemmas
 mod TimeLemmas
 mod WorkedRounds

@@ -6,7 +6,7 @@ use Rattle.link_model.specs.declared.arrival.Arrival.{Arrival}
 use Rattle.link_model.specs.declared.chance.Chance.{Chance}
 use Rattle.link_model.specs.Traces.{longest_period, period, IsTrace}
 use Rattle.link_model.specs.Chances.{number_of, chance_time, first_chance}
-use Rattle.link_model.specs.Steps.{count_of}
+use Rattle.link_model.specs.LinkMoves.{count_of}
 use Rattle.link_model.proofs.ChanceLemmas.{chance_time_rises, chance_time-suc, first_chance_soon, le_first_chance, turn_below}
 use Rattle.link_model.proofs.SendingLemmas.{one_more, no_more}
 use Rattle.shared_link.specs.declared.sending.Sending.{Sending}
@@ -16,7 +16,7 @@ module _ (times : List ℕ) (trace : IsTrace times) where
   pub hour : 1000 * period times ≤ longest_period
   hour = omega (arith, trace.within (length times - 1))
 
-  -- so many chances later, at most so many hours later
+  -- n chances later at most n of the longest periods passed
   pub chance_time-more : (n k : ℕ) → chance_time times (k + n) ≤ chance_time times k + n * longest_period
   chance_time-more zero k = omega (arith, chance_time_rises times trace (k + 0) k (omega arith))
   chance_time-more (suc n) k =
@@ -30,21 +30,21 @@ module _ (times : List ℕ) (trace : IsTrace times) where
 
   module _ (sending : Sending) (is : IsSending times sending) (waits : sending.queue.waiting < most_queue) where
     -- the chance that is given next
-    pub own_soon : chance_time times (number_of times sending.queue.next) ≤ sending.now + 14745600000001
+    pub own_soon : chance_time times (number_of times sending.queue.next) ≤ sending.now + most_queue * longest_period + 1
     own_soon =
         let next = number_of times sending.next in
         let own = number_of times sending.queue.next in
         let due = first_chance times sending.now 0 in
         let later = first_chance times (sending.now + 1) 0 in
-        elim (cases_lt next due) as (λ _. chance_time times own ≤ sending.now + 14745600000001) [
+        elim (cases_lt next due) as (λ _. chance_time times own ≤ sending.now + most_queue * longest_period + 1) [
           | inl before ↦
               (let same : own ≡ due = omega (arith, is.next) in
               let again : chance_time times own ≡ chance_time times due = ap (chance_time times) same in
               omega (arith, again, due_soon sending.now))
           | inr not_before ↦
-              (let same : own ≤ later + 4095 = omega (arith, is.next, is.waiting) in
-              let rises = chance_time_rises times trace own (later + 4095) same in
-              omega (arith, rises, chance_time-more 4095 later, due_soon (sending.now + 1)))
+              (let same : own ≤ later + (most_queue - 1) = omega (arith, is.next, is.waiting) in
+              let rises = chance_time_rises times trace own (later + (most_queue - 1)) same in
+              omega (arith, rises, chance_time-more (most_queue - 1) later, due_soon (sending.now + 1)))
         ]
 
     pub own_not_before : sending.now ≤ chance_time times (number_of times sending.queue.next)

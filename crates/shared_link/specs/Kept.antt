@@ -1,13 +1,13 @@
 -- What a shared link keeps, step by step: one more packet of a flow, and a flow's acknowledgements in a round.
 use Rattle.std.specs.Prelude.{map, min, vec_capacity, ◌≡◌, ℕ, zero, suc, ◌+◌, ◌-◌, ◌*◌, ◌<◌, ◌≤◌, max, ◌&&◌, nat_lt, Option, Some, None, if◌then◌else◌, List, [], ◌∷◌, ◌++◌, length, drop, get_or, slice_get, slice_index}
 use Rattle.ccp_base.specs.declared.ack.Ack.{Ack}
-use Rattle.ccp_base.specs.Limits.{most_flight, most_rounds, most_quantum_us}
+use Rattle.ccp_base.specs.Limits.{most_flight, most_queue, most_delay_us, most_rounds, most_quantum_us}
 use Rattle.link_model.specs.declared.arrival.Arrival.{Arrival}
 use Rattle.link_model.specs.declared.chance.Chance.{Chance}
-use Rattle.link_model.specs.Traces.{IsTrace}
+use Rattle.link_model.specs.Traces.{longest_period, IsTrace}
 use Rattle.link_model.specs.Chances.{number_of, chance_time, first_chance}
 use Rattle.link_model.specs.Link.{Fate, Served, GivenAck, chance_past, chances_past, is_marked, fate_of, past_in, arrival_ack_of, timeout_ack_of}
-use Rattle.link_model.specs.Steps.{count_of}
+use Rattle.link_model.specs.LinkMoves.{count_of}
 use Rattle.link_model.specs.Horizon.{ArriveWithin}
 use Rattle.shared_link.specs.declared.shared_case.FlowLink.{FlowLink}
 use Rattle.shared_link.specs.declared.shared_case.SharedCase.{SharedCase}
@@ -30,7 +30,7 @@ flow_in flow = record {
   gone = flow.gone;
 }
 
--- a link of these parts, by the numbers of the trace's chances
+-- how a link of these parts stands; it keeps chances by their turns and places, the standing has their numbers
 abbrev pub state_of : SharedCase → ℕ → Chance → List FlowTraffic → SharedState
 state_of case rounds next flows = record {
   case = case;
@@ -39,11 +39,17 @@ state_of case rounds next flows = record {
   flows = map flow_in flows;
 }
 
--- times are below this one, in microseconds
-abbrev pub horizon : ℕ
-horizon = 1000000000000000
+-- how long after a round's time the next chance may come, in microseconds. At most `most_queue` packets wait; they have
+-- the first chances from a microsecond after that time on, and the next chance is the one after theirs. Each of these
+-- comes at most the longest period after the one before.
+abbrev pub span : ℕ
+span = (most_queue + 1) * longest_period + 1
 
--- what holds of the traffic of a flow
+-- all times are at most this, in microseconds: the latest round's time, how long after it a chance may come, and a delay
+abbrev pub horizon : ℕ
+horizon = most_rounds * most_quantum_us + span + most_delay_us
+
+-- what holds of the traffic of a flow at every moment
 pub record IsFlowKept (link : FlowLink) (flow : FlowTraffic) : Type 0 where
   pub capacity : flow.flight.capacity ≡ most_flight
   pub count : flow.in_flight ≡ count_of flow.flight.items flow.lost
@@ -67,12 +73,12 @@ with_one times delay now fate standing = record {
   gone = standing.gone;
 }
 
--- the fate of the packet that is sent next, where the queue holds so many and the flow has sent so many
+-- the fate of the packet that is sent next, if the queue holds `room` packets and the flow has sent `sent`
 abbrev pub fate_now : List ℕ → FlowLink → ℕ → ℕ → Sending → Fate
 fate_now times link room sent sending =
     fate_of link.losses room link.mark sent sending.queue.waiting (number_of times sending.queue.next)
 
--- the fate of one that gets the queue's next chance
+-- the fate of a packet that gets the queue's next chance
 abbrev pub served_now : List ℕ → FlowLink → Sending → Fate
 served_now times link sending = Served (number_of times sending.queue.next) (is_marked link.mark sending.queue.waiting)
 
@@ -80,10 +86,6 @@ served_now times link sending = Served (number_of times sending.queue.next) (is_
 abbrev pub IsNextChance : List ℕ → FlowLink → ℕ → ℕ → Sending → Sending → Type 0
 IsNextChance times link room sent old new =
     number_of times new.next ≡ chance_past (fate_now times link room sent old) (number_of times old.next)
-
--- how long after now the last chance may be, in microseconds: so many hours as packets may wait, and two more
-abbrev pub span : ℕ
-span = 14752800000001
 
 -- the sending of a round: the queue is that at its time, after the chances that were given
 pub record IsSending (times : List ℕ) (sending : Sending) : Type 0 where
@@ -161,7 +163,7 @@ answered_by link end answered None then_ = timed_out link end answered
 answered_by link end answered (Some arrival) then_ =
     if nat_lt arrival.at end then then_ (with_arrival link arrival answered) else answered
 
--- the acknowledgements before a time, at most so many
+-- the acknowledgements before the time `end`, at most `left`
 abbrev pub answered_all : FlowLink → ℕ → ℕ → Answered → Answered
 answered_all link end zero answered = answered
 answered_all link end (suc left) answered =
@@ -182,7 +184,7 @@ pub record Follows (case : SharedCase) (flows : List FlowTraffic) (sending : Sen
   pub chance : number_of case.trace sending.next ≡ chances_past (every_packet sent)
   pub traffic : FlowsFollow case flows sent givens
 
--- what holds of a flow's traffic after so many rounds
+-- what holds of a flow's traffic after `rounds` rounds
 pub record IsFlowReady (link : FlowLink) (rounds : ℕ) (flow : FlowTraffic) : Type 0 where
   pub kept : IsFlowKept link flow
   pub sent : flow.sent ≤ most_flight * rounds + flow.in_flight
@@ -193,13 +195,19 @@ pub record AreReady (case : SharedCase) (rounds : ℕ) (flows : List FlowTraffic
   pub each : (flow : ℕ) (other : FlowTraffic) → flow < length flows
       → IsFlowReady (flow_at case flow) rounds (get_or flows flow other)
 
--- there is room for each of the first flows' acknowledgements, so many flows
-abbrev pub HaveRoom : List Ask → ℕ → List FlowTraffic → Type 0
-HaveRoom asks first flows =
-    (flow : ℕ) (other : FlowTraffic) → flow < first
-    → min (ask_at asks flow).left most_flight ≤ vec_capacity (get_or flows flow other).acks
+-- the most acknowledgements that a flow with this traffic can get in a round: one for each packet that is in flight or
+-- that it may have in flight, and no more than it has left
+abbrev pub most_answers : SharedCase → List Ask → ℕ → FlowTraffic → ℕ
+most_answers case asks flow traffic = min (ask_at asks flow).left (max traffic.in_flight (allowed case asks flow))
 
--- some turns of a round's sending were made: the packets sent so far, after which so many turns more come to all
+-- there is room for the acknowledgements of each of the first `first` flows
+abbrev pub HaveRoom : SharedCase → List Ask → ℕ → List FlowTraffic → Type 0
+HaveRoom case asks first flows =
+    (flow : ℕ) (other : FlowTraffic) → flow < first
+    → most_answers case asks flow (get_or flows flow other) ≤ vec_capacity (get_or flows flow other).acks
+
+-- some turns of a round's sending were made: from the packets sent so far, `left` more turns lead to the same packets as
+-- all turns do from `sent`
 pub record Turned (case : SharedCase) (asks : List Ask) (flows : List FlowTraffic) (sending : Sending) (left : ℕ) (sent : List Sent) (givens : ℕ → List GivenAck) : Type 0 where
   pub so_far : List Sent
   pub follows : Follows case flows sending so_far givens
@@ -211,7 +219,7 @@ abbrev pub answers_of : SharedCase → List Ask → ℕ → List Sent → (ℕ �
 answers_of case asks end sent givens flow =
     answers case.trace (flow_at case flow) end (own_packets flow sent) (ask_at asks flow).left (givens flow)
 
--- the first flows, so many, were answered
+-- the first `first` flows have their acknowledgements of the round
 pub record AnsweredTo (case : SharedCase) (asks : List Ask) (end : ℕ) (flows : List FlowTraffic) (answers : List (List Ack)) (first : ℕ) (sent : List Sent) (givens : ℕ → List GivenAck) : Type 0 where
   pub acks : answers ≡ each_flow first (λ flow. acks_in (answers_of case asks end sent givens flow))
   pub done : (flow : ℕ) (other : FlowTraffic) → flow < first

@@ -1,5 +1,5 @@
 -- What is kept of all flows, step by step: who sends next, what is sent in a round, and what is acknowledged.
-use Rattle.std.specs.Prelude.{vec_capacity, ◌≡◌, ◌≢◌, ℕ, ◌≤◌, min, Bool, if◌then◌else◌, List, [], length, get_or}
+use Rattle.std.specs.Prelude.{vec_capacity, ◌≡◌, ◌≢◌, ℕ, ◌≤◌, Bool, if◌then◌else◌, List, [], length, get_or}
 use Rattle.ccp_base.specs.declared.ack.Ack.{Ack}
 use Rattle.ccp_base.specs.Limits.{most_flight}
 use Rattle.link_model.specs.Link.{GivenAck}
@@ -11,7 +11,7 @@ use Rattle.shared_link.specs.declared.flows.Flows.{Flows}
 use Rattle.shared_link.specs.declared.sending.Sending.{Sending}
 use Rattle.shared_link.specs.SharedRounds.{Sent, flow_at, ask_at, allowed, lacks, some_lacks, with_packet, turn_of, turns_of, counts_in}
 use Rattle.shared_link.specs.Reached.{Settled}
-use Rattle.shared_link.specs.Kept.{flow_in, answered_all, IsFlowReady, AnsweredTo, FlowsFollow, Follows}
+use Rattle.shared_link.specs.Kept.{flow_in, answered_all, IsFlowReady, most_answers, AnsweredTo, FlowsFollow, Follows}
 
 -- ---- who sends next
 
@@ -21,13 +21,13 @@ TellsLack case asks flows flow answer =
     (sent : List Sent) (givens : ℕ → List GivenAck) → FlowsFollow case flows.traffic.items sent givens
     → answer ≡ lacks (allowed case asks) givens flow sent
 
--- the answer says whether some flow has
+-- the answer says whether some flow has fewer packets in flight than it may have, whatever was sent
 abbrev pub TellsSomeLack : SharedCase → List Ask → Flows → Bool → Type 0
 TellsSomeLack case asks flows answer =
     (sent : List Sent) (givens : ℕ → List GivenAck) → FlowsFollow case flows.traffic.items sent givens
     → answer ≡ some_lacks (allowed case asks) givens (length case.flows) sent
 
--- the counts are those of what was sent and acknowledged in so many rounds, whatever that was
+-- the counts are those of what was sent and acknowledged in `rounds` rounds, whatever that was
 abbrev pub TellsCounts : SharedCase → ℕ → Flows → Counts → Type 0
 TellsCounts case rounds flows counts =
     (sent : List Sent) (givens : ℕ → List GivenAck) → FlowsFollow case flows.traffic.items sent givens
@@ -35,39 +35,41 @@ TellsCounts case rounds flows counts =
 
 -- ---- what is sent
 
--- the sending goes on: whatever packets and acknowledgements it was after, it is then after these packets
+-- the flows send more: if the link had these packets and acknowledgements before, it has the packets that `more` gives
+-- afterwards
 abbrev pub SendsOn : SharedCase → Flows → Sending → Flows → Sending → ((ℕ → List GivenAck) → List Sent → List Sent) → Type 0
 SendsOn case old from new to more =
     (sent : List Sent) (givens : ℕ → List GivenAck) → Follows case old.traffic.items from sent givens
     → Follows case new.traffic.items to (more givens sent) givens
 
--- by one packet of a flow that has fewer in flight than it may have
+-- a flow sends one packet if it has fewer in flight than it may have
 abbrev pub SendsOne : SharedCase → List Ask → ℕ → Flows → Sending → Flows → Sending → Type 0
 SendsOne case asks flow old from new to =
     SendsOn case old from new to
     (λ givens sent. if lacks (allowed case asks) givens flow sent then with_packet case from.now flow sent else sent)
 
--- by a turn of all flows
+-- all flows take a turn
 abbrev pub SendsTurn : SharedCase → List Ask → Flows → Sending → Flows → Sending → Type 0
 SendsTurn case asks old from new to =
     SendsOn case old from new to (λ givens sent. turn_of case from.now (allowed case asks) givens (length case.flows) sent)
 
--- by all turns of a round
+-- all flows take all turns of a round
 abbrev pub SendsAll : SharedCase → List Ask → Flows → Sending → Flows → Sending → Type 0
 SendsAll case asks old from new to =
     SendsOn case old from new to (λ givens sent. turns_of case from.now (allowed case asks) givens most_flight sent)
 
 -- ---- what is acknowledged
 
--- the flow's traffic is ready after so many rounds
+-- the flow's traffic is ready after `rounds` rounds
 abbrev pub IsReadyAt : SharedCase → ℕ → Flows → ℕ → Type 0
 IsReadyAt case rounds flows flow =
     (other : FlowTraffic) → IsFlowReady (flow_at case flow) rounds (get_or flows.traffic.items flow other)
 
 -- there is room for the flow's acknowledgements of a round
-abbrev pub HasRoomAt : List Ask → Flows → ℕ → Type 0
-HasRoomAt asks flows flow =
-    (other : FlowTraffic) → min (ask_at asks flow).left most_flight ≤ vec_capacity (get_or flows.traffic.items flow other).acks
+abbrev pub HasRoomAt : SharedCase → List Ask → Flows → ℕ → Type 0
+HasRoomAt case asks flows flow =
+    (other : FlowTraffic) → most_answers case asks flow (get_or flows.traffic.items flow other)
+    ≤ vec_capacity (get_or flows.traffic.items flow other).acks
 
 -- all flows but this one are as they were
 abbrev pub AreOthersKept : ℕ → Flows → Flows → Type 0

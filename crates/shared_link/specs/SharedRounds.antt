@@ -51,13 +51,14 @@ own_flight flow sent givens = in_flight (own_packets flow sent) givens
 
 -- ---- sending
 
--- how many packets a flow may have in flight: none where it has no acknowledgement left
+-- how many packets a flow may have in flight: none if it has no acknowledgement left
 abbrev pub allowed : SharedCase → List Ask → ℕ → ℕ
 allowed case asks flow =
     if (ask_at asks flow).left == 0 then 0 else allowance_of (flow_at case flow).mss (ask_at asks flow).window
 
--- the packet that a flow sends at this time after these: lost by its number in its flow or where as many packets of
--- all flows wait as the queue holds, else served at the first chance after every chance given before
+-- the packet that a flow sends at the time `now` after these. It is lost if its number in its flow is listed, or if as
+-- many packets of all flows wait as the queue holds. Otherwise it gets the first chance that isn't before now and is
+-- after every chance given before.
 abbrev pub packet_after : SharedCase → ℕ → ℕ → List Sent → Packet
 packet_after case now flow sent = record {
   sent_at = now;
@@ -72,12 +73,12 @@ with_packet case now flow sent = record { flow = flow; packet = packet_after cas
 abbrev pub lacks : (ℕ → ℕ) → (ℕ → List GivenAck) → ℕ → List Sent → Bool
 lacks may givens flow sent = nat_lt (length (own_flight flow sent (givens flow))) (may flow)
 
--- some of the first flows, so many, has fewer
+-- some of the first flows has fewer
 abbrev pub some_lacks : (ℕ → ℕ) → (ℕ → List GivenAck) → ℕ → List Sent → Bool
 some_lacks may givens zero sent = false
 some_lacks may givens (suc flow) sent = lacks may givens flow sent || some_lacks may givens flow sent
 
--- each of the first flows, so many, sends a packet in turn where it has fewer
+-- each of the first flows in turn sends a packet if it has fewer packets in flight than it may have
 abbrev pub turn_of : SharedCase → ℕ → (ℕ → ℕ) → (ℕ → List GivenAck) → ℕ → List Sent → List Sent
 turn_of case now may givens zero sent = sent
 turn_of case now may givens (suc flow) sent =
@@ -85,7 +86,7 @@ turn_of case now may givens (suc flow) sent =
     then with_packet case now flow (turn_of case now may givens flow sent)
     else turn_of case now may givens flow sent
 
--- turn after turn until no flow has fewer packets in flight than it may have, at most so many turns
+-- turn after turn until no flow has fewer packets in flight than it may have, at most `turns` turns
 abbrev pub turns_of : SharedCase → ℕ → (ℕ → ℕ) → (ℕ → List GivenAck) → ℕ → List Sent → List Sent
 turns_of case now may givens zero sent = sent
 turns_of case now may givens (suc turns) sent =
@@ -97,7 +98,8 @@ turns_of case now may givens (suc turns) sent =
 abbrev pub round_time : SharedCase → ℕ → ℕ
 round_time case rounds = rounds * case.quantum_us
 
--- the packets after the sending of one more round; no flow may have more packets in flight than there are turns
+-- the packets after the sending of one more round: the 4,096 turns are always enough, since afterwards no flow has fewer
+-- packets in flight than it may have, by the law `SharedCase::sending_law`
 abbrev pub sent_by : SharedCase → List Ask → SharedRun → List Sent
 sent_by case asks run = turns_of case (round_time case run.rounds) (allowed case asks) run.givens most_flight run.sent
 
@@ -112,8 +114,8 @@ next_where times delay end number sent_at Lost later = later
 next_where times delay end number sent_at (Served chance marked) later =
     next_by end number sent_at (chance_time times chance + delay) chance marked later
 
--- the lowest packet in flight that isn't lost and arrives before a time, so long after its chance; `all_lost` stands
--- for none
+-- the lowest packet in flight that isn't lost and arrives before the time `end`; it arrives `delay` microseconds after
+-- its chance. `all_lost` stands for none.
 abbrev pub next_before : List ℕ → ℕ → ℕ → List Numbered → Next
 next_before times delay end [] = all_lost
 next_before times delay end (sent ∷ rest) =
@@ -132,7 +134,7 @@ abbrev pub are_lost : List Numbered → Bool
 are_lost [] = true
 are_lost (sent ∷ rest) = is_lost sent.packet.fate && are_lost rest
 
--- the acknowledgement of a flow's timeout at this time
+-- the acknowledgement of a flow's timeout at the time `now`
 abbrev pub timeout_given : FlowLink → List Packet → List GivenAck → List Numbered → ℕ → GivenAck
 timeout_given link packets givens flight now = record {
   taking = all_below (length packets);
@@ -140,12 +142,12 @@ timeout_given link packets givens flight now = record {
       (length (left_by (all_below (length packets)) flight)) (acked_of givens) (length packets);
 }
 
--- when a flow times out: so long after the later of its last acknowledgement and the sending of its lowest packet in
--- flight
+-- when a flow times out: `timeout_us` after its last acknowledgement or after the sending of its lowest packet in flight,
+-- whichever is later
 abbrev pub timeout_at : FlowLink → List GivenAck → Packet → ℕ
 timeout_at link givens first = max (time_of givens) first.sent_at + link.timeout_us
 
--- the timeout of a flow before a time, where it has packets in flight and all of them are lost
+-- the timeout of a flow, if it has packets in flight, all of them are lost, and it times out before the time `end`
 abbrev pub timeouts : FlowLink → ℕ → List Packet → List GivenAck → List Numbered → List GivenAck
 timeouts link end packets givens [] = []
 timeouts link end packets givens (first ∷ rest) =
@@ -153,15 +155,15 @@ timeouts link end packets givens (first ∷ rest) =
     then timeout_given link packets givens (first ∷ rest) (timeout_at link givens first.packet) ∷ []
     else []
 
--- what comes of the next packet that arrives: its acknowledgement and those after it, or where there is none the
--- timeout
+-- the acknowledgements from the next packet that arrives on: that packet's and those after it, or the timeout if no
+-- packet arrives
 abbrev pub answers_after : List ℕ → FlowLink → ℕ → List Packet → List GivenAck → List Numbered → Next → (GivenAck → List GivenAck) → List GivenAck
 answers_after times link end packets givens flight (arrives number sent_at chance marked) then_ =
     then_ (arrival_given times link packets givens flight number sent_at chance marked)
 answers_after times link end packets givens flight all_lost then_ = timeouts link end packets givens flight
 
--- the acknowledgements of a flow before a time, in order, at most so many: those of the packets that arrive, and
--- then, where one is left, that of its timeout
+-- the acknowledgements of a flow before the time `end`, in order: those of the packets that arrive, and then, if the flow
+-- has one left, that of its timeout. The flow has `left` acknowledgements left, and gets at most as many.
 abbrev pub answers : List ℕ → FlowLink → ℕ → List Packet → ℕ → List GivenAck → List GivenAck
 answers times link end packets zero givens = []
 answers times link end packets (suc left) givens =
@@ -169,7 +171,7 @@ answers times link end packets (suc left) givens =
     (next_before times link.delay_us end (in_flight packets givens))
     (λ given. given ∷ answers times link end packets left (given ∷ givens))
 
--- the acknowledgements of a flow in one more round, where these packets were sent
+-- the acknowledgements of a flow in one more round, after these packets were sent
 abbrev pub round_givens : SharedCase → List Ask → SharedRun → List Sent → ℕ → List GivenAck
 round_givens case asks run sent flow =
     answers case.trace (flow_at case flow) (round_time case (run.rounds + 1)) (own_packets flow sent)
@@ -205,7 +207,7 @@ abbrev pub acks_in : List GivenAck → List Ack
 acks_in [] = []
 acks_in (given ∷ later) = given.ack ∷ acks_in later
 
--- lists of the first flows, so many, in order
+-- the lists of the first flows, in order
 abbrev pub each_flow : ℕ → (ℕ → List Ack) → List (List Ack)
 each_flow zero acks = []
 each_flow (suc flow) acks = each_flow flow acks ++ acks flow ∷ []
@@ -218,7 +220,7 @@ acks_after case rounds asks =
 
 -- ---- counts
 
--- the sum of the numbers of the first flows, so many
+-- the sum of the first flows' numbers
 abbrev pub sum_of : ℕ → (ℕ → ℕ) → ℕ
 sum_of zero number = 0
 sum_of (suc flow) number = sum_of flow number + number flow

@@ -12,7 +12,7 @@ use Rattle.shared_link.specs.declared.round.Ask.{Ask}
 use Rattle.shared_link.specs.SharedRounds.{SharedRun, flow_at, every_packet, own_packets, shared_run_of}
 
 -- what is kept of a flow's packets in flight: those that aren't lost, each with how many lost ones lie right before
--- it; how many lost ones lie after them, and when the first of these was sent, 0 where there are none
+-- it; how many lost ones lie after them, and when the first of these was sent, 0 if there are none
 pub record Flight : Type 0 where
   pub arrivals : List Arrival
   pub lost : ℕ
@@ -48,7 +48,7 @@ with_fate times delay sent_at (Served chance marked) flight = record {
   since = 0;
 }
 
--- a flight with these packets more, each of which arrives so long after its chance
+-- a flight with these packets more, each of which arrives `delay` microseconds after its chance
 abbrev pub with_packets : List ℕ → ℕ → List Packet → Flight → Flight
 with_packets times delay [] flight = flight
 with_packets times delay (packet ∷ rest) flight =

@@ -1,11 +1,10 @@
 //! How a flow's packets are acknowledged within a round, and when the flow times out.
-ghost use Rattle.std.specs.Prelude.{◌≡◌, ℕ, ◌+◌, ◌-◌, ◌*◌, ◌<◌, ◌≤◌, min, suc, [], ◌∷◌, ◌++◌, length, slice_get, Some, None, vec_capacity, IfOk, OnOk, IsTrue, IsFalse};
+ghost use Rattle.std.specs.Prelude.{◌≡◌, ℕ, ◌+◌, ◌-◌, ◌*◌, ◌<◌, ◌≤◌, min, max, suc, [], ◌∷◌, ◌++◌, length, slice_get, Some, None, vec_capacity, IfOk, OnOk, IsTrue, IsFalse};
 ghost use Rattle.ccp_base.specs.Limits.{most_flight, most_rounds, most_quantum_us};
 ghost use Rattle.link_model.specs.Counts.{most_packets};
 ghost use Rattle.shared_link.specs.SharedLimits.{IsFlowWithin};
 ghost use Rattle.shared_link.specs.Kept.{flow_in, answered_in, IsFlowKept, with_arrival, timed_out, answered_all};
 
-use crate::flow_sending::PACKETS;
 use crate::flow_traffic::FlowTraffic;
 use crate::shared_case::FlowLink;
 use ccp_base::{Acks, NoMemory, Sequence};
@@ -13,11 +12,13 @@ use link_model::{Arrival, Past, arrival_ack, timeout_ack};
 use std::alloc::Global;
 
 impl FlowTraffic {
-    /// Keeps room for the acknowledgements of a round, at most so many.
+    /// Reserves memory for the acknowledgements of a round, at most `left`. The flow gets at most one for each packet
+    /// that is in flight or that it sends until `may` are in flight.
     pub(crate) fn make_room(
         &mut self,
         alloc: Global,
         link: &FlowLink,
+        may: u64,
         left: u32,
     ) -> Result<(), NoMemory>
         requires kept { IsFlowKept link.now self.old }
@@ -27,14 +28,16 @@ impl FlowTraffic {
         ensures in_flight { self.new.in_flight ≡ self.old.in_flight }
         ensures sent { self.new.sent ≡ self.old.sent }
         ensures acks { self.new.acks.items ≡ [] }
-        ensures room { OnOk result (min left most_flight ≤ vec_capacity self.new.acks) }
+        ensures room { OnOk result (min left (max self.new.in_flight may) ≤ vec_capacity self.new.acks) }
     {
+        // for the contract alone: what holds of a flow depends on its listed losses
         let _ = link;
-        self.acks = Vec::with_capacity(alloc, (left as usize).min(PACKETS))?;
+        let most = u64::from(left).min(self.in_flight.max(may));
+        self.acks = Vec::with_capacity(alloc, most as usize)?;
         Ok(())
     }
 
-    /// The acknowledgements of the round, which leaves none.
+    /// Takes the acknowledgements of the round out.
     pub(crate) fn take_acks(&mut self, alloc: Global, link: &FlowLink) -> Acks
         requires kept { IsFlowKept link.now self.old }
         ensures kept { IsFlowKept link.now self.new }
@@ -44,12 +47,13 @@ impl FlowTraffic {
         ensures acks { self.new.acks.items ≡ [] }
         ensures taken { result ≡ self.old.acks.items }
     {
+        // for the contract alone: what holds of a flow depends on its listed losses
         let _ = link;
         Sequence::from_vec(std::mem::replace(&mut self.acks, Vec::new(alloc)))
     }
 
-    /// Acknowledges what arrives before a time, at most so many packets; then, where one acknowledgement is left, times
-    /// out before that time where every packet in flight is lost.
+    /// Acknowledges the packets that arrive before `end`, in microseconds, at most `left`. If the flow has an
+    /// acknowledgement left then and every packet in flight is lost, it times out, if that is before `end`.
     pub(crate) fn answer(&mut self, link: &FlowLink, end: u64, left: u32)
         requires link { IsFlowWithin link.now }
         requires kept { IsFlowKept link.now self.old }
@@ -69,8 +73,8 @@ impl FlowTraffic {
         }
     }
 
-    /// Gives the next acknowledgement before a time, where so many are left. Answers whether a packet arrived; else
-    /// there are no more.
+    /// Gives the next acknowledgement before `end`, in microseconds, if there is one; `left` are left. Answers whether a
+    /// packet arrived: if not, no more acknowledgements follow.
     fn answer_one(&mut self, link: &FlowLink, end: u64, left: u32) -> bool
         requires link { IsFlowWithin link.now }
         requires kept { IsFlowKept link.now self.old }
@@ -98,7 +102,7 @@ impl FlowTraffic {
         true
     }
 
-    /// Acknowledges the first packet in flight that isn't lost.
+    /// Acknowledges `arrival`, the first packet in flight that isn't lost.
     fn acknowledge(&mut self, link: &FlowLink, arrival: Arrival)
         requires link { IsFlowWithin link.now }
         requires kept { IsFlowKept link.now self.old }
@@ -128,7 +132,8 @@ impl FlowTraffic {
         self.acks.push_reserved(ack);
     }
 
-    /// Times out before a time, where there are packets in flight and all are lost.
+    /// Times out if there are packets in flight, all of which must be lost, and if the timeout is before `end`, in
+    /// microseconds.
     fn time_out(&mut self, link: &FlowLink, end: u64)
         requires link { IsFlowWithin link.now }
         requires kept { IsFlowKept link.now self.old }

@@ -1,9 +1,10 @@
 //! How a flow sends packets within a round: each is lost, or takes the queue's next chance.
-ghost use Rattle.std.specs.Prelude.{◌≡◌, ℕ, ◌+◌, ◌^◌, ◌<◌, ◌≤◌, [], ◌∷◌, ◌++◌, length, if◌then◌else◌, ◌==◌, IfOk};
+ghost use Rattle.std.specs.Prelude.{◌≡◌, ℕ, ◌+◌, ◌^◌, ◌<◌, ◌≤◌, List, [], ◌∷◌, ◌++◌, length, if◌then◌else◌, ◌==◌, IfOk};
 ghost use Rattle.ccp_base.specs.Limits.{most_flight, most_queue};
 ghost use Rattle.link_model.specs.Chances.{number_of};
 ghost use Rattle.link_model.specs.Counts.{most_packets};
 ghost use Rattle.link_model.specs.Link.{Lost};
+ghost use Rattle.shared_link.specs.declared.shared_case.FlowLink.{FlowLink};
 ghost use Rattle.shared_link.specs.SharedLimits.{IsFlowWithin};
 ghost use Rattle.shared_link.specs.SharedStanding.{flow_standing};
 ghost use Rattle.shared_link.specs.Kept.{flow_in, IsFlowKept, with_one, fate_now, IsNextChance, served_now, IsSending};
@@ -19,19 +20,14 @@ use std::alloc::{AllocError, Global};
 pub(crate) const PACKETS: usize = 4096;
 
 impl FlowTraffic {
-    /// Nothing was sent yet. The room for the packets in flight is reserved.
-    pub(crate) fn new(
-        alloc: Global,
-        link: &FlowLink,
-        trace: &Trace,
-    ) -> Result<FlowTraffic, AllocError>
-        ensures kept { IfOk result (λ t. IsFlowKept link.now t) }
-        ensures standing { IfOk result (λ t. flow_in t ≡ flow_standing trace.now link.now [] []) }
+    /// The traffic of a flow that has sent nothing. Reserves memory for its packets in flight.
+    pub(crate) fn new(alloc: Global) -> Result<FlowTraffic, AllocError>
+        ensures kept { IfOk result (λ t. (link : FlowLink) → IsFlowKept link t) }
+        ensures standing { IfOk result (λ t. (times : List ℕ) (link : FlowLink)
+            → flow_in t ≡ flow_standing times link [] []) }
         ensures sent { IfOk result (λ t. t.sent ≡ 0) }
         ensures acks { IfOk result (λ t. t.acks.items ≡ []) }
     {
-        let _ = link;
-        let _ = trace;
         let flight = HeapCircularBuffer::with_capacity(alloc, PACKETS)?;
         Ok(FlowTraffic {
             time: 0,
@@ -48,7 +44,7 @@ impl FlowTraffic {
         })
     }
 
-    /// Sends one packet, where the queue holds so many.
+    /// Sends one packet; the queue holds `room` packets.
     pub(crate) fn send(&mut self, link: &FlowLink, trace: &Trace, room: u32, sending: &mut Sending)
         requires link { IsFlowWithin link.now }
         requires kept { IsFlowKept link.now self.old }
@@ -76,7 +72,7 @@ impl FlowTraffic {
         self.serve(link, trace, sending);
     }
 
-    /// Sends a packet that is lost.
+    /// Sends a packet that is lost, at `now`, in microseconds.
     fn lose(&mut self, link: &FlowLink, now: u64)
         requires kept { IsFlowKept link.now self.old }
         requires room { self.old.in_flight < most_flight }
@@ -88,6 +84,7 @@ impl FlowTraffic {
         ensures sent { self.new.sent ≡ self.old.sent + 1 }
         ensures acks { self.new.acks ≡ self.old.acks }
     {
+        // for the contract alone: what holds of a flow depends on its listed losses
         let _ = link;
         self.since = first_since(self.lost, self.since, now);
         self.lost += 1;
@@ -130,7 +127,8 @@ impl FlowTraffic {
     }
 }
 
-/// When the first lost packet was sent, where so many were there before one that is sent now.
+/// When the first of the lost packets was sent, after one more is lost at `now`: before it there were `lost`, the first of
+/// which was sent at `since`.
 fn first_since(lost: u64, since: u64, now: u64) -> u64
     ensures { result ≡ (if lost == 0 then now else since) }
 {

@@ -12,11 +12,11 @@ pub(crate) struct FlowTraffic {
     pub(crate) past: Past,
     /// Its packets in flight that aren't lost, in the order of their numbers.
     pub(crate) flight: HeapCircularBuffer<Arrival>,
-    /// How many lost packets lie after them.
+    /// How many lost packets have higher numbers than all of these.
     pub(crate) lost: u64,
-    /// When the first of these was sent, in microseconds.
+    /// When the first of these lost packets was sent, in microseconds; 0 if there are none.
     pub(crate) since: u64,
-    /// How many of its packets are in flight, lost ones counted.
+    /// How many of its packets are in flight, with the lost ones.
     pub(crate) in_flight: u64,
     /// How many of its packets were sent.
     pub(crate) sent: u64,
@@ -24,8 +24,8 @@ pub(crate) struct FlowTraffic {
     pub(crate) acked: u64,
     /// How many left the flight as lost.
     pub(crate) gone: u64,
-    /// How many of the losses listed have numbers below the next packet's; it may lag behind.
+    /// How many listed losses are known to have numbers below the next packet's.
     pub(crate) passed: usize,
-    /// Its acknowledgements in a round.
+    /// Its acknowledgements in the present round.
     pub(crate) acks: Vec<Ack>,
 }

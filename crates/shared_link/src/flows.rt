@@ -1,4 +1,4 @@
-//! The traffic of all flows: they send in turn, get their acknowledgements in order, and are counted.
+//! The traffic of all flows: they send in turn and get their acknowledgements in order, and their packets are counted.
 ghost use Rattle.std.specs.Prelude.{◌≡◌, ◌+◌, ◌*◌, ◌<◌, ◌≤◌, [], length, map, get_or, vec_capacity, IfOk, OnOk, IsTrue};
 ghost use Rattle.ccp_base.specs.Limits.{most_flight, most_rounds, most_quantum_us};
 ghost use Rattle.link_model.specs.Traces.{IsTrace};
@@ -34,7 +34,7 @@ pub(crate) fn ask_of(asks: &[Ask], flow: usize) -> Ask
 }
 
 /// How many packets a flow may have in flight.
-fn allowed(case: &SharedCase, asks: &[Ask], flow: usize) -> u64
+fn allowance_of(case: &SharedCase, asks: &[Ask], flow: usize) -> u64
     requires case { IsWithin case.now }
     requires flow { flow < length case.now.flows }
     requires asks { length asks.now ≡ length case.now.flows }
@@ -63,10 +63,13 @@ impl Flows {
         requires flow { flow < length self.now.traffic.items }
         ensures few { IsTrue result
             → (other : FlowTraffic) → (get_or self.now.traffic.items flow other).in_flight < most_flight }
+        ensures below { IsTrue result
+            → (other : FlowTraffic) → (get_or self.now.traffic.items flow other).in_flight < allowed case.now asks.now flow }
         ensures lacks { TellsLack case.now asks.now self.now flow result }
     {
+        // for the contract alone: what holds of the flows depends on the rounds so far
         let _ = sending;
-        let may = allowed(case, asks, flow);
+        let may = allowance_of(case, asks, flow);
         self.traffic[flow].in_flight < may
     }
 
@@ -86,16 +89,16 @@ impl Flows {
         found
     }
 
-    /// A flow sends a packet where it has fewer in flight than it may have.
+    /// A flow sends a packet if it has fewer in flight than it may have.
     fn send_one(&mut self, case: &SharedCase, asks: &[Ask], sending: &mut Sending, flow: usize)
         requires case { IsWithin case.now }
         requires ready { AreReady case.now sending.old.rounds self.old.traffic.items }
-        requires room { HaveRoom asks.now (length self.old.traffic.items) self.old.traffic.items }
+        requires room { HaveRoom case.now asks.now (length self.old.traffic.items) self.old.traffic.items }
         requires asks { length asks.now ≡ length case.now.flows }
         requires flow { flow < length self.old.traffic.items }
         requires sending { IsSending case.now.trace sending.old }
         ensures ready { AreReady case.now sending.new.rounds self.new.traffic.items }
-        ensures room { HaveRoom asks.now (length self.new.traffic.items) self.new.traffic.items }
+        ensures room { HaveRoom case.now asks.now (length self.new.traffic.items) self.new.traffic.items }
         ensures sending { IsSending case.now.trace sending.new }
         ensures rounds { sending.new.rounds ≡ sending.old.rounds }
         ensures now { sending.new.now ≡ sending.old.now }
@@ -107,15 +110,15 @@ impl Flows {
         self.traffic[flow].send(link_of(case, flow), &case.trace, case.queue, sending);
     }
 
-    /// Each flow in turn sends a packet where it has fewer in flight than it may have.
+    /// Each flow in turn sends a packet if it has fewer in flight than it may have.
     fn send_turn(&mut self, case: &SharedCase, asks: &[Ask], sending: &mut Sending)
         requires case { IsWithin case.now }
         requires ready { AreReady case.now sending.old.rounds self.old.traffic.items }
-        requires room { HaveRoom asks.now (length self.old.traffic.items) self.old.traffic.items }
+        requires room { HaveRoom case.now asks.now (length self.old.traffic.items) self.old.traffic.items }
         requires asks { length asks.now ≡ length case.now.flows }
         requires sending { IsSending case.now.trace sending.old }
         ensures ready { AreReady case.now sending.new.rounds self.new.traffic.items }
-        ensures room { HaveRoom asks.now (length self.new.traffic.items) self.new.traffic.items }
+        ensures room { HaveRoom case.now asks.now (length self.new.traffic.items) self.new.traffic.items }
         ensures sending { IsSending case.now.trace sending.new }
         ensures rounds { sending.new.rounds ≡ sending.old.rounds }
         ensures now { sending.new.now ≡ sending.old.now }
@@ -132,11 +135,11 @@ impl Flows {
     pub(crate) fn send_all(&mut self, case: &SharedCase, asks: &[Ask], sending: &mut Sending)
         requires case { IsWithin case.now }
         requires ready { AreReady case.now sending.old.rounds self.old.traffic.items }
-        requires room { HaveRoom asks.now (length self.old.traffic.items) self.old.traffic.items }
+        requires room { HaveRoom case.now asks.now (length self.old.traffic.items) self.old.traffic.items }
         requires asks { length asks.now ≡ length case.now.flows }
         requires sending { IsSending case.now.trace sending.old }
         ensures ready { AreReady case.now sending.new.rounds self.new.traffic.items }
-        ensures room { HaveRoom asks.now (length self.new.traffic.items) self.new.traffic.items }
+        ensures room { HaveRoom case.now asks.now (length self.new.traffic.items) self.new.traffic.items }
         ensures sending { IsSending case.now.trace sending.new }
         ensures rounds { sending.new.rounds ≡ sending.old.rounds }
         ensures now { sending.new.now ≡ sending.old.now }
@@ -152,7 +155,7 @@ impl Flows {
         }
     }
 
-    /// Nothing was sent yet.
+    /// The traffic of flows that have sent nothing.
     pub(crate) fn new(alloc: Global, case: &SharedCase) -> Result<Flows, NoMemory>
         ensures ready { IfOk result (λ flows. AreReady case.now 0 flows.traffic.items) }
         ensures follows { IfOk result (λ flows. FlowsFollow case.now flows.traffic.items [] (λ flow. [])) }
@@ -160,13 +163,13 @@ impl Flows {
         let mut traffic = Vec::new(alloc);
         let mut flow = 0;
         while flow < case.flows.len() {
-            traffic.push(FlowTraffic::new(alloc, link_of(case, flow), &case.trace)?)?;
+            traffic.push(FlowTraffic::new(alloc)?)?;
             flow += 1;
         }
         Ok(Flows { traffic })
     }
 
-    /// Keeps room for each flow's acknowledgements of a round.
+    /// Reserves memory for the most acknowledgements that each flow can get in a round.
     pub(crate) fn make_rooms(
         &mut self,
         alloc: Global,
@@ -174,22 +177,26 @@ impl Flows {
         asks: &[Ask],
         rounds: u32,
     ) -> Result<(), NoMemory>
+        requires case { IsWithin case.now }
         requires ready { AreReady case.now rounds self.old.traffic.items }
         requires asks { length asks.now ≡ length case.now.flows }
         ensures ready { AreReady case.now rounds self.new.traffic.items }
-        ensures room { OnOk result (HaveRoom asks.now (length self.new.traffic.items) self.new.traffic.items) }
+        ensures room { OnOk result (HaveRoom case.now asks.now (length self.new.traffic.items) self.new.traffic.items) }
         ensures same { map flow_in self.new.traffic.items ≡ map flow_in self.old.traffic.items }
     {
+        // for the contract alone: what holds of the flows depends on the rounds so far
         let _ = rounds;
         let mut flow = 0;
         while flow < self.traffic.len() {
-            self.traffic[flow].make_room(alloc, link_of(case, flow), ask_of(asks, flow).left)?;
+            let may = allowance_of(case, asks, flow);
+            let left = ask_of(asks, flow).left;
+            self.traffic[flow].make_room(alloc, link_of(case, flow), may, left)?;
             flow += 1;
         }
         Ok(())
     }
 
-    /// The acknowledgements of a flow before a time.
+    /// The acknowledgements of a flow before `end`, in microseconds.
     fn answer_one(
         &mut self,
         alloc: Global,
@@ -206,12 +213,13 @@ impl Flows {
         requires end { end ≤ most_rounds * most_quantum_us }
         requires rounds { rounds < most_rounds }
         requires ready { IsReadyAt case.now rounds self.old flow }
-        requires room { HasRoomAt asks.now self.old flow }
+        requires room { HasRoomAt case.now asks.now self.old flow }
         ensures ready { IsReadyAt case.now (rounds + 1) self.new flow }
         ensures count { length self.new.traffic.items ≡ length self.old.traffic.items }
         ensures others { AreOthersKept flow self.old self.new }
         ensures answered { AnswersAt case.now asks.now end flow self.old self.new result }
     {
+        // for the contract alone: what holds of the flows depends on the rounds so far
         let _ = rounds;
         let link = link_of(case, flow);
         let left = ask_of(asks, flow).left;
@@ -220,7 +228,7 @@ impl Flows {
         traffic.take_acks(alloc, link)
     }
 
-    /// Each flow's acknowledgements before a time, in order.
+    /// Puts each flow's acknowledgements before `end`, in microseconds, into `answers`, in the order of the flows.
     pub(crate) fn answer_all(
         &mut self,
         alloc: Global,
@@ -234,7 +242,7 @@ impl Flows {
         requires case { IsWithin case.now }
         requires asks { length asks.now ≡ length case.now.flows }
         requires ready { AreReady case.now rounds self.old.traffic.items }
-        requires room { HaveRoom asks.now (length self.old.traffic.items) self.old.traffic.items }
+        requires room { HaveRoom case.now asks.now (length self.old.traffic.items) self.old.traffic.items }
         requires end { end ≤ most_rounds * most_quantum_us }
         requires rounds { rounds < most_rounds }
         requires none { answers.old.items ≡ [] }
@@ -250,13 +258,14 @@ impl Flows {
         }
     }
 
-    /// The packets of all flows after so many rounds.
+    /// Counts the packets of all flows after `rounds` rounds.
     pub(crate) fn counts(&self, case: &SharedCase, rounds: u32) -> Counts
         requires case { IsWithin case.now }
         requires ready { AreReady case.now rounds self.now.traffic.items }
         requires rounds { rounds ≤ most_rounds }
         ensures { TellsCounts case.now rounds self.now result }
     {
+        // for the contract alone: the definition counts the packets of the flows of a case
         let _ = case;
         let mut sent = 0;
         let mut acked = 0;

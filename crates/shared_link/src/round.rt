@@ -4,11 +4,11 @@
 pub struct Ask {
     /// Its window, in bytes.
     pub window: u64,
-    /// How many acknowledgements it has left.
+    /// How many acknowledgements it has left. With none left it sends nothing.
     pub left: u32,
 }
 
-/// Packets of all flows after some rounds.
+/// How many rounds a link had, and what became of the packets of all flows.
 #[derive(Clone, Copy)]
 pub struct Counts {
     /// How many rounds there were.
@@ -17,8 +17,8 @@ pub struct Counts {
     pub sent: u64,
     /// How many were acknowledged.
     pub acked: u64,
-    /// How many left the flight as lost.
+    /// How many left the flight as lost. A lost packet that is still in flight isn't among them.
     pub lost: u64,
-    /// How many are in flight.
+    /// How many are in flight, with the lost ones.
     pub inflight: u64,
 }

@@ -21,7 +21,8 @@ pub(crate) struct Sending {
 }
 
 impl Sending {
-    /// The sending at a time, after the chances that were given. A chance is looked for at the place `near` first.
+    /// The sending of a round at `now`, in microseconds, before its first packet; `next` is the chance after the last one
+    /// that a packet got. Looks at the place `near` of the trace first.
     pub(crate) fn at(trace: &Trace, rounds: u32, now: u64, next: Chance, near: usize) -> Sending
         requires valid { IsTrace trace.now }
         requires rounds { rounds < most_rounds }
@@ -42,7 +43,7 @@ impl Sending {
         }
     }
 
-    /// Gives the queue's next chance away, which comes at this time.
+    /// Gives the queue's next chance, which comes at `own`, in microseconds, to a packet.
     pub(crate) fn serve(&mut self, trace: &Trace, own: u64)
         requires sending { IsSending trace.now self.old }
         requires waiting { self.old.queue.waiting < most_queue }

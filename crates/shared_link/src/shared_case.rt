@@ -9,11 +9,11 @@ pub struct FlowLink {
     pub mss: u32,
     /// From a packet's chance to its acknowledgement, in microseconds.
     pub delay_us: u64,
-    /// How long the sender waits where every packet in flight is lost, in microseconds.
+    /// How long the sender waits if every packet in flight is lost, in microseconds.
     pub timeout_us: u64,
-    /// The numbers of the flow's packets that are lost whatever the queue, each above the one before.
+    /// The numbers of the flow's packets that are lost however full the queue is, each above the one before.
     pub losses: Sequence<u32>,
-    /// From how many waiting packets of all flows on a packet is marked, or no marks.
+    /// How many packets of all flows must wait at least for the flow's next one to be marked. If `None`, none is marked.
     pub mark: Option<u32>,
 }
 
@@ -23,7 +23,7 @@ pub type FlowLinks = Sequence<FlowLink>;
 /// What a link of several flows is.
 #[derive(Drop)]
 pub struct SharedCase {
-    /// When the link has a chance to send a packet.
+    /// When the link can send a packet.
     pub trace: Trace,
     /// How many packets of all flows may wait for their chances.
     pub queue: u32,

@@ -27,7 +27,7 @@ pub struct SharedLink {
     /// The chance after the last one that a packet got.
     next: Chance,
     rounds: u32,
-    /// The place in the trace of the last chance that was searched.
+    /// The place in the trace at which the next search looks first.
     near: usize,
 }
 
@@ -43,7 +43,7 @@ impl Model for SharedLink {
 }
 
 impl SharedLink {
-    /// A link without any round yet. The room for the packets in flight is reserved here.
+    /// A link before its first round. Reserves memory for 4,096 packets in flight of each flow.
     pub fn new(alloc: Global, case: SharedCase) -> Result<SharedLink, NoMemory>
         requires { IsWithin case }
         ensures case { IfOk result (λ link. link.case ≡ case) }
@@ -61,9 +61,12 @@ impl SharedLink {
         })
     }
 
-    /// One more round, where each flow asks for something, in order: the flows send in turn, then what arrives within
-    /// the round is acknowledged, then flows time out. Answers each flow's acknowledgements, in order. There are at
-    /// most 10,000 rounds. Where memory is short nothing changes.
+    /// Runs one more round, in which each flow has one of `asks`, in order: the flows send in turn, then what arrives
+    /// within the round is acknowledged, then flows time out. Answers with each flow's acknowledgements, in order. A link
+    /// has at most 10,000 rounds. If memory runs out, nothing changes.
+    ///
+    /// Before anything is sent, memory is reserved for the most acknowledgements that each flow can get: as many as
+    /// packets are in flight or may be, and no more than the flow has left.
     pub fn round(&mut self, alloc: Global, asks: &[Ask]) -> Result<AckLists, NoMemory>
         requires asks { length asks.now ≡ length self.old.case.flows }
         requires rounds { self.old.rounds < most_rounds }
@@ -89,7 +92,7 @@ impl SharedLink {
         Ok(Sequence::from_vec(answers))
     }
 
-    /// How many packets of all flows were sent, were acknowledged, left as lost and are in flight.
+    /// Counts the packets of all flows: those sent, acknowledged, lost and in flight.
     pub fn counts(&self) -> Counts
         ensures { (rounds : List (List Ask)) → Stands self.now rounds → result ≡ counts_of self.now.case rounds }
     {

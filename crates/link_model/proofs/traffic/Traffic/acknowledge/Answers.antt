@@ -1,7 +1,7 @@
 use Rattle.std.proofs.Common.{◌≡◌, ◌≤◌, ◌+◌, ◌-◌, ℕ, List, Option, Some, slice_get, drop, ap, subst, sym, ◌∙◌, arith}
 use Rattle.link_model.specs.declared.arrival.Arrival.{Arrival}
 use Rattle.link_model.specs.Standing.{ack_at}
-use Rattle.link_model.specs.Steps.{count_of, standing_in, ack_by}
+use Rattle.link_model.specs.LinkMoves.{count_of, standing_in, ack_by}
 use Rattle.link_model.specs.Horizon.{horizon, ArriveWithin, ArriveInOrder}
 use Rattle.link_model.proofs.HorizonLemmas.{ArriveWithin-more}
 use Rattle.link_model.proofs.LineLemmas.{is_line-later}

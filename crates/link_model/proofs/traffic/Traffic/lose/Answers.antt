@@ -1,5 +1,5 @@
 use Rattle.std.proofs.Common.{arith}
-use Rattle.link_model.specs.Steps.{standing_in}
+use Rattle.link_model.specs.LinkMoves.{standing_in}
 use Rattle.link_model.proofs.HorizonLemmas.{length_le_count, count-lost, is_timely-lost}
 use Rattle.link_model.proofs.traffic.Traffic.lose.Goals as goal
 

@@ -1,5 +1,5 @@
 use Rattle.std.proofs.Common.{◌≡◌, ◌+◌}
-use Rattle.link_model.specs.Steps.{standing_in, sending}
+use Rattle.link_model.specs.LinkMoves.{standing_in, sending}
 use Rattle.link_model.specs.Lines.{IsMovedTo}
 use Rattle.link_model.specs.Horizon.{IsKept}
 use Rattle.link_model.proofs.traffic.Traffic.send.Given as goal

@@ -1,6 +1,6 @@
 use Rattle.std.proofs.Common.{◌≡◌, ◌≤◌, ◌<◌, ◌-◌, true, false, ap, sym, ◌∙◌, arith}
 use Rattle.link_model.specs.Link.{is_listed}
-use Rattle.link_model.specs.Steps.{standing_in, sending, waiting_now}
+use Rattle.link_model.specs.LinkMoves.{standing_in, sending, waiting_now}
 use Rattle.link_model.proofs.LineLemmas.{waiting_is}
 use Rattle.link_model.proofs.SendingLemmas.{sending-full, sending-lost, sending-served}
 use Rattle.link_model.proofs.traffic.Traffic.send_some.Goals as goal

@@ -3,7 +3,7 @@ use Rattle.link_model.specs.declared.arrival.Arrival.{Arrival}
 use Rattle.link_model.specs.Chances.{chance_time}
 use Rattle.link_model.specs.Link.{is_marked}
 use Rattle.link_model.specs.Standing.{Standing}
-use Rattle.link_model.specs.Steps.{count_of, standing_in, waiting_now}
+use Rattle.link_model.specs.LinkMoves.{count_of, standing_in, waiting_now}
 use Rattle.link_model.specs.Horizon.{ArriveInOrder, IsTimely}
 use Rattle.link_model.proofs.HorizonLemmas.{length_le_count, count-push, now_soon, is_timely-served, ArriveInOrder-push}
 use Rattle.link_model.proofs.LineLemmas.{waiting_is}

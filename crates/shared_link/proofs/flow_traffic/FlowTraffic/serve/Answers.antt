@@ -1,7 +1,7 @@
 use Rattle.std.proofs.Common.{◌+◌, ◌≤◌, List, refl, ap, subst, sym, arith}
 use Rattle.link_model.specs.declared.arrival.Arrival.{Arrival}
 use Rattle.link_model.specs.Horizon.{ArriveWithin}
-use Rattle.link_model.specs.Steps.{count_of}
+use Rattle.link_model.specs.LinkMoves.{count_of}
 use Rattle.link_model.proofs.HorizonLemmas.{length_le_count, count-push, ArriveWithin-push}
 use Rattle.shared_link.specs.Kept.{horizon}
 use Rattle.shared_link.proofs.TimeLemmas.{own_soon, own_not_before}

@@ -1,7 +1,7 @@
 use Rattle.std.proofs.Common.{◌≡◌, ◌≤◌, ◌<◌, length, subst, ap, sym, ◌∙◌, arith}
 use Rattle.link_model.specs.Link.{acked_of}
 use Rattle.link_model.specs.Counts.{most_packets, lost_of}
-use Rattle.link_model.specs.Steps.{count_of}
+use Rattle.link_model.specs.LinkMoves.{count_of}
 use Rattle.shared_link.specs.declared.flow_traffic.FlowTraffic.{FlowTraffic}
 use Rattle.shared_link.specs.SharedRounds.{flow_at, own_packets, own_flight, sum_of}
 use Rattle.shared_link.specs.Kept.{flow_in, IsFlowReady}

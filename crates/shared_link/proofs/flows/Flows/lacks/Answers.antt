@@ -1,5 +1,5 @@
 use Rattle.std.proofs.Common.{◌≡◌, ◌<◌, ltb, length, subst, ap, sym, ◌∙◌, arith, ltb-true, rules}
-use Rattle.link_model.specs.Steps.{count_of}
+use Rattle.link_model.specs.LinkMoves.{count_of}
 use Rattle.shared_link.specs.declared.flow_traffic.FlowTraffic.{FlowTraffic}
 use Rattle.shared_link.specs.SharedRounds.{flow_at, own_packets, own_flight}
 use Rattle.shared_link.specs.Kept.{flow_in, IsFlowReady}
@@ -11,9 +11,17 @@ pub returns-clause-few : goal.returns-clause-few
 returns-clause-few c = λ is other.
     let f = c.args.flow in
     let flows = c.args.self.now.traffic.items in
-    let below : c.index.result.now.in_flight < c.allowed-may.result = ltb-true c.index.result.now.in_flight c.allowed-may.result (search rules) in
+    let below : c.index.result.now.in_flight < c.allowance_of-may.result = ltb-true c.index.result.now.in_flight c.allowance_of-may.result (search rules) in
     let same = ap (λ (t : FlowTraffic). t.in_flight) (same_there flows f c.index.result.now other c.requires.flow c.index.ensures) in
-    omega (arith, below, same, c.allowed-may.ensures.within)
+    omega (arith, below, same, c.allowance_of-may.ensures.within)
+
+pub returns-clause-below : goal.returns-clause-below
+returns-clause-below c = λ is other.
+    let f = c.args.flow in
+    let flows = c.args.self.now.traffic.items in
+    let below : c.index.result.now.in_flight < c.allowance_of-may.result = ltb-true c.index.result.now.in_flight c.allowance_of-may.result (search rules) in
+    let same = ap (λ (t : FlowTraffic). t.in_flight) (same_there flows f c.index.result.now other c.requires.flow c.index.ensures) in
+    omega (arith, below, same, c.allowance_of-may.ensures.value)
 
 pub returns-clause-lacks : goal.returns-clause-lacks
 returns-clause-lacks c = λ sent givens follows.
@@ -27,4 +35,4 @@ returns-clause-lacks c = λ sent givens follows.
     ready.kept.count
     ∙ ap (λ s. count_of s.flight.arrivals s.flight.lost) standing
     ∙ kept-count case.trace (flow_at case f) (own_packets f sent) (givens f) in
-    ap (λ n. ltb n c.allowed-may.result) count ∙ ap (ltb (length (own_flight f sent (givens f)))) c.allowed-may.ensures.value
+    ap (λ n. ltb n c.allowance_of-may.result) count ∙ ap (ltb (length (own_flight f sent (givens f)))) c.allowance_of-may.ensures.value

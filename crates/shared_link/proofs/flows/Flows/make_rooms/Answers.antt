@@ -1,11 +1,10 @@
-use Rattle.std.proofs.Common.{◌+◌, ◌≤◌, min, length, vec_capacity, subst, ap, sym, ◌∙◌, arith}
+use Rattle.std.proofs.Common.{ℕ, ◌+◌, ◌≤◌, min, max, length, vec_capacity, subst, ap, sym, ◌∙◌, arith}
 use Rattle.std.proofs.Math.Seq.{map-set_same}
 use Rattle.std.proofs.lemmas.List.{length-set}
-use Rattle.ccp_base.specs.Limits.{most_flight}
 use Rattle.shared_link.specs.declared.flow_traffic.FlowTraffic.{FlowTraffic}
 use Rattle.shared_link.specs.declared.shared_case.FlowLink.{FlowLink}
 use Rattle.shared_link.specs.declared.round.Ask.{Ask}
-use Rattle.shared_link.specs.SharedRounds.{flow_at, ask_at}
+use Rattle.shared_link.specs.SharedRounds.{flow_at, ask_at, allowed}
 use Rattle.shared_link.specs.Kept.{flow_in, IsFlowKept, IsFlowReady}
 use Rattle.shared_link.proofs.FlowsLemmas.{ready-set, room-set}
 use Rattle.shared_link.proofs.flows.Flows.make_rooms.Goals as goal
@@ -27,8 +26,9 @@ loop-flow-preserved c =
     let asks = c.args.asks.now in
     let within : f + 1 ≤ length flows = omega (arith, c.loop-flow-test.true, c.len.ensures) in
     let ready = subst (λ (x : FlowTraffic). IsFlowReady (flow_at case f) rounds x) (sym c.index_mut.ensures.value) (c.loop-flow.invariant.1.each f old (omega (arith, within))) in
-    let room : min c.ask_of.result.left most_flight ≤ vec_capacity new.acks = c.in_ok-make_room.ensures.room in
-    let here : min (ask_at asks f).left most_flight ≤ vec_capacity new.acks = subst (λ (a : Ask). min a.left most_flight ≤ vec_capacity new.acks) c.ask_of.ensures room in (
+    let room : min c.ask_of-left.result.left (max new.in_flight c.allowance_of-may.result) ≤ vec_capacity new.acks = c.in_ok-make_room.ensures.room in
+    let asked : min (ask_at asks f).left (max new.in_flight c.allowance_of-may.result) ≤ vec_capacity new.acks = subst (λ (a : Ask). min a.left (max new.in_flight c.allowance_of-may.result) ≤ vec_capacity new.acks) c.ask_of-left.ensures room in
+    let here : min (ask_at asks f).left (max new.in_flight (allowed case asks f)) ≤ vec_capacity new.acks = subst (λ (m : ℕ). min (ask_at asks f).left (max new.in_flight m) ≤ vec_capacity new.acks) c.allowance_of-may.ensures.value asked in (
       omega (arith, within, length-set flows f new),
       ready-set case rounds flows f new (omega (arith, within)) c.loop-flow.invariant.1
           (record {
@@ -36,6 +36,6 @@ loop-flow-preserved c =
             sent = omega (arith, ready.sent, c.make_room.ensures.sent, c.make_room.ensures.in_flight);
             acks = c.make_room.ensures.acks;
           }),
-      room-set asks f (f + 1) flows f new (omega (arith, within)) within c.loop-flow.invariant.2 (λ flow under apart. omega (arith, under, apart)) here,
+      room-set case asks f (f + 1) flows f new (omega (arith, within)) within c.loop-flow.invariant.2 (λ flow under apart. omega (arith, under, apart)) here,
       map-set_same flow_in flows f new old (c.make_room.ensures.standing ∙ ap flow_in c.index_mut.ensures.value) ∙ c.loop-flow.invariant.3,
     )

@@ -6,7 +6,7 @@ abbrev pub invariant-loop-flow : goal.invariant-loop-flow
 invariant-loop-flow l =
     (l.flow ≤ length l.self.traffic.items)
     × AreReady l.case l.rounds l.self.traffic.items
-    × HaveRoom l.asks l.flow l.self.traffic.items
+    × HaveRoom l.case l.asks l.flow l.self.traffic.items
     × (map flow_in l.self.traffic.items ≡ map flow_in l.fn.self.traffic.items)
 
 abbrev pub decreases-loop-flow : goal.decreases-loop-flow

@@ -1,12 +1,11 @@
-use Rattle.std.proofs.Common.{◌≡◌, ◌≤◌, true, cond, min, vec_capacity, length, set, subst, ap, sym, ◌∙◌, arith, rules}
+use Rattle.std.proofs.Common.{◌≡◌, ◌≤◌, true, cond, ◌<◌, min, max, vec_capacity, length, set, subst, ap, sym, ◌∙◌, arith, rules}
 use Rattle.std.proofs.lemmas.List.{length-set}
-use Rattle.ccp_base.specs.Limits.{most_flight}
 use Rattle.shared_link.specs.declared.flow_traffic.FlowTraffic.{FlowTraffic}
 use Rattle.shared_link.specs.declared.shared_case.FlowLink.{FlowLink}
 use Rattle.link_model.specs.Link.{chance_past}
 use Rattle.link_model.specs.Chances.{number_of}
-use Rattle.shared_link.specs.SharedRounds.{flow_at, ask_at, with_packet}
-use Rattle.shared_link.specs.Kept.{flow_in, with_one, fate_now, IsFlowKept, IsFlowReady, AreReady, Follows}
+use Rattle.shared_link.specs.SharedRounds.{flow_at, ask_at, allowed, with_packet}
+use Rattle.shared_link.specs.Kept.{flow_in, with_one, fate_now, IsFlowKept, IsFlowReady, AreReady, most_answers, Follows}
 use Rattle.shared_link.proofs.FlowsLemmas.{ready-set, room-set, follows-sent}
 use Rattle.shared_link.proofs.flows.Flows.send_one.Goals as goal
 
@@ -35,15 +34,18 @@ returns-clause-ready c =
 
 pub returns-clause-room : goal.returns-clause-room
 returns-clause-room c =
+    let case = c.args.case.now in
     let f = c.args.flow in
     let flows = c.args.self.now.traffic.items in
     let old = c.index_mut.result.now in
     let new = c.send.new.self in
     let asks = c.args.asks.now in
     let count = length-set flows f new in
-    let kept = subst (λ (x : FlowTraffic). min (ask_at asks f).left most_flight ≤ vec_capacity x.acks) (sym c.index_mut.ensures.value) (c.requires.room f old c.requires.flow) in
-    let here : min (ask_at asks f).left most_flight ≤ vec_capacity new.acks = omega (arith, kept, ap vec_capacity c.send.ensures.acks) in
-    room-set asks (length flows) (length (set flows f new)) flows f new c.requires.flow (omega (arith, count)) c.requires.room (λ flow under apart. omega (arith, under, count)) here
+    let may = allowed case asks f in
+    let below : old.in_flight < may = subst (λ (x : FlowTraffic). x.in_flight < may) (sym c.index_mut.ensures.value) (c.lacks.ensures.below (search rules) old) in
+    let kept : min (ask_at asks f).left (max old.in_flight may) ≤ vec_capacity old.acks = subst (λ (x : FlowTraffic). most_answers case asks f x ≤ vec_capacity x.acks) (sym c.index_mut.ensures.value) (c.requires.room f old c.requires.flow) in
+    let here : min (ask_at asks f).left (max new.in_flight may) ≤ vec_capacity new.acks = omega (arith, kept, below, c.send.ensures.in_flight, ap vec_capacity c.send.ensures.acks) in
+    room-set case asks (length flows) (length (set flows f new)) flows f new c.requires.flow (omega (arith, count)) c.requires.room (λ flow under apart. omega (arith, under, count)) here
 
 pub returns-clause-follows : goal.returns-clause-follows
 returns-clause-follows c = λ sent givens follows.

@@ -8,7 +8,7 @@ abbrev pub invariant-loop-flow : goal.invariant-loop-flow
 invariant-loop-flow l =
     (l.flow ≤ length l.self.traffic.items)
     × AreReady l.case l.sending.rounds l.self.traffic.items
-    × HaveRoom l.asks (length l.self.traffic.items) l.self.traffic.items
+    × HaveRoom l.case l.asks (length l.self.traffic.items) l.self.traffic.items
     × IsSending l.case.trace l.sending
     × (l.sending.rounds ≡ l.fn.sending.rounds)
     × (l.sending.now ≡ l.fn.sending.now)

@@ -1,4 +1,4 @@
--- The steps of the link by what it keeps: the sending of one packet, that of a call, and the acknowledgement.
+-- How a link moves by what it keeps: the sending of one packet, that of a call, and the acknowledgement.
 use Rattle.std.specs.Prelude.{◌≡◌, ℕ, zero, suc, ◌+◌, ◌-◌, max, Bool, Option, Some, None, List, [], ◌∷◌, ◌++◌, drop, slice_get}
 use Rattle.ccp_base.specs.declared.ack.Ack.{Ack}
 use Rattle.link_model.specs.declared.link_case.LinkCase.{LinkCase}
@@ -28,7 +28,7 @@ standing_in times traffic = record {
 
 -- ---- sending
 
--- so many packets more, all of them lost
+-- `more` packets more, all of them lost
 abbrev pub with_lost : ℕ → Standing → Standing
 with_lost more standing = record {
   time = standing.time;
@@ -76,7 +76,7 @@ abbrev pub with_packet : LinkCase → Standing → Standing
 with_packet case standing =
     with_fate case (fate_by case standing.sent (waiting_now case standing) (chance_now case standing)) standing
 
--- so many packets are sent now
+-- `more` packets are sent now
 abbrev pub sending : LinkCase → ℕ → Standing → Standing
 sending case zero standing = standing
 sending case (suc more) standing = sending case more (with_packet case standing)
@@ -126,7 +126,7 @@ after_ack case standing = acked_by case standing (slice_get standing.arrivals 0)
 abbrev pub TakesStep : LinkCase → (Standing → Standing) → Traffic → Traffic → Type 0
 TakesStep case step old new = standing_in case.trace new ≡ step (standing_in case.trace old)
 
--- to send so many packets now leaves the same as to send so many more before
+-- to send `left` packets now leaves the same as to send `more` before
 abbrev pub SendsOn : LinkCase → ℕ → Traffic → ℕ → Traffic → Type 0
 SendsOn case more old left new =
     sending case left (standing_in case.trace new) ≡ sending case more (standing_in case.trace old)
