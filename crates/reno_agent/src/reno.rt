@@ -102,8 +102,13 @@ impl Reno {
     }
 
     /// Replies to a report or a fault notice. What is told of another epoch than the agent's changes nothing.
+    #[tactic(auto, using(crate::proofs::RoleLemmas::kept_roles))]
     pub fn reply(&mut self, told: &Told) -> Reply
-        ensures { (self.new, result) ≡ reno self.old told.now }
+        ensures turn { (self.new, result) ≡ reno self.old told.now }
+
+        // Its programs stay the same.
+        ensures ss { self.new.course.ss ≡ self.old.course.ss }
+        ensures ca { self.new.course.ca ≡ self.old.course.ca }
     {
         if told.epoch() != self.course.epoch {
             return Reply::Nothing;
