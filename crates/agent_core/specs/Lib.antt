@@ -4,6 +4,5 @@
 pub mod Agents
 pub mod Answers
 pub mod Kinds
-
 -- what definitions and proofs of the crates above use
 pub mod RoleLaws

@@ -2,7 +2,6 @@
 
 -- those that public contracts cite
 pub mod Cubic
-
 -- those that they are made of
 pub mod Window
 pub mod Curve

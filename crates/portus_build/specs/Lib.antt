@@ -10,6 +10,5 @@ pub mod BuiltinPrograms
 pub mod Looks
 pub mod RefusalText
 pub mod StepFaults
-
 -- those that they are made of
 pub mod TextReadings

@@ -9,6 +9,5 @@ pub mod Rollout
 pub mod Soak
 pub mod RefusalText
 pub mod MemberFaults
-
 -- those that only private contracts cite
 pub mod ParsedScenes

@@ -10,7 +10,6 @@ pub mod OpenCases
 pub mod Plans
 pub mod Values
 pub mod Keys
-
 -- those that they are made of
 pub mod CaseWalk
 pub mod CaseLists

@@ -1,12 +1,10 @@
 use Rattle.std.proofs.Common.{rules, arith, ◌≡◌, ◌+◌, ◌<◌, ℕ, List, [], ◌∷◌, ◌++◌, drop, length, sym, ap, ◌∙◌, subst}
 use Rattle.std.proofs.lemmas.List.{length-append}
 use Rattle.agent_core.specs.Kinds.{built_in_count}
-use Rattle.portus_core.specs.ProgramForm.{form_of}
-use Rattle.portus_build.specs.Builtins.{builtins, builtin_text}
-use Rattle.portus_build.specs.TextWalk.{program_of}
+use Rattle.portus_build.specs.Builtins.{builtins}
 use Rattle.reg_compiler.specs.declared.built.Built.{Built}
 use Rattle.scenario_json.specs.Cases.{AreNumberedFrom}
-use Rattle.scenario_json.specs.ScenePrograms.{built_in, built_ins_from, forms_of}
+use Rattle.scenario_json.specs.ScenePrograms.{built_ins_from, forms_of}
 use Rattle.scenario_json.proofs.ProgramLemmas.{built_in_pushed, numbered_pushed}
 use Rattle.scenario_json.proofs.scene_programs.put_built_ins.Goals as goal
 

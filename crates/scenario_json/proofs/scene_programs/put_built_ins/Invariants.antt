@@ -1,4 +1,4 @@
-use Rattle.std.proofs.Common.{◌≡◌, ◌+◌, ◌-◌, ◌≤◌, ◌++◌, drop, length}
+use Rattle.std.proofs.Common.{◌≡◌, ◌-◌, ◌≤◌, ◌++◌, drop, length}
 use Rattle.agent_core.specs.Kinds.{built_in_count}
 use Rattle.portus_build.specs.Builtins.{builtins}
 use Rattle.scenario_json.specs.Cases.{AreNumberedFrom}
