@@ -1,4 +1,8 @@
--- The definitions of agent_core, a file each; files named ..Laws have what follows from them.
+-- The definitions of agent_core, a file each.
+
+-- those that public contracts cite
 pub mod Agents
 pub mod Answers
+pub mod Kinds
+-- what definitions and proofs of the crates above use
 pub mod RoleLaws

@@ -1,9 +1,11 @@
 //! The agents Reno and CUBIC as one type: its replies, and the values that each reply writes.
 ghost use Rattle.std.specs.Prelude.{◌≡◌, ◌++◌, ◌+◌, ◌<◌, ◌≤◌, ◌↔◌, IsTrue, length};
 ghost use Rattle.agent_core.specs.Agents.{begun, replied, course_of, mss_of, cap_of, segment_of, window_pair, control_pair, values_of};
+ghost use Rattle.agent_core.specs.Kinds.{kind_of, agent_name};
 ghost use Rattle.std.specs.Option.{ForSome};
 ghost use Rattle.reply_frames.specs.ValueBytes.{AreTargets};
 
+use crate::kind::Kind;
 use crate::same::same_agent;
 use ccp_base::{Course, FieldReg, Fields, Reply, Told};
 use cubic_agent::Cubic;
@@ -29,7 +31,11 @@ impl Agent {
 
     /// Replies to a report or a fault notice.
     pub fn reply(&mut self, told: &Told) -> Reply
-        ensures { (self.new, result) ≡ replied self.old told.now }
+        ensures turn { (self.new, result) ≡ replied self.old told.now }
+
+        // The agent keeps its programs.
+        ensures ss { (course_of self.new).ss ≡ (course_of self.old).ss }
+        ensures ca { (course_of self.new).ca ≡ (course_of self.old).ca }
     {
         match self {
             Agent::Reno(reno) => reno.reply(told),
@@ -42,6 +48,23 @@ impl Agent {
         ensures { IsTrue result ↔ (self.now ≡ other.now) }
     {
         same_agent(self, other)
+    }
+
+    /// The agent's kind.
+    pub fn kind(&self) -> Kind
+        ensures { result ≡ kind_of self.now }
+    {
+        match self {
+            Agent::Reno(_) => Kind::Reno,
+            Agent::Cubic(_) => Kind::Cubic,
+        }
+    }
+
+    /// The name of the agent's kind.
+    pub fn name(&self) -> &'static str
+        ensures { result.now ≡ agent_name self.now }
+    {
+        self.kind().name()
     }
 
     /// The agent's programs, and how far it went with them.

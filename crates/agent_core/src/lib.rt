@@ -5,10 +5,12 @@ mod agent;
 mod answer;
 pub mod calls;
 mod frame;
+mod kind;
 mod same;
 mod ticket;
 
 pub use agent::Agent;
 pub use answer::Answer;
+pub use kind::{BUILT_INS, Kind};
 pub use same::same_role;
 pub use ticket::Ticket;

@@ -23,7 +23,8 @@ use Rattle.flow_core.specs.declared.letter.Letter.{Letter}
 use Rattle.flow_core.specs.LiveText.{Sources, source_at, account_of, flow_from, flow_line, live_text}
 use Rattle.flow_core.specs.Words.{world, legal, is_complete}
 use Rattle.scene_members.specs.declared.plan.Plan.{Plan}
-use Rattle.scenario_json.specs.Cases.{coded_of, coded_at, agent_of, kind_of, plan_of, IsCoded, AreFlowsFrom}
+use Rattle.agent_core.specs.Kinds.{agent_of, kind_of}
+use Rattle.scenario_json.specs.Cases.{coded_of, coded_at, plan_of, IsCoded, AreFlowsFrom}
 use Rattle.scenario_json.specs.ScenePrograms.{Forms, forms_of}
 use Rattle.run_audit.specs.Audit.{IsWordOf, AreWordsOf, with_words}
 use Rattle.run_audit.specs.PartLeft.{body_text}

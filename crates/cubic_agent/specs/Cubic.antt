@@ -19,8 +19,8 @@
 -- - each timeout works the threshold out anew, and none is taken back as spurious;
 -- - the datapath's program moves the window in slow start, up to the cap that a change names, without HyStart;
 -- - slow start that ends without a loss begins the curve as after a timeout, and cwnd_prior stays as it was;
--- - a fault of that program is answered by starting it anew with the agent's window, and what is told of another
---   epoch is passed over.
+-- - a fault of that program is answered by starting it anew with the agent's window, and a report or notice of
+--   another epoch is ignored.
 use Rattle.std.specs.Prelude.{ℕ, ◌-◌, ◌/◌, ◌^◌, ◌≤◌, ◌==◌, ◌||◌, nat_lt, nat_le, min, max, if◌then◌else◌}
 use Rattle.ccp_base.specs.Limits.{most_segment_bytes}
 use Rattle.ccp_base.specs.Saturating.{◌+ˢ◌, ◌*ˢ◌, muldiv, clamped}
@@ -45,10 +45,10 @@ pub record CubicState : Type 0 where
   pub course : Course
   -- cwnd
   pub window : ℕ
-  -- W_max: the window at the last loss event, less where it had shrunk since the one before; or the window where
-  -- congestion avoidance began after slow start, where that came later
+  -- W_max, where the curve is flat: the window before the last loss event, or 0.85 of it if it had shrunk since the one
+  -- before that; or the window at which congestion avoidance began after slow start, if that came later
   pub w_max : ℕ
-  -- cwnd_prior: the window at the last loss event
+  -- cwnd_prior: the window before the last loss event or timeout
   pub w_prior : ℕ
   -- W_est: the window that Reno would have
   pub w_est : ℕ
@@ -61,7 +61,7 @@ pub record CubicState : Type 0 where
   -- a loss or a mark before this time, in microseconds, belongs to the loss event that was answered last
   pub calm : ℕ
 
--- the window and what is kept of the last loss event
+-- the window, and what determines its growth
 abbrev pub growth_of : CubicState → Growth
 growth_of s =
     record { window = s.window; w_max = s.w_max; w_prior = s.w_prior; w_est = s.w_est; k = s.k; start = s.start }
@@ -95,7 +95,7 @@ pub record IsInRange (mss : ℕ) (growth : Growth) : Type 0 where
 abbrev pub Turn : Type 0
 Turn = CubicState × Reply
 
--- an agent that was told nothing yet
+-- an agent in its initial state
 abbrev pub first_cubic : ℕ → Role → Role → CubicState
 first_cubic mss ss ca = record {
   mss = mss;
@@ -214,6 +214,6 @@ after_told (Report report) s =
     after_measurement r (window_told s.course.mode r s)
 after_told (Fault notice) s = after_fault s
 
--- CUBIC: what is told of another epoch is passed over
+-- CUBIC: a report or notice of another epoch is ignored
 abbrev pub cubic : CubicState → Told → Turn
 cubic s told = if epoch_of told == s.course.epoch then after_told told s else (s, Nothing)

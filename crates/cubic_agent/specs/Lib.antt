@@ -1,4 +1,7 @@
 -- The definitions of cubic_agent, a file each.
+
+-- those that public contracts cite
+pub mod Cubic
+-- those that they are made of
 pub mod Window
 pub mod Curve
-pub mod Cubic

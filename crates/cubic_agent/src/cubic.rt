@@ -16,16 +16,17 @@ const ALPHA_UNIT: u64 = 17;
 /// Microseconds in a millisecond.
 const MILLISECOND: u64 = 1000;
 
-/// The window, and what CUBIC keeps of a loss event for the growth after it. Windows are in thousandths of a
+/// The window, and what determines its growth in congestion avoidance. Windows are in thousandths of a
 /// segment.
 #[derive(Clone, Copy, PartialEq, Eq)]
 pub struct Growth {
     /// The RFC's cwnd.
     pub window: u64,
-    /// W_max: the window at the last loss event, less where it had shrunk since the one before; or the window where
-    /// congestion avoidance began after slow start, where that came later.
+    /// W_max, where the curve is flat: the window before the last loss event, or 0.85 of it if it had shrunk since the
+    /// one before that (fast convergence); or the window at which congestion avoidance began after slow start,
+    /// if that came later.
     pub w_max: u64,
-    /// The RFC's cwnd_prior: the window at the last loss event.
+    /// The RFC's cwnd_prior: the window before the last loss event or timeout.
     pub w_prior: u64,
     /// W_est: the window that Reno would have.
     pub w_est: u64,
@@ -71,7 +72,7 @@ impl Cubic {
     ghost use Rattle.cubic_agent.specs.Window.{most_window};
     ghost use Rattle.ccp_base.specs.Course.{opening_of};
 
-    /// An agent that was told nothing yet, of a flow whose segments have `mss` bytes, with its programs of slow
+    /// An agent in its initial state, of a flow whose segments have `mss` bytes, with its programs of slow
     /// start and of congestion avoidance.
     pub fn new(mss: u32, ss: Role, ca: Role) -> Self
         requires some { 1 ≤ mss }
@@ -108,7 +109,7 @@ impl Cubic {
         self.course
     }
 
-    /// The window and what is kept of the last loss event.
+    /// The window, and what determines its growth.
     pub fn growth(&self) -> Growth
         ensures { result ≡ growth_of self.now }
     {
@@ -136,9 +137,14 @@ impl Cubic {
         self.course.opening(self.mss)
     }
 
-    /// Replies to a report or a fault notice. What is told of another epoch than the agent's changes nothing.
+    /// Replies to a report or a fault notice. One of another epoch than the agent's changes nothing.
+    #[tactic(auto, using(crate::proofs::RoleLemmas::kept_roles))]
     pub fn reply(&mut self, told: &Told) -> Reply
-        ensures { (self.new, result) ≡ cubic self.old told.now }
+        ensures turn { (self.new, result) ≡ cubic self.old told.now }
+
+        // Its programs stay the same.
+        ensures ss { self.new.course.ss ≡ self.old.course.ss }
+        ensures ca { self.new.course.ca ≡ self.old.course.ca }
     {
         if told.epoch() != self.course.epoch {
             return Reply::Nothing;
@@ -263,7 +269,7 @@ impl Cubic {
     }
 
     /// W_est after these acknowledgements: it grows by alpha segments in a round-trip time until it has reached
-    /// the window at the last loss event, and by one segment from then on (RFC 9438, section 4.3).
+    /// cwnd_prior, and by one segment from then on (RFC 9438, section 4.3).
     fn estimate(&self, acked: u64) -> u64
         ensures { result ≡ estimate_of acked self.now }
     {

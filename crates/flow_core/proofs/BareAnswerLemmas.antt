@@ -14,7 +14,8 @@ use Rattle.slot_pool.specs.Pool.{PoolState, free_of}
 use Rattle.agent_core.specs.declared.agent.Agent.{Agent}
 use Rattle.agent_core.specs.declared.ticket.Ticket.{Ticket}
 use Rattle.agent_core.specs.Agents.{course_of, replied, values_of}
-use Rattle.agent_core.specs.RoleLaws.{AreRoles, roles-kept}
+use Rattle.agent_core.specs.RoleLaws.{AreRoles}
+use Rattle.agent_core.proofs.ReplyLemmas.{roles-kept}
 use Rattle.flow_core.specs.declared.bare.BareParts.{BareParts}
 use Rattle.flow_core.specs.declared.case.Case.{Case}
 use Rattle.flow_core.specs.declared.bare.Issued.{Issued}

@@ -19,6 +19,7 @@ use Rattle.portus_core.specs.Reports.{Epoch}
 use Rattle.reg_compiler.specs.Simulation.{Simulates}
 use Rattle.agent_core.specs.declared.agent.Agent.{Agent}
 use Rattle.agent_core.specs.Agents.{begun, replied, course_of, values_of}
+use Rattle.agent_core.proofs.ReplyLemmas.{replied-site}
 use Rattle.flow_core.specs.declared.case.Case.{Case}
 use Rattle.flow_core.specs.Readings.{Flow, by_number, code_at, over_codes, over_sources}
 use Rattle.flow_core.specs.World.{Failure, Content, of_report, of_failure, Era, Taken, Answered, World, time_of, track_in, track_of, era_of, opening, failures_met, untold_after, with_met, has_room, after_ack, taking, with_taken, with_reply, told_as, with_turn, answer_applied, after_answer}
@@ -29,7 +30,7 @@ use Rattle.flow_core.specs.declared.letter.Letter.TheVariants.{A, T, C}
 use Rattle.flow_core.specs.Words.{Giving, from_list, from_link, with_given, after_letter, world_from, world_over, world, is_legal, legal_from, legal, is_complete}
 use Rattle.link_model.specs.declared.link_case.LinkCase.{LinkCase}
 use Rattle.link_model.specs.Link.{ack_after}
-use Rattle.flow_core.proofs.PlacedParts.{notice_of, replied-site, take-lifts, failures-placed, reports-placed, held-placed, untold-placed}
+use Rattle.flow_core.proofs.PlacedParts.{notice_of, take-lifts, failures-placed, reports-placed, held-placed, untold-placed}
 
 -- ---- the two readings of a case
 

@@ -9,21 +9,12 @@ use Rattle.ccp_base.specs.declared.exchange.Told.TheVariants.{Fault}
 use Rattle.portus_core.specs.declared.env.Env.{Env}
 use Rattle.portus_core.specs.Epoch.{Outcome, quiet, reported, held, failed, stopped, Track}
 use Rattle.portus_core.specs.Reports.{Epoch, reports_met}
-use Rattle.agent_core.specs.declared.agent.Agent.{Agent}
-use Rattle.agent_core.specs.declared.agent.Agent.TheVariants.{Reno, Cubic}
-use Rattle.agent_core.specs.Agents.{replied}
 use Rattle.flow_core.specs.Readings.{Flow}
 use Rattle.flow_core.specs.World.{Failure, World, failures_met, untold_after, held_met, taking, with_taken, after_take}
 use Rattle.flow_core.specs.Lift.{Placing, map_failure, map_world}
 use Rattle.flow_core.proofs.SimulatedEpochs.{outcome_placed, met_placed}
 
--- ---- answers
-
--- what an agent replies to a fault notice, and what it becomes, depends on the notice's epoch alone: neither on the
--- instruction nor on the kind
-pub replied-site : (agent : Agent) (one other : Notice) → one.epoch ≡ other.epoch → replied agent (Fault one) ≡ replied agent (Fault other)
-replied-site (Reno state) one other same = λ i. replied (Reno state) (Fault (record one { epoch = same i }))
-replied-site (Cubic state) one other same = λ i. replied (Cubic state) (Fault (record one { epoch = same i }))
+-- ---- notices
 
 -- the fault notice of a failure
 abbrev pub notice_of : {X : Type 0} → Flow X → Failure X → Notice

@@ -15,7 +15,7 @@ use Rattle.report_lines.specs.ReportLine.{report_head, report_tail}
 use Rattle.report_lines.specs.FaultLine.{fault_head, fault_line}
 use Rattle.report_lines.specs.EndLine.{end_head, end_tail}
 use Rattle.agent_core.specs.declared.agent.Agent.{Agent}
-use Rattle.agent_core.specs.declared.agent.Agent.TheVariants.{Reno, Cubic}
+use Rattle.agent_core.specs.Kinds.{agent_name}
 use Rattle.flow_core.specs.declared.book.EpochLine.{EpochLine}
 use Rattle.flow_core.specs.declared.book.TicketLine.{TicketLine}
 use Rattle.flow_core.specs.declared.case.Case.{Case}
@@ -74,8 +74,7 @@ account_of flow w = record {
 -- ---- its lines
 
 abbrev pub agent_text : Agent → List ℕ
-agent_text (Reno state) = codes "reno"
-agent_text (Cubic state) = codes "cubic"
+agent_text agent = agent_name agent
 
 abbrev pub flow_line : ℕ → List ℕ → Agent → List ℕ
 flow_line flow name agent = flow_head flow name ⧺ codes " agent=" ⧺ agent_text agent ⧺ codes "\n"

@@ -1,7 +1,7 @@
--- The texts of the built-in programs.
-use Rattle.std.specs.Prelude.{ℕ, zero, suc, List, ◌++◌, codes}
+-- The built-in programs and their texts.
+use Rattle.std.specs.Prelude.{ℕ, Option, Some, None, List, [], ◌∷◌, ◌++◌, map, get_or, codes}
 
--- what all three declare: the fields, in the first two lines
+-- what each declares: the fields, in the first two lines
 abbrev pub fields_part : List ℕ
 fields_part =
     codes "(def (Report (volatile acked 0) (volatile sacked 0) (volatile loss 0)\n"
@@ -59,8 +59,22 @@ reno_ca_text = fields_part ++ no_controls_line ++ counting_part ++ loss_line ++ 
 abbrev pub cubic_ca_text : List ℕ
 cubic_ca_text = fields_part ++ no_controls_line ++ counting_part ++ loss_line ++ half_round_line
 
--- the text of a built-in program: 0 is `reno.ss`, 1 is `reno.ca`, 2 is `cubic.ca`
+-- a built-in program: its text, and where it has the control variables that its agent writes, the cap and the segment's
+-- size
+pub record BuiltIn : Type 0 where
+  pub text : List ℕ
+  pub written : List (Option ℕ)
+
+abbrev pub slow_start : List ℕ → BuiltIn
+slow_start text = record { text = text; written = Some 0 ∷ Some 1 ∷ [] }
+
+abbrev pub avoidance : List ℕ → BuiltIn
+avoidance text = record { text = text; written = None ∷ None ∷ [] }
+
+-- the built-in programs, in the order of their numbers: `reno.ss`, `reno.ca` and `cubic.ca`
+abbrev pub builtins : List BuiltIn
+builtins = slow_start reno_ss_text ∷ avoidance reno_ca_text ∷ avoidance cubic_ca_text ∷ []
+
+-- the text of the built-in program of this number
 abbrev pub builtin_text : ℕ → List ℕ
-builtin_text zero = reno_ss_text
-builtin_text (suc zero) = reno_ca_text
-builtin_text (suc (suc n)) = cubic_ca_text
+builtin_text number = get_or (map (λ program. program.text) builtins) number []

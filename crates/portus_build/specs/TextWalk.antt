@@ -15,7 +15,6 @@ use Rattle.scope_types.specs.declared.fault.ScopeFault.{ScopeFault}
 use Rattle.scope_types.specs.ProgramWalk.{source_walk}
 use Rattle.reg_compiler.specs.declared.fault.CompileFault.{CompileFault}
 use Rattle.reg_compiler.specs.Refusal.{refusal_of}
-use Rattle.portus_build.specs.Texts.{IsBuiltFrom, IsNoProgram}
 use Rattle.portus_build.specs.TextReadings.{ComesTo}
 use Rattle.portus_build.specs.declared.fault.BuildFault.{BuildFault}
 use Rattle.portus_build.specs.declared.fault.BuildFault.TheVariants.{Parse, Scope, Compile}

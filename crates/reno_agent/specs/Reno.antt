@@ -7,7 +7,7 @@
 -- - growth by segment times acknowledged bytes over the window, by at least one byte (equation 3);
 -- - the threshold at a loss: half of the flight, at least 2 segments (equation 4);
 -- - a window of one segment and slow start after a timeout (3.1), the window at the threshold after a loss that
---   duplicate acknowledgements tell of (3.2).
+--   duplicate acknowledgements show (3.2).
 --
 -- What is this project's own:
 -- - one step per report with the bytes of the whole report, and not per acknowledgement; quotients are cut;
@@ -19,8 +19,8 @@
 -- - the window isn't inflated while packets are retransmitted, nor deflated afterwards (steps 3 to 6 of 3.2);
 -- - each timeout works the threshold out anew, also where the timer had retransmitted the same segment before;
 -- - the datapath's program moves the window in slow start, up to the cap that a change names;
--- - a fault of that program is answered by starting it anew with the agent's window, and what is told of another
---   epoch is passed over.
+-- - a fault of that program is answered by starting it anew with the agent's window, and a report or notice of
+--   another epoch is ignored.
 use Rattle.std.specs.Prelude.{ℕ, ◌-◌, ◌*◌, ◌/◌, ◌^◌, ◌≤◌, ◌==◌, ◌||◌, nat_lt, nat_le, min, max, if◌then◌else◌}
 use Rattle.ccp_base.specs.Limits.{most_segment_bytes, most_flight}
 use Rattle.ccp_base.specs.Saturating.{◌+ˢ◌, ◌*ˢ◌, muldiv, clamped}
@@ -58,7 +58,7 @@ pub record IsInRange (mss window : ℕ) : Type 0 where
 abbrev pub Turn : Type 0
 Turn = RenoState × Reply
 
--- an agent that was told nothing yet
+-- an agent in its initial state
 abbrev pub first_reno : ℕ → Role → Role → RenoState
 first_reno mss ss ca = record {
   mss = mss;
@@ -136,6 +136,6 @@ after_told (Report report) s =
     after_measurement r (window_told s.course.mode r s)
 after_told (Fault notice) s = after_fault s
 
--- Reno: what is told of another epoch is passed over
+-- Reno: a report or notice of another epoch is ignored
 abbrev pub reno : RenoState → Told → Turn
 reno s told = if epoch_of told == s.course.epoch then after_told told s else (s, Nothing)

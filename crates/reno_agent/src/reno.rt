@@ -43,7 +43,7 @@ impl Reno {
     ghost use Rattle.ccp_base.specs.Course.{opening_of};
     ghost use Rattle.ccp_base.specs.Measurement.{measurement_of};
 
-    /// An agent that was told nothing yet, of a flow whose segments have `mss` bytes, with its programs of slow
+    /// An agent in its initial state, of a flow whose segments have `mss` bytes, with its programs of slow
     /// start and of congestion avoidance.
     pub fn new(mss: u32, ss: Role, ca: Role) -> Self
         requires some { 1 ≤ mss }
@@ -101,9 +101,14 @@ impl Reno {
         self.course.opening(self.mss)
     }
 
-    /// Replies to a report or a fault notice. What is told of another epoch than the agent's changes nothing.
+    /// Replies to a report or a fault notice. One of another epoch than the agent's changes nothing.
+    #[tactic(auto, using(crate::proofs::RoleLemmas::kept_roles))]
     pub fn reply(&mut self, told: &Told) -> Reply
-        ensures { (self.new, result) ≡ reno self.old told.now }
+        ensures turn { (self.new, result) ≡ reno self.old told.now }
+
+        // Its programs stay the same.
+        ensures ss { self.new.course.ss ≡ self.old.course.ss }
+        ensures ca { self.new.course.ca ≡ self.old.course.ca }
     {
         if told.epoch() != self.course.epoch {
             return Reply::Nothing;

@@ -1,11 +1,10 @@
--- What a case's codes keep within, and that its agent and its programs are those of its plan.
-use Rattle.std.proofs.Common.{◌≡◌, ℕ, ◌<◌, ◌≤◌, List, Some, None, cond, nat_lt, take, length, codes, refl, sym, ap, ◌∙◌, arith}
+-- What a case's codes keep within, and that two roles of one number have one program.
+use Rattle.std.proofs.Common.{◌≡◌, ℕ, ◌<◌, ◌≤◌, List, Some, None, cond, nat_lt, take, length, codes, sym, ap, ◌∙◌, arith}
 use Rattle.std.specs.Option.{ForSome}
 use Rattle.std.proofs.lemmas.Bool.Decides.{nat_tests}
 use Rattle.std.proofs.lemmas.List.{length-map, length-take}
 use Rattle.std.specs.List.{position_or_len}
 use Rattle.ccp_base.specs.Limits.{most_fields}
-use Rattle.ccp_base.specs.declared.look.Role.{Role}
 use Rattle.ccp_base.specs.declared.place.Place.{Place}
 use Rattle.portus_core.specs.declared.program.Decl.{Decl}
 use Rattle.portus_core.specs.Programs.{Form}
@@ -13,12 +12,9 @@ use Rattle.reg_code.specs.declared.code.Code.{Code}
 use Rattle.reg_compiler.specs.declared.built.Built.{Built}
 use Rattle.reg_compiler.specs.Simulation.{start_of, Simulates}
 use Rattle.portus_build.specs.Looks.{has_name, number_of, look_of}
-use Rattle.agent_core.specs.Agents.{course_of}
 use Rattle.flow_core.specs.declared.case.Coded.{Coded}
 use Rattle.flow_core.specs.Cases.{KeepsWithin, AreOne}
-use Rattle.scene_members.specs.declared.plan.Kind.{Kind}
-use Rattle.scene_members.specs.declared.plan.Kind.TheVariants.{Reno, Cubic}
-use Rattle.scenario_json.specs.Cases.{coded_at, agent_of, kind_of}
+use Rattle.scenario_json.specs.Cases.{coded_at}
 
 below_where : (n m limit x : ℕ) → m ≤ limit → cond (nat_lt n m) (Some n) None ≡ Some x → x < limit
 below_where n m limit x short found = grind (arith, nat_tests)
@@ -50,15 +46,3 @@ one_value left right e = cc
 pub one_program : (programs : List (ℕ × Built)) (ss ca : Coded) → coded_at programs ss.role.number ≡ Some ss → coded_at programs ca.role.number ≡ Some ca → AreOne ss ca
 one_program programs ss ca is_ss is_ca = λ same.
     let one : ss ≡ ca = one_value ss ca (sym is_ss ∙ ap (coded_at programs) same ∙ is_ca) in (ap (λ c. c.role.look) one, ap (λ c. c.code.code) one)
-
-pub ss_of_agent : (kind : Kind) (mss : ℕ) (ss ca : Role) → (course_of (agent_of kind mss ss ca)).ss ≡ ss
-ss_of_agent Reno mss ss ca = refl
-ss_of_agent Cubic mss ss ca = refl
-
-pub ca_of_agent : (kind : Kind) (mss : ℕ) (ss ca : Role) → (course_of (agent_of kind mss ss ca)).ca ≡ ca
-ca_of_agent Reno mss ss ca = refl
-ca_of_agent Cubic mss ss ca = refl
-
-pub kind_of_agent : (kind : Kind) (mss : ℕ) (ss ca : Role) → kind_of (agent_of kind mss ss ca) ≡ kind
-kind_of_agent Reno mss ss ca = refl
-kind_of_agent Cubic mss ss ca = refl

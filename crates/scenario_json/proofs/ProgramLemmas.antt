@@ -1,12 +1,14 @@
--- What is read of a scenario's programs grows at its end.
-use Rattle.std.proofs.Common.{◌≡◌, ℕ, List, [], ◌∷◌, ◌++◌, Ok, length, sym, ap, ◌∙◌, ◌+◌, arith}
+-- What is read of a scenario's programs, and the list of its built-in programs, grow at their ends.
+use Rattle.std.proofs.Common.{◌≡◌, ℕ, zero, suc, ◌<◌, List, [], ◌∷◌, ◌++◌, Ok, length, map, drop, get_or, refl, sym, ap, ◌∙◌, ◌+◌, arith, append_assoc}
 use Rattle.std.proofs.lemmas.List.{length-map, map_push}
 use Rattle.serde_json.specs.Data.{Data, Members, member}
 use Rattle.portus_core.specs.ProgramForm.{form_of}
+use Rattle.portus_build.specs.Builtins.{BuiltIn, builtins, builtin_text}
+use Rattle.portus_build.specs.TextWalk.{program_of}
 use Rattle.reg_compiler.specs.declared.built.Built.{Built}
 use Rattle.ccp_base.specs.Chaining.{then_do}
 use Rattle.scenario_json.specs.Cases.{AreNumberedFrom}
-use Rattle.scenario_json.specs.ScenePrograms.{named_program, programs_from, forms_of}
+use Rattle.scenario_json.specs.ScenePrograms.{named_program, programs_from, forms_of, built_in, built_ins_from}
 
 -- a program that is built goes to the end, with the number of those before it
 pub forms_pushed : (builts : List (ℕ × Built)) (built : Built) (name : List ℕ) (value : Data) (rest : Members)
@@ -22,3 +24,25 @@ pub numbered_pushed : (k : ℕ) (programs : List (ℕ × Built)) (one : ℕ × B
     → AreNumberedFrom k (programs ++ one ∷ [])
 numbered_pushed k [] one numbered is = (omega (arith, is), tt)
 numbered_pushed k (first ∷ rest) one numbered is = (numbered.0, numbered_pushed (k + 1) rest one numbered.1 (omega (arith, is)))
+
+-- the programs from a number on: that of the number, and those after it
+next_program : (programs : List BuiltIn) (from number : ℕ) → number < length programs
+    → built_ins_from from (drop number programs)
+    ≡ built_in from (program_of (get_or (map (λ program. program.text) programs) number [])) ++ built_ins_from (from + 1) (drop (number + 1) programs)
+next_program [] from number below = absurd (omega (arith, below))
+next_program (program ∷ rest) from zero below = refl
+next_program (program ∷ rest) from (suc number) below =
+    let one : suc (number + 1) ≡ suc number + 1 = omega arith in
+    next_program rest from number (omega (arith, below))
+    ∙ ap (λ n. built_in from (program_of (get_or (map (λ later. later.text) rest) number [])) ++ built_ins_from (from + 1) (drop n (program ∷ rest))) one
+
+-- one more built-in program is put at the end
+pub built_in_pushed : (builts : List (ℕ × Built)) (number : ℕ) (built : Built) → number < length builtins
+    → built_in number (program_of (builtin_text number)) ≡ (number, form_of built.program) ∷ []
+    → forms_of (builts ++ (number, built) ∷ []) ++ built_ins_from (number + 1) (drop (number + 1) builtins)
+    ≡ forms_of builts ++ built_ins_from number (drop number builtins)
+built_in_pushed builts number built below is =
+    let later = built_ins_from (number + 1) (drop (number + 1) builtins) in
+    ap (λ forms. forms ++ later) (map_push (λ one. (one.0, form_of one.1.program)) builts (number, built))
+    ∙ append_assoc (forms_of builts) ((number, form_of built.program) ∷ []) later
+    ∙ sym (ap (λ forms. forms_of builts ++ forms) (next_program builtins number number below ∙ ap (λ forms. forms ++ later) is))

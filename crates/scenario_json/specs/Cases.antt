@@ -1,18 +1,12 @@
 -- What the cases of a scenario are: what they say, with agents in their initial state and the codes of their
 -- programs.
 use Rattle.std.specs.Prelude.{◌≡◌, ℕ, ◌+◌, Option, Some, option_map, List, [], ◌∷◌, map, slice_get, ⊤}
-use Rattle.ccp_base.specs.declared.look.Role.{Role}
 use Rattle.portus_core.specs.ProgramForm.{form_of}
 use Rattle.reg_compiler.specs.declared.built.Built.{Built}
 use Rattle.portus_build.specs.Looks.{look_of}
-use Rattle.reno_agent.specs.Reno.{first_reno}
-use Rattle.cubic_agent.specs.Cubic.{first_cubic}
-use Rattle.agent_core.specs.declared.agent.Agent.{Agent}
-use Rattle.agent_core.specs.declared.agent.Agent.TheVariants as agent
+use Rattle.agent_core.specs.Kinds.{agent_of, kind_of}
 use Rattle.flow_core.specs.declared.case.Coded.{Coded}
 use Rattle.flow_core.specs.declared.case.Case.{Case}
-use Rattle.scene_members.specs.declared.plan.Kind.{Kind}
-use Rattle.scene_members.specs.declared.plan.Kind.TheVariants.{Reno, Cubic}
 use Rattle.scene_members.specs.declared.plan.Plan.{Plan}
 
 -- a built program as an agent's role has it: its number, where it keeps what agents read and write, and its code
@@ -25,15 +19,6 @@ coded_of number one = record {
 -- the program of this number; the programs stand in the order of their numbers
 abbrev pub coded_at : List (ℕ × Built) → ℕ → Option Coded
 coded_at programs number = option_map (coded_of number) (slice_get programs number)
-
--- the agent in its initial state
-abbrev pub agent_of : Kind → ℕ → Role → Role → Agent
-agent_of Reno mss ss ca = agent.Reno (first_reno mss ss ca)
-agent_of Cubic mss ss ca = agent.Cubic (first_cubic mss ss ca)
-
-abbrev pub kind_of : Agent → Kind
-kind_of (agent.Reno state) = Reno
-kind_of (agent.Cubic state) = Cubic
 
 -- what a case says
 abbrev pub plan_of : Case → Plan

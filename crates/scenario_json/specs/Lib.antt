@@ -1,10 +1,13 @@
 -- The definitions of scenario_json, a file each.
-pub mod MemberFaults
-pub mod ScenePrograms
+
+-- those that public contracts cite
 pub mod Scene
-pub mod Soak
+pub mod ScenePrograms
 pub mod Cases
-pub mod RefusalText
-pub mod Rollout
-pub mod ParsedScenes
 pub mod SharedScenes
+pub mod Rollout
+pub mod Soak
+pub mod RefusalText
+pub mod MemberFaults
+-- those that only private contracts cite
+pub mod ParsedScenes

@@ -1,10 +1,10 @@
--- The programs of a scenario: the three built-in ones, then those that it names, in byte order of their names.
-use Rattle.std.specs.Prelude.{ℕ, Option, Result, Ok, Err, List, [], ◌∷◌, ◌++◌, length, map}
+-- The programs of a scenario: the built-in ones, then those that it names, in byte order of their names.
+use Rattle.std.specs.Prelude.{ℕ, ◌+◌, Option, Result, Ok, Err, List, [], ◌∷◌, ◌++◌, length, map}
 use Rattle.serde_json.specs.Data.{Data, Members, no_members, member}
 use Rattle.portus_core.specs.Programs.{Form}
 use Rattle.portus_core.specs.ProgramForm.{form_of}
 use Rattle.reg_compiler.specs.declared.built.Built.{Built}
-use Rattle.portus_build.specs.Builtins.{builtin_text}
+use Rattle.portus_build.specs.Builtins.{BuiltIn, builtins}
 use Rattle.portus_build.specs.TextWalk.{program_of}
 use Rattle.portus_build.specs.declared.fault.BuildFault.{BuildFault}
 use Rattle.ccp_base.specs.Chaining.{then_do}
@@ -38,9 +38,13 @@ abbrev pub built_in : ℕ → Result Form BuildFault → Forms
 built_in number (Ok form) = (number, form) ∷ []
 built_in number (Err fault) = []
 
+-- the programs of these texts, with the numbers from this one on
+abbrev pub built_ins_from : ℕ → List BuiltIn → Forms
+built_ins_from number [] = []
+built_ins_from number (program ∷ rest) = built_in number (program_of program.text) ++ built_ins_from (number + 1) rest
+
 abbrev pub built_ins : Forms
-built_ins =
-    built_in 0 (program_of (builtin_text 0)) ++ built_in 1 (program_of (builtin_text 1)) ++ built_in 2 (program_of (builtin_text 2))
+built_ins = built_ins_from 0 builtins
 
 -- all programs of a scenario that names these
 abbrev pub programs_in : Members → Result Forms SceneFault

@@ -1,13 +1,13 @@
 -- The generated scenario of a number: 64 cases of the built-in programs, by draws in a fixed order.
-use Rattle.std.specs.Prelude.{ℕ, zero, suc, ◌+◌, ◌*◌, ◌/◌, ◌%◌, ◌^◌, ◌==◌, if◌then◌else◌, None, List, [], ◌∷◌, ◌++◌, length, codes, decimal}
+use Rattle.std.specs.Prelude.{ℕ, zero, suc, ◌+◌, ◌*◌, ◌/◌, ◌%◌, ◌^◌, None, List, [], ◌∷◌, ◌++◌, length, codes, decimal}
 use Rattle.ccp_base.specs.Text.{◌⧺◌}
 use Rattle.ccp_base.specs.Limits.{most_flows}
-use Rattle.scene_members.specs.declared.plan.Kind.{Kind}
-use Rattle.scene_members.specs.declared.plan.Kind.TheVariants.{Reno, Cubic}
+use Rattle.agent_core.specs.declared.kind.Kind.{Kind}
+use Rattle.agent_core.specs.declared.kind.Kind.TheVariants.{Reno, Cubic}
+use Rattle.agent_core.specs.Kinds.{avoidance_of}
 use Rattle.scene_members.specs.declared.plan.LinkNumbers.{LinkNumbers}
 use Rattle.scene_members.specs.declared.plan.AgentNumbers.{AgentNumbers}
 use Rattle.scene_members.specs.declared.plan.Plan.{Plan}
-use Rattle.scene_members.specs.CaseWalk.{avoidance_of}
 use Rattle.scenario_json.specs.ScenePrograms.{built_ins}
 use Rattle.scenario_json.specs.Scene.{Scene, scene_with}
 

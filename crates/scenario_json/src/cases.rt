@@ -6,19 +6,17 @@ ghost use Rattle.std.specs.List.Sorted.{IsStrictlyIncreasing};
 ghost use Rattle.ccp_base.specs.Limits.{most_mark};
 ghost use Rattle.portus_core.specs.ProgramForm.{form_of};
 ghost use Rattle.reg_compiler.specs.Simulation.{Simulates};
+ghost use Rattle.agent_core.specs.Kinds.{agent_of, kind_of};
 ghost use Rattle.flow_core.specs.Cases.{KeepsWithin, AreOne};
 ghost use Rattle.scene_members.specs.Plans.{IsPlan, AreLinkNumbers, AreAgentNumbers};
-ghost use Rattle.scenario_json.specs.Cases.{coded_of, coded_at, agent_of, kind_of, plan_of, IsCoded};
+ghost use Rattle.scenario_json.specs.Cases.{coded_of, coded_at, plan_of, IsCoded};
 
-use agent_core::Agent;
 use ccp_base::{NoMemory, Role, Sequence};
-use cubic_agent::Cubic;
 use flow_core::{Case, Coded};
 use link_model::LinkCase;
 use portus_build::calls::look;
 use reg_compiler::Built;
-use reno_agent::Reno;
-use scene_members::{Kind, Plan, Programs};
+use scene_members::{Plan, Programs};
 use std::alloc::Global;
 
 /// The program of this number, as an agent's role has it.
@@ -37,18 +35,6 @@ fn coded_program(alloc: Global, programs: &[(u32, Built)], number: u32) -> Resul
         },
         code: built.code.copy(alloc)?,
     })
-}
-
-/// The agent in its initial state.
-fn agent(kind: Kind, mss: u32, ss: Role, ca: Role) -> Agent
-    requires least { 1 ≤ mss }
-    requires most { mss ≤ 65535 }
-    ensures { result ≡ agent_of kind mss ss ca }
-{
-    match kind {
-        Kind::Reno => Agent::Reno(Reno::new(mss, ss, ca)),
-        Kind::Cubic => Agent::Cubic(Cubic::new(mss, ss, ca)),
-    }
 }
 
 /// The programs of a case: that of slow start, and that of congestion avoidance.
@@ -74,7 +60,6 @@ fn coded_programs(
 }
 
 /// The case of a flow whose programs these are.
-#[tactic(auto, using(crate::proofs::CaseLemmas::ss_of_agent, crate::proofs::CaseLemmas::ca_of_agent, crate::proofs::CaseLemmas::kind_of_agent))]
 fn case_of(flow: u32, plan: Plan, ss: Coded, ca: Coded) -> Case
     requires link_numbers { AreLinkNumbers plan.link_numbers }
     requires agent_numbers { AreAgentNumbers plan.agent_numbers }
@@ -92,7 +77,7 @@ fn case_of(flow: u32, plan: Plan, ss: Coded, ca: Coded) -> Case
     ensures opening { result.agent ≡ agent_of (kind_of result.agent) result.link.mss ss.role ca.role }
 {
     let link_numbers = plan.link_numbers;
-    let agent = agent(plan.kind, link_numbers.mss, ss.role, ca.role);
+    let agent = plan.kind.agent(link_numbers.mss, ss.role, ca.role);
     let link = LinkCase {
         trace: plan.trace,
         mss: link_numbers.mss,

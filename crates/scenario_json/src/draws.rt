@@ -4,16 +4,15 @@ ghost use Rattle.std.specs.List.{All};
 ghost use Rattle.std.specs.List.Sorted.{IsStrictlyIncreasing};
 ghost use Rattle.ccp_base.specs.Limits.{most_flows};
 ghost use Rattle.ccp_base.specs.Text.{◌⧺◌};
-ghost use Rattle.scene_members.specs.CaseWalk.{avoidance_of};
+ghost use Rattle.agent_core.specs.Kinds.{avoidance_of, built_in_count};
 ghost use Rattle.scene_members.specs.Plans.{IsPlan, AreLinkNumbers, AreAgentNumbers};
 ghost use Rattle.scenario_json.specs.Soak.{draw, segment, drawn_link_numbers, drawn_losses, drawn_loss_plan, drawn_agent_numbers};
 ghost use Rattle.scenario_json.specs.Soak.{kind_at, text_at, times_at, drawn_plan, drawn_plans};
 
+use agent_core::Kind;
 use ccp_base::{Name, NoMemory, Sequence};
 use link_model::{Trace, TraceFault};
-use scene_members::{
-    AgentNumbers, Kind, LinkNumbers, LossPlan, Plan, Plans, Programs, avoidance_of,
-};
+use scene_members::{AgentNumbers, LinkNumbers, LossPlan, Plan, Plans, Programs};
 use std::alloc::Global;
 
 /// The cases of a generated scenario.
@@ -151,7 +150,7 @@ fn case_name(alloc: Global, i: usize) -> Result<Name, NoMemory>
 /// The case of this number.
 fn plan(alloc: Global, draws: &mut Draws, i: usize) -> Result<Plan, NoMemory>
     ensures drawn { IfOk result (λ p. (p, draws.new.x) ≡ drawn_plan i draws.old.x) }
-    ensures within { IfOk result (λ p. IsPlan 3 p) }
+    ensures within { IfOk result (λ p. IsPlan built_in_count p) }
 {
     let name = case_name(alloc, i)?;
     let link_numbers = link_numbers(draws);
@@ -168,7 +167,7 @@ fn plan(alloc: Global, draws: &mut Draws, i: usize) -> Result<Plan, NoMemory>
         loss_plan,
         programs: Programs {
             ss: 0,
-            ca: avoidance_of(kind),
+            ca: kind.avoidance(),
         },
     })
 }
@@ -177,7 +176,7 @@ fn plan(alloc: Global, draws: &mut Draws, i: usize) -> Result<Plan, NoMemory>
 #[tactic(auto, using(scene_members::proofs::ListLemmas::all_pushed))]
 pub(crate) fn plans(alloc: Global, number: u32) -> Result<Plans, NoMemory>
     ensures drawn { IfOk result (λ ps. ps ≡ drawn_plans most_flows [] number) }
-    ensures within { IfOk result (λ ps. All (IsPlan 3) ps) }
+    ensures within { IfOk result (λ ps. All (IsPlan built_in_count) ps) }
     ensures count { IfOk result (λ ps. length ps ≡ most_flows) }
 {
     let mut draws = Draws {

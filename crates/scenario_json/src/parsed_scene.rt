@@ -3,6 +3,7 @@ ghost use Rattle.std.specs.Prelude.{◌≡◌, ◌≢◌, ◌≤◌, ◌+◌, If
 ghost use Rattle.std.specs.List.{All};
 ghost use Rattle.serde_json.specs.View.{view};
 ghost use Rattle.ccp_base.specs.Limits.{most_named_programs};
+ghost use Rattle.agent_core.specs.Kinds.{built_in_count};
 ghost use Rattle.scene_members.specs.Plans.{IsPlan};
 ghost use Rattle.scene_members.specs.Values.{member_of};
 ghost use Rattle.scene_members.specs.Whole.{most_cases_of};
@@ -34,7 +35,7 @@ pub(crate) struct ParsedScene {
 fn unnamed_programs(alloc: Global) -> Result<SceneProgramList, NoMemory>
     ensures ok { IfOk result (λ p. all_programs None ≡ Ok (programs_said p)) }
     ensures numbered { IfOk result (λ p. AreNumberedFrom 0 p.builts) }
-    ensures count { IfOk result (λ p. length p.builts ≡ length p.names + 3) }
+    ensures count { IfOk result (λ p. length p.builts ≡ length p.names + built_in_count) }
     ensures few { IfOk result (λ p. length p.names ≤ most_named_programs) }
 {
     let builts = built_ins(alloc)?;
@@ -48,7 +49,7 @@ fn unnamed_programs(alloc: Global) -> Result<SceneProgramList, NoMemory>
 fn named_programs(alloc: Global, value: &Value) -> Result<SceneProgramList, SceneFault>
     ensures ok { IfOk result (λ p. all_programs (Some (view value.now)) ≡ Ok (programs_said p)) }
     ensures numbered { IfOk result (λ p. AreNumberedFrom 0 p.builts) }
-    ensures count { IfOk result (λ p. length p.builts ≡ length p.names + 3) }
+    ensures count { IfOk result (λ p. length p.builts ≡ length p.names + built_in_count) }
     ensures few { IfOk result (λ p. length p.names ≤ most_named_programs) }
     ensures err { IfErr result (λ e. e ≢ fault.NoMemory
         → all_programs (Some (view value.now)) ≡ Err e) }
@@ -61,7 +62,7 @@ fn named_programs(alloc: Global, value: &Value) -> Result<SceneProgramList, Scen
 fn all_programs(alloc: Global, whole: &Value) -> Result<SceneProgramList, SceneFault>
     ensures ok { IfOk result (λ p. all_programs (member_of key.Programs (view whole.now)) ≡ Ok (programs_said p)) }
     ensures numbered { IfOk result (λ p. AreNumberedFrom 0 p.builts) }
-    ensures count { IfOk result (λ p. length p.builts ≡ length p.names + 3) }
+    ensures count { IfOk result (λ p. length p.builts ≡ length p.names + built_in_count) }
     ensures few { IfOk result (λ p. length p.names ≤ most_named_programs) }
     ensures err { IfErr result (λ e. e ≢ fault.NoMemory
         → all_programs (member_of key.Programs (view whole.now)) ≡ Err e) }

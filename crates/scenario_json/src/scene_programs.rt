@@ -5,7 +5,8 @@ ghost use Rattle.serde_json.specs.View.{view, members_view};
 ghost use Rattle.serde_json.specs.Events.{members_len};
 ghost use Rattle.ccp_base.specs.Limits.{most_named_programs};
 ghost use Rattle.portus_core.specs.ProgramForm.{form_of};
-ghost use Rattle.portus_build.specs.Builtins.{builtin_text};
+ghost use Rattle.agent_core.specs.Kinds.{built_in_count};
+ghost use Rattle.portus_build.specs.Builtins.{builtins, builtin_text};
 ghost use Rattle.portus_build.specs.declared.fault.BuildFault.TheVariants as build_fault;
 ghost use Rattle.scenario_json.specs.Cases.{AreNumberedFrom};
 ghost use Rattle.portus_build.specs.TextWalk.{program_of};
@@ -14,6 +15,7 @@ ghost use Rattle.scenario_json.specs.ScenePrograms.{built_in, built_ins, names_o
 ghost use Rattle.scenario_json.specs.declared.fault.SceneFault.TheVariants as fault;
 
 use crate::fault::SceneFault;
+use agent_core::BUILT_INS;
 use ccp_base::{Name, Names, NoMemory, Sequence};
 use portus_build::{BuildFault, build, builtin};
 use reg_compiler::{Built, Builts};
@@ -46,7 +48,7 @@ fn build_text(alloc: Global, text: &[u8]) -> Result<Built, BuildFault>
 /// A built-in program. Its text is one of a program, so it is never refused.
 #[tactic(auto, using(portus_build::proofs::BuiltinLemmas::never_refused))]
 fn built_in(alloc: Global, number: u32) -> Result<Built, NoMemory>
-    requires { number < 3 }
+    requires { number < length builtins }
     ensures { IfOk result (λ b. built_in number (program_of (builtin_text number)) ≡ (number, form_of b.program) ∷ []) }
 {
     match build_text(alloc, builtin(number)) {
@@ -61,11 +63,13 @@ fn put_built_ins(alloc: Global, builts: &mut Builts) -> Result<(), NoMemory>
     requires { builts.old ≡ [] }
     ensures forms { OnOk result (forms_of builts.new ≡ built_ins) }
     ensures numbered { OnOk result (AreNumberedFrom 0 builts.new) }
-    ensures count { OnOk result (length builts.new ≡ 3) }
+    ensures count { OnOk result (length builts.new ≡ built_in_count) }
 {
-    builts.push((0, built_in(alloc, 0)?))?;
-    builts.push((1, built_in(alloc, 1)?))?;
-    builts.push((2, built_in(alloc, 2)?))?;
+    let mut number = 0;
+    while number < BUILT_INS {
+        builts.push((number, built_in(alloc, number)?))?;
+        number += 1;
+    }
     Ok(())
 }
 
@@ -73,7 +77,7 @@ fn put_built_ins(alloc: Global, builts: &mut Builts) -> Result<(), NoMemory>
 pub(crate) fn built_ins(alloc: Global) -> Result<Builts, NoMemory>
     ensures forms { IfOk result (λ builts. forms_of builts ≡ built_ins) }
     ensures numbered { IfOk result (AreNumberedFrom 0) }
-    ensures count { IfOk result (λ builts. length builts ≡ 3) }
+    ensures count { IfOk result (λ builts. length builts ≡ built_in_count) }
 {
     let mut builts = Sequence::new(alloc);
     put_built_ins(alloc, &mut builts)?;
@@ -105,12 +109,12 @@ fn put_programs(
 ) -> Result<(), SceneFault>
     requires few { length names.old + members_len (members_view members.now.entries) ≤ most_named_programs }
     requires numbered { AreNumberedFrom 0 builts.old }
-    requires count { length builts.old ≡ length names.old + 3 }
+    requires count { length builts.old ≡ length names.old + built_in_count }
     ensures ok { OnOk result
         (programs_from (forms_of builts.old) (members_view members.now.entries) ≡ Ok (forms_of builts.new)) }
     ensures names { OnOk result (names.new ≡ names.old ++ names_of (members_view members.now.entries)) }
     ensures numbered { OnOk result (AreNumberedFrom 0 builts.new) }
-    ensures count { OnOk result (length builts.new ≡ length names.new + 3) }
+    ensures count { OnOk result (length builts.new ≡ length names.new + built_in_count) }
     ensures few { OnOk result (length names.new ≤ most_named_programs) }
     ensures err { IfErr result (λ e. e ≢ fault.NoMemory
         → programs_from (forms_of builts.old) (members_view members.now.entries) ≡ Err e) }
@@ -133,7 +137,7 @@ pub(crate) fn programs_in(
     ensures ok { IfOk result (λ p. programs_in (members_view members.now.entries) ≡ Ok (forms_of p.builts)) }
     ensures names { IfOk result (λ p. p.names ≡ names_of (members_view members.now.entries)) }
     ensures numbered { IfOk result (λ p. AreNumberedFrom 0 p.builts) }
-    ensures count { IfOk result (λ p. length p.builts ≡ length p.names + 3) }
+    ensures count { IfOk result (λ p. length p.builts ≡ length p.names + built_in_count) }
     ensures few { IfOk result (λ p. length p.names ≤ most_named_programs) }
     ensures err { IfErr result (λ e. e ≢ fault.NoMemory → programs_in (members_view members.now.entries) ≡ Err e) }
 {

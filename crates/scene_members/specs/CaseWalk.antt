@@ -1,15 +1,15 @@
 -- What a case of a scenario says, or the first refusal in the order of its members.
-use Rattle.std.specs.Prelude.{ℕ, ◌+◌, ◌-◌, nat_lt, if◌then◌else◌, Option, Some, None, option_map, Result, Ok, Err, List, [], ◌∷◌, ◌++◌, length, slice_get, position, codes, bytes_eq}
+use Rattle.std.specs.Prelude.{ℕ, ◌+◌, ◌-◌, nat_lt, if◌then◌else◌, Option, Some, None, option_map, Result, Ok, Err, List, [], ◌∷◌, ◌++◌, length, slice_get, position, bytes_eq}
 use Rattle.serde_json.specs.Data.{Data, Items, no_items, item}
 use Rattle.ccp_base.specs.Chaining.{then_do}
+use Rattle.agent_core.specs.declared.kind.Kind.{Kind}
+use Rattle.agent_core.specs.Kinds.{kind_named, avoidance_of, built_in_count}
 use Rattle.scene_members.specs.declared.fault.MemberFault.{MemberFault}
 use Rattle.scene_members.specs.declared.fault.MemberFault.TheVariants.{Wrong}
 use Rattle.scene_members.specs.declared.key.Key.{Key}
 use Rattle.scene_members.specs.declared.key.Key.TheVariants as key
 use Rattle.scene_members.specs.declared.json_place.JsonPlace.{JsonPlace}
 use Rattle.scene_members.specs.declared.json_place.JsonPlace.TheVariants.{Case, In, Item}
-use Rattle.scene_members.specs.declared.plan.Kind.{Kind}
-use Rattle.scene_members.specs.declared.plan.Kind.TheVariants.{Reno, Cubic}
 use Rattle.scene_members.specs.declared.plan.LinkNumbers.{LinkNumbers}
 use Rattle.scene_members.specs.declared.plan.AgentNumbers.{AgentNumbers}
 use Rattle.scene_members.specs.declared.plan.LossPlan.{LossPlan}
@@ -25,10 +25,6 @@ use Rattle.scene_members.specs.SceneNames.{name_in}
 abbrev pub case_name : ℕ → Data → Result (List ℕ) MemberFault
 case_name i whole =
     then_do (needed (In i key.Name) (member_of key.Name whole)) (λ value. name_in (In i key.Name) value)
-
-abbrev pub kind_named : List ℕ → Option Kind
-kind_named text =
-    if bytes_eq text (codes "reno") then Some Reno else if bytes_eq text (codes "cubic") then Some Cubic else None
 
 -- the case's agent
 abbrev pub case_kind : ℕ → Data → Result Kind MemberFault
@@ -111,19 +107,14 @@ case_loss_plan i whole =
 
 -- ---- programs
 
--- the number of a program that the scenario names: those come after the three that are built in
+-- the number of a program that the scenario names: those come after the ones that are built in
 abbrev pub program_named : List ℕ → List (List ℕ) → Option ℕ
-program_named name names = option_map (λ i. i + 3) (position (λ known. bytes_eq known name) names)
+program_named name names = option_map (λ i. i + built_in_count) (position (λ known. bytes_eq known name) names)
 
 abbrev pub program_or : JsonPlace → List (List ℕ) → ℕ → Option Data → Result ℕ MemberFault
 program_or place names default None = Ok default
 program_or place names default (Some value) =
     then_do (text_in place value) (λ name. of_kind place (program_named name names))
-
--- the built-in program of congestion avoidance
-abbrev pub avoidance_of : Kind → ℕ
-avoidance_of Reno = 1
-avoidance_of Cubic = 2
 
 abbrev pub case_programs : List (List ℕ) → Kind → ℕ → Data → Result Programs MemberFault
 case_programs names kind i whole =

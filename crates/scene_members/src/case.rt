@@ -3,7 +3,8 @@ ghost use Rattle.std.specs.Prelude.{◌≡◌, ◌≢◌, ◌≤◌, ◌+◌, If
 ghost use Rattle.std.specs.List.{All};
 ghost use Rattle.serde_json.specs.View.{view};
 ghost use Rattle.ccp_base.specs.Limits.{most_named_programs};
-ghost use Rattle.scene_members.specs.CaseWalk.{case_name, kind_named, case_kind, trace_in, case_trace, case_members};
+ghost use Rattle.agent_core.specs.Kinds.{built_in_count};
+ghost use Rattle.scene_members.specs.CaseWalk.{case_name, case_kind, trace_in, case_trace, case_members};
 ghost use Rattle.scene_members.specs.CaseWalk.{case_in};
 ghost use Rattle.scene_members.specs.CaseLists.{plans_in};
 ghost use Rattle.scene_members.specs.Traces.{table_of};
@@ -17,9 +18,10 @@ use crate::fault::MemberFault;
 use crate::json_place::JsonPlace;
 use crate::key::Key;
 use crate::names::name;
-use crate::plan::{Kind, Plan, Plans};
+use crate::plan::{Plan, Plans};
 use crate::traces::{Traces, trace_named};
 use crate::values::{needed, object, text};
+use agent_core::Kind;
 use ccp_base::{Name, Sequence};
 use link_model::Trace;
 use serde_json::Value;
@@ -34,18 +36,6 @@ pub(crate) fn case_name(alloc: Global, i: usize, whole: &Value) -> Result<Name, 
     name(alloc, place, value)
 }
 
-fn kind_named(text: &[u8]) -> Option<Kind>
-    ensures { result ≡ kind_named text.now }
-{
-    if text == b"reno".as_slice() {
-        Some(Kind::Reno)
-    } else if text == b"cubic".as_slice() {
-        Some(Kind::Cubic)
-    } else {
-        None
-    }
-}
-
 fn case_kind(alloc: Global, i: usize, whole: &Value) -> Result<Kind, MemberFault>
     ensures ok { IfOk result (λ k. case_kind i (view whole.now) ≡ Ok k) }
     ensures err { IfErr result (λ e. e ≢ fault.NoMemory → case_kind i (view whole.now) ≡ Err e) }
@@ -53,7 +43,7 @@ fn case_kind(alloc: Global, i: usize, whole: &Value) -> Result<Kind, MemberFault
     let place = JsonPlace::In(i, Key::Agent);
     let value = needed(alloc, place, whole, Key::Agent)?;
     let text = text(alloc, place, value)?;
-    match kind_named(text.as_bytes()) {
+    match Kind::named(text.as_bytes()) {
         Some(kind) => Ok(kind),
         None => Err(place.wrong(alloc)),
     }
@@ -102,7 +92,7 @@ fn members(
 ) -> Result<Plan, MemberFault>
     requires { length names.now ≤ most_named_programs }
     ensures ok { IfOk result (λ p. case_members names.now (table_of traces.now.entries) i (view whole.now) ≡ Ok p) }
-    ensures within { IfOk result (λ p. IsPlan (length names.now + 3) p) }
+    ensures within { IfOk result (λ p. IsPlan (length names.now + built_in_count) p) }
     ensures err { IfErr result (λ e. e ≢ fault.NoMemory
         → case_members names.now (table_of traces.now.entries) i (view whole.now) ≡ Err e) }
 {
@@ -133,7 +123,7 @@ fn case_in(
 ) -> Result<Plan, MemberFault>
     requires { length names.now ≤ most_named_programs }
     ensures ok { IfOk result (λ p. case_in names.now (table_of traces.now.entries) i (view whole.now) ≡ Ok p) }
-    ensures within { IfOk result (λ p. IsPlan (length names.now + 3) p) }
+    ensures within { IfOk result (λ p. IsPlan (length names.now + built_in_count) p) }
     ensures err { IfErr result (λ e. e ≢ fault.NoMemory
         → case_in names.now (table_of traces.now.entries) i (view whole.now) ≡ Err e) }
 {
@@ -151,7 +141,7 @@ pub(crate) fn cases_from(
 ) -> Result<Plans, MemberFault>
     requires { length names.now ≤ most_named_programs }
     ensures ok { IfOk result (λ ps. plans_in names.now traces.now.entries values.now ≡ Ok ps) }
-    ensures within { IfOk result (λ ps. All (IsPlan (length names.now + 3)) ps) }
+    ensures within { IfOk result (λ ps. All (IsPlan (length names.now + built_in_count)) ps) }
     ensures count { IfOk result (λ ps. length ps ≡ length values.now) }
     ensures err { IfErr result (λ e. e ≢ fault.NoMemory → plans_in names.now traces.now.entries values.now ≡ Err e) }
 {

@@ -3,21 +3,20 @@ ghost use Rattle.std.specs.Prelude.{◌≡◌, ◌≢◌, ◌≤◌, ◌<◌, �
 ghost use Rattle.std.specs.Option.{ForSome};
 ghost use Rattle.serde_json.specs.View.{view};
 ghost use Rattle.ccp_base.specs.Limits.{most_named_programs};
+ghost use Rattle.agent_core.specs.Kinds.{built_in_count};
 ghost use Rattle.scene_members.specs.Values.{member_of};
-ghost use Rattle.scene_members.specs.CaseWalk.{program_named, program_or, avoidance_of, case_programs};
+ghost use Rattle.scene_members.specs.CaseWalk.{program_named, program_or, case_programs};
 ghost use Rattle.scene_members.specs.declared.fault.MemberFault.TheVariants as fault;
 
 use crate::fault::MemberFault;
 use crate::json_place::JsonPlace;
 use crate::key::Key;
-use crate::plan::{Kind, Programs};
+use crate::plan::Programs;
 use crate::values::{member, text};
+use agent_core::{BUILT_INS, Kind};
 use ccp_base::Name;
 use serde_json::Value;
 use std::alloc::Global;
-
-/// How many programs are built in.
-const BUILT_IN: u32 = 3;
 
 fn is_named(known: &Name, name: &[u8]) -> bool
     ensures { result ≡ bytes_eq known.now name.now }
@@ -36,10 +35,10 @@ fn index_of(names: &[Name], name: &[u8]) -> Option<usize>
 fn program_named(names: &[Name], name: &[u8]) -> Option<u32>
     requires { length names.now ≤ most_named_programs }
     ensures number { result ≡ program_named name.now names.now }
-    ensures within { ForSome result (λ n. n < length names.now + 3) }
+    ensures within { ForSome result (λ n. n < length names.now + built_in_count) }
 {
     let index = index_of(names, name)?;
-    Some(index as u32 + BUILT_IN)
+    Some(index as u32 + BUILT_INS)
 }
 
 fn program_or(
@@ -51,9 +50,9 @@ fn program_or(
     key: Key,
 ) -> Result<u32, MemberFault>
     requires few { length names.now ≤ most_named_programs }
-    requires built_in { default < 3 }
+    requires built_in { default < built_in_count }
     ensures ok { IfOk result (λ n. program_or place names.now default (member_of key (view whole.now)) ≡ Ok n) }
-    ensures within { IfOk result (λ n. n < length names.now + 3) }
+    ensures within { IfOk result (λ n. n < length names.now + built_in_count) }
     ensures err { IfErr result (λ e. e ≢ fault.NoMemory
         → program_or place names.now default (member_of key (view whole.now)) ≡ Err e) }
 {
@@ -67,17 +66,6 @@ fn program_or(
     }
 }
 
-/// The built-in program of congestion avoidance.
-pub fn avoidance_of(kind: Kind) -> u32
-    ensures number { result ≡ avoidance_of kind }
-    ensures built_in { result < 3 }
-{
-    match kind {
-        Kind::Reno => 1,
-        Kind::Cubic => 2,
-    }
-}
-
 /// The numbers of a case's programs.
 pub(crate) fn programs(
     alloc: Global,
@@ -88,8 +76,8 @@ pub(crate) fn programs(
 ) -> Result<Programs, MemberFault>
     requires few { length names.now ≤ most_named_programs }
     ensures ok { IfOk result (λ p. case_programs names.now kind i (view whole.now) ≡ Ok p) }
-    ensures ss_within { IfOk result (λ p. p.ss < length names.now + 3) }
-    ensures ca_within { IfOk result (λ p. p.ca < length names.now + 3) }
+    ensures ss_within { IfOk result (λ p. p.ss < length names.now + built_in_count) }
+    ensures ca_within { IfOk result (λ p. p.ca < length names.now + built_in_count) }
     ensures err { IfErr result (λ e. e ≢ fault.NoMemory → case_programs names.now kind i (view whole.now) ≡ Err e) }
 {
     let ss = program_or(alloc, JsonPlace::In(i, Key::Ss), names, 0, whole, Key::Ss)?;
@@ -97,7 +85,7 @@ pub(crate) fn programs(
         alloc,
         JsonPlace::In(i, Key::Ca),
         names,
-        avoidance_of(kind),
+        kind.avoidance(),
         whole,
         Key::Ca,
     )?;

@@ -23,7 +23,6 @@ mod traces;
 mod values;
 mod whole;
 
-pub use case_programs::avoidance_of;
 pub use fault::{MemberFault, Path};
 pub use json::value_in;
 pub use key::Key;
@@ -31,7 +30,7 @@ pub use mode::SceneMode;
 pub use named::{Named, named_members, named_text};
 pub use open_case::{OpenCase, OpenCases, StepTexts};
 pub use open_cases::open_plans_in;
-pub use plan::{AgentNumbers, Kind, LinkNumbers, LossPlan, Plan, Plans, Programs};
+pub use plan::{AgentNumbers, LinkNumbers, LossPlan, Plan, Plans, Programs};
 pub use shared::{Shares, shares_in};
 pub use traces::{Traces, traces_in};
 pub use values::member;

@@ -1,13 +1,7 @@
 //! What one case of a scenario says: agent, trace, numbers, losses, marks, and its programs by number.
+use agent_core::Kind;
 use ccp_base::{Name, Sequence};
 use link_model::Trace;
-
-/// Which agent a case has.
-#[derive(Clone, Copy)]
-pub enum Kind {
-    Reno,
-    Cubic,
-}
 
 /// The numbers that every case gives.
 #[derive(Clone, Copy)]

@@ -3,6 +3,7 @@ ghost use Rattle.std.specs.Prelude.{◌≡◌, ◌≢◌, ◌≤◌, ◌+◌, �
 ghost use Rattle.std.specs.List.{All};
 ghost use Rattle.serde_json.specs.View.{view, items_view};
 ghost use Rattle.ccp_base.specs.Limits.{most_named_programs};
+ghost use Rattle.agent_core.specs.Kinds.{built_in_count};
 ghost use Rattle.scene_members.specs.Plans.{IsPlan};
 ghost use Rattle.scene_members.specs.Traces.{table_of};
 ghost use Rattle.scene_members.specs.Whole.{most_cases_of, few_items, cases_in, acks_of, within_total, opening_in};
@@ -82,7 +83,7 @@ pub fn cases_in(
 ) -> Result<Plans, MemberFault>
     requires { length names.now ≤ most_named_programs }
     ensures ok { IfOk result (λ ps. cases_in mode names.now (table_of traces.now.entries) (view whole.now) ≡ Ok ps) }
-    ensures within { IfOk result (λ ps. All (IsPlan (length names.now + 3)) ps) }
+    ensures within { IfOk result (λ ps. All (IsPlan (length names.now + built_in_count)) ps) }
     ensures count { IfOk result (λ ps. length ps ≤ most_cases_of mode) }
     ensures err { IfErr result (λ e. e ≢ fault.NoMemory
         → cases_in mode names.now (table_of traces.now.entries) (view whole.now) ≡ Err e) }

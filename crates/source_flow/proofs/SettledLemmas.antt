@@ -11,7 +11,8 @@ use Rattle.portus_core.specs.Epoch.{Track, updated, with_values, declared_env}
 use Rattle.portus_core.proofs.EventLaws.{after-append}
 use Rattle.agent_core.specs.declared.agent.Agent.{Agent}
 use Rattle.agent_core.specs.Agents.{course_of, replied, values_of}
-use Rattle.agent_core.specs.RoleLaws.{AreRoles, roles-kept}
+use Rattle.agent_core.specs.RoleLaws.{AreRoles}
+use Rattle.agent_core.proofs.ReplyLemmas.{roles-kept}
 use Rattle.flow_core.specs.Readings.{Flow}
 use Rattle.flow_core.specs.World.{Taken, Answered, World, track_of, with_reply, answer_applied, after_answer, told_as}
 use Rattle.flow_core.specs.States.{some_count}

@@ -1,28 +1,24 @@
-use Rattle.std.proofs.Common.{◌≡◌, ◌∙◌, List, ℕ, [], ◌∷◌, ◌++◌, rules, ap, sym}
-use Rattle.portus_core.specs.Programs.{Form}
-use Rattle.portus_core.specs.ProgramForm.{form_of}
-use Rattle.portus_build.specs.Builtins.{builtin_text}
+use Rattle.std.proofs.Common.{rules, arith, ◌≡◌, ◌+◌, ◌<◌, ℕ, List, [], ◌∷◌, ◌++◌, drop, length, sym, ap, ◌∙◌, subst}
+use Rattle.std.proofs.lemmas.List.{length-append}
+use Rattle.agent_core.specs.Kinds.{built_in_count}
+use Rattle.portus_build.specs.Builtins.{builtins}
 use Rattle.reg_compiler.specs.declared.built.Built.{Built}
-use Rattle.portus_build.specs.TextWalk.{program_of}
-use Rattle.scenario_json.specs.ScenePrograms.{Forms, built_in, built_ins, forms_of}
+use Rattle.scenario_json.specs.Cases.{AreNumberedFrom}
+use Rattle.scenario_json.specs.ScenePrograms.{built_ins_from, forms_of}
+use Rattle.scenario_json.proofs.ProgramLemmas.{built_in_pushed, numbered_pushed}
 use Rattle.scenario_json.proofs.scene_programs.put_built_ins.Goals as goal
 
-pub returns-clause-forms : goal.returns-clause-forms
-returns-clause-forms c =
-    let b0 = c.in_ok-built_in.field-0 in
-    let b1 = c.in_ok-built_in-2.field-0 in
-    let b2 = c.in_ok-built_in-3.field-0 in
-    let first : c.push.new.self ≡ (0, b0) ∷ [] = search rules in
-    let second : c.push-2.new.self ≡ c.push.new.self ++ (1, b1) ∷ [] = search rules in
-    let third : c.push-3.new.self ≡ c.push-2.new.self ++ (2, b2) ∷ [] = search rules in
-    let f0 : Form = form_of b0.program in
-    let f1 : Form = form_of b1.program in
-    let list : c.push-3.new.self ≡ (0, b0) ∷ (1, b1) ∷ (2, b2) ∷ [] =
-    third ∙ ap (λ front. front ++ (2, b2) ∷ []) (second ∙ ap (λ front. front ++ (1, b1) ∷ []) first) in
-    let zero : Forms = (0, f0) ∷ [] in
-    let one : Forms = (1, f1) ∷ [] in
-    ap forms_of list
-    ∙ sym
-    (ap (λ front. front ++ built_in 1 (program_of (builtin_text 1)) ++ built_in 2 (program_of (builtin_text 2))) (c.in_ok-built_in.ensures)
-    ∙ ap (λ middle. zero ++ middle ++ built_in 2 (program_of (builtin_text 2))) (c.in_ok-built_in-2.ensures)
-    ∙ ap (λ last. zero ++ one ++ last) (c.in_ok-built_in-3.ensures))
+pub loop-number-preserved : goal.loop-number-preserved
+loop-number-preserved c =
+    let l = c.loop-number in
+    let built = c.in_ok-built_in.field-0 in
+    let one : ℕ × Built = (l.number, built) in
+    let below : l.number < built_in_count = search rules in
+    let pushed : c.push.new.self ≡ l.builts ++ one ∷ [] = search rules in
+    let longer : length c.push.new.self ≡ length l.builts + 1 = ap length pushed ∙ length-append l.builts (one ∷ []) in (
+      ap (λ bs. forms_of bs ++ built_ins_from (l.number + 1) (drop (l.number + 1) builtins)) pushed
+          ∙ built_in_pushed l.builts l.number built below c.in_ok-built_in.ensures ∙ l.invariant.0,
+      subst (λ (bs : List (ℕ × Built)). AreNumberedFrom 0 bs) (sym pushed) (numbered_pushed 0 l.builts one l.invariant.1 (omega (arith, l.invariant.2))),
+      omega (arith, longer, l.invariant.2),
+      omega (arith, below),
+    )

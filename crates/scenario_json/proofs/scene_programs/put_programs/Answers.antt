@@ -1,4 +1,4 @@
-use Rattle.std.proofs.Common.{suc, rules, arith, ◌≡◌, ◌≤◌, ◌+◌, Ok, [], ◌∷◌, ◌++◌, length, string_bytes, sym, refl, subst, ℕ, List, ap, ◌∙◌, append_assoc}
+use Rattle.std.proofs.Common.{suc, rules, arith, ◌≡◌, ◌+◌, Ok, [], ◌∷◌, ◌++◌, length, string_bytes, sym, subst, ℕ, List, ap, ◌∙◌, append_assoc}
 use Rattle.std.proofs.lemmas.List.{length-append}
 use Rattle.serde_json.specs.View.{view, members_view}
 use Rattle.serde_json.specs.Events.{members_len}

@@ -2,6 +2,7 @@ use Rattle.std.proofs.Common.{◌≡◌, ◌≤◌, ◌+◌, ◌++◌, length}
 use Rattle.serde_json.specs.View.{members_view}
 use Rattle.serde_json.specs.Events.{members_len}
 use Rattle.ccp_base.specs.Limits.{most_named_programs}
+use Rattle.agent_core.specs.Kinds.{built_in_count}
 use Rattle.scenario_json.specs.Cases.{AreNumberedFrom}
 use Rattle.scenario_json.specs.ScenePrograms.{programs_from, names_of, forms_of}
 use Rattle.scenario_json.proofs.scene_programs.put_programs.Given as goal
@@ -11,5 +12,5 @@ invariant-loop-name l =
     (programs_from (forms_of l.builts) (members_view l.name-iterator) ≡ programs_from (forms_of l.initial.builts) (members_view l.members.entries))
     × (l.names ++ names_of (members_view l.name-iterator) ≡ l.initial.names ++ names_of (members_view l.members.entries))
     × AreNumberedFrom 0 l.builts
-    × (length l.builts ≡ length l.names + 3)
+    × (length l.builts ≡ length l.names + built_in_count)
     × (length l.names + members_len (members_view l.name-iterator) ≤ most_named_programs)

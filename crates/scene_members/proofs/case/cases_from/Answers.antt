@@ -2,6 +2,7 @@ use Rattle.std.proofs.Common.{rules, arith, ◌≡◌, ◌+◌, [], ◌∷◌, �
 use Rattle.std.proofs.lemmas.List.{length-append}
 use Rattle.std.specs.List.{All}
 use Rattle.serde_json.specs.View.{items_view}
+use Rattle.agent_core.specs.Kinds.{built_in_count}
 use Rattle.scene_members.specs.CaseWalk.{cases_from}
 use Rattle.scene_members.specs.Traces.{table_of}
 use Rattle.scene_members.specs.Plans.{IsPlan}
@@ -12,7 +13,7 @@ pub loop-value-preserved : goal.loop-value-preserved
 loop-value-preserved c =
     let l = c.loop-value in
     let plan = c.in_ok-case_in.field-0 in
-    let count = length c.args.names.now + 3 in
+    let count = length c.args.names.now + built_in_count in
     let table = table_of c.args.traces.now.entries in
     let pushed : c.push.new.self ≡ l.plans ++ plan ∷ [] = search rules in
     let rest : l.rest.now ≡ c.in-Some.value.now ∷ c.in-Some.later.now = search rules in

@@ -13,10 +13,10 @@ pub returns-clause-parts : goal.returns-clause-parts
 returns-clause-parts c =
     let s = c.args.self.now in
     is-settled s c.requires.parts c.in-Some.issued.now (search rules) c.obey.new.self c.close.new.self c.reply-reply.new.self c.reply-reply.result
-    c.reports_told-reports.result c.reply-reply.ensures c.reports_told-reports.ensures.told c.obey.ensures c.close.ensures
+    c.reports_told-reports.result c.reply-reply.ensures.turn c.reports_told-reports.ensures.told c.obey.ensures c.close.ensures
 
 pub returns-clause-step : goal.returns-clause-step
 returns-clause-step c =
     let s = c.args.self.now in
     step-settled s c.requires.parts c.in-Some.issued.now (search rules) c.obey.new.self c.close.new.self c.reply-reply.new.self c.reply-reply.result
-    c.reports_told-reports.result c.reply-reply.ensures c.reports_told-reports.ensures.told c.obey.ensures c.close.ensures
+    c.reports_told-reports.result c.reply-reply.ensures.turn c.reports_told-reports.ensures.told c.obey.ensures c.close.ensures

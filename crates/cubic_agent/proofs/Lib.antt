@@ -1,0 +1,2 @@
+-- The lemmas of cubic_agent, a file a topic.
+pub mod RoleLemmas

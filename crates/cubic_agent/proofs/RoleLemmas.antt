@@ -1,0 +1,38 @@
+-- CUBIC keeps its two programs, whatever it is told.
+use Rattle.std.proofs.Common.{◌≡◌, arith, refl, ◌∙◌}
+use Rattle.ccp_base.specs.declared.course.Course.{Course}
+use Rattle.ccp_base.specs.declared.course.Phase.{Phase}
+use Rattle.ccp_base.specs.declared.course.Phase.TheVariants.{SlowStart, Avoidance}
+use Rattle.ccp_base.specs.declared.exchange.Told.{Told}
+use Rattle.ccp_base.specs.declared.exchange.Told.TheVariants.{Report, Fault}
+use Rattle.ccp_base.specs.declared.look.Role.{Role}
+use Rattle.ccp_base.specs.declared.measurement.Measurement.{Measurement}
+use Rattle.ccp_base.specs.Course.{role_of}
+use Rattle.ccp_base.specs.Measurement.{measurement_of}
+use Rattle.cubic_agent.specs.Cubic.{CubicState, cubic, after_measurement, in_phase, window_told, after_told}
+
+-- the programs of a course
+abbrev roles_of : Course → Role × Role
+roles_of course = (course.ss, course.ca)
+
+phase_roles : (mode : Phase) (m : Measurement) (s : CubicState) → roles_of (in_phase mode m s).0.course ≡ roles_of s.course
+phase_roles SlowStart m s = grind arith
+phase_roles Avoidance m s = grind arith
+
+measured_roles : (m : Measurement) (s : CubicState) → roles_of (after_measurement m s).0.course ≡ roles_of s.course
+measured_roles m s = grind (arith, phase_roles)
+
+window_roles : (mode : Phase) (m : Measurement) (s : CubicState) → roles_of (window_told mode m s).course ≡ roles_of s.course
+window_roles SlowStart m s = refl
+window_roles Avoidance m s = refl
+
+told_roles : (told : Told) (s : CubicState) → roles_of (after_told told s).0.course ≡ roles_of s.course
+told_roles (Report report) s =
+    let m = measurement_of (role_of s.course.mode s.course).look report in
+    measured_roles m (window_told s.course.mode m s) ∙ window_roles s.course.mode m s
+told_roles (Fault notice) s = refl
+
+-- the programs after it was told are those before
+pub kept_roles : (s : CubicState) (told : Told)
+    → (cubic s told).0.course.ss ≡ s.course.ss × (cubic s told).0.course.ca ≡ s.course.ca
+kept_roles s told = grind (arith, told_roles)

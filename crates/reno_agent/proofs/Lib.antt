@@ -1,0 +1,2 @@
+-- The lemmas of reno_agent, a file a topic.
+pub mod RoleLemmas
