@@ -7,4 +7,5 @@ pub mod DueLemmas
 pub mod LinkedLemmas
 pub mod ShareLemmas
 pub mod BookLemmas
+pub mod SourceReadings
 pub mod LiftedRowLemmas

@@ -15,5 +15,5 @@ mod walker;
 mod workers;
 
 pub use calls::{Books, CaseAcks, Cases};
-pub use row::{Row, Rows};
+pub use row::{Column, Row, Rows};
 pub use sums::Sums;
