@@ -6,6 +6,8 @@ import shutil
 import stat
 import subprocess
 
+import ccp as reader
+
 TOOLS = os.path.dirname(os.path.abspath(__file__))
 TOP = os.path.dirname(TOOLS)
 TRACES = [os.path.join(TOP, "examples", "traces", name + ".trace") for name in ("fixed", "wave", "train")]
@@ -45,6 +47,15 @@ def tool(name, *words, given=None):
 def ccp(words, given):
     """The output, the error output and the status of the program."""
     return ran([PROGRAM, *words], given)
+
+
+def table_text(rows):
+    """The text of a table: each row is a dict of columns, and any other number of it is 0."""
+    columns, sums = reader.COLUMNS, reader.SUMS
+    rows = [{**dict.fromkeys(columns, 0), **row} for row in rows]
+    total = ["cases=%d" % len(rows)] + ["%s=%d" % (name, sum(row[name] for row in rows)) for name in sums]
+    lines = [columns, *([str(row[name]) for name in columns] for row in rows), ["total", *total]]
+    return "".join(" ".join(line) + "\n" for line in lines)
 
 
 def needs_mode(mode):

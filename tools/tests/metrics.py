@@ -5,13 +5,10 @@ import json
 import os
 import tempfile
 
-from harness import TOP, TRACES, ccp, content, expect, needs_mode, tool
+from harness import TOP, TRACES, ccp, content, expect, needs_mode, table_text, tool
 
 STEADY = {"version": 1, "traces": {"t": "10\n"}, "cases": [{"name": "a", "agent": "reno", "trace": "t", "mss": 1448, "queue": 10, "delay_us": 20000, "timeout_us": 1000000, "acks": 4}]}
-STEADY_TABLE = """case agent acks reports held faults epochs lost timeouts acked peak cwnd now tail
-a reno 4 1 0 0 1 0 0 5792 10136 10136 60000 0
-total cases=1 acks=4 reports=1 held=0 faults=0 lost=0 timeouts=0 acked=5792
-"""
+STEADY_TABLE = table_text([{"case": "a", "agent": "reno", "acks": 4, "reports": 1, "epochs": 1, "acked": 5792, "peak": 10136, "cwnd": 10136, "now": 60000}])
 STEADY_TIMELINE = """flow 0 case=a agent=reno
 epoch 0 program=0 at=0 cwnd=4344
 ticket 0 report program=0 epoch=0 span=0..4 taken=4 answered=4 reply=none now=60000 cwnd=10136 rate=0 acked=5792 sacked=0 loss=0 timeout=0 rtt=30000 inflight=7240 ecn=0
@@ -51,12 +48,10 @@ ticket 2 report program=2 epoch=1 span=6..7 taken=7 answered=7 reply=none now=90
 ticket 3 report program=2 epoch=1 span=7..9 taken=9 answered=9 reply=update:6110 now=110000 cwnd=5723 rate=0 acked=2896 sacked=0 loss=0 timeout=0 rtt=30000 inflight=2896 ecn=0
 end acks=9 reports=4 held=0 faults=0 tail=9..9 stopped=no cwnd=6110 rate=0 acked=0 sacked=0 loss=0 timeout=0 rtt=30000 inflight=2896 ecn=0
 """
-SHARED_TABLE = """case agent acks reports held faults epochs lost timeouts acked peak cwnd now tail
-a reno 30 1 0 0 1 2 0 30000 9 9 90000 0
-b cubic 10 1 0 0 1 0 0 10000 9 9 80000 0
-total cases=2 acks=40 reports=2 held=0 faults=0 lost=2 timeouts=0 acked=40000
-link rounds=10 sent=47 acked=40 lost=2 inflight=5
-"""
+SHARED_TABLE = table_text([
+    {"case": "a", "agent": "reno", "acks": 30, "reports": 1, "epochs": 1, "lost": 2, "acked": 30000, "peak": 9, "cwnd": 9, "now": 90000},
+    {"case": "b", "agent": "cubic", "acks": 10, "reports": 1, "epochs": 1, "acked": 10000, "peak": 9, "cwnd": 9, "now": 80000},
+]) + "link rounds=10 sent=47 acked=40 lost=2 inflight=5\n"
 
 
 def run(scenario, *words, **texts):
@@ -147,9 +142,8 @@ def seeded():
     """Three seeds of two queues; the throughputs are 1, 2, 3 and 4, 6, 8 Mbit/s."""
     cases = [dict(STEADY["cases"][0], name="q%d-s%d" % (queue, seed), queue=queue, seed=seed, rate=0.01, loss="rate:0.01") for queue in (10, 20) for seed in (1, 2, 3)]
     acked = [1000, 2000, 3000, 4000, 6000, 8000]
-    rows = ["%s reno 10 1 0 0 1 %d 0 %d 9 9 8000 0" % (case["name"], at, bytes_acked) for at, (case, bytes_acked) in enumerate(zip(cases, acked))]
-    total = "total cases=6 acks=60 reports=6 held=0 faults=0 lost=15 timeouts=0 acked=24000"
-    return dict(STEADY, cases=cases), "\n".join([STEADY_TABLE.split("\n")[0], *rows, total]) + "\n"
+    rows = [{"case": case["name"], "agent": "reno", "acks": 10, "lost": at, "acked": bytes_acked, "now": 8000} for at, (case, bytes_acked) in enumerate(zip(cases, acked))]
+    return dict(STEADY, cases=cases), table_text(rows)
 
 
 def test_over_seeds():
@@ -171,9 +165,8 @@ def test_students_t():
     """The interval of n values that are half 0 and half 1 Mbit/s, by the published values of t."""
     for count, t in ((2, 12.7062047), (6, 2.57058184), (10, 2.26215716), (20, 2.09302405), (30, 2.04522964)):
         cases = [dict(STEADY["cases"][0], name="s%d" % at) for at in range(count)]
-        rows = ["s%d reno 10 1 0 0 1 0 0 %d 9 9 8000 0" % (at, 1000 * (at % 2)) for at in range(count)]
-        total = "total cases=%d acks=%d reports=%d held=0 faults=0 lost=0 timeouts=0 acked=%d" % (count, 10 * count, count, 500 * count)
-        found = figures(dict(STEADY, cases=cases), "--by", "sender", table="\n".join([STEADY_TABLE.split("\n")[0], *rows, total]))["groups"][0]["metrics"]["throughput_mbps"]
+        rows = [{"case": "s%d" % at, "agent": "reno", "acks": 10, "acked": 1000 * (at % 2), "now": 8000} for at in range(count)]
+        found = figures(dict(STEADY, cases=cases), "--by", "sender", table=table_text(rows))["groups"][0]["metrics"]["throughput_mbps"]
         sd = (count * 0.25 / (count - 1)) ** 0.5
         same(found, {"mean": 0.5, "sd": sd, "ci95": t * sd / count**0.5})
 

@@ -8,7 +8,7 @@ import subprocess
 import tempfile
 
 import harness
-from harness import TOOLS, TOP, LeftOut, ccp, content, expect, needs, tool
+from harness import TOOLS, TOP, LeftOut, ccp, content, expect, needs, table_text, tool
 
 SCENARIO = {
     "version": 1,
@@ -186,10 +186,12 @@ def test_a_table_with_a_timeline():
     with tempfile.TemporaryDirectory() as room:
         given, name = files(room), os.path.join(room, "p.svg")
         table = os.path.join(room, "table")
-        rows = ["a reno 7 4 2 1 2 2 1 6000 18000 9500 600000 0", "b cubic 6 1 0 0 1 0 0 6000 6000 6000 80000 0"]
-        head = "case agent acks reports held faults epochs lost timeouts acked peak cwnd now tail"
+        rows = [
+            {"case": "a", "agent": "reno", "acks": 7, "reports": 4, "held": 2, "faults": 1, "epochs": 2, "lost": 2, "timeouts": 1, "acked": 6000, "now": 600000},
+            {"case": "b", "agent": "cubic", "acks": 6, "reports": 1, "epochs": 1, "acked": 6000, "now": 80000},
+        ]
         with open(table, "w") as file:
-            file.write("\n".join([head, *rows, "total cases=2 acks=13 reports=5 held=2 faults=1 lost=2 timeouts=1 acked=12000"]) + "\n")
+            file.write(table_text(rows))
         drawn("table", "--live", given["flows"], "--scenario", given["scenario"], table, name)
         seen = texts_of(name)
         # the mean of 30, 30, 50 and 40 ms less 30

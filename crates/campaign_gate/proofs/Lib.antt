@@ -7,4 +7,6 @@ pub mod DueLemmas
 pub mod LinkedLemmas
 pub mod ShareLemmas
 pub mod BookLemmas
+pub mod ReportsMadeLemmas
+pub mod SourceReadings
 pub mod LiftedRowLemmas

@@ -1,5 +1,5 @@
 -- The campaign word of a flow is legal, and it is complete.
-use Rattle.std.specs.Prelude.{◌≡◌, ℕ, zero, suc, ◌-◌, ◌*◌, ◌<◌, ◌≤◌, Bool, true, false, not, is_some, is_none, ◌&&◌, if◌then◌else◌, Option, Some, None, [], ◌∷◌, length, refl}
+use Rattle.std.specs.Prelude.{◌≡◌, ℕ, zero, suc, ◌-◌, ◌<◌, ◌≤◌, Bool, true, false, not, is_some, is_none, ◌&&◌, if◌then◌else◌, Option, Some, None, [], ◌∷◌, length, refl}
 use Rattle.std.proofs.Common.{arith, ap, sym, ◌∙◌, subst}
 use Rattle.link_model.specs.declared.link_case.LinkCase.{LinkCase}
 use Rattle.flow_core.specs.declared.case.Case.{Case}
@@ -7,7 +7,7 @@ use Rattle.flow_core.specs.declared.letter.Letter.{Letter}
 use Rattle.flow_core.specs.declared.letter.Letter.TheVariants.{A, T, C}
 use Rattle.flow_core.specs.Readings.{Flow, over_codes}
 use Rattle.flow_core.specs.World.{Taken, World, opening}
-use Rattle.flow_core.specs.Words.{from_link, after_letter, world_from, world, can_take, is_legal, legal_from, legal, is_complete}
+use Rattle.flow_core.specs.Words.{from_link, after_letter, world_from, world, can_take, is_legal, legal_from, legal, is_complete, most_letters}
 use Rattle.campaign_gate.specs.CampaignWord.{is_late, is_due, first_letter, next_of, then_rest, plan_from, plan_over, plan}
 use Rattle.flow_core.specs.LettersLeft.{letters_left}
 use Rattle.flow_core.proofs.LeftLemmas.{left-letter}
@@ -151,10 +151,10 @@ module _ {X : Type 0} (flow : Flow X) (lag : ℕ) where
     -- ---- the laws
 
     pub plan_over-legal : legal flow link (plan_over flow link lag) ≡ true
-    plan_over-legal = plan-legal (3 * flow.acks) (opening flow)
+    plan_over-legal = plan-legal (most_letters flow.acks) (opening flow)
 
     pub plan_over-complete : is_complete flow (world flow link (plan_over flow link lag)) ≡ true
-    plan_over-complete = plan-complete (3 * flow.acks) (opening flow) (omega arith)
+    plan_over-complete = plan-complete (most_letters flow.acks) (opening flow) (omega arith)
 
 -- the campaign word of a case is legal
 pub plan-is-legal : (case : Case) → legal (over_codes case) case.link (plan case) ≡ true

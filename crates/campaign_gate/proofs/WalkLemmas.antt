@@ -1,9 +1,8 @@
 -- One more letter of the campaign word keeps a flow on its way.
-use Rattle.std.specs.Prelude.{◌≡◌, ℕ, ◌+◌, ◌-◌, ◌*◌, ◌<◌, ◌≤◌, max, Bool, true, false, is_some, is_none, ◌&&◌, Option, Some, None, Result, Ok, Err, OnOk, List, [], ◌∷◌, ◌++◌, length, refl}
+use Rattle.std.specs.Prelude.{◌≡◌, ℕ, ◌+◌, ◌-◌, ◌<◌, ◌≤◌, max, Bool, true, false, is_some, is_none, ◌&&◌, Option, Some, None, Result, Ok, Err, OnOk, List, [], ◌∷◌, ◌++◌, length, refl}
 use Rattle.std.specs.Option.{ForSome}
 use Rattle.std.proofs.Common.{arith, ap, sym, ◌∙◌, subst, append_assoc, append-nil, length-append}
 use Rattle.std.proofs.lemmas.Bool.{ltb-true}
-use Rattle.ccp_base.specs.declared.ack.Ack.{Ack}
 use Rattle.ccp_base.specs.declared.exchange.Report.{Report}
 use Rattle.ccp_base.specs.declared.exchange.Reply.{Reply}
 use Rattle.ccp_base.specs.declared.exchange.Reply.TheVariants.{Nothing, Update, Change}
@@ -14,16 +13,16 @@ use Rattle.flow_core.specs.declared.letter.Letter.{Letter}
 use Rattle.flow_core.specs.declared.letter.Letter.TheVariants.{A, T, C}
 use Rattle.flow_core.specs.Readings.{Flow}
 use Rattle.flow_core.specs.World.{Failure, Content, Taken, World, opening, taking, with_taken, told_as, with_turn, answer_applied}
-use Rattle.flow_core.specs.Words.{from_link, after_letter, world, can_take, is_legal, is_complete}
+use Rattle.flow_core.specs.Words.{from_link, after_letter, world, can_take, is_legal, is_complete, most_letters}
 use Rattle.flow_core.specs.WordLaws.{world-append}
 use Rattle.flow_core.specs.Cells.{CellState, flow_at, world_at, ack_at}
 use Rattle.flow_core.proofs.WordLemmas.{take-keeps, answer-keeps}
 use Rattle.campaign_gate.specs.declared.walk.Tally.{Tally}
 use Rattle.campaign_gate.specs.CampaignWord.{plan_from, plan}
-use Rattle.campaign_gate.specs.CampaignRow.{sums_of, peak_of}
+use Rattle.campaign_gate.specs.CampaignRow.{sums_of, with_ack, AreRoomy, peak_of}
 use Rattle.campaign_gate.specs.CampaignBooks.{planned}
 use Rattle.flow_core.specs.LettersLeft.{letters_left, left_at}
-use Rattle.campaign_gate.specs.Walks.{next_at, window_at, plan_at, with_ack, AreRoomy, opened, longer, WasTaken, MayMake, MayHear, sums_after, TakenAfter, IsOnWay, IsNext, IsStep, Onward, IsEnded}
+use Rattle.campaign_gate.specs.Walks.{next_at, window_at, plan_at, opened, longer, WasTaken, MayMake, MayHear, sums_after, TakenAfter, IsOnWay, IsNext, IsStep, Onward, IsEnded}
 use Rattle.flow_core.proofs.LeftLemmas.{left-letter}
 use Rattle.campaign_gate.proofs.PlanLemmas.{next-legal, plan-next, plan-none}
 use Rattle.campaign_gate.proofs.PeakLemmas.{peak-append}
@@ -91,15 +90,15 @@ module _ (cell : CellState) where
         subst (λ (w : World ℕ). letters_left flow w < letters_left flow before) (sym (world-longer letter))
         (left-letter flow cell.case.link letter before may)
 
-    plan-longer : length cell.word + left_at cell ≤ 3 * cell.case.acks → cell.word ++ plan_at cell ≡ plan cell.case
+    plan-longer : length cell.word + left_at cell ≤ most_letters cell.case.acks → cell.word ++ plan_at cell ≡ plan cell.case
         → (cell.word ++ letter ∷ []) ++ plan_at (longer letter cell) ≡ plan cell.case
     plan-longer left planned =
         let case = cell.case in
         let word = cell.word in
-        let most = 3 * case.acks - length word in
+        let most = most_letters case.acks - length word in
         let fewer = fewer-longer in
         let some : 0 < most = omega (arith, fewer, left) in
-        let one : 3 * case.acks - length (word ++ letter ∷ []) ≡ most - 1 = omega (arith, length-append word (letter ∷ [])) in
+        let one : most_letters case.acks - length (word ++ letter ∷ []) ≡ most - 1 = omega (arith, length-append word (letter ∷ [])) in
         append_assoc word (letter ∷ []) (plan_at (longer letter cell))
         ∙ (λ i. word ++ letter ∷ plan_from flow case.link case.lag (one i) (world-longer letter i))
         ∙ ap (λ (rest : List Letter). word ++ rest) (sym (plan-next flow case.lag case.link most before letter next some))
@@ -196,7 +195,7 @@ module _ {F : Type 0} (at : CellState → F) (case : Case) (flow : F) where
       → IsOnWay at case flow (record { taken = 0; sums = sums_of []; peak = peak })
   on-begun peak begun is_peak =
       let cell = opened case in
-      let all : 3 * case.acks - 0 ≡ 3 * case.acks = omega arith in
+      let all : most_letters case.acks - 0 ≡ most_letters case.acks = omega arith in
       record {
         word = [];
         after = begun;
@@ -215,7 +214,7 @@ module _ {F : Type 0} (at : CellState → F) (case : Case) (flow : F) where
       let whole : on.word ≡ plan case =
       sym (append-nil on.word)
       ∙ ap (λ (rest : List Letter). on.word ++ rest)
-      (sym (plan-none (flow_at cell) case.lag case.link (3 * case.acks - length on.word) (world_at cell) (done cell on.after)))
+      (sym (plan-none (flow_at cell) case.lag case.link (most_letters case.acks - length on.word) (world_at cell) (done cell on.after)))
       ∙ on.plan in
       let same : cell ≡ planned case = λ i. record { case = case; word = whole i } in
       record {

@@ -1,17 +1,18 @@
--- The row of a case: twelve numbers over the state after its campaign word, and over those on the way.
-use Rattle.std.specs.Prelude.{ℕ, ◌+◌, ◌-◌, max, if◌then◌else◌, List, [], ◌∷◌, length, map}
+-- The row of a case: its numbers over the state after its campaign word, and over the acknowledgements on the way; and the
+-- columns of the table that shows rows.
+use Rattle.std.specs.Prelude.{ℕ, ◌+◌, ◌-◌, ◌^◌, ◌<◌, max, Bool, true, false, if◌then◌else◌, List, [], ◌∷◌, codes}
 use Rattle.ccp_base.specs.declared.ack.Ack.{Ack}
 use Rattle.link_model.specs.declared.link_case.LinkCase.{LinkCase}
 use Rattle.flow_core.specs.declared.case.Case.{Case}
 use Rattle.flow_core.specs.declared.letter.Letter.{Letter}
 use Rattle.flow_core.specs.Readings.{Flow, over_codes}
-use Rattle.flow_core.specs.World.{World, opening, track_of, time_of}
+use Rattle.flow_core.specs.World.{World, opening, track_of}
 use Rattle.flow_core.specs.Words.{Giving, from_link, after_letter, world}
-use Rattle.flow_core.specs.Books.{ticket_line}
-use Rattle.flow_core.specs.LiveText.{report_count}
-use Rattle.flow_core.specs.Summaries.{Summary}
+use Rattle.flow_core.specs.Summaries.{Summary, summary}
 use Rattle.campaign_gate.specs.declared.sums.Sums.{Sums}
 use Rattle.campaign_gate.specs.declared.row.Row.{Row}
+use Rattle.campaign_gate.specs.declared.row.Column.{Column}
+use Rattle.campaign_gate.specs.declared.row.Column.TheVariants.{Acks, Reports, Held, Faults, Epochs, Lost, Timeouts, Acked, Peak, Cwnd, Now, Tail}
 use Rattle.campaign_gate.specs.CampaignWord.{plan_over}
 
 -- ---- sums over acknowledgements
@@ -34,6 +35,20 @@ acked_in (ack ∷ rest) = ack.bytes_acked + acked_in rest
 abbrev pub sums_of : List Ack → Sums
 sums_of acks = record { lost = lost_in acks; timeouts = timeouts_in acks; acked = acked_in acks }
 
+-- the sums with one more acknowledgement
+abbrev pub with_ack : Ack → Sums → Sums
+with_ack ack sums = record {
+  lost = sums.lost + ack.lost_pkts_sample;
+  timeouts = sums.timeouts + (if ack.was_timeout then 1 else 0);
+  acked = sums.acked + ack.bytes_acked;
+}
+
+-- numbers of 64 bits
+pub record AreRoomy (sums : Sums) : Type 0 where
+  pub lost : sums.lost < 2 ^ 64
+  pub timeouts : sums.timeouts < 2 ^ 64
+  pub acked : sums.acked < 2 ^ 64
+
 -- ---- the window
 
 -- the present `Cwnd`
@@ -51,25 +66,8 @@ peak_of flow link word = peak_from flow (from_link flow link) (opening flow) wor
 
 -- ---- the row
 
--- the row of a flow that came to this state, where this was its greatest window: the reports are the tickets that told
--- one, and the tail is the length of the unreported span
-abbrev pub row_over : {X : Type 0} → Flow X → World X → ℕ → Row
-row_over flow w peak = record {
-  acks = length w.acks;
-  reports = report_count (map (ticket_line flow) w.answered);
-  held = w.held;
-  faults = length w.faults;
-  epochs = length w.past + 1;
-  lost = lost_in w.acks;
-  timeouts = timeouts_in w.acks;
-  acked = acked_in w.acks;
-  peak = peak;
-  cwnd = window_of flow w;
-  now = time_of w.acks;
-  tail = length w.acks - (track_of flow w).first;
-}
-
--- the same, by the summary of the state, the sums over its acknowledgements and the greatest window
+-- by the summary of a flow's state, the sums over its acknowledgements and its greatest window: the reports are the answered
+-- tickets that have one, the epochs include the opening one, and the tail is the length of the unreported span
 abbrev pub row_in : Summary → Sums → ℕ → Row
 row_in s sums peak = record {
   acks = s.acks;
@@ -86,6 +84,10 @@ row_in s sums peak = record {
   tail = s.acks - s.track.first;
 }
 
+-- the row of a flow in a state, if this is its greatest window
+abbrev pub row_over : {X : Type 0} → Flow X → World X → ℕ → Row
+row_over flow w peak = row_in (summary flow w) (sums_of w.acks) peak
+
 -- the row of a flow after a word
 abbrev pub row_after : {X : Type 0} → Flow X → LinkCase → List Letter → Row
 row_after flow link word = row_over flow (world flow link word) (peak_of flow link word)
@@ -97,3 +99,49 @@ row_read flow link lag = row_after flow link (plan_over flow link lag)
 -- the row of a case
 abbrev pub row_of : Case → Row
 row_of case = row_read (over_codes case) case.link case.lag
+
+-- ---- the columns of a table of rows
+
+-- all of them, in the order of the table
+abbrev pub columns : List Column
+columns =
+    Acks ∷ Reports ∷ Held ∷ Faults ∷ Epochs ∷ Lost ∷ Timeouts ∷ Acked ∷ Peak ∷ Cwnd ∷ Now ∷ Tail ∷ []
+
+-- the word above a column, and before its sum in the total
+abbrev pub heading_of : Column → List ℕ
+heading_of Acks = codes "acks"
+heading_of Reports = codes "reports"
+heading_of Held = codes "held"
+heading_of Faults = codes "faults"
+heading_of Epochs = codes "epochs"
+heading_of Lost = codes "lost"
+heading_of Timeouts = codes "timeouts"
+heading_of Acked = codes "acked"
+heading_of Peak = codes "peak"
+heading_of Cwnd = codes "cwnd"
+heading_of Now = codes "now"
+heading_of Tail = codes "tail"
+
+-- a row's number in a column
+abbrev pub value_in : Column → Row → ℕ
+value_in Acks row = row.acks
+value_in Reports row = row.reports
+value_in Held row = row.held
+value_in Faults row = row.faults
+value_in Epochs row = row.epochs
+value_in Lost row = row.lost
+value_in Timeouts row = row.timeouts
+value_in Acked row = row.acked
+value_in Peak row = row.peak
+value_in Cwnd row = row.cwnd
+value_in Now row = row.now
+value_in Tail row = row.tail
+
+-- whether the total has the sum of a column
+abbrev pub is_summed : Column → Bool
+is_summed Epochs = false
+is_summed Peak = false
+is_summed Cwnd = false
+is_summed Now = false
+is_summed Tail = false
+is_summed column = true

@@ -7,3 +7,4 @@ pub mod LiftedRow
 pub mod Shares
 pub mod Parts
 pub mod CampaignBooks
+pub mod ReportsMade

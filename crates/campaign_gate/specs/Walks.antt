@@ -1,7 +1,6 @@
 -- A flow on the way along its campaign word: what is kept beside it, and what a letter changes of it.
-use Rattle.std.specs.Prelude.{◌≡◌, ℕ, ◌+◌, ◌-◌, ◌<◌, ◌≤◌, max, if◌then◌else◌, Option, Some, true, List, [], ◌∷◌, ◌++◌, length}
+use Rattle.std.specs.Prelude.{◌≡◌, ℕ, ◌+◌, ◌-◌, ◌<◌, ◌≤◌, max, Option, Some, true, List, [], ◌∷◌, ◌++◌, length}
 use Rattle.std.specs.Option.{ForSome}
-use Rattle.ccp_base.specs.declared.ack.Ack.{Ack}
 use Rattle.flow_core.specs.declared.case.Case.{Case}
 use Rattle.flow_core.specs.declared.letter.Letter.{Letter}
 use Rattle.flow_core.specs.declared.letter.Letter.TheVariants.{A, T, C}
@@ -12,7 +11,7 @@ use Rattle.flow_core.specs.LettersLeft.{left_at}
 use Rattle.campaign_gate.specs.declared.sums.Sums.{Sums}
 use Rattle.campaign_gate.specs.declared.walk.Tally.{Tally}
 use Rattle.campaign_gate.specs.CampaignWord.{next_of, plan_from, plan}
-use Rattle.campaign_gate.specs.CampaignRow.{sums_of, window_of, peak_of}
+use Rattle.campaign_gate.specs.CampaignRow.{sums_of, with_ack, AreRoomy, window_of, peak_of}
 use Rattle.campaign_gate.specs.CampaignBooks.{planned}
 
 -- the next letter of a cell's campaign word
@@ -27,21 +26,6 @@ window_at cell = window_of (flow_at cell) (world_at cell)
 abbrev pub plan_at : CellState → List Letter
 plan_at cell =
     plan_from (flow_at cell) cell.case.link cell.case.lag (most_letters cell.case.acks - length cell.word) (world_at cell)
-
--- ---- sums
-
-abbrev pub with_ack : Ack → Sums → Sums
-with_ack ack sums = record {
-  lost = sums.lost + ack.lost_pkts_sample;
-  timeouts = sums.timeouts + (if ack.was_timeout then 1 else 0);
-  acked = sums.acked + ack.bytes_acked;
-}
-
--- numbers of 64 bits
-pub record AreRoomy (sums : Sums) : Type 0 where
-  pub lost : sums.lost < 18446744073709551616
-  pub timeouts : sums.timeouts < 18446744073709551616
-  pub acked : sums.acked < 18446744073709551616
 
 -- ---- the way
 

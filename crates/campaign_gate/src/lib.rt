@@ -4,6 +4,7 @@
 pub mod calls;
 mod case_result;
 mod completion;
+mod laws;
 mod linked;
 mod listed;
 mod queue;
@@ -15,5 +16,6 @@ mod walker;
 mod workers;
 
 pub use calls::{Books, CaseAcks, Cases};
-pub use row::{Row, Rows};
+pub use laws::row_law;
+pub use row::{Column, Row, Rows};
 pub use sums::Sums;

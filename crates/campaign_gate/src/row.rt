@@ -1,26 +1,27 @@
-//! A campaign's row: the numbers that sum up a case's flow after its campaign word.
+//! A campaign's row, which sums up a case's flow after its campaign word, and the columns of the table that shows rows.
 ghost use Rattle.std.specs.Prelude.{◌≡◌};
-ghost use Rattle.campaign_gate.specs.CampaignRow.{row_in};
+ghost use Rattle.campaign_gate.specs.CampaignRow.{row_in, columns, heading_of, value_in, is_summed};
 
 use crate::sums::Sums;
 use ccp_base::Sequence;
 use flow_core::Bare;
 
-/// What a case's flow came to on its campaign word.
+/// The numbers of a case's flow after its campaign word.
 #[derive(Clone, Copy, PartialEq, Eq)]
 pub struct Row {
-    /// The acknowledgements.
+    /// The number of acknowledgements.
     pub acks: u64,
-    /// The reports made.
+    /// The number of reports made.
     pub reports: u64,
-    /// How many reports were asked for while there was no room.
+    /// The number of reports that were asked for while there was no room.
     pub held: u64,
+    /// The number of faults.
     pub faults: u64,
-    /// The epochs, the opening one too.
+    /// The number of epochs, with the opening one.
     pub epochs: u64,
-    /// The lost packets, as the acknowledgements tell them.
+    /// The number of lost packets, as the acknowledgements report them.
     pub lost: u64,
-    /// How many acknowledgements are timeouts.
+    /// The number of acknowledgements that are timeouts.
     pub timeouts: u64,
     /// The acknowledged bytes.
     pub acked: u64,
@@ -28,9 +29,9 @@ pub struct Row {
     pub peak: u64,
     /// The last congestion window, in bytes.
     pub cwnd: u64,
-    /// The time of the last acknowledgement in microseconds, 0 where there is none.
+    /// The time of the last acknowledgement in microseconds, 0 if there is none.
     pub now: u64,
-    /// How many acknowledgements came after the last report or change.
+    /// The number of acknowledgements after the last report or change.
     pub tail: u64,
 }
 
@@ -60,3 +61,95 @@ impl Row {
 
 /// Rows in the order of their cases.
 pub type Rows = Sequence<Row>;
+
+/// A column of a table of rows, named as its field in `Row`.
+#[derive(Clone, Copy, PartialEq, Eq)]
+pub enum Column {
+    Acks,
+    Reports,
+    Held,
+    Faults,
+    Epochs,
+    Lost,
+    Timeouts,
+    Acked,
+    Peak,
+    Cwnd,
+    Now,
+    Tail,
+}
+
+/// All columns, in the order of the table.
+const COLUMNS: [Column; 12] = [
+    Column::Acks,
+    Column::Reports,
+    Column::Held,
+    Column::Faults,
+    Column::Epochs,
+    Column::Lost,
+    Column::Timeouts,
+    Column::Acked,
+    Column::Peak,
+    Column::Cwnd,
+    Column::Now,
+    Column::Tail,
+];
+
+impl Column {
+    /// All columns, in the order of the table.
+    pub fn all() -> &'static [Column]
+        ensures { result.now ≡ columns }
+    {
+        &COLUMNS
+    }
+
+    /// The word above the column, and before its sum in the total.
+    pub fn heading(self) -> &'static str
+        ensures { result.now ≡ heading_of self }
+    {
+        match self {
+            Column::Acks => "acks",
+            Column::Reports => "reports",
+            Column::Held => "held",
+            Column::Faults => "faults",
+            Column::Epochs => "epochs",
+            Column::Lost => "lost",
+            Column::Timeouts => "timeouts",
+            Column::Acked => "acked",
+            Column::Peak => "peak",
+            Column::Cwnd => "cwnd",
+            Column::Now => "now",
+            Column::Tail => "tail",
+        }
+    }
+
+    /// A row's number in the column.
+    pub fn value(self, row: &Row) -> u64
+        ensures { result ≡ value_in self row.entry.now }
+    {
+        match self {
+            Column::Acks => row.acks,
+            Column::Reports => row.reports,
+            Column::Held => row.held,
+            Column::Faults => row.faults,
+            Column::Epochs => row.epochs,
+            Column::Lost => row.lost,
+            Column::Timeouts => row.timeouts,
+            Column::Acked => row.acked,
+            Column::Peak => row.peak,
+            Column::Cwnd => row.cwnd,
+            Column::Now => row.now,
+            Column::Tail => row.tail,
+        }
+    }
+
+    /// Whether the total has the sum of the column.
+    pub fn is_summed(self) -> bool
+        ensures { result ≡ is_summed self }
+    {
+        !matches!(
+            self,
+            Column::Epochs | Column::Peak | Column::Cwnd | Column::Now | Column::Tail
+        )
+    }
+}

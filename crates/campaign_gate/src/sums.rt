@@ -1,7 +1,6 @@
 //! The sums of a row over a flow's acknowledgements: lost packets, timeouts and acknowledged bytes.
-ghost use Rattle.std.specs.Prelude.{◌≡◌, ◌<◌, []};
-ghost use Rattle.campaign_gate.specs.CampaignRow.{lost_in, acked_in, sums_of};
-ghost use Rattle.campaign_gate.specs.Walks.{with_ack, AreRoomy};
+ghost use Rattle.std.specs.Prelude.{◌≡◌, ◌<◌, ◌^◌, []};
+ghost use Rattle.campaign_gate.specs.CampaignRow.{lost_in, acked_in, sums_of, with_ack, AreRoomy};
 
 use ccp_base::Ack;
 
@@ -19,8 +18,8 @@ pub struct Sums {
 impl Sums {
     /// The sums over acknowledgements, in order. Those of packets and bytes must be below 2^64.
     pub fn of(acks: &[Ack]) -> Sums
-        requires lost { lost_in acks.now < 18446744073709551616 }
-        requires acked { acked_in acks.now < 18446744073709551616 }
+        requires lost { lost_in acks.now < 2 ^ 64 }
+        requires acked { acked_in acks.now < 2 ^ 64 }
         ensures { result ≡ sums_of acks.now }
     {
         let mut sums = Sums::none();

@@ -4,7 +4,8 @@ ghost use Rattle.flow_core.specs.declared.case.Case.{Case};
 ghost use Rattle.flow_core.specs.Words.{is_legal, is_complete};
 ghost use Rattle.flow_core.specs.Cells.{CellState, flow_at, world_at, ack_at};
 ghost use Rattle.flow_core.specs.LettersLeft.{left_at};
-ghost use Rattle.campaign_gate.specs.Walks.{window_at, longer, with_ack, MayMake, MayHear, Makes};
+ghost use Rattle.campaign_gate.specs.CampaignRow.{with_ack};
+ghost use Rattle.campaign_gate.specs.Walks.{window_at, longer, MayMake, MayHear, Makes};
 
 use crate::sums::Sums;
 use agent_core::calls::answer;

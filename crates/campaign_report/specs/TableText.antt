@@ -1,35 +1,38 @@
 -- The table of a campaign: a heading, a line for each case, and the sums over all cases.
-use Rattle.std.specs.Prelude.{ℕ, ◌+◌, List, [], ◌∷◌, length, codes, decimal}
+use Rattle.std.specs.Prelude.{ℕ, ◌+◌, Bool, true, false, List, [], ◌∷◌, length, codes, decimal}
 use Rattle.ccp_base.specs.Text.{◌⧺◌}
 use Rattle.agent_core.specs.declared.agent.Agent.{Agent}
 use Rattle.flow_core.specs.LiveText.{agent_text}
+use Rattle.campaign_gate.specs.declared.row.Column.{Column}
 use Rattle.campaign_gate.specs.declared.row.Row.{Row}
-use Rattle.campaign_report.specs.declared.sums.Column.TheVariants.{Acks, Reports, Held, Faults, Lost, Timeouts, Acked}
-use Rattle.campaign_report.specs.Columns.{number_in}
+use Rattle.campaign_gate.specs.CampaignRow.{columns, heading_of, value_in, is_summed}
+
+-- ---- the heading
+
+-- the words above columns, each after a space
+abbrev pub headings : List Column → List ℕ
+headings [] = []
+headings (column ∷ rest) = codes " " ⧺ heading_of column ⧺ headings rest
 
 abbrev pub heading : List ℕ
-heading = codes "case agent acks reports held faults epochs lost timeouts acked peak cwnd now tail\n"
+heading = codes "case agent" ⧺ headings columns ⧺ codes "\n"
 
--- the twelve numbers of a row, in the order of the heading
-abbrev pub columns : Row → List ℕ
-columns row =
-    row.acks ∷ row.reports ∷ row.held ∷ row.faults ∷ row.epochs ∷ row.lost
-    ∷ row.timeouts ∷ row.acked ∷ row.peak ∷ row.cwnd ∷ row.now ∷ row.tail ∷ []
+-- ---- rows
 
 abbrev pub after_space : ℕ → List ℕ
 after_space number = codes " " ⧺ decimal number
 
--- numbers, each after a space
-abbrev pub spaced : List ℕ → List ℕ
-spaced [] = []
-spaced (number ∷ rest) = after_space number ⧺ spaced rest
+-- a row's numbers in columns, each after a space
+abbrev pub values : List Column → Row → List ℕ
+values [] row = []
+values (column ∷ rest) row = after_space (value_in column row) ⧺ values rest row
 
 -- the name of a case and its agent
 abbrev pub row_head : List ℕ → Agent → List ℕ
 row_head name agent = name ⧺ codes " " ⧺ agent_text agent
 
 abbrev pub row_line : List ℕ → Agent → Row → List ℕ
-row_line name agent row = row_head name agent ⧺ spaced (columns row) ⧺ codes "\n"
+row_line name agent row = row_head name agent ⧺ values columns row ⧺ codes "\n"
 
 -- the rows, each with its case's name and agent
 abbrev pub row_lines : List Row → List (List ℕ) → List Agent → List ℕ
@@ -38,31 +41,28 @@ row_lines (row ∷ rows) [] agents = []
 row_lines (row ∷ rows) (name ∷ names) [] = []
 row_lines (row ∷ rows) (name ∷ names) (agent ∷ agents) = row_line name agent row ⧺ row_lines rows names agents
 
+-- ---- the total
+
 -- the sum of a column, which has no bound
-abbrev pub sum_of : (Row → ℕ) → List Row → ℕ
+abbrev pub sum_of : Column → List Row → ℕ
 sum_of column [] = 0
-sum_of column (row ∷ rest) = column row + sum_of column rest
+sum_of column (row ∷ rest) = value_in column row + sum_of column rest
 
-abbrev pub named : List ℕ → ℕ → List ℕ
-named name number = name ⧺ decimal number
+-- the sum of a column with its word, if it is shown
+abbrev pub sum_text : Bool → Column → List Row → List ℕ
+sum_text false column rows = []
+sum_text true column rows = codes " " ⧺ heading_of column ⧺ codes "=" ⧺ decimal (sum_of column rows)
 
--- the number of rows, and the sums of seven columns
-abbrev pub first_totals : List Row → List ℕ
-first_totals rows =
-    named (codes "total cases=") (length rows)
-    ⧺ named (codes " acks=") (sum_of (number_in Acks) rows)
-    ⧺ named (codes " reports=") (sum_of (number_in Reports) rows)
-    ⧺ named (codes " held=") (sum_of (number_in Held) rows)
+-- the sums of those columns that the total has
+abbrev pub sums : List Column → List Row → List ℕ
+sums [] rows = []
+sums (column ∷ rest) rows = sum_text (is_summed column) column rows ⧺ sums rest rows
 
-abbrev pub last_totals : List Row → List ℕ
-last_totals rows =
-    named (codes " faults=") (sum_of (number_in Faults) rows)
-    ⧺ named (codes " lost=") (sum_of (number_in Lost) rows)
-    ⧺ named (codes " timeouts=") (sum_of (number_in Timeouts) rows)
-    ⧺ named (codes " acked=") (sum_of (number_in Acked) rows)
-
+-- the number of rows, and the sums
 abbrev pub total_line : List Row → List ℕ
-total_line rows = first_totals rows ⧺ last_totals rows ⧺ codes "\n"
+total_line rows = codes "total cases=" ⧺ decimal (length rows) ⧺ sums columns rows ⧺ codes "\n"
+
+-- ---- the texts
 
 abbrev pub table_text : List (List ℕ) → List Agent → List Row → List ℕ
 table_text names agents rows = heading ⧺ row_lines rows names agents ⧺ total_line rows

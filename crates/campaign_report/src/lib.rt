@@ -9,9 +9,9 @@ mod flow;
 mod fold;
 mod live;
 mod programs;
-mod sums;
 mod table;
 mod tickets;
+mod total;
 mod wire;
 
 pub use acks::acks_text;

@@ -1,15 +1,13 @@
 //! The table of a campaign, a line for each case and the total, and the total of a generated campaign.
 ghost use Rattle.std.specs.Prelude.{◌≡◌, ◌≤◌, ◌++◌, IfOk, OnOk, codes, length};
 ghost use Rattle.ccp_base.specs.Limits.{most_cases};
-ghost use Rattle.ccp_base.specs.Text.{◌⧺◌};
-ghost use Rattle.campaign_report.specs.TableText.{after_space, columns, first_totals, last_totals, named, row_head};
-ghost use Rattle.campaign_report.specs.TableText.{row_line, row_lines, soak_head, soak_text, spaced, table_text};
-ghost use Rattle.campaign_report.specs.TableText.{total_line};
+ghost use Rattle.campaign_report.specs.TableText.{after_space, heading, headings, row_head, row_line, row_lines, soak_head, soak_text};
+ghost use Rattle.campaign_report.specs.TableText.{table_text, values};
 
 use crate::agent_text::agent_text;
-use crate::sums::{Column, sum};
+use crate::total::put_total;
 use agent_core::Agent;
-use campaign_gate::{Row, Rows};
+use campaign_gate::{Column, Row, Rows};
 use ccp_base::{Bytes, Name, Names, NoMemory, Sequence};
 use std::alloc::Global;
 
@@ -30,9 +28,7 @@ pub fn table_text(
     ensures { IfOk result (λ text. text ≡ table_text names.now agents.now rows.now) }
 {
     let mut text = Bytes::new(alloc);
-    text.extend(
-        b"case agent acks reports held faults epochs lost timeouts acked peak cwnd now tail\n",
-    )?;
+    put_heading(&mut text)?;
     put_rows(
         alloc,
         &mut text,
@@ -61,6 +57,28 @@ fn soak_head(alloc: Global, number: u32) -> Result<Bytes, NoMemory>
     let mut text = Bytes::new(alloc);
     text.extend(head.as_bytes())?;
     Ok(text)
+}
+
+fn put_heading(text: &mut Bytes) -> Result<(), NoMemory>
+    ensures { OnOk result (text.new ≡ text.old ++ heading) }
+{
+    text.extend(b"case agent")?;
+    put_headings(text, Column::all())?;
+    text.push(b'\n')?;
+    Ok(())
+}
+
+/// Puts the words above columns at the end of a text, each after a space.
+fn put_headings(text: &mut Bytes, columns: &[Column]) -> Result<(), NoMemory>
+    ensures { OnOk result (text.new ≡ text.old ++ headings columns.now) }
+{
+    let mut left = columns;
+    while let Some((column, rest)) = left.split_first() {
+        text.push(b' ')?;
+        text.extend(column.heading().as_bytes())?;
+        left = rest;
+    }
+    Ok(())
 }
 
 fn put_rows(
@@ -99,21 +117,8 @@ fn put_row(
 ) -> Result<(), NoMemory>
     ensures { OnOk result (text.new ≡ text.old ++ row_line name.now agent.now row.entry.now) }
 {
-    put_case(alloc, text, name, agent, &columns(row))
-}
-
-/// Puts the line of a case, whose row has these numbers, at the end of a text.
-fn put_case(
-    alloc: Global,
-    text: &mut Bytes,
-    name: &Name,
-    agent: &Agent,
-    numbers: &[u64],
-) -> Result<(), NoMemory>
-    ensures { OnOk result (text.new ≡ text.old ++ (row_head name.now agent.now ⧺ spaced numbers.now ⧺ codes "\n")) }
-{
     put_row_head(text, name, agent)?;
-    put_numbers(alloc, text, numbers)?;
+    put_values(alloc, text, Column::all(), row)?;
     text.push(b'\n')?;
     Ok(())
 }
@@ -127,33 +132,18 @@ fn put_row_head(text: &mut Bytes, name: &Name, agent: &Agent) -> Result<(), NoMe
     Ok(())
 }
 
-/// The numbers of a row in the order of the heading.
-fn columns(row: &Row) -> [u64; 12]
-    ensures { result ≡ columns row.entry.now }
+/// Puts a row's numbers in columns at the end of a text, each after a space.
+fn put_values(
+    alloc: Global,
+    text: &mut Bytes,
+    columns: &[Column],
+    row: &Row,
+) -> Result<(), NoMemory>
+    ensures { OnOk result (text.new ≡ text.old ++ values columns.now row.entry.now) }
 {
-    [
-        row.acks,
-        row.reports,
-        row.held,
-        row.faults,
-        row.epochs,
-        row.lost,
-        row.timeouts,
-        row.acked,
-        row.peak,
-        row.cwnd,
-        row.now,
-        row.tail,
-    ]
-}
-
-/// Puts numbers at the end of a text, each after a space.
-fn put_numbers(alloc: Global, text: &mut Bytes, numbers: &[u64]) -> Result<(), NoMemory>
-    ensures { OnOk result (text.new ≡ text.old ++ spaced numbers.now) }
-{
-    let mut left = numbers;
-    while let Some((number, rest)) = left.split_first() {
-        put_number(alloc, text, *number)?;
+    let mut left = columns;
+    while let Some((column, rest)) = left.split_first() {
+        put_number(alloc, text, column.value(row))?;
         left = rest;
     }
     Ok(())
@@ -164,44 +154,5 @@ fn put_number(alloc: Global, text: &mut Bytes, number: u64) -> Result<(), NoMemo
 {
     let number = format!(in alloc; " {number}")?;
     text.extend(number.as_bytes())?;
-    Ok(())
-}
-
-/// Puts the total over all cases at the end of a text.
-fn put_total(alloc: Global, text: &mut Bytes, rows: &[Row]) -> Result<(), NoMemory>
-    requires { length rows.now ≤ most_cases }
-    ensures { OnOk result (text.new ≡ text.old ++ total_line rows.now) }
-{
-    put_first_totals(alloc, text, rows)?;
-    put_last_totals(alloc, text, rows)?;
-    text.push(b'\n')?;
-    Ok(())
-}
-
-fn put_first_totals(alloc: Global, text: &mut Bytes, rows: &[Row]) -> Result<(), NoMemory>
-    requires { length rows.now ≤ most_cases }
-    ensures { OnOk result (text.new ≡ text.old ++ first_totals rows.now) }
-{
-    put_named(alloc, text, "total cases=", rows.len() as u128)?;
-    put_named(alloc, text, " acks=", sum(rows, Column::Acks))?;
-    put_named(alloc, text, " reports=", sum(rows, Column::Reports))?;
-    put_named(alloc, text, " held=", sum(rows, Column::Held))
-}
-
-fn put_last_totals(alloc: Global, text: &mut Bytes, rows: &[Row]) -> Result<(), NoMemory>
-    requires { length rows.now ≤ most_cases }
-    ensures { OnOk result (text.new ≡ text.old ++ last_totals rows.now) }
-{
-    put_named(alloc, text, " faults=", sum(rows, Column::Faults))?;
-    put_named(alloc, text, " lost=", sum(rows, Column::Lost))?;
-    put_named(alloc, text, " timeouts=", sum(rows, Column::Timeouts))?;
-    put_named(alloc, text, " acked=", sum(rows, Column::Acked))
-}
-
-fn put_named(alloc: Global, text: &mut Bytes, name: &str, number: u128) -> Result<(), NoMemory>
-    ensures { OnOk result (text.new ≡ text.old ++ named name.now number) }
-{
-    let piece = format!(in alloc; "{name}{number}")?;
-    text.extend(piece.as_bytes())?;
     Ok(())
 }
