@@ -2,7 +2,7 @@ use Rattle.std.proofs.Common.{◌≡◌, ◌∙◌, ◌<◌, Some, None, option_
 use Rattle.feed_core.specs.Feed.{code_of, in_version}
 use Rattle.feed_core.specs.FeedHolds.{codes_in}
 use Rattle.feed_core.proofs.FeedLemmas.{ack-absent, ack-counted, ack-heard}
-use Rattle.feed_core.proofs.feed.Feed.ack.Goals as goal
+use Rattle.feed_core.proofs.tables.Tables.ack.Goals as goal
 
 pub returns-in_default : goal.returns-in_default
 returns-in_default c =
@@ -40,5 +40,5 @@ returns c =
       messages = refl;
       handled = ack-heard feed.flows.items (codes_in feed.programs.items) feed.messages c.args.n c.args.version c.index_mut.result.now lt c.index_mut.ensures.value
           c.args.ack.now c.in-Some.flow c.ack.new.self epoch code c.in_version.result c.in-Some.is runs c.ack.ensures.after
-          (c.in_version.ensures ∙ ap (in_version c.in-Some.flow.version) c.ack.ensures.told);
+          (c.in_version.ensures ∙ ap (in_version c.in-Some.flow.version) c.ack.ensures.message);
     }
