@@ -1,11 +1,10 @@
 -- That the built-in texts are programs, by the walks over them.
-use Rattle.std.proofs.Common.{◌≡◌, ℕ, zero, suc, Bool, true, false, Option, Some, None, Result, Ok, Err, List, [], ◌∷◌, refl, ap}
+use Rattle.std.proofs.Common.{◌≡◌, ℕ, zero, suc, Bool, true, false, Result, Ok, Err, List, [], refl, ap}
 use Rattle.portus_core.specs.Programs.{Form}
 use Rattle.portus_build.specs.Builtins.{builtin_text}
-use Rattle.portus_build.specs.BuiltinPrograms.{field_numbers, control_numbers, IsBuiltIn, AreBuiltIn}
+use Rattle.portus_build.specs.BuiltinPrograms.{AreBuiltIn}
 use Rattle.portus_build.specs.Texts.{IsBuiltFrom}
-use Rattle.portus_build.specs.TextReadings.{ComesTo}
-use Rattle.portus_build.specs.TextWalk.{program_of}
+use Rattle.portus_build.specs.TextWalk.{program_of, ComesTo}
 use Rattle.portus_build.specs.declared.fault.BuildFault.{BuildFault}
 use Rattle.portus_build.proofs.WalkLemmas.{walks_exact}
 

@@ -1,10 +1,9 @@
 -- Each text is settled, since its reading and its forms are.
-use Rattle.std.proofs.Common.{◌≡◌, ◌⊎◌, inl, inr, ℕ, Bool, true, false, refl, List, Option, Some, None, option_map, if◌then◌else◌, nat_lt, sym, ap, subst, ◌∙◌}
+use Rattle.std.proofs.Common.{◌≡◌, ◌⊎◌, inl, inr, ℕ, Bool, true, false, refl, List, Option, Some, None, option_map, if◌then◌else◌, sym, ap, subst, ◌∙◌}
 use Rattle.std.specs.Option.{option_or}
 use Rattle.ccp_base.specs.declared.place.Place.{Place}
 use Rattle.portus_core.specs.Programs.{Form}
 use Rattle.portus_core.specs.Trees.{Nodes}
-use Rattle.portus_parser.specs.declared.fault.ParseFault.{ParseFault}
 use Rattle.portus_parser.specs.declared.fault.ParseFault.TheVariants as parse
 use Rattle.portus_parser.specs.Outcomes as reading
 use Rattle.portus_parser.proofs.Exact as reading_proofs

@@ -1,5 +1,5 @@
 -- The programs of the built-in texts.
-use Rattle.std.specs.Prelude.{◌≡◌, ℕ, Option, Some, None, List, [], ◌∷◌, ◌++◌}
+use Rattle.std.specs.Prelude.{◌≡◌, ℕ, Option, Some, None, List, [], ◌∷◌}
 use Rattle.portus_core.specs.Programs.{Form}
 use Rattle.portus_build.specs.Builtins.{builtin_text}
 use Rattle.portus_build.specs.Looks.{look_of}

@@ -6,6 +6,5 @@ pub mod Builtins
 pub mod Looks
 pub mod RefusalText
 pub mod Settled
-pub mod TextReadings
 pub mod TextWalk
 pub mod BuiltinPrograms
