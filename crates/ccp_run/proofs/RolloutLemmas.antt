@@ -3,7 +3,6 @@ use Rattle.std.proofs.Common.{◌≡◌, List, [], ◌∷◌, map, ap, refl}
 use Rattle.std.specs.List.{All}
 use Rattle.std.proofs.lemmas.List.Elements.{All-map}
 use Rattle.scene_members.specs.declared.open_case.OpenCase.{OpenCase}
-use Rattle.portus_build.specs.TextReadings.{TextReading}
 use Rattle.live_install.specs.declared.letter.OpenLetter.{OpenLetter}
 use Rattle.live_install.specs.declared.book.OpenBook.{OpenBook}
 use Rattle.live_install.specs.WholeBooks.{IsHistory, flow_of, flows_of, case_in, IsRightBook, IsWhole}
@@ -12,8 +11,8 @@ pub flow_cases : (books : List OpenBook) → map (λ (flow : OpenCase × List Op
 flow_cases [] = refl
 flow_cases (book ∷ rest) = ap (λ (cases : List OpenCase). book.case ∷ cases) (flow_cases rest)
 
-pub all_right : (read : TextReading) (books : List OpenBook) → All (IsWhole read) books → All (IsRightBook read) books
-all_right read books whole = λ k book h. (whole k book h).right
+pub all_right : (books : List OpenBook) → All IsWhole books → All IsRightBook books
+all_right books whole = λ k book h. (whole k book h).right
 
-pub all_histories : (read : TextReading) (books : List OpenBook) → All (IsWhole read) books → All (IsHistory read) (flows_of books)
-all_histories read books whole = All-map (IsHistory read) flow_of books (λ k book h. (whole k book h).history)
+pub all_histories : (books : List OpenBook) → All IsWhole books → All IsHistory (flows_of books)
+all_histories books whole = All-map IsHistory flow_of books (λ k book h. (whole k book h).history)

@@ -6,7 +6,6 @@ use Rattle.scene_members.specs.declared.open_case.OpenCase.{OpenCase}
 use Rattle.scene_members.specs.OpenCases.{open_plan_of, AreOpenFlowsFrom}
 use Rattle.scene_members.specs.Rollout.{OpenPlan}
 use Rattle.scenario_json.specs.Rollout.{rollout_of}
-use Rattle.portus_build.specs.TextWalk.{program_of}
 use Rattle.live_install.specs.declared.letter.OpenLetter.{OpenLetter}
 use Rattle.live_install.specs.RolloutText.{rollout_text}
 use Rattle.live_install.specs.WholeBooks.{IsHistory}
@@ -26,8 +25,8 @@ pub record IsRolloutScenario (bytes : List ℕ) (cases : List OpenCase) : Type 0
 pub record TellsRollout (cases : List OpenCase) (output : ModeOutput) : Type 0 where
   pub histories : List (OpenCase × List OpenLetter)
   pub each : map (λ (flow : OpenCase × List OpenLetter). flow.0) histories ≡ cases
-  pub whole : All (IsHistory program_of) histories
-  pub written : output.text ≡ rollout_text program_of histories
+  pub whole : All IsHistory histories
+  pub written : output.text ≡ rollout_text histories
   pub no_books : output.books ≡ []
   pub no_programs : output.programs ≡ []
   pub idle : output.ran ≡ 0

@@ -9,7 +9,6 @@ use Rattle.ccp_base.specs.Text.{◌⧺◌}
 use Rattle.flow_core.specs.declared.book.EpochLine.{EpochLine}
 use Rattle.flow_core.specs.Books.{epoch_line}
 use Rattle.flow_core.specs.World.{Failure}
-use Rattle.portus_build.specs.TextReadings.{TextReading}
 use Rattle.live_install.specs.declared.book.OpenBook.{OpenBook}
 use Rattle.live_install.specs.BuiltTexts.{EntryState}
 use Rattle.live_install.specs.Entries.{place_at}
@@ -66,9 +65,9 @@ module _ (entries : List EntryState) (flow : ℕ) where
 
 -- ---- a book
 
-module _ (read : TextReading) (book : OpenBook) (told : IsRightBook read book) where
+module _ (book : OpenBook) (told : IsRightBook book) where
   abbrev w : OpenWorld
-  w = install_world read book.case book.word
+  w = install_world book.case book.word
 
   stopped : is_faulted (length book.epochs - 1) book.faults ≡ (track_now book.case w).is_stopped
   stopped =
@@ -76,7 +75,7 @@ module _ (read : TextReading) (book : OpenBook) (told : IsRightBook read book) w
       ap (λ (es : List EpochLine). length es - 1) told.epochs ∙ ap (λ (n : ℕ). n - 1) (length-map (eras_of w) epoch_line) in
       ap (λ (n : ℕ). is_faulted n book.faults) count
       ∙ (seen-faulted book.entries book.case.flow (length (eras_of w) - 1) book.faults w.faults told.faults
-      ∙ sym (stopped-where read book.case book.word))
+      ∙ sym (stopped-where book.case book.word))
 
   ends : end_in book ≡ end_of (length w.acks) (track_now book.case w)
   ends = λ i. record {
@@ -104,9 +103,9 @@ module _ (read : TextReading) (book : OpenBook) (told : IsRightBook read book) w
   book-part = ap (λ (account : OpenAccount). account_text book.case account) accounts
 
 -- the text of books that show the states after their words
-pub books-rollout : (read : TextReading) (books : List OpenBook) → All (IsRightBook read) books → books_text books ≡ rollout_text read (flows_of books)
-books-rollout read [] told = refl
-books-rollout read (book ∷ rest) told =
-    let first = book-part read book (told 0 book (omega arith)) in
-    let later = books-rollout read rest (λ k d h. told (suc k) d (omega (arith, h))) in
+pub books-rollout : (books : List OpenBook) → All IsRightBook books → books_text books ≡ rollout_text (flows_of books)
+books-rollout [] told = refl
+books-rollout (book ∷ rest) told =
+    let first = book-part book (told 0 book (omega arith)) in
+    let later = books-rollout rest (λ k d h. told (suc k) d (omega (arith, h))) in
     λ i. first i ⧺ later i

@@ -1,4 +1,4 @@
--- What is built of a text is what every reading gives for it.
+-- What is built of a text is what the text stands for.
 use Rattle.std.specs.Prelude.{◌≡◌, ◌≢◌, ℕ, true, false, Result, Ok, Err, IfOk, IfErr, List, refl}
 use Rattle.std.proofs.Common.{ap}
 use Rattle.portus_core.specs.ProgramForm.{form_of}
@@ -7,25 +7,20 @@ use Rattle.portus_build.specs.Settled.{IsSettled}
 use Rattle.portus_build.specs.Texts.{IsNoProgram, IsBuiltFrom}
 use Rattle.portus_build.specs.declared.fault.BuildFault.{BuildFault}
 use Rattle.portus_build.specs.declared.fault.BuildFault.TheVariants.{NoMemory}
-use Rattle.portus_build.specs.TextReadings.{TextReading, ReadsTexts}
-use Rattle.portus_build.proofs.ReadingLemmas.{some_reading, read_ok, read_err}
+use Rattle.portus_build.proofs.AnswerLemmas.{built_ok, built_err}
 use Rattle.live_install.specs.BuiltTexts.{is_no_memory, IsEntry}
 
 pub is_entry : (text : List ℕ) → IsSettled text → (answer : Result Built BuildFault) → IfErr answer (λ e. is_no_memory e ≡ false)
     → IfOk answer (λ b. IsBuiltFrom text (form_of b.program)) → IfErr answer (λ e. e ≢ NoMemory → IsNoProgram text e)
     → IsEntry text answer
 is_entry text settled (Ok built) some found refused = record {
-  answers = λ read reading. read_ok text settled (Ok built) found read reading;
+  answers = built_ok text settled (Ok built) found;
   ruled = refl;
 }
 is_entry text settled (Err e) some found refused =
     let is : is_no_memory e ≡ false = some in
     let other : e ≢ NoMemory = λ same. let no : is_no_memory e ≡ true = ap is_no_memory same in (cc) in
     record {
-      answers = λ read reading. read_err text settled (Err e) refused read reading other;
+      answers = built_err text settled (Err e) refused other;
       ruled = settled.by_rule e (refused other);
     }
-
--- there is a reading of program texts
-pub readable : (read : TextReading) × ReadsTexts read
-readable = some_reading

@@ -1,5 +1,5 @@
 -- Each letter keeps what holds of what is kept.
-use Rattle.std.specs.Prelude.{◌≡◌, ℕ, ◌+◌, ◌-◌, ◌<◌, ◌≤◌, true, Option, Some, None, option_map, Result, Ok, Err, List, [], ◌∷◌, ◌++◌, length, map, slice_get, refl}
+use Rattle.std.specs.Prelude.{◌≡◌, ℕ, ◌+◌, ◌<◌, ◌≤◌, true, Option, Some, None, option_map, Result, Ok, Err, List, [], ◌∷◌, ◌++◌, length, map, slice_get, refl}
 use Rattle.std.proofs.Common.{ap, sym, ◌∙◌, subst, arith, length-append}
 use Rattle.std.proofs.lemmas.List.{map-append, length-map}
 use Rattle.std.proofs.lemmas.Option.{none-some, slice_get_within, slice_get-map}
@@ -9,7 +9,7 @@ use Rattle.ccp_base.specs.declared.exchange.Notice.{Notice}
 use Rattle.portus_core.specs.Programs.{Form}
 use Rattle.portus_core.specs.ProgramForm.{form_of}
 use Rattle.portus_core.specs.OneAcknowledgement.{IsEnvOf}
-use Rattle.portus_core.specs.Epoch.{acknowledged, Track, track_at, by_source, declared_env, after, after_outcome}
+use Rattle.portus_core.specs.Epoch.{acknowledged, Track, track_at, by_source, declared_env, after_outcome}
 use Rattle.portus_core.specs.Reports.{reports_met}
 use Rattle.portus_core.proofs.EventLaws.{after-append}
 use Rattle.portus_core.proofs.EnvShapes.{IsEnvOf-declared_env}
@@ -25,7 +25,7 @@ use Rattle.flow_core.specs.Roomy.{RoomyState}
 use Rattle.flow_core.specs.World.{Failure, with_event, failures_met}
 use Rattle.flow_core.specs.Books.{epoch_line}
 use Rattle.flow_core.proofs.SimulatedEpochs.{IsEnvOf-after, declared-simulated}
-use Rattle.portus_build.specs.TextReadings.{TextReading}
+use Rattle.portus_build.specs.TextWalk.{program_of}
 use Rattle.live_install.specs.declared.account.Account.{Account}
 use Rattle.live_install.specs.declared.entry.Entry.{Entry}
 use Rattle.live_install.specs.Accounts.{reporter, met_in, Heard}
@@ -185,16 +185,16 @@ fits-more machine entries more (Some step) within fits =
 abbrev pub put_state : State → Entry → RoomyState Entry → RoomyState ℕ → RoomyState OpenLetter → State
 put_state s entry entries installed word = record s { entries = entries; installed = installed; word = word }
 
-pub keeps-put : (read : TextReading) (s : State) (w : OpenWorld) (entry : Entry) (entries : RoomyState Entry) (installed : RoomyState ℕ) (word : RoomyState OpenLetter)
+pub keeps-put : (s : State) (w : OpenWorld) (entry : Entry) (entries : RoomyState Entry) (installed : RoomyState ℕ) (word : RoomyState OpenLetter)
     → Keeps s w → next_from s.running ≤ length s.entries.items
     → entries.items ≡ s.entries.items ++ entry ∷ [] → installed.items ≡ s.installed.items ++ s.acks ∷ []
-    → slice_get s.case.steps (length s.entries.items) ≡ Some entry.text → read entry.text ≡ installed_of entry
-    → Keeps (put_state s entry entries installed word) (after_install read s.case w)
-keeps-put read s w entry entries installed word keeps within pushed counted text came =
+    → slice_get s.case.steps (length s.entries.items) ≡ Some entry.text → program_of entry.text ≡ installed_of entry
+    → Keeps (put_state s entry entries installed word) (after_install s.case w)
+keeps-put s w entry entries installed word keeps within pushed counted text came =
     let count : length s.entries.items ≡ length w.entries = sym (length-map s.entries.items installed_of) ∙ ap length keeps.entries in
     let next : OpenWorld = record w { entries = w.entries ++ installed_of entry ∷ []; installed = w.installed ++ length w.acks ∷ [] } in
-    let is : after_install read s.case w ≡ next =
-    (λ i. with_entry read ((ap (slice_get s.case.steps) (sym count) ∙ text) i) w)
+    let is : after_install s.case w ≡ next =
+    (λ i. with_entry ((ap (slice_get s.case.steps) (sym count) ∙ text) i) w)
     ∙ (λ i. record w { entries = w.entries ++ came i ∷ []; installed = w.installed ++ length w.acks ∷ [] }) in
     let whole : Keeps (record (put_state s entry entries installed word) { entries = record { items = s.entries.items ++ entry ∷ []; room = entries.room } }) next = record {
       entries = map-append installed_of s.entries.items (entry ∷ []) ∙ (λ i. keeps.entries i ++ installed_of entry ∷ []);

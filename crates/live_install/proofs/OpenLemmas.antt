@@ -17,8 +17,6 @@ use Rattle.link_model.specs.Standing.{LinkState, Stands}
 use Rattle.flow_core.specs.declared.book.EpochLine.{EpochLine}
 use Rattle.flow_core.specs.Roomy.{RoomyState}
 use Rattle.flow_core.specs.Cores.{ran_by}
-use Rattle.portus_build.specs.TextReadings.{TextReading, ReadsTexts}
-use Rattle.portus_build.proofs.ReadingLemmas.{some_reading}
 use Rattle.live_install.specs.declared.account.Account.{Account}
 use Rattle.live_install.specs.declared.entry.Entry.{Entry}
 use Rattle.live_install.specs.declared.letter.OpenLetter.{OpenLetter}
@@ -40,19 +38,19 @@ use Rattle.live_install.proofs.NextLemmas.{left-found, next-entry, next-late, no
 
 pub open-letter : (s new : State) (letter : OpenLetter) → IsOpen s → new.case ≡ s.case → new.word.items ≡ s.word.items ++ letter ∷ []
     → IsFit new
-    → ((read : TextReading) → ReadsTexts read → Keeps new (after_letter read s.case (world_of read s) letter))
-    → ((read : TextReading) → ReadsTexts read → is_legal s.case (world_of read s) letter ≡ true)
+    → Keeps new (after_letter s.case (world_of s) letter)
+    → is_legal s.case (world_of s) letter ≡ true
     → IsOpen new
 open-letter s new letter opens case word fit keeps is_legal_now = record {
   fit = fit;
-  keeps = λ read reading.
+  keeps =
       subst (Keeps new)
-      (sym ((λ i. install_world read (case i) (word i)) ∙ world-append read s.case s.word.items letter))
-      (keeps read reading);
-  legal = λ read reading.
-      (λ i. legal read (case i) (word i))
-      ∙ legal-append read s.case s.word.items letter
-      ∙ (λ i. opens.legal read reading i && is_legal_now read reading i);
+      (sym ((λ i. install_world (case i) (word i)) ∙ world-append s.case s.word.items letter))
+      keeps;
+  legal =
+      (λ i. legal (case i) (word i))
+      ∙ legal-append s.case s.word.items letter
+      ∙ (λ i. opens.legal i && is_legal_now i);
 }
 
 -- ---- an acknowledgement
@@ -63,23 +61,23 @@ module _ (s : State) (opens : IsOpen s) (left : s.acks < s.case.acks) (window : 
     (stands : (windows : List ℕ) → Stands s.link windows → Stands link (windows ++ window ∷ []))
     (case_same : link.case ≡ s.link.case) (calls : link.standing.calls ≡ s.link.standing.calls + 1)
     (pushed : word.items ≡ s.word.items ++ A ∷ []) (room : word.room ≡ s.word.room) where
-  cwnd-same : (read : TextReading) → ReadsTexts read → window ≡ cwnd_of s.case (world_of read s)
-  cwnd-same read reading = is_window ∙ ap (λ (t : Track). t.env.cwnd) (opens.keeps read reading).track
+  cwnd-same : window ≡ cwnd_of s.case (world_of s)
+  cwnd-same = is_window ∙ ap (λ (t : Track). t.env.cwnd) opens.keeps.track
 
-  pub ack-same : (read : TextReading) → ReadsTexts read → ack ≡ next_ack s.case (world_of read s)
-  ack-same read reading =
-      is_ack (world_of read s).windows (opens.keeps read reading).stands
-      ∙ (λ i. ack_after (opens.fit.link i) (world_of read s).windows (cwnd-same read reading i))
+  pub ack-same : ack ≡ next_ack s.case (world_of s)
+  ack-same =
+      is_ack (world_of s).windows opens.keeps.stands
+      ∙ (λ i. ack_after (opens.fit.link i) (world_of s).windows (cwnd-same i))
 
-  stands-same : (read : TextReading) → ReadsTexts read → Stands link ((world_of read s).windows ++ cwnd_of s.case (world_of read s) ∷ [])
-  stands-same read reading =
-      subst (λ (n : ℕ). Stands link ((world_of read s).windows ++ n ∷ [])) (cwnd-same read reading)
-      (stands (world_of read s).windows (opens.keeps read reading).stands)
+  stands-same : Stands link ((world_of s).windows ++ cwnd_of s.case (world_of s) ∷ [])
+  stands-same =
+      subst (λ (n : ℕ). Stands link ((world_of s).windows ++ n ∷ [])) cwnd-same
+      (stands (world_of s).windows opens.keeps.stands)
 
-  legal-now : (read : TextReading) → ReadsTexts read → is_legal s.case (world_of read s) A ≡ true
-  legal-now read reading =
-      let acks = (opens.keeps read reading).acks in
-      lt-ltb (length (world_of read s).acks) s.case.acks (omega (arith, acks, left))
+  legal-now : is_legal s.case (world_of s) A ≡ true
+  legal-now =
+      let acks = opens.keeps.acks in
+      lt-ltb (length (world_of s).acks) s.case.acks (omega (arith, acks, left))
 
   word-length : length word.items ≡ length s.word.items + 1
   word-length = ap length pushed ∙ length-append s.word.items (A ∷ [])
@@ -116,18 +114,17 @@ module _ (s : State) (opens : IsOpen s) (left : s.acks < s.case.acks) (window : 
   none-runs None none (Some r) runs = absurd runs
   none-runs (Some step) none present runs = absurd (none-some step (sym none))
 
-  pub present-none : s.running ≡ None → (read : TextReading) → ReadsTexts read → (world_of read s).present ≡ None
-  present-none none read reading = none-runs s.running none (world_of read s).present (opens.keeps read reading).runs
+  pub present-none : s.running ≡ None → (world_of s).present ≡ None
+  present-none none = none-runs s.running none (world_of s).present opens.keeps.runs
 
   pub open-counted : s.running ≡ None → IsOpen (counted_state s link ack word)
   open-counted none = open-letter s (counted_state s link ack word) A opens refl pushed fit-counted
-      (λ read reading.
-      let w = world_of read s in
-      let is_none = present-none none read reading in
+      (let w = world_of s in
+      let is_none = present-none none in
       let whole = keeps-counted s w link ack word s.running refl
-      (subst (λ (p : Option Running). Keeps s (record w { present = p })) is_none (opens.keeps read reading))
-      (subst (λ (p : Option Running). Stands link (w.windows ++ cwnd_of s.case (record w { present = p }) ∷ [])) is_none (stands-same read reading)) in
-      subst (λ (k : Ack). Keeps (counted_state s link ack word) (after_ack s.case k w)) (ack-same read reading)
+      (subst (λ (p : Option Running). Keeps s (record w { present = p })) is_none opens.keeps)
+      (subst (λ (p : Option Running). Stands link (w.windows ++ cwnd_of s.case (record w { present = p }) ∷ [])) is_none stands-same) in
+      subst (λ (k : Ack). Keeps (counted_state s link ack word) (after_ack s.case k w)) ack-same
       (subst (λ (p : Option Running). Keeps (counted_state s link ack word) (after_ack s.case ack (record w { present = p }))) (sym is_none) whole))
       legal-now
 
@@ -148,92 +145,91 @@ module _ (s : State) (opens : IsOpen s) (left : s.acks < s.case.acks) (window : 
       → Heard s.entries.items form (turn_of s step) s.machine machine s.account account ack)
       (told : (form : Form) → form_at s.entries.items step ≡ Some form → IsEnvOf form (kept_track s).env
       → Tells (built_at s.entries.items step) answer (met_in form (kept_track s) ack).0) where
-    running-at : (read : TextReading) → ReadsTexts read → (r : Running) × (((world_of read s).present ≡ Some r) × Runs s.entries.items step r)
-    running-at read reading = some-runs s.running step some (world_of read s).present (opens.keeps read reading).runs
+    running-at : (r : Running) × (((world_of s).present ≡ Some r) × Runs s.entries.items step r)
+    running-at = some-runs s.running step some (world_of s).present opens.keeps.runs
 
     abbrev pub run_state : State
     run_state = record (counted_state s link ack word) { machine = machine; account = account }
 
-    module _ (read : TextReading) (reading : ReadsTexts read) where
-      abbrev r : Running
-      r = (running-at read reading).0
+    abbrev r : Running
+    r = running-at.0
 
-      abbrev w : OpenWorld
-      w = world_of read s
+    abbrev w : OpenWorld
+    w = world_of s
 
-      is_present : w.present ≡ Some r
-      is_present = (running-at read reading).1.0
+    is_present : w.present ≡ Some r
+    is_present = running-at.1.0
 
-      runs : Runs s.entries.items step r
-      runs = (running-at read reading).1.1
+    runs : Runs s.entries.items step r
+    runs = running-at.1.1
 
-      keeps : Keeps s (record w { present = Some r })
-      keeps = subst (λ (p : Option Running). Keeps s (record w { present = p })) is_present (opens.keeps read reading)
+    keeps : Keeps s (record w { present = Some r })
+    keeps = subst (λ (p : Option Running). Keeps s (record w { present = p })) is_present opens.keeps
 
-      track_same : kept_track s ≡ track_of r
-      track_same = keeps.track
+    track_same : kept_track s ≡ track_of r
+    track_same = keeps.track
 
-      shape : IsEnvOf r.form (kept_track s).env
-      shape = subst (λ (t : Track). IsEnvOf r.form t.env) (sym track_same) runs.shape
+    shape : IsEnvOf r.form (kept_track s).env
+    shape = subst (λ (t : Track). IsEnvOf r.form t.env) (sym track_same) runs.shape
 
-      heard-now : Heard s.entries.items r.form (turn_of s step) s.machine machine s.account account ack
-      heard-now = heard r.form runs.form shape
+    heard-now : Heard s.entries.items r.form (turn_of s step) s.machine machine s.account account ack
+    heard-now = heard r.form runs.form shape
 
-      fit-with : IsFit run_state
-      fit-with =
-          let f = fit-counted in
-          let h = heard-now in
-          let before = ap (λ (o : Option ℕ). faults_left o s.machine.is_stopped) some in
-          let now = ap (λ (o : Option ℕ). faults_left o machine.is_stopped) some in
-          let faults_old = opens.fit.faults_most in
-          let reports_old = opens.fit.reports_most in
-          record {
-            link = f.link;
-            calls = f.calls;
-            fits = subst (FitsAt machine s.entries.items) (sym some) fits;
-            steps = f.steps;
-            acks_most = f.acks_most;
-            entries_most = f.entries_most;
-            installed_count = f.installed_count;
-            running_most = f.running_most;
-            epochs_most = f.epochs_most;
-            epochs_some = f.epochs_some;
-            faults_most = omega (arith, faults_old, h.faults_most, before, now);
-            reports_most = omega (arith, reports_old, h.reports_most);
-            letters = f.letters;
-            entries_room = f.entries_room;
-            installed_room = f.installed_room;
-            epochs_room = f.epochs_room;
-            faults_room = omega (arith, f.faults_room, h.faults_room);
-            reports_room = omega (arith, f.reports_room, h.reports_room);
-            word_room = f.word_room;
-          }
+    fit-with : IsFit run_state
+    fit-with =
+        let f = fit-counted in
+        let h = heard-now in
+        let before = ap (λ (o : Option ℕ). faults_left o s.machine.is_stopped) some in
+        let now = ap (λ (o : Option ℕ). faults_left o machine.is_stopped) some in
+        let faults_old = opens.fit.faults_most in
+        let reports_old = opens.fit.reports_most in
+        record {
+          link = f.link;
+          calls = f.calls;
+          fits = subst (FitsAt machine s.entries.items) (sym some) fits;
+          steps = f.steps;
+          acks_most = f.acks_most;
+          entries_most = f.entries_most;
+          installed_count = f.installed_count;
+          running_most = f.running_most;
+          epochs_most = f.epochs_most;
+          epochs_some = f.epochs_some;
+          faults_most = omega (arith, faults_old, h.faults_most, before, now);
+          reports_most = omega (arith, reports_old, h.reports_most);
+          letters = f.letters;
+          entries_room = f.entries_room;
+          installed_room = f.installed_room;
+          epochs_room = f.epochs_room;
+          faults_room = omega (arith, f.faults_room, h.faults_room);
+          reports_room = omega (arith, f.reports_room, h.reports_room);
+          word_room = f.word_room;
+        }
 
-      keeps-with : Keeps run_state (after_ack s.case (next_ack s.case w) w)
-      keeps-with =
-          let stands_now = subst (λ (p : Option Running). Stands link (w.windows ++ cwnd_of s.case (record w { present = p }) ∷ [])) is_present (stands-same read reading) in
-          let whole = keeps-heard s w link ack word machine account step r some keeps runs heard-now stands_now in
-          subst (λ (k : Ack). Keeps run_state (after_ack s.case k w)) (ack-same read reading)
-          (subst (λ (p : Option Running). Keeps run_state (after_ack s.case ack (record w { present = p }))) (sym is_present) whole)
+    keeps-with : Keeps run_state (after_ack s.case (next_ack s.case w) w)
+    keeps-with =
+        let stands_now = subst (λ (p : Option Running). Stands link (w.windows ++ cwnd_of s.case (record w { present = p }) ∷ [])) is_present stands-same in
+        let whole = keeps-heard s w link ack word machine account step r some keeps runs heard-now stands_now in
+        subst (λ (k : Ack). Keeps run_state (after_ack s.case k w)) ack-same
+        (subst (λ (p : Option Running). Keeps run_state (after_ack s.case ack (record w { present = p }))) (sym is_present) whole)
 
-      pub told-run : AnswersTo s.entries.items (next_ack s.case w) w.present (Some answer)
-      told-run =
-          let here = told r.form runs.form shape in
-          let by_track : Tells (built_at s.entries.items step) answer (met_by r ack).0 =
-          subst (λ (t : Track). Tells (built_at s.entries.items step) answer (met_in r.form t ack).0) track_same here in
-          let by_step : Tells (built_at s.entries.items r.era.program) answer (met_by r ack).0 =
-          subst (λ (n : ℕ). Tells (built_at s.entries.items n) answer (met_by r ack).0) (sym runs.program) by_track in
-          subst (λ (k : Ack). AnswersTo s.entries.items k w.present (Some answer)) (ack-same read reading)
-          (subst (λ (p : Option Running). AnswersTo s.entries.items ack p (Some answer)) (sym is_present) by_step)
+    pub told-run : AnswersTo s.entries.items (next_ack s.case w) w.present (Some answer)
+    told-run =
+        let here = told r.form runs.form shape in
+        let by_track : Tells (built_at s.entries.items step) answer (met_by r ack).0 =
+        subst (λ (t : Track). Tells (built_at s.entries.items step) answer (met_in r.form t ack).0) track_same here in
+        let by_step : Tells (built_at s.entries.items r.era.program) answer (met_by r ack).0 =
+        subst (λ (n : ℕ). Tells (built_at s.entries.items n) answer (met_by r ack).0) (sym runs.program) by_track in
+        subst (λ (k : Ack). AnswersTo s.entries.items k w.present (Some answer)) ack-same
+        (subst (λ (p : Option Running). AnswersTo s.entries.items ack p (Some answer)) (sym is_present) by_step)
 
-      pub ran-run : ran_by s.machine.is_stopped built.code.code (kept_track s).env ack true ≡ ran_in s.entries.items w.present (next_ack s.case w)
-      ran-run =
-          (λ i. ran_by (track_same i).is_stopped built.code.code (track_same i).env ack true)
-          ∙ ap (λ (b : Option Built). ran_with b r ack) (sym (ap (built_at s.entries.items) runs.program ∙ is_built))
-          ∙ (λ i. ran_in s.entries.items (sym is_present i) (ack-same read reading i))
+    pub ran-run : ran_by s.machine.is_stopped built.code.code (kept_track s).env ack true ≡ ran_in s.entries.items w.present (next_ack s.case w)
+    ran-run =
+        (λ i. ran_by (track_same i).is_stopped built.code.code (track_same i).env ack true)
+        ∙ ap (λ (b : Option Built). ran_with b r ack) (sym (ap (built_at s.entries.items) runs.program ∙ is_built))
+        ∙ (λ i. ran_in s.entries.items (sym is_present i) (ack-same i))
 
     pub open-run : IsOpen run_state
-    open-run = open-letter s run_state A opens refl pushed (fit-with some_reading.0 some_reading.1) keeps-with legal-now
+    open-run = open-letter s run_state A opens refl pushed fit-with keeps-with legal-now
 
 -- ---- an entry is installed
 
@@ -272,44 +268,38 @@ open-put s entry entries installed word opens is_step is_text answers pushed roo
       word_room = omega (arith, f.word_room, spelled_room);
     } in
     open-letter s (put_state s entry entries installed word) I opens refl spelled fit
-    (λ read reading.
-    keeps-put read s (world_of read s) entry entries installed word (opens.keeps read reading) f.running_most pushed counted text (answers read reading))
-    (λ read reading.
-    let keeps = (opens.keeps read reading).entries in
-    let count : length s.entries.items ≡ length (world_of read s).entries = sym (length-map s.entries.items installed_of) ∙ ap length keeps in
-    lt-ltb (length (world_of read s).entries) (length s.case.steps) (omega (arith, below, count)))
+    (keeps-put s (world_of s) entry entries installed word opens.keeps f.running_most pushed counted text answers)
+    (let keeps = opens.keeps.entries in
+    let count : length s.entries.items ≡ length (world_of s).entries = sym (length-map s.entries.items installed_of) ∙ ap length keeps in
+    lt-ltb (length (world_of s).entries) (length s.case.steps) (omega (arith, below, count)))
 
 -- ---- a change
 
-module _ (s : State) (opens : IsOpen s) (step : ℕ)
-    (next : (read : TextReading) → ReadsTexts read → next_at read (cell_of s) ≡ Some step) where
-  found-at : (read : TextReading) → ReadsTexts read → (form : Form) × (next_of (world_of read s) ≡ Some (step, form))
-  found-at read reading = left-found step (next_of (world_of read s)) (next read reading)
+module _ (s : State) (opens : IsOpen s) (step : ℕ) (next : next_at (cell_of s) ≡ Some step) where
+  found-at : (form : Form) × (next_of (world_of s) ≡ Some (step, form))
+  found-at = left-found step (next_of (world_of s)) next
 
   -- the step is one of the entries, past those that were looked at
   pub below : step < length s.entries.items
   below =
-      let read = some_reading.0 in
-      let keeps = opens.keeps read some_reading.1 in
-      let found = found-at read some_reading.1 in
-      let entry = next-entry (eras_of (world_of read s)) (world_of read s).entries step found.0 found.1 in
-      let within = slice_get_within (world_of read s).entries step (Ok found.0) entry in
-      let count : length s.entries.items ≡ length (world_of read s).entries = sym (length-map s.entries.items installed_of) ∙ ap length keeps.entries in
+      let keeps = opens.keeps in
+      let found = found-at in
+      let entry = next-entry (eras_of (world_of s)) (world_of s).entries step found.0 found.1 in
+      let within = slice_get_within (world_of s).entries step (Ok found.0) entry in
+      let count : length s.entries.items ≡ length (world_of s).entries = sym (length-map s.entries.items installed_of) ∙ ap length keeps.entries in
       omega (arith, within, count)
 
   pub late : next_from s.running ≤ step
   late =
-      let read = some_reading.0 in
-      let found = found-at read some_reading.1 in
-      next-late (next_from s.running) step found.0 (eras_of (world_of read s)) (world_of read s).entries (opens.keeps read some_reading.1).passed found.1
+      let found = found-at in
+      next-late (next_from s.running) step found.0 (eras_of (world_of s)) (world_of s).entries opens.keeps.passed found.1
 
   pub some-built : (built : Option Built) → built_at s.entries.items step ≡ built → is_some built ≡ true
   some-built (Some built) is = refl
   some-built None is =
-      let read = some_reading.0 in
-      let keeps = opens.keeps read some_reading.1 in
-      let found = found-at read some_reading.1 in
-      let entry = next-entry (eras_of (world_of read s)) (world_of read s).entries step found.0 found.1 in
+      let keeps = opens.keeps in
+      let found = found-at in
+      let entry = next-entry (eras_of (world_of s)) (world_of s).entries step found.0 found.1 in
       absurd (none-built s.entries.items step found.0 ((λ i. slice_get (keeps.entries i) step) ∙ entry) is)
 
   module _ (built : Built) (machine : MachineState) (epochs : RoomyState EpochLine) (word : RoomyState OpenLetter)
@@ -349,7 +339,5 @@ module _ (s : State) (opens : IsOpen s) (step : ℕ)
 
     pub open-started : IsOpen (started_state s step machine epochs word)
     open-started = open-letter s (started_state s step machine epochs word) G opens refl spelled fit-started
-        (λ read reading.
-        let found = found-at read reading in
-        keeps-started s (world_of read s) step found.0 built machine epochs word (opens.keeps read reading) found.1 is_built started pushed)
-        (λ read reading. ap is_some (found-at read reading).1)
+        (keeps-started s (world_of s) step found-at.0 built machine epochs word opens.keeps found-at.1 is_built started pushed)
+        (ap is_some found-at.1)

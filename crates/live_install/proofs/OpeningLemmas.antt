@@ -1,5 +1,5 @@
 -- What is kept before the first letter is what the flow before its first letter has.
-use Rattle.std.specs.Prelude.{◌≡◌, ℕ, ◌+◌, ◌*◌, ◌≤◌, None, Ok, [], length, map, refl}
+use Rattle.std.specs.Prelude.{None, Ok, length, map, refl}
 use Rattle.std.proofs.Common.{ap, sym, subst, arith}
 use Rattle.std.proofs.lemmas.Option.{none-some}
 use Rattle.flow_core.specs.Readings.{env_of}
@@ -75,6 +75,6 @@ module _ (case : OpenCase) (made : Opening) (is : IsOpening case made) where
           reports_room = is.reports_room;
           word_room = is.word_room;
         };
-        keeps = λ read reading. subst (Keeps opened) (sym (ap (install_world read case) is.word)) keeps-opened;
-        legal = λ read reading. ap (legal read case) is.word;
+        keeps = subst (Keeps opened) (sym (ap (install_world case) is.word)) keeps-opened;
+        legal = ap (legal case) is.word;
       }

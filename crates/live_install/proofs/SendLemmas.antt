@@ -9,7 +9,6 @@ use Rattle.portus_core.specs.contracts.program.Program as Program
 use Rattle.reg_code.specs.contracts.checked.Checked as Checked
 use Rattle.reg_code.specs.contracts.packed.Packed as Packed
 use Rattle.reg_compiler.specs.contracts.built.Built as Built
-use Rattle.scene_members.specs.contracts.open_case.OpenCase as Case
 use Rattle.fold_machine.specs.contracts.machine.Machine as Machine
 use Rattle.link_model.specs.contracts.link.Link as Link
 use Rattle.link_model.proofs.link.Link.TheSendSync as link

@@ -14,7 +14,6 @@ use Rattle.portus_core.specs.Value.{Cause}
 use Rattle.portus_core.proofs.EventLaws.{after-append}
 use Rattle.flow_core.specs.World.{Failure, Era, failures_met}
 use Rattle.scene_members.specs.declared.open_case.OpenCase.{OpenCase}
-use Rattle.portus_build.specs.TextReadings.{TextReading}
 use Rattle.live_install.specs.declared.letter.OpenLetter.{OpenLetter}
 use Rattle.live_install.specs.declared.letter.OpenLetter.TheVariants.{A, I, G}
 use Rattle.live_install.specs.OpenWorld.{Running, OpenWorld, opening, track_of, track_in, track_now, run_in, with_entry, eras_in, eras_of, next_of, with_next, cwnd_of}
@@ -98,7 +97,7 @@ few-met : (program epoch at : ℕ) (form : Form) (before : Bool) (env : Env) (ac
 few-met program epoch at form true env ack = tt
 few-met program epoch at form false env ack = few-outcome program epoch at ack (one_of form env ack true).0 (one_of form env ack true).1
 
-module _ (read : TextReading) (case : OpenCase) where
+module _ (case : OpenCase) where
   stops-run : (ack : Ack) (w : OpenWorld) (present : Option Running) → w.present ≡ present → Stops present w.past w.faults → StopsIn (run_in case ack present w)
   stops-run ack w None is so_far = subst (λ (p : Option Running). Stops p w.past w.faults) (sym is) so_far
   stops-run ack w (Some running) is so_far =
@@ -117,7 +116,7 @@ module _ (read : TextReading) (case : OpenCase) where
 
   -- ---- an entry
 
-  stops-entry : (text : Option (List ℕ)) (w : OpenWorld) → StopsIn w → StopsIn (with_entry read text w)
+  stops-entry : (text : Option (List ℕ)) (w : OpenWorld) → StopsIn w → StopsIn (with_entry text w)
   stops-entry None w so_far = so_far
   stops-entry (Some text) w so_far = so_far
 
@@ -141,15 +140,15 @@ module _ (read : TextReading) (case : OpenCase) where
 
   -- ---- words
 
-  stops-letter : (letter : OpenLetter) (w : OpenWorld) → StopsIn w → StopsIn (after_letter read case w letter)
+  stops-letter : (letter : OpenLetter) (w : OpenWorld) → StopsIn w → StopsIn (after_letter case w letter)
   stops-letter A w so_far =
       stops-run (next_ack case w) (record w { acks = w.acks ++ next_ack case w ∷ []; windows = w.windows ++ cwnd_of case w ∷ [] }) w.present refl so_far
   stops-letter I w so_far = stops-entry (slice_get case.steps (length w.entries)) w so_far
   stops-letter G w so_far = stops-change (next_of w) w so_far
 
-  stops-from : (word : List OpenLetter) (w : OpenWorld) → StopsIn w → StopsIn (world_from read case w word)
+  stops-from : (word : List OpenLetter) (w : OpenWorld) → StopsIn w → StopsIn (world_from case w word)
   stops-from [] w so_far = so_far
-  stops-from (letter ∷ rest) w so_far = stops-from rest (after_letter read case w letter) (stops-letter letter w so_far)
+  stops-from (letter ∷ rest) w so_far = stops-from rest (after_letter case w letter) (stops-letter letter w so_far)
 
   -- the present epoch's number is one below how many there are
   stops-where : (present : Option Running) (acks : ℕ) (past : List Era) (faults : List (Failure Place)) → Stops present past faults
@@ -161,8 +160,8 @@ module _ (read : TextReading) (case : OpenCase) where
       so_far.0 ∙ ap (λ (n : ℕ). fails_in n faults) last
 
   pub stopped-where : (word : List OpenLetter)
-      → (track_now case (install_world read case word)).is_stopped
-      ≡ fails_in (length (eras_of (install_world read case word)) - 1) (install_world read case word).faults
+      → (track_now case (install_world case word)).is_stopped
+      ≡ fails_in (length (eras_of (install_world case word)) - 1) (install_world case word).faults
   stopped-where word =
-      let w = install_world read case word in
+      let w = install_world case word in
       stops-where w.present (length w.acks) w.past w.faults (stops-from word opening (refl, refl))

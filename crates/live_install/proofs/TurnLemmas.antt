@@ -1,9 +1,7 @@
 -- Which letter may come, by what a cell answers, and that it is the one that the caller makes next.
-use Rattle.std.specs.Prelude.{◌≡◌, ◌≤◌, ◌<◌, Bool, true, false, not, is_some, ◌&&◌, Option, Some, None, option_map, List, [], ◌∷◌, ◌++◌, ℕ, ◌+◌, ◌-◌, length, refl}
+use Rattle.std.specs.Prelude.{◌≡◌, ◌≤◌, ◌<◌, Bool, true, false, not, is_some, ◌&&◌, Option, Some, None, option_map, List, [], ◌∷◌, ◌++◌, ℕ, ◌+◌, length, refl}
 use Rattle.std.proofs.Common.{arith, ap, sym, ◌∙◌, length-append}
 use Rattle.portus_core.specs.Programs.{Form}
-use Rattle.portus_build.specs.TextReadings.{TextReading, ReadsTexts}
-use Rattle.portus_build.proofs.ReadingLemmas.{some_reading}
 use Rattle.live_install.specs.declared.letter.OpenLetter.{OpenLetter}
 use Rattle.live_install.specs.declared.letter.OpenLetter.TheVariants as letters
 use Rattle.live_install.specs.OpenCells.{OpenState, is_legal_at, most_letters}
@@ -41,34 +39,34 @@ next-A false false none is = refl
 module _ (old new : OpenState) where
   pub fewer-left : HasNext old new → letters_left new < letters_left old
   fewer-left has =
-      let letter = next_letter_at some_reading.0 old in
+      let letter = next_letter_at old in
       let longer : length new.word ≡ length old.word + 1 =
-      ap (λ (w : List OpenLetter). length w) (has.word some_reading.0 some_reading.1) ∙ length-append old.word (letter ∷ []) in
+      ap (λ (w : List OpenLetter). length w) has.word ∙ length-append old.word (letter ∷ []) in
       let most : most_letters new.case ≡ most_letters old.case = ap most_letters has.case in
       let within = has.within in
       omega (arith, longer, most, within)
 
   has-next : (letter : OpenLetter) → new.case ≡ old.case → new.word ≡ old.word ++ letter ∷ [] → length new.word ≤ most_letters new.case
-      → ((read : TextReading) → ReadsTexts read → next_letter_at read old ≡ letter) → HasNext old new
+      → next_letter_at old ≡ letter → HasNext old new
   has-next letter case word within next = record {
     case = case;
-    word = λ read is. word ∙ ap (λ (l : OpenLetter). old.word ++ l ∷ []) (sym (next read is));
+    word = word ∙ ap (λ (l : OpenLetter). old.word ++ l ∷ []) (sym next);
     within = within;
   }
 
   pub has-G : new.case ≡ old.case → new.word ≡ old.word ++ letters.G ∷ [] → length new.word ≤ most_letters new.case
-      → ((read : TextReading) → ReadsTexts read → is_legal_at read old letters.G ≡ true) → HasNext old new
+      → is_legal_at old letters.G ≡ true → HasNext old new
   has-G case word within may = has-next letters.G case word within
-      (λ read is. next-G (is_legal_at read old letters.G) (is_legal_at read old letters.I) (may read is))
+      (next-G (is_legal_at old letters.G) (is_legal_at old letters.I) may)
 
   pub has-I : new.case ≡ old.case → new.word ≡ old.word ++ letters.I ∷ [] → length new.word ≤ most_letters new.case
-      → ((read : TextReading) → ReadsTexts read → is_legal_at read old letters.G ≡ false)
-      → ((read : TextReading) → ReadsTexts read → is_legal_at read old letters.I ≡ true) → HasNext old new
+      → is_legal_at old letters.G ≡ false
+      → is_legal_at old letters.I ≡ true → HasNext old new
   has-I case word within none may = has-next letters.I case word within
-      (λ read is. next-I (is_legal_at read old letters.G) (is_legal_at read old letters.I) (none read is) (may read is))
+      (next-I (is_legal_at old letters.G) (is_legal_at old letters.I) none may)
 
   pub has-A : new.case ≡ old.case → new.word ≡ old.word ++ letters.A ∷ [] → length new.word ≤ most_letters new.case
-      → ((read : TextReading) → ReadsTexts read → (is_legal_at read old letters.G ≡ false) × (is_legal_at read old letters.I ≡ false))
+      → (is_legal_at old letters.G ≡ false) × (is_legal_at old letters.I ≡ false)
       → HasNext old new
   has-A case word within none = has-next letters.A case word within
-      (λ read is. next-A (is_legal_at read old letters.G) (is_legal_at read old letters.I) (none read is).0 (none read is).1)
+      (next-A (is_legal_at old letters.G) (is_legal_at old letters.I) none.0 none.1)

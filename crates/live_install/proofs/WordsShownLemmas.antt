@@ -3,7 +3,6 @@ use Rattle.std.specs.Prelude.{◌≡◌, ℕ, ◌+◌, ◌<◌, ◌≤◌, ◌^�
 use Rattle.std.proofs.Common.{ap, sym, ◌∙◌, subst, arith}
 use Rattle.std.proofs.lemmas.List.{append_cancel_left}
 use Rattle.scene_members.specs.declared.open_case.OpenCase.{OpenCase}
-use Rattle.portus_build.specs.TextReadings.{TextReading}
 use Rattle.live_install.specs.declared.letter.OpenLetter.{OpenLetter}
 use Rattle.live_install.specs.OpenWorld.{Installed}
 use Rattle.live_install.specs.OpenWords.{install_world}
@@ -20,68 +19,68 @@ small low high (n ∷ rest) below are =
     let most = are.1 in
     (omega (arith, most, below), small low high rest below are.2)
 
-module _ (read : TextReading) (case : OpenCase) where
+module _ (case : OpenCase) where
   few : case.acks < 2 ^ 64
   few = let within = case.acks_within in omega (arith, within)
 
-  module _ (word : List OpenLetter) (history : IsHistory read (case, word)) where
+  module _ (word : List OpenLetter) (history : IsHistory (case, word)) where
     within : 0 + acks_in word ≤ case.acks
-    within = let all = acks-all read case word history in omega (arith, all)
+    within = let all = acks-all case word history in omega (arith, all)
 
-    installed-small : AreSmall (install_world read case word).installed
-    installed-small = subst AreSmall (sym (installed-are read case word history))
+    installed-small : AreSmall (install_world case word).installed
+    installed-small = subst AreSmall (sym (installed-are case word history))
         (small 0 case.acks (entry_counts 0 word) few (entries-between 0 case.acks word within))
 
-    starts-small : AreSmall (starts_of (install_world read case word))
-    starts-small = subst AreSmall (sym (starts-are read case word history))
+    starts-small : AreSmall (starts_of (install_world case word))
+    starts-small = subst AreSmall (sym (starts-are case word history))
         (small 0 case.acks (change_counts 0 word) few (changes-between 0 case.acks word within))
 
   -- equal parts of a text are those of alike words
-  part-shows : (word other : List OpenLetter) (x y : List ℕ) → IsHistory read (case, word) → IsHistory read (case, other)
-      → open_part case (install_world read case word) ++ x ≡ open_part case (install_world read case other) ++ y → AreAlike word other
+  part-shows : (word other : List OpenLetter) (x y : List ℕ) → IsHistory (case, word) → IsHistory (case, other)
+      → open_part case (install_world case word) ++ x ≡ open_part case (install_world case other) ++ y → AreAlike word other
   part-shows word other x y history other_history same =
-      let w = install_world read case word in
-      let v = install_world read case other in
-      let entries : v.entries ≡ w.entries = entries-all read case other other_history ∙ sym (entries-all read case word history) in
-      let counts = part-read case w v x y entries (counted-entries read case word)
-      (counted-entries read case other ∙ ap (λ (xs : List Installed). length xs) entries)
+      let w = install_world case word in
+      let v = install_world case other in
+      let entries : v.entries ≡ w.entries = entries-all case other other_history ∙ sym (entries-all case word history) in
+      let counts = part-read case w v x y entries (counted-entries case word)
+      (counted-entries case other ∙ ap (λ (xs : List Installed). length xs) entries)
       (installed-small word history) (installed-small other other_history) (starts-small word history) (starts-small other other_history) same in
-      alike-by-counts word other (acks-all read case word history ∙ sym (acks-all read case other other_history))
-      (sym (installed-are read case word history) ∙ counts.0 ∙ installed-are read case other other_history)
-      (sym (starts-are read case word history) ∙ counts.1 ∙ starts-are read case other other_history)
+      alike-by-counts word other (acks-all case word history ∙ sym (acks-all case other other_history))
+      (sym (installed-are case word history) ∙ counts.0 ∙ installed-are case other other_history)
+      (sym (starts-are case word history) ∙ counts.1 ∙ starts-are case other other_history)
 
   -- and alike words have one part
-  part-same : (word other : List OpenLetter) → IsHistory read (case, word) → IsHistory read (case, other) → AreAlike word other
-      → open_part case (install_world read case word) ≡ open_part case (install_world read case other)
-  part-same word other history other_history alike = ap (open_part case) (alike-worlds read case word other history other_history alike)
+  part-same : (word other : List OpenLetter) → IsHistory (case, word) → IsHistory (case, other) → AreAlike word other
+      → open_part case (install_world case word) ≡ open_part case (install_world case other)
+  part-same word other history other_history alike = ap (open_part case) (alike-worlds case word other history other_history alike)
 
-shows : (read : TextReading) (cases : List OpenCase) (words others : List (List OpenLetter)) → AreHistories read cases words → AreHistories read cases others
-    → text_of read cases words ≡ text_of read cases others → AreAllAlike words others
-shows read [] [] [] histories other_histories same = tt
-shows read [] [] (other ∷ others) histories other_histories same = absurd other_histories
-shows read [] (word ∷ words) others histories other_histories same = absurd histories
-shows read (case ∷ cases) [] others histories other_histories same = absurd histories
-shows read (case ∷ cases) (word ∷ words) [] histories other_histories same = absurd other_histories
-shows read (case ∷ cases) (word ∷ words) (other ∷ others) histories other_histories same =
-    let alike = part-shows read case word other (text_of read cases words) (text_of read cases others) histories.0 other_histories.0 same in
-    let part = open_part case (install_world read case word) in
-    let rest : text_of read cases words ≡ text_of read cases others =
-    append_cancel_left part (text_of read cases words) (text_of read cases others)
-    (same ∙ ap (λ (p : List ℕ). p ++ text_of read cases others) (sym (part-same read case word other histories.0 other_histories.0 alike))) in
-    (alike, shows read cases words others histories.1 other_histories.1 rest)
+shows : (cases : List OpenCase) (words others : List (List OpenLetter)) → AreHistories cases words → AreHistories cases others
+    → text_of cases words ≡ text_of cases others → AreAllAlike words others
+shows [] [] [] histories other_histories same = tt
+shows [] [] (other ∷ others) histories other_histories same = absurd other_histories
+shows [] (word ∷ words) others histories other_histories same = absurd histories
+shows (case ∷ cases) [] others histories other_histories same = absurd histories
+shows (case ∷ cases) (word ∷ words) [] histories other_histories same = absurd other_histories
+shows (case ∷ cases) (word ∷ words) (other ∷ others) histories other_histories same =
+    let alike = part-shows case word other (text_of cases words) (text_of cases others) histories.0 other_histories.0 same in
+    let part = open_part case (install_world case word) in
+    let rest : text_of cases words ≡ text_of cases others =
+    append_cancel_left part (text_of cases words) (text_of cases others)
+    (same ∙ ap (λ (p : List ℕ). p ++ text_of cases others) (sym (part-same case word other histories.0 other_histories.0 alike))) in
+    (alike, shows cases words others histories.1 other_histories.1 rest)
 
-same-text : (read : TextReading) (cases : List OpenCase) (words others : List (List OpenLetter)) → AreHistories read cases words → AreHistories read cases others
-    → AreAllAlike words others → text_of read cases words ≡ text_of read cases others
-same-text read [] [] [] histories other_histories alike = refl
-same-text read [] [] (other ∷ others) histories other_histories alike = absurd alike
-same-text read [] (word ∷ words) others histories other_histories alike = absurd histories
-same-text read (case ∷ cases) [] others histories other_histories alike = absurd histories
-same-text read (case ∷ cases) (word ∷ words) [] histories other_histories alike = absurd alike
-same-text read (case ∷ cases) (word ∷ words) (other ∷ others) histories other_histories alike =
-    let part = part-same read case word other histories.0 other_histories.0 alike.0 in
-    let rest = same-text read cases words others histories.1 other_histories.1 alike.1 in
+same-text : (cases : List OpenCase) (words others : List (List OpenLetter)) → AreHistories cases words → AreHistories cases others
+    → AreAllAlike words others → text_of cases words ≡ text_of cases others
+same-text [] [] [] histories other_histories alike = refl
+same-text [] [] (other ∷ others) histories other_histories alike = absurd alike
+same-text [] (word ∷ words) others histories other_histories alike = absurd histories
+same-text (case ∷ cases) [] others histories other_histories alike = absurd histories
+same-text (case ∷ cases) (word ∷ words) [] histories other_histories alike = absurd alike
+same-text (case ∷ cases) (word ∷ words) (other ∷ others) histories other_histories alike =
+    let part = part-same case word other histories.0 other_histories.0 alike.0 in
+    let rest = same-text cases words others histories.1 other_histories.1 alike.1 in
     λ i. part i ++ rest i
 
 pub words-shown : TextShowsWords
-words-shown read cases words others histories other_histories =
-    (shows read cases words others histories other_histories, same-text read cases words others histories other_histories)
+words-shown cases words others histories other_histories =
+    (shows cases words others histories other_histories, same-text cases words others histories other_histories)

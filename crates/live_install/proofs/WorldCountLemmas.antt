@@ -10,7 +10,7 @@ use Rattle.ccp_base.specs.declared.ack.Ack.{Ack}
 use Rattle.portus_core.specs.Programs.{Form}
 use Rattle.flow_core.specs.World.{Era}
 use Rattle.scene_members.specs.declared.open_case.OpenCase.{OpenCase}
-use Rattle.portus_build.specs.TextReadings.{TextReading}
+use Rattle.portus_build.specs.TextWalk.{program_of}
 use Rattle.live_install.specs.declared.letter.OpenLetter.{OpenLetter}
 use Rattle.live_install.specs.declared.letter.OpenLetter.TheVariants.{A, I, G}
 use Rattle.live_install.specs.OpenWorld.{Installed, Running, OpenWorld, opening, cwnd_of, run_in, with_entry, was_started, first_left, next_of, eras_in, eras_of, with_next}
@@ -43,10 +43,10 @@ ran-same case ack (Some running) w = (
 
 -- ---- an entry
 
-put-same : (read : TextReading) (text : Option (List ℕ)) (w : OpenWorld)
-    → ((with_entry read text w).acks ≡ w.acks) × (eras_of (with_entry read text w) ≡ eras_of w)
-put-same read None w = (refl, refl)
-put-same read (Some text) w = (refl, refl)
+put-same : (text : Option (List ℕ)) (w : OpenWorld)
+    → ((with_entry text w).acks ≡ w.acks) × (eras_of (with_entry text w) ≡ eras_of w)
+put-same None w = (refl, refl)
+put-same (Some text) w = (refl, refl)
 
 -- ---- a change
 
@@ -74,125 +74,125 @@ first_left-more eras step (Ok form ∷ rest) more is =
     go later false some = refl
 first_left-more eras step (Err refusal ∷ rest) more is = first_left-more eras (step + 1) rest more is
 
-module _ (read : TextReading) (case : OpenCase) where
+module _ (case : OpenCase) where
   abbrev all : List Installed
-  all = map read case.steps
+  all = map program_of case.steps
 
   -- the entries that are in, and those that are still to come
   abbrev AreIn : OpenWorld → Type 0
-  AreIn w = w.entries ++ map read (drop (length w.entries) case.steps) ≡ all
+  AreIn w = w.entries ++ map program_of (drop (length w.entries) case.steps) ≡ all
 
   -- ---- a letter
 
   acked : (w : OpenWorld)
-      → ((after_letter read case w A).acks ≡ w.acks ++ next_ack case w ∷ [])
-      × ((after_letter read case w A).entries ≡ w.entries)
-      × ((after_letter read case w A).installed ≡ w.installed)
-      × (starts_of (after_letter read case w A) ≡ starts_of w)
+      → ((after_letter case w A).acks ≡ w.acks ++ next_ack case w ∷ [])
+      × ((after_letter case w A).entries ≡ w.entries)
+      × ((after_letter case w A).installed ≡ w.installed)
+      × (starts_of (after_letter case w A) ≡ starts_of w)
   acked w = ran-same case (next_ack case w) w.present
       (record w { acks = w.acks ++ next_ack case w ∷ []; windows = w.windows ++ cwnd_of case w ∷ [] })
 
-  more-acks : (w : OpenWorld) → length (after_letter read case w A).acks ≡ length w.acks + 1
+  more-acks : (w : OpenWorld) → length (after_letter case w A).acks ≡ length w.acks + 1
   more-acks w = ap (λ (acks : List Ack). length acks) (acked w).0 ∙ length-append w.acks (next_ack case w ∷ [])
 
   text-there : (w : OpenWorld) → is_legal case w I ≡ true → slice_get case.steps (length w.entries) ≡ Some (get_or case.steps (length w.entries) [])
   text-there w legal = slice_get-get_or case.steps (length w.entries) [] (ltb-true (length w.entries) (length case.steps) legal)
 
   put-is : (w : OpenWorld) → is_legal case w I ≡ true
-      → after_letter read case w I ≡ with_entry read (Some (get_or case.steps (length w.entries) [])) w
-  put-is w legal = ap (λ text. with_entry read text w) (text-there w legal)
+      → after_letter case w I ≡ with_entry (Some (get_or case.steps (length w.entries) [])) w
+  put-is w legal = ap (λ text. with_entry text w) (text-there w legal)
 
-  put-counts : (w : OpenWorld) → is_legal case w I ≡ true → (after_letter read case w I).installed ≡ w.installed ++ length w.acks ∷ []
+  put-counts : (w : OpenWorld) → is_legal case w I ≡ true → (after_letter case w I).installed ≡ w.installed ++ length w.acks ∷ []
   put-counts w legal = ap (λ (next : OpenWorld). next.installed) (put-is w legal)
 
-  put-in : (w : OpenWorld) → is_legal case w I ≡ true → AreIn w → AreIn (after_letter read case w I)
+  put-in : (w : OpenWorld) → is_legal case w I ≡ true → AreIn w → AreIn (after_letter case w I)
   put-in w legal are =
       let text = get_or case.steps (length w.entries) [] in
       let below = ltb-true (length w.entries) (length case.steps) legal in
       let left : drop (length w.entries) case.steps ≡ text ∷ drop (suc (length w.entries)) case.steps = drop-cons case.steps (length w.entries) [] below in
-      let long : length (w.entries ++ read text ∷ []) ≡ suc (length w.entries) = length-append w.entries (read text ∷ []) ∙ add-one (length w.entries) in
+      let long : length (w.entries ++ program_of text ∷ []) ≡ suc (length w.entries) = length-append w.entries (program_of text ∷ []) ∙ add-one (length w.entries) in
       subst AreIn (sym (put-is w legal))
-      (ap (λ n. (w.entries ++ read text ∷ []) ++ map read (drop n case.steps)) long
-      ∙ append_assoc w.entries (read text ∷ []) (map read (drop (suc (length w.entries)) case.steps))
-      ∙ ap (λ texts. w.entries ++ map read texts) (sym left)
+      (ap (λ n. (w.entries ++ program_of text ∷ []) ++ map program_of (drop n case.steps)) long
+      ∙ append_assoc w.entries (program_of text ∷ []) (map program_of (drop (suc (length w.entries)) case.steps))
+      ∙ ap (λ texts. w.entries ++ map program_of texts) (sym left)
       ∙ are)
 
   -- ---- a word
 
-  pub acks-of : (w : OpenWorld) (word : List OpenLetter) → length (world_from read case w word).acks ≡ length w.acks + acks_in word
+  pub acks-of : (w : OpenWorld) (word : List OpenLetter) → length (world_from case w word).acks ≡ length w.acks + acks_in word
   acks-of w [] = omega arith
   acks-of w (A ∷ rest) =
       let more = more-acks w in
-      let later = acks-of (after_letter read case w A) rest in
+      let later = acks-of (after_letter case w A) rest in
       omega (arith, more, later)
   acks-of w (I ∷ rest) =
-      acks-of (after_letter read case w I) rest
-      ∙ ap (λ (acks : List Ack). length acks + acks_in rest) (put-same read (slice_get case.steps (length w.entries)) w).0
+      acks-of (after_letter case w I) rest
+      ∙ ap (λ (acks : List Ack). length acks + acks_in rest) (put-same (slice_get case.steps (length w.entries)) w).0
   acks-of w (G ∷ rest) =
-      acks-of (after_letter read case w G) rest ∙ ap (λ (acks : List Ack). length acks + acks_in rest) (changed-same case (next_of w) w).0
+      acks-of (after_letter case w G) rest ∙ ap (λ (acks : List Ack). length acks + acks_in rest) (changed-same case (next_of w) w).0
 
-  pub installed-of : (w : OpenWorld) (word : List OpenLetter) → legal_from read case w word ≡ true
-      → (world_from read case w word).installed ≡ w.installed ++ entry_counts (length w.acks) word
+  pub installed-of : (w : OpenWorld) (word : List OpenLetter) → legal_from case w word ≡ true
+      → (world_from case w word).installed ≡ w.installed ++ entry_counts (length w.acks) word
   installed-of w [] legal = sym (append-nil w.installed)
   installed-of w (A ∷ rest) legal =
-      let parts = and_parts (is_legal case w A) (legal_from read case (after_letter read case w A) rest) legal in
-      installed-of (after_letter read case w A) rest parts.1
+      let parts = and_parts (is_legal case w A) (legal_from case (after_letter case w A) rest) legal in
+      installed-of (after_letter case w A) rest parts.1
       ∙ (λ i. (acked w).2 i ++ entry_counts (more-acks w i) rest)
   installed-of w (I ∷ rest) legal =
-      let next = after_letter read case w I in
-      let parts = and_parts (is_legal case w I) (legal_from read case next rest) legal in
-      let same = put-same read (slice_get case.steps (length w.entries)) w in
+      let next = after_letter case w I in
+      let parts = and_parts (is_legal case w I) (legal_from case next rest) legal in
+      let same = put-same (slice_get case.steps (length w.entries)) w in
       installed-of next rest parts.1
       ∙ (λ i. put-counts w parts.0 i ++ entry_counts (length (same.0 i)) rest)
       ∙ append_assoc w.installed (length w.acks ∷ []) (entry_counts (length w.acks) rest)
   installed-of w (G ∷ rest) legal =
-      let next = after_letter read case w G in
-      let parts = and_parts (is_legal case w G) (legal_from read case next rest) legal in
+      let next = after_letter case w G in
+      let parts = and_parts (is_legal case w G) (legal_from case next rest) legal in
       let same = changed-same case (next_of w) w in
       installed-of next rest parts.1 ∙ (λ i. same.2 i ++ entry_counts (length (same.0 i)) rest)
 
-  pub starts-of : (w : OpenWorld) (word : List OpenLetter) → legal_from read case w word ≡ true
-      → starts_of (world_from read case w word) ≡ starts_of w ++ change_counts (length w.acks) word
+  pub starts-of : (w : OpenWorld) (word : List OpenLetter) → legal_from case w word ≡ true
+      → starts_of (world_from case w word) ≡ starts_of w ++ change_counts (length w.acks) word
   starts-of w [] legal = sym (append-nil (starts_of w))
   starts-of w (A ∷ rest) legal =
-      let parts = and_parts (is_legal case w A) (legal_from read case (after_letter read case w A) rest) legal in
-      starts-of (after_letter read case w A) rest parts.1
+      let parts = and_parts (is_legal case w A) (legal_from case (after_letter case w A) rest) legal in
+      starts-of (after_letter case w A) rest parts.1
       ∙ (λ i. (acked w).3 i ++ change_counts (more-acks w i) rest)
   starts-of w (I ∷ rest) legal =
-      let next = after_letter read case w I in
-      let parts = and_parts (is_legal case w I) (legal_from read case next rest) legal in
-      let same = put-same read (slice_get case.steps (length w.entries)) w in
+      let next = after_letter case w I in
+      let parts = and_parts (is_legal case w I) (legal_from case next rest) legal in
+      let same = put-same (slice_get case.steps (length w.entries)) w in
       starts-of next rest parts.1 ∙ (λ i. starts (same.1 i) ++ change_counts (length (same.0 i)) rest)
   starts-of w (G ∷ rest) legal =
-      let next = after_letter read case w G in
-      let parts = and_parts (is_legal case w G) (legal_from read case next rest) legal in
+      let next = after_letter case w G in
+      let parts = and_parts (is_legal case w G) (legal_from case next rest) legal in
       let same = changed-same case (next_of w) w in
       starts-of next rest parts.1
       ∙ (λ i. changed-starts case (next_of w) w parts.0 i ++ change_counts (length (same.0 i)) rest)
       ∙ append_assoc (starts_of w) (length w.acks ∷ []) (change_counts (length w.acks) rest)
 
-  in-after : (w : OpenWorld) (letter : OpenLetter) → is_legal case w letter ≡ true → AreIn w → AreIn (after_letter read case w letter)
-  in-after w A legal are = subst (λ (entries : List Installed). entries ++ map read (drop (length entries) case.steps) ≡ all) (sym (acked w).1) are
+  in-after : (w : OpenWorld) (letter : OpenLetter) → is_legal case w letter ≡ true → AreIn w → AreIn (after_letter case w letter)
+  in-after w A legal are = subst (λ (entries : List Installed). entries ++ map program_of (drop (length entries) case.steps) ≡ all) (sym (acked w).1) are
   in-after w I legal are = put-in w legal are
   in-after w G legal are =
-      subst (λ (entries : List Installed). entries ++ map read (drop (length entries) case.steps) ≡ all) (sym (changed-same case (next_of w) w).1) are
+      subst (λ (entries : List Installed). entries ++ map program_of (drop (length entries) case.steps) ≡ all) (sym (changed-same case (next_of w) w).1) are
 
-  are-in : (w : OpenWorld) (word : List OpenLetter) → legal_from read case w word ≡ true → AreIn w → AreIn (world_from read case w word)
+  are-in : (w : OpenWorld) (word : List OpenLetter) → legal_from case w word ≡ true → AreIn w → AreIn (world_from case w word)
   are-in w [] legal are = are
   are-in w (letter ∷ rest) legal are =
-      let parts = and_parts (is_legal case w letter) (legal_from read case (after_letter read case w letter) rest) legal in
-      are-in (after_letter read case w letter) rest parts.1 (in-after w letter parts.0 are)
+      let parts = and_parts (is_legal case w letter) (legal_from case (after_letter case w letter) rest) legal in
+      are-in (after_letter case w letter) rest parts.1 (in-after w letter parts.0 are)
 
   counted-put : (text : Option (List ℕ)) (w : OpenWorld) → length w.installed ≡ length w.entries
-      → length (with_entry read text w).installed ≡ length (with_entry read text w).entries
+      → length (with_entry text w).installed ≡ length (with_entry text w).entries
   counted-put None w is = is
   counted-put (Some text) w is =
       let installed = length-append w.installed (length w.acks ∷ []) in
-      let entries = length-append w.entries (read text ∷ []) in
+      let entries = length-append w.entries (program_of text ∷ []) in
       omega (arith, installed, entries, is)
 
   counted-after : (w : OpenWorld) (letter : OpenLetter) → length w.installed ≡ length w.entries
-      → length (after_letter read case w letter).installed ≡ length (after_letter read case w letter).entries
+      → length (after_letter case w letter).installed ≡ length (after_letter case w letter).entries
   counted-after w A is = ap (λ (ns : List ℕ). length ns) (acked w).2 ∙ is ∙ sym (ap (λ (entries : List Installed). length entries) (acked w).1)
   counted-after w I is = counted-put (slice_get case.steps (length w.entries)) w is
   counted-after w G is =
@@ -200,12 +200,12 @@ module _ (read : TextReading) (case : OpenCase) where
       ap (λ (ns : List ℕ). length ns) same.2 ∙ is ∙ sym (ap (λ (entries : List Installed). length entries) same.1)
 
   counted-from : (w : OpenWorld) (word : List OpenLetter) → length w.installed ≡ length w.entries
-      → length (world_from read case w word).installed ≡ length (world_from read case w word).entries
+      → length (world_from case w word).installed ≡ length (world_from case w word).entries
   counted-from w [] is = is
-  counted-from w (letter ∷ rest) is = counted-from (after_letter read case w letter) rest (counted-after w letter is)
+  counted-from w (letter ∷ rest) is = counted-from (after_letter case w letter) rest (counted-after w letter is)
 
   -- each entry has its count
-  pub counted-entries : (word : List OpenLetter) → length (install_world read case word).installed ≡ length (install_world read case word).entries
+  pub counted-entries : (word : List OpenLetter) → length (install_world case word).installed ≡ length (install_world case word).entries
   counted-entries word = counted-from opening word refl
 
   -- ---- the state with all entries in from the beginning
@@ -218,7 +218,7 @@ module _ (read : TextReading) (case : OpenCase) where
   all-ran ack None w = refl
   all-ran ack (Some running) w = refl
 
-  all-put : (text : Option (List ℕ)) (w : OpenWorld) → with-all (with_entry read text w) ≡ with-all w
+  all-put : (text : Option (List ℕ)) (w : OpenWorld) → with-all (with_entry text w) ≡ with-all w
   all-put None w = refl
   all-put (Some text) w = refl
 
@@ -229,52 +229,52 @@ module _ (read : TextReading) (case : OpenCase) where
   all-next : (w : OpenWorld) → AreIn w → is_legal case w G ≡ true → next_of (with-all w) ≡ next_of w
   all-next w are legal =
       ap (first_left (eras_of w) 0) (sym are)
-      ∙ first_left-more (eras_of w) 0 w.entries (map read (drop (length w.entries) case.steps)) legal
+      ∙ first_left-more (eras_of w) 0 w.entries (map program_of (drop (length w.entries) case.steps)) legal
 
-  after-A : (w : OpenWorld) → with-all (after_letter read case w A) ≡ after_letter read case (with-all w) A
+  after-A : (w : OpenWorld) → with-all (after_letter case w A) ≡ after_letter case (with-all w) A
   after-A w = all-ran (next_ack case w) w.present
       (record w { acks = w.acks ++ next_ack case w ∷ []; windows = w.windows ++ cwnd_of case w ∷ [] })
 
-  after-G : (w : OpenWorld) → AreIn w → is_legal case w G ≡ true → with-all (after_letter read case w G) ≡ after_letter read case (with-all w) G
+  after-G : (w : OpenWorld) → AreIn w → is_legal case w G ≡ true → with-all (after_letter case w G) ≡ after_letter case (with-all w) G
   after-G w are legal = all-changed (next_of w) w ∙ ap (λ next. with_next case next (with-all w)) (sym (all-next w are legal))
 
-  all-after : (w : OpenWorld) (word : List OpenLetter) → AreIn w → legal_from read case w word ≡ true
-      → with-all (world_from read case w word) ≡ world_from read case (with-all w) (without_entries word)
+  all-after : (w : OpenWorld) (word : List OpenLetter) → AreIn w → legal_from case w word ≡ true
+      → with-all (world_from case w word) ≡ world_from case (with-all w) (without_entries word)
   all-after w [] are legal = refl
   all-after w (A ∷ rest) are legal =
-      let next = after_letter read case w A in
-      let parts = and_parts (is_legal case w A) (legal_from read case next rest) legal in
+      let next = after_letter case w A in
+      let parts = and_parts (is_legal case w A) (legal_from case next rest) legal in
       all-after next rest (in-after w A parts.0 are) parts.1
-      ∙ ap (λ (v : OpenWorld). world_from read case v (without_entries rest)) (after-A w)
+      ∙ ap (λ (v : OpenWorld). world_from case v (without_entries rest)) (after-A w)
   all-after w (I ∷ rest) are legal =
-      let next = after_letter read case w I in
-      let parts = and_parts (is_legal case w I) (legal_from read case next rest) legal in
+      let next = after_letter case w I in
+      let parts = and_parts (is_legal case w I) (legal_from case next rest) legal in
       all-after next rest (in-after w I parts.0 are) parts.1
-      ∙ ap (λ (v : OpenWorld). world_from read case v (without_entries rest)) (all-put (slice_get case.steps (length w.entries)) w)
+      ∙ ap (λ (v : OpenWorld). world_from case v (without_entries rest)) (all-put (slice_get case.steps (length w.entries)) w)
   all-after w (G ∷ rest) are legal =
-      let next = after_letter read case w G in
-      let parts = and_parts (is_legal case w G) (legal_from read case next rest) legal in
+      let next = after_letter case w G in
+      let parts = and_parts (is_legal case w G) (legal_from case next rest) legal in
       all-after next rest (in-after w G parts.0 are) parts.1
-      ∙ ap (λ (v : OpenWorld). world_from read case v (without_entries rest)) (after-G w are parts.0)
+      ∙ ap (λ (v : OpenWorld). world_from case v (without_entries rest)) (after-G w are parts.0)
 
   -- ---- histories
 
   -- all acknowledgements are in
-  acks-within : (w : OpenWorld) (word : List OpenLetter) → legal_from read case w word ≡ true → length w.acks ≤ case.acks
-      → length (world_from read case w word).acks ≤ case.acks
+  acks-within : (w : OpenWorld) (word : List OpenLetter) → legal_from case w word ≡ true → length w.acks ≤ case.acks
+      → length (world_from case w word).acks ≤ case.acks
   acks-within w [] legal within = within
   acks-within w (letter ∷ rest) legal within =
-      let parts = and_parts (is_legal case w letter) (legal_from read case (after_letter read case w letter) rest) legal in
-      acks-within (after_letter read case w letter) rest parts.1 (one w letter parts.0 within)
+      let parts = and_parts (is_legal case w letter) (legal_from case (after_letter case w letter) rest) legal in
+      acks-within (after_letter case w letter) rest parts.1 (one w letter parts.0 within)
     where
       one : (w : OpenWorld) (letter : OpenLetter) → is_legal case w letter ≡ true → length w.acks ≤ case.acks
-          → length (after_letter read case w letter).acks ≤ case.acks
+          → length (after_letter case w letter).acks ≤ case.acks
       one w A legal within =
           let more = more-acks w in
           let below = ltb-true (length w.acks) case.acks legal in
           omega (arith, more, below)
       one w I legal within =
-          let same = ap (λ (acks : List Ack). length acks) (put-same read (slice_get case.steps (length w.entries)) w).0 in
+          let same = ap (λ (acks : List Ack). length acks) (put-same (slice_get case.steps (length w.entries)) w).0 in
           omega (arith, same, within)
       one w G legal within =
           let same = ap (λ (acks : List Ack). length acks) (changed-same case (next_of w) w).0 in
@@ -285,39 +285,39 @@ module _ (read : TextReading) (case : OpenCase) where
   not-more false true c is = absurd (let wrong : false ≡ true = is in (cc))
   not-more true b c is = absurd (let wrong : false ≡ true = is in (cc))
 
-  module _ (word : List OpenLetter) (history : IsHistory read (case, word)) where
-    ended : (is_legal case (install_world read case word) A ≡ false) × (is_legal case (install_world read case word) I ≡ false)
-    ended = not-more (is_legal case (install_world read case word) A) (is_legal case (install_world read case word) I) (is_legal case (install_world read case word) G) history.complete
+  module _ (word : List OpenLetter) (history : IsHistory (case, word)) where
+    ended : (is_legal case (install_world case word) A ≡ false) × (is_legal case (install_world case word) I ≡ false)
+    ended = not-more (is_legal case (install_world case word) A) (is_legal case (install_world case word) I) (is_legal case (install_world case word) G) history.complete
 
     pub acks-all : acks_in word ≡ case.acks
     acks-all =
-        let least : case.acks ≤ length (install_world read case word).acks = ltb-false (length (install_world read case word).acks) case.acks ended.0 in
-        let most : length (install_world read case word).acks ≤ case.acks = acks-within opening word history.legal (omega arith) in
-        let count : length (install_world read case word).acks ≡ 0 + acks_in word = acks-of opening word in
+        let least : case.acks ≤ length (install_world case word).acks = ltb-false (length (install_world case word).acks) case.acks ended.0 in
+        let most : length (install_world case word).acks ≤ case.acks = acks-within opening word history.legal (omega arith) in
+        let count : length (install_world case word).acks ≡ 0 + acks_in word = acks-of opening word in
         omega (arith, least, most, count)
 
-    pub entries-all : (install_world read case word).entries ≡ map read case.steps
+    pub entries-all : (install_world case word).entries ≡ map program_of case.steps
     entries-all =
-        let entries = (install_world read case word).entries in
+        let entries = (install_world case word).entries in
         let least : length case.steps ≤ length entries = ltb-false (length entries) (length case.steps) ended.1 in
         let none : drop (length entries) case.steps ≡ [] = drop_of_length-le case.steps least in
-        sym (append-nil entries) ∙ ap (λ texts. entries ++ map read texts) (sym none) ∙ are-in opening word history.legal refl
+        sym (append-nil entries) ∙ ap (λ texts. entries ++ map program_of texts) (sym none) ∙ are-in opening word history.legal refl
 
-    pub installed-are : (install_world read case word).installed ≡ entry_counts 0 word
+    pub installed-are : (install_world case word).installed ≡ entry_counts 0 word
     installed-are = installed-of opening word history.legal
 
-    pub starts-are : starts_of (install_world read case word) ≡ change_counts 0 word
+    pub starts-are : starts_of (install_world case word) ≡ change_counts 0 word
     starts-are = starts-of opening word history.legal
 
-    pub all-with : with-all (install_world read case word) ≡ world_from read case (with-all opening) (without_entries word)
+    pub all-with : with-all (install_world case word) ≡ world_from case (with-all opening) (without_entries word)
     all-with = all-after opening word refl history.legal
 
   -- alike histories have one state
-  pub alike-worlds : (word other : List OpenLetter) → IsHistory read (case, word) → IsHistory read (case, other) → AreAlike word other
-      → install_world read case word ≡ install_world read case other
+  pub alike-worlds : (word other : List OpenLetter) → IsHistory (case, word) → IsHistory (case, other) → AreAlike word other
+      → install_world case word ≡ install_world case other
   alike-worlds word other history other_history alike =
-      let same : with-all (install_world read case word) ≡ with-all (install_world read case other) =
-      all-with word history ∙ ap (world_from read case (with-all opening)) alike.changes ∙ sym (all-with other other_history) in
+      let same : with-all (install_world case word) ≡ with-all (install_world case other) =
+      all-with word history ∙ ap (world_from case (with-all opening)) alike.changes ∙ sym (all-with other other_history) in
       let entries = entries-all word history ∙ sym (entries-all other other_history) in
       let installed = installed-are word history ∙ alike-entries word other alike ∙ sym (installed-are other other_history) in
       λ i. record (same i) { entries = entries i; installed = installed i }

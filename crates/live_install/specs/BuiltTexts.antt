@@ -5,7 +5,7 @@ use Rattle.reg_compiler.specs.declared.built.Built.{Built}
 use Rattle.portus_build.specs.declared.fault.BuildFault.{BuildFault}
 use Rattle.portus_build.specs.declared.fault.BuildFault.TheVariants.{NoMemory, Parse, Scope, Compile}
 use Rattle.portus_build.specs.Settled.{is_want_of_memory}
-use Rattle.portus_build.specs.TextReadings.{TextReading, ReadsTexts}
+use Rattle.portus_build.specs.TextWalk.{program_of}
 use Rattle.live_install.specs.OpenWorld.{Installed}
 
 -- the program of what was built, or the refusal
@@ -29,9 +29,9 @@ is_no_memory (Parse fault) = false
 is_no_memory (Scope fault) = false
 is_no_memory (Compile fault) = false
 
--- it is what the text comes to in every reading of program texts
+-- it is what the text stands for
 abbrev pub Answers : List ℕ → Result Built BuildFault → Type 0
-Answers text answer = (read : TextReading) → ReadsTexts read → read text ≡ came_of answer
+Answers text answer = program_of text ≡ came_of answer
 
 abbrev pub built_of : Result Built BuildFault → Option Built
 built_of (Ok built) = Some built
@@ -43,7 +43,7 @@ pub record EntryState : Type 0 where
   pub text : List ℕ
   pub answer : Result Built BuildFault
 
--- the answer is the text's in every reading, and memory wasn't wanting
+-- the answer is what the text stands for, and memory wasn't wanting
 pub record IsEntry (text : List ℕ) (answer : Result Built BuildFault) : Type 0 where
   pub answers : Answers text answer
   pub ruled : is_wanting answer ≡ false

@@ -2,7 +2,6 @@
 use Rattle.std.specs.Prelude.{Bool, true, false, [], ◌∷◌, ◌++◌}
 use Rattle.worker_desk.specs.declared.event.Heard.{Heard}
 use Rattle.worker_desk.specs.declared.event.Heard.TheVariants.{Quiet, Ended}
-use Rattle.portus_build.specs.TextReadings.{TextReading}
 use Rattle.live_install.specs.declared.letter.OpenLetter.TheVariants.{A}
 use Rattle.live_install.specs.OpenCells.{OpenState, is_legal_at}
 
@@ -12,5 +11,5 @@ abbrev pub hearing : Bool → OpenState → OpenState × Heard
 hearing true cell = (record cell { word = cell.word ++ A ∷ [] }, Quiet)
 hearing false cell = (cell, Ended)
 
-abbrev pub hearing_at : TextReading → OpenState → OpenState × Heard
-hearing_at read cell = hearing (is_legal_at read cell A) cell
+abbrev pub hearing_at : OpenState → OpenState × Heard
+hearing_at cell = hearing (is_legal_at cell A) cell

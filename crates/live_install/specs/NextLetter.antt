@@ -1,6 +1,5 @@
 -- Which letter the caller makes next of a flow whose word isn't complete.
 use Rattle.std.specs.Prelude.{◌≡◌, ℕ, ◌-◌, ◌≤◌, Bool, true, false, [], ◌∷◌, ◌++◌, length}
-use Rattle.portus_build.specs.TextReadings.{TextReading, ReadsTexts}
 use Rattle.live_install.specs.declared.letter.OpenLetter.{OpenLetter}
 use Rattle.live_install.specs.declared.letter.OpenLetter.TheVariants as letters
 use Rattle.live_install.specs.OpenCells.{OpenState, is_legal_at, most_letters}
@@ -13,13 +12,13 @@ next_letter false false = letters.A
 
 -- the letter that the caller makes next: a change where one may come, else an entry where one may come, else an
 -- acknowledgement
-abbrev pub next_letter_at : TextReading → OpenState → OpenLetter
-next_letter_at read cell = next_letter (is_legal_at read cell letters.G) (is_legal_at read cell letters.I)
+abbrev pub next_letter_at : OpenState → OpenLetter
+next_letter_at cell = next_letter (is_legal_at cell letters.G) (is_legal_at cell letters.I)
 
 -- the same flow with this letter more, and still within its letters
 pub record HasNext (old new : OpenState) : Type 0 where
   pub case : new.case ≡ old.case
-  pub word : (read : TextReading) → ReadsTexts read → new.word ≡ old.word ++ next_letter_at read old ∷ []
+  pub word : new.word ≡ old.word ++ next_letter_at old ∷ []
   pub within : length new.word ≤ most_letters new.case
 
 -- how many letters may come yet, at most

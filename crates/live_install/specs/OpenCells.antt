@@ -7,7 +7,6 @@ use Rattle.reg_compiler.specs.declared.built.Built.{Built}
 use Rattle.fold_machine.specs.declared.acked.Acked.{Acked}
 use Rattle.fold_machine.specs.declared.acked.Acked.TheVariants as acked
 use Rattle.flow_core.specs.Cores.{ran_by}
-use Rattle.portus_build.specs.TextReadings.{TextReading}
 use Rattle.scene_members.specs.declared.open_case.OpenCase.{OpenCase}
 use Rattle.live_install.specs.declared.entry.Entry.{Entry}
 use Rattle.live_install.specs.declared.letter.OpenLetter.{OpenLetter}
@@ -22,26 +21,26 @@ pub record OpenState : Type 0 where
   pub word : List OpenLetter
 
 -- the flow's state after its word
-abbrev pub world_at : TextReading → OpenState → OpenWorld
-world_at read cell = install_world read cell.case cell.word
+abbrev pub world_at : OpenState → OpenWorld
+world_at cell = install_world cell.case cell.word
 
-abbrev pub ack_at : TextReading → OpenState → Ack
-ack_at read cell = next_ack cell.case (world_at read cell)
+abbrev pub ack_at : OpenState → Ack
+ack_at cell = next_ack cell.case (world_at cell)
 
 -- the new flow's state is the old one's after one more letter
-abbrev pub IsAfter : TextReading → OpenState → OpenLetter → OpenState → Type 0
-IsAfter read old letter new = world_at read new ≡ after_letter read old.case (world_at read old) letter
+abbrev pub IsAfter : OpenState → OpenLetter → OpenState → Type 0
+IsAfter old letter new = world_at new ≡ after_letter old.case (world_at old) letter
 
 -- the letter is legal at the end of the flow's word
-abbrev pub is_legal_at : TextReading → OpenState → OpenLetter → Bool
-is_legal_at read cell letter = is_legal cell.case (world_at read cell) letter
+abbrev pub is_legal_at : OpenState → OpenLetter → Bool
+is_legal_at cell letter = is_legal cell.case (world_at cell) letter
 
 -- all acknowledgements of the case are in
-abbrev pub HasAll : TextReading → OpenState → Type 0
-HasAll read cell = cell.case.acks ≤ length (world_at read cell).acks
+abbrev pub HasAll : OpenState → Type 0
+HasAll cell = cell.case.acks ≤ length (world_at cell).acks
 
-abbrev pub IsComplete : TextReading → OpenState → Type 0
-IsComplete read cell = is_complete cell.case (world_at read cell) ≡ true
+abbrev pub IsComplete : OpenState → Type 0
+IsComplete cell = is_complete cell.case (world_at cell) ≡ true
 
 -- how many letters a word of a case has at most
 abbrev pub most_letters : OpenCase → ℕ
@@ -83,8 +82,8 @@ AnswersTo entries ack (Some running) None = ⊥
 AnswersTo entries ack (Some running) (Some answer) = Tells (built_at entries running.era.program) answer (met_by running ack).0
 
 -- the answer to the next acknowledgement
-abbrev pub Answered : TextReading → OpenState → Option Acked → Type 0
-Answered read cell answer = AnswersTo cell.entries (ack_at read cell) (world_at read cell).present answer
+abbrev pub Answered : OpenState → Option Acked → Type 0
+Answered cell answer = AnswersTo cell.entries (ack_at cell) (world_at cell).present answer
 
 -- how many instructions an acknowledgement runs, none before the first change
 abbrev pub ran_with : Option Built → Running → Ack → ℕ
@@ -95,11 +94,11 @@ abbrev pub ran_in : List Entry → Option Running → Ack → ℕ
 ran_in entries None ack = 0
 ran_in entries (Some running) ack = ran_with (built_at entries running.era.program) running ack
 
-abbrev pub ran_at : TextReading → OpenState → ℕ
-ran_at read cell = ran_in cell.entries (world_at read cell).present (ack_at read cell)
+abbrev pub ran_at : OpenState → ℕ
+ran_at cell = ran_in cell.entries (world_at cell).present (ack_at cell)
 
 -- ---- what a change is answered
 
 -- the step that the next change changes to, None where there is none
-abbrev pub next_at : TextReading → OpenState → Option ℕ
-next_at read cell = option_map (λ next. next.0) (next_of (world_at read cell))
+abbrev pub next_at : OpenState → Option ℕ
+next_at cell = option_map (λ next. next.0) (next_of (world_at cell))

@@ -1,7 +1,6 @@
 -- The history of a flow of a rollout as a word, and the states that words come to.
 use Rattle.std.specs.Prelude.{Bool, true, not, ◌&&◌, nat_lt, is_some, List, [], ◌∷◌, length}
 use Rattle.link_model.specs.Link.{ack_after}
-use Rattle.portus_build.specs.TextReadings.{TextReading}
 use Rattle.scene_members.specs.declared.open_case.OpenCase.{OpenCase}
 use Rattle.ccp_base.specs.declared.ack.Ack.{Ack}
 use Rattle.live_install.specs.declared.letter.OpenLetter.{OpenLetter}
@@ -13,18 +12,18 @@ abbrev pub next_ack : OpenCase → OpenWorld → Ack
 next_ack case w = ack_after case.link w.windows (cwnd_of case w)
 
 -- the state after one more letter: A is an acknowledgement, I an entry that is installed, G a change
-abbrev pub after_letter : TextReading → OpenCase → OpenWorld → OpenLetter → OpenWorld
-after_letter read case w A = after_ack case (next_ack case w) w
-after_letter read case w I = after_install read case w
-after_letter read case w G = after_change case w
+abbrev pub after_letter : OpenCase → OpenWorld → OpenLetter → OpenWorld
+after_letter case w A = after_ack case (next_ack case w) w
+after_letter case w I = after_install case w
+after_letter case w G = after_change case w
 
-abbrev pub world_from : TextReading → OpenCase → OpenWorld → List OpenLetter → OpenWorld
-world_from read case w [] = w
-world_from read case w (letter ∷ rest) = world_from read case (after_letter read case w letter) rest
+abbrev pub world_from : OpenCase → OpenWorld → List OpenLetter → OpenWorld
+world_from case w [] = w
+world_from case w (letter ∷ rest) = world_from case (after_letter case w letter) rest
 
 -- the state after a word
-abbrev pub install_world : TextReading → OpenCase → List OpenLetter → OpenWorld
-install_world read case word = world_from read case opening word
+abbrev pub install_world : OpenCase → List OpenLetter → OpenWorld
+install_world case word = world_from case opening word
 
 -- ---- legal and complete words
 
@@ -35,13 +34,13 @@ is_legal case w A = nat_lt (length w.acks) case.acks
 is_legal case w I = nat_lt (length w.entries) (length case.steps)
 is_legal case w G = is_some (next_of w)
 
-abbrev pub legal_from : TextReading → OpenCase → OpenWorld → List OpenLetter → Bool
-legal_from read case w [] = true
-legal_from read case w (letter ∷ rest) = is_legal case w letter && legal_from read case (after_letter read case w letter) rest
+abbrev pub legal_from : OpenCase → OpenWorld → List OpenLetter → Bool
+legal_from case w [] = true
+legal_from case w (letter ∷ rest) = is_legal case w letter && legal_from case (after_letter case w letter) rest
 
 -- each letter is legal at its point
-abbrev pub legal : TextReading → OpenCase → List OpenLetter → Bool
-legal read case word = legal_from read case opening word
+abbrev pub legal : OpenCase → List OpenLetter → Bool
+legal case word = legal_from case opening word
 
 -- all acknowledgements are in, all steps have entries, and no change is legal
 abbrev pub is_complete : OpenCase → OpenWorld → Bool

@@ -9,7 +9,7 @@ use Rattle.portus_core.specs.Value.{Cause}
 use Rattle.portus_core.specs.Epoch.{acknowledged, Outcome, Track, track_at, by_source, declared_env, heard, after}
 use Rattle.portus_core.specs.Reports.{reports_met}
 use Rattle.portus_build.specs.declared.fault.BuildFault.{BuildFault}
-use Rattle.portus_build.specs.TextReadings.{TextReading}
+use Rattle.portus_build.specs.TextWalk.{program_of}
 use Rattle.scene_members.specs.declared.open_case.OpenCase.{OpenCase}
 use Rattle.flow_core.specs.World.{Failure, Era, with_event, time_of, failures_met}
 
@@ -102,16 +102,16 @@ after_ack case ack w =
 
 -- ---- an entry is installed
 
-abbrev pub with_entry : TextReading → Option (List ℕ) → OpenWorld → OpenWorld
-with_entry read None w = w
-with_entry read (Some text) w = record w {
-  entries = w.entries ++ read text ∷ [];
+abbrev pub with_entry : Option (List ℕ) → OpenWorld → OpenWorld
+with_entry None w = w
+with_entry (Some text) w = record w {
+  entries = w.entries ++ program_of text ∷ [];
   installed = w.installed ++ length w.acks ∷ [];
 }
 
 -- what the next step's text stands for
-abbrev pub after_install : TextReading → OpenCase → OpenWorld → OpenWorld
-after_install read case w = with_entry read (slice_get case.steps (length w.entries)) w
+abbrev pub after_install : OpenCase → OpenWorld → OpenWorld
+after_install case w = with_entry (slice_get case.steps (length w.entries)) w
 
 -- ---- a change
 

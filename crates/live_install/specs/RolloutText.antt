@@ -15,7 +15,6 @@ use Rattle.flow_core.specs.declared.book.EpochLine.{EpochLine}
 use Rattle.flow_core.specs.World.{Failure}
 use Rattle.flow_core.specs.Books.{epoch_line}
 use Rattle.scene_members.specs.declared.open_case.OpenCase.{OpenCase}
-use Rattle.portus_build.specs.TextReadings.{TextReading}
 use Rattle.live_install.specs.declared.letter.OpenLetter.{OpenLetter}
 use Rattle.live_install.specs.OpenWorld.{Installed, OpenWorld, eras_of, track_now}
 use Rattle.live_install.specs.OpenWords.{install_world}
@@ -139,6 +138,6 @@ abbrev pub open_part : OpenCase → OpenWorld → List ℕ
 open_part case w = account_text case (account_of case w)
 
 -- the text of flows, each a case and its word
-abbrev pub rollout_text : TextReading → List (OpenCase × List OpenLetter) → List ℕ
-rollout_text read [] = []
-rollout_text read (flow ∷ rest) = open_part flow.0 (install_world read flow.0 flow.1) ⧺ rollout_text read rest
+abbrev pub rollout_text : List (OpenCase × List OpenLetter) → List ℕ
+rollout_text [] = []
+rollout_text (flow ∷ rest) = open_part flow.0 (install_world flow.0 flow.1) ⧺ rollout_text rest

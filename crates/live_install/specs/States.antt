@@ -1,5 +1,5 @@
 -- What a flow of a rollout keeps, and what holds of it: it is the state after the flow's word.
-use Rattle.std.specs.Prelude.{◌≡◌, ℕ, ◌+◌, ◌-◌, ◌<◌, ◌≤◌, Bool, true, false, Option, Some, None, option_map, Ok, List, [], ◌∷◌, ⊤, length, map, position, slice_get}
+use Rattle.std.specs.Prelude.{◌≡◌, ℕ, ◌+◌, ◌-◌, ◌<◌, ◌≤◌, Bool, true, false, Option, Some, None, option_map, Ok, List, ⊤, length, map, position, slice_get}
 use Rattle.portus_core.specs.Programs.{Form}
 use Rattle.portus_core.specs.ProgramForm.{form_of}
 use Rattle.portus_core.specs.OneAcknowledgement.{IsEnvOf}
@@ -10,7 +10,6 @@ use Rattle.link_model.specs.Standing.{Stands}
 use Rattle.flow_core.specs.Readings.{env_of}
 use Rattle.flow_core.specs.World.{Era, time_of}
 use Rattle.flow_core.specs.Books.{epoch_line}
-use Rattle.portus_build.specs.TextReadings.{TextReading, ReadsTexts}
 use Rattle.live_install.specs.declared.entry.Entry.{Entry}
 use Rattle.live_install.specs.declared.state.State.{State}
 use Rattle.live_install.specs.declared.account.Turn.{Turn}
@@ -27,8 +26,8 @@ abbrev pub cell_of : State → OpenState
 cell_of s = record { case = s.case; entries = s.entries.items; word = s.word.items }
 
 -- the state after the flow's word
-abbrev pub world_of : TextReading → State → OpenWorld
-world_of read s = install_world read s.case s.word.items
+abbrev pub world_of : State → OpenWorld
+world_of s = install_world s.case s.word.items
 
 -- where the kept flow stands
 abbrev pub kept_track : State → Track
@@ -132,11 +131,11 @@ pub record IsFit (s : State) : Type 0 where
   pub reports_room : s.case.acks ≤ s.account.reports.room
   pub word_room : most_letters s.case ≤ s.word.room
 
--- the flow is that of its case and its word, in every reading of program texts
+-- the flow is that of its case and its word
 pub record IsOpen (s : State) : Type 0 where
   pub fit : IsFit s
-  pub keeps : (read : TextReading) → ReadsTexts read → Keeps s (world_of read s)
-  pub legal : (read : TextReading) → ReadsTexts read → legal read s.case s.word.items ≡ true
+  pub keeps : Keeps s (world_of s)
+  pub legal : legal s.case s.word.items ≡ true
 
 -- the present epoch's number
 abbrev pub epoch_of : State → ℕ

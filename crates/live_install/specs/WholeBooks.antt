@@ -1,7 +1,6 @@
 -- What a book of a rollout is: it tells what a legal and complete word of its case came to.
 use Rattle.std.specs.Prelude.{◌≡◌, true, List, map}
 use Rattle.scene_members.specs.declared.open_case.OpenCase.{OpenCase}
-use Rattle.portus_build.specs.TextReadings.{TextReading}
 use Rattle.live_install.specs.declared.book.OpenBook.{OpenBook}
 use Rattle.live_install.specs.declared.letter.OpenLetter.{OpenLetter}
 use Rattle.live_install.specs.OpenWords.{install_world, legal, is_complete}
@@ -9,9 +8,9 @@ use Rattle.live_install.specs.OpenBooks.{IsOpenBookOf}
 use Rattle.live_install.specs.OpenCells.{OpenState}
 
 -- the word is legal and complete for the case
-pub record IsHistory (read : TextReading) (flow : OpenCase × List OpenLetter) : Type 0 where
-  pub legal : legal read flow.0 flow.1 ≡ true
-  pub complete : is_complete flow.0 (install_world read flow.0 flow.1) ≡ true
+pub record IsHistory (flow : OpenCase × List OpenLetter) : Type 0 where
+  pub legal : legal flow.0 flow.1 ≡ true
+  pub complete : is_complete flow.0 (install_world flow.0 flow.1) ≡ true
 
 -- the flow that a book is of: its case and its word
 abbrev pub flow_of : OpenBook → OpenCase × List OpenLetter
@@ -21,12 +20,12 @@ abbrev pub flows_of : List OpenBook → List (OpenCase × List OpenLetter)
 flows_of books = map flow_of books
 
 -- the book has what its word came to
-abbrev pub IsRightBook : TextReading → OpenBook → Type 0
-IsRightBook read book = IsOpenBookOf (install_world read book.case book.word) book
+abbrev pub IsRightBook : OpenBook → Type 0
+IsRightBook book = IsOpenBookOf (install_world book.case book.word) book
 
-pub record IsWhole (read : TextReading) (book : OpenBook) : Type 0 where
-  pub history : IsHistory read (flow_of book)
-  pub right : IsRightBook read book
+pub record IsWhole (book : OpenBook) : Type 0 where
+  pub history : IsHistory (flow_of book)
+  pub right : IsRightBook book
 
 -- the flow whose history a book tells
 abbrev pub state_of : OpenBook → OpenState

@@ -2,7 +2,6 @@
 -- acknowledgements.
 use Rattle.std.specs.Prelude.{◌≡◌, ◌↔◌, ℕ, List, [], ◌∷◌, ⊤}
 use Rattle.scene_members.specs.declared.open_case.OpenCase.{OpenCase}
-use Rattle.portus_build.specs.TextReadings.{TextReading}
 use Rattle.live_install.specs.declared.letter.OpenLetter.{OpenLetter}
 use Rattle.live_install.specs.declared.letter.OpenLetter.TheVariants.{A, I, G}
 use Rattle.live_install.specs.RolloutText.{rollout_text}
@@ -33,11 +32,11 @@ AreAllAlike (word ∷ words) [] = ⊥
 AreAllAlike (word ∷ words) (other ∷ others) = AreAlike word other × AreAllAlike words others
 
 -- a legal and complete word for each case, in order
-abbrev pub AreHistories : TextReading → List OpenCase → List (List OpenLetter) → Type 0
-AreHistories read [] [] = ⊤
-AreHistories read [] (word ∷ words) = ⊥
-AreHistories read (case ∷ cases) [] = ⊥
-AreHistories read (case ∷ cases) (word ∷ words) = IsHistory read (case, word) × AreHistories read cases words
+abbrev pub AreHistories : List OpenCase → List (List OpenLetter) → Type 0
+AreHistories [] [] = ⊤
+AreHistories [] (word ∷ words) = ⊥
+AreHistories (case ∷ cases) [] = ⊥
+AreHistories (case ∷ cases) (word ∷ words) = IsHistory (case, word) × AreHistories cases words
 
 -- each case with its word
 abbrev pub with_words : List OpenCase → List (List OpenLetter) → List (OpenCase × List OpenLetter)
@@ -46,11 +45,11 @@ with_words (case ∷ cases) [] = []
 with_words (case ∷ cases) (word ∷ words) = (case, word) ∷ with_words cases words
 
 -- the text of the cases for these words
-abbrev pub text_of : TextReading → List OpenCase → List (List OpenLetter) → List ℕ
-text_of read cases words = rollout_text read (with_words cases words)
+abbrev pub text_of : List OpenCase → List (List OpenLetter) → List ℕ
+text_of cases words = rollout_text (with_words cases words)
 
 -- two rollouts of the same cases have one text exactly where their words are alike
 abbrev pub TextShowsWords : Type 0
-TextShowsWords = (read : TextReading) (cases : List OpenCase) (words others : List (List OpenLetter))
-    → AreHistories read cases words → AreHistories read cases others
-    → (text_of read cases words ≡ text_of read cases others) ↔ AreAllAlike words others
+TextShowsWords = (cases : List OpenCase) (words others : List (List OpenLetter))
+    → AreHistories cases words → AreHistories cases others
+    → (text_of cases words ≡ text_of cases others) ↔ AreAllAlike words others

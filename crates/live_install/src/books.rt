@@ -1,7 +1,6 @@
 //! The books of a rollout's flows, made once the work of each of their workers is done.
 ghost use Rattle.std.specs.Prelude.{◌≡◌, map, IfOk, length};
 ghost use Rattle.std.specs.List.{All};
-ghost use Rattle.portus_build.specs.TextReadings.{TextReading, ReadsTexts};
 ghost use Rattle.flow_table.specs.Led.{AreLedTo};
 ghost use Rattle.live_install.specs.Crews.{HasWorked};
 ghost use Rattle.live_install.specs.NextLetter.{HasNext};
@@ -25,7 +24,7 @@ pub(crate) fn books(
     requires { HasWorked crew workers.datapaths.count workers.agents.count (length (map case_of cells)) }
     ensures cases { IfOk result (λ books. map case_in books ≡ map case_of cells) }
     ensures led { IfOk result (λ books. AreLedTo HasNext cells (map state_of books)) }
-    ensures whole { (read : TextReading) → ReadsTexts read → IfOk result (λ books. All (IsWhole read) books) }
+    ensures whole { IfOk result (λ books. All IsWhole books) }
 {
     drop(crew);
     make_books(alloc, cells)

@@ -1,7 +1,6 @@
 //! A flow of a rollout: acknowledgements, installed entries and changes, each a letter of its word.
 ghost use Rattle.std.specs.Prelude.{◌≡◌, ◌+◌, ◌≤◌, ◌↔◌, ◌∷◌, [], ◌++◌, true, Some, None, slice_get, length, map};
 ghost use Rattle.std.specs.Prelude.{IsTrue, IsOk, IsErr, IfOk, IfErr, OnOk, OnErr};
-ghost use Rattle.portus_build.specs.TextReadings.{TextReading, ReadsTexts};
 ghost use Rattle.live_install.specs.OpenWords.{legal, is_complete};
 ghost use Rattle.live_install.specs.Entries.{installed_of};
 ghost use Rattle.live_install.specs.OpenBooks.{IsOpenBookOf};
@@ -32,7 +31,7 @@ pub struct Late {
 #[derive(Clone, Copy, PartialEq, Eq)]
 pub struct Nothing;
 
-/// One flow of a rollout. For every reading of program texts, its state is that of its case after its word.
+/// One flow of a rollout. Its state is that of its case after its word.
 #[derive(Drop)]
 pub struct OpenCell {
     state: State,
@@ -74,8 +73,6 @@ impl OpenCell {
     /// A flow without a letter. The word, a report for each acknowledgement of the case, and for each step an entry,
     /// its number, an epoch and a fault are reserved here.
     pub fn new(alloc: Global, case: OpenCase) -> Result<OpenCell, NoMemory>
-        // There is a reading of program texts: each text comes to a program, or to its first refusal.
-        ensures readable { (read : TextReading) × ReadsTexts read }
         ensures opened { IfOk result (λ cell. cell ≡ record { case = case; entries = []; word = [] }) }
     {
         let state = State::open(alloc, case)?;
@@ -86,14 +83,12 @@ impl OpenCell {
     /// exactly where all acknowledgements are in; then nothing has changed. None exactly where no change came yet.
     /// `steps` counts the instructions that are run.
     pub fn ack<L: Ledger>(&mut self, steps: &mut Steps<L>) -> Result<Option<Acked>, Ended>
-        ensures ended { (read : TextReading) → ReadsTexts read → (IsErr result ↔ HasAll read self.old) }
+        ensures ended { IsErr result ↔ HasAll self.old }
         ensures ok { OnOk result (self.new ≡ record self.old { word = self.old.word ++ OpenLetter.A ∷ [] }) }
         ensures within { OnOk result (length self.new.word ≤ most_letters self.new.case) }
-        ensures world { (read : TextReading) → ReadsTexts read
-            → OnOk result (IsAfter read self.old OpenLetter.A self.new) }
-        ensures acked { (read : TextReading) → ReadsTexts read → IfOk result (λ answer. Answered read self.old answer) }
-        ensures steps { (read : TextReading) → ReadsTexts read
-            → OnOk result (steps.new ≡ steps.old + ran_at read self.old) }
+        ensures world { OnOk result (IsAfter self.old OpenLetter.A self.new) }
+        ensures acked { IfOk result (λ answer. Answered self.old answer) }
+        ensures steps { OnOk result (steps.new ≡ steps.old + ran_at self.old) }
         ensures unchanged { OnErr result (self.new ≡ self.old) }
         ensures idle { OnErr result (steps.new ≡ steps.old) }
     {
@@ -109,8 +104,7 @@ impl OpenCell {
         ensures installed { IsOk result ↔ IsNextEntry self.old entry }
         ensures ok { OnOk result (self.new ≡ with_entry self.old entry) }
         ensures within { OnOk result (length self.new.word ≤ most_letters self.new.case) }
-        ensures world { (read : TextReading) → ReadsTexts read
-            → OnOk result (IsAfter read self.old OpenLetter.I self.new) }
+        ensures world { OnOk result (IsAfter self.old OpenLetter.I self.new) }
         ensures late { IfErr result (λ late. (late.entry ≡ entry) × (late.want ≡ length self.old.entries)) }
         ensures unchanged { OnErr result (self.new ≡ self.old) }
     {
@@ -128,13 +122,11 @@ impl OpenCell {
     /// Changes the flow to the first accepted entry that it wasn't changed to, and answers its step. Nothing exactly
     /// where there is none; then nothing has changed.
     pub fn change(&mut self) -> Result<u32, Nothing>
-        ensures nothing { (read : TextReading) → ReadsTexts read → (IsErr result ↔ (next_at read self.old ≡ None)) }
+        ensures nothing { IsErr result ↔ (next_at self.old ≡ None) }
         ensures ok { OnOk result (self.new ≡ record self.old { word = self.old.word ++ OpenLetter.G ∷ [] }) }
         ensures within { OnOk result (length self.new.word ≤ most_letters self.new.case) }
-        ensures world { (read : TextReading) → ReadsTexts read
-            → OnOk result (IsAfter read self.old OpenLetter.G self.new) }
-        ensures step { (read : TextReading) → ReadsTexts read
-            → IfOk result (λ step. next_at read self.old ≡ Some step) }
+        ensures world { OnOk result (IsAfter self.old OpenLetter.G self.new) }
+        ensures step { IfOk result (λ step. next_at self.old ≡ Some step) }
         ensures unchanged { OnErr result (self.new ≡ self.old) }
     {
         let Some(step) = self.state.next() else {
@@ -147,7 +139,7 @@ impl OpenCell {
     /// Whether all acknowledgements are in, all steps have entries, and no accepted entry is left that wasn't changed
     /// to.
     pub fn is_complete(&self) -> bool
-        ensures { (read : TextReading) → ReadsTexts read → result ≡ is_complete self.now.case (world_at read self.now) }
+        ensures { result ≡ is_complete self.now.case (world_at self.now) }
     {
         if self.state.acks < self.state.case.acks
             || self.state.entries.len() < self.state.case.steps.len()
@@ -159,14 +151,14 @@ impl OpenCell {
 
     /// Whether an accepted entry is left that wasn't changed to.
     pub fn can_change(&self) -> bool
-        ensures { (read : TextReading) → ReadsTexts read → result ≡ is_legal_at read self.now OpenLetter.G }
+        ensures { result ≡ is_legal_at self.now OpenLetter.G }
     {
         self.state.next().is_some()
     }
 
     /// How many acknowledgements are in.
     pub fn acks(&self) -> u32
-        ensures { (read : TextReading) → ReadsTexts read → result ≡ length (world_at read self.now).acks }
+        ensures { result ≡ length (world_at self.now).acks }
     {
         self.state.acks
     }
@@ -174,8 +166,7 @@ impl OpenCell {
     /// The flow's library: the entries in the order of the steps. Each is what its step's text stands for.
     pub fn entries(&self) -> &[Entry]
         ensures entries { result.now ≡ self.now.entries }
-        ensures world { (read : TextReading) → ReadsTexts read
-            → map installed_of self.now.entries ≡ (world_at read self.now).entries }
+        ensures world { map installed_of self.now.entries ≡ (world_at self.now).entries }
     {
         self.state.entries.as_slice()
     }
@@ -184,7 +175,7 @@ impl OpenCell {
     /// each acknowledgement and two for each step.
     pub fn case(&self) -> &OpenCase
         ensures case { result.now ≡ self.now.case }
-        ensures legal { (read : TextReading) → ReadsTexts read → legal read self.now.case self.now.word ≡ true }
+        ensures legal { legal self.now.case self.now.word ≡ true }
         ensures within { length self.now.word ≤ most_letters self.now.case }
     {
         &self.state.case
@@ -192,12 +183,12 @@ impl OpenCell {
 
     /// What the history came to. The word must be complete.
     pub fn finish(self) -> OpenBook
-        requires { (read : TextReading) → ReadsTexts read → IsComplete read self }
+        requires { IsComplete self }
         ensures case { result.case ≡ self.case }
         ensures word { result.word ≡ self.word }
         ensures entries { result.entries ≡ self.entries }
-        ensures legal { (read : TextReading) → ReadsTexts read → legal read self.case self.word ≡ true }
-        ensures book { (read : TextReading) → ReadsTexts read → IsOpenBookOf (world_at read self) result }
+        ensures legal { legal self.case self.word ≡ true }
+        ensures book { IsOpenBookOf (world_at self) result }
     {
         let State {
             case,

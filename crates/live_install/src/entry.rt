@@ -1,6 +1,5 @@
 //! The entries of a flow's library: a step's text with its program and code, or with its refusal.
 ghost use Rattle.std.specs.Prelude.{◌≡◌, false, IfOk, option_copied};
-ghost use Rattle.portus_build.specs.TextReadings.{TextReading, ReadsTexts};
 ghost use Rattle.live_install.specs.BuiltTexts.{is_accepted, is_no_memory, is_wanting, Answers, IsEntry, built_of};
 
 use ccp_base::{Bytes, NoMemory, Sequence};
@@ -46,10 +45,8 @@ fn is_no_memory(refusal: &BuildFault) -> bool
 }
 
 /// What a text is built into.
-#[tactic(auto, using(crate::proofs::EntryLemmas::is_entry, crate::proofs::EntryLemmas::readable))]
 fn answer(alloc: Global, text: &[u8]) -> Result<Result<Built, BuildFault>, NoMemory>
-    ensures readable { (read : TextReading) × ReadsTexts read }
-    ensures entry { IfOk result (λ answer. IsEntry text.now answer) }
+    ensures { IfOk result (λ answer. IsEntry text.now answer) }
 {
     match build(alloc, text) {
         Ok(built) => Ok(Ok(built)),
@@ -64,8 +61,6 @@ pub type Entries = Sequence<Entry>;
 impl Entry {
     /// Builds the text of a step.
     pub fn make(alloc: Global, step: u32, text: &[u8]) -> Result<Entry, NoMemory>
-        // There is a reading of program texts: each text comes to a program, or to its first refusal.
-        ensures readable { (read : TextReading) × ReadsTexts read }
         ensures step { IfOk result (λ entry. entry.step ≡ step) }
         ensures text { IfOk result (λ entry. entry.text ≡ text.now) }
     {
@@ -81,7 +76,7 @@ impl Entry {
         self.step
     }
 
-    /// The text that was built. In every reading of program texts it comes to the answer.
+    /// The text that was built. What it stands for is the answer.
     pub fn text(&self) -> &[u8]
         ensures text { result.now ≡ self.now.text }
         ensures answers { Answers self.now.text self.now.answer }
@@ -89,8 +84,8 @@ impl Entry {
         self.text.as_slice()
     }
 
-    /// What the text is built into: its program, which it comes to in every reading, or its first refusal, which is
-    /// never want of memory.
+    /// What the text is built into: its program, which the text stands for, or its first refusal, which is never
+    /// out of memory.
     pub fn answer(&self) -> &Result<Built, BuildFault>
         ensures answer { result.now ≡ self.now.answer }
         ensures answers { Answers self.now.text self.now.answer }

@@ -1,6 +1,5 @@
 //! An acknowledgement: it is counted, and run where a program runs.
 ghost use Rattle.std.specs.Prelude.{◌≡◌, ◌+◌, ◌<◌, Some, None, option_copied, ◌∷◌, [], ◌++◌};
-ghost use Rattle.portus_build.specs.TextReadings.{TextReading, ReadsTexts};
 ghost use Rattle.live_install.specs.Entries.{built_at};
 ghost use Rattle.live_install.specs.OpenCells.{ran_at, Answered};
 ghost use Rattle.live_install.specs.States.{cell_of, world_of, step_in, IsOpen};
@@ -25,7 +24,7 @@ impl State {
     fn hearer(&self) -> Option<u32>
         requires { IsOpen self.now }
         ensures kept { result ≡ self.now.running }
-        ensures present { (read : TextReading) → ReadsTexts read → result ≡ step_in (world_of read self.now).present }
+        ensures present { result ≡ step_in (world_of self.now).present }
     {
         self.running
     }
@@ -38,9 +37,8 @@ impl State {
         ensures case { self.new.case ≡ self.old.case }
         ensures entries { self.new.entries ≡ self.old.entries }
         ensures word { self.new.word.items ≡ self.old.word.items ++ OpenLetter.A ∷ [] }
-        ensures answered { (read : TextReading) → ReadsTexts read → Answered read (cell_of self.old) result }
-        ensures steps { (read : TextReading) → ReadsTexts read
-            → steps.new ≡ steps.old + ran_at read (cell_of self.old) }
+        ensures answered { Answered (cell_of self.old) result }
+        ensures steps { steps.new ≡ steps.old + ran_at (cell_of self.old) }
     {
         match self.hearer() {
             Some(step) => Some(self.run_next(step, steps)),
@@ -60,7 +58,7 @@ impl State {
         ensures case { self.new.case ≡ self.old.case }
         ensures entries { self.new.entries ≡ self.old.entries }
         ensures word { self.new.word.items ≡ self.old.word.items ++ OpenLetter.A ∷ [] }
-        ensures answered { (read : TextReading) → ReadsTexts read → (world_of read self.old).present ≡ None }
+        ensures answered { (world_of self.old).present ≡ None }
     {
         let window = self.machine.cwnd();
         let ack = self.link.next(window);
@@ -78,9 +76,8 @@ impl State {
         ensures case { self.new.case ≡ self.old.case }
         ensures entries { self.new.entries ≡ self.old.entries }
         ensures word { self.new.word.items ≡ self.old.word.items ++ OpenLetter.A ∷ [] }
-        ensures answered { (read : TextReading) → ReadsTexts read → Answered read (cell_of self.old) (Some result) }
-        ensures steps { (read : TextReading) → ReadsTexts read
-            → steps.new ≡ steps.old + ran_at read (cell_of self.old) }
+        ensures answered { Answered (cell_of self.old) (Some result) }
+        ensures steps { steps.new ≡ steps.old + ran_at (cell_of self.old) }
     {
         let window = self.machine.cwnd();
         let ack = self.link.next(window);

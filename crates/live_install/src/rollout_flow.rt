@@ -1,7 +1,6 @@
 //! A flow of a rollout, as its table and its workers see it.
 
 ghost use Rattle.std.specs.Prelude.{◌≡◌, ◌↔◌, ◌<◌, true, false, IsTrue, IfOk, OnOk};
-ghost use Rattle.portus_build.specs.TextReadings.{TextReading, ReadsTexts};
 ghost use Rattle.live_install.specs.OpenCells.{IsComplete};
 ghost use Rattle.live_install.specs.WholeBooks.{IsWhole, state_of};
 
@@ -18,7 +17,6 @@ use worker_desk::Heard;
 
 impl LockedFlow for OpenCell {
     ghost use Rattle.std.specs.Prelude.{◌≡◌, false, []};
-    ghost use Rattle.portus_build.specs.TextReadings.{TextReading, ReadsTexts};
     ghost use Rattle.live_install.specs.OpenWords.{is_complete};
     ghost use Rattle.live_install.specs.OpenCells.{world_at, IsComplete};
     ghost use Rattle.live_install.specs.NextLetter.{HasNext, letters_left};
@@ -37,17 +35,17 @@ impl LockedFlow for OpenCell {
 
     ghost flow_in = { λ book. state_of book };
 
-    ghost HasHeard = { λ old new heard. (read : TextReading) → ReadsTexts read → (new, heard) ≡ hearing_at read old };
+    ghost HasHeard = { λ old new heard. (new, heard) ≡ hearing_at old };
 
-    ghost IsDone = { λ cell. (read : TextReading) → ReadsTexts read → IsComplete read cell };
+    ghost IsDone = { λ cell. IsComplete cell };
 
-    ghost IsLeft = { λ cell. (read : TextReading) → ReadsTexts read → is_complete cell.case (world_at read cell) ≡ false };
+    ghost IsLeft = { λ cell. is_complete cell.case (world_at cell) ≡ false };
 
     ghost letters = { λ cell. letters_left cell };
 
     ghost HasNext = { λ old new. HasNext old new };
 
-    ghost IsWhole = { λ book. (read : TextReading) → ReadsTexts read → IsWhole read book };
+    ghost IsWhole = { λ book. IsWhole book };
 
     fn copy(alloc: Global, case: &OpenCase) -> Result<OpenCase, NoMemory> {
         case.copy(alloc)
@@ -88,10 +86,10 @@ impl LockedFlow for OpenCell {
 
 /// The book of a flow whose word is complete.
 fn whole_book(cell: OpenCell) -> OpenBook
-    requires { (read : TextReading) → ReadsTexts read → IsComplete read cell }
+    requires { IsComplete cell }
     ensures case { result.case ≡ cell.case }
     ensures flow { state_of result ≡ cell }
-    ensures whole { (read : TextReading) → ReadsTexts read → IsWhole read result }
+    ensures whole { IsWhole result }
 {
     cell.finish()
 }

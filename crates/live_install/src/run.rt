@@ -2,7 +2,6 @@
 ghost use Rattle.std.specs.Prelude.{◌≡◌, ◌≤◌, IfOk, length, map};
 ghost use Rattle.std.specs.List.{All};
 ghost use Rattle.ccp_base.specs.Limits.{most_flows};
-ghost use Rattle.portus_build.specs.TextReadings.{TextReading, ReadsTexts};
 ghost use Rattle.live_install.specs.WholeBooks.{IsWhole, case_in};
 
 use crate::OpenBooks;
@@ -34,11 +33,9 @@ pub fn rollout<R: Threads + Wait + Sync, G: Gate + Sync>(
     gate: &G,
 ) -> Result<OpenBooks, NoMemory>
     requires few { length cases ≤ most_flows }
-    // There is a reading of program texts: each text comes to a program, or to its first refusal.
-    ensures readable { (read : TextReading) × ReadsTexts read }
-    // The books are those of the cases, and over every reading each tells of a legal and complete word.
+    // The books are those of the cases, and each tells of a legal and complete word.
     ensures cases { IfOk result (λ books. map case_in books ≡ cases) }
-    ensures whole { (read : TextReading) → ReadsTexts read → IfOk result (λ books. All (IsWhole read) books) }
+    ensures whole { IfOk result (λ books. All IsWhole books) }
 {
     let table = FlowTable::new(alloc, cases)?;
     let workers = WorkerCounts { datapaths, agents };

@@ -2,7 +2,6 @@
 ghost use Rattle.std.specs.Prelude.{◌≡◌, ◌+◌, ◌<◌, ◌≤◌, Some, slice_get, length, ◌∷◌, [], ◌++◌};
 ghost use Rattle.std.specs.Option.{ForSome};
 ghost use Rattle.ccp_base.specs.Limits.{most_steps};
-ghost use Rattle.portus_build.specs.TextReadings.{TextReading, ReadsTexts};
 ghost use Rattle.live_install.specs.BuiltTexts.{Answers};
 ghost use Rattle.live_install.specs.OpenCells.{next_at};
 ghost use Rattle.live_install.specs.States.{next_from, first_accepted, accepted_from, cell_of, IsOpen};
@@ -46,7 +45,7 @@ impl State {
     /// The step of the first accepted entry that wasn't changed to, None exactly where there is none.
     pub(crate) fn next(&self) -> Option<u32>
         requires { IsOpen self.now }
-        ensures { (read : TextReading) → ReadsTexts read → result ≡ next_at read (cell_of self.now) }
+        ensures { result ≡ next_at (cell_of self.now) }
     {
         let from = next_from(self.running);
         accepted_from(from, &self.entries.as_slice()[from as usize..])
@@ -55,7 +54,7 @@ impl State {
     /// Changes the flow to the program of this step.
     pub(crate) fn start(&mut self, step: u32)
         requires open_state { IsOpen self.old }
-        requires next { (read : TextReading) → ReadsTexts read → next_at read (cell_of self.old) ≡ Some step }
+        requires next { next_at (cell_of self.old) ≡ Some step }
         ensures open_state { IsOpen self.new }
         ensures case { self.new.case ≡ self.old.case }
         ensures entries { self.new.entries ≡ self.old.entries }

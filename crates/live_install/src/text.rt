@@ -1,7 +1,6 @@
 //! The text of a rollout: for each flow its entries, changes, faults, reports and end.
 ghost use Rattle.std.specs.Prelude.{◌≡◌, ◌≤◌, ◌++◌, IfOk, OnOk, [], map};
 ghost use Rattle.std.specs.List.{All};
-ghost use Rattle.portus_build.specs.TextReadings.{TextReading, ReadsTexts};
 ghost use Rattle.live_install.specs.Entries.{installed_of, place_at};
 ghost use Rattle.live_install.specs.RolloutText.{fault_lines, fields_at, fields_of, flow_line, last_fields, last_line};
 ghost use Rattle.live_install.specs.RolloutText.{rollout_text, shown_lines};
@@ -24,8 +23,7 @@ use std::alloc::Global;
 /// word came to, it is the rollout text of these words.
 pub fn rollout_text(alloc: Global, books: &OpenBooks) -> Result<Bytes, NoMemory>
     ensures text { IfOk result (λ text. text ≡ books_text books.now) }
-    ensures rollout { (read : TextReading) → All (IsRightBook read) books.now
-        → IfOk result (λ text. text ≡ rollout_text read (flows_of books.now)) }
+    ensures rollout { All IsRightBook books.now → IfOk result (λ text. text ≡ rollout_text (flows_of books.now)) }
 {
     books_text(alloc, books)
 }

@@ -1,6 +1,5 @@
 //! The next letter of an incomplete word of a rollout: a change, else the next entry, else an acknowledgement.
 ghost use Rattle.std.specs.Prelude.{◌≡◌, ◌<◌, Ok, Some, true, false, length, slice_get, IfOk, OnOk};
-ghost use Rattle.portus_build.specs.TextReadings.{TextReading, ReadsTexts};
 ghost use Rattle.live_install.specs.declared.letter.OpenLetter.TheVariants as letters;
 ghost use Rattle.live_install.specs.OpenWords.{is_complete};
 ghost use Rattle.live_install.specs.OpenCells.{world_at, is_legal_at};
@@ -20,7 +19,7 @@ pub(crate) fn make_letter<L: Ledger>(
     cell: &mut OpenCell,
     steps: &mut Steps<L>,
 ) -> Result<(), NoMemory>
-    requires { (read : TextReading) → ReadsTexts read → is_complete cell.old.case (world_at read cell.old) ≡ false }
+    requires { is_complete cell.old.case (world_at cell.old) ≡ false }
     ensures next { OnOk result (HasNext cell.old cell.new) }
     ensures fewer { OnOk result (letters_left cell.new < letters_left cell.old) }
 {
@@ -39,7 +38,7 @@ fn change(cell: &mut OpenCell) -> bool
     ensures made { result ≡ true → HasNext cell.old cell.new }
     ensures fewer { result ≡ true → letters_left cell.new < letters_left cell.old }
     ensures not { result ≡ false → cell.new ≡ cell.old }
-    ensures none { result ≡ false → (read : TextReading) → ReadsTexts read → is_legal_at read cell.old letters.G ≡ false }
+    ensures none { result ≡ false → is_legal_at cell.old letters.G ≡ false }
 {
     match cell.change() {
         Ok(_) => true,
@@ -49,12 +48,11 @@ fn change(cell: &mut OpenCell) -> bool
 
 /// Installs the entry of the next step where one is left, and says whether it did.
 fn install(alloc: Global, cell: &mut OpenCell) -> Result<bool, NoMemory>
-    requires { (read : TextReading) → ReadsTexts read → is_legal_at read cell.old letters.G ≡ false }
+    requires { is_legal_at cell.old letters.G ≡ false }
     ensures made { result ≡ Ok true → HasNext cell.old cell.new }
     ensures fewer { result ≡ Ok true → letters_left cell.new < letters_left cell.old }
     ensures not { result ≡ Ok false → cell.new ≡ cell.old }
-    ensures none { result ≡ Ok false → (read : TextReading) → ReadsTexts read
-        → is_legal_at read cell.old letters.I ≡ false }
+    ensures none { result ≡ Ok false → is_legal_at cell.old letters.I ≡ false }
 {
     let step = cell.entries().len();
     if step >= cell.case().steps.len() {
@@ -68,8 +66,8 @@ fn install(alloc: Global, cell: &mut OpenCell) -> Result<bool, NoMemory>
 fn install_next(alloc: Global, cell: &mut OpenCell, step: u32) -> Result<(), NoMemory>
     requires next { step ≡ length cell.old.entries }
     requires more { step < length cell.old.case.steps }
-    requires world { (read : TextReading) → ReadsTexts read → length (world_at read cell.old).entries ≡ step }
-    requires none { (read : TextReading) → ReadsTexts read → is_legal_at read cell.old letters.G ≡ false }
+    requires world { length (world_at cell.old).entries ≡ step }
+    requires none { is_legal_at cell.old letters.G ≡ false }
     ensures next { OnOk result (HasNext cell.old cell.new) }
     ensures fewer { OnOk result (letters_left cell.new < letters_left cell.old) }
 {
@@ -91,9 +89,8 @@ fn entry_of(alloc: Global, case: &OpenCase, step: u32) -> Result<Entry, NoMemory
 
 /// Takes the next acknowledgement.
 fn acknowledge<L: Ledger>(cell: &mut OpenCell, steps: &mut Steps<L>)
-    requires more { (read : TextReading) → ReadsTexts read → length (world_at read cell.old).acks < cell.old.case.acks }
-    requires none { (read : TextReading) → ReadsTexts read
-        → (is_legal_at read cell.old letters.G ≡ false) × (is_legal_at read cell.old letters.I ≡ false) }
+    requires more { length (world_at cell.old).acks < cell.old.case.acks }
+    requires none { (is_legal_at cell.old letters.G ≡ false) × (is_legal_at cell.old letters.I ≡ false) }
     ensures next { HasNext cell.old cell.new }
     ensures fewer { letters_left cell.new < letters_left cell.old }
 {

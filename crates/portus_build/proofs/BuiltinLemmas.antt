@@ -5,8 +5,7 @@ use Rattle.portus_core.specs.Programs.{Form}
 use Rattle.portus_build.specs.Builtins.{BuiltIn, builtins, builtin_text}
 use Rattle.portus_build.specs.BuiltinPrograms.{field_numbers, known_fields, control_numbers, IsBuiltIn, AreBuiltIn}
 use Rattle.portus_build.specs.Texts.{IsBuiltFrom}
-use Rattle.portus_build.specs.TextReadings.{ComesTo}
-use Rattle.portus_build.specs.TextWalk.{program_of}
+use Rattle.portus_build.specs.TextWalk.{program_of, ComesTo}
 use Rattle.portus_build.specs.declared.fault.BuildFault.{BuildFault}
 use Rattle.portus_build.proofs.WalkLemmas.{walks_exact}
 

@@ -24,8 +24,7 @@ use Rattle.scope_types.specs.WellScoped.{IsScoped}
 use Rattle.scope_types.proofs.Agreement.{scoped_from}
 use Rattle.reg_compiler.specs.declared.fault.CompileFault.{CompileFault}
 use Rattle.reg_compiler.specs.Refusal.{refusal_of}
-use Rattle.portus_build.specs.TextReadings.{ComesTo}
-use Rattle.portus_build.specs.TextWalk.{forms_in, text_forms, unless_refused, compiled_form, scoped_form, program_of, WalksAreExact}
+use Rattle.portus_build.specs.TextWalk.{forms_in, text_forms, unless_refused, compiled_form, scoped_form, program_of, WalksAreExact, ComesTo}
 
 -- what the reading of a text ends with: the forms that it spells, or its first refusal
 abbrev EndsAs : List ℕ → Result (List Node) ParseFault → Type 0

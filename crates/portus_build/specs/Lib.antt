@@ -10,5 +10,3 @@ pub mod BuiltinPrograms
 pub mod Looks
 pub mod RefusalText
 pub mod StepFaults
--- those that they are made of
-pub mod TextReadings

@@ -15,7 +15,7 @@ use Rattle.scope_types.specs.declared.fault.ScopeFault.{ScopeFault}
 use Rattle.scope_types.specs.ProgramWalk.{source_walk}
 use Rattle.reg_compiler.specs.declared.fault.CompileFault.{CompileFault}
 use Rattle.reg_compiler.specs.Refusal.{refusal_of}
-use Rattle.portus_build.specs.TextReadings.{ComesTo}
+use Rattle.portus_build.specs.Texts.{IsBuiltFrom, IsNoProgram}
 use Rattle.portus_build.specs.declared.fault.BuildFault.{BuildFault}
 use Rattle.portus_build.specs.declared.fault.BuildFault.TheVariants.{Parse, Scope, Compile}
 
@@ -43,6 +43,10 @@ scoped_form (Err fault) = Err (Parse fault)
 -- a text's program, or its first refusal
 unfoldable pub program_of : List ℕ → Result Form BuildFault
 program_of text = scoped_form (text_forms text)
+
+abbrev pub ComesTo : List ℕ → Result Form BuildFault → Type 0
+ComesTo text (Ok form) = IsBuiltFrom text form
+ComesTo text (Err fault) = IsNoProgram text fault
 
 -- the walks find each text's program or first refusal
 abbrev pub WalksAreExact : Type 0

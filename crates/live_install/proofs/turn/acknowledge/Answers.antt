@@ -1,5 +1,4 @@
 use Rattle.std.proofs.Common.{◌<◌, ◌≤◌, ap, arith, length, refl}
-use Rattle.portus_build.proofs.ReadingLemmas.{some_reading}
 use Rattle.live_install.specs.OpenCells.{OpenState, world_at}
 use Rattle.live_install.proofs.TurnLemmas.{has-A, fewer-left}
 use Rattle.live_install.proofs.turn.acknowledge.Goals as goal
@@ -7,8 +6,8 @@ use Rattle.live_install.proofs.turn.acknowledge.Goals as goal
 pub unreachable-requires : goal.unreachable-requires
 unreachable-requires g c =
     let cell = c.args.cell.now in
-    let all : cell.case.acks ≤ length (world_at some_reading.0 cell).acks = (c.in_default.ensures.ended some_reading.0 some_reading.1).0 refl in
-    let more : length (world_at some_reading.0 cell).acks < cell.case.acks = c.requires.more some_reading.0 some_reading.1 in
+    let all : cell.case.acks ≤ length (world_at cell).acks = c.in_default.ensures.ended.0 refl in
+    let more : length (world_at cell).acks < cell.case.acks = c.requires.more in
     absurd (omega (arith, all, more))
 
 pub returns-clause-next : goal.returns-clause-next

@@ -10,9 +10,8 @@ returns-clause-next c =
     let more : c.args.step < length cell.case.steps = c.requires.more in
     has-I cell c.install.new.self (ap (λ (state : OpenState). state.case) c.in-Ok.ensures.ok) (ap (λ (state : OpenState). state.word) c.in-Ok.ensures.ok)
     c.in-Ok.ensures.within c.requires.none
-    (λ read is.
-    let count : length (world_at read cell).entries ≡ c.args.step = c.requires.world read is in
-    lt-ltb (length (world_at read cell).entries) (length cell.case.steps) (omega (arith, count, more)))
+    (let count : length (world_at cell).entries ≡ c.args.step = c.requires.world in
+    lt-ltb (length (world_at cell).entries) (length cell.case.steps) (omega (arith, count, more)))
 
 pub returns-clause-fewer : goal.returns-clause-fewer
 returns-clause-fewer c = fewer-left c.args.cell.now c.install.new.self (returns-clause-next c)

@@ -1,4 +1,4 @@
-use Rattle.portus_build.proofs.ReadingLemmas.{built_ok, built_err}
+use Rattle.portus_build.proofs.AnswerLemmas.{built_ok, built_err}
 use Rattle.scenario_json.proofs.scene_programs.build_text.Goals as goal
 
 pub returns-clause-ok : goal.returns-clause-ok

@@ -1,7 +1,4 @@
 use Rattle.std.proofs.Common.{◌∙◌, rules, refl}
-use Rattle.portus_build.specs.TextReadings.{ReadsTexts}
-use Rattle.portus_build.specs.TextWalk.{program_of}
-use Rattle.portus_build.proofs.WalkLemmas.{walks_exact}
 use Rattle.live_install.specs.WholeBooks.{flows_of}
 use Rattle.ccp_run.proofs.RolloutLemmas.{flow_cases, all_right, all_histories}
 use Rattle.ccp_run.proofs.modes.rollout.run_rollout.Goals as goal
@@ -9,13 +6,12 @@ use Rattle.ccp_run.proofs.modes.rollout.run_rollout.Goals as goal
 pub returns : goal.returns
 returns g c =
     let books = c.in_ok-books.books in
-    let reads : ReadsTexts program_of = record { at = walks_exact } in
-    let whole = c.in_ok-books.ensures.whole program_of reads in
+    let whole = c.in_ok-books.ensures.whole in
     record {
       histories = flows_of books;
       each = flow_cases books ∙ c.in_ok-books.ensures.cases;
-      whole = all_histories program_of books whole;
-      written = c.in_ok-rollout_text.ensures.rollout program_of (all_right program_of books whole);
+      whole = all_histories books whole;
+      written = c.in_ok-rollout_text.ensures.rollout (all_right books whole);
       no_books = search rules;
       no_programs = search rules;
       idle = refl;

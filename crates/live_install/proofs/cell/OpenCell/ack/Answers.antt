@@ -6,8 +6,8 @@ use Rattle.live_install.proofs.LetterLemmas.{grown}
 use Rattle.live_install.proofs.cell.OpenCell.ack.Goals as goal
 
 pub returns-clause-world : goal.returns-clause-world
-returns-clause-world g c = λ read reading.
+returns-clause-world g c =
     let s = c.self.inside.state in
     let new = c.advance.new.self in
-    grown read s.case new.case s.word.items new.word.items A c.advance.ensures.case c.advance.ensures.word
-    ∙ ap (λ (cell : OpenState). after_ack cell.case (ack_at read cell) (world_at read cell)) c.self.view_is
+    grown s.case new.case s.word.items new.word.items A c.advance.ensures.case c.advance.ensures.word
+    ∙ ap (λ (cell : OpenState). after_ack cell.case (ack_at cell) (world_at cell)) c.self.view_is

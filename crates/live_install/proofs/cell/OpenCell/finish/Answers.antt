@@ -9,13 +9,13 @@ use Rattle.live_install.specs.OpenCells.{OpenState, world_at}
 use Rattle.live_install.proofs.cell.OpenCell.finish.Goals as goal
 
 pub returns-clause-legal : goal.returns-clause-legal
-returns-clause-legal c = λ read reading.
-    subst (λ (cell : OpenState). legal read cell.case cell.word ≡ true) c.self.view_is (c.self.invariant.legal read reading)
+returns-clause-legal c =
+    subst (λ (cell : OpenState). legal cell.case cell.word ≡ true) c.self.view_is c.self.invariant.legal
 
 pub returns-clause-book : goal.returns-clause-book
-returns-clause-book c = λ read reading.
+returns-clause-book c =
     let s = c.self.inside.state in
-    let keeps = c.self.invariant.keeps read reading in
+    let keeps = c.self.invariant.keeps in
     let book : OpenBook = record {
       case = s.case;
       word = c.into_sequence.result;
@@ -28,7 +28,7 @@ returns-clause-book c = λ read reading.
       first = s.account.first;
       machine = s.machine;
     } in
-    subst (λ (cell : OpenState). IsOpenBookOf (world_at read cell) book) c.self.view_is
+    subst (λ (cell : OpenState). IsOpenBookOf (world_at cell) book) c.self.view_is
     (record {
       steps = subst (λ (entries : List Entry). AreStepsFrom 0 entries) (sym c.into_sequence-2.ensures) c.self.invariant.fit.steps;
       entries = ap (map installed_of) c.into_sequence-2.ensures ∙ keeps.entries;

@@ -6,8 +6,8 @@ use Rattle.live_install.proofs.LetterLemmas.{grown}
 use Rattle.live_install.proofs.cell.OpenCell.install.Goals as goal
 
 pub returns-clause-world : goal.returns-clause-world
-returns-clause-world c = λ read reading.
+returns-clause-world c =
     let s = c.self.inside.state in
     let new = c.put.new.self in
-    grown read s.case new.case s.word.items new.word.items I c.put.ensures.case c.put.ensures.word
-    ∙ ap (λ (cell : OpenState). after_install read cell.case (world_at read cell)) c.self.view_is
+    grown s.case new.case s.word.items new.word.items I c.put.ensures.case c.put.ensures.word
+    ∙ ap (λ (cell : OpenState). after_install cell.case (world_at cell)) c.self.view_is

@@ -8,7 +8,7 @@ returns-clause-open_state c =
     c.push.ensures.items c.push.ensures.room c.requires.none
 
 pub returns-clause-answered : goal.returns-clause-answered
-returns-clause-answered c = λ read reading.
+returns-clause-answered c =
     present-none c.args.self.now c.requires.open_state c.requires.left c.cwnd-window.result c.cwnd-window.ensures
     c.next-ack.new.self c.next-ack.result c.push.new.self c.next-ack.ensures.ack c.next-ack.ensures.stands c.next-ack.ensures.case c.next-ack.ensures.calls
-    c.push.ensures.items c.push.ensures.room c.requires.none read reading
+    c.push.ensures.items c.push.ensures.room c.requires.none

@@ -3,6 +3,6 @@ use Rattle.live_install.proofs.HearingLemmas.{running-step}
 use Rattle.live_install.proofs.state.State.hearer.Goals as goal
 
 pub returns-clause-present : goal.returns-clause-present
-returns-clause-present c = λ read reading.
+returns-clause-present c =
     let s = c.args.self.now in
-    running-step s.entries.items s.running (world_of read s).present (c.requires.keeps read reading).runs
+    running-step s.entries.items s.running (world_of s).present c.requires.keeps.runs

@@ -31,7 +31,7 @@ returns-clause-open_state g c =
     (λ form is_form shape. told s.entries.items (turn_of s c.args.step) s.machine machine s.account account built c.next-ack.result answer is c.run-acked.ensures.met c.run-acked.ensures.stopped down form is_form shape)
 
 pub returns-clause-answered : goal.returns-clause-answered
-returns-clause-answered g c = λ read reading.
+returns-clause-answered g c =
     let s = c.args.self.now in
     let built = c.in-Some.built.now in
     let machine = c.run-acked.new.machine in
@@ -49,10 +49,9 @@ returns-clause-answered g c = λ read reading.
     (subst (FitsBuilt machine) (sym is) c.run-acked.ensures.fits)
     (λ form is_form shape. heard-by s.entries.items (turn_of s c.args.step) s.machine machine s.account account built c.next-ack.result answer is c.run-acked.ensures.met c.run-acked.ensures.stopped down form is_form shape)
     (λ form is_form shape. told s.entries.items (turn_of s c.args.step) s.machine machine s.account account built c.next-ack.result answer is c.run-acked.ensures.met c.run-acked.ensures.stopped down form is_form shape)
-    read reading
 
 pub returns-clause-steps : goal.returns-clause-steps
-returns-clause-steps g c = λ read reading.
+returns-clause-steps g c =
     let s = c.args.self.now in
     let built = c.in-Some.built.now in
     let machine = c.run-acked.new.machine in
@@ -70,5 +69,4 @@ returns-clause-steps g c = λ read reading.
     c.args.step c.requires.running machine account answer built is
     (subst (FitsBuilt machine) (sym is) c.run-acked.ensures.fits)
     (λ form is_form shape. heard-by s.entries.items (turn_of s c.args.step) s.machine machine s.account account built c.next-ack.result answer is c.run-acked.ensures.met c.run-acked.ensures.stopped down form is_form shape)
-    (λ form is_form shape. told s.entries.items (turn_of s c.args.step) s.machine machine s.account account built c.next-ack.result answer is c.run-acked.ensures.met c.run-acked.ensures.stopped down form is_form shape)
-    read reading)
+    (λ form is_form shape. told s.entries.items (turn_of s c.args.step) s.machine machine s.account account built c.next-ack.result answer is c.run-acked.ensures.met c.run-acked.ensures.stopped down form is_form shape))

@@ -1,4 +1,4 @@
-use Rattle.std.proofs.Common.{refl, ap, sym, ◌∙◌, subst, ◌+◌, ℕ, ◌≡◌, None, Option, is_some, arith, List, [], ◌∷◌, ◌++◌}
+use Rattle.std.proofs.Common.{refl, ap, sym, ◌∙◌, subst, ℕ, ◌≡◌, None, Option, is_some, arith, List, [], ◌∷◌, ◌++◌}
 use Rattle.std.proofs.lemmas.Bool.{true≢false}
 use Rattle.ccp_base.specs.FieldReg.{Pair}
 use Rattle.reg_compiler.specs.declared.built.Built.{Built}
