@@ -162,6 +162,10 @@ most_answer_bytes = 64
 abbrev pub most_short_fields : ℕ
 most_short_fields = 32
 
+-- the reason for which a message is refused
+abbrev pub most_reason : ℕ
+most_reason = 9
+
 -- the bytes of a frame
 abbrev pub most_frame_bytes : ℕ
 most_frame_bytes = 8596

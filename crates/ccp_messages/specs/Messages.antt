@@ -6,7 +6,7 @@ use Rattle.ccp_base.specs.declared.exchange.Report.{Report}
 use Rattle.ccp_base.specs.declared.exchange.Notice.{Notice}
 use Rattle.ccp_base.specs.Acknowledgement.{primitives, flag_number, ack_of}
 use Rattle.ccp_base.specs.FieldReg.{Pair}
-use Rattle.ccp_base.specs.Limits.{most_fields, most_short_fields, most_controls, most_blocks, most_instrs, most_pairs}
+use Rattle.ccp_base.specs.Limits.{most_fields, most_short_fields, most_controls, most_blocks, most_instrs, most_pairs, most_reason}
 use Rattle.reg_code.specs.declared.code.Code.{Code}
 use Rattle.reg_code.specs.declared.code.Event.{Event}
 use Rattle.reg_code.specs.declared.code.Instr.{Instr}
@@ -64,7 +64,7 @@ Meets version (Update flow values) = AreTargets values
 Meets version (Change flow program values) = AreTargets values
 Meets version (Fault notice) = IsNarrowFor version (Fault notice)
 Meets version (message.Ack flow ack) = Unit {0}
-Meets version (Refused flow reason index) = (1 ≤ reason) × (reason ≤ 9)
+Meets version (Refused flow reason index) = (1 ≤ reason) × (reason ≤ most_reason)
 
 -- ---- the frame of a message
 

@@ -1,7 +1,7 @@
 -- The reasons for which a datapath over frames refuses a message: a row for each, which says exactly where it comes.
 use Rattle.std.specs.Prelude.{◌≡◌, ◌↔◌, ℕ, ◌<◌, ◌≤◌, ◌+◌, true, false, Some, None, length}
 use Rattle.ccp_base.specs.FieldReg.{first_bad}
-use Rattle.ccp_base.specs.Limits.{most_flows, most_kept_programs}
+use Rattle.ccp_base.specs.Limits.{most_flows, most_kept_programs, most_reason}
 use Rattle.reg_code.specs.declared.code.Code.{Code}
 use Rattle.reg_code.specs.AcceptedCode.{Refusal, rejected}
 use Rattle.reply_frames.specs.declared.outline.Version.{Version}
@@ -96,7 +96,7 @@ ComesWhere reason Row = (state : FeedState) (message : Message) (version : Versi
 -- there is no other reason
 abbrev pub NoOtherReason : Type 0
 NoOtherReason = (state : FeedState) (message : Message) (version : Version) (reason index : ℕ)
-    → IsRefused state message version reason index → (1 ≤ reason) × (reason ≤ 9)
+    → IsRefused state message version reason index → (1 ≤ reason) × (reason ≤ most_reason)
 
 -- a refused message is counted, and changes nothing else
 abbrev pub ChangesNothing : Type 0

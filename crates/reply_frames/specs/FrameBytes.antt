@@ -3,7 +3,7 @@ use Rattle.std.specs.Prelude.{ℕ, ◌≤◌, ◌<◌, ◌^◌, ◌≡◌, ◌==
 use Rattle.std.specs.List.{flat_map, AllByRecursion}
 use Rattle.std.specs.Int.{w16, w32, w64, to_le_bytes}
 use Rattle.ccp_base.specs.Acknowledgement.{flag_number}
-use Rattle.ccp_base.specs.Limits.{most_operation}
+use Rattle.ccp_base.specs.Limits.{most_operation, most_reason}
 use Rattle.reply_frames.specs.declared.outline.FrameKind.{FrameKind}
 use Rattle.reply_frames.specs.declared.outline.FrameKind.TheVariants as kinds
 use Rattle.reply_frames.specs.declared.outline.Version.{Version}
@@ -146,7 +146,7 @@ HasRanges version (Fault program epoch place kind index now cwnd) =
     × (now < 2 ^ 64) × (cwnd < 2 ^ 64)
 HasRanges version (Ack primitives was_timeout) =
     (length primitives ≡ flag_number) × AllByRecursion IsNumber primitives × (was_timeout ≤ 1)
-HasRanges version (Refused reason index) = (1 ≤ reason) × (reason ≤ 9) × (index < 2 ^ 32)
+HasRanges version (Refused reason index) = (1 ≤ reason) × (reason ≤ most_reason) × (index < 2 ^ 32)
 
 -- a body that a frame of this version and flow can have
 abbrev pub IsSpellable : Version → ℕ → Body → Type 0

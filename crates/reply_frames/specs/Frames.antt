@@ -5,7 +5,7 @@ use Rattle.ccp_base.specs.declared.fields.FieldReg.{FieldReg}
 use Rattle.ccp_base.specs.declared.fields.FieldReg.TheVariants.{Cwnd, Rate, Control}
 use Rattle.ccp_base.specs.Acknowledgement.{flag_number}
 use Rattle.ccp_base.specs.FieldReg.{Pair}
-use Rattle.ccp_base.specs.Limits.{most_controls, most_operation}
+use Rattle.ccp_base.specs.Limits.{most_controls, most_operation, most_reason}
 use Rattle.reply_frames.specs.declared.fault.BadKind.TheVariants as bad
 use Rattle.reply_frames.specs.declared.outline.FrameKind.{FrameKind}
 use Rattle.reply_frames.specs.declared.outline.FrameKind.TheVariants as kinds
@@ -181,7 +181,7 @@ ack_at bytes = do
 
 unfoldable pub refused_at : List ℕ → Read Body
 refused_at bytes = do
-  reason ← byte_at bad.Kind 1 9 bytes
+  reason ← byte_at bad.Kind 1 most_reason bytes
   index ← number_at w32 reason.1
   Ok (Refused reason.0 index.0, index.1)
 
