@@ -4,7 +4,6 @@ use Rattle.ccp_base.specs.Limits.{most_input_bytes}
 use Rattle.ccp_base.specs.Outside.{Known, Takes, Appends}
 use Rattle.feed_core.specs.declared.ending.FeedEnd.TheVariants as ends
 use Rattle.feed_core.specs.Feed.{FeedState, no_flows}
-use Rattle.feed_core.specs.FeedHolds.{IsFeed}
 use Rattle.feed_core.specs.FeedBytes.{left, Fed, with_answers, fed, feed_of, IsFeeding}
 use Rattle.feed_core.specs.FeedEnds.{answers_of, end_from, stream, IsFed}
 use Rattle.feed_core.proofs.FrameEnds.{fed-nothing}
@@ -14,8 +13,8 @@ with-none : (f : Fed) → f ≡ with_answers [] f
 with-none f = refl
 
 -- where a feed begins
-pub feeding-first : (source sink : Known) (state : FeedState) (rest : List ℕ) → state ≡ no_flows → IsFeed state → rest ≡ [] → IsFeeding source source sink sink state 0 rest
-feeding-first source sink state rest first is_feed none = record {
+pub feeding-first : (source sink : Known) (state : FeedState) (rest : List ℕ) → state ≡ no_flows → rest ≡ [] → IsFeeding source source sink sink state 0 rest
+feeding-first source sink state rest first none = record {
   front = [];
   answers = [];
   taken = subst (Takes source source) (sym none) (takes-nothing source);
@@ -26,7 +25,6 @@ feeding-first source sink state rest first is_feed none = record {
       with-none (fed most_input_bytes 0 no_flows more)
       ∙ ap (λ n. with_answers [] (fed n 0 no_flows more)) all
       ∙ ap (λ (s : FeedState). with_answers [] (fed (most_input_bytes - s.messages) 0 s more)) (sym first);
-  is_feed = is_feed;
   few = omega (arith, ap (λ (s : FeedState). s.messages) first);
   within = omega (arith, ap length none);
 }

@@ -9,7 +9,6 @@ use Rattle.ccp_messages.specs.Messages.{frame_bytes}
 use Rattle.ccp_messages.specs.Decoding.{Begins, decoded_of}
 use Rattle.ccp_messages.proofs.DecodeLaws.{begins-decoded}
 use Rattle.feed_core.specs.Feed.{FeedState, no_flows, answered}
-use Rattle.feed_core.specs.FeedHolds.{IsFeed}
 use Rattle.feed_core.specs.FeedBytes.{Fed, answer_bytes, with_answers, fed_on, fed, IsFeeding}
 
 -- a frame takes some bytes
@@ -32,10 +31,10 @@ fed-frame frames place state frame more message version is read =
 
 module _ (source source' sink sink' after : Known) (state : FeedState) (eaten : ℕ) (rest : List ℕ) (feeding : IsFeeding source source' sink sink' state eaten rest)
     (message : Message) (version : Version) (used : ℕ) (begins : Begins rest message version used) (some : 0 < used) where
-  pub eats : (next : FeedState) → (answered state message version).1 ≡ next → IsFeed next → next.messages ≡ state.messages + 1
+  pub eats : (next : FeedState) → (answered state message version).1 ≡ next → next.messages ≡ state.messages + 1
       → Appends sink' after (answer_bytes (answered state message version).0)
       → IsFeeding source source' sink after next (eaten + used) (drop used rest)
-  eats next is is_feed one appended =
+  eats next is one appended =
       let frame = frame_bytes version message in
       let drops : drop used rest ≡ begins.rest = ap (λ n. drop n rest) begins.used_is ∙ ap (drop (length frame)) begins.parts ∙ drop-append_seam frame begins.rest in
       let whole : feeding.front ++ rest ≡ (feeding.front ++ frame) ++ drop used rest =
@@ -60,7 +59,6 @@ module _ (source source' sink sink' after : Known) (state : FeedState) (eaten : 
             ∙ ap (λ n. with_answers (answer_bytes (answered state message version).0) (fed (most_input_bytes - next.messages) (eaten + n) (answered state message version).1 more)) (sym begins.used_is)
             ∙ ap (λ s. with_answers (answer_bytes (answered state message version).0) (fed (most_input_bytes - next.messages) (eaten + used) s more)) is)
             ∙ with-with feeding.answers (answer_bytes (answered state message version).0) (fed (most_input_bytes - next.messages) (eaten + used) next more);
-        is_feed = is_feed;
         few = omega (arith, one, feeding.few, some);
         within = omega (arith, room, feeding.within);
       }
@@ -75,7 +73,6 @@ takes-more source source' source'' sink sink' state eaten rest piece feeding tak
   eaten_is = feeding.eaten_is;
   written = feeding.written;
   goes = feeding.goes;
-  is_feed = feeding.is_feed;
   few = feeding.few;
   within = omega (arith, fits, length-append rest piece);
 }

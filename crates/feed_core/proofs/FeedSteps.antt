@@ -17,7 +17,7 @@ pub feeds-frame : (source source' sink sink' sink'' : Known) (state state' : Fee
 feeds-frame source source' sink sink' sink'' state state' eaten used rest bytes rest' feeding same one after =
     let here : IsFeeding source source' sink sink' state eaten bytes = subst (IsFeeding source source' sink sink' state eaten) (sym same) feeding in
     let next : IsFeeding source source' sink sink'' state' (eaten + used) (drop used bytes) =
-    eats source source' sink sink' sink'' state eaten bytes here one.message one.version used one.begins one.some state' one.next one.is_feed one.counted one.written in
+    eats source source' sink sink' sink'' state eaten bytes here one.message one.version used one.begins one.some state' one.next one.counted one.written in
     subst (IsFeeding source source' sink sink'' state' (eaten + used)) (ap (drop used) same ∙ sym after) next
 
 -- the rest is a part of a frame, and nothing was written

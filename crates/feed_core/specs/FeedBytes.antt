@@ -10,7 +10,6 @@ use Rattle.ccp_messages.specs.declared.fault.DecodeFault.TheVariants.{More, Bad,
 use Rattle.ccp_messages.specs.Messages.{frame_bytes}
 use Rattle.ccp_messages.specs.Decoding.{Found, decoded_of}
 use Rattle.feed_core.specs.Feed.{FeedState, no_flows, Answer, Answered, answered}
-use Rattle.feed_core.specs.FeedHolds.{IsFeed}
 
 -- after the last whole frame: a place, and the bytes from there on, which are no whole frame; or a bad byte's place
 pub data Tail : Type 0 where
@@ -61,6 +60,5 @@ pub record IsFeeding (source source' sink sink' : Known) (state : FeedState) (ea
   pub eaten_is : length front ≡ eaten
   pub written : Appends sink sink' answers
   pub goes : (more : List ℕ) → fed most_input_bytes 0 no_flows (front ++ more) ≡ with_answers answers (fed (most_input_bytes - state.messages) eaten state more)
-  pub is_feed : IsFeed state
   pub few : state.messages ≤ eaten
   pub within : eaten + length rest ≤ most_input_bytes

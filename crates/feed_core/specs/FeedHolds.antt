@@ -10,7 +10,7 @@ use Rattle.fold_machine.specs.MachineState.{MachineState, Fits}
 use Rattle.ccp_base.specs.Limits.{most_fields, most_flows, most_kept_programs}
 use Rattle.feed_core.specs.declared.flow.Epoch.{Epoch}
 use Rattle.feed_core.specs.declared.flow.Flow.{Flow}
-use Rattle.feed_core.specs.declared.feed.Feed.{Feed}
+use Rattle.feed_core.specs.declared.tables.Tables.{Tables}
 use Rattle.feed_core.specs.Feed.{FeedState, Answer, next_epoch, code_of}
 
 -- the code of an accepted one
@@ -21,8 +21,8 @@ abbrev pub codes_in : List (Option Checked) → List (Option Code)
 codes_in programs = map code_in programs
 
 -- what contracts see of a feed
-abbrev pub state_of : Feed → FeedState
-state_of feed = record { flows = feed.flows.items; programs = codes_in feed.programs.items; messages = feed.messages }
+abbrev pub state_of : Tables → FeedState
+state_of tables = record { flows = tables.flows.items; programs = codes_in tables.programs.items; messages = tables.messages }
 
 -- the flow's machine runs the code, whose reports have frames of the flow's version
 abbrev pub RunsOn : Option Epoch → Version → MachineState → Option (Epoch × Code) → Type 0

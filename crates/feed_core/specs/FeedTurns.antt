@@ -10,7 +10,6 @@ use Rattle.ccp_messages.specs.Decoding.{Begins, BeginsInstall, decoded_of}
 use Rattle.feed_core.specs.declared.turn.Turn.{Turn}
 use Rattle.feed_core.specs.declared.turn.Turn.TheVariants as turn
 use Rattle.feed_core.specs.Feed.{FeedState, answered, TakesMemory}
-use Rattle.feed_core.specs.FeedHolds.{IsFeed}
 use Rattle.feed_core.specs.FeedBytes.{answer_bytes}
 
 -- a frame begins the bytes, and its whole answer was written
@@ -23,7 +22,6 @@ pub record AnswersOne (old new : Known) (state state' : FeedState) (bytes : List
   pub next : (answered state message version).1 ≡ state'
   pub counted : state'.messages ≡ state.messages + 1
   pub written : Appends old new (answer_bytes (answered state message version).0)
-  pub is_feed : IsFeed state'
 
 -- a frame begins the bytes, and a write of its answer failed
 pub record FailsOne (before now : ℕ) (old new : Known) (state : FeedState) (bytes : List ℕ) : Type 0 where

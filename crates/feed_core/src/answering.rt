@@ -4,7 +4,7 @@ ghost use Rattle.std.specs.Prelude.{◌≡◌, ◌+◌, ◌<◌, ◌≤◌, leng
 ghost use Rattle.ccp_base.specs.Outside.{Rose, Appends, AppendsPrefix};
 ghost use Rattle.ccp_base.specs.Limits.{most_messages};
 ghost use Rattle.feed_core.specs.Feed.{answered, TakesMemory};
-ghost use Rattle.feed_core.specs.FeedHolds.{state_of, longest_answer, IsFeed};
+ghost use Rattle.feed_core.specs.FeedHolds.{longest_answer};
 ghost use Rattle.ccp_messages.specs.Messages.{Meets, frame_bytes};
 ghost use Rattle.feed_core.specs.FeedBytes.{answer_to};
 ghost use Rattle.feed_core.specs.FeedStops.{StopsAnswer};
@@ -46,16 +46,14 @@ pub fn answer<K: Sink>(
     sink: &mut K,
 ) -> Result<(), Unanswered>
     requires few { feed.old.messages < most_messages }
-    requires is_feed { IsFeed (state_of feed.old) }
-    ensures state { OnOk result (state_of feed.new ≡ (answered (state_of feed.old) message version).1) }
+    ensures state { OnOk result (feed.new ≡ (answered feed.old message version).1) }
     ensures one { OnOk result (feed.new.messages ≡ feed.old.messages + 1) }
     ensures written { OnOk result
-        (Appends (K.written sink.old) (K.written sink.new) (answer_to (state_of feed.old) message version)) }
-    ensures is_feed { IsFeed (state_of feed.new) }
+        (Appends (K.written sink.old) (K.written sink.new) (answer_to feed.old message version)) }
     ensures counted { K.faults sink.old ≤ K.faults sink.new }
     ensures err { IfErr result (StopsAnswer (K.faults sink.old) (K.faults sink.new)
-        (K.written sink.old) (K.written sink.new) (answer_to (state_of feed.old) message version)) }
-    ensures memory { result ≡ Err Unanswered.NoMemory → TakesMemory (state_of feed.old) message }
+        (K.written sink.old) (K.written sink.new) (answer_to feed.old message version)) }
+    ensures memory { result ≡ Err Unanswered.NoMemory → TakesMemory feed.old message }
 {
     match feed.frame(alloc, message, version)? {
         None => Ok(()),

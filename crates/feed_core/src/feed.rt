@@ -1,125 +1,58 @@
-//! A datapath over a stream of frames: flows and programs by number, and the answer to each message.
+//! A datapath over a stream of frames: what it keeps, and its answer to the next message.
 
-ghost use Rattle.std.specs.Prelude.{◌≡◌, ℕ, ◌+◌, ◌<◌, ◌≤◌, None, Some, IfOk, OnOk};
-ghost use Rattle.std.specs.Prelude.{OnErr, IsTrue, ◌↔◌, true, option_map, map, replicate, length, List};
-ghost use Rattle.ccp_base.specs.Limits.{most_flows, most_messages};
-ghost use Rattle.reg_code.specs.declared.checked.Checked.{Checked};
-ghost use Rattle.feed_core.specs.Feed.{no_flows, there, refused, created, installed, is_too_wide, changed};
-ghost use Rattle.feed_core.specs.Feed.{code_of, updated, in_version, acked_by, handled, answered, TakesMemory};
-ghost use Rattle.feed_core.specs.FeedHolds.{state_of, codes_in, AreFeedParts, IsFeed, HasFrame};
+ghost use Rattle.std.specs.Prelude.{◌≡◌, ◌+◌, ◌<◌, IfOk, OnOk, OnErr};
+ghost use Rattle.ccp_base.specs.Limits.{most_messages};
+ghost use Rattle.feed_core.specs.Feed.{no_flows, answered, TakesMemory};
+ghost use Rattle.feed_core.specs.FeedHolds.{HasFrame};
 
-use crate::flow::{Epoch, Flow};
-use ccp_base::{Ack, Fields, NoMemory};
+use crate::tables::Tables;
+use ccp_base::NoMemory;
 use ccp_messages::Message;
-use code_verifier::verify;
-use fold_machine::BadRegister;
-use reg_code::{Checked, Code};
 use reply_frames::Version;
 use std::alloc::Global;
+use std::marker::Model;
 
-/// How many flows there can be.
-pub const FLOWS: usize = 64;
-
-/// How many programs there can be.
-pub const PROGRAMS: usize = 16;
-
-/// The most fields of a report in a frame of version 1.
-const FIELDS_OF_ONE: usize = 32;
-
-/// Flows 0 to 63 and programs 0 to 15, each where it is there, and how many messages there were.
+/// A datapath over frames: flows 0 to 63, programs 0 to 15, and how many messages it was given.
 #[derive(Drop)]
 pub struct Feed {
-    pub flows: Vec<Option<Flow>>,
-    pub programs: Vec<Option<Checked>>,
-    pub messages: u32,
+    tables: Tables,
 }
 
-/// Places with nothing there.
-fn places<T: Drop>(alloc: Global, count: usize) -> Result<Vec<Option<T>>, NoMemory>
-    ensures { IfOk result (λ places. places.items ≡ replicate count None) }
-{
-    let mut places = Vec::new(alloc);
-    while places.len() < count {
-        places.push(None)?;
-    }
-    Ok(places)
-}
+impl Model for Feed {
+    ghost use Rattle.feed_core.specs.Feed.{FeedState};
+    ghost use Rattle.fold_machine.specs.MachineState.{machine_code};
+    ghost use Rattle.std.specs.Coded.{codes};
 
-/// The program of this number.
-fn program_at(programs: &[Option<Checked>], number: u32) -> Option<&Checked>
-    ensures { option_map (λ c. c.now.code) result ≡ there (codes_in programs.now) number }
-{
-    match programs.get(number as usize) {
-        Some(Some(checked)) => Some(checked),
-        _ => None,
-    }
-}
+    ghost Value = { FeedState };
 
-/// The program that a flow runs.
-fn code_of(epoch: Option<Epoch>, programs: &[Option<Checked>]) -> Option<(Epoch, &Checked)>
-    ensures { option_map (λ pair. (pair.0, pair.1.now.code)) result ≡ code_of epoch (codes_in programs.now) }
-{
-    let epoch = epoch?;
-    let checked = program_at(programs, epoch.program)?;
-    Some((epoch, checked))
-}
+    ghost coded = { Prim.hlevel (codes, machine_code) };
 
-/// Whether a report of the code has no frame in the version.
-fn is_too_wide(version: Version, code: &Checked) -> bool
-    ensures { result ≡ is_too_wide version code.now.code }
-{
-    match version {
-        Version::One => code.code().reports.len() > FIELDS_OF_ONE,
-        Version::Two => false,
-    }
-}
+    ghost use Rattle.feed_core.specs.FeedHolds.{state_of, IsFeed};
 
-/// An answer in a version.
-fn in_version(version: Version, told: Option<Message>) -> Option<(Message, Version)>
-    ensures { result ≡ in_version version told }
-{
-    match told {
-        None => None,
-        Some(message) => Some((message, version)),
-    }
-}
+    ghost view = { λ feed. state_of feed.tables };
 
-/// That a frame is refused.
-fn refused(version: Version, flow: u32, reason: u8, index: u32) -> Option<(Message, Version)>
-    ensures { result ≡ Some (Message.Refused flow reason index, version) }
-{
-    Some((
-        Message::Refused {
-            flow,
-            reason,
-            index,
-        },
-        version,
-    ))
+    ghost invariant = { λ feed. IsFeed (state_of feed.tables) };
 }
 
 impl Feed {
     /// No flows and no programs.
     pub fn new(alloc: Global) -> Result<Feed, NoMemory>
-        ensures state { IfOk result (λ feed. state_of feed ≡ no_flows) }
-        ensures is_feed { IfOk result (λ feed. IsFeed (state_of feed)) }
+        ensures state { IfOk result (λ feed. feed ≡ no_flows) }
     {
         Ok(Feed {
-            flows: places(alloc, FLOWS)?,
-            programs: places(alloc, PROGRAMS)?,
-            messages: 0,
+            tables: Tables::new(alloc)?,
         })
     }
 
-    /// How many messages there were.
+    /// How many messages were given.
     pub fn messages(&self) -> u32
-        ensures { result ≡ (state_of self.now).messages }
+        ensures { result ≡ self.now.messages }
     {
-        self.messages
+        self.tables.messages
     }
 
-    /// The answer to the next message, where it has one. Only a Create of a flow that isn't there takes memory. After
-    /// out of memory nothing has changed.
+    /// The answer to the next message, if it has one. Only a Create of a flow that doesn't exist takes memory. If memory
+    /// runs out nothing has changed.
     pub fn frame(
         &mut self,
         alloc: Global,
@@ -127,182 +60,12 @@ impl Feed {
         version: Version,
     ) -> Result<Option<(Message, Version)>, NoMemory>
         requires few { self.old.messages < most_messages }
-        requires is_feed { IsFeed (state_of self.old) }
-        ensures answered { IfOk result (λ answer.
-            (answer, state_of self.new) ≡ answered (state_of self.old) message version) }
-        ensures unchanged { OnErr result (state_of self.new ≡ state_of self.old) }
-        ensures memory { OnErr result (TakesMemory (state_of self.old) message) }
+        ensures answered { IfOk result (λ answer. (answer, self.new) ≡ answered self.old message version) }
+        ensures unchanged { OnErr result (self.new ≡ self.old) }
+        ensures memory { OnErr result (TakesMemory self.old message) }
         ensures counted { OnOk result (self.new.messages ≡ self.old.messages + 1) }
-        ensures is_feed { IsFeed (state_of self.new) }
         ensures frame { IfOk result HasFrame }
     {
-        let answer = self.handle(alloc, message, version)?;
-        self.messages += 1;
-        Ok(answer)
-    }
-
-    /// The answer to a message that isn't counted yet.
-    fn handle(
-        &mut self,
-        alloc: Global,
-        message: Message,
-        version: Version,
-    ) -> Result<Option<(Message, Version)>, NoMemory>
-        requires few { self.old.messages < most_messages }
-        requires is_feed { IsFeed (state_of self.old) }
-        ensures handled { IfOk result (λ answer.
-            (answer, state_of self.new) ≡ handled (state_of self.old) message version) }
-        ensures messages { self.new.messages ≡ self.old.messages }
-        ensures unchanged { OnErr result (state_of self.new ≡ state_of self.old) }
-        ensures memory { OnErr result (TakesMemory (state_of self.old) message) }
-    {
-        match message {
-            Message::Create { flow, cwnd, .. } => self.create(alloc, version, flow, cwnd),
-            Message::Install {
-                flow,
-                program,
-                code,
-            } => Ok(self.install(version, flow, program, code)),
-            Message::Change {
-                flow,
-                program,
-                values,
-            } => Ok(self.change(version, flow, program, &values)),
-            Message::Update { flow, values } => Ok(self.update(version, flow, &values)),
-            Message::Ack { flow, ack } => Ok(self.ack(version, flow, &ack)),
-            Message::Measure(_) | Message::Fault(_) | Message::Refused { .. } => Ok(None),
-        }
-    }
-
-    /// Makes a flow.
-    fn create(
-        &mut self,
-        alloc: Global,
-        version: Version,
-        n: u32,
-        cwnd: u64,
-    ) -> Result<Option<(Message, Version)>, NoMemory>
-        requires is_feed { IsFeed (state_of self.old) }
-        ensures handled { IfOk result (λ answer.
-            (answer, state_of self.new) ≡ created (state_of self.old) version n cwnd) }
-        ensures messages { self.new.messages ≡ self.old.messages }
-        ensures unchanged { OnErr result (state_of self.new ≡ state_of self.old) }
-        ensures memory { OnErr result ((n < most_flows) × (there (state_of self.old).flows n ≡ None)) }
-    {
-        let at = n as usize;
-        if at >= FLOWS {
-            return Ok(refused(version, n, 1, 0));
-        }
-        if self.flows[at].is_some() {
-            return Ok(refused(version, n, 2, 0));
-        }
-        self.flows[at] = Some(Flow::new(alloc, version, cwnd)?);
-        Ok(None)
-    }
-
-    /// Keeps a code that is accepted.
-    fn install(
-        &mut self,
-        version: Version,
-        n: u32,
-        program: u32,
-        code: Code,
-    ) -> Option<(Message, Version)>
-        requires is_feed { IsFeed (state_of self.old) }
-        ensures handled { (result, state_of self.new) ≡ installed (state_of self.old) version n program code }
-        ensures messages { self.new.messages ≡ self.old.messages }
-    {
-        let at = program as usize;
-        if at >= PROGRAMS {
-            return refused(version, n, 4, program);
-        }
-        if program_at(self.programs.as_slice(), program).is_some() {
-            return refused(version, n, 5, program);
-        }
-        match verify(code) {
-            Err(rejected) => refused(version, n, 7, rejected.index),
-            Ok(checked) => {
-                self.programs[at] = Some(checked);
-                None
-            }
-        }
-    }
-
-    /// Starts a program on a flow.
-    fn change(
-        &mut self,
-        version: Version,
-        n: u32,
-        program: u32,
-        values: &Fields,
-    ) -> Option<(Message, Version)>
-        requires few { self.old.messages < most_messages }
-        requires is_feed { IsFeed (state_of self.old) }
-        ensures handled { (result, state_of self.new) ≡ changed (state_of self.old) version n program values.now }
-        ensures messages { self.new.messages ≡ self.old.messages }
-    {
-        let at = n as usize;
-        if at >= FLOWS {
-            return refused(version, n, 3, 0);
-        }
-        let Some(flow) = &mut self.flows[at] else {
-            return refused(version, n, 3, 0);
-        };
-        if program as usize >= PROGRAMS {
-            return refused(version, n, 4, program);
-        }
-        let Some(code) = program_at(self.programs.as_slice(), program) else {
-            return refused(version, n, 6, program);
-        };
-        if is_too_wide(flow.version, code) {
-            return refused(version, n, 9, program);
-        }
-        match flow.change(program, code, values) {
-            Ok(()) => None,
-            Err(BadRegister(place)) => refused(version, n, 8, place),
-        }
-    }
-
-    /// Writes values of the program that was started on a flow.
-    fn update(&mut self, version: Version, n: u32, values: &Fields) -> Option<(Message, Version)>
-        requires is_feed { IsFeed (state_of self.old) }
-        ensures handled { (result, state_of self.new) ≡ updated (state_of self.old) version n values.now }
-        ensures messages { self.new.messages ≡ self.old.messages }
-    {
-        let at = n as usize;
-        if at >= FLOWS {
-            return refused(version, n, 3, 0);
-        }
-        let Some(flow) = &mut self.flows[at] else {
-            return refused(version, n, 3, 0);
-        };
-        let Some((_, code)) = code_of(flow.epoch, self.programs.as_slice()) else {
-            return refused(version, n, 6, 0);
-        };
-        match flow.update(code, values) {
-            Ok(()) => None,
-            Err(BadRegister(place)) => refused(version, n, 8, place),
-        }
-    }
-
-    /// Runs an acknowledgement of a flow.
-    fn ack(&mut self, version: Version, n: u32, ack: &Ack) -> Option<(Message, Version)>
-        requires few { self.old.messages < most_messages }
-        requires is_feed { IsFeed (state_of self.old) }
-        ensures handled { (result, state_of self.new) ≡ acked_by (state_of self.old) version n ack.entry.now }
-        ensures messages { self.new.messages ≡ self.old.messages }
-    {
-        let at = n as usize;
-        if at >= FLOWS {
-            return refused(version, n, 3, 0);
-        }
-        let Some(flow) = &mut self.flows[at] else {
-            return refused(version, n, 3, 0);
-        };
-        let Some((epoch, code)) = code_of(flow.epoch, self.programs.as_slice()) else {
-            flow.pass(ack);
-            return None;
-        };
-        in_version(flow.version, flow.ack(n, epoch, code, ack))
+        self.tables.frame(alloc, message, version)
     }
 }

@@ -9,6 +9,7 @@ mod flow;
 mod laws;
 mod piece;
 mod rest;
+mod tables;
 mod turn;
 
 pub use ending::FeedEnd;

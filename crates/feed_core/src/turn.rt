@@ -2,7 +2,6 @@
 
 ghost use Rattle.std.specs.Prelude.{◌≡◌, ◌+◌, ◌≤◌, length};
 ghost use Rattle.ccp_base.specs.Limits.{most_messages};
-ghost use Rattle.feed_core.specs.FeedHolds.{state_of, IsFeed};
 ghost use Rattle.feed_core.specs.FeedTurns.{without_frame, IsTurn};
 
 use crate::answering::{Unanswered, answer};
@@ -39,10 +38,9 @@ fn without_frame(fault: DecodeFault) -> Turn
 /// Answers the frame that the bytes begin with.
 pub fn next_frame<K: Sink>(alloc: Global, feed: &mut Feed, bytes: &[u8], sink: &mut K) -> Turn
     requires few { feed.old.messages + length bytes.now ≤ most_messages }
-    requires is_feed { IsFeed (state_of feed.old) }
     ensures counted { K.faults sink.old ≤ K.faults sink.new }
     ensures turn { IsTurn (K.faults sink.old) (K.faults sink.new) (K.written sink.old) (K.written sink.new)
-        (state_of feed.old) (state_of feed.new) bytes.now result }
+        feed.old feed.new bytes.now result }
 {
     match decode(alloc, bytes) {
         Ok((message, version, used)) => match answer(alloc, feed, message, version, sink) {

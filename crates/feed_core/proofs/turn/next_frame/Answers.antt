@@ -1,5 +1,4 @@
 use Rattle.std.proofs.Common.{rules, inr, sym, subst, arith}
-use Rattle.feed_core.specs.FeedHolds.{state_of}
 use Rattle.feed_core.specs.FeedTurns.{IsTurn}
 use Rattle.feed_core.proofs.FeedEats.{some-used}
 use Rattle.feed_core.proofs.TurnLemmas.{turns-without}
@@ -17,14 +16,13 @@ returns-in-Ok-answer-clause-turn g c =
       next = sym c.in-Ok-answer.ensures.state;
       counted = c.in-Ok-answer.ensures.one;
       written = c.in-Ok-answer.ensures.written;
-      is_feed = c.in-Ok-answer.ensures.is_feed;
     }
 
 pub returns-in-Err-clause-turn : goal.returns-in-Err-clause-turn
 returns-in-Err-clause-turn g c =
-    subst (IsTurn (g.K.Sink.faults c.args.sink.now) (g.K.Sink.faults c.args.sink.now) (g.K.Sink.written c.args.sink.now) (g.K.Sink.written c.args.sink.now) (state_of c.args.feed.now) (state_of c.args.feed.now) c.args.bytes.now)
+    subst (IsTurn (g.K.Sink.faults c.args.sink.now) (g.K.Sink.faults c.args.sink.now) (g.K.Sink.written c.args.sink.now) (g.K.Sink.written c.args.sink.now) c.args.feed.now c.args.feed.now c.args.bytes.now)
     (sym c.without_frame.ensures)
-    (turns-without (g.K.Sink.faults c.args.sink.now) (g.K.Sink.written c.args.sink.now) (state_of c.args.feed.now) c.args.bytes.now (λ i. omega (arith, c.type_inv.bytes i))
+    (turns-without (g.K.Sink.faults c.args.sink.now) (g.K.Sink.written c.args.sink.now) c.args.feed.now c.args.bytes.now (λ i. omega (arith, c.type_inv.bytes i))
     c.decode.result c.decode.ensures.told c.decode.ensures.more c.decode.ensures.bad c.decode.ensures.memory c.in-Err.fault c.in-Err.is)
 
 pub returns-in-Err-NoMemory-clause-turn : goal.returns-in-Err-NoMemory-clause-turn

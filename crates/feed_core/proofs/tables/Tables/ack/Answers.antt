@@ -2,7 +2,7 @@ use Rattle.std.proofs.Common.{◌≡◌, ◌∙◌, ◌<◌, Some, None, option_
 use Rattle.feed_core.specs.Feed.{code_of, in_version}
 use Rattle.feed_core.specs.FeedHolds.{codes_in}
 use Rattle.feed_core.proofs.FeedLemmas.{ack-absent, ack-counted, ack-heard}
-use Rattle.feed_core.proofs.feed.Feed.ack.Goals as goal
+use Rattle.feed_core.proofs.tables.Tables.ack.Goals as goal
 
 pub returns-in_default : goal.returns-in_default
 returns-in_default c =

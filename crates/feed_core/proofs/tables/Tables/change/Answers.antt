@@ -4,7 +4,7 @@ use Rattle.ccp_base.specs.Limits.{most_kept_programs}
 use Rattle.feed_core.specs.Feed.{there}
 use Rattle.feed_core.specs.FeedHolds.{codes_in}
 use Rattle.feed_core.proofs.FeedLemmas.{change-absent, change-above, change-unknown, change-wide, change-bad, change-started}
-use Rattle.feed_core.proofs.feed.Feed.change.Goals as goal
+use Rattle.feed_core.proofs.tables.Tables.change.Goals as goal
 
 pub returns-in_default : goal.returns-in_default
 returns-in_default c =

@@ -6,7 +6,7 @@ use Rattle.ccp_base.specs.Limits.{most_kept_programs}
 use Rattle.feed_core.specs.Feed.{there}
 use Rattle.feed_core.specs.FeedHolds.{codes_in, code_in}
 use Rattle.feed_core.proofs.FeedLemmas.{install-rejected, install-kept}
-use Rattle.feed_core.proofs.feed.Feed.install.Goals as goal
+use Rattle.feed_core.proofs.tables.Tables.install.Goals as goal
 
 pub returns-in-Err : goal.returns-in-Err
 returns-in-Err c =

@@ -1,5 +1,5 @@
 use Rattle.std.proofs.Common.{◌≡◌, ◌≤◌, ◌-◌, None, length, replicate}
-use Rattle.feed_core.proofs.feed.places.Given as goal
+use Rattle.feed_core.proofs.tables.places.Given as goal
 
 abbrev pub invariant-loop-places : goal.invariant-loop-places
 invariant-loop-places g l = record {

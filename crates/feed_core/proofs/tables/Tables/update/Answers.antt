@@ -2,7 +2,7 @@ use Rattle.std.proofs.Common.{◌≡◌, ◌∙◌, ◌<◌, Some, None, option_
 use Rattle.feed_core.specs.Feed.{code_of}
 use Rattle.feed_core.specs.FeedHolds.{codes_in}
 use Rattle.feed_core.proofs.FeedLemmas.{update-absent, update-idle, update-bad, update-written}
-use Rattle.feed_core.proofs.feed.Feed.update.Goals as goal
+use Rattle.feed_core.proofs.tables.Tables.update.Goals as goal
 
 pub returns-in_default : goal.returns-in_default
 returns-in_default c =

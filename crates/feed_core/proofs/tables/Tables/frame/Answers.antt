@@ -2,7 +2,7 @@ use Rattle.std.proofs.Common.{ℕ, ◌+◌, sym, subst}
 use Rattle.feed_core.specs.Feed.{Answered}
 use Rattle.feed_core.specs.FeedHolds.{state_of, codes_in, AreFeedParts}
 use Rattle.feed_core.proofs.FeedKept.{IsKept, handled-kept}
-use Rattle.feed_core.proofs.feed.Feed.frame.Goals as goal
+use Rattle.feed_core.proofs.tables.Tables.frame.Goals as goal
 
 pub returns-clause-is_feed : goal.returns-clause-is_feed
 returns-clause-is_feed c =

@@ -1,0 +1,301 @@
+//! The flows and programs of a datapath over frames by number, and the answer to each message.
+
+ghost use Rattle.std.specs.Prelude.{◌≡◌, ℕ, ◌+◌, ◌<◌, ◌≤◌, None, Some, IfOk, OnOk};
+ghost use Rattle.std.specs.Prelude.{OnErr, IsTrue, ◌↔◌, true, option_map, map, replicate, length, List};
+ghost use Rattle.ccp_base.specs.Limits.{most_flows, most_messages};
+ghost use Rattle.reg_code.specs.declared.checked.Checked.{Checked};
+ghost use Rattle.feed_core.specs.Feed.{no_flows, there, refused, created, installed, is_too_wide, changed};
+ghost use Rattle.feed_core.specs.Feed.{code_of, updated, in_version, acked_by, handled, answered, TakesMemory};
+ghost use Rattle.feed_core.specs.FeedHolds.{state_of, codes_in, AreFeedParts, IsFeed, HasFrame};
+
+use crate::flow::{Epoch, Flow};
+use ccp_base::{Ack, Fields, NoMemory};
+use ccp_messages::Message;
+use code_verifier::verify;
+use fold_machine::BadRegister;
+use reg_code::{Checked, Code};
+use reply_frames::Version;
+use std::alloc::Global;
+
+/// How many flows there can be.
+pub const FLOWS: usize = 64;
+
+/// How many programs there can be.
+pub const PROGRAMS: usize = 16;
+
+/// The most fields of a report in a frame of version 1.
+const FIELDS_OF_ONE: usize = 32;
+
+/// Flows 0 to 63 and programs 0 to 15, each if it exists, and how many messages there were.
+#[derive(Drop)]
+pub struct Tables {
+    pub flows: Vec<Option<Flow>>,
+    pub programs: Vec<Option<Checked>>,
+    pub messages: u32,
+}
+
+/// Places with nothing there.
+fn places<T: Drop>(alloc: Global, count: usize) -> Result<Vec<Option<T>>, NoMemory>
+    ensures { IfOk result (λ places. places.items ≡ replicate count None) }
+{
+    let mut places = Vec::new(alloc);
+    while places.len() < count {
+        places.push(None)?;
+    }
+    Ok(places)
+}
+
+/// The program of this number.
+fn program_at(programs: &[Option<Checked>], number: u32) -> Option<&Checked>
+    ensures { option_map (λ c. c.now.code) result ≡ there (codes_in programs.now) number }
+{
+    match programs.get(number as usize) {
+        Some(Some(checked)) => Some(checked),
+        _ => None,
+    }
+}
+
+/// The program that a flow runs.
+fn code_of(epoch: Option<Epoch>, programs: &[Option<Checked>]) -> Option<(Epoch, &Checked)>
+    ensures { option_map (λ pair. (pair.0, pair.1.now.code)) result ≡ code_of epoch (codes_in programs.now) }
+{
+    let epoch = epoch?;
+    let checked = program_at(programs, epoch.program)?;
+    Some((epoch, checked))
+}
+
+/// Whether a report of the code has no frame in the version.
+fn is_too_wide(version: Version, code: &Checked) -> bool
+    ensures { result ≡ is_too_wide version code.now.code }
+{
+    match version {
+        Version::One => code.code().reports.len() > FIELDS_OF_ONE,
+        Version::Two => false,
+    }
+}
+
+/// An answer in a version.
+fn in_version(version: Version, told: Option<Message>) -> Option<(Message, Version)>
+    ensures { result ≡ in_version version told }
+{
+    match told {
+        None => None,
+        Some(message) => Some((message, version)),
+    }
+}
+
+/// That a frame is refused.
+fn refused(version: Version, flow: u32, reason: u8, index: u32) -> Option<(Message, Version)>
+    ensures { result ≡ Some (Message.Refused flow reason index, version) }
+{
+    Some((
+        Message::Refused {
+            flow,
+            reason,
+            index,
+        },
+        version,
+    ))
+}
+
+impl Tables {
+    /// No flows and no programs.
+    pub fn new(alloc: Global) -> Result<Tables, NoMemory>
+        ensures state { IfOk result (λ tables. state_of tables ≡ no_flows) }
+        ensures is_feed { IfOk result (λ tables. IsFeed (state_of tables)) }
+    {
+        Ok(Tables {
+            flows: places(alloc, FLOWS)?,
+            programs: places(alloc, PROGRAMS)?,
+            messages: 0,
+        })
+    }
+
+    /// The answer to the next message, where it has one. Only a Create of a flow that isn't there takes memory. After
+    /// out of memory nothing has changed.
+    pub fn frame(
+        &mut self,
+        alloc: Global,
+        message: Message,
+        version: Version,
+    ) -> Result<Option<(Message, Version)>, NoMemory>
+        requires few { self.old.messages < most_messages }
+        requires is_feed { IsFeed (state_of self.old) }
+        ensures answered { IfOk result (λ answer.
+            (answer, state_of self.new) ≡ answered (state_of self.old) message version) }
+        ensures unchanged { OnErr result (state_of self.new ≡ state_of self.old) }
+        ensures memory { OnErr result (TakesMemory (state_of self.old) message) }
+        ensures counted { OnOk result (self.new.messages ≡ self.old.messages + 1) }
+        ensures is_feed { IsFeed (state_of self.new) }
+        ensures frame { IfOk result HasFrame }
+    {
+        let answer = self.handle(alloc, message, version)?;
+        self.messages += 1;
+        Ok(answer)
+    }
+
+    /// The answer to a message that isn't counted yet.
+    fn handle(
+        &mut self,
+        alloc: Global,
+        message: Message,
+        version: Version,
+    ) -> Result<Option<(Message, Version)>, NoMemory>
+        requires few { self.old.messages < most_messages }
+        requires is_feed { IsFeed (state_of self.old) }
+        ensures handled { IfOk result (λ answer.
+            (answer, state_of self.new) ≡ handled (state_of self.old) message version) }
+        ensures messages { self.new.messages ≡ self.old.messages }
+        ensures unchanged { OnErr result (state_of self.new ≡ state_of self.old) }
+        ensures memory { OnErr result (TakesMemory (state_of self.old) message) }
+    {
+        match message {
+            Message::Create { flow, cwnd, .. } => self.create(alloc, version, flow, cwnd),
+            Message::Install {
+                flow,
+                program,
+                code,
+            } => Ok(self.install(version, flow, program, code)),
+            Message::Change {
+                flow,
+                program,
+                values,
+            } => Ok(self.change(version, flow, program, &values)),
+            Message::Update { flow, values } => Ok(self.update(version, flow, &values)),
+            Message::Ack { flow, ack } => Ok(self.ack(version, flow, &ack)),
+            Message::Measure(_) | Message::Fault(_) | Message::Refused { .. } => Ok(None),
+        }
+    }
+
+    /// Makes a flow.
+    fn create(
+        &mut self,
+        alloc: Global,
+        version: Version,
+        n: u32,
+        cwnd: u64,
+    ) -> Result<Option<(Message, Version)>, NoMemory>
+        requires is_feed { IsFeed (state_of self.old) }
+        ensures handled { IfOk result (λ answer.
+            (answer, state_of self.new) ≡ created (state_of self.old) version n cwnd) }
+        ensures messages { self.new.messages ≡ self.old.messages }
+        ensures unchanged { OnErr result (state_of self.new ≡ state_of self.old) }
+        ensures memory { OnErr result ((n < most_flows) × (there (state_of self.old).flows n ≡ None)) }
+    {
+        let at = n as usize;
+        if at >= FLOWS {
+            return Ok(refused(version, n, 1, 0));
+        }
+        if self.flows[at].is_some() {
+            return Ok(refused(version, n, 2, 0));
+        }
+        self.flows[at] = Some(Flow::new(alloc, version, cwnd)?);
+        Ok(None)
+    }
+
+    /// Keeps a code that is accepted.
+    fn install(
+        &mut self,
+        version: Version,
+        n: u32,
+        program: u32,
+        code: Code,
+    ) -> Option<(Message, Version)>
+        requires is_feed { IsFeed (state_of self.old) }
+        ensures handled { (result, state_of self.new) ≡ installed (state_of self.old) version n program code }
+        ensures messages { self.new.messages ≡ self.old.messages }
+    {
+        let at = program as usize;
+        if at >= PROGRAMS {
+            return refused(version, n, 4, program);
+        }
+        if program_at(self.programs.as_slice(), program).is_some() {
+            return refused(version, n, 5, program);
+        }
+        match verify(code) {
+            Err(rejected) => refused(version, n, 7, rejected.index),
+            Ok(checked) => {
+                self.programs[at] = Some(checked);
+                None
+            }
+        }
+    }
+
+    /// Starts a program on a flow.
+    fn change(
+        &mut self,
+        version: Version,
+        n: u32,
+        program: u32,
+        values: &Fields,
+    ) -> Option<(Message, Version)>
+        requires few { self.old.messages < most_messages }
+        requires is_feed { IsFeed (state_of self.old) }
+        ensures handled { (result, state_of self.new) ≡ changed (state_of self.old) version n program values.now }
+        ensures messages { self.new.messages ≡ self.old.messages }
+    {
+        let at = n as usize;
+        if at >= FLOWS {
+            return refused(version, n, 3, 0);
+        }
+        let Some(flow) = &mut self.flows[at] else {
+            return refused(version, n, 3, 0);
+        };
+        if program as usize >= PROGRAMS {
+            return refused(version, n, 4, program);
+        }
+        let Some(code) = program_at(self.programs.as_slice(), program) else {
+            return refused(version, n, 6, program);
+        };
+        if is_too_wide(flow.version, code) {
+            return refused(version, n, 9, program);
+        }
+        match flow.change(program, code, values) {
+            Ok(()) => None,
+            Err(BadRegister(place)) => refused(version, n, 8, place),
+        }
+    }
+
+    /// Writes values of the program that was started on a flow.
+    fn update(&mut self, version: Version, n: u32, values: &Fields) -> Option<(Message, Version)>
+        requires is_feed { IsFeed (state_of self.old) }
+        ensures handled { (result, state_of self.new) ≡ updated (state_of self.old) version n values.now }
+        ensures messages { self.new.messages ≡ self.old.messages }
+    {
+        let at = n as usize;
+        if at >= FLOWS {
+            return refused(version, n, 3, 0);
+        }
+        let Some(flow) = &mut self.flows[at] else {
+            return refused(version, n, 3, 0);
+        };
+        let Some((_, code)) = code_of(flow.epoch, self.programs.as_slice()) else {
+            return refused(version, n, 6, 0);
+        };
+        match flow.update(code, values) {
+            Ok(()) => None,
+            Err(BadRegister(place)) => refused(version, n, 8, place),
+        }
+    }
+
+    /// Runs an acknowledgement of a flow.
+    fn ack(&mut self, version: Version, n: u32, ack: &Ack) -> Option<(Message, Version)>
+        requires few { self.old.messages < most_messages }
+        requires is_feed { IsFeed (state_of self.old) }
+        ensures handled { (result, state_of self.new) ≡ acked_by (state_of self.old) version n ack.entry.now }
+        ensures messages { self.new.messages ≡ self.old.messages }
+    {
+        let at = n as usize;
+        if at >= FLOWS {
+            return refused(version, n, 3, 0);
+        }
+        let Some(flow) = &mut self.flows[at] else {
+            return refused(version, n, 3, 0);
+        };
+        let Some((epoch, code)) = code_of(flow.epoch, self.programs.as_slice()) else {
+            flow.pass(ack);
+            return None;
+        };
+        in_version(flow.version, flow.ack(n, epoch, code, ack))
+    }
+}
