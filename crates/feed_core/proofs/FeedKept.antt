@@ -1,5 +1,5 @@
 -- What holds of a feed's fields holds after each message, and each answer has a frame.
-use Rattle.std.proofs.Common.{◌≡◌, ℕ, zero, suc, ◌+◌, ◌*◌, ◌<◌, ◌≤◌, Bool, true, false, nat_lt, Option, Some, None, option_map, List, [], ◌∷◌, length, replicate, slice_set, sym, refl, subst, ◌∙◌, arith, cond}
+use Rattle.std.proofs.Common.{◌≡◌, ℕ, zero, suc, ◌+◌, ◌*◌, ◌<◌, ◌≤◌, Bool, true, false, nat_lt, Option, Some, None, option_map, List, [], ◌∷◌, length, slice_set, sym, refl, subst, ◌∙◌, arith, cond}
 use Rattle.std.specs.List.{AllByRecursion}
 use Rattle.std.proofs.lemmas.Bool.Decides.{nat_tests}
 use Rattle.std.proofs.lemmas.List.{length-set, length-map}
@@ -30,7 +30,7 @@ use Rattle.fold_machine.specs.MachineState.{MachineState, Fits}
 use Rattle.fold_machine.specs.Heard.{heard, heard_where, after_made, started_by, updated_by}
 use Rattle.feed_core.specs.declared.flow.Epoch.{Epoch}
 use Rattle.feed_core.specs.declared.flow.Flow.{Flow}
-use Rattle.feed_core.specs.Feed.{FeedState, there, Answer, Answered, refused, with_flow, fresh_flow, created_at, installed_as, installed_at, next_epoch, changed_flow, is_too_wide, changed_with, changed_to, changed_at, code_of, updated_flow, updated_with, updated_on, updated_at, counted_flow, first_after, flow_after, told_of, in_version, acked_on, acked_at, handled}
+use Rattle.feed_core.specs.Feed.{FeedState, there, Answer, Answered, refused, with_flow, fresh_flow, created_at, installed_as, installed_at, next_epoch, changed_flow, is_too_wide, changed_with, changed_to, changed_at, code_of, updated_flow, updated_with, updated_on, updated_at, counted_flow, first_after, flow_after, message_about, in_version, acked_on, acked_at, handled}
 use Rattle.feed_core.specs.FeedHolds.{RunsOn, IsFlow, IsFlowThere, IsAcceptedThere, AreFeedParts, IsFeed, longest_answer, HasFrame}
 
 -- ---- lists of places
@@ -119,7 +119,7 @@ fields-few code accepted =
 
 module _ (code : Code) (ack : Ack) (n : ℕ) (epoch : Epoch) (flow : Flow) (first : flow.first ≤ flow.count) (count : flow.count < most_messages) (few : AreFew flow.version (length code.reports)) (fit : length code.reports ≤ most_fields) where
   asked-framed : (asked : Bool) (machine : MachineState) (kept : Kept) (ran : ℕ) → length kept.reports ≡ length code.reports
-      → HasFrame (in_version flow.version (told_of (after_made (made_of (steps.answered code asked true kept) ran) machine) ack n epoch flow))
+      → HasFrame (in_version flow.version (message_about (after_made (made_of (steps.answered code asked true kept) ran) machine) ack n epoch flow))
   asked-framed false machine kept ran sized = tt
   asked-framed true machine kept ran sized =
       let told : MachineState = (after_made (made_of (steps.answered code true true kept) ran) machine).1 in
@@ -139,7 +139,7 @@ module _ (code : Code) (ack : Ack) (n : ℕ) (epoch : Epoch) (flow : Flow) (firs
       )
 
   work-framed : (work : Work) (kept : Kept) (machine : MachineState) → WorkSized (sizes_of code) work
-      → HasFrame (in_version flow.version (told_of (after_made (settled code kept true work) machine) ack n epoch flow))
+      → HasFrame (in_version flow.version (message_about (after_made (settled code kept true work) machine) ack n epoch flow))
   work-framed (done ran regs) kept machine sized = asked-framed (is_true regs.send) machine regs.kept ran sized.reports
   work-framed (failed kind index ran) kept machine sized =
       let told : MachineState = (after_made (settled code kept true (failed kind index ran)) machine).1 in
@@ -157,7 +157,7 @@ module _ (code : Code) (ack : Ack) (n : ℕ) (epoch : Epoch) (flow : Flow) (firs
   work-framed (stuck ran) kept machine sized = absurd sized
 
   heard-framed : (stopped : Bool) (machine : MachineState) → IsAccepted code → Fits machine code
-      → HasFrame (in_version flow.version (told_of (heard_where stopped code ack true machine) ack n epoch flow))
+      → HasFrame (in_version flow.version (message_about (heard_where stopped code ack true machine) ack n epoch flow))
   heard-framed true machine accepted fits = tt
   heard-framed false machine accepted fits =
       let none = none-next (counts_refusal code or_else events_refusal code.events 0 (length code.instrs)) _ accepted in
@@ -346,7 +346,7 @@ module _ (state : FeedState) (is_feed : IsFeed state) where
           let accepted = accepted-there epoch.program code here in
           let came = heard code ack true flow.machine in
           let count : flow.count < most_messages = omega (arith, is.counted, small) in
-          kept-flow n (flow_after came ack flow) (in_version flow.version (told_of came ack n epoch flow)) (record {
+          kept-flow n (flow_after came ack flow) (in_version flow.version (message_about came ack n epoch flow)) (record {
             counted = omega (arith, is.counted);
             spanned = first-within code ack n epoch flow is.spanned count runs.1 (fields-few code accepted) came;
             changed = omega (arith, is.changed);

@@ -12,7 +12,7 @@ use Rattle.ccp_messages.specs.declared.message.Message.TheVariants.{Refused}
 use Rattle.fold_machine.specs.Heard.{heard, updated_by}
 use Rattle.feed_core.specs.declared.flow.Epoch.{Epoch}
 use Rattle.feed_core.specs.declared.flow.Flow.{Flow}
-use Rattle.feed_core.specs.Feed.{FeedState, there, Answer, Answered, changed_flow, is_too_wide, changed_with, changed_to, changed_at, changed, code_of, updated_with, updated_on, updated_at, updated, counted_flow, flow_after, told_of, in_version, acked_on, acked_at, acked_by, installed_as, installed_at, installed}
+use Rattle.feed_core.specs.Feed.{FeedState, there, Answer, Answered, changed_flow, is_too_wide, changed_with, changed_to, changed_at, changed, code_of, updated_with, updated_on, updated_at, updated, counted_flow, flow_after, message_about, in_version, acked_on, acked_at, acked_by, installed_as, installed_at, installed}
 
 -- what stands at a place, written there again, changes nothing
 pub same_there : {A : Type 0} (xs : List A) (n : ℕ) (x : A) → x ≡ slice_index_or xs n x → slice_set xs n x ≡ xs
@@ -50,7 +50,7 @@ module _ (flows : List (Option Flow)) (programs : List (Option Code)) (messages 
 
   pub ack-heard : (ack : Ack) (flow flow' : Flow) (epoch : Epoch) (code : Code) (r : Answer) → x ≡ Some flow → code_of flow.epoch programs ≡ Some (epoch, code)
       → flow' ≡ flow_after (heard code ack true flow.machine) ack flow
-      → r ≡ in_version flow.version (told_of (heard code ack true flow.machine) ack n epoch flow)
+      → r ≡ in_version flow.version (message_about (heard code ack true flow.machine) ack n epoch flow)
       → ◌≡◌ {A = Answered} (r, put (Some flow')) (acked_by old version n ack)
   ack-heard ack flow flow' epoch code r some runs e answer =
       (λ i. (answer i, put (Some (e i))))

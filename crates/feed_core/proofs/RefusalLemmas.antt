@@ -17,7 +17,7 @@ use Rattle.fold_machine.specs.MachineState.{MachineState}
 use Rattle.fold_machine.specs.Heard.{heard}
 use Rattle.feed_core.specs.declared.flow.Epoch.{Epoch}
 use Rattle.feed_core.specs.declared.flow.Flow.{Flow}
-use Rattle.feed_core.specs.Feed.{FeedState, there, Answer, Answered, refused, created_at, installed_as, installed_at, is_too_wide, changed_with, changed_to, changed_at, code_of, updated_with, updated_on, updated_at, told_of, in_version, acked_on, acked_at, handled}
+use Rattle.feed_core.specs.Feed.{FeedState, there, Answer, Answered, refused, created_at, installed_as, installed_at, is_too_wide, changed_with, changed_to, changed_at, code_of, updated_with, updated_on, updated_at, message_about, in_version, acked_on, acked_at, handled}
 use Rattle.feed_core.specs.Refusals.{IsFlowAt, IsCodeAt, IsFreeAt, FlowAbove, FlowExists, NoFlow, ProgramAbove, ProgramExists, NoProgram, NotAccepted, NoRegister, TooWide, ComesWhere, NoOtherReason, ChangesNothing}
 
 -- the row of a reason
@@ -34,33 +34,33 @@ Row (suc (suc (suc (suc (suc (suc (suc (suc zero)))))))) state message index = N
 Row (suc (suc (suc (suc (suc (suc (suc (suc (suc n))))))))) state message index = TooWide state message index
 
 -- what an answer says, if it is a refusal
-abbrev reason_told : Message → ℕ
-reason_told (Create n mss cwnd) = 0
-reason_told (Measure report) = 0
-reason_told (Install n program code) = 0
-reason_told (Update n values) = 0
-reason_told (Change n program values) = 0
-reason_told (Fault notice) = 0
-reason_told (message.Ack n ack) = 0
-reason_told (Refused n reason index) = reason
+abbrev message_reason : Message → ℕ
+message_reason (Create n mss cwnd) = 0
+message_reason (Measure report) = 0
+message_reason (Install n program code) = 0
+message_reason (Update n values) = 0
+message_reason (Change n program values) = 0
+message_reason (Fault notice) = 0
+message_reason (message.Ack n ack) = 0
+message_reason (Refused n reason index) = reason
 
 abbrev reason_in : Answer → ℕ
 reason_in None = 0
-reason_in (Some (message, version)) = reason_told message
+reason_in (Some (message, version)) = message_reason message
 
-abbrev index_told : Message → ℕ
-index_told (Create n mss cwnd) = 0
-index_told (Measure report) = 0
-index_told (Install n program code) = 0
-index_told (Update n values) = 0
-index_told (Change n program values) = 0
-index_told (Fault notice) = 0
-index_told (message.Ack n ack) = 0
-index_told (Refused n reason index) = index
+abbrev message_index : Message → ℕ
+message_index (Create n mss cwnd) = 0
+message_index (Measure report) = 0
+message_index (Install n program code) = 0
+message_index (Update n values) = 0
+message_index (Change n program values) = 0
+message_index (Fault notice) = 0
+message_index (message.Ack n ack) = 0
+message_index (Refused n reason index) = index
 
 abbrev index_in : Answer → ℕ
 index_in None = 0
-index_in (Some (message, version)) = index_told message
+index_in (Some (message, version)) = message_index message
 
 abbrev refusal_of : ℕ → ℕ → ℕ → Version → Answer
 refusal_of n reason index version = Some (Refused n reason index, version)
@@ -117,15 +117,15 @@ module _ (state : FeedState) (version : Version) (r i : ℕ) where
   abbrev Told : ℕ → Answered → Type 0
   Told n a = a.0 ≡ refusal_of n r i version
 
-  none-told : (n : ℕ) (W : Type 0) → ◌≡◌ {A = Answer} None (refusal_of n r i version) → W
-  none-told n W e = let bad : ⊥ = cc in absurd bad
+  none-refused : (n : ℕ) (W : Type 0) → ◌≡◌ {A = Answer} None (refusal_of n r i version) → W
+  none-refused n W e = let bad : ⊥ = cc in absurd bad
 
   why-created : (n mss cwnd : ℕ) (b : Bool) (o : Option Flow) → nat_lt n most_flows ≡ b → there state.flows n ≡ o
       → Told n (cond b (created_at o state version n cwnd) (refused state version n 1 0))
       → Why state (Create n mss cwnd) r i (cond b (created_at o state version n cwnd) (refused state version n 1 0)).1
   why-created n mss cwnd false o lt is e = why-is state (Create n mss cwnd) n version r i 1 0 (above n most_flows lt, refl) (omega arith) (omega arith) e
   why-created n mss cwnd true (Some flow) lt is e = why-is state (Create n mss cwnd) n version r i 2 0 (under n most_flows lt, flow, is, refl) (omega arith) (omega arith) e
-  why-created n mss cwnd true None lt is e = none-told n _ e
+  why-created n mss cwnd true None lt is e = none-refused n _ e
 
   module _ (n program : ℕ) (code : Code) where
     abbrev install : Message
@@ -134,7 +134,7 @@ module _ (state : FeedState) (version : Version) (r i : ℕ) where
     why-installed-as : IsFreeAt state program → (o : Option Refusal) → rejected code ≡ o
         → Told n (installed_as o state version n program code) → Why state install r i (installed_as o state version n program code).1
     why-installed-as free (Some refusal) is e = why-is state install n version r i 7 refusal.1 (free, refusal, is, refl) (omega arith) (omega arith) e
-    why-installed-as free None is e = none-told n _ e
+    why-installed-as free None is e = none-refused n _ e
 
     why-installed-at : program < most_kept_programs → (o : Option Code) → there state.programs program ≡ o
         → Told n (installed_at o state version n program code) → Why state install r i (installed_at o state version n program code).1
@@ -155,7 +155,7 @@ module _ (state : FeedState) (version : Version) (r i : ℕ) where
         → (o : Option ℕ) → first_bad (length code.controls) values ≡ o
         → Told n (changed_with o state version n program values flow code) → Why state change r i (changed_with o state version n program values flow code).1
     why-changed-with flow code at here narrow (Some place) is e = why-is state change n version r i 8 place (flow, code, at, here, narrow, is) (omega arith) (omega arith) e
-    why-changed-with flow code at here narrow None is e = none-told n _ e
+    why-changed-with flow code at here narrow None is e = none-refused n _ e
 
     why-changed-wide : (flow : Flow) (code : Code) → IsFlowAt state n flow → IsCodeAt state program code → (b : Bool) → is_too_wide flow.version code ≡ b
         → Told n (cond b (refused state version n 9 program) (changed_with (first_bad (length code.controls) values) state version n program values flow code))
@@ -187,7 +187,7 @@ module _ (state : FeedState) (version : Version) (r i : ℕ) where
         → (o : Option ℕ) → first_bad (length code.controls) values ≡ o
         → Told n (updated_with o state version n values flow) → Why state update r i (updated_with o state version n values flow).1
     why-updated-with flow epoch code at runs (Some place) is e = why-is state update n version r i 8 place (flow, epoch, code, at, runs, is) (omega arith) (omega arith) e
-    why-updated-with flow epoch code at runs None is e = none-told n _ e
+    why-updated-with flow epoch code at runs None is e = none-refused n _ e
 
     why-updated-on : (flow : Flow) → IsFlowAt state n flow → (o : Option (Epoch × Code)) → code_of flow.epoch state.programs ≡ o
         → Told n (updated_on o state version n values flow) → Why state update r i (updated_on o state version n values flow).1
@@ -201,18 +201,18 @@ module _ (state : FeedState) (version : Version) (r i : ℕ) where
 
   -- the report of an acknowledgement is no refusal
   report-told : (n m : ℕ) (ack : Ack) (epoch : Epoch) (flow : Flow) (W : Type 0) (came : Option Acked × MachineState)
-      → in_version flow.version (told_of came ack m epoch flow) ≡ refusal_of n r i version → W
-  report-told n m ack epoch flow W (None, machine) e = none-told n W e
-  report-told n m ack epoch flow W (Some acked.Quiet, machine) e = none-told n W e
+      → in_version flow.version (message_about came ack m epoch flow) ≡ refusal_of n r i version → W
+  report-told n m ack epoch flow W (None, machine) e = none-refused n W e
+  report-told n m ack epoch flow W (Some acked.Quiet, machine) e = none-refused n W e
   report-told n m ack epoch flow W (Some acked.Reported, machine) e = let same : false ≡ true = ap is_refusal e in let bad : ⊥ = cc in absurd bad
-  report-told n m ack epoch flow W (Some acked.Held, machine) e = none-told n W e
+  report-told n m ack epoch flow W (Some acked.Held, machine) e = none-refused n W e
   report-told n m ack epoch flow W (Some (acked.Faulted kind index), machine) e = let same : false ≡ true = ap is_refusal e in let bad : ⊥ = cc in absurd bad
-  report-told n m ack epoch flow W (Some acked.Stopped, machine) e = none-told n W e
+  report-told n m ack epoch flow W (Some acked.Stopped, machine) e = none-refused n W e
 
   module _ (n : ℕ) (ack : Ack) where
     why-acked-on : (flow : Flow) (o : Option (Epoch × Code))
         → Told n (acked_on o state n ack flow) → Why state (message.Ack n ack) r i (acked_on o state n ack flow).1
-    why-acked-on flow None e = none-told n _ e
+    why-acked-on flow None e = none-refused n _ e
     why-acked-on flow (Some (epoch, code)) e = report-told n n ack epoch flow _ (heard code ack true flow.machine) e
 
     why-acked : (o : Option Flow) → there state.flows n ≡ o
@@ -226,9 +226,9 @@ module _ (state : FeedState) (version : Version) (r i : ℕ) where
   why (Change n program values) e = why-changed n program values (there state.flows n) refl e
   why (Update n values) e = why-updated n values (there state.flows n) refl e
   why (message.Ack n ack) e = why-acked n ack (there state.flows n) refl e
-  why (Measure report) e = none-told report.flow _ e
-  why (Fault notice) e = none-told notice.flow _ e
-  why (Refused n reason index) e = none-told n _ e
+  why (Measure report) e = none-refused report.flow _ e
+  why (Fault notice) e = none-refused notice.flow _ e
+  why (Refused n reason index) e = none-refused n _ e
 
 -- ---- each row's message is refused for its reason
 

@@ -151,8 +151,8 @@ abbrev pub flow_after : Option Acked × MachineState → Ack → Flow → Flow
 flow_after (came, machine) ack flow = record flow { machine = machine; first = first_after came flow; count = flow.count + 1; last = ack.now }
 
 -- the message about an acknowledgement: a report, or a fault
-abbrev pub told_of : Option Acked × MachineState → Ack → ℕ → Epoch → Flow → Option Message
-told_of (Some acked.Reported, machine) ack n epoch flow = Some (Measure (record {
+abbrev pub message_about : Option Acked × MachineState → Ack → ℕ → Epoch → Flow → Option Message
+message_about (Some acked.Reported, machine) ack n epoch flow = Some (Measure (record {
   flow = n;
   program = epoch.program;
   epoch = epoch.number;
@@ -163,7 +163,7 @@ told_of (Some acked.Reported, machine) ack n epoch flow = Some (Measure (record 
   rate = machine.kept.rate;
   fields = machine.report;
 }))
-told_of (Some (acked.Faulted kind index), machine) ack n epoch flow = Some (Fault (record {
+message_about (Some (acked.Faulted kind index), machine) ack n epoch flow = Some (Fault (record {
   flow = n;
   program = epoch.program;
   epoch = epoch.number;
@@ -173,7 +173,7 @@ told_of (Some (acked.Faulted kind index), machine) ack n epoch flow = Some (Faul
   now = ack.now;
   cwnd = machine.kept.cwnd;
 }))
-told_of _ ack n epoch flow = None
+message_about _ ack n epoch flow = None
 
 abbrev pub in_version : Version → Option Message → Answer
 in_version version told = option_map (λ message. (message, version)) told
@@ -182,7 +182,7 @@ abbrev pub acked_on : Option (Epoch × Code) → FeedState → ℕ → Ack → F
 acked_on None state n ack flow = (None, with_flow state n (counted_flow ack flow))
 acked_on (Some (epoch, code)) state n ack flow =
     let came = heard code ack true flow.machine in
-    (in_version flow.version (told_of came ack n epoch flow), with_flow state n (flow_after came ack flow))
+    (in_version flow.version (message_about came ack n epoch flow), with_flow state n (flow_after came ack flow))
 
 abbrev pub acked_at : Option Flow → FeedState → Version → ℕ → Ack → Answered
 acked_at None state version n ack = refused state version n 3 0

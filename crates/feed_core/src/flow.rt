@@ -5,7 +5,7 @@ ghost use Rattle.fold_machine.specs.MachineState.{Fits};
 ghost use Rattle.fold_machine.specs.Heard.{heard};
 ghost use Rattle.ccp_base.specs.FieldReg.{first_bad};
 ghost use Rattle.feed_core.specs.Feed.{fresh_flow, next_epoch, changed_flow, updated_flow};
-ghost use Rattle.feed_core.specs.Feed.{counted_flow, flow_after, told_of};
+ghost use Rattle.feed_core.specs.Feed.{counted_flow, flow_after, message_about};
 
 use ccp_base::{Ack, Fields, NoMemory, Notice, Report};
 use ccp_messages::Message;
@@ -102,23 +102,23 @@ impl Flow {
         requires fits { Fits self.old.machine code.now.code }
         ensures after { self.new
             ≡ flow_after (heard code.now.code ack.entry.now true self.old.machine) ack.entry.now self.old }
-        ensures told { result ≡ told_of (heard code.now.code ack.entry.now true self.old.machine)
+        ensures message { result ≡ message_about (heard code.now.code ack.entry.now true self.old.machine)
             ack.entry.now number epoch self.old }
         ensures fits { Fits self.new.machine code.now.code }
     {
         let acked = run::<Brand>(&mut self.machine, code, ack, Blank::new(1));
-        let told = self.told(number, epoch, ack, acked);
+        let message = self.message_about(number, epoch, ack, acked);
         self.pass(ack);
         if acked == Acked::Reported {
             self.first = self.count;
         }
-        told
+        message
     }
 
     /// The message about an acknowledgement that was run and isn't counted yet.
-    fn told(&self, number: u32, epoch: Epoch, ack: &Ack, acked: Acked) -> Option<Message>
+    fn message_about(&self, number: u32, epoch: Epoch, ack: &Ack, acked: Acked) -> Option<Message>
         requires { self.now.count + 1 < 2 ^ 64 }
-        ensures { result ≡ told_of (Some acked, self.now.machine) ack.entry.now number epoch self.now }
+        ensures { result ≡ message_about (Some acked, self.now.machine) ack.entry.now number epoch self.now }
     {
         match acked {
             Acked::Reported => Some(Message::Measure(Report {

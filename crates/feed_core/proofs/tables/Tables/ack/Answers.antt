@@ -40,5 +40,5 @@ returns c =
       messages = refl;
       handled = ack-heard feed.flows.items (codes_in feed.programs.items) feed.messages c.args.n c.args.version c.index_mut.result.now lt c.index_mut.ensures.value
           c.args.ack.now c.in-Some.flow c.ack.new.self epoch code c.in_version.result c.in-Some.is runs c.ack.ensures.after
-          (c.in_version.ensures ∙ ap (in_version c.in-Some.flow.version) c.ack.ensures.told);
+          (c.in_version.ensures ∙ ap (in_version c.in-Some.flow.version) c.ack.ensures.message);
     }
