@@ -124,6 +124,7 @@ impl Fields {
     }
 }
 
+// A function of its own: a search followed by `?` isn't proved in one function.
 fn place_of_bad(controls: usize, pairs: &[(FieldReg, u64)]) -> Option<usize>
     ensures place { result ≡ first_bad controls pairs.now }
     ensures within { IfSome result (λ i. i < length pairs.now) }

@@ -42,6 +42,7 @@ pub fn primitive_named(word: &[u8]) -> Option<usize>
     place_of_word(&PRIMITIVE_NAMES, word)
 }
 
+// A function of its own: its clause is over any table, so the search proves it without the names.
 fn place_of_name(known: &[(&[u8], &[u8])], name: &[u8]) -> Option<usize>
     ensures number { result ≡ position (λ k. bytes_eq name.now k.1.now) known.now }
     ensures within { ForSome result (λ n. n < length known.now) }
@@ -49,6 +50,7 @@ fn place_of_name(known: &[(&[u8], &[u8])], name: &[u8]) -> Option<usize>
     known.iter().position(|known| is_same(name, known.1))
 }
 
+// As above, for whole words.
 fn place_of_word(known: &[(&[u8], &[u8])], word: &[u8]) -> Option<usize>
     ensures number { result ≡ position (λ k. bytes_eq word.now (k.0.now ++ 46 ∷ k.1.now)) known.now }
     ensures within { ForSome result (λ n. n < length known.now) }
