@@ -25,11 +25,11 @@ pub fn folded(alloc: Global, built: &Built, acks: &[Ack]) -> Result<Folded, NoMe
     ensures end { IfOk result (λ folded. folded.end ≡ fold_end (form_of built.now.program) acks.now) }
     ensures ran { IfOk result (λ folded. folded.ran ≡ ran_of built.now.code.code acks.now) }
 {
-    counted::<Brand>(alloc, built, acks, Blank::new(1))
+    fold_with_counter::<Brand>(alloc, built, acks, Blank::new(1))
 }
 
 /// The same, with the ghost counter of steps that `Machine::ack` takes.
-fn counted<L: Ledger>(
+fn fold_with_counter<L: Ledger>(
     alloc: Global,
     built: &Built,
     acks: &[Ack],

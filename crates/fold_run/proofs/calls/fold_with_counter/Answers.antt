@@ -1,7 +1,7 @@
 use Rattle.std.proofs.Common.{ℕ, ap, sym, subst}
 use Rattle.fold_run.specs.declared.end.End.{End}
 use Rattle.fold_run.specs.Fold.{IsFoldNotice}
-use Rattle.fold_run.proofs.calls.counted.Goals as goal
+use Rattle.fold_run.proofs.calls.fold_with_counter.Goals as goal
 
 pub returns-clause-notice : goal.returns-clause-notice
 returns-clause-notice g c notice is =
