@@ -19,7 +19,7 @@ primitives a =
 abbrev pub prim : ℕ → Ack → ℕ
 prim n a = slice_index (primitives a) n
 
--- the number of the one that is a Bool, the last one: so many plain numbers come before it
+-- the number of the one that is a Bool, which is the last: all others are plain numbers
 abbrev pub flag_number : ℕ
 flag_number = 14
 

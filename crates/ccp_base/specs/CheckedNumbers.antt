@@ -3,7 +3,7 @@ use Rattle.std.specs.Prelude.{ℕ, ◌+◌, ◌-◌, ◌*◌, ◌/◌, ◌^◌, 
 use Rattle.ccp_base.specs.declared.arithmetic.FaultKind.{FaultKind}
 use Rattle.ccp_base.specs.declared.arithmetic.FaultKind.TheVariants.{Overflow, Underflow, ZeroDivisor}
 
--- a number where it is a value, one from 0 to 2^64-1
+-- a number if it is a value, from 0 to 2^64-1
 abbrev pub fitted : ℕ → Result ℕ FaultKind
 fitted n = if nat_lt n (2 ^ 64) then Ok n else Err Overflow
 

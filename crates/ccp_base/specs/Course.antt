@@ -10,12 +10,12 @@ use Rattle.ccp_base.specs.declared.course.Course.{Course}
 use Rattle.ccp_base.specs.declared.course.Phase.{Phase}
 use Rattle.ccp_base.specs.declared.course.Phase.TheVariants.{SlowStart, Avoidance}
 
--- the epoch that an agent is told of
+-- the epoch of a report or notice
 abbrev pub epoch_of : Told → ℕ
 epoch_of (Report report) = report.epoch
 epoch_of (Fault notice) = notice.epoch
 
--- an agent's course before it was told anything
+-- an agent's course before its first report or notice
 abbrev pub first_course : Role → Role → Course
 first_course ss ca = record { ss = ss; ca = ca; mode = SlowStart; epoch = 0 }
 

@@ -1,4 +1,4 @@
--- What a change or an update of a program writes, and where a value's register isn't there.
+-- What a change or an update of a program writes, and which value has a register that doesn't exist.
 use Rattle.std.specs.Prelude.{ℕ, Bool, false, not, nat_lt, Option, List, position}
 use Rattle.ccp_base.specs.declared.fields.FieldReg.{FieldReg}
 use Rattle.ccp_base.specs.declared.fields.FieldReg.TheVariants.{Cwnd, Rate, Control}
@@ -14,7 +14,7 @@ pair_of reg value = (reg, value)
 abbrev pub blank : Pair
 blank = (Cwnd, 0)
 
--- a register names a control variable past this many
+-- a register names a control variable with this number or a greater one
 abbrev pub is_bad : ℕ → FieldReg → Bool
 is_bad controls (Control i) = not (nat_lt i controls)
 is_bad controls Cwnd = false

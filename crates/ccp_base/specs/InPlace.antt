@@ -37,7 +37,7 @@ IsPadded-push size blank places count item room held = record {
       ∙ ap (λ n. replicate n blank) (let n : (size - count) - 1 ≡ size - (count + 1) = omega arith in n);
 }
 
--- the same, where what is known is the length of the list at the front
+-- the same, if only the length of the list at the front is known
 pub IsPadded-push_held : {A : Type 0} (size : ℕ) (blank : A) (places : List A) (count : ℕ) (item : A) → IsPadded size blank places count → length (take count places) < size → IsPadded size blank (slice_set places count item) (count + 1)
 IsPadded-push_held size blank places count item held room =
     let e = length-held size blank places count held in

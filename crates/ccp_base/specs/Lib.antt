@@ -1,4 +1,6 @@
--- The definitions of ccp_base, a file each; files named ..Laws have what follows from them.
+-- The definitions of ccp_base, a file each. Public contracts, here and above, cite them or definitions over them, with
+-- three exceptions: SystemAnswers is for private contracts, InPlace for the invariants of lists held in place, and
+-- OperationLaws, which has what follows from Operations, for proofs.
 pub mod Acknowledgement
 pub mod Blending
 pub mod Chaining

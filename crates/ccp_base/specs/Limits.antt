@@ -54,7 +54,7 @@ most_instrs = 256
 abbrev pub most_tenths : ℕ
 most_tenths = 10
 
--- the primitives: what an acknowledgement tells
+-- the primitives: the values of an acknowledgement
 abbrev pub primitive_count : ℕ
 primitive_count = 15
 

@@ -4,7 +4,7 @@ use Rattle.ccp_base.specs.declared.look.Look.{Look}
 use Rattle.ccp_base.specs.declared.exchange.Report.{Report}
 use Rattle.ccp_base.specs.declared.measurement.Measurement.{Measurement}
 
--- the field at a place; 0 where there is no place, or it isn't below the number of fields
+-- the field at a place; 0 without a place, or for a place past the fields
 abbrev pub field_at : Option ℕ → List ℕ → ℕ
 field_at None fields = 0
 field_at (Some place) fields = unwrap_or (slice_get fields place) 0

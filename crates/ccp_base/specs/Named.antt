@@ -3,7 +3,7 @@ use Rattle.std.specs.Prelude.{◌≡◌, ℕ, ◌≤◌, ◌&&◌, nat_le, Optio
 use Rattle.ccp_base.specs.Limits.{most_name_bytes}
 use Rattle.ccp_base.specs.InPlace.{IsPadded, padded, padded-held, length-held}
 
--- a text where it is a name, one of 1 to 64 bytes
+-- a text if it is a name, which has 1 to 64 bytes
 abbrev pub name_of : List ℕ → Option (List ℕ)
 name_of text = if nat_le 1 (length text) && nat_le (length text) most_name_bytes then Some text else None
 

@@ -2,15 +2,15 @@
 use Rattle.std.specs.Prelude.{◌≡◌, ℕ, ◌-◌, ◌^◌, ◌<◌, ◌≤◌, Option, Some, None, is_some, option_map, List, [], ◌++◌, length, take}
 use Rattle.std.proofs.Common.{ap, ◌∙◌, sym, append_assoc}
 
--- what a source has left, or what a sink was given, where it tells them
+-- the bytes that a source has left or that were written to a sink, if they are known
 abbrev pub Known : Type 0
 Known = Option (List ℕ)
 
--- whether the bytes are known is the same of all these values
+-- all these values know their bytes, or none does
 abbrev pub IsKnownByType : {X : Type 0} → (X → Known) → Type 0
 IsKnownByType {X = X} known = (x y : X) → is_some (known x) ≡ is_some (known y)
 
--- a count of faults rose; one that stands at its type's end counts as risen
+-- a count of faults rose; at its greatest value it can't, and counts as risen
 abbrev pub Rose : ℕ → ℕ → Type 0
 Rose before now = before < 2 ^ 64 - 1 → before < now
 
@@ -44,13 +44,13 @@ pub record AppendsPrefix (old new : Known) (bytes : List ℕ) : Type 0 where
   pub within : count ≤ length bytes
   pub appends : Appends old new (take count bytes)
 
--- what is taken in turn is taken at once
+-- two pieces taken one after the other are taken as one
 pub Takes-append : (old middle new : Known) (first next : List ℕ) → Takes old middle first → Takes middle new next → Takes old new (first ++ next)
 Takes-append old middle None first next before after = cc
 Takes-append old middle (Some left) first next before after =
     before ∙ ap (option_map (λ bytes. first ++ bytes)) after ∙ ap Some (sym (append_assoc first next left))
 
--- what is put at the end in turn is put there at once
+-- two pieces appended one after the other are appended as one
 pub Appends-append : (old middle new : Known) (first next : List ℕ) → Appends old middle first → Appends middle new next → Appends old new (first ++ next)
 Appends-append None middle new first next before after = cc
 Appends-append (Some written) middle new first next before after =

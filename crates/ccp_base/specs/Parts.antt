@@ -13,7 +13,7 @@ abbrev pub with_first : ℕ → List (List ℕ) → List (List ℕ)
 with_first byte [] = (byte ∷ []) ∷ []
 with_first byte (part ∷ rest) = (byte ∷ part) ∷ rest
 
--- the parts of a text, each ended by a separator; the last one may do without
+-- the parts of a text, each ended by a separator; the last part may have none
 abbrev pub parts_of : Separator → List ℕ → List (List ℕ)
 parts_of separator [] = []
 parts_of separator (byte ∷ rest) =
@@ -25,7 +25,7 @@ pub record IsSplit (separator : Separator) (text part rest : List ℕ) : Type 0 
   pub separated : separates separator byte ≡ true
   pub whole : text ≡ part ++ byte ∷ rest
 
--- a list without its last item, where that is this byte
+-- a list without its last item, if that is this byte
 abbrev pub without_last : ℕ → List ℕ → List ℕ
 without_last byte [] = []
 without_last byte (x ∷ []) = if x == byte then [] else x ∷ []

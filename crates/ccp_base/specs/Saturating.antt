@@ -3,15 +3,15 @@ use Rattle.std.specs.Prelude.{ℕ, ◌+◌, ◌-◌, ◌*◌, ◌/◌, ◌^◌, 
 
 infixl 6 ◌+ˢ◌
 infixl 7 ◌*ˢ◌
--- the sum, or 2^64-1 where that is less
+-- the sum, or 2^64-1 if that is less
 abbrev pub ◌+ˢ◌ : ℕ → ℕ → ℕ
 a +ˢ b = min (a + b) (2 ^ 64 - 1)
 
--- the product, or 2^64-1 where that is less
+-- the product, or 2^64-1 if that is less
 abbrev pub ◌*ˢ◌ : ℕ → ℕ → ℕ
 a *ˢ b = min (a * b) (2 ^ 64 - 1)
 
--- the cut quotient of the exact product, or 2^64-1 where that is less
+-- the cut quotient of the exact product, or 2^64-1 if that is less
 abbrev pub muldiv : ℕ → ℕ → ℕ → ℕ
 muldiv a b c = min (a * b / c) (2 ^ 64 - 1)
 

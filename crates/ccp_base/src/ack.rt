@@ -29,7 +29,7 @@ pub struct Ack {
     pub was_timeout: bool,
 }
 
-/// A primitive by its number, from 0 to 14 in the order of the fields of `Ack`, a Bool as 0 or 1.
+/// A primitive by its number, from 0 to 14 in the order of the fields of `Ack`; a Bool is 0 or 1.
 pub fn prim(ack: &Ack, number: u32) -> u64
     requires { number < primitive_count }
     ensures { result ≡ prim number ack.entry.now }
@@ -60,7 +60,7 @@ pub fn is_flag(number: u32) -> bool
     number == PRIMITIVES - 1
 }
 
-/// The fifteen primitives of an acknowledgement in their order, a Bool as 0 or 1. `ack_of` gives the acknowledgement
+/// The fifteen primitives of an acknowledgement in order; a Bool is 0 or 1. `ack_of` gives the acknowledgement
 /// back.
 pub fn primitives(ack: &Ack) -> [u64; 15]
     ensures numbers { result ≡ primitives ack.entry.now }
@@ -85,8 +85,8 @@ pub fn primitives(ack: &Ack) -> [u64; 15]
     ]
 }
 
-/// The acknowledgement with these fifteen primitives, in their order; the last one is true where it isn't 0.
-/// `primitives` gives the numbers back where the last one is 0 or 1.
+/// The acknowledgement with these fifteen primitives, in order; the last one is true if it isn't 0.
+/// `primitives` gives the numbers back if the last one is 0 or 1.
 pub fn ack_of(numbers: &[u64]) -> Ack
     requires { length numbers.now ≡ primitive_count }
     ensures ack { result ≡ ack_of numbers.now }
@@ -111,14 +111,14 @@ pub fn ack_of(numbers: &[u64]) -> Ack
     }
 }
 
-/// A Bool as a number: 1 where it is true, else 0.
+/// A Bool as a number: 1 if it is true, else 0.
 pub fn bool_number(truth: bool) -> u64
     ensures { result ≡ number_of truth }
 {
     if truth { 1 } else { 0 }
 }
 
-/// A number as a Bool: true where it isn't 0.
+/// A number as a Bool: true if it isn't 0.
 pub fn is_true(number: u64) -> bool
     ensures { result ≡ is_true number }
 {

@@ -13,7 +13,7 @@ pub enum Phase {
     Avoidance,
 }
 
-/// The programs of an agent, and how far it went with them.
+/// The two programs of an agent, which of them it started last, and how often it changed.
 #[derive(Clone, Copy, PartialEq, Eq)]
 pub struct Course {
     /// The program of slow start.
@@ -26,7 +26,7 @@ pub struct Course {
 }
 
 impl Course {
-    /// The course of an agent that was told nothing yet.
+    /// The course of an agent before its first report or notice.
     pub fn new(ss: Role, ca: Role) -> Self
         ensures { result ≡ first_course ss ca }
     {

@@ -10,9 +10,9 @@ pub struct Report {
     pub program: u32,
     /// How many changes of program the flow had before the one that started this program.
     pub epoch: u32,
-    /// Where the span begins, as a number of acknowledgements of the flow.
+    /// How many acknowledgements of the flow came before the span.
     pub first: u64,
-    /// Where the span ends, just after the reporting acknowledgement.
+    /// How many acknowledgements of the flow there were at its end, the reporting one included.
     pub end: u64,
     /// The time of the reporting acknowledgement, in microseconds.
     pub now: u64,
@@ -41,7 +41,7 @@ pub struct Notice {
     pub cwnd: u64,
 }
 
-/// What an agent is told of a flow.
+/// What an agent gets about a flow.
 #[derive(Clone, Copy, PartialEq, Eq, Debug)]
 pub enum Told {
     Report(Report),
@@ -52,7 +52,7 @@ impl Told {
     ghost use Rattle.std.specs.Prelude.{◌≡◌};
     ghost use Rattle.ccp_base.specs.Course.{epoch_of};
 
-    /// The epoch of what is told.
+    /// The epoch of the report or notice.
     pub fn epoch(&self) -> u64
         ensures { result ≡ epoch_of self.now }
     {
@@ -63,7 +63,7 @@ impl Told {
     }
 }
 
-/// What an agent replies to what it was told.
+/// What an agent replies to a report or notice.
 #[derive(Clone, Copy, PartialEq, Eq, Debug)]
 pub enum Reply {
     Nothing,

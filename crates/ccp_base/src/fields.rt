@@ -20,7 +20,7 @@ pub enum FieldReg {
 }
 
 impl FieldReg {
-    /// Whether this is a control variable past this many.
+    /// Whether this is a control variable, numbered `controls` or above.
     pub fn is_bad(self, controls: usize) -> bool
         ensures { result ≡ is_bad controls self }
     {
@@ -80,7 +80,7 @@ impl Fields {
         self.count == 0
     }
 
-    /// Puts a pair at the list's end.
+    /// Appends a pair.
     pub fn push(&mut self, reg: FieldReg, value: u64)
         requires { length self.old < most_pairs }
         ensures { self.new ≡ self.old ++ pair_of reg value ∷ [] }
@@ -89,7 +89,7 @@ impl Fields {
         self.count += 1;
     }
 
-    /// The pair at a place, counted from 0; None exactly where the list isn't that long.
+    /// The pair at a place, counted from 0; None exactly if the list isn't that long.
     pub fn get(&self, i: u32) -> Option<(FieldReg, u64)>
         ensures { result ≡ slice_get self.now i }
     {
@@ -114,8 +114,8 @@ impl Fields {
     {
         *self = Fields::new();
     }
-    /// The place, counted from 0, of the first pair that names a control variable past this many; None exactly where
-    /// there is none.
+    /// The place, counted from 0, of the first pair that names a control variable numbered `controls` or above; None if
+    /// no pair does.
     pub fn first_bad(&self, controls: usize) -> Option<u32>
         ensures { result ≡ first_bad controls self.now }
     {
@@ -124,6 +124,7 @@ impl Fields {
     }
 }
 
+// A function of its own: a search followed by `?` isn't proved in one function.
 fn place_of_bad(controls: usize, pairs: &[(FieldReg, u64)]) -> Option<usize>
     ensures place { result ≡ first_bad controls pairs.now }
     ensures within { IfSome result (λ i. i < length pairs.now) }

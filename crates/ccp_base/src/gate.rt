@@ -1,5 +1,5 @@
 //! The gate that workers pass at points of their work, so that a test can see and hold them.
-/// A point of a worker's way at which it passes a gate.
+/// A point of a worker's work at which it passes a gate.
 #[derive(Clone, Copy, PartialEq, Eq)]
 pub enum Point {
     /// Before an acknowledgement, without the flow's lock.
@@ -8,7 +8,7 @@ pub enum Point {
     InAck,
     /// After an acknowledgement, without the flow's lock.
     AfterAck,
-    /// After a report or notice was taken or none was there, without the flow's lock.
+    /// After a take, whether or not a report or notice waited, without the flow's lock.
     AfterTake,
     /// After an answer was settled, without the flow's lock.
     AfterSettle,

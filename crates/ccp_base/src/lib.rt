@@ -1,5 +1,5 @@
 //! What every crate of `ccp` stands on: checked numbers, the acknowledgement and its primitives, lists that
-//! are held in place, what flows and agents tell one another, and the streams of the outside.
+//! are held in place, what flows and agents exchange, and the streams of the outside.
 #![tactic(auto)]
 
 mod ack;

@@ -3,14 +3,14 @@ ghost use Rattle.std.specs.Prelude.{◌<◌};
 ghost use Rattle.std.specs.Option.{ForSome};
 
 /// Where a program keeps the fields and control variables that agents read and write: the number of each in
-/// order of declaration, or None where the program doesn't declare it. Each number is below 64.
+/// order of declaration, or None if the program doesn't declare it. Each number is below 64.
 #[derive(Clone, Copy, PartialEq, Eq)]
 pub struct Look {
     /// The field of the bytes acknowledged.
     pub acked: Option<u32>,
     /// The field of the packets lost.
     pub loss: Option<u32>,
-    /// The field of whether a timeout came.
+    /// The field that isn't 0 after a timeout.
     pub timeout: Option<u32>,
     /// The field of the round-trip time, in microseconds.
     pub rtt: Option<u32>,

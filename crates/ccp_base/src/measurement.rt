@@ -17,7 +17,7 @@ pub struct Measurement {
     pub acked: u64,
     /// The packets lost.
     pub loss: u64,
-    /// Not 0 where a timeout came.
+    /// Not 0 after a timeout.
     pub timeout: u64,
     /// The round-trip time, in microseconds.
     pub rtt: u64,
@@ -46,7 +46,7 @@ impl Measurement {
     }
 }
 
-/// The field at a place; 0 where there is no place, or it isn't below the number of fields.
+/// The field at a place; 0 without a place, or for a place past the fields.
 fn field_at(place: Option<u32>, fields: &Values) -> u64
     ensures { result ≡ field_at place fields.now }
 {

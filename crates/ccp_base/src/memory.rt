@@ -171,7 +171,8 @@ impl Sink for MemSink<'_> {
         ensures appends { IfOk result (λ n. Appends (Some self.old.bytes) (Some self.new.bytes) (take n bytes.now)) }
         ensures listed { Contains self.old.failing.now self.old.calls → IsErr result }
         // Any other call fails only where it counts a refusal of memory.
-        ensures unlisted { IsErr result → (Contains self.old.failing.now self.old.calls → ⊥) → self.new.refusals ≡ min (self.old.refusals + 1) u64.MAX }
+        ensures unlisted { IsErr result → (Contains self.old.failing.now self.old.calls → ⊥)
+            → self.new.refusals ≡ min (self.old.refusals + 1) u64.MAX }
         ensures refusals { OnOk result (self.new.refusals ≡ self.old.refusals) }
         ensures most { IfOk result (λ n. n ≡ min self.old.most (length bytes.now)) }
         ensures calls { self.new.calls ≡ min (self.old.calls + 1) u64.MAX }

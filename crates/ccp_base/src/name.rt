@@ -34,7 +34,7 @@ impl Model for Name {
 }
 
 impl Name {
-    /// The name with this text; None exactly where the text is empty or longer than 64 bytes.
+    /// The name with this text; None exactly if the text is empty or longer than 64 bytes.
     pub fn new(text: &[u8]) -> Option<Self>
         ensures { result ≡ name_of text.now }
     {
@@ -57,6 +57,7 @@ impl Name {
     }
 }
 
+// A function of its own: over slices, so its clause names no array.
 /// Writes the text over the front of a longer piece.
 fn write_front(out: &mut [u8], text: &[u8])
     requires { length text.now ≤ length out.old }
@@ -65,7 +66,7 @@ fn write_front(out: &mut [u8], text: &[u8])
     out[..text.len()].copy_from_slice(text);
 }
 
-/// The text with 0 past its end.
+/// The text, padded with 0.
 fn padded(text: &[u8]) -> [u8; 64]
     requires { length text.now ≤ most_name_bytes }
     ensures { result ≡ padded 64 0 text.now }

@@ -2,8 +2,8 @@
 ghost use Rattle.std.specs.Prelude.{◌≡◌, Some};
 ghost use Rattle.ccp_base.specs.Numerals.{digit_after, value_after, numeral_of};
 
-/// The value of a numeral, one or more decimal digits alone; None exactly where the bytes are something else or
-/// the value is past 2^64-1. Leading zeros are fine.
+/// The value of a numeral, which is one or more decimal digits; None exactly if the bytes are something else or
+/// the value is past 2^64-1. Leading zeros are allowed.
 pub fn numeral(bytes: &[u8]) -> Option<u64>
     ensures { result ≡ numeral_of bytes.now }
 {

@@ -11,27 +11,27 @@ use crate::arithmetic::{FaultKind, add, div, mul, sub};
 /// A binary operation of the language and of its code.
 #[derive(Clone, Copy, PartialEq, Eq)]
 pub enum Op2 {
-    /// The sum, where it is a value.
+    /// The sum, if it is a value.
     Add,
-    /// The difference, where it is a value.
+    /// The difference, if it is a value.
     Sub,
-    /// The product, where it is a value.
+    /// The product, if it is a value.
     Mul,
-    /// The quotient, cut to a whole number, where it is a value.
+    /// The quotient, cut to a whole number, if the divisor isn't 0.
     Div,
     /// The larger one.
     Max,
     /// The smaller one.
     Min,
-    /// 1 where the left one is larger, else 0.
+    /// 1 if the left one is larger, else 0.
     Gt,
-    /// 1 where the left one is smaller, else 0.
+    /// 1 if the left one is smaller, else 0.
     Lt,
-    /// 1 where both are the same, else 0.
+    /// 1 if both are equal, else 0.
     Eq,
-    /// 1 where neither is 0, else 0.
+    /// 1 if neither is 0, else 0.
     And,
-    /// 1 where not both are 0, else 0.
+    /// 1 if at least one isn't 0, else 0.
     Or,
 }
 
@@ -59,7 +59,7 @@ struct Written {
     word: &'static str,
     /// In programs; of `max` and `min` it is their word.
     mark: &'static str,
-    /// Whether a Bool comes of it.
+    /// Whether its result is a Bool.
     truth: bool,
 }
 
@@ -99,7 +99,7 @@ impl Op2 {
         self.written().word
     }
 
-    /// Whether a Bool comes of it.
+    /// Whether its result is a Bool.
     pub fn gives_truth(self) -> bool
         ensures { result ≡ gives_truth self }
     {
@@ -157,7 +157,7 @@ fn row_of(number: u8, word: &'static str, mark: &'static str, truth: bool) -> Wr
     }
 }
 
-/// The operation with a number in frames; None exactly where there is none.
+/// The operation with a number in frames; None if no operation has it.
 #[inline(always)]
 pub fn operation_numbered(number: u8) -> Option<Op2>
     ensures { result ≡ operation_numbered number }
@@ -178,7 +178,7 @@ pub fn operation_numbered(number: u8) -> Option<Op2>
     }
 }
 
-/// The operation that a program writes as this text, by its mark or its word; None exactly where there is none.
+/// The operation that a program writes as this text, which is its mark or its word; None if there is no such operation.
 pub fn operator_of(text: &[u8]) -> Option<Op2>
     ensures { result ≡ operator_of text.now }
 {

@@ -5,7 +5,7 @@ ghost use Rattle.ccp_base.specs.declared.outside.ReadFault.TheVariants as read_f
 
 use std::alloc::{AllocError, AllocFailed};
 
-/// That memory was wanted and not found.
+/// Out of memory.
 #[derive(Clone, Copy, Debug)]
 pub struct NoMemory;
 
@@ -25,7 +25,7 @@ impl<T: Drop> From<AllocFailed<T>> for NoMemory {
     }
 }
 
-/// That a read or a write failed.
+/// A read or a write failed.
 #[derive(Clone, Copy, PartialEq, Eq)]
 pub struct Failed;
 

@@ -12,7 +12,7 @@ pub enum Separator {
 }
 
 impl Separator {
-    /// Whether the byte is such a separator.
+    /// Whether the byte is this separator.
     pub fn is(self, byte: u8) -> bool
         ensures { result ≡ separates self byte }
     {
@@ -39,7 +39,7 @@ pub fn first_part(text: &[u8], separator: Separator) -> (&[u8], &[u8])
     (text, &text[text.len()..])
 }
 
-/// A line without the CR at its end, where it has one.
+/// A line without a CR at its end.
 pub fn without_return(line: &[u8]) -> &[u8]
     ensures line { result.now ≡ without_last 13 line.now }
     ensures within { length result.now ≤ length line.now }

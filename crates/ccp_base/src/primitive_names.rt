@@ -25,7 +25,7 @@ pub const PRIMITIVE_NAMES: [(&[u8], &[u8]); 15] = [
     (b"Flow", b"was_timeout"),
 ];
 
-/// The number of the primitive with this name, from 0 to 14; None exactly where there is none.
+/// The number of the primitive with this name, from 0 to 14; None if no primitive has it.
 pub fn value_named(name: &[u8]) -> Option<usize>
     ensures number { result ≡ value_named name.now }
     ensures below { ForSome result (λ n. n < primitive_count) }
@@ -33,8 +33,8 @@ pub fn value_named(name: &[u8]) -> Option<usize>
     place_of_name(&PRIMITIVE_NAMES, name)
 }
 
-/// The number of the primitive that a program writes as this word, as `Ack.bytes_acked`; None exactly where there is
-/// none.
+/// The number of the primitive that a program writes as this word, for example 0 for `Ack.bytes_acked`; None if no
+/// primitive is written so.
 pub fn primitive_named(word: &[u8]) -> Option<usize>
     ensures number { result ≡ primitive_named word.now }
     ensures below { ForSome result (λ n. n < primitive_count) }
@@ -42,6 +42,7 @@ pub fn primitive_named(word: &[u8]) -> Option<usize>
     place_of_word(&PRIMITIVE_NAMES, word)
 }
 
+// A function of its own: its clause is over any table, so the search proves it without the names.
 fn place_of_name(known: &[(&[u8], &[u8])], name: &[u8]) -> Option<usize>
     ensures number { result ≡ position (λ k. bytes_eq name.now k.1.now) known.now }
     ensures within { ForSome result (λ n. n < length known.now) }
@@ -49,6 +50,7 @@ fn place_of_name(known: &[(&[u8], &[u8])], name: &[u8]) -> Option<usize>
     known.iter().position(|known| is_same(name, known.1))
 }
 
+// As above, for whole words.
 fn place_of_word(known: &[(&[u8], &[u8])], word: &[u8]) -> Option<usize>
     ensures number { result ≡ position (λ k. bytes_eq word.now (k.0.now ++ 46 ∷ k.1.now)) known.now }
     ensures within { ForSome result (λ n. n < length known.now) }

@@ -1,10 +1,10 @@
-//! The list that contracts see as its items, wherever in memory it lies, with lists of numbers and bytes.
+//! The list that contracts see as its items, wherever in memory they are, with lists of numbers and bytes.
 ghost use Rattle.std.specs.Prelude.{◌≡◌, ◌↔◌, IsTrue, IfOk, OnOk, OnErr, ◌++◌, ◌∷◌, [], ◌<◌, length, slice_set};
 
 use std::alloc::{AllocError, Global};
 use std::marker::Model;
 
-/// A list of items, which contracts see as that list, wherever in memory it lies.
+/// A list of items. Contracts see the items, wherever in memory they are, so equal lists are equal.
 #[derive(Debug, Drop)]
 pub struct Sequence<T> {
     items: Vec<T>,
@@ -65,7 +65,7 @@ impl<T> Sequence<T> {
 }
 
 impl<T: Drop> Sequence<T> {
-    /// Puts an item at the list's end.
+    /// Appends an item.
     pub fn push(&mut self, item: T) -> Result<(), AllocError>
         ensures ok { OnOk result (self.new ≡ self.old ++ item ∷ []) }
         ensures err { OnErr result (self.new ≡ self.old) }
@@ -74,7 +74,7 @@ impl<T: Drop> Sequence<T> {
         Ok(())
     }
 
-    /// Puts an item in the place of another, counted from 0.
+    /// Replaces the item at a place, counted from 0.
     pub fn set(&mut self, i: usize, item: T)
         requires { i < length self.old }
         ensures { self.new ≡ slice_set self.old i item }
@@ -90,7 +90,7 @@ pub type Numbers = Sequence<u64>;
 pub type Bytes = Sequence<u8>;
 
 impl Bytes {
-    /// Puts bytes at the list's end.
+    /// Appends bytes.
     pub fn extend(&mut self, bytes: &[u8]) -> Result<(), AllocError>
         ensures ok { OnOk result (self.new ≡ self.old ++ bytes.now) }
         ensures err { OnErr result (self.new ≡ self.old) }

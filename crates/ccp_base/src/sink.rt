@@ -6,17 +6,17 @@ use crate::outside::Failed;
 
 /// What bytes are written to.
 pub trait Sink {
-    // the bytes that were written, where the sink tells them
+    // the bytes that were written, if the sink knows them
     ghost written: { Self → Option (List ℕ) };
 
     // how many writes failed, up to 2^64-1
     ghost faults: { Self → ℕ };
 
-    // nothing of what was written is held back, where the sink tells it
+    // nothing of what was written is held back; always true for a sink that doesn't know
     ghost is_finished: { Self → Type 0 } = { λ _. Unit {0} };
 
-    /// Takes bytes from the front of `bytes` and answers how many, at least one of a piece that isn't empty.
-    /// `Failed` comes only where the count of faults rises; else it is as before.
+    /// Takes bytes from the front of `bytes` and returns how many, at least one if `bytes` isn't empty.
+    /// The count of faults rises with `Failed`, and only then.
     fn write(&mut self, bytes: &[u8]) -> Result<usize, Failed>
         ensures counted { faults self.old ≤ faults self.new }
         ensures quiet { OnOk result (faults self.new ≡ faults self.old) }
@@ -26,8 +26,7 @@ pub trait Sink {
         ensures within { IfOk result (λ n. n ≤ length bytes.now) }
         ensures appends { IfOk result (λ n. Appends (written self.old) (written self.new) (take n bytes.now)) };
 
-    /// Hands on what was written and is still held back. `Failed` comes only where the count of faults rises; else it
-    /// is as before.
+    /// Hands on what was written and is still held back. The count of faults rises with `Failed`, and only then.
     fn finish(&mut self) -> Result<(), Failed>
         ensures counted { faults self.old ≤ faults self.new }
         ensures quiet { OnOk result (faults self.new ≡ faults self.old) }
@@ -36,8 +35,8 @@ pub trait Sink {
         ensures finished { OnOk result (is_finished self.new) };
 }
 
-/// Writes all the bytes and finishes. `Failed` comes only where the count of faults rises, and then a front of the
-/// bytes was written; else it is as before.
+/// Writes all the bytes and finishes. The count of faults rises with `Failed`, and only then; in that case a front of
+/// the bytes was written.
 pub fn write_all<K: Sink>(sink: &mut K, bytes: &[u8]) -> Result<(), Failed>
     ensures counted { K.faults sink.old ≤ K.faults sink.new }
     ensures quiet { OnOk result (K.faults sink.new ≡ K.faults sink.old) }

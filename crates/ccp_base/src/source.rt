@@ -8,14 +8,14 @@ use std::alloc::Global;
 
 /// What bytes are read from.
 pub trait Source {
-    // the bytes that are left, where the source tells them
+    // the bytes that are left, if the source knows them
     ghost remaining: { Self → Option (List ℕ) };
 
     // how many reads failed, up to 2^64-1
     ghost faults: { Self → ℕ };
 
-    /// Writes the next bytes over the front of `out` and answers how many, 0 for a piece that isn't empty at
-    /// the end alone. `Failed` comes only where the count of faults rises, and else that stays as it was.
+    /// Writes the next bytes over the front of `out` and returns how many. If `out` isn't empty, 0 means the end. The
+    /// count of faults rises with `Failed`, and only then.
     fn read(&mut self, out: &mut [u8]) -> Result<usize, Failed>
         ensures counted { faults self.old ≤ faults self.new }
         ensures quiet { OnOk result (faults self.new ≡ faults self.old) }
@@ -26,12 +26,12 @@ pub trait Source {
         ensures end { IfOk result (λ n. n ≡ 0 → 0 < length out.old → IsAtEnd (remaining self.old)) };
 }
 
-/// How many bytes are asked for at a time.
+/// How many bytes a read asks for.
 const PIECE: usize = 4096;
 
-/// All the bytes that are left, of which there are at most `limit`. `Read` comes only where the count of
-/// faults rises, which at every other answer is as before, and `TooLong` exactly where more than `limit` bytes were
-/// taken. Whatever the answer, at most one byte more than `limit` was taken.
+/// All the bytes that are left, at most `limit`. The count of faults rises with `Read`, and only then; `TooLong` is the
+/// answer exactly if more than `limit` bytes were taken. Whatever the answer, at most one byte more than `limit` was
+/// taken.
 pub fn read_all<S: Source>(alloc: Global, source: &mut S, limit: usize) -> Result<Bytes, ReadFault>
     ensures counted { S.faults source.old ≤ S.faults source.new }
     ensures quiet { result ≢ Err ReadFault.Read → S.faults source.new ≡ S.faults source.old }

@@ -10,14 +10,14 @@ use crate::source::Source;
 use std::io;
 use std::io::{Read, Stderr, Stdin, Stdout, Write};
 
-/// What bytes are read from. That the bytes that are left are known is a matter of the type: of all its values, or of
-/// none.
+/// What bytes are read from. The type decides whether the bytes that are left are known: all its values know them, or
+/// none does.
 pub trait ReadStream: Read {
     ghost known_by_type: { IsKnownByType Self.remaining };
 }
 
-/// What bytes are written to. That the bytes that were written are known is a matter of the type: of all its values,
-/// or of none.
+/// What bytes are written to. The type decides whether the bytes that were written are known: all its values know them,
+/// or none does.
 pub trait WriteStream: Write {
     ghost known_by_type: { IsKnownByType Self.contents };
 }
@@ -42,8 +42,7 @@ impl WriteStream for Vec<u8> {
     ghost known_by_type = { λ x y. refl };
 }
 
-/// What a read of the system is turned into: its count exactly where the system gives one, else `Failed` and one more
-/// fault, and never an end.
+/// The answer to a read: the system's count if it gives one, else `Failed` and one more fault, and never an end.
 fn read_answer(answer: io::Result<usize>, faults: &mut u64) -> Result<usize, Failed>
     ensures told { result ≡ read_answer answer }
     ensures faults { faults.new ≡ faults_after result faults.old }
@@ -56,8 +55,8 @@ fn read_answer(answer: io::Result<usize>, faults: &mut u64) -> Result<usize, Fai
     Ok(count)
 }
 
-/// What a write of a piece of `size` bytes is turned into: how many of them the system took, and `Failed` and one more
-/// fault exactly where it reports an error, or that it took none of some bytes.
+/// The answer to a write of a piece of `size` bytes: how many of them the system took, or `Failed` and one more fault
+/// if it reports an error, or that it took none of some bytes.
 fn write_answer(answer: io::Result<usize>, size: usize, faults: &mut u64) -> Result<usize, Failed>
     ensures told { result ≡ write_answer size answer }
     ensures faults { faults.new ≡ faults_after result faults.old }
@@ -71,7 +70,7 @@ fn write_answer(answer: io::Result<usize>, size: usize, faults: &mut u64) -> Res
     }
 }
 
-/// What a flush of the system is turned into: `Failed` and one more fault exactly where it reports an error.
+/// The answer to a flush: `Failed` and one more fault if the system reports an error.
 fn flush_answer(answer: io::Result<()>, faults: &mut u64) -> Result<(), Failed>
     ensures told { result ≡ flush_answer answer }
     ensures faults { faults.new ≡ faults_after result faults.old }
@@ -84,7 +83,7 @@ fn flush_answer(answer: io::Result<()>, faults: &mut u64) -> Result<(), Failed>
     }
 }
 
-/// A stream as a source. It knows of its bytes what the stream knows, and fails where a read of the stream does.
+/// A stream as a source. It knows of its bytes what the stream knows, and a read fails if that of the stream does.
 #[derive(Drop)]
 pub struct Reader<R> {
     stream: R,
@@ -112,8 +111,8 @@ impl<R: ReadStream> Source for Reader<R> {
     }
 }
 
-/// A stream as a sink. It knows of its bytes what the stream knows. A write fails where that of the stream does
-/// or takes none of some bytes, and a finish where a flush of the stream does.
+/// A stream as a sink. It knows of its bytes what the stream knows. A write fails if that of the stream does or takes
+/// none of some bytes, and a finish fails if a flush of the stream does.
 #[derive(Drop)]
 pub struct Writer<W> {
     stream: W,

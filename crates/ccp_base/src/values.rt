@@ -40,7 +40,7 @@ impl Values {
         }
     }
 
-    /// The list of these numbers, of which there are at most 64.
+    /// The list of these numbers, at most 64.
     pub fn from_slice(numbers: &[u64]) -> Self
         requires { length numbers.now ≤ most_fields }
         ensures { result ≡ numbers.now }
@@ -67,7 +67,7 @@ impl Values {
         self.count == 0
     }
 
-    /// Puts a number at the list's end.
+    /// Appends a number.
     pub fn push(&mut self, value: u64)
         requires { length self.old < most_fields }
         ensures { self.new ≡ self.old ++ value ∷ [] }
@@ -84,7 +84,7 @@ impl Values {
         &self.numbers[..self.count as usize]
     }
 
-    /// The number at a place, counted from 0; None exactly where the list isn't that long.
+    /// The number at a place, counted from 0; None exactly if the list isn't that long.
     pub fn get(&self, i: u32) -> Option<u64>
         ensures { result ≡ slice_get self.now i }
     {

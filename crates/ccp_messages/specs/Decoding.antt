@@ -1,4 +1,4 @@
--- What bytes are to one who reads a message from their front.
+-- What reading a message from the front of bytes gives.
 use Rattle.std.specs.Prelude.{◌≡◌, ◌≢◌, ℕ, ◌-◌, List, ◌++◌, length, Result, Ok, Err}
 use Rattle.std.specs.Int.{w32}
 use Rattle.reply_frames.specs.declared.fault.Stop.{Stop}
@@ -26,7 +26,7 @@ use Rattle.ccp_messages.specs.Messages.{Meets, IsTyped, frame_bytes, message_of}
 abbrev pub Found : Type 0
 Found = Message × Version × ℕ
 
--- the bytes begin with the message's frame in the version, which is so long
+-- the bytes begin with the message's frame in the version, which has this length
 pub record Begins (bytes : List ℕ) (message : Message) (version : Version) (used : ℕ) : Type 0 where
   pub rest : List ℕ
   pub parts : bytes ≡ frame_bytes version message ++ rest
@@ -36,12 +36,12 @@ pub record Begins (bytes : List ℕ) (message : Message) (version : Version) (us
 
 -- ---- the reading of a frame, as an answer
 
--- what is made of a part that is read
+-- a function of a part that is read
 abbrev pub made : {A B : Type 0} → (A → B) → Read A → Read B
 made make (Ok x) = Ok (make x.0, x.1)
 made make (Err stop) = Err stop
 
--- what a function returned, seen by view, is what reading gives, where there was memory
+-- what a function returned, by `view`, is what reading gives, or out of memory
 abbrev pub Answers : {X Y : Type 0} → (X → Y) → Result X Halt → Result Y Stop → Type 0
 Answers view (Ok x) read = read ≡ Ok (view x)
 Answers view (Err (halt.Stopped stop)) read = read ≡ Err stop
@@ -71,12 +71,12 @@ code_at flow counts bytes = do
 abbrev pub message_at : Outline → List ℕ → Read Message
 message_at head bytes = made (message_of head.flow) (body_at head.kind head.version head.counts bytes)
 
--- the message of a frame that is read from so many bytes
+-- the message of a frame that is read from the front of bytes of this length
 abbrev pub found_from : ℕ → Read Frame → Result Found Stop
 found_from total (Ok (frame, rest)) = Ok (message_of frame.outline.flow frame.body, frame.outline.version, total - length rest)
 found_from total (Err stop) = Err stop
 
--- what it is that reading stopped
+-- why reading stopped
 abbrev pub fault_of : List ℕ → Stop → DecodeFault
 fault_of bytes stops.Cut = More (needed_of bytes)
 fault_of bytes (stops.Bad field left) = Bad field (length bytes - left)
@@ -89,7 +89,7 @@ decoded_from bytes (Err stop) = Err (fault_of bytes stop)
 abbrev pub decoded_of : List ℕ → Result Found DecodeFault
 decoded_of bytes = decoded_from bytes (found_from (length bytes) (frame_at bytes))
 
--- ---- words on an answer, where there was memory
+-- ---- words on an answer that isn't out of memory
 
 -- it is this one
 abbrev pub IsAnswer : Result Found DecodeFault → Result Found DecodeFault → Type 0

@@ -33,6 +33,6 @@ OneFrame = (version : Version) (message : Message) → IsTyped message → Meets
 abbrev pub NoOther : Type 0
 NoOther = (version : Version) (message : Message) → HasFrame version message → Meets version message
 
--- a message has a frame of version 1 exactly where it has one of version 2 and is narrow
+-- a message has a frame of version 1 exactly if it has one of version 2 and is narrow
 abbrev pub BothVersions : Type 0
 BothVersions = (message : Message) → IsTyped message → (HasFrame One message ↔ (HasFrame Two message × IsNarrow message))

@@ -1,4 +1,4 @@
--- The definitions of ccp_messages, a file each; files named ..Laws have what follows from them.
+-- The definitions of ccp_messages, a file each. Public contracts cite Messages, over CodeParts, Decoding and Laws.
 pub mod CodeParts
 pub mod Messages
 pub mod Decoding

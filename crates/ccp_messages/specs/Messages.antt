@@ -29,12 +29,12 @@ use Rattle.ccp_messages.specs.CodeParts.{start_of, event_of, instr_of, code_body
 
 -- ---- the conditions of the encoder
 
--- a count of acknowledgements that the version has room for; version 2 has for every one
+-- a count of acknowledgements for which the version has room; version 2 has room for all
 abbrev pub IsShortCount : Version → ℕ → Type 0
 IsShortCount One n = IsCount One n
 IsShortCount Two n = Unit {0}
 
--- so many fields or reports are few enough for the version; for version 2 all are that a message holds
+-- this number of fields or reports is small enough for the version; for version 2 that of every message is
 abbrev pub AreFew : Version → ℕ → Type 0
 AreFew One n = n ≤ most_short_fields
 AreFew Two n = Unit {0}
@@ -93,7 +93,7 @@ body_of (Refused flow reason index) = body.Refused reason index
 abbrev pub size_in : Version → Message → ℕ
 size_in version message = size_of (kind_of_body (body_of message)) version (counts_of (body_of message))
 
--- the message's frame in a version, where it meets the conditions
+-- the message's frame in a version, if it meets the conditions
 abbrev pub frame_bytes : Version → Message → List ℕ
 frame_bytes version message = spelled version (flow_of message) (body_of message)
 

@@ -1,4 +1,4 @@
-//! How a message is read from the bytes that its frame begins, or why no frame begins them.
+//! Reads the message whose frame is at the front of bytes, or says why no frame is.
 ghost use Rattle.std.specs.Prelude.{◌≡◌, ◌≢◌, ℕ, length, IfOk, Ok, Err};
 ghost use Rattle.reply_frames.specs.declared.fault.BadKind.{BadKind};
 ghost use Rattle.reply_frames.specs.declared.outline.Version.{Version};
@@ -16,7 +16,7 @@ use reply_frames::head::outline;
 use reply_frames::{Stop, Version, needed};
 use std::alloc::Global;
 
-/// Why bytes don't begin with a frame, where reading them stopped.
+/// Why bytes don't begin with a frame, from where reading stopped.
 fn stopped(bytes: &[u8], stop: Stop) -> DecodeFault
     ensures { result ≡ fault_of bytes.now stop }
 {
@@ -26,7 +26,7 @@ fn stopped(bytes: &[u8], stop: Stop) -> DecodeFault
     }
 }
 
-/// The message whose frame begins the bytes, its version and its length.
+/// The message whose frame begins the bytes, its version and the frame's length.
 #[tactic(auto, unfolding(reply_frames::specs::Frames::frame_at))]
 fn found(alloc: Global, bytes: &[u8]) -> Result<(Message, Version, usize), Halt>
     ensures read { Answers (λ x. x) result (found_from (length bytes.now) (frame_at bytes.now)) }
@@ -61,11 +61,11 @@ pub fn decode(alloc: Global, bytes: &[u8]) -> Result<(Message, Version, usize), 
     ensures only { (message : Message) (version : Version) (used : ℕ) → Begins bytes.now message version used
         → IsAnswer result (Ok (message, version, used)) }
 
-    // More comes exactly where the bytes are a proper prefix of a frame.
+    // The answer is More exactly if the bytes are a proper prefix of a frame.
     ensures more { (n : ℕ) → result ≡ Err (DecodeFault.More n) → IsCut bytes.now × (n ≡ needed_of bytes.now) }
     ensures cut { IsCut bytes.now → IsAnswer result (Err (DecodeFault.More (needed_of bytes.now))) }
 
-    // Bad says how long the longest prefix is that a frame begins with, and in which field the byte after it lies.
+    // Bad has the length of the longest prefix that some frame begins with, and the field of the byte after it.
     ensures bad { (field : BadKind) (place : ℕ) → result ≡ Err (DecodeFault.Bad field place)
         → IsBadIn bytes.now field place }
     ensures refused { ((message : Message) (version : Version) (used : ℕ) → ¬ Begins bytes.now message version used)

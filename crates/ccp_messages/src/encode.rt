@@ -87,7 +87,7 @@ fn put_body(out: &mut [u8], message: &Message, version: Version) -> usize
     }
 }
 
-/// Writes the message's one frame of this version at the front of `out`, and gives its length. Short exactly where
+/// Writes the message's one frame of this version at the front of `out`, and gives its length. Short exactly if
 /// `out` is shorter than that; then nothing is written. An Install's code has at most 64 reports, 64 controls, 64
 /// events and 256 instructions; controls that are written to have numbers below 64; a reason is 1 to 9. In version 1
 /// the numbers of acknowledgements are below 2^32, and there are at most 32 fields or reports.

@@ -8,10 +8,10 @@ use std::alloc::{AllocError, AllocFailed};
 /// Why bytes don't give a message.
 #[derive(Clone, Copy, PartialEq, Eq)]
 pub enum DecodeFault {
-    /// They are a proper prefix of a frame, which goes on to this many bytes at least: to the 16 of a head, or to
-    /// the frame's length where the head is there.
+    /// They are a proper prefix of a frame, which has at least this many bytes: the 16 of a head, or the frame's length
+    /// once the head is there.
     More(usize),
-    /// No frame begins so: the field, and the offset of the first byte that no frame goes on with.
+    /// Not the start of any frame: the field and the offset of the first bad byte, with which no frame continues.
     Bad(BadKind, usize),
     NoMemory,
 }
@@ -19,7 +19,7 @@ pub enum DecodeFault {
 /// Why a part of a frame isn't read.
 #[derive(Clone, Copy)]
 pub enum Halt {
-    /// Where its bytes stop.
+    /// The bytes end within it, or a byte is wrong.
     Stopped(Stop),
     NoMemory,
 }

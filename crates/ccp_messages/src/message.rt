@@ -2,7 +2,7 @@
 use ccp_base::{Ack, Fields, Notice, Report};
 use reg_code::Code;
 
-/// What agent and datapath tell one another of a flow.
+/// What agent and datapath exchange about a flow.
 #[derive(Drop)]
 pub enum Message {
     /// The flow begins.
@@ -15,7 +15,7 @@ pub enum Message {
     },
     /// A report of a span of acknowledgements.
     Measure(Report),
-    /// A code that the datapath is to verify and to keep under the program's number.
+    /// A code for the datapath to verify and to keep under the program's number.
     Install {
         flow: u32,
         program: u32,
@@ -44,7 +44,7 @@ pub enum Message {
         flow: u32,
         /// Why, from 1 to 9.
         reason: u8,
-        /// What of the frame was refused: a program, an instruction, a value or 0, by the reason.
+        /// What of the frame was refused; by the reason it is a program, an instruction, a value's place or 0.
         index: u32,
     },
 }

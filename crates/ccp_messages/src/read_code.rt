@@ -41,7 +41,7 @@ fn instr(bytes: &[u8]) -> Result<(Instr, &[u8]), Stop>
     Ok((instr, rest))
 }
 
-/// How so many registers start, and the bytes after them.
+/// How `count` registers start, and the bytes after them.
 fn starts(alloc: Global, bytes: &[u8], count: u8) -> Result<(Sequence<Start>, &[u8]), Halt>
     ensures { Answers (λ x. (x.0, x.1.now)) result (repeated_at code_start_at count bytes.now) }
 {
@@ -55,7 +55,7 @@ fn starts(alloc: Global, bytes: &[u8], count: u8) -> Result<(Sequence<Start>, &[
     Ok((items, rest))
 }
 
-/// So many events, and the bytes after them.
+/// `count` events, and the bytes after them.
 fn events(alloc: Global, bytes: &[u8], count: u16) -> Result<(Sequence<Event>, &[u8]), Halt>
     ensures { Answers (λ x. (x.0, x.1.now)) result (repeated_at code_event_at count bytes.now) }
 {
@@ -69,7 +69,7 @@ fn events(alloc: Global, bytes: &[u8], count: u16) -> Result<(Sequence<Event>, &
     Ok((items, rest))
 }
 
-/// So many instructions, and the bytes after them.
+/// `count` instructions, and the bytes after them.
 fn instrs(alloc: Global, bytes: &[u8], count: u16) -> Result<(Sequence<Packed>, &[u8]), Halt>
     ensures { Answers (λ x. (x.0, x.1.now)) result (repeated_at code_instr_at count bytes.now) }
 {

@@ -11,7 +11,7 @@ ghost use Rattle.ccp_messages.specs.Messages.{IsShortCount};
 use reply_frames::Version;
 use reply_frames::encode::put;
 
-/// A Bool as a byte: 1 where it is true, else 0.
+/// A Bool as a byte: 1 if it is true, else 0.
 pub fn flag(truth: bool) -> u8
     ensures { result ≡ number_of truth }
 {

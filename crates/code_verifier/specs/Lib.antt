@@ -1,3 +1,3 @@
--- The definitions of code_verifier, a file each.
+-- The definitions of code_verifier, a file each, for private contracts: public ones cite AcceptedCode of reg_code.
 pub mod Marked
 pub mod PartRefusals

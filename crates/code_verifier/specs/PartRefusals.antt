@@ -1,4 +1,4 @@
--- What is wrong with the condition and the body of an event.
+-- The first refusal in the condition and the body of an event.
 use Rattle.std.specs.Prelude.{ℕ, Option, List}
 use Rattle.std.specs.Option.{option_or}
 use Rattle.reg_code.specs.declared.code.Instr.{Instr}

@@ -1,4 +1,4 @@
-//! The rules of acceptance for an instruction where it stands, and the first that it fails.
+//! The rules of acceptance for an instruction at its place, and the first that it fails.
 ghost use Rattle.std.specs.Prelude.{◌≡◌, ◌&&◌, not, IsTrue, IfNone};
 ghost use Rattle.reg_code.specs.AcceptedCode.{rule_where, is_there, are_there, is_readable, unwritten, unwritten_target, is_bind, is_ewma, is_zero, is_weight, is_fixed, is_micros, is_flag, is_temp, is_in_condition, is_misplaced, rule_failed};
 ghost use Rattle.code_verifier.specs.Marked.{marks_of};
@@ -6,7 +6,7 @@ ghost use Rattle.code_verifier.specs.Marked.{marks_of};
 use crate::tables::{Tables, has_mark, writes};
 use reg_code::{Implicit, Instr, LOCALS, Op, PRIMITIVES, Part, Reg, Rule, Sizes, TEMPS, TENTHS};
 
-/// The first rule that an instruction fails where it stands.
+/// The first rule that an instruction fails at its place.
 pub fn rule_failed(
     sizes: Sizes,
     part: Part,
@@ -33,7 +33,7 @@ fn rule_where(fails: bool, rule: Rule) -> Option<Rule>
     if fails { Some(rule) } else { None }
 }
 
-/// Whether one of its registers isn't there.
+/// Whether one of its registers doesn't exist.
 fn is_outside(sizes: Sizes, instr: &Instr) -> bool
     ensures { result ≡ not (are_there sizes instr.now) }
 {
@@ -54,14 +54,14 @@ fn lacks_weight(instr: &Instr) -> bool
     is_ewma(instr.op) && !is_weight(instr.left)
 }
 
-/// Whether it is `Bind` with another second operand than the immediate 0.
+/// Whether it is `Bind` with a second operand that isn't the immediate 0.
 fn binds_by_more(instr: &Instr) -> bool
     ensures { result ≡ (is_bind instr.now.op && not (is_zero instr.now.right)) }
 {
     is_bind(instr.op) && !is_zero(instr.right)
 }
 
-/// Whether there is a register with this number.
+/// Whether a register with this number exists.
 fn is_there(sizes: Sizes, operand: Reg) -> bool
     ensures { result ≡ is_there sizes operand }
 {
@@ -161,7 +161,7 @@ fn is_temp(to: Reg) -> bool
     matches!(to, Reg::Temp(_))
 }
 
-/// Whether the instruction may not write its target where it stands.
+/// Whether the instruction may not write its target at its place.
 fn is_misplaced(part: Part, is_last: bool, instr: &Instr) -> bool
     ensures { result ≡ is_misplaced part is_last instr.now }
 {

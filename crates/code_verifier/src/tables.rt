@@ -22,7 +22,7 @@ pub fn no_tables() -> Tables
     }
 }
 
-/// Whether there is a mark at a place; past the table's end there is none.
+/// Whether a place has a mark; past the table's end none has.
 pub fn has_mark(table: &[bool; 8], i: u8) -> bool
     ensures { result ≡ has_mark table.now i }
 {
@@ -30,7 +30,7 @@ pub fn has_mark(table: &[bool; 8], i: u8) -> bool
     if i < table.len() { table[i] } else { false }
 }
 
-/// Marks the target of an instruction that writes it in any case.
+/// Marks the target of an instruction that always writes it.
 pub fn mark(tables: &mut Tables, sizes: Sizes, instr: &Instr)
     requires { IsTrue (is_there sizes instr.now.to) }
     ensures { marks_of tables.new ≡ marked (marks_of tables.old) instr.now }
@@ -51,7 +51,7 @@ fn mark_target(tables: &mut Tables, sizes: Sizes, to: Reg)
     }
 }
 
-/// Whether an operation writes its target in any case.
+/// Whether an operation always writes its target.
 pub fn writes(op: Op) -> bool
     ensures { result ≡ writes op }
 {

@@ -19,7 +19,7 @@ pub struct Rejected {
     /// The first rule that it fails.
     pub rule: Rule,
     /// What fails it, from 0: of `Counts` the reports, the controls, the events or the instructions; of `Events`
-    /// the event, or the number of events where instructions are left over; of each other rule the instruction.
+    /// the event, or the number of events if instructions are left over; of each other rule the instruction.
     pub index: u32,
 }
 

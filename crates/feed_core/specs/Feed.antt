@@ -17,13 +17,13 @@ use Rattle.fold_machine.specs.Heard.{heard, started_by, updated_by}
 use Rattle.feed_core.specs.declared.flow.Epoch.{Epoch}
 use Rattle.feed_core.specs.declared.flow.Flow.{Flow}
 
--- the flows and the programs by number, where they are there, and how many messages there were
+-- the flows and the programs by number, None for each that doesn't exist, and how many messages there were
 pub record FeedState : Type 0 where
   pub flows : List (Option Flow)
   pub programs : List (Option Code)
   pub messages : ℕ
 
--- what has this number
+-- the one with this number, if it exists
 abbrev pub there : {A : Type 0} → List (Option A) → ℕ → Option A
 there places n = unwrap_or (slice_get places n) None
 
@@ -137,7 +137,7 @@ updated_at (Some flow) state version n values = updated_on (code_of flow.epoch s
 abbrev pub updated : FeedState → Version → ℕ → List Pair → Answered
 updated state version n values = updated_at (there state.flows n) state version n values
 
--- ---- Ack: one acknowledgement with room for a report, or only counted where no program was started
+-- ---- Ack: one acknowledgement with room for a report, only counted if no program was started
 
 abbrev pub counted_flow : Ack → Flow → Flow
 counted_flow ack flow = record flow { count = flow.count + 1; last = ack.now }
@@ -150,7 +150,7 @@ first_after _ flow = flow.first
 abbrev pub flow_after : Option Acked × MachineState → Ack → Flow → Flow
 flow_after (came, machine) ack flow = record flow { machine = machine; first = first_after came flow; count = flow.count + 1; last = ack.now }
 
--- what is told of a flow after an acknowledgement: its report, or its fault
+-- the message about an acknowledgement: a report, or a fault
 abbrev pub message_about : Option Acked × MachineState → Ack → ℕ → Epoch → Flow → Option Message
 message_about (Some acked.Reported, machine) ack n epoch flow = Some (Measure (record {
   flow = n;
@@ -210,7 +210,7 @@ counted (answer, state) = (answer, record state { messages = state.messages + 1 
 abbrev pub answered : FeedState → Message → Version → Answered
 answered state message version = counted (handled state message version)
 
--- the messages whose handling takes memory: a Create of a flow that isn't there, for its machine
+-- the messages whose handling takes memory: a Create of a flow that doesn't exist, for its machine
 abbrev pub TakesMemory : FeedState → Message → Type 0
 TakesMemory state (Create n mss cwnd) = (n < most_flows) × (there state.flows n ≡ None)
 TakesMemory state _ = ⊥

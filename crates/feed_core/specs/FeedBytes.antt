@@ -43,7 +43,7 @@ fed_on rest place state bytes (Err (Bad field offset)) = record { answers = []; 
 fed_on rest place state bytes (Err (More needed)) = record { answers = []; tail = left place bytes }
 fed_on rest place state bytes (Err NoMemory) = record { answers = []; tail = left place bytes }
 
--- the bytes, which stand at a place of the input, frame by frame, of which there are at most so many
+-- the bytes from a place of the input on, frame by frame, at most `frames`
 abbrev pub fed : ℕ → ℕ → FeedState → List ℕ → Fed
 fed zero place state bytes = record { answers = []; tail = left place bytes }
 fed (suc frames) place state bytes = fed_on (fed frames) place state bytes (decoded_of bytes)
@@ -52,7 +52,7 @@ fed (suc frames) place state bytes = fed_on (fed frames) place state bytes (deco
 unfoldable pub feed_of : List ℕ → Fed
 feed_of bytes = fed most_input_bytes 0 no_flows (take most_input_bytes bytes)
 
--- where a feed stands: what it took and wrote, its state, and the bytes after the frames that it has answered
+-- how far a feed has come: what it took and wrote, its state, and the bytes after the frames that it has answered
 pub record IsFeeding (source source' sink sink' : Known) (state : FeedState) (eaten : ℕ) (rest : List ℕ) : Type 0 where
   pub front : List ℕ
   pub answers : List ℕ

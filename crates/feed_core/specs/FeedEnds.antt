@@ -13,8 +13,8 @@ use Rattle.feed_core.specs.FeedBytes.{Tail, left, bad, feed_of}
 abbrev pub answers_of : List ℕ → List ℕ
 answers_of bytes = (feed_of bytes).answers
 
--- the end after these frames, where the input is longer than the longest one or isn't: the first that holds of a bad
--- frame, a further byte, a last frame that is cut, and else it is whole
+-- the end after these frames, of an input that is too long or isn't: the first that holds of a bad frame, a further
+-- byte, a last frame that is cut; else it is whole
 abbrev pub end_from : Tail → Bool → FeedEnd
 end_from (bad field place) longer = Bad field place
 end_from (left place rest) true = TooLong

@@ -1,4 +1,4 @@
--- What holds of a feed's fields.
+-- What holds of a feed at all times, as its type's invariant says.
 use Rattle.std.specs.Prelude.{◌≡◌, ℕ, ◌+◌, ◌*◌, ◌≤◌, Option, Some, None, option_map, List, length, map}
 use Rattle.std.specs.List.{AllByRecursion}
 use Rattle.reg_code.specs.declared.code.Code.{Code}
@@ -30,7 +30,7 @@ RunsOn None version machine running = Unit {0}
 RunsOn (Some epoch) version machine None = ⊥
 RunsOn (Some epoch) version machine (Some (same, code)) = Fits machine code × AreFew version (length code.reports)
 
--- after so many messages
+-- what holds of a flow after `messages` messages
 pub record IsFlow (programs : List (Option Code)) (messages : ℕ) (flow : Flow) : Type 0 where
   pub counted : flow.count ≤ messages
   pub spanned : flow.first ≤ flow.count

@@ -1,4 +1,4 @@
--- What one more frame of a feed comes to.
+-- The outcomes of a feed's next frame.
 use Rattle.std.specs.Prelude.{◌≡◌, ◌⊎◌, ℕ, ◌+◌, ◌<◌, ◌≤◌, List, length, Err}
 use Rattle.ccp_base.specs.Outside.{Known, Rose, Appends, AppendsPrefix}
 use Rattle.ccp_base.specs.Limits.{most_frame_bytes}
@@ -34,7 +34,7 @@ pub record FailsOne (before now : ℕ) (old new : Known) (state : FeedState) (by
   pub rose : Rose before now
   pub written : AppendsPrefix old new (answer_bytes (answered state message version).0)
 
--- what bytes come to that don't begin with a frame
+-- the turn of bytes that don't begin with a frame
 abbrev pub without_frame : DecodeFault → Turn
 without_frame (More needed) = turn.Part
 without_frame (Bad field offset) = turn.Bad field offset

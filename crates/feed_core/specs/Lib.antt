@@ -1,4 +1,5 @@
--- The definitions of feed_core, a file each.
+-- The definitions of feed_core, a file each. Public contracts cite Feed, FeedHolds, FeedEnds (over FeedBytes) and
+-- Refusals; FeedLast, FeedStops, FeedTurns and Rests are for private contracts.
 pub mod Feed
 pub mod FeedBytes
 pub mod FeedEnds

@@ -1,4 +1,4 @@
--- The reasons for which a datapath over frames refuses a message: a row for each, which says exactly where it comes.
+-- The reasons for which a datapath over frames refuses a message: a row for each, with its exact condition.
 use Rattle.std.specs.Prelude.{◌≡◌, ◌↔◌, ℕ, ◌<◌, ◌≤◌, ◌+◌, true, false, Some, None, length}
 use Rattle.ccp_base.specs.FieldReg.{first_bad}
 use Rattle.ccp_base.specs.Limits.{most_flows, most_kept_programs, most_reason}
@@ -17,7 +17,7 @@ use Rattle.feed_core.specs.Feed.{FeedState, there, is_too_wide, code_of, answere
 abbrev pub IsRefused : FeedState → Message → Version → ℕ → ℕ → Type 0
 IsRefused state message version reason index = (answered state message version).0 ≡ Some (Refused (flow_of message) reason index, version)
 
--- ---- what is there
+-- ---- which flows and programs exist
 
 abbrev pub IsFlowAt : FeedState → ℕ → Flow → Type 0
 IsFlowAt state n flow = there state.flows n ≡ Some flow
@@ -88,7 +88,7 @@ TooWide state _ index = ⊥
 
 -- ---- the law
 
--- the reason comes exactly where its row holds, with the row's index
+-- a message is refused for the reason exactly if its row holds, with the row's index
 abbrev pub ComesWhere : ℕ → (FeedState → Message → ℕ → Type 0) → Type 0
 ComesWhere reason Row = (state : FeedState) (message : Message) (version : Version) (index : ℕ)
     → (IsRefused state message version reason index ↔ Row state message index)

@@ -8,7 +8,7 @@ use Rattle.feed_core.specs.declared.piece.Piece.TheVariants.{Bytes, End, Further
 abbrev pub between : List ℕ → ℕ → ℕ → List ℕ
 between bytes start end = take (end - start) (drop start bytes)
 
--- some bytes were taken, within the room, and stand behind those before
+-- some bytes were taken, within the room, and appended to those before
 pub record AddsPiece (old new : Known) (room : ℕ) (rest rest' : List ℕ) (count : ℕ) : Type 0 where
   pub piece : List ℕ
   pub taken : Takes old new piece
@@ -17,7 +17,7 @@ pub record AddsPiece (old new : Known) (room : ℕ) (rest rest' : List ℕ) (cou
   pub within : count ≤ room
   pub added : rest' ≡ rest ++ piece
 
--- the source has a further byte where there is no more room, and it was taken
+-- there was no more room, and the source had a further byte, which was taken
 pub record HasFurther (old new : Known) (room : ℕ) : Type 0 where
   pub piece : List ℕ
   pub taken : Takes old new piece

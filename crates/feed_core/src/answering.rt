@@ -1,4 +1,4 @@
-//! The answer to one frame of a feed, written.
+//! Answers one frame of a feed and writes the answer.
 
 ghost use Rattle.std.specs.Prelude.{◌≡◌, ◌+◌, ◌<◌, ◌≤◌, length, OnOk, IfErr, Err};
 ghost use Rattle.ccp_base.specs.Outside.{Rose, Appends, AppendsPrefix};
@@ -37,7 +37,7 @@ impl From<NoMemory> for Unanswered {
     }
 }
 
-/// Answers a message, and writes the answer. Only a Create of a flow that isn't there takes memory.
+/// Answers a message, and writes the answer. Only a Create of a flow that doesn't exist takes memory.
 pub fn answer<K: Sink>(
     alloc: Global,
     feed: &mut Feed,

@@ -15,9 +15,9 @@ use std::alloc::Global;
 /// The bytes of the longest input.
 const LIMIT: usize = 1048576;
 
-/// Answers the frames of an input, in whatever pieces they come; what is answered depends on the bytes alone. Out of
-/// memory comes only for the feed itself, for the code of an Install, or for the flow of a Create; then the answers to
-/// all frames before are written, and at most a frame's bytes were read beyond them.
+/// Answers the frames of an input, in whatever pieces they come; the answers depend only on the bytes. Memory can run
+/// out only for the feed itself, for the code of an Install, or for the flow of a Create; then the answers to all
+/// frames before it are written, and at most a frame's bytes were read beyond them.
 pub fn feed<S: Source, K: Sink>(alloc: Global, source: &mut S, sink: &mut K) -> FeedEnd
     ensures reads { S.faults source.old ≤ S.faults source.new }
     ensures writes { K.faults sink.old ≤ K.faults sink.new }
@@ -54,7 +54,7 @@ pub fn feed<S: Source, K: Sink>(alloc: Global, source: &mut S, sink: &mut K) -> 
     }
 }
 
-/// The end of an input that was read to its end: `left` of its bytes, from `place` on, are in no whole frame.
+/// The end of an input that was read completely: `left` of its bytes, from `place` on, are in no whole frame.
 fn at_end<K: Sink>(sink: &mut K, place: usize, left: usize) -> FeedEnd
     ensures counted { K.faults sink.old ≤ K.faults sink.new }
     ensures kept { K.written sink.new ≡ K.written sink.old }

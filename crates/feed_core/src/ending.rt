@@ -7,7 +7,8 @@ use reply_frames::BadKind;
 pub enum FeedEnd {
     /// The source was read to its end, and its frames are whole.
     Whole,
-    /// From some byte on the input isn't the start of any frame: the field of that byte, and its offset in the input.
+    /// After whole frames there are bytes that aren't the start of any frame: the field of the first bad byte, and its
+    /// offset in the input.
     Bad(BadKind, u64),
     /// The input ends within the frame that begins at this offset.
     Cut(u64),

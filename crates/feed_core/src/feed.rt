@@ -51,8 +51,8 @@ impl Feed {
         self.tables.messages
     }
 
-    /// The answer to the next message, if it has one. Only a Create of a flow that doesn't exist takes memory. If memory
-    /// runs out nothing has changed.
+    /// The answer to the next message, if it has one. Only a Create of a flow that doesn't exist takes memory. If
+    /// memory runs out nothing has changed.
     pub fn frame(
         &mut self,
         alloc: Global,

@@ -30,13 +30,13 @@ pub struct Flow {
     /// The version of the Create.
     pub version: Version,
     pub machine: Machine,
-    /// The program that was started, where one was.
+    /// The program that was started, if one was.
     pub epoch: Option<Epoch>,
-    /// Where the unreported span begins.
+    /// How many acknowledgements came before the unreported span.
     pub first: u64,
     /// How many acknowledgements there were.
     pub count: u64,
-    /// The time of the last one in microseconds, 0 where there is none.
+    /// The time of the last one in microseconds, 0 before the first.
     pub last: u64,
 }
 
@@ -87,7 +87,7 @@ impl Flow {
         self.machine.update(code, values)
     }
 
-    /// One more acknowledgement, which no program hears.
+    /// Counts an acknowledgement that no program runs on.
     pub fn pass(&mut self, ack: &Ack)
         requires { self.old.count + 1 < 2 ^ 64 }
         ensures { self.new ≡ counted_flow ack.entry.now self.old }
@@ -96,7 +96,7 @@ impl Flow {
         self.last = ack.now;
     }
 
-    /// One more acknowledgement of the program that was started, which finds room for a report: what is told of it.
+    /// Runs the started program on an acknowledgement, with room for a report. Returns the message about it, if any.
     pub fn ack(&mut self, number: u32, epoch: Epoch, code: &Checked, ack: &Ack) -> Option<Message>
         requires count { self.old.count + 1 < 2 ^ 64 }
         requires fits { Fits self.old.machine code.now.code }
@@ -115,7 +115,7 @@ impl Flow {
         message
     }
 
-    /// What is told of an acknowledgement that was run and isn't counted yet.
+    /// The message about an acknowledgement that was run and isn't counted yet.
     fn message_about(&self, number: u32, epoch: Epoch, ack: &Ack, acked: Acked) -> Option<Message>
         requires { self.now.count + 1 < 2 ^ 64 }
         ensures { result ≡ message_about (Some acked, self.now.machine) ack.entry.now number epoch self.now }
@@ -158,7 +158,7 @@ fn next_epoch(epoch: Option<Epoch>) -> u32
     }
 }
 
-/// Runs an acknowledgement, where a ledger of one part counts the steps.
+/// Runs an acknowledgement, with the ghost counter that `Machine::ack` takes; nothing reads it here.
 fn run<L: Ledger>(machine: &mut Machine, code: &Checked, ack: &Ack, blank: Blank) -> Acked
     requires name { blank.name ≡ L.name }
     requires parts { blank.parts ≡ L.parts }

@@ -1,10 +1,10 @@
-//! The laws of refused messages: which reason comes where, row by row.
+//! The law of refused messages: the condition of each reason, row by row.
 ghost use Rattle.feed_core.specs.Refusals.{ComesWhere, NoOtherReason, ChangesNothing};
 ghost use Rattle.feed_core.specs.Refusals.{FlowAbove, FlowExists, NoFlow, ProgramAbove, ProgramExists};
 ghost use Rattle.feed_core.specs.Refusals.{NoProgram, NotAccepted, NoRegister, TooWide};
 
-/// The law of refused messages: each reason comes exactly where its row says, with the row's index; there is no other
-/// reason; and a refused message changes nothing but the count of messages.
+/// The law of refused messages: a message is refused for a reason exactly if the reason's row says so, with the row's
+/// index; there is no other reason; and a refused message changes nothing but the count of messages.
 pub fn refusals_law()
     ensures flow_above { ComesWhere 1 FlowAbove }
     ensures flow_exists { ComesWhere 2 FlowExists }

@@ -1,13 +1,13 @@
-//! What a read of a source brings.
+//! The result of a read of a source.
 
-/// What a read brought.
+/// The result of a read.
 #[derive(Clone, Copy)]
 pub enum Piece {
-    /// So many bytes, at least one.
+    /// This number of bytes, at least one.
     Bytes(usize),
     /// The source has no further byte.
     End,
-    /// A further byte is there, and none may come.
+    /// There is a further byte, beyond the limit.
     Further,
     /// The read failed.
     Failed,

@@ -10,7 +10,7 @@ use ccp_base::Source;
 /// The bytes of the longest frame.
 const LONGEST: usize = 8596;
 
-/// The bytes that were read and that no whole frame has taken, which are kept in place.
+/// The bytes that were read and that no whole frame has taken, held in place.
 #[derive(Clone, Copy)]
 pub struct Rest {
     bytes: [u8; LONGEST],
@@ -67,8 +67,7 @@ impl Rest {
         self.end = len;
     }
 
-    /// Reads a piece of at most `room` bytes and puts it behind these. Where `room` is 0 it asks for one byte, and
-    /// keeps none.
+    /// Reads a piece of at most `room` bytes and appends it. If `room` is 0 it asks for one byte, and keeps none.
     pub fn read<S: Source>(&mut self, source: &mut S, room: usize) -> Piece
         requires { length (between self.old.bytes self.old.start self.old.end) < most_frame_bytes }
         ensures counted { S.faults source.old ≤ S.faults source.new }

@@ -34,7 +34,7 @@ pub struct Tables {
     pub messages: u32,
 }
 
-/// Places with nothing there.
+/// `count` empty places.
 fn places<T: Drop>(alloc: Global, count: usize) -> Result<Vec<Option<T>>, NoMemory>
     ensures { IfOk result (λ places. places.items ≡ replicate count None) }
 {
@@ -55,7 +55,7 @@ fn program_at(programs: &[Option<Checked>], number: u32) -> Option<&Checked>
     }
 }
 
-/// The program that a flow runs.
+/// The program that a flow runs, with its epoch.
 fn code_of(epoch: Option<Epoch>, programs: &[Option<Checked>]) -> Option<(Epoch, &Checked)>
     ensures { option_map (λ pair. (pair.0, pair.1.now.code)) result ≡ code_of epoch (codes_in programs.now) }
 {
@@ -74,7 +74,7 @@ fn is_too_wide(version: Version, code: &Checked) -> bool
     }
 }
 
-/// An answer in a version.
+/// The message as an answer in a version, if there is one.
 fn in_version(version: Version, told: Option<Message>) -> Option<(Message, Version)>
     ensures { result ≡ in_version version told }
 {
@@ -84,7 +84,7 @@ fn in_version(version: Version, told: Option<Message>) -> Option<(Message, Versi
     }
 }
 
-/// That a frame is refused.
+/// The answer that refuses a frame, in the frame's version, with a reason from 1 to 9 and an index.
 fn refused(version: Version, flow: u32, reason: u8, index: u32) -> Option<(Message, Version)>
     ensures { result ≡ Some (Message.Refused flow reason index, version) }
 {
@@ -111,8 +111,8 @@ impl Tables {
         })
     }
 
-    /// The answer to the next message, where it has one. Only a Create of a flow that isn't there takes memory. After
-    /// out of memory nothing has changed.
+    /// The answer to the next message, if it has one; the message is counted. Only a Create of a flow that doesn't
+    /// exist takes memory. If memory runs out nothing has changed.
     pub fn frame(
         &mut self,
         alloc: Global,

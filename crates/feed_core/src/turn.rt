@@ -10,21 +10,21 @@ use ccp_base::Sink;
 use ccp_messages::{BadKind, DecodeFault, decode};
 use std::alloc::Global;
 
-/// What the bytes after the frames that were answered came to.
+/// The outcome of the bytes after the answered frames.
 #[derive(Clone, Copy)]
 pub enum Turn {
     /// They began with a frame of this length, and it was answered.
     Answered(usize),
     /// They are a proper prefix of a frame.
     Part,
-    /// They aren't the start of any frame: the field of the first byte that is wrong, and its offset.
+    /// They aren't the start of any frame: the field of the first bad byte, and its offset.
     Bad(BadKind, usize),
     /// A write failed; a front of the answer was written.
     WriteFailed,
     NoMemory,
 }
 
-/// What bytes come to that don't begin with a frame.
+/// The turn of bytes that don't begin with a frame.
 fn without_frame(fault: DecodeFault) -> Turn
     ensures { result ≡ without_frame fault }
 {

@@ -11,8 +11,8 @@ use Rattle.fold_machine.specs.MachineState.{MachineState}
 
 -- ---- what a start, an update and an acknowledgement do, cited by the machine's clauses
 
--- a start gives each register its start value and then writes the values, but keeps `Cwnd` and `Rate` where the
--- values don't name them
+-- a start gives each register its start value and then writes the values, but keeps `Cwnd` and `Rate` unless the
+-- values name them
 abbrev pub started_by : Code → List Pair → ℕ → MachineState → MachineState
 started_by code values now state = record state {
   kept = started code values state.kept.cwnd state.kept.rate now;
@@ -63,7 +63,7 @@ heard code ack room state = heard_where state.is_stopped code ack room state
 
 -- ---- what the code of the machine and of a fold reads off an answer; no public clause cites it
 
--- whether an answer tells of a fault
+-- whether an answer is a fault
 abbrev pub is_fault : Acked → Bool
 is_fault acked.Quiet = false
 is_fault acked.Reported = false
@@ -71,7 +71,7 @@ is_fault acked.Held = false
 is_fault (acked.Faulted kind index) = true
 is_fault acked.Stopped = false
 
--- how long the last report is after an answer, where a new one has so many fields
+-- how many fields the last report has after an answer, if a new one has `count` and the old one has `before`
 abbrev pub count_after : Acked → ℕ → ℕ → ℕ
 count_after acked.Quiet count before = before
 count_after acked.Reported count before = count

@@ -1,4 +1,5 @@
--- The definitions of fold_machine, a file each; files named ..Laws have what follows from them.
+-- The definitions of fold_machine, a file each. Public contracts cite MachineState and Heard; RestLaws has what follows
+-- from MachineState, for proofs. The others are for private contracts and for the invariants of types.
 pub mod Store
 pub mod Layout
 pub mod WorkingWords

@@ -1,4 +1,4 @@
--- The numbers of a machine's rest determine all that they stand for.
+-- The numbers of a machine's rest determine the state that they are read from.
 use Rattle.std.proofs.Common.{◌≡◌, ℕ, Bool, true, false, List, [], ◌∷◌, ◌++◌, length, drop, slice_index, refl, ap, arith}
 use Rattle.ccp_base.specs.Acknowledgement.{number_of}
 use Rattle.fold_machine.specs.MachineState.{MachineState, rest_of}

@@ -35,7 +35,7 @@ further_of pool a b = without (without pool a) b
 abbrev pub store_of : PoolState → ℕ → ℕ → StoreState
 store_of pool a b = record { registers = words_in pool a; report = words_in pool b; further = further_of pool a b }
 
--- two slots of so many words are out, each another one
+-- two different slots are out, each of the machine's number of words
 pub record IsOwned (pool : PoolState) (a b : ℕ) : Type 0 where
   pub first : IsOut pool a
   pub second : IsOut pool b

@@ -1,14 +1,14 @@
-//! What the machine answers to an acknowledgement, and to a value for a control variable that isn't there.
+//! What the machine answers to an acknowledgement, and to a value for a control variable that doesn't exist.
 use ccp_base::FaultKind;
 
-/// What an acknowledgement came to.
+/// The outcome of an acknowledgement.
 #[derive(Clone, Copy, PartialEq, Eq, Debug)]
 pub enum Acked {
     /// No report was asked for.
     Quiet,
     /// A report was made. Its fields are the machine's last report.
     Reported,
-    /// A report was asked for, and there was no room for it.
+    /// A report was asked for, but there was no room for it.
     Held,
     /// The instruction with this index had no result. The program is stopped until the next start.
     Faulted(FaultKind, u16),

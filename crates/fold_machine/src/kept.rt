@@ -15,7 +15,7 @@ use crate::store::Store;
 use ccp_base::{FieldReg, Fields};
 use reg_code::{Code, Sizes, Start, places};
 
-/// Copies the report fields, of which there are so many, from the working words.
+/// Copies `count` report fields from the working words.
 pub(crate) fn keep_report(store: &mut Store, words: &[u64], count: usize)
     requires count { count ≤ most_fields }
     requires words { length words.now ≡ all_places }
@@ -86,7 +86,7 @@ pub(crate) fn reset(store: &mut Store, code: &Code)
     );
 }
 
-/// Writes values in order. A control variable that isn't there isn't written.
+/// Writes values in order; a control variable that doesn't exist is ignored.
 pub(crate) fn write_values(store: &mut Store, sizes: Sizes, values: &Fields)
     requires { HasRoom sizes store.old.registers }
     ensures written { kept_in sizes store.new.registers ≡ with_values values.now (kept_in sizes store.old.registers) }

@@ -20,12 +20,12 @@ use std::marker::Model;
 use std::sync::ledger::Ledger;
 
 /// The state of a running program: its registers and the last report, in one pool of slots of 160 words. The pool can
-/// have further slots, which are the holder's. An acknowledgement is worked on in words beside it, so that a fault
-/// leaves the registers as they were.
+/// have further slots, which are the holder's. An acknowledgement runs on words beside it, so that a fault leaves the
+/// registers as they were.
 #[derive(Drop)]
 pub struct Machine {
     store: Store,
-    /// The words that acknowledgements are worked on in. They have the registers that are kept.
+    /// The words that acknowledgements run on. They have the kept registers.
     words: Vec<u64>,
     /// How many report fields and control variables the started program has.
     sizes: Sizes,
@@ -58,7 +58,7 @@ impl Machine {
         Machine::roomy(alloc, cwnd, rate, 0)
     }
 
-    /// A machine without a program, with room for the largest one and with so many further slots.
+    /// A machine without a program, with room for the largest one and with `slots` further slots.
     pub fn roomy(alloc: Global, cwnd: u64, rate: u64, slots: u32) -> Result<Machine, NoMemory>
         requires { slots ≤ 64 }
         ensures { IfOk result (λ machine. machine ≡ fresh_machine cwnd rate slots) }
@@ -85,7 +85,7 @@ impl Machine {
 
     /// Starts a program: each register gets its start value, and then the values are written in order. The window
     /// and the rate stay unless the values name them. `now` is the time of the flow's last acknowledgement in
-    /// microseconds, 0 where there is none, and becomes time zero. After a refusal nothing has changed.
+    /// microseconds, 0 before the first, and becomes time zero. After a refusal nothing has changed.
     pub fn start(&mut self, code: &Checked, values: &Fields, now: u64) -> Result<(), BadRegister>
         ensures ok { IsOk result ↔ (first_bad (length code.now.code.controls) values.now ≡ None) }
         ensures refused { IfErr result (λ bad. first_bad (length code.now.code.controls) values.now ≡ Some bad.0) }
@@ -175,7 +175,7 @@ impl Machine {
     }
 
     /// How many instructions the last acknowledgement since the last start ran, a faulting one included; 0 where
-    /// there was none, and where the program was stopped.
+    /// there was none, and if the program was stopped.
     pub fn ran(&self) -> u32
         ensures { result ≡ self.now.ran }
     {
@@ -236,14 +236,14 @@ impl Slots for Machine {
     }
 }
 
-/// Whether the code has so many report fields and control variables.
+/// Whether `sizes` are the code's.
 fn has_sizes(code: &Code, sizes: Sizes) -> bool
     ensures { IsTrue result ↔ (sizes ≡ sizes_of code.now) }
 {
     sizes.reports == code.reports.len() && sizes.controls == code.controls.len()
 }
 
-/// Whether an answer tells of a fault.
+/// Whether an answer is a fault.
 fn is_fault(acked: Acked) -> bool
     ensures { result ≡ is_fault acked }
 {
@@ -253,7 +253,7 @@ fn is_fault(acked: Acked) -> bool
     }
 }
 
-/// How many fields the last report has after an answer, where a new one has so many.
+/// How many fields the last report has after an answer, if a new one has `count` and the old one has `before`.
 fn count_after(acked: Acked, count: u32, before: u32) -> u32
     ensures { result ≡ count_after acked count before }
 {

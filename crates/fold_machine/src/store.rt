@@ -33,7 +33,7 @@ impl Model for Store {
 }
 
 impl Store {
-    /// A memory with so many further slots. Each word is 0.
+    /// A memory with `slots` further slots. Each word is 0.
     pub(crate) fn new(alloc: Global, slots: u32) -> Result<Store, AllocError>
         requires { slots ≤ 64 }
         ensures { IfOk result (λ store. store ≡ fresh_store slots) }

@@ -27,7 +27,7 @@ abbrev pub some_if : {A : Type 0} → Bool → A → Option A
 some_if true x = Some x
 some_if false x = None
 
--- one more value, where it isn't there yet; a Bool is 0 or 1
+-- one more value, if the line hasn't given it before; a Bool is 0 or 1
 abbrev pub with_number : LineValues → ℕ → ℕ → Option LineValues
 with_number values n value =
     if slice_index_or values.named n false || (nat_lt 1 value && is_flag n) then None

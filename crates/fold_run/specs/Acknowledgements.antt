@@ -13,7 +13,7 @@ with_line number acks nothing = Ok acks
 with_line number acks refused = Err (Line number)
 with_line number acks (given ack) = if nat_lt (length acks) most_acks then Ok (acks ++ ack ∷ []) else Err TooMany
 
--- the same with each of the lines from this number on
+-- the same with each of the lines, numbered from this number on
 abbrev pub with_lines : ℕ → Result (List Ack) LineFault → List (List ℕ) → Result (List Ack) LineFault
 with_lines number (Err fault) lines = Err fault
 with_lines number (Ok acks) [] = Ok acks

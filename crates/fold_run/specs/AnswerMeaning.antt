@@ -1,4 +1,4 @@
--- What a machine's answer to an acknowledgement tells of the program that its code simulates.
+-- What a machine's answer to an acknowledgement means for the program that its code simulates.
 use Rattle.std.specs.Prelude.{ℕ, ◌<◌, List, length}
 use Rattle.ccp_base.specs.declared.place.Place.{Place}
 use Rattle.portus_core.specs.declared.env.Mean.{Mean}
@@ -7,8 +7,7 @@ use Rattle.fold_machine.specs.declared.acked.Acked.{Acked}
 use Rattle.fold_machine.specs.declared.acked.Acked.TheVariants as acked
 use Rattle.fold_run.specs.Fold.{place_at}
 
--- the meaning that an answer tells, where the last report has these fields; a machine that goes on never answers
--- `Stopped`
+-- the meaning of an answer, if the last report has these fields; a machine that isn't stopped never answers `Stopped`
 abbrev pub mean_of : List Place → List ℕ → Acked → Mean
 mean_of places report acked.Quiet = mean.Quiet
 mean_of places report acked.Reported = mean.Reported report

@@ -12,7 +12,7 @@ abbrev pub after_of : Separator → List ℕ → List ℕ
 after_of separator [] = []
 after_of separator (byte ∷ rest) = if separates separator byte then rest else after_of separator rest
 
--- the place of the equals sign of the first word, where this is the place of the text's front
+-- the place of the equals sign of the first word, counted from `at` at the text's front
 abbrev pub equals_from : ℕ → List ℕ → Option ℕ
 equals_from at [] = None
 equals_from at (byte ∷ rest) =

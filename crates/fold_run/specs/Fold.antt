@@ -1,4 +1,4 @@
--- What a program's fold over acknowledgements comes to: its reports, its fault and its end.
+-- The result of a program's fold over acknowledgements: its reports, its fault and its end.
 use Rattle.std.specs.Prelude.{◌≡◌, ℕ, ◌<◌, true, Option, Some, option_map, List, length, map, slice_get, slice_index_or}
 use Rattle.ccp_base.specs.declared.ack.Ack.{Ack}
 use Rattle.ccp_base.specs.declared.exchange.Notice.{Notice}
@@ -24,7 +24,7 @@ with_room ack = acknowledged ack true
 abbrev pub fold_start : Form → Track
 fold_start form = track_at 0 (declared_env form 0 0 0)
 
--- where the fold stands after acknowledgements
+-- the state of the fold after acknowledgements
 abbrev pub fold_track : Form → List Ack → Track
 fold_track form acks = after (by_source form) (map with_room acks) (fold_start form)
 
@@ -51,11 +51,11 @@ fold_end form acks = end_of (fold_track form acks)
 abbrev pub place_at : List Place → ℕ → Place
 place_at places index = slice_index_or places index (record { line = 0; column = 0 })
 
--- the fault that a notice tells, where these are the places of the code's instructions
+-- the fault of a notice, if these are the places of the code's instructions
 abbrev pub told_fault : List Place → Notice → ℕ × Cause
 told_fault places notice = (notice.at, (notice.kind, place_at places notice.index))
 
--- a notice tells of a fold's one epoch: its instruction has a place, its time is that of the acknowledgement with its
+-- a notice is of a fold's one epoch: its instruction has a place, its time is that of the acknowledgement with its
 -- number, and its window is that at the end, since a fault leaves it and stops the program
 pub record IsFoldNotice (acks : List Ack) (places : List Place) (window : ℕ) (notice : Notice) : Type 0 where
   pub flow : notice.flow ≡ 0
@@ -65,6 +65,6 @@ pub record IsFoldNotice (acks : List Ack) (places : List Place) (window : ℕ) (
   pub now : option_map (λ (ack : Ack). ack.now) (slice_get acks notice.at) ≡ Some notice.now
   pub cwnd : notice.cwnd ≡ window
 
--- the fault that a notice tells, where there is one, is the one that stops the program
+-- the fault of the notice, if there is one, is the one that stops the program
 abbrev pub TellsFault : Built → List Ack → Option Notice → Type 0
 TellsFault built acks notice = option_map (told_fault built.places) notice ≡ fold_fault (form_of built.program) acks

@@ -33,7 +33,7 @@ env_of kept = record {
   zero = kept.zero;
 }
 
--- where the epoch of a fold stands
+-- the state of a fold's epoch
 abbrev pub track_of : Folding → Track
 track_of folding = record {
   env = env_of folding.machine.kept;
@@ -42,7 +42,7 @@ track_of folding = record {
   count = folding.count;
 }
 
--- where the code of a fold stands
+-- the state of a fold's code
 abbrev pub running_of : Folding → Running
 running_of folding = record {
   kept = folding.machine.kept;
@@ -50,8 +50,8 @@ running_of folding = record {
   ran = folding.ran;
 }
 
--- the fold's machine runs this code, at most 2^32 instructions an acknowledgement, and it is stopped where there was
--- a fault
+-- the fold's machine runs this code, at most 2^32 instructions an acknowledgement, and it is stopped if there was a
+-- fault
 pub record IsFoldOf (code : Code) (folding : Folding) : Type 0 where
   pub fits : Fits folding.machine code
   pub stopped : folding.machine.is_stopped ≡ is_some folding.fault
@@ -74,7 +74,7 @@ reported_by folding ack = record folding {
   } ∷ [];
 }
 
--- the notice of a fold, where it has one, tells of one of these acknowledgements
+-- the notice of a fold, if it has one, is of one of these acknowledgements
 abbrev pub HasNotice : List Ack → List Place → Folding → Type 0
 HasNotice acks places folding = ForSome folding.fault (IsFoldNotice acks places folding.machine.kept.cwnd)
 
@@ -84,7 +84,7 @@ HasEndNotice acks places folded = ForSome folded.fault (IsFoldNotice acks places
 
 -- ---- one acknowledgement
 
--- what the program means at it, where its code has these registers
+-- what the program means at it, if its code has these registers
 abbrev pub by_program : Built → Kept → Ack → Mean × Env
 by_program built kept ack = one_of (form_of built.program) (env_of kept) ack true
 
@@ -92,11 +92,11 @@ by_program built kept ack = one_of (form_of built.program) (env_of kept) ack tru
 abbrev pub by_code : Built → Kept → Ack → Made
 by_code built kept ack = one_by_code built.code.code kept ack true
 
--- where the program stands after it
+-- the state of the program after it
 abbrev pub track_after : Built → Folding → Ack → Track
 track_after built folding ack = after_event (by_source (form_of built.program)) (with_room ack) (track_of folding)
 
--- where the code stands after it
+-- the state of the code after it
 abbrev pub code_after : Built → Folding → Ack → Running
 code_after built folding ack = running_after built.code.code (running_of folding) ack
 
@@ -112,7 +112,7 @@ fault_in built folding = option_map (told_fault built.places) folding.fault
 abbrev pub fault_after : Built → Folding → Ack → Option (ℕ × Cause)
 fault_after built folding ack = option_or (fault_in built folding) (fault_at (by_source (form_of built.program)) (with_room ack) (track_of folding))
 
--- where it is the next of some acknowledgements, the notice still tells of one of these
+-- if it is the next of some acknowledgements, the notice is still of one of these
 abbrev pub KeepsNotice : Built → Ack → Folding → Folding → Type 0
 KeepsNotice built ack before now =
     (acks : List Ack) → slice_get acks before.count ≡ Some ack → HasNotice acks built.places before → HasNotice acks built.places now

@@ -1,4 +1,5 @@
--- The definitions of fold_run, a file each; files named ..Laws have what follows from them.
+-- The definitions of fold_run, a file each. Public contracts cite Fold, Folding (`HasEndNotice` alone), Ran, Separated,
+-- Acknowledgements, over AckLine, and ReadingLaws. The others are for private contracts.
 pub mod FirstPart
 pub mod Separated
 pub mod AckLine

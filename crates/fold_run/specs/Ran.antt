@@ -6,7 +6,7 @@ use Rattle.reg_code.specs.CodeStep.{Kept, Made, one_by_code}
 use Rattle.reg_code.specs.CodeStart.{started}
 use Rattle.fold_machine.specs.Heard.{stops}
 
--- where a run of a code stands: the registers that it keeps, whether a fault has stopped it, and how many
+-- the state of a run of a code: the registers that it keeps, whether a fault has stopped it, and how many
 -- instructions it has run
 pub record Running : Type 0 where
   pub kept : Kept

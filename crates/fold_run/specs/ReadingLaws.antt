@@ -1,4 +1,4 @@
--- What the reading of an input comes to, in words that name no order of reading.
+-- The result of reading an input, in words that name no order of reading.
 use Rattle.std.specs.Prelude.{◌≡◌, ℕ, ◌≤◌, ◌⊎◌, Bool, true, false, not, Some, Ok, List, [], ◌∷◌, ◌++◌, length, map}
 use Rattle.std.specs.List.{list_all}
 use Rattle.ccp_base.specs.declared.ack.Ack.{Ack}

@@ -17,7 +17,7 @@ pub record Cut : Type 0 where
 abbrev pub is_separator : List ℕ → Bool
 is_separator line = bytes_eq (without_last 13 line) (codes "---")
 
--- what follows the first so many lines of a text
+-- the text after its first `n` lines
 abbrev pub after_lines : ℕ → List ℕ → List ℕ
 after_lines zero text = text
 after_lines (suc n) text = after_lines n (after_of LineFeed text)

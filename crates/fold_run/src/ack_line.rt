@@ -25,8 +25,7 @@ pub enum LineKind {
 }
 
 #[tactic(auto, using(crate::proofs::LineLemmas::line_begun, crate::proofs::LineLemmas::line_unbegun))]
-/// Reads a line that has no LF and no CR at its end. The values are those that it gives, where it gives an
-/// acknowledgement.
+/// Reads a line that has no LF and no CR at its end. If it gives an acknowledgement, `values` are the line's values.
 pub fn read_line(values: &mut LineValues, followers: &mut Followers, line: &[u8]) -> LineKind
     requires { values.old ≡ no_values }
     ensures { line_told result values.new ≡ line_of line.now }
@@ -70,7 +69,7 @@ fn ends_blank(line: &[u8]) -> bool
 }
 
 #[tactic(auto, using(crate::proofs::FirstWord::words_step, crate::proofs::FirstWord::after_shorter))]
-/// Takes the values of a line's words, and tells whether each word gives one that isn't there yet.
+/// Takes the values of a line's words. Returns whether each word gives a value that no earlier one gave.
 fn read_words(values: &mut LineValues, followers: &mut Followers, line: &[u8]) -> bool
     ensures { some_if result values.new ≡ with_words (Some values.old) (parts_of Blank line.now) }
 {
@@ -85,8 +84,8 @@ fn read_words(values: &mut LineValues, followers: &mut Followers, line: &[u8]) -
     true
 }
 
-/// Takes the value of the word at the front of a text, and gives what follows the word; None exactly where the word
-/// gives no value that isn't there yet. `before` is the number of the value of the last word.
+/// Takes the value of the word at the front of a text, and gives what follows the word; None exactly if the word gives
+/// no value, or one that an earlier word gave. `before` is the number of the value of the last word.
 fn read_word<'a>(
     values: &mut LineValues,
     followers: &mut Followers,

@@ -35,8 +35,8 @@ impl From<AllocError> for LineFault {
     }
 }
 
-/// The acknowledgements of lines, of which the first has the number `next` in the whole input. Blank lines are
-/// passed over, and the first fault in the order of the lines counts.
+/// The acknowledgements of lines, of which the first has the number `next` in the whole input. Blank lines are ignored,
+/// and the answer is the first fault in the order of the lines.
 pub fn acknowledgements(alloc: Global, lines: &[u8], next: u64) -> Result<Acks, LineFault>
     requires { next + length lines.now < 2 ^ 64 }
     ensures ok { IfOk result (λ acks. acks_of next (parts_of LineFeed lines.now) ≡ Ok acks) }
@@ -56,7 +56,7 @@ pub fn acknowledgements(alloc: Global, lines: &[u8], next: u64) -> Result<Acks, 
     Ok(acks)
 }
 
-/// The number of acknowledgements that room is made for: one a line, as if all lines were as long as the first.
+/// For how many acknowledgements room is reserved: one for each line, as if all lines were as long as the first.
 fn room_for(lines: &[u8]) -> usize
     ensures { result ≤ most_acks }
 {
@@ -67,7 +67,7 @@ fn room_for(lines: &[u8]) -> usize
     (lines.len() / (line.len() + 1) + 1).min(MOST_ACKS)
 }
 
-/// Puts what the line of this number says, without the CR at its end, at the end of the acknowledgements.
+/// Appends the acknowledgement of the line of this number, if it has one. A CR at the line's end is ignored.
 fn put_line(
     acks: &mut Acks,
     followers: &mut Followers,

@@ -28,7 +28,7 @@ pub fn folded(alloc: Global, built: &Built, acks: &[Ack]) -> Result<Folded, NoMe
     fold_with_counter::<Brand>(alloc, built, acks, Blank::new(1))
 }
 
-/// The same, where a ledger of one part counts the steps.
+/// The same, with the ghost counter of steps that `Machine::ack` takes.
 fn fold_with_counter<L: Ledger>(
     alloc: Global,
     built: &Built,

@@ -6,7 +6,7 @@ use ccp_base::Values;
 pub struct End {
     /// How many acknowledgements there were.
     pub acks: u64,
-    /// Where the unreported span begins, as a number of acknowledgements.
+    /// How many acknowledgements came before the unreported span.
     pub first: u64,
     /// Whether a fault stopped the program.
     pub stopped: bool,

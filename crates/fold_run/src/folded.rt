@@ -2,7 +2,7 @@
 use crate::end::End;
 use ccp_base::{Notice, Reports};
 
-/// What a program's fold over acknowledgements comes to.
+/// The result of a program's fold over acknowledgements.
 #[derive(Drop)]
 pub struct Folded {
     /// The reports in the order in which they were made.

@@ -22,7 +22,7 @@ use std::sync::ledger::Ledger;
 #[derive(Drop)]
 pub struct Folding {
     pub machine: Machine,
-    /// Where the unreported span begins.
+    /// How many acknowledgements came before the unreported span.
     pub first: u64,
     /// How many acknowledgements there were.
     pub count: u64,
@@ -33,7 +33,7 @@ pub struct Folding {
     pub fault: Option<Notice>,
 }
 
-/// What an acknowledgement that finds room for a report comes to, by the program's code.
+/// The machine's answer to an acknowledgement, with room for a report.
 fn meant<L: Ledger>(machine: &mut Machine, built: &Built, ack: &Ack, steps: &mut Steps<L>) -> Acked
     requires fits { Fits machine.old built.now.code.code }
     requires going { machine.old.is_stopped ≡ false }
@@ -51,7 +51,7 @@ fn meant<L: Ledger>(machine: &mut Machine, built: &Built, ack: &Ack, steps: &mut
 }
 
 impl Folding {
-    /// A fold that has met no acknowledgement yet.
+    /// A fold before its first acknowledgement.
     pub fn begin(alloc: Global, built: &Built) -> Result<Folding, NoMemory>
         ensures track { IfOk result (λ folding. track_of folding ≡ fold_start (form_of built.now.program)) }
         ensures running { IfOk result (λ folding. running_of folding ≡ running_start built.now.code.code) }
@@ -74,7 +74,7 @@ impl Folding {
         }
     }
 
-    /// One more acknowledgement, which finds room for a report.
+    /// Runs one more acknowledgement, with room for a report.
     pub fn ack<L: Ledger>(
         &mut self,
         built: &Built,
@@ -109,7 +109,7 @@ impl Folding {
         }
     }
 
-    /// A report of the span up to the acknowledgement that was just counted.
+    /// Makes the report of the span up to the acknowledgement that was just counted.
     fn report(&mut self, ack: &Ack) -> Result<(), NoMemory>
         requires { self.old.count < 2 ^ 64 }
         ensures { OnOk result (self.new ≡ reported_by self.old ack.entry.now) }
@@ -129,7 +129,7 @@ impl Folding {
         Ok(())
     }
 
-    /// That the acknowledgement with the number `at` and the time `now` faulted.
+    /// The notice that the acknowledgement with the number `at` and the time `now` faulted.
     fn notice(&self, at: u64, kind: FaultKind, index: u16, now: u64) -> Notice
         ensures { result ≡ notice_of self.now at kind index now }
     {
@@ -145,7 +145,7 @@ impl Folding {
         }
     }
 
-    /// How the fold ends.
+    /// The end of the fold.
     pub fn end(&self) -> End
         ensures { result ≡ end_with self.now }
     {

@@ -10,8 +10,8 @@ use ccp_base::Separator;
 /// number below 2^31 is one instruction.
 const SHORT: u64 = 2_147_483_647;
 
-/// The number at the front of a text, up to a blank or the text's end, and what follows that blank; None exactly
-/// where there is no numeral or its value is past 2^64-1.
+/// The number at the front of a text, up to a blank or the text's end, and what follows that blank; None exactly if
+/// there is no numeral or its value is past 2^64-1.
 pub fn read_number(text: &[u8]) -> Option<(u64, &[u8])>
     ensures number { IfSome result (λ read. numeral_of (first_of Blank text.now) ≡ Some read.0) }
     ensures after { IfSome result (λ read. read.1.now ≡ after_of Blank text.now) }
@@ -70,7 +70,8 @@ fn read_more_digits(before: u64, text: &[u8]) -> Option<(u64, &[u8])>
     Some((number, left))
 }
 
-/// A number with one more decimal digit; None exactly where it is past 2^64-1.
+/// A number with one more decimal digit; None exactly if it is past 2^64-1. Its caller has tested that the byte is a
+/// digit, which `ccp_base` tests in the same call.
 fn with_digit(number: u64, digit: u8) -> Option<u64>
     requires { is_digit digit ≡ true }
     ensures { result ≡ digit_after number digit }

@@ -29,7 +29,7 @@ impl LineValues {
         }
     }
 
-    /// Takes one more value, and tells whether it isn't there yet and is within its range.
+    /// Takes one more value. Returns whether the line hasn't given it before, and it is within its range.
     pub fn take(&mut self, number: usize, value: u64) -> bool
         requires { number < primitive_count }
         ensures { some_if result self.new ≡ with_number self.old number value }

@@ -1,4 +1,4 @@
-//! The primitive that an item of a line names, tried first with the name that followed the last time.
+//! The primitive that an item of a line names. The name that followed last time is tried first.
 ghost use Rattle.std.specs.Prelude.{◌≡◌, ◌≤◌, ◌<◌, ◌∷◌, ◌++◌, IfSome, IfNone, Some, None, false, length, slice_index};
 ghost use Rattle.ccp_base.specs.declared.parts.Separator.TheVariants.{Blank};
 ghost use Rattle.ccp_base.specs.Limits.{primitive_count};
@@ -23,8 +23,8 @@ pub struct Item<'a> {
     pub rest: &'a [u8],
 }
 
-/// Which name followed each name last, and a line's begin: lines mostly name the same values in the same order, so the
-/// name that is tried first is mostly the right one.
+/// Which name followed each name last time, and a line's begin: lines mostly name the same values in the same order, so
+/// the name that is tried first is mostly the right one.
 #[derive(Clone, Copy)]
 pub struct Followers {
     numbers: [usize; PLACES],
@@ -39,7 +39,7 @@ impl Followers {
     }
 
     /// The item at the front of a text, after one of the primitive with the number `before` or at a line's begin; None
-    /// exactly where the first word gives no primitive a value.
+    /// exactly if the first word gives no primitive a value.
     #[inline(always)]
     pub fn item<'a>(&mut self, before: usize, text: &'a [u8]) -> Option<Item<'a>>
         requires before { before ≤ primitive_count }
@@ -83,8 +83,8 @@ fn searched_item(text: &[u8]) -> Option<Item<'_>>
     })
 }
 
-/// Tries the name of the primitive with a number, by an arm for each of these numbers: with a name that the compiler knows
-/// the test takes a few instructions.
+/// Tries the name of the primitive with a number, by an arm for each number: with a name that the compiler knows the
+/// test takes a few machine instructions.
 macro_rules! after_name_of {
     ($text:ident, $number:ident, $($known:literal)*) => {
         match $number {
@@ -94,7 +94,7 @@ macro_rules! after_name_of {
     };
 }
 
-/// What follows the name of the primitive with this number and an equals sign, where a text begins with them.
+/// What follows the name of the primitive with this number and an equals sign, if a text begins with them.
 #[inline(always)]
 fn after_name(text: &[u8], number: usize) -> Option<&[u8]>
     ensures after { IfSome result (λ rest. text.now ≡ name_of number ++ 61 ∷ rest.now) }
@@ -103,7 +103,7 @@ fn after_name(text: &[u8], number: usize) -> Option<&[u8]>
     after_name_of!(text, number, 0 1 2 3 4 5 6 7 8 9 10 11 12 13 14)
 }
 
-/// What follows a name and an equals sign, where a text begins with them.
+/// What follows a name and an equals sign, if a text begins with them.
 #[inline(always)]
 fn after_equals<'a>(text: &'a [u8], name: &[u8]) -> Option<&'a [u8]>
     ensures { IfSome result (λ rest. text.now ≡ name.now ++ 61 ∷ rest.now) }

@@ -1,4 +1,4 @@
-//! How an input is cut at its first line `---` into the program's text and the lines below it.
+//! Cuts an input at its first line `---` into the program's text and the lines below it.
 ghost use Rattle.std.specs.Prelude.{◌≡◌, ◌+◌, ◌<◌, ◌≤◌, IfSome, IfNone, Some, None, length, codes};
 ghost use Rattle.std.specs.Bool.{OnTrue};
 ghost use Rattle.std.specs.Str.{bytes_eq};
@@ -18,8 +18,7 @@ pub struct Separated<'a> {
     pub next: u64,
 }
 
-/// Cuts a text at its first line `---`, which may have a CR at its end; None exactly where there is no such
-/// line.
+/// Cuts a text at its first line `---`, which may have a CR at its end; None exactly if there is no such line.
 pub fn separate(text: &[u8]) -> Option<Separated<'_>>
     ensures found { IfSome result (λ s. cut_of text.now ≡ Some (cut_as s)) }
     ensures none { IfNone result (cut_of text.now ≡ None) }

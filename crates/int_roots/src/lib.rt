@@ -34,7 +34,7 @@ fn cube(k: u64) -> u128
     k * k * k
 }
 
-/// `a * b / c`, cut to a whole number, and 2^64 - 1 where that is more.
+/// `a * b / c`, cut to a whole number, or 2^64 - 1 if that is less.
 pub fn muldiv(a: u64, b: u64, c: u64) -> u64
     requires { 0 < c }
     ensures { result ≡ min (a * b / c) (2 ^ 64 - 1) }

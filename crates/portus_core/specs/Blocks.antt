@@ -16,12 +16,12 @@ begun env = record { env = env; locals = no_locals; asked = false; falls = false
 abbrev pub at_block : Going → Going
 at_block going = record { env = going.env; locals = no_locals; asked = going.asked; falls = false }
 
--- the rest follows a body only where the body falls through
+-- the rest follows a body only if the body falls through
 abbrev pub after_body : Bool → (Going → Result Going Cause) → Going → Result Going Cause
 after_body true rest going = rest going
 after_body false rest going = Ok going
 
--- the body runs where the condition is true
+-- the body runs if the condition is true
 abbrev pub after_condition : Bool → List Action → (Going → Result Going Cause) → Ack → Going → Result Going Cause
 after_condition true body rest ack going = then_do (body_of body ack going) (λ done. after_body done.falls rest done)
 after_condition false body rest ack going = rest going

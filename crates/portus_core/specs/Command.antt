@@ -10,7 +10,7 @@ use Rattle.portus_core.specs.declared.program.Var.TheVariants as var
 use Rattle.portus_core.specs.Programs.{Term, Action, set, set_if, set_unless, ewma, zero_micros, report, fall}
 use Rattle.portus_core.specs.Value.{Cause, Locals, at_place, read_of, value_of}
 
--- what goes along from command to command: whether a report was asked for, and whether the body falls through
+-- what one command passes to the next: whether a report was asked for, and whether the body falls through
 pub record Going : Type 0 where
   pub env : Env
   pub locals : Locals
@@ -38,7 +38,7 @@ written_where false v value going = going
 abbrev pub value_in : Term → Ack → Going → Result ℕ Cause
 value_in term ack going = value_of term going.env going.locals ack
 
--- one command; a condition is worked out before the value, and the value in any case
+-- one command; the condition is evaluated before the value, and the value whatever the condition is
 abbrev pub command_of : Action → Ack → Going → Result Going Cause
 command_of (set v term) ack going = then_do (value_in term ack going) (λ value. Ok (written v value going))
 command_of (set_if place v condition term) ack going =

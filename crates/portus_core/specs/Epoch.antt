@@ -1,4 +1,4 @@
--- An epoch: its start, its events and what they come to.
+-- An epoch: its start, its events and their outcomes.
 use Rattle.std.specs.Prelude.{ℕ, ◌+◌, Bool, true, false, Option, Some, None, Result, Ok, Err, List, [], ◌∷◌, length, map, slice_set}
 use Rattle.ccp_base.specs.declared.ack.Ack.{Ack}
 use Rattle.ccp_base.specs.declared.fields.FieldReg.{FieldReg}
@@ -20,12 +20,12 @@ with_value reg.Cwnd value env = record env { cwnd = value }
 with_value reg.Rate value env = record env { rate = value }
 with_value (reg.Control i) value env = record env { controls = slice_set env.controls i value }
 
--- values are written in order, so of two for one name the last one stands
+-- values are written in order, so of two for one name the last one counts
 abbrev pub with_values : List Pair → Env → Env
 with_values [] env = env
 with_values (pair ∷ rest) env = with_values rest (with_value pair.0 pair.1 env)
 
--- every name with its declared value; `now` is the time of the flow's last acknowledgement, 0 where there is none
+-- every name with its declared value; `now` is the time of the flow's last acknowledgement, 0 before the first
 abbrev pub declared_env : Form → ℕ → ℕ → ℕ → Env
 declared_env form cwnd rate now = record {
   fields = map (λ (decl : Decl). decl.start) form.fields;
@@ -48,7 +48,7 @@ pub data Event : Type 0 where
   acknowledged : Ack → Bool → Event
   updated : List Pair → Event
 
--- what an acknowledgement comes to in its epoch, with what is told of a fault
+-- the outcome of an acknowledgement in its epoch; `F` is what it says of a fault
 pub data Outcome (F : Type 0) : Type 0 where
   quiet : Outcome F
   reported : List ℕ → Outcome F
@@ -56,7 +56,7 @@ pub data Outcome (F : Type 0) : Type 0 where
   failed : F → Outcome F
   stopped : Outcome F
 
--- a reading of acknowledgements: what each comes to, and the env after it
+-- a reading of acknowledgements: the outcome of each, and the env after it
 abbrev pub Reading : Type 0 → Type 0
 Reading F = Env → Ack → Bool → Outcome F × Env
 
@@ -70,7 +70,7 @@ outcome_of (Fault kind place) = failed (kind, place)
 abbrev pub by_source : Form → Reading Cause
 by_source form env ack room = (outcome_of (one_of form env ack room).0, (one_of form env ack room).1)
 
--- where an epoch stands: its env, whether a fault has stopped it, the acknowledgement of the flow at which the
+-- the state of an epoch: its env, whether a fault has stopped it, the acknowledgement of the flow at which the
 -- unreported span begins, and how many acknowledgements of the flow there were
 pub record Track : Type 0 where
   pub env : Env

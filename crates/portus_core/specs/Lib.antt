@@ -1,4 +1,5 @@
--- The definitions of portus_core, a file each.
+-- The definitions of portus_core, a file each. Public contracts, here and above, cite all but Progress and
+-- Runnable, which are for private contracts.
 pub mod Trees
 pub mod Programs
 pub mod Words

@@ -24,7 +24,7 @@ reset _ values = values
 abbrev pub reset_of : Form → Env → Env
 reset_of form env = record env { fields = reset form.fields env.fields; controls = reset form.controls env.controls }
 
--- a report that was asked for is made where there is room, and held else
+-- a report that was asked for is made if there is room, else held
 abbrev pub answered : Form → Bool → Bool → Env → Mean × Env
 answered form false room env = (Quiet, env)
 answered form true false env = (Held, env)
@@ -35,6 +35,6 @@ abbrev pub settled : Form → Env → Bool → Result Going Cause → Mean × En
 settled form env room (Ok going) = answered form going.asked room going.env
 settled form env room (Err cause) = (Fault cause.0 cause.1, env)
 
--- what the program makes of one acknowledgement, where `room` says whether there is room for a report
+-- what the program makes of one acknowledgement; `room` says whether there is room for a report
 abbrev pub one_of : Form → Env → Ack → Bool → Mean × Env
 one_of form env ack room = settled form env room (blocks_of form.blocks ack (begun env))

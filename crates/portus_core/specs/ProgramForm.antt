@@ -1,7 +1,7 @@
--- What a program stands for.
+-- A program as data.
 use Rattle.portus_core.specs.declared.program.Program.{Program}
 use Rattle.portus_core.specs.Programs.{Form, form_over}
 
--- what a program stands for
+-- the data of a program
 abbrev pub form_of : Program → Form
 form_of program = form_over program.fields.items program.controls.items program.blocks.items

@@ -46,18 +46,18 @@ pub record Form : Type 0 where
   pub controls : List Decl
   pub blocks : List Part
 
--- one operation, with what its parts stand for in their place
+-- one operation, with the data of its parts in their place
 abbrev pub term_step : Expr-F Term → Term
 term_step (layer.Num value) = number value
 term_step (layer.Truth value) = truth value
 term_step (layer.Var var) = name var
 term_step (layer.Pair op place left right) = pair op place left.value right.value
 
--- what an expression stands for
+-- the data of an expression
 abbrev pub term_of : Expr → Term
 term_of = fold-Expr Term term_step
 
--- what a command stands for
+-- the data of a command
 abbrev pub action_of : Cmd → Action
 action_of (rust.Set var value) = set var (term_of value)
 action_of (rust.SetIf place var condition value) = set_if place var (term_of condition) (term_of value)
@@ -67,7 +67,7 @@ action_of rust.ZeroMicros = zero_micros
 action_of rust.Report = report
 action_of rust.Fall = fall
 
--- what a block stands for
+-- the data of a block
 abbrev pub part_of : Block → Part
 part_of block = record {
   condition = term_of block.condition;
@@ -75,7 +75,7 @@ part_of block = record {
   locals = block.locals;
 }
 
--- what the lists of a program stand for
+-- the data of the lists of a program
 abbrev pub form_over : List Decl → List Decl → List Block → Form
 form_over fields controls blocks = record { fields = fields; controls = controls; blocks = map part_of blocks }
 

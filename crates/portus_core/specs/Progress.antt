@@ -1,4 +1,4 @@
--- What a run in the code stands for.
+-- A run on trees against the meaning of its program.
 use Rattle.std.specs.Prelude.{◌≡◌, ℕ, Option, Result, Ok, Err, List, slice_get}
 use Rattle.std.specs.Option.{option_flatten}
 use Rattle.portus_core.specs.declared.progress.Progress.{Progress}
@@ -12,7 +12,7 @@ locals_of values i = option_flatten (slice_get values i)
 abbrev pub going_of : Progress → Going
 going_of progress = record { env = progress.env; locals = locals_of progress.locals; asked = progress.asked; falls = progress.falls }
 
--- a run came to where it was meant to, or to the fault that was meant
+-- a run gave the state that the definition gives, or its fault
 abbrev pub IsRun : Result (Unit {0}) Cause → Progress → Result Going Cause → Type 0
 IsRun (Ok done) progress meant = meant ≡ Ok (going_of progress)
 IsRun (Err fault) progress meant = meant ≡ Err fault

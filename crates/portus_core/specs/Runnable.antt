@@ -1,4 +1,4 @@
--- What a valid program keeps to where it is run.
+-- What holds of a valid program's parts when it runs.
 use Rattle.std.specs.Prelude.{Bool, true, ◌&&◌, nat_lt, nat_le, List, [], ◌∷◌}
 use Rattle.ccp_base.specs.Limits.{most_locals, most_tenths}
 use Rattle.portus_core.specs.declared.program.Var.{Var}
@@ -15,7 +15,7 @@ has_place var.Cwnd = true
 has_place var.Rate = true
 has_place var.Micros = true
 
--- what a valid program's command keeps to where it is run: its target has a place, and a weight is at most ten tenths
+-- what holds of a valid program's command when it runs: its target has a place, and a weight is at most ten tenths
 abbrev pub is_runnable : Action → Bool
 is_runnable (set v term) = has_place v
 is_runnable (set_if place v condition term) = has_place v

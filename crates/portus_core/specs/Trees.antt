@@ -27,17 +27,17 @@ abbrev pub collected : List Node → Nodes
 collected [] = none
 collected (node ∷ rest) = more node (collected rest)
 
--- one part of a text, with what its own parts stand for in their place
+-- one part of a text, with the data of its own parts in their place
 abbrev pub node_step : Tree-F Node → Node
 node_step (layer.Num place value) = number place value
 node_step (layer.Word place name) = word place name
 node_step (layer.List place parts) = list place (collected parts.items)
 
--- what a tree stands for
+-- the data of a tree
 abbrev pub node_of : Tree → Node
 node_of = fold-Tree Node node_step
 
--- what the trees of a list stand for
+-- the data of the trees of a list
 abbrev pub nodes_of : List Tree → Nodes
 nodes_of trees = collected (map node_of trees)
 
@@ -56,7 +56,7 @@ IsMany-from_length (a ∷ b ∷ []) long = absurd (omega arith)
 IsMany-from_length (a ∷ b ∷ c ∷ []) long = absurd (omega arith)
 IsMany-from_length (a ∷ b ∷ c ∷ d ∷ rest) long = tt
 
--- the parts, told apart by their number
+-- the parts of a list by their number
 abbrev pub SplitsInto : Nodes → Parts → Type 0
 SplitsInto nodes Nothing = nodes ≡ none
 SplitsInto nodes (One a) = nodes ≡ more (node_of a.now) none

@@ -24,7 +24,7 @@ abbrev pub is_bool_there : Option Bool → Bool
 is_bool_there (Some is_bool) = is_bool
 is_bool_there None = false
 
--- whether the name stands for something
+-- whether the name has a meaning
 abbrev pub is_known : Known → Var → Bool
 is_known known (var.Field i) = nat_lt i (length known.fields)
 is_known known (var.Control i) = nat_lt i (length known.controls)
@@ -61,7 +61,7 @@ term_is_truth known (truth b) = true
 term_is_truth known (name v) = is_truth known v
 term_is_truth known (pair o place left right) = gives_truth o
 
--- whether each name of the expression stands for something
+-- whether each name of the expression has a meaning
 abbrev pub is_term : Known → Term → Bool
 is_term known (number n) = nat_lt n (2 ^ 64)
 is_term known (truth b) = true
@@ -72,7 +72,7 @@ is_term known (pair o place left right) = is_term known left && is_term known ri
 abbrev pub is_condition : Known → Term → Bool
 is_condition known term = is_term known term && term_is_truth known term
 
--- a value that the name may be given: a Bool where the name is one
+-- a value that may be assigned to the name: a Bool if the name is one
 abbrev pub fits_target : Known → Var → Term → Bool
 fits_target known v term = is_term known term && (not (is_truth known v) || term_is_truth known term)
 
@@ -94,7 +94,7 @@ is_action known zero_micros = true
 is_action known report = true
 is_action known fall = true
 
--- the names with one more local, where there is one: whether it is a Bool
+-- the names with one more local, if there is one: whether it is a Bool
 abbrev pub with_local : Known → Bool → Bool → Known
 with_local known true is_bool = record { fields = known.fields; controls = known.controls; locals = known.locals ++ is_bool ∷ [] }
 with_local known false is_bool = known
@@ -109,7 +109,7 @@ known_after known zero_micros = known
 known_after known report = known
 known_after known fall = known
 
--- whether each command is right where it stands, and the body has that many locals
+-- whether each command is right at its place, and the body has exactly `locals` locals
 abbrev pub is_body : Known → ℕ → List Action → Bool
 is_body known locals [] = locals == length known.locals
 is_body known locals (action ∷ rest) = is_action known action && is_body (known_after known action) locals rest

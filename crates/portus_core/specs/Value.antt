@@ -37,7 +37,7 @@ read_of var.Rate env locals ack = env.rate
 read_of var.Micros env locals ack = ack.now - env.zero
 read_of (var.Prim n) env locals ack = prim n ack
 
--- the value of an expression: of an operation both parts are worked out, the left one first
+-- the value of an expression: of an operation both parts are evaluated, the left one first
 abbrev pub value_of : Term → Env → Locals → Ack → Result ℕ Cause
 value_of (number n) env locals ack = Ok n
 value_of (truth b) env locals ack = Ok (number_of b)

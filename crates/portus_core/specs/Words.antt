@@ -6,7 +6,7 @@ use Rattle.ccp_base.specs.Operations.{operator_of}
 use Rattle.portus_core.specs.declared.program.Var.{Var}
 use Rattle.portus_core.specs.declared.program.Var.TheVariants as var
 
--- the variable of the language that a word stands for
+-- the variable of the language that a word names
 abbrev pub variable_of : List ℕ → Option Var
 variable_of w =
     if bytes_eq w (codes "Cwnd") then Some var.Cwnd

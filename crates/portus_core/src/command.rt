@@ -10,7 +10,7 @@ use crate::progress::Progress;
 use crate::value::Fault;
 use ccp_base::{Ack, blended, is_true};
 
-/// Runs a command. A condition and a value are both worked out, whatever the condition is.
+/// Runs a command. The condition and the value are both evaluated, whatever the condition is.
 pub fn command(cmd: &Cmd, ack: &Ack, progress: &mut Progress) -> Result<(), Fault>
     requires { IsTrue (is_runnable (action_of cmd.now)) }
     ensures { IsRun result progress.new (command_of (action_of cmd.now) ack.entry.now (going_of progress.old)) }

@@ -40,14 +40,14 @@ fn copy_of(alloc: Global, numbers: &Numbers) -> Result<Numbers, NoMemory>
     Ok(Numbers::from_vec(numbers.as_slice().to_vec(alloc)?))
 }
 
-/// What an acknowledgement comes to.
+/// The outcome of an acknowledgement.
 #[derive(Clone, Copy, PartialEq, Eq)]
 pub enum Mean {
     /// No report was asked for.
     Quiet,
     /// A report was made, with these fields in order of declaration.
     Reported(Values),
-    /// A report was asked for, and there was no room for it.
+    /// A report was asked for, but there was no room for it.
     Held,
     /// An operation had no result. It has the place of its head atom.
     Fault(FaultKind, Place),

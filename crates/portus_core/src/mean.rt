@@ -11,7 +11,7 @@ use ccp_base::{Ack, NoMemory, Numbers, Values};
 use std::alloc::Global;
 
 impl Program {
-    /// What one acknowledgement comes to, and the env after it. `room` says whether there is room for a report.
+    /// The outcome of one acknowledgement, and the env after it. `room` says whether there is room for a report.
     pub fn mean(
         &self,
         alloc: Global,

@@ -5,7 +5,7 @@ ghost use Rattle.portus_core.specs.ValidPrograms.{is_declared, is_valid};
 
 use ccp_base::{Name, Op2, Place};
 
-/// What a name of a program stands for, each kind by its number in order of declaration.
+/// What a name of a program means; a declared one by its number in order of declaration.
 #[derive(Clone, Copy)]
 pub enum Var {
     Field(u32),
@@ -36,9 +36,9 @@ pub enum Expr {
 pub enum Cmd {
     /// Assigns a value.
     Set(Var, Expr),
-    /// Works out a condition and a value, and assigns the value where the condition is true.
+    /// Evaluates a condition and a value, and assigns the value if the condition is true.
     SetIf(Place, Var, Expr, Expr),
-    /// Works out a condition and a value, and assigns the value where the condition is false.
+    /// Evaluates a condition and a value, and assigns the value if the condition is false.
     SetUnless(Place, Var, Expr, Expr),
     /// Moves a number towards a value, with the old number's weight in tenths.
     Ewma(Place, Var, u64, Expr),
@@ -46,7 +46,7 @@ pub enum Cmd {
     ZeroMicros,
     /// Asks for a report.
     Report,
-    /// Lets the work go on after this block.
+    /// Lets the blocks after this one run too.
     Fall,
 }
 
@@ -56,13 +56,13 @@ pub struct Decl {
     pub name: Name,
     /// Whether a report resets it to its declared value.
     pub volatile: bool,
-    /// The declared value, a Bool as 0 or 1.
+    /// The declared value; a Bool is 0 or 1.
     pub start: u64,
     /// Whether it is a Bool.
     pub truth: bool,
 }
 
-/// A block: its body runs where its condition is true.
+/// A block: its body runs if its condition is true.
 #[derive(Drop)]
 pub struct Block {
     pub condition: Expr,

@@ -12,7 +12,7 @@ use crate::program::{Expr, Var};
 use crate::value::{Fault, Locals, read, value};
 use ccp_base::{Ack, Numbers};
 
-/// What goes along from command to command of one acknowledgement.
+/// What one command passes to the next within one acknowledgement.
 #[derive(Drop)]
 pub struct Progress {
     pub env: Env,
@@ -57,7 +57,7 @@ impl Progress {
         read(var, &self.env, &self.locals, ack)
     }
 
-    /// Assigns the value. What isn't there isn't assigned.
+    /// Assigns the value; a variable that doesn't exist is ignored.
     pub fn write(&mut self, var: Var, value: u64)
         requires { IsTrue (has_place var) }
         ensures { going_of self.new ≡ written var value (going_of self.old) }

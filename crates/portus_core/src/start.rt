@@ -13,7 +13,7 @@ use std::alloc::{AllocError, Global};
 impl Program {
     /// The env at the start of an epoch: each name has its declared value, and then the values are written in
     /// order. `cwnd` is in bytes, `rate` in bytes a second; `now` is the time of the flow's last acknowledgement
-    /// in microseconds, 0 where there is none, and becomes time zero.
+    /// in microseconds, 0 before the first, and becomes time zero.
     pub fn start(
         &self,
         alloc: Global,
@@ -25,7 +25,7 @@ impl Program {
         ensures started { IfOk result (λ env. start_of (form_of self.now) values.now cwnd rate now ≡ Ok env) }
         ensures shape { IfOk result (λ env. IsEnvOf (form_of self.now) env) }
 
-        // A register that isn't there is refused before memory is taken.
+        // A register that doesn't exist is refused before memory is taken.
         ensures refused { let meant = start_of (form_of self.now) values.now cwnd rate now in
             (i : ℕ) → (result ≡ Err (StartFault.BadRegister i)) ↔ (meant ≡ Err (StartFault.BadRegister i)) }
     {
@@ -58,7 +58,7 @@ fn declared_values(alloc: Global, decls: &[Decl]) -> Result<Numbers, AllocError>
     Ok(Numbers::from_vec(values))
 }
 
-/// Writes the values in order. A control variable that isn't there isn't written.
+/// Writes the values in order; a control variable that doesn't exist is ignored.
 fn write_all(env: &mut Env, values: &Fields)
     ensures { env.new ≡ with_values values.now env.old }
 {

@@ -17,7 +17,7 @@ pub struct Source {
     pub forms: Vec<Tree>,
 }
 
-/// The parts of a list by their number, as the rules of the language tell them apart.
+/// The parts of a list by their number: the rules of the language differ for none to three and for more.
 #[derive(Clone, Copy)]
 pub enum Parts<'a> {
     Nothing,
@@ -27,7 +27,7 @@ pub enum Parts<'a> {
     Many,
 }
 
-/// Tells a list's parts apart by their number.
+/// The parts of a list by their number.
 #[tactic(auto, using(crate::specs::Trees::many))]
 pub fn take_apart(trees: &[Tree]) -> Parts<'_>
     ensures { SplitsInto (nodes_of trees.now) result }

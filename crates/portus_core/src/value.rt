@@ -15,8 +15,8 @@ pub type Fault = (FaultKind, Place);
 /// The values of a body's locals by number, None before their first assignment.
 pub type Locals = [Option<u64>; 8];
 
-/// The value of an expression. Both parts of an operation are worked out, the left one first, and the first
-/// fault is the answer.
+/// The value of an expression. Both parts of an operation are evaluated, the left one first, and the first fault is the
+/// answer.
 #[tactic(auto, using(crate::specs::Programs::terms))]
 pub fn value(expr: &Expr, env: &Env, locals: &Locals, ack: &Ack) -> Result<u64, Fault>
     ensures { result ≡ value_of (term_of expr.now) env.now (locals_of locals.now) ack.entry.now }
@@ -33,7 +33,7 @@ pub fn value(expr: &Expr, env: &Env, locals: &Locals, ack: &Ack) -> Result<u64, 
     }
 }
 
-/// The value of a name, 0 where the name stands for nothing.
+/// The value of a name, 0 for a name without a meaning.
 pub fn read(var: Var, env: &Env, locals: &Locals, ack: &Ack) -> u64
     ensures { result ≡ read_of var env.now (locals_of locals.now) ack.entry.now }
 {

@@ -19,7 +19,7 @@ is_refused (Atom place start) b = not (is_allowed b)
 abbrev pub after_mark : ℕ → Within
 after_mark b = if b == 35 then Comment else Gap
 
--- what the next byte lies in
+-- what the next byte is in
 abbrev pub within_next : Within → Place → ℕ → ℕ → Within
 within_next Comment at i b = if b == 10 then Gap else Comment
 within_next Gap at i b = if is_atom_byte b then Atom at i else after_mark b
@@ -57,7 +57,7 @@ abbrev pub FaultsAt : Place → Bool → LexFault → Type 0
 FaultsAt at refused (NotText place) = (place ≡ at) × IsTrue refused
 FaultsAt at refused NoMemory = Unit {0}
 
--- a fault that the scan's outcome is the cause of
+-- a fault whose cause is the scan's outcome
 abbrev pub EndsScan : Result (List Token) Place → LexFault → Type 0
 EndsScan outcome (NotText place) = outcome ≡ Err place
 EndsScan outcome NoMemory = Unit {0}

@@ -36,7 +36,7 @@ pub fn tokens(alloc: Global, text: &[u8]) -> Result<Tokens, LexFault>
     // A text has one list of tokens.
     ensures only { IfOk result (λ tokens. (others : List Token) → AreTokens text.now others → others ≡ tokens) }
 
-    // The place of the first byte outside comments that isn't allowed there is answered where there is one.
+    // If a byte outside comments isn't allowed there, the answer is the place of the first one.
     ensures clean { OnOk result (stray_of text.now ≡ None) }
     ensures refused { IfErr result (HasCause text.now) }
 {

@@ -1,4 +1,4 @@
-//! The scan of a text byte by byte: what each byte lies in, and which tokens end with it.
+//! The scan of a text byte by byte: whether each is in a gap, a comment or an atom, and which tokens end with it.
 ghost use Rattle.std.specs.Prelude.{◌≡◌, ◌+◌, ◌<◌, ◌≤◌, ◌++◌, ◌||◌, ◌==◌, [], IfOk, IfErr, OnOk, false, if◌then◌else◌};
 ghost use Rattle.ccp_base.specs.Limits.{most_text_bytes};
 ghost use Rattle.portus_lexer.specs.declared.within.Within.TheVariants.{Gap};
@@ -10,7 +10,7 @@ use crate::token::{LexFault, Token, Tokens};
 use crate::within::Within;
 use ccp_base::Place;
 
-/// How far a text has been cut: the number of the next byte, its place and what it lies in.
+/// How far a text has been cut: the number of the next byte, its place and what it is in.
 #[derive(Clone, Copy)]
 pub struct Scan {
     pub at: u32,
@@ -53,7 +53,7 @@ fn step(place: Place, byte: u8) -> Place
     }
 }
 
-/// What the byte after one that belongs to no atom lies in.
+/// What the byte after one that belongs to no atom is in.
 fn after_mark(byte: u8) -> Within
     ensures { result ≡ after_mark byte }
 {
@@ -78,7 +78,7 @@ impl Scan {
         }
     }
 
-    /// What the byte after this one lies in.
+    /// What the byte after this one is in.
     fn next(&self, byte: u8) -> Within
         ensures { result ≡ within_next self.now.within self.now.place self.now.at byte }
     {
@@ -117,7 +117,7 @@ impl Scan {
         }
     }
 
-    /// Puts the open atom, if there is one, at the tokens' end.
+    /// Appends the open atom, if there is one, to the tokens.
     pub fn close(&self, tokens: &mut Tokens) -> Result<(), LexFault>
         ensures ok { OnOk result (tokens.new ≡ tokens.old ++ closed self.now.within self.now.at) }
         ensures refused { IfErr result (FaultsAt self.now.place false) }
@@ -132,7 +132,7 @@ impl Scan {
         Ok(())
     }
 
-    /// Puts the byte, if it is a parenthesis, at the tokens' end.
+    /// Appends the byte to the tokens, if it is a parenthesis.
     fn parenthesis(&self, tokens: &mut Tokens, byte: u8) -> Result<(), LexFault>
         requires { self.now.at < most_text_bytes }
         ensures ok { OnOk result (tokens.new ≡ tokens.old ++ parenthesis self.now.place self.now.at byte) }
@@ -148,7 +148,7 @@ impl Scan {
         Ok(())
     }
 
-    /// Puts what ends with the byte at the tokens' end.
+    /// Appends the tokens that end with the byte.
     fn put(&self, tokens: &mut Tokens, byte: u8) -> Result<(), LexFault>
         requires { self.now.at < most_text_bytes }
         ensures ok { OnOk result (tokens.new ≡ tokens.old ++ put_by self.now.within self.now.place self.now.at byte) }
@@ -166,7 +166,7 @@ impl Scan {
         }
     }
 
-    /// Reads a byte: puts what ends with it at the tokens' end.
+    /// Reads a byte and appends the tokens that end with it.
     pub fn read(self, tokens: &mut Tokens, byte: u8) -> Result<Self, LexFault>
         requires { self.at < most_text_bytes }
         ensures number { IfOk result (λ next. next.at ≡ self.at + 1) }

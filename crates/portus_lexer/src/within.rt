@@ -1,7 +1,7 @@
-//! What the next byte of a text can lie in: a gap, a comment or an atom.
+//! What the next byte of a text can be in: a gap, a comment or an atom.
 use ccp_base::Place;
 
-/// What the next byte of a text lies in.
+/// What the next byte of a text is in.
 #[derive(Clone, Copy)]
 pub enum Within {
     Gap,

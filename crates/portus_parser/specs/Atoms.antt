@@ -1,4 +1,4 @@
--- What an atom of a text stands for.
+-- The node of an atom of a text.
 use Rattle.std.specs.Prelude.{ℕ, Bool, false, ◌&&◌, ◌||◌, nat_le, Option, Some, None, Result, Ok, Err, if◌then◌else◌, List, [], ◌∷◌, length, codes}
 use Rattle.std.specs.Str.{bytes_eq}
 use Rattle.ccp_base.specs.Limits.{most_name_bytes}
@@ -28,7 +28,7 @@ abbrev pub number_at : Place → Option ℕ → Result Node ParseFault
 number_at place (Some value) = Ok (number place value)
 number_at place None = Err (BadNumeral place)
 
--- what an atom stands for: its value where it is a numeral, and itself where it is a word
+-- the node of an atom: a numeral's value, or the word itself
 abbrev pub atom_of : Place → List ℕ → Result Node ParseFault
 atom_of place text =
     if begins_with_digit text

@@ -1,4 +1,4 @@
--- What a refusal of tokens is as a refusal of reading.
+-- The lexer's refusals as refusals of reading.
 use Rattle.portus_lexer.specs.declared.token.LexFault.{LexFault}
 use Rattle.portus_lexer.specs.declared.token.LexFault.TheVariants as lex
 use Rattle.portus_parser.specs.declared.fault.ParseFault.{ParseFault}

@@ -1,4 +1,4 @@
--- What the outcome of reading has to do with what a text spells, and that each text is settled.
+-- The outcome of reading against what a text spells; each text spells forms or has a refusal.
 use Rattle.std.specs.Prelude.{◌≡◌, ◌≢◌, ℕ, ◌⊎◌, Result, Ok, Err, IfOk, IfErr, List}
 use Rattle.portus_core.specs.declared.tree.Source.{Source}
 use Rattle.portus_core.specs.Trees.{Nodes, nodes_of}
@@ -7,17 +7,17 @@ use Rattle.portus_parser.specs.declared.fault.ParseFault.TheVariants.{NoMemory}
 use Rattle.portus_parser.specs.Spelling.{Spells}
 use Rattle.portus_parser.specs.Refusals.{IsRefused}
 
--- the outcome is these forms, unless memory was wanting
+-- the outcome is these forms, or out of memory
 abbrev pub ReadsAs : Result Source ParseFault → Nodes → Type 0
 ReadsAs (Ok source) forms = nodes_of source.forms.items ≡ forms
 ReadsAs (Err fault) forms = fault ≡ NoMemory
 
--- the outcome is this refusal, unless memory was wanting
+-- the outcome is this refusal, or out of memory
 abbrev pub RefusesAs : Result Source ParseFault → ParseFault → Type 0
 RefusesAs (Ok source) refusal = ⊥
 RefusesAs (Err fault) refusal = (fault ≡ refusal) ⊎ (fault ≡ NoMemory)
 
--- the outcome is what the text spells exactly where it spells something, and its first refusal exactly where it has one
+-- the outcome is what the text spells if it spells something, and its first refusal if it has one, both ways
 pub record IsExact (text : List ℕ) (outcome : Result Source ParseFault) : Type 0 where
   pub found : IfOk outcome (λ source. Spells text (nodes_of source.forms.items))
   pub only : (forms : Nodes) → Spells text forms → ReadsAs outcome forms

@@ -1,4 +1,4 @@
--- That a text which is printed is read as what it was printed from.
+-- A printed source is read back as that source.
 use Rattle.std.specs.Prelude.{◌≡◌, ℕ, ◌≤◌, List, length}
 use Rattle.ccp_base.specs.Limits.{most_text_bytes}
 use Rattle.portus_core.specs.Trees.{Node, number, word, list, Nodes, none, more}
@@ -21,7 +21,7 @@ abbrev mutual
 abbrev pub SameButPlaces : Nodes → Nodes → Type 0
 SameButPlaces left right = without_places left ≡ without_places right
 
--- what a text spells is printed as a text that spells the same but for places, where that text may be read at all
+-- what a text spells is printed as a text that spells the same but for places, if the printed text isn't too long
 abbrev pub PrintsBack : Type 0
 PrintsBack =
     (text : List ℕ) (forms : Nodes) → Spells text forms → length (printed_forms forms) ≤ most_text_bytes

@@ -77,7 +77,7 @@ abbrev pub stacked : List Opened → List OpenList → List Opened
 stacked opens [] = opens
 stacked opens (open_list ∷ rest) = stacked (opened_of open_list ∷ opens) rest
 
--- what open lists and the parts so far stand for
+-- the data of open lists and the parts so far
 abbrev pub reading_of : List OpenList → List Tree → Reading
 reading_of open_lists parts = record { opens = stacked [] open_lists; parts = map node_of parts }
 
@@ -85,7 +85,7 @@ reading_of open_lists parts = record { opens = stacked [] open_lists; parts = ma
 abbrev pub lexeme_in : List ℕ → Token → Lexeme
 lexeme_in text token = record { place = token.place; start = token.start; text = slice_of text token }
 
--- a fault is the outcome's, but for want of memory
+-- a fault is the outcome's, or out of memory
 abbrev pub EndsTurn : Result Reading ParseFault → ParseFault → Type 0
 EndsTurn outcome NoMemory = Unit {0}
 EndsTurn outcome fault = outcome ≡ Err fault

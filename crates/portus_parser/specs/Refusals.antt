@@ -17,7 +17,7 @@ is_opening text = bytes_eq text (codes "(")
 abbrev pub is_closing : List ℕ → Bool
 is_closing text = bytes_eq text (codes ")")
 
--- how many lists are open after a lexeme, where this many are before it
+-- how many lists are open after a lexeme, from how many are open before it
 abbrev pub open_after : ℕ → List ℕ → ℕ
 open_after open_lists text = if is_opening text then open_lists + 1 else (if is_closing text then open_lists - 1 else open_lists)
 
@@ -42,7 +42,7 @@ unopened [] = 0
 unopened (lexeme ∷ rest) =
     if is_opening lexeme.text then unopened rest - 1 else (if is_closing lexeme.text then unopened rest + 1 else unopened rest)
 
--- the place of the last opening parenthesis without its match: each that follows has one, and it has none
+-- the place of the last opening parenthesis that has no match
 abbrev pub last_unclosed : List Lexeme → Option Place
 last_unclosed [] = None
 last_unclosed (lexeme ∷ rest) =

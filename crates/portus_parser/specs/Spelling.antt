@@ -21,7 +21,7 @@ pub record SpellsAtom (depth : ℕ) (at : Place) (part others : List ℕ) (node 
   pub atom : IsTrue (is_atom part && ends_atom others)
   pub spelled : atom_of at part ≡ Ok node
 
--- the bytes of a list, inside fewer others than may be open at once
+-- the bytes of a list that is inside fewer lists than may be open at once
 pub record IsListAround (depth : ℕ) (at : Place) (part inner : List ℕ) (opened : Place) : Type 0 where
   pub nesting : depth < most_lists
   pub brackets : part ≡ 40 ∷ (inner ++ 41 ∷ [])

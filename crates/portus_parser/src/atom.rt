@@ -32,7 +32,7 @@ fn is_mark(text: &[u8]) -> bool
     is_operation_mark(text) || same(text, b":=") || same(text, b"!if") || same(text, b"+infinity")
 }
 
-/// The word that is this text; None where it is none.
+/// The text as a word; None if it isn't one.
 fn word(text: &[u8]) -> Option<Name>
     ensures { result ≡ (if is_word text.now then Some text.now else None) }
 {

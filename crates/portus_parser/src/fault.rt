@@ -7,8 +7,8 @@ use ccp_base::Place;
 use portus_lexer::LexFault;
 use std::alloc::{AllocError, AllocFailed};
 
-/// Why a text can't be read. The first cause in this order is the one that is answered; of the four from
-/// `Unexpected` to `Nesting` it is the first in the text, and `Unexpected` where two have one place.
+/// Why a text can't be read. The answer is the first cause in this order; of the four from `Unexpected` to `Nesting` it
+/// is the first in the text, and `Unexpected` if two have one place.
 #[derive(Clone, Copy, Debug)]
 pub enum ParseFault {
     /// The text is longer than 65,536 bytes.
@@ -23,7 +23,7 @@ pub enum ParseFault {
     BadName(Place),
     /// A `(` stands inside 64 open lists.
     Nesting(Place),
-    /// The list that was opened last of those that the text leaves open. The place is that of its `(`.
+    /// The text leaves a list open. The place is the `(` of the last such list.
     Unclosed(Place),
     NoMemory,
 }

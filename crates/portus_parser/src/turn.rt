@@ -14,7 +14,7 @@ use std::alloc::Global;
 /// The most lists that may lie inside one another.
 pub const DEPTH: usize = 64;
 
-/// Opens a list: the parts so far wait beside it, and the list's own ones begin.
+/// Opens a list: the parts so far are kept with it, and its own parts begin.
 fn open(
     alloc: Global,
     open_lists: &mut Vec<OpenList>,
@@ -60,7 +60,7 @@ fn close(
     }
 }
 
-/// Puts an atom at the end of the parts of the list that was opened last.
+/// Appends an atom to the parts of the list that was opened last.
 fn put(
     open_lists: &[OpenList],
     mut parts: Vec<Tree>,

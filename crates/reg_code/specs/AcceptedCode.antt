@@ -22,7 +22,7 @@ abbrev pub Refusal : Type 0
 Refusal = Rule × ℕ
 
 infixl 5 ◌or_else◌
--- the first of two, where there is one
+-- the first of two, if there is one, else the second
 abbrev pub ◌or_else◌ : {A : Type 0} → Option A → Option A → Option A
 first or_else next = option_or first next
 
@@ -48,7 +48,7 @@ no_marks = record { temps = λ i. false; locals = λ i. false }
 abbrev pub with_mark : (ℕ → Bool) → ℕ → ℕ → Bool
 with_mark marks i j = if j == i then true else marks j
 
--- every operation writes its target in any case, but for `if` and `notif`
+-- every operation always writes its target, but for `if` and `notif`
 abbrev pub writes : Op → Bool
 writes op.If = false
 writes op.NotIf = false
@@ -67,7 +67,7 @@ abbrev pub marks_after : List Instr → Marks → Marks
 marks_after [] marks = marks
 marks_after (instr ∷ rest) marks = marks_after rest (marked marks instr)
 
--- there is a register with this number
+-- a register with this number exists
 abbrev pub is_there : Sizes → Reg → Bool
 is_there sizes (reg.Imm value) = true
 is_there sizes (reg.Prim n) = nat_lt n primitive_count
@@ -77,7 +77,7 @@ is_there sizes (reg.Implicit which) = true
 is_there sizes (reg.Local i) = nat_lt i most_locals
 is_there sizes (reg.Temp i) = nat_lt i most_temps
 
--- each register that the instruction names is there, what it reads and what it writes
+-- each register that the instruction names exists, what it reads and what it writes
 abbrev pub are_there : Sizes → Instr → Bool
 are_there sizes instr = is_there sizes instr.left && is_there sizes instr.right && is_there sizes instr.to
 
@@ -136,12 +136,12 @@ abbrev pub is_in_condition : Part → Bool
 is_in_condition Condition = true
 is_in_condition Body = false
 
--- the target of the instruction is one that it may not write there:
+-- the instruction may not write its target there:
 -- an immediate or a primitive;
 -- Micros, but by a `bind` from immediate 0;
 -- in a condition, another one than a temporary and Flag;
 -- in a body, Flag;
--- where a condition ends, one that isn't written in any case, or isn't Flag;
+-- at the end of a condition, one that isn't always written, or isn't Flag;
 -- of `ewma`, one that isn't read: Flag, Fall or Send
 abbrev pub is_misplaced : Part → Bool → Instr → Bool
 is_misplaced part is_last instr =
@@ -152,7 +152,7 @@ is_misplaced part is_last instr =
     || (is_in_condition part && is_last && not (writes instr.op && is_flag instr.to))
     || (is_ewma instr.op && not (is_readable instr.to))
 
--- the first rule that an instruction fails, where it stands
+-- the first rule that an instruction fails at its place
 abbrev pub rule_failed : Sizes → Part → Bool → Marks → Instr → Option Rule
 rule_failed sizes part is_last marks instr =
     rule_where (not (are_there sizes instr)) rule.Range

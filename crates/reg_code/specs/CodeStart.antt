@@ -13,12 +13,12 @@ with_value field.Cwnd value kept = record kept { cwnd = value }
 with_value field.Rate value kept = record kept { rate = value }
 with_value (field.Control i) value kept = record kept { controls = slice_set kept.controls i value }
 
--- values are written in order, so of two for one register the last one stands
+-- values are written in order, so of two for one register the last one counts
 abbrev pub with_values : List Pair → Kept → Kept
 with_values [] kept = kept
 with_values (pair ∷ rest) kept = with_values rest (with_value pair.0 pair.1 kept)
 
--- every register with its start value; `now` is the time of the flow's last acknowledgement, 0 where there is none
+-- every register with its start value; `now` is the time of the flow's last acknowledgement, 0 before the first
 abbrev pub declared_kept : Code → ℕ → ℕ → ℕ → Kept
 declared_kept code cwnd rate now = record {
   reports = map (λ (start : Start). start.value) code.reports;

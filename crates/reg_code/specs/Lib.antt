@@ -1,4 +1,5 @@
--- The definitions of reg_code, a file each; files named ..Laws have what follows from them.
+-- The definitions of reg_code, a file each. Public contracts, here and above, cite all but the files named ..Laws:
+-- these have what follows from the others, for proofs. Forms, PackedCode and Places are for packed instructions.
 pub mod CodeStep
 pub mod CodeStart
 pub mod AcceptedCode

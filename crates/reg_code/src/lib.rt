@@ -1,4 +1,4 @@
-//! Register code, that datapath programs are compiled to: its form, what it does on an acknowledgement, and
+//! Register code, to which datapath programs are compiled: its form, what it does on an acknowledgement, and
 //! which code is accepted.
 #![tactic(auto)]
 

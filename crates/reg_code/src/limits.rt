@@ -23,7 +23,7 @@ pub const TEMPS: u8 = 8;
 /// The largest weight of `Op::Ewma`, in tenths.
 pub const TENTHS: u64 = 10;
 
-/// Each limit is that of the rules, and there are the places that the definitions say.
+/// Each limit is that of the rules, and the places are those of the definitions.
 pub fn limits_hold()
     ensures controls { CONTROLS ≡ most_controls }
     ensures events { EVENTS ≡ most_blocks }

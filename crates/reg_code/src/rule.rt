@@ -20,19 +20,19 @@ pub enum Rule {
     Counts,
     /// Each condition has an instruction, and the events have all the instructions that there are.
     Events,
-    /// Each register is there: the number of a report or of a control is below how many the code has, that of a
+    /// Each register exists: the number of a report or of a control is below how many the code has, that of a
     /// primitive below how many there are, that of a local or of a temporary below 8.
     Range,
     /// `Flag`, `Fall` and `Send` aren't read.
     Readable,
-    /// A temporary is read only where it was written before in the event.
+    /// A temporary is read only if it was written before in the event.
     Temporary,
-    /// A local is read only where it was written before in the event.
+    /// A local is read only if it was written before in the event.
     Local,
     /// The weight of `Ewma` is an immediate from 0 to 10.
     Weight,
     /// The second operand of `Bind` is the immediate 0.
     BindRight,
-    /// The target is one that the operation may write where it stands, and a condition ends with writing `Flag`.
+    /// The operation may write its target at its place, and a condition ends by writing `Flag`.
     Writable,
 }

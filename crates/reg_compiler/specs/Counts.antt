@@ -36,7 +36,7 @@ abbrev pub lean_where : Option ℕ → ℕ → ℕ
 lean_where (Some value) lean = 0
 lean_where None lean = lean
 
--- each operation counts one, but for those of known expressions
+-- each operation counts one, except those of known expressions
 abbrev pub lean_of : Term → ℕ
 lean_of (number n) = 0
 lean_of (truth b) = 0

@@ -32,7 +32,7 @@ is_nameless (truth b) = true
 is_nameless (name v) = false
 is_nameless (pair op place left right) = is_nameless left && is_nameless right
 
--- an expression is known, by a value, exactly where it has no name and that is its value, whatever the state and the
+-- an expression is known, by a value, exactly if it has no name and that is its value, whatever the state and the
 -- acknowledgement are
 abbrev pub KnownExactly : Type 0
 KnownExactly =

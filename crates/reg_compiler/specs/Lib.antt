@@ -1,4 +1,5 @@
--- The definitions of reg_compiler, a file each.
+-- The definitions of reg_compiler, a file each. Public contracts cite Refusal, Simulation, Counts and Known, over
+-- Needs; CompiledCode and Numbered are for private contracts.
 pub mod Known
 pub mod Needs
 pub mod Counts

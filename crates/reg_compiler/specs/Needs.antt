@@ -5,7 +5,7 @@ use Rattle.ccp_base.specs.declared.place.Place.{Place}
 use Rattle.ccp_base.specs.Limits.{most_temps}
 use Rattle.portus_core.specs.Programs.{Term, number, truth, name, pair, Action, set, set_if, set_unless, ewma, zero_micros, report, fall, Part, Form}
 
--- a part that is no leaf takes a temporary while the part after it is worked out
+-- a part that is no leaf takes a temporary while the part after it is computed
 abbrev pub beside : Term → ℕ
 beside (number n) = 0
 beside (truth b) = 0
@@ -18,11 +18,11 @@ need_of (truth b) = 0
 need_of (name v) = 0
 need_of (pair op place left right) = max 1 (max (need_of left) (need_of right + beside left))
 
--- what two expressions need of which the first one's value is kept beside the second
+-- the need of two expressions, if the first one's value is kept while the second is computed
 abbrev pub need_of_both : Term → Term → ℕ
 need_of_both left right = max (need_of left) (need_of right + beside left)
 
--- what an assigned value needs
+-- the need of an assigned value
 abbrev pub action_need : Action → ℕ
 action_need (set v term) = need_of term
 action_need (set_if place v condition term) = need_of_both condition term
@@ -40,7 +40,7 @@ abbrev pub parts_need : List Part → ℕ
 parts_need [] = 0
 parts_need (part ∷ rest) = max (max (need_of part.condition) (body_need part.body)) (parts_need rest)
 
--- the greatest need of a program's expressions, 0 where it has none
+-- the greatest need of a program's expressions, 0 if it has none
 abbrev pub form_need : Form → ℕ
 form_need form = parts_need form.blocks
 

@@ -8,7 +8,7 @@ use Rattle.reg_compiler.specs.declared.fault.CompileFault.TheVariants.{TooDeep, 
 use Rattle.reg_compiler.specs.Needs.{deep_form}
 use Rattle.reg_compiler.specs.Counts.{form_count}
 
--- the count that is shown stops at the largest number of 64 bits
+-- the count that is shown, at most the largest number of 64 bits
 abbrev pub shown : ℕ → ℕ
 shown count = min count (2 ^ 64 - 1)
 

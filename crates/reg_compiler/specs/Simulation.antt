@@ -21,7 +21,7 @@ kept_of env = record { reports = env.fields; controls = env.controls; cwnd = env
 abbrev pub start_of : Decl → Start
 start_of decl = record { volatile = decl.volatile; value = decl.start }
 
--- what an outcome of the code means, where each instruction has a place
+-- what an outcome of the code means; `places` has the place of each instruction
 abbrev pub seen : List Place → CodeOutcome → Option Mean
 seen places quiet = Some Quiet
 seen places (reported fields) = Some (Reported fields)
@@ -33,7 +33,7 @@ seen places lost = None
 abbrev pub StartsAlike : Form → Code → Type 0
 StartsAlike form code = (code.reports ≡ map start_of form.fields) × (code.controls ≡ map start_of form.controls)
 
--- an acknowledgement comes to the same by the code as by the program: the outcome with its fields, or the fault with
+-- an acknowledgement has the same result by the code as by the program: the outcome with its fields, or the fault with
 -- its place, and the env afterwards
 abbrev pub MeansAlike : Form → Code → List Place → Type 0
 MeansAlike form code places =

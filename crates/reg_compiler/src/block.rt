@@ -32,7 +32,7 @@ pub fn blocks(blocks: &[Block], events: &mut Events, lines: &mut Lines) -> Resul
     Ok(())
 }
 
-/// Appends the lines of a block's condition and body, and answers the block's event.
+/// Appends the lines of a block's condition and body, and returns the block's event.
 fn block(condition: &Expr, cmds: &[Cmd], lines: &mut Lines) -> Result<Event, AllocError>
     requires condition_names { IsTrue (is_numbered_term (term_of condition.now)) }
     requires body_names { IsTrue (is_numbered_body (map action_of cmds.now)) }

@@ -9,9 +9,8 @@ use portus_core::Program;
 use reg_code::Checked;
 
 /// A program and code that simulates it: for every state that the program can have, every acknowledgement and either
-/// room, the code comes to the same outcome with the same fields, and leaves the same state. Where the program faults,
-/// the code faults at an instruction with the same place, and the other way round. The compiler refuses no such
-/// program.
+/// room, the code has the same outcome with the same fields, and leaves the same state. If the program faults, the code
+/// faults at an instruction with the same place, and the other way round. The compiler refuses no such program.
 #[derive(Drop)]
 pub struct Built {
     pub program: Program,

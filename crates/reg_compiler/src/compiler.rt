@@ -14,7 +14,7 @@ use portus_core::Program;
 use reg_code::{Checked, INSTRS};
 use std::alloc::Global;
 
-/// Compiles a program. The refusals are those of `CompileFault`, and both are tried before anything is made.
+/// Compiles a program. The refusals are those of `CompileFault`; both are tested before anything is made.
 pub fn compile(alloc: Global, program: Program) -> Result<Built, CompileFault>
     ensures program { IfOk result (λ built. built.program ≡ program) }
     ensures found { IfOk result (λ built. refusal_of (form_of program) ≡ None) }

@@ -9,7 +9,7 @@ pub enum CompileFault {
     /// than 8 temporaries.
     TooDeep(Place),
     /// No expression is too deep, and the program's count of instructions, this one, is above 256. A count of 2^64 and
-    /// more is told as 2^64 - 1.
+    /// more is shown as 2^64 - 1.
     CodeTooLong(u64),
     NoMemory,
 }

@@ -1,4 +1,4 @@
-//! The value of an expression without names, if it doesn't fault, worked out as the program is compiled.
+//! The value of an expression without names, if it doesn't fault, computed when the program is compiled.
 ghost use Rattle.std.specs.Prelude.{◌≡◌};
 ghost use Rattle.portus_core.specs.Programs.{term_of};
 ghost use Rattle.reg_compiler.specs.Known.{known_value};

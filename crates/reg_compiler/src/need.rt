@@ -10,11 +10,11 @@ use ccp_base::Place;
 use portus_core::{Block, Cmd, Expr, Program};
 use reg_code::TEMPS;
 
-/// A need above the number of temporaries; every such need is told as this one.
+/// A need above the number of temporaries; this one stands for every such need.
 const TOO_MANY: u32 = TEMPS as u32 + 1;
 
-/// The greatest need of a program's expressions, 0 where it has none, and 9 where it is above 8. The need of an
-/// expression is the number of temporaries that it takes.
+/// The greatest need of a program's expressions, 0 if it has none, and 9 if it is above 8. The need of an expression is
+/// the number of temporaries that it takes.
 pub fn greatest_need(program: &Program) -> u32
     ensures { result ≡ min (form_need (form_of program.now)) (most_temps + 1) }
 {
@@ -70,14 +70,14 @@ fn need(expr: &Expr) -> u32
     }
 }
 
-/// The need of two expressions of which the first one's value is kept beside the second.
+/// The need of two expressions, if the first one's value is kept while the second is computed.
 fn need_of_both(left: &Expr, right: &Expr) -> u32
     ensures { result ≡ min (need_of_both (term_of left.now) (term_of right.now)) (most_temps + 1) }
 {
     need(left).max(need(right) + beside(left)).min(TOO_MANY)
 }
 
-/// The temporary that an expression other than a leaf takes while the one after it is worked out.
+/// The temporary that an expression other than a leaf takes while the one after it is computed.
 #[tactic(auto, using(portus_core::specs::Programs::terms))]
 fn beside(expr: &Expr) -> u32
     ensures { result ≡ beside (term_of expr.now) }

@@ -1,4 +1,4 @@
-//! Which register stands for a name of a program.
+//! The register of each name of a program.
 ghost use Rattle.std.specs.Prelude.{◌≡◌, IsTrue};
 ghost use Rattle.reg_compiler.specs.CompiledCode.{reg_of};
 ghost use Rattle.reg_compiler.specs.Numbered.{is_numbered};

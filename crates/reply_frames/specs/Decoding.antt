@@ -1,4 +1,4 @@
--- What bytes are to one who reads an Update or a Change from their front.
+-- What reading an Update or a Change from the front of bytes gives.
 use Rattle.std.specs.Prelude.{◌≡◌, ◌≢◌, ℕ, ◌-◌, nat_lt, List, length, take, drop, Option, Some, None, Result, Ok, Err, if◌then◌else◌}
 use Rattle.std.specs.Int.{w32, from_le_bytes}
 use Rattle.ccp_base.specs.FieldReg.{Pair}
@@ -19,7 +19,7 @@ use Rattle.reply_frames.specs.Frames.{Frame, Body, Update, Change, frame_at}
 unfoldable pub needed_of : List ℕ → ℕ
 needed_of bytes = if nat_lt (length bytes) 16 then 16 else from_le_bytes w32 (take 4 (drop 12 bytes))
 
--- what it is that reading stopped
+-- why reading stopped
 abbrev pub fault_of : List ℕ → Stop → FrameFault
 fault_of bytes stops.Cut = More (needed_of bytes)
 fault_of bytes (stops.Bad kind left) = Bad kind (length bytes - left)
@@ -27,7 +27,7 @@ fault_of bytes (stops.Bad kind left) = Bad kind (length bytes - left)
 abbrev pub head_of : Outline → Option ℕ → ℕ → ReplyHead
 head_of outline program used = record { flow = outline.flow; program = program; version = outline.version; used = used }
 
--- what a whole frame is to a reader of Update and Change
+-- what reading gives for a whole frame: an Update, a Change, or a frame of another kind
 abbrev pub answer_of : FrameKind → Outline → Body → ℕ → Result (ReplyHead × List Pair) FrameFault
 answer_of kinds.Update outline (Update values) used = Ok (head_of outline None used, values)
 answer_of kinds.Change outline (Change program values) used = Ok (head_of outline (Some program) used, values)
@@ -37,7 +37,7 @@ abbrev pub decoded_from : List ℕ → Read Frame → Result (ReplyHead × List 
 decoded_from bytes (Ok (frame, rest)) = answer_of frame.outline.kind frame.outline frame.body (length bytes - length rest)
 decoded_from bytes (Err stop) = Err (fault_of bytes stop)
 
--- the head and the values of the Update or the Change that begins the bytes, or what they are instead
+-- the head and the values of the Update or the Change at the front of the bytes, or why there is none
 abbrev pub decoded_of : List ℕ → Result (ReplyHead × List Pair) FrameFault
 decoded_of bytes = decoded_from bytes (frame_at bytes)
 
@@ -49,7 +49,7 @@ pub record IsOther (bytes : List ℕ) (number : ℕ) : Type 0 where
   pub no_change : frame.outline.kind ≢ kinds.Change
   pub number_is : number ≡ number_of frame.outline.kind
 
--- it refuses a byte
+-- the fault is a byte
 abbrev pub IsBad : Result ReplyHead FrameFault → Type 0
 IsBad (Ok head) = ⊥
 IsBad (Err (More needed)) = ⊥

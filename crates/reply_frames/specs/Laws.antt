@@ -8,7 +8,7 @@ use Rattle.reply_frames.specs.Whole.{AreBytes, IsFrame}
 abbrev pub PrefixFree : Type 0
 PrefixFree = (bytes more : List ℕ) → IsFrame bytes → IsFrame (bytes ++ more) → more ≡ []
 
--- bytes that a frame goes on from, and that are as long as a head, say how long the frame is
+-- a prefix of a frame that is as long as a head says how long the frame is
 abbrev pub Needed : Type 0
 Needed = (bytes more : List ℕ) → AreBytes (bytes ++ more) → IsFrame (bytes ++ more) → 16 ≤ length bytes → needed_of bytes ≡ length (bytes ++ more)
 

@@ -19,7 +19,7 @@ abbrev pub passed : {A : Type 0} → Read A → Result (List ℕ) Stop
 passed (Ok x) = Ok x.1
 passed (Err stop) = Err stop
 
--- what a function returned, seen by view, is what reading gives
+-- what a function returned, by `view`, is what reading gives
 abbrev pub Gives : {X Y : Type 0} → (X → Y) → Result X Stop → Result Y Stop → Type 0
 Gives view (Ok x) read = read ≡ Ok (view x)
 Gives view (Err stop) read = read ≡ Err stop
@@ -35,7 +35,7 @@ abbrev pub number_at : Width → List ℕ → Read ℕ
 number_at w bytes =
     if nat_lt (length bytes) (byte_len w) then Err Cut else Ok (from_le_bytes w (take (byte_len w) bytes), drop (byte_len w) bytes)
 
--- a number of so many bytes that is at most `most`: a byte is bad where every completion is above
+-- a number of `width` bytes that is at most `most`: a byte is bad if every completion is above `most`
 unfoldable pub limited_at : BadKind → ℕ → ℕ → List ℕ → Read ℕ
 limited_at field zero most bytes = Ok (0, bytes)
 limited_at field (suc width) most bytes = do
@@ -43,7 +43,7 @@ limited_at field (suc width) most bytes = do
   high ← limited_at field width ((most - low.0) / 256) low.1
   Ok (low.0 + 256 * high.0, high.1)
 
--- this number alone, in so many bytes
+-- only this number, in `width` bytes
 unfoldable pub exactly_at : BadKind → ℕ → ℕ → List ℕ → Read ℕ
 exactly_at field zero number bytes = Ok (0, bytes)
 exactly_at field (suc width) number bytes = do
@@ -51,7 +51,7 @@ exactly_at field (suc width) number bytes = do
   high ← exactly_at field width (number / 256) low.1
   Ok (low.0 + 256 * high.0, high.1)
 
--- so many parts of one form
+-- `count` parts of one form
 unfoldable pub repeated_at : {A : Type 0} → (List ℕ → Read A) → ℕ → List ℕ → Read (List A)
 repeated_at part zero bytes = Ok ([], bytes)
 repeated_at part (suc count) bytes = do

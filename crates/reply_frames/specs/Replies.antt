@@ -18,7 +18,7 @@ update_bytes version flow values = spelled version flow (Update values)
 abbrev pub change_bytes : Version → ℕ → ℕ → List Pair → List ℕ
 change_bytes version flow program values = spelled version flow (Change program values)
 
--- the frame with these values: an Update where there is no program, else a Change
+-- the frame with these values: an Update without a program, else a Change
 abbrev pub reply_bytes : Version → ℕ → Option ℕ → List Pair → List ℕ
 reply_bytes version flow None values = update_bytes version flow values
 reply_bytes version flow (Some program) values = change_bytes version flow program values

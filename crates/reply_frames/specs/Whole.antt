@@ -26,7 +26,7 @@ pub record IsBadFrom (bytes : List ℕ) (place : ℕ) : Type 0 where
   pub cut : IsCut (take place bytes)
   pub none : (more : List ℕ) → ¬ IsFrame (take (place + 1) bytes ++ more)
 
--- the same, and the byte at this place lies in this field
+-- the same, and the byte at this place belongs to this field
 abbrev pub IsBadIn : List ℕ → BadKind → ℕ → Type 0
 IsBadIn bytes field place = IsBadFrom bytes place × (frame_at bytes ≡ Err (Bad field (length bytes - place)))
 

@@ -1,15 +1,15 @@
 -- Bytes that are written into others.
 use Rattle.std.specs.Prelude.{◌≡◌, ℕ, ◌+◌, List, ◌++◌, length, take, drop}
 
--- bytes from a place on in place of what stood there; what stands before and after them is as it was
+-- the bytes `old` with `bytes` written over them from a place on; those before and after stay
 abbrev pub placed : ℕ → List ℕ → List ℕ → List ℕ
 placed at bytes old = take at old ++ bytes ++ drop (at + length bytes) old
 
--- bytes at the front, and after them what stood there
+-- bytes written over the front; those after them stay
 abbrev pub over : List ℕ → List ℕ → List ℕ
 over bytes old = bytes ++ drop (length bytes) old
 
--- these bytes were written at the front, and the answer is that they are so many
+-- these bytes were written at the front, and the answer is their number
 abbrev pub WroteFront : ℕ → List ℕ → List ℕ → List ℕ → ℕ → Type 0
 WroteFront count bytes old out answer = (answer ≡ count) × (out ≡ over bytes old)
 

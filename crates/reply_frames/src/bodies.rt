@@ -19,7 +19,7 @@ use crate::parts::{byte, limited, number16, number32, number64};
 use crate::values::{change, update};
 use ccp_base::{Ack, Fields, Notice, PRIMITIVES, Report, Values, ack_of};
 
-/// Reads so many numbers of eight bytes into `numbers`, in place of what it has, and gives the bytes after them.
+/// Reads `count` numbers of eight bytes into `numbers`, replacing what it has, and gives the bytes after them.
 fn numbers<'a>(bytes: &'a [u8], count: u8, numbers: &mut Values) -> Result<&'a [u8], Stop>
     requires { count ≤ most_fields }
     ensures read { Gives (λ rest. (numbers.new, rest.now)) result (repeated_at (number_at w64) count bytes.now) }
@@ -120,7 +120,7 @@ pub fn fault(bytes: &[u8], version: Version, flow: u32) -> Result<(Notice, &[u8]
     Ok((notice, rest))
 }
 
-/// The acknowledgement with these plain numbers, and with this number for whether there was a timeout.
+/// The acknowledgement with these plain numbers; `was_timeout` is 1 if there was a timeout, else 0.
 fn acknowledged(numbers: &Values, was_timeout: u64) -> Ack
     requires plain { length numbers.now ≡ flag_number }
     requires flag { was_timeout ≤ 1 }
@@ -152,7 +152,7 @@ pub fn refused(bytes: &[u8]) -> Result<((u8, u32), &[u8]), Stop>
     Ok(((reason, index), rest))
 }
 
-/// The bytes after the body of a frame of any kind, which is passed over.
+/// The bytes after the body of a frame of any kind, which is skipped.
 pub(crate) fn passed(bytes: &[u8], head: Outline) -> Result<&[u8], Stop>
     requires { head.counts.n1 ≤ most_n1 head.kind head.version }
     ensures { Gives (λ rest. rest.now) result (passed (body_at head.kind head.version head.counts bytes.now)) }

@@ -1,4 +1,4 @@
-//! How an Update or a Change is read at the front of bytes, or why the bytes don't begin with one.
+//! Reads an Update or a Change at the front of bytes, or says why the bytes don't begin with one.
 ghost use Rattle.std.specs.Prelude.{◌≡◌, ℕ, ◌-◌, List, length, Option, OnErr, IfOk, IfErr, Ok, Err};
 ghost use Rattle.reply_frames.specs.declared.fault.BadKind.{BadKind};
 ghost use Rattle.ccp_base.specs.FieldReg.{Pair};
@@ -15,7 +15,7 @@ use crate::outline::{FrameKind, Outline, Version, kind_number};
 use crate::values::{change, update};
 use ccp_base::Fields;
 
-/// What an Update or a Change says beside its values.
+/// What an Update or a Change has besides its values.
 #[derive(Clone, Copy, PartialEq, Eq)]
 pub struct ReplyHead {
     /// The flow.
@@ -28,7 +28,7 @@ pub struct ReplyHead {
     pub used: usize,
 }
 
-/// How many bytes the front of a frame goes on to: to the 16 of a head, or to the length that the head says.
+/// How many bytes are needed to go on: the 16 of a head, or the frame's length once the head is there.
 #[tactic(auto, unfolding(crate::specs::Decoding::needed_of))]
 pub fn needed(bytes: &[u8]) -> usize
     ensures { result ≡ needed_of bytes.now }
@@ -41,7 +41,7 @@ pub fn needed(bytes: &[u8]) -> usize
     }
 }
 
-/// Why bytes are no whole frame, where reading them stopped.
+/// Why bytes are no whole frame, from where reading stopped.
 fn stopped(bytes: &[u8], stop: Stop) -> FrameFault
     ensures { result ≡ fault_of bytes.now stop }
 {
@@ -89,8 +89,8 @@ fn found(bytes: &[u8]) -> Result<(ReplyHead, Fields), FrameFault>
     }
 }
 
-/// Reads the Update or the Change at the front of bytes: its values go into `values`, which are as before where the
-/// answer isn't Ok. The faults are those of `FrameFault`.
+/// Reads the Update or the Change at the front of bytes into `values`, which are as before unless the answer is Ok. The
+/// faults are those of `FrameFault`.
 pub fn decode_fields(bytes: &[u8], values: &mut Fields) -> Result<ReplyHead, FrameFault>
     ensures found { IfOk result (λ head. decoded_of bytes.now ≡ Ok (head, values.new)) }
     ensures fault { IfErr result (λ fault. decoded_of bytes.now ≡ Err fault) }
@@ -100,16 +100,16 @@ pub fn decode_fields(bytes: &[u8], values: &mut Fields) -> Result<ReplyHead, Fra
     ensures only { (head : ReplyHead) (pairs : List Pair) → IsReply bytes.now head pairs
         → (result ≡ Ok head) × (values.new ≡ pairs) }
 
-    // More comes exactly where the bytes are a proper prefix of a frame.
+    // The answer is More exactly if the bytes are a proper prefix of a frame.
     ensures more { (n : ℕ) → result ≡ Err (FrameFault.More n) → IsCut bytes.now × (n ≡ needed_of bytes.now) }
     ensures cut { IsCut bytes.now → result ≡ Err (FrameFault.More (needed_of bytes.now)) }
 
-    // Other comes exactly where they begin with a whole frame of another kind.
+    // It is Other exactly if they begin with a whole frame of another kind.
     ensures other { (n : ℕ) → result ≡ Err (FrameFault.Other n) → IsOther bytes.now n }
     ensures passed { (n : ℕ) → IsOther bytes.now n → result ≡ Err (FrameFault.Other n) }
 
-    // Bad says how long the longest prefix is that a frame begins with, and in which field the byte after it lies. It
-    // comes where the bytes are no prefix of a frame and begin with none.
+    // Bad has the length of the longest prefix that some frame begins with, and the field of the byte after it. It is
+    // the answer if the bytes are no prefix of a frame and begin with none.
     ensures bad { (field : BadKind) (place : ℕ) → result ≡ Err (FrameFault.Bad field place)
         → IsBadIn bytes.now field place }
     ensures refused { ((frame : Frame) → ¬ BeginsWith bytes.now frame) → ¬ IsCut bytes.now → IsBad result }

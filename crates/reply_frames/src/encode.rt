@@ -21,7 +21,7 @@ pub const HEAD: usize = 16;
 /// The length of a value, in bytes.
 const VALUE: usize = 10;
 
-/// Puts bytes at a place; what stands before and after them stays.
+/// Puts bytes at a place; those before and after them stay.
 pub fn put(out: &mut [u8], at: usize, bytes: &[u8])
     requires { at + length bytes.now ≤ length out.old }
     ensures { out.new ≡ placed at bytes.now out.old }
@@ -84,7 +84,7 @@ pub fn put_values(out: &mut [u8], at: usize, values: &Fields)
 }
 
 /// Writes the frame that writes these values on a flow, in version 1, at the front of `out`, and gives its length.
-/// `decode_fields` reads it back. Short exactly where `out` is shorter than that; then nothing is written.
+/// `decode_fields` reads it back. Short exactly if `out` is shorter than that; then nothing is written.
 pub fn encode_update(flow: u32, values: &Fields, out: &mut [u8]) -> Result<usize, Short>
     requires { AreTargets values.now }
     ensures ok { IfOk result
@@ -108,7 +108,7 @@ pub fn encode_update(flow: u32, values: &Fields, out: &mut [u8]) -> Result<usize
 }
 
 /// Writes the frame that starts a program on a flow with these values, in version 1, at the front of `out`, and gives
-/// its length. `decode_fields` reads it back. Short exactly where `out` is shorter than that; then nothing is written.
+/// its length. `decode_fields` reads it back. Short exactly if `out` is shorter than that; then nothing is written.
 pub fn encode_change(
     flow: u32,
     program: u32,

@@ -22,27 +22,27 @@ pub enum BadKind {
     FaultKind,
 }
 
-/// Where the reading of a part of a frame stopped.
+/// Why the reading of a part of a frame stopped.
 #[derive(Clone, Copy)]
 pub enum Stop {
-    /// At the end of the bytes, where the part goes on.
+    /// The bytes end within the part.
     Cut,
-    /// At a byte that can't stand there: its field, and how many bytes there are from it on.
+    /// A byte is wrong: its field, and how many bytes there are from it on.
     Bad(BadKind, usize),
 }
 
 /// Why bytes don't begin with an Update or a Change.
 #[derive(Clone, Copy, PartialEq, Eq)]
 pub enum FrameFault {
-    /// They are a proper prefix of a frame, which goes on to this many bytes at least: to the 16 of a head, or to
-    /// the frame's length where the head is there.
+    /// They are a proper prefix of a frame, which has at least this many bytes: the 16 of a head, or the frame's length
+    /// once the head is there.
     More(usize),
-    /// No frame begins so: the field, and the offset of the first byte that no frame goes on with.
+    /// Not the start of any frame: the field and the offset of the first bad byte, with which no frame continues.
     Bad(BadKind, usize),
-    /// They begin with a whole frame of another kind, whose number this is.
+    /// They begin with a whole frame of another kind, which has this number.
     Other(u8),
 }
 
-/// The bytes that were handed in are fewer than the frame needs, which is this many.
+/// The given bytes are fewer than the frame needs, which is this many.
 #[derive(Clone, Copy, PartialEq, Eq)]
 pub struct Short(pub usize);

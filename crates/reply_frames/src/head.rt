@@ -37,8 +37,7 @@ fn counts(bytes: &[u8], kind: FrameKind, version: Version) -> Result<(Counts, &[
     Ok((counts, rest))
 }
 
-/// The head of a frame, whose counts are within the bounds of its kind and whose length is theirs, and the bytes
-/// after it.
+/// The head of a frame, whose counts are within the bounds of its kind and give its length, and the bytes after it.
 #[tactic(auto, unfolding(crate::specs::Frames::outline_at))]
 pub fn outline(bytes: &[u8]) -> Result<(Outline, &[u8]), Stop>
     ensures read { Gives (λ x. (x.0, x.1.now)) result (outline_at bytes.now) }

@@ -87,7 +87,7 @@ pub fn instruction(bytes: &[u8]) -> Result<(Instruction, &[u8]), Stop>
     ))
 }
 
-/// The bytes after so many declared registers.
+/// The bytes after `count` declared registers.
 fn starts(bytes: &[u8], count: u8) -> Result<&[u8], Stop>
     ensures { Gives (λ rest. rest.now) result (passed (repeated_at start_at count bytes.now)) }
 {
@@ -99,7 +99,7 @@ fn starts(bytes: &[u8], count: u8) -> Result<&[u8], Stop>
     Ok(rest)
 }
 
-/// The bytes after so many events.
+/// The bytes after `count` events.
 fn events(bytes: &[u8], count: u16) -> Result<&[u8], Stop>
     ensures { Gives (λ rest. rest.now) result (passed (repeated_at event_at count bytes.now)) }
 {
@@ -111,7 +111,7 @@ fn events(bytes: &[u8], count: u16) -> Result<&[u8], Stop>
     Ok(rest)
 }
 
-/// The bytes after so many instructions.
+/// The bytes after `count` instructions.
 fn instructions(bytes: &[u8], count: u16) -> Result<&[u8], Stop>
     ensures { Gives (λ rest. rest.now) result (passed (repeated_at instruction_at count bytes.now)) }
 {
@@ -123,7 +123,7 @@ fn instructions(bytes: &[u8], count: u16) -> Result<&[u8], Stop>
     Ok(rest)
 }
 
-/// The bytes after an Install's body, whose code is passed over.
+/// The bytes after an Install's body, whose code is skipped.
 #[tactic(auto, unfolding(crate::specs::Frames::install_at))]
 pub(crate) fn install(bytes: &[u8], counts: Counts) -> Result<&[u8], Stop>
     ensures { Gives (λ rest. rest.now) result (passed (install_at counts bytes.now)) }

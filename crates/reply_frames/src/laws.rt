@@ -10,8 +10,8 @@ pub fn limits_hold()
     ensures operations { MOST_OPERATION ≡ most_operation }
 {}
 
-/// The laws of whole frames. No frame is a proper prefix of another; of a frame that is cut after its head, what is
-/// needed is the frame's length; and no frame is longer than 8,596 bytes.
+/// The laws of whole frames. No frame is a proper prefix of another; a frame that is cut after its head needs the
+/// frame's length; and no frame is longer than 8,596 bytes.
 pub fn frame_laws()
     ensures prefix_free { PrefixFree }
     ensures needed { Needed }

@@ -1,6 +1,6 @@
 //! The frames with which an agent answers a datapath, Update and Change: they are written and read in place. The
-//! byte rules of the frames of every kind stand in this crate's definitions, and reading keeps to all of them. The
-//! public modules have the readers and writers of parts, of which the other kinds are made as well.
+//! byte rules of the frames of every kind are in this crate's definitions, and reading follows all of them. The public
+//! modules have the readers and writers of parts, which the other kinds use as well.
 #![tactic(auto)]
 
 pub mod bodies;

@@ -1,5 +1,5 @@
-//! Bytes and numbers, read from the front of bytes. Each reader stops at the end of the bytes where the part goes on,
-//! or at the first byte that can't stand there.
+//! Bytes and numbers, read from the front of bytes. Each reader stops if the bytes end within the part, or at the first
+//! byte with which no part continues.
 
 ghost use Rattle.std.specs.Prelude.{◌≡◌, ℕ, ◌≤◌, length, IfOk};
 ghost use Rattle.std.specs.Int.{w16, w32, w64};
@@ -61,8 +61,8 @@ pub(crate) fn number64(bytes: &[u8]) -> Result<(u64, &[u8]), Stop>
     Ok((number, rest))
 }
 
-/// A number of `width` bytes that is at most `most`, and the bytes after it. A byte is a bad one of `field` where
-/// every number that goes on so is above `most`.
+/// A number of `width` bytes that is at most `most`, and the bytes after it. A byte is a bad one of `field` if every
+/// number that continues so is above `most`.
 #[tactic(auto, unfolding(crate::specs::Parts::limited_at))]
 pub(crate) fn limited(
     bytes: &[u8],
@@ -82,7 +82,7 @@ pub(crate) fn limited(
     Ok((low + 256 * high, rest))
 }
 
-/// This number alone, in `width` bytes, and the bytes after it. Another byte is a bad one of `field`.
+/// Only this number, in `width` bytes, and the bytes after it. Another byte is a bad one of `field`.
 #[tactic(auto, unfolding(crate::specs::Parts::exactly_at))]
 pub(crate) fn exactly(
     bytes: &[u8],

@@ -39,8 +39,8 @@ fn value(bytes: &[u8]) -> Result<((FieldReg, u64), &[u8]), Stop>
     Ok(((reg, value), rest))
 }
 
-/// Reads so many values, at most 66, into `fields` in place of what it has, and gives the bytes after them. Where the
-/// answer isn't Ok, `fields` is as before.
+/// Reads `count` values, at most 66, into `fields`, replacing what it has, and gives the bytes after them. Unless the
+/// answer is Ok, `fields` is as before.
 fn values<'a>(bytes: &'a [u8], count: u8, fields: &mut Fields) -> Result<&'a [u8], Stop>
     requires { count ≤ most_pairs }
     ensures read { Gives (λ rest. (fields.new, rest.now)) result (values_at count bytes.now) }
@@ -57,8 +57,8 @@ fn values<'a>(bytes: &'a [u8], count: u8, fields: &mut Fields) -> Result<&'a [u8
     Ok(rest)
 }
 
-/// Reads the values of an Update's body into `fields`, and gives the bytes after it. Where the answer isn't Ok,
-/// `fields` is as before.
+/// Reads the values of an Update's body into `fields`, and gives the bytes after it. Unless the answer is Ok, `fields`
+/// is as before.
 #[tactic(auto, unfolding(crate::specs::Frames::update_at))]
 pub fn update<'a>(bytes: &'a [u8], count: u8, fields: &mut Fields) -> Result<&'a [u8], Stop>
     requires { count ≤ most_pairs }
@@ -70,7 +70,7 @@ pub fn update<'a>(bytes: &'a [u8], count: u8, fields: &mut Fields) -> Result<&'a
 }
 
 /// Reads the program and the values of a Change's body, the values into `fields`, and gives the program and the bytes
-/// after it. Where the answer isn't Ok, `fields` is as before.
+/// after it. Unless the answer is Ok, `fields` is as before.
 #[tactic(auto, unfolding(crate::specs::Frames::change_at))]
 pub fn change<'a>(bytes: &'a [u8], count: u8, fields: &mut Fields) -> Result<(u32, &'a [u8]), Stop>
     requires { count ≤ most_pairs }

@@ -1,4 +1,4 @@
--- Which nodes are commands among the names in scope, the action that each stands for, and the names after it.
+-- Which nodes are commands among the names in scope, the action of each, and the names after it.
 use Rattle.std.specs.Prelude.{◌≡◌, ◌⊎◌, ℕ, ◌<◌, ◌≤◌, Bool, true, IsTrue, IsFalse, List, [], ◌∷◌, length, codes}
 use Rattle.ccp_base.specs.Limits.{most_locals, most_tenths}
 use Rattle.portus_core.specs.declared.program.Var.{Var}
@@ -11,7 +11,7 @@ use Rattle.scope_types.specs.Scope.{Scope, with_local}
 use Rattle.portus_core.specs.Words.{variable_of, is_reserved, is_field_use, is_primitive_use}
 use Rattle.scope_types.specs.ExpressionRules.{Means, NamesVariable, IsTerm}
 
--- a value that is a Bool where one is wanted
+-- a value that is a Bool if one is required
 abbrev pub FitsKind : Bool → Bool → Type 0
 FitsKind wanted truth = IsTrue wanted → IsTrue truth
 

@@ -32,7 +32,7 @@ abbrev pub word_target_walk : Scope → Place → List ℕ → Option Var → Re
 word_target_walk names at w (Some v) = Ok (Known at v)
 word_target_walk names at w None = if is_reserved w then Err (fault.Misplaced at) else named_target_walk at w (meaning_of names w)
 
--- what an assignment names: a variable, or a word without a meaning
+-- the target of an assignment: a variable, or a word without a meaning
 abbrev pub target_walk : Scope → Node → Result Target ScopeFault
 target_walk names (word at w) = word_target_walk names at w (variable_of w)
 target_walk names (number at n) = Err (fault.Misplaced at)
@@ -55,7 +55,7 @@ abbrev pub known_walk : Target → Result Var ScopeFault
 known_walk (Known at v) = Ok v
 known_walk (Fresh at w) = Err (fault.Unknown at)
 
--- a Bool, where one is wanted
+-- a Bool, if one is required
 abbrev pub kind_walk : Scope → Bool → Place → Term → Result Term ScopeFault
 kind_walk names wanted at term = if wanted && not (is_bool names term) then Err (fault.Kind at) else Ok term
 
@@ -63,8 +63,8 @@ abbrev pub choice_action : Bool → Place → Var → Term → Term → Action
 choice_action true head v condition value = set_if head v condition value
 choice_action false head v condition value = set_unless head v condition value
 
--- `if` and `!if`, of which the first assigns where its condition is true: both parts are expressions; then the
--- first is a Bool, and so is the second where the target is one
+-- `if` and `!if`, of which the first assigns if its condition is true: both parts are expressions; then the first
+-- is a Bool, and so is the second if the target is one
 abbrev pub choice_walk : Scope → Target → Bool → Place → Place → Nodes → Result Step ScopeFault
 choice_walk names target when_true value_at head (more condition (more value none)) =
     and_then (known_walk target) (λ v.
@@ -94,7 +94,7 @@ ewma_walk names target value_at head (more weight (more value none)) =
     Ok (ewma head v w e, names))))
 ewma_walk names target value_at head parts = Err (fault.Misplaced value_at)
 
--- a target that is a Bool wants a Bool; a word without a meaning becomes a local
+-- a target that is a Bool requires a Bool; a word without a meaning becomes a local
 abbrev pub set_walk : Scope → Target → Place → Term → Result Step ScopeFault
 set_walk names (Known at v) value_at term =
     and_then (kind_walk names (wants_bool names v) value_at term) (λ e. Ok (set v e, names))
@@ -118,7 +118,7 @@ abbrev pub assigned_walk : Scope → Target → Node → Result Step ScopeFault
 assigned_walk names (Known at var.Micros) value = micros_walk names value
 assigned_walk names target value = value_walk names target value
 
--- an assignment: its target is looked at first
+-- an assignment: its target is checked first
 abbrev pub assignment_walk : Scope → Node → Node → Result Step ScopeFault
 assignment_walk names target value =
     and_then (target_walk names target) (λ found. assigned_walk names found value)

@@ -1,17 +1,17 @@
--- A list's first part, told apart from the rest, and the place of a part.
+-- A list's first part and the parts after it, and the place of a part.
 use Rattle.std.specs.Prelude.{◌≡◌}
 use Rattle.ccp_base.specs.declared.place.Place.{Place}
 use Rattle.portus_core.specs.Trees.{Node, Nodes, number, word, list, none, more, node_of, nodes_of}
 use Rattle.scope_types.specs.declared.cut.Cut.{Cut}
 use Rattle.scope_types.specs.declared.cut.Cut.TheVariants.{Nothing, First}
 
--- what a part's place is
+-- the place of a part
 abbrev pub place_of : Node → Place
 place_of (number at n) = at
 place_of (word at w) = at
 place_of (list at parts) = at
 
--- a list's first part is told apart from the rest
+-- a list is its first part and the parts after it
 abbrev pub CutsInto : Nodes → Cut → Type 0
 CutsInto nodes Nothing = nodes ≡ none
 CutsInto nodes (First one rest) = nodes ≡ more (node_of one.now) (nodes_of rest.now)

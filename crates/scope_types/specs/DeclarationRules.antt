@@ -1,4 +1,4 @@
--- Which nodes declare names, and the declarations that they stand for.
+-- Which nodes declare names, and what they declare.
 use Rattle.std.specs.Prelude.{◌≡◌, ◌⊎◌, ℕ, ◌-◌, ◌^◌, Bool, true, false, IsTrue, IsFalse, List, [], ◌∷◌, Some, codes, slice_get}
 use Rattle.portus_core.specs.declared.program.Decl.{Decl}
 use Rattle.portus_core.specs.Trees.{Node, Nodes, number, word, list, none, more}

@@ -16,7 +16,7 @@ use Rattle.scope_types.specs.Scope.{Scope, scope_of}
 use Rattle.scope_types.specs.Cuts.{place_of}
 use Rattle.scope_types.specs.WalkResults.{and_then}
 
--- what the parts of `def` so far declare, and whether the group of fields was there
+-- what the parts of `def` so far declare, and whether a group of fields was among them
 pub record Declaring : Type 0 where
   pub names : Scope
   pub grouped : Bool
@@ -59,7 +59,7 @@ with_field names decl = record names { fields = names.fields ++ decl ∷ [] }
 abbrev pub with_control : Scope → Decl → Scope
 with_control names decl = record names { controls = names.controls ++ decl ∷ [] }
 
--- one more field: the word is looked at first, then whether it was declared before, then the limit
+-- one more field: the checks are of the word, then of an earlier declaration, then of the limit
 abbrev pub field_walk : Scope → Declaration → Result Scope ScopeFault
 field_walk names d =
     if not (is_field_name d.decl.name) then Err (Misplaced d.at)

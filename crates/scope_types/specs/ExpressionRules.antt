@@ -1,4 +1,4 @@
--- Which nodes are expressions among the names in scope, the term that each stands for, and whether it is a Bool.
+-- Which nodes are expressions among the names in scope, the term of each, and whether it is a Bool.
 use Rattle.std.specs.Prelude.{◌≡◌, ℕ, ◌<◌, ◌^◌, Bool, false, IsFalse, List, ◌++◌, Option, Some, None, codes, slice_get}
 use Rattle.ccp_base.specs.Acknowledgement.{is_flag}
 use Rattle.portus_core.specs.declared.program.Decl.{Decl}
@@ -66,7 +66,7 @@ abbrev pub IsWord : Scope → List ℕ → Option Term → Term → Bool → Typ
 IsWord scope w (Some constant) t truth = (t ≡ constant) × (truth ≡ constant_truth constant)
 IsWord scope w None t truth = IsName scope w t truth
 
--- an operation on two parts, of which the whole is a Bool where its operator gives one
+-- an operation on two parts; it is a Bool if its operator gives one
 pub record IsPair (op : Option Op2) (head : Place) (Left Right : Term → Bool → Type 0) (t : Term) (truth : Bool) : Type 0 where
   pub operator : Op2
   pub spelt : op ≡ Some operator

@@ -14,7 +14,7 @@ use Rattle.scope_types.specs.ValueWords.{constant_of}
 use Rattle.scope_types.specs.Names.{meaning_of}
 use Rattle.scope_types.specs.Scope.{Scope}
 
--- a value where it is there, else this refusal
+-- the value if there is one, else this refusal
 abbrev pub or_refused : {A : Type 0} → Option A → ScopeFault → Result A ScopeFault
 or_refused (Some a) fault = Ok a
 or_refused None fault = Err fault
@@ -23,7 +23,7 @@ abbrev pub name_walk : Result Var ScopeFault → Result Term ScopeFault
 name_walk (Ok v) = Ok (name v)
 name_walk (Err e) = Err e
 
--- the variable that a word stands for
+-- the variable that a word names
 abbrev pub variable_walk : Scope → Place → List ℕ → Option Var → Result Var ScopeFault
 variable_walk names at w (Some v) = Ok v
 variable_walk names at w None = if is_reserved w then Err (Misplaced at) else or_refused (meaning_of names w) (Unknown at)

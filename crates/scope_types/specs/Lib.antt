@@ -1,4 +1,5 @@
--- The definitions of scope_types, a file each.
+-- The definitions of scope_types, a file each. Public contracts cite WellScoped, over the files named ..Rules, and
+-- Outcomes and ProgramWalk, over those named ..Walk.
 pub mod ValueWords
 pub mod Scope
 pub mod Names

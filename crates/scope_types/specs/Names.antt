@@ -1,4 +1,4 @@
--- What a name stands for among those in scope.
+-- What a name means among those in scope.
 use Rattle.std.specs.Prelude.{ℕ, ◌+◌, List, [], ◌∷◌, drop, Option, Some, None, if◌then◌else◌, bytes_eq}
 use Rattle.portus_core.specs.declared.program.Decl.{Decl}
 use Rattle.portus_core.specs.declared.program.Var.{Var}
@@ -18,12 +18,12 @@ abbrev pub local_from : ℕ → List Local → List ℕ → Option ℕ
 local_from i [] w = None
 local_from i (local ∷ rest) w = if bytes_eq local.name w then Some i else local_from (i + 1) rest w
 
--- the variable of this kind that has the number, where there is one, or else the other
+-- the variable of this kind with the number, if there is a number, else the other variable
 abbrev pub variable_or : (ℕ → Var) → Option ℕ → Option Var → Option Var
 variable_or kind (Some i) else_ = Some (kind i)
 variable_or kind None else_ = else_
 
--- what a word that isn't reserved stands for
+-- the meaning of a word that isn't reserved
 abbrev pub meaning_of : Scope → List ℕ → Option Var
 meaning_of names w =
     if is_field_use w then variable_or var.Field (decl_from 0 names.fields (drop 7 w)) None

@@ -1,4 +1,4 @@
--- What forms stand for, or are refused by.
+-- The program of forms, or their first refusal.
 use Rattle.std.specs.Prelude.{◌≡◌, ◌⊎◌, Result, Err, MatchResult}
 use Rattle.portus_core.specs.Trees.{Nodes}
 use Rattle.portus_core.specs.Programs.{Form}
@@ -9,7 +9,7 @@ use Rattle.scope_types.specs.declared.fault.ScopeFault.TheVariants.{NoMemory}
 use Rattle.scope_types.specs.ProgramWalk.{source_walk}
 use Rattle.scope_types.specs.WellScoped.{IsScoped}
 
--- the answer is the program of this form, or there was no memory for it
+-- the answer is the program of this form, or out of memory
 abbrev pub ScopesAs : Result Program ScopeFault → Form → Type 0
 ScopesAs result form = MatchResult result (λ program. form_of program ≡ form) (λ fault. fault ≡ NoMemory)
 
@@ -17,7 +17,7 @@ ScopesAs result form = MatchResult result (λ program. form_of program ≡ form)
 abbrev pub IsRefused : Nodes → ScopeFault → Type 0
 IsRefused nodes refusal = source_walk nodes ≡ Err refusal
 
--- forms stand for one program or have one first refusal, which is that of a rule, and not both
+-- forms have one program or one first refusal, which is by a rule, and not both
 pub record IsSettled (nodes : Nodes) : Type 0 where
   pub one : (left right : Form) → IsScoped nodes left → IsScoped nodes right → left ≡ right
   pub one_refusal : (left right : ScopeFault) → IsRefused nodes left → IsRefused nodes right → left ≡ right

@@ -43,7 +43,7 @@ abbrev pub block_walk : Scope → Place → Nodes → Result (Part × Scope) Sco
 block_walk names at none = Err (Misplaced at)
 block_walk names at (more condition commands) = inner_walk (without_locals names) condition commands
 
--- a form after the first, where that many blocks are before it
+-- a form after the first, with `count` blocks before it
 abbrev pub form_walk : Scope → ℕ → Node → Result (Part × Scope) ScopeFault
 form_walk names count (list at (more (word head w) parts)) =
     if not (bytes_eq w (codes "when")) then Err (Misplaced at)

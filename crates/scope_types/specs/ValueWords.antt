@@ -1,8 +1,8 @@
--- The words that stand for values.
+-- The words that are values.
 use Rattle.std.specs.Prelude.{ℕ, ◌-◌, ◌^◌, Bool, true, false, List, Option, Some, None, codes, if◌then◌else◌, bytes_eq}
 use Rattle.portus_core.specs.Programs.{Term, number, truth}
 
--- the value that a word stands for
+-- the value of a word
 abbrev pub constant_of : List ℕ → Option Term
 constant_of w =
     if bytes_eq w (codes "true") then Some (truth true)

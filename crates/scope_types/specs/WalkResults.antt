@@ -1,4 +1,4 @@
--- What walks give one after the other, and that they give what the code's commands, blocks and refusals stand for.
+-- Walks one after the other, and their results as the data of the code's commands, blocks and refusals.
 use Rattle.std.specs.Prelude.{◌≡◌, ◌≢◌, map, List, Result, Ok, Err}
 use Rattle.portus_core.specs.Programs.{Term, Action, action_of, set, Part, part_of}
 use Rattle.portus_core.specs.declared.program.Cmd.{Cmd}
@@ -9,20 +9,20 @@ use Rattle.scope_types.specs.declared.fault.ScopeFault.TheVariants.{NoMemory}
 use Rattle.scope_types.specs.declared.names.Names.{Names}
 use Rattle.scope_types.specs.Scope.{Scope, scope_of}
 
--- the second walk goes on from what the first gives; a refusal of the first is that of both
+-- the second walk continues from the result of the first; a refusal of the first is that of both
 abbrev pub and_then : {A B E : Type 0} → Result A E → (A → Result B E) → Result B E
 and_then (Ok a) walk = walk a
 and_then (Err e) walk = Err e
 
--- a refusal in the code is that of the walk, but for want of memory
+-- a refusal in the code is that of the walk, or out of memory
 abbrev pub EndsWalk : {A : Type 0} → Result A ScopeFault → ScopeFault → Type 0
 EndsWalk outcome fault = fault ≢ NoMemory → outcome ≡ Err fault
 
--- what the commands of a body stand for
+-- the data of the commands of a body
 abbrev pub actions_of : List Cmd → List Action
 actions_of commands = map action_of commands
 
--- what blocks stand for
+-- the data of blocks
 abbrev pub blocks_of : List Block → List Part
 blocks_of blocks = map part_of blocks
 

@@ -1,4 +1,4 @@
--- Which forms are well scoped, and the program that they stand for.
+-- Which forms are well scoped, and their program.
 use Rattle.std.specs.Prelude.{◌≡◌, ◌≤◌, true, false, List, [], ◌∷◌, length, codes}
 use Rattle.ccp_base.specs.Limits.{most_fields, most_controls, most_blocks}
 use Rattle.portus_core.specs.declared.program.Decl.{Decl}
@@ -29,7 +29,7 @@ AreBlocks names none (part ∷ parts) = ⊥
 AreBlocks names (more node rest) [] = ⊥
 AreBlocks names (more node rest) (part ∷ parts) = IsWhen names node part × AreBlocks names rest parts
 
--- the parts of `def` and the forms after it, with what they stand for
+-- the parts of `def` and the forms after it, with their declarations and blocks
 pub record IsProgram (parts forms : Nodes) (form : Form) : Type 0 where
   pub declared : AreParts parts false form.fields form.controls
   pub fields_distinct : AreDistinct form.fields
@@ -39,7 +39,7 @@ pub record IsProgram (parts forms : Nodes) (form : Form) : Type 0 where
   pub blocks : AreBlocks (first_names form.fields form.controls) forms form.blocks
   pub few_blocks : length form.blocks ≤ most_blocks
 
--- a text's forms are well scoped and stand for the program
+-- a text's forms are well scoped, and this is their program
 abbrev pub IsScoped : Nodes → Form → Type 0
 IsScoped (more (list at (more (word head w) parts)) forms) form = (w ≡ codes "def") × IsProgram parts forms form
 IsScoped nodes form = ⊥

@@ -22,7 +22,7 @@ use std::alloc::Global;
 /// The most locals of a body.
 const LOCALS: usize = 8;
 
-/// Tests that the expression is a Bool, where one is wanted.
+/// Refuses an expression that isn't a Bool, if one is required.
 pub(crate) fn of_kind(names: &Names, wanted: bool, at: Place, expr: &Expr) -> Result<(), ScopeFault>
     ensures ok { OnOk result (kind_walk (scope_of names.now) wanted at (term_of expr.now) ≡ Ok (term_of expr.now)) }
     ensures err { IfErr result (λ e. kind_walk (scope_of names.now) wanted at (term_of expr.now) ≡ Err e) }
@@ -33,7 +33,7 @@ pub(crate) fn of_kind(names: &Names, wanted: bool, at: Place, expr: &Expr) -> Re
     Ok(())
 }
 
-/// The command of `if`, or of `!if` where `when_true` is false.
+/// The command of `if`, or of `!if` if `when_true` is false.
 fn chosen(when_true: bool, head: Place, var: Var, condition: Expr, value: Expr) -> Cmd
     ensures { action_of result ≡ choice_action when_true head var (term_of condition) (term_of value) }
 {
@@ -44,7 +44,7 @@ fn chosen(when_true: bool, head: Place, var: Var, condition: Expr, value: Expr) 
     }
 }
 
-/// The assignment of `if`, or of `!if` where `when_true` is false.
+/// The assignment of `if`, or of `!if` if `when_true` is false.
 fn choice(
     alloc: Global,
     names: &Names,
@@ -177,7 +177,7 @@ fn assign(alloc: Global, names: &mut Names, target: Target, value: &Tree) -> Res
     }
 }
 
-/// An assignment: its target is looked at first, and `Micros` is assigned nothing but the numeral 0.
+/// An assignment: its target is checked first, and only the numeral 0 may be assigned to `Micros`.
 pub(crate) fn assignment(
     alloc: Global,
     names: &mut Names,

@@ -68,7 +68,7 @@ fn block(alloc: Global, names: &mut Names, at: Place, parts: &[Tree]) -> Result<
     }
 }
 
-/// A form after the first, with so many blocks before it.
+/// A form after the first, with `count` blocks before it.
 fn form(alloc: Global, names: &mut Names, count: usize, tree: &Tree) -> Result<Block, ScopeFault>
     ensures ok { IfOk result (GivesBlock (form_walk (scope_of names.old) count (node_of tree.now)) names.new) }
     ensures err { IfErr result (EndsWalk (form_walk (scope_of names.old) count (node_of tree.now))) }

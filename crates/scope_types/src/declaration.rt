@@ -39,11 +39,11 @@ pub(crate) struct Declaration {
 #[derive(Drop)]
 pub(crate) struct Declared {
     pub names: Names,
-    /// Whether the group of fields was there.
+    /// Whether a group of fields was among them.
     pub grouped: bool,
 }
 
-/// The value that a word stands for in a declaration.
+/// The value of a word in a declaration.
 fn start_word(w: &[u8]) -> Option<Start>
     ensures { result ≡ start_word w.now }
 {
@@ -67,7 +67,7 @@ fn start_word(w: &[u8]) -> Option<Start>
     }
 }
 
-/// The value that a part stands for in a declaration.
+/// The value of a part in a declaration.
 fn start_of(tree: &Tree) -> Option<Start>
     ensures { result ≡ start_of (node_of tree.now) }
 {

@@ -14,7 +14,7 @@ use std::alloc::{AllocError, Global};
 use std::hash::{Hash, Hasher};
 use std::marker::Model;
 
-/// A declaration, which its name alone tells from the others.
+/// A declaration, which is identified by its name.
 #[derive(Drop)]
 struct Named {
     decl: Decl,
@@ -52,7 +52,7 @@ impl Hash for Named {
     }
 }
 
-/// A text stands for the declaration that has it as its name.
+/// A text is equivalent to the declaration that has it as its name.
 impl Equivalent<Named> for &[u8] {
     ghost equivalent = { λ w a. bytes_eq w.now a.name };
 

@@ -16,7 +16,7 @@ use ccp_base::{Place, operator_of};
 use portus_core::{Expr, Op2, Parts, Tree, Var, take_apart};
 use std::alloc::Global;
 
-/// The variable that a word stands for.
+/// The variable that a word names.
 pub(crate) fn variable(names: &Names, at: Place, w: &[u8]) -> Result<Var, ScopeFault>
     ensures { result ≡ variable_walk (scope_of names.now) at w.now (variable_of w.now) }
 {
@@ -29,7 +29,7 @@ pub(crate) fn variable(names: &Names, at: Place, w: &[u8]) -> Result<Var, ScopeF
     meaning_of(names, w).ok_or(ScopeFault::Unknown(at))
 }
 
-/// The value or the variable that a word stands for.
+/// The value of a word, or the variable that it names.
 fn word(names: &Names, at: Place, w: &[u8]) -> Result<Expr, ScopeFault>
     ensures ok { IfOk result (λ e. word_walk (scope_of names.now) at w.now (constant_of w.now) ≡ Ok (term_of e)) }
     ensures err { IfErr result (λ e. word_walk (scope_of names.now) at w.now (constant_of w.now) ≡ Err e) }
@@ -55,7 +55,7 @@ fn pair(alloc: Global, op: Op2, head: Place, left: Expr, right: Expr) -> Result<
     Ok(Expr::Pair(op, head, left, right))
 }
 
-/// An expression: the left part is looked at before the right one.
+/// An expression: the left part is checked before the right one.
 pub(crate) fn expression(alloc: Global, names: &Names, tree: &Tree) -> Result<Expr, ScopeFault>
     ensures ok { IfOk result (λ e. expression_walk (scope_of names.now) (node_of tree.now) ≡ Ok (term_of e)) }
     ensures err { IfErr result (EndsWalk (expression_walk (scope_of names.now) (node_of tree.now))) }

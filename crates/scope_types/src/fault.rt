@@ -2,7 +2,7 @@
 use ccp_base::Place;
 use std::alloc::{AllocError, AllocFailed};
 
-/// What a program has more of than it may.
+/// What a program has too many of.
 #[derive(Clone, Copy, Debug)]
 pub enum What {
     Fields,
@@ -14,21 +14,21 @@ pub enum What {
 /// Why a text's forms are no program, with the place of the part that is refused.
 #[derive(Clone, Copy, Debug)]
 pub enum ScopeFault {
-    /// A word stands for nothing.
+    /// A word has no meaning here, as `y` in `(:= x (+ y 1))` if nothing named `y` was declared or assigned.
     Unknown(Place),
     /// A word is declared twice, or a second group of fields begins.
     Twice(Place),
     /// A primitive is assigned.
     NotWritable(Place),
-    /// A number stands where a Bool is wanted, a Bool is the target of `ewma`, or its weight isn't 0 to 10.
+    /// A number where a Bool is required, a Bool as the target of `ewma`, or a weight of `ewma` that isn't 0 to 10.
     Kind(Place),
-    /// A part has a form that may not stand there.
+    /// A word or a list where the grammar doesn't allow one, as `(x)` for a command.
     Misplaced(Place),
-    /// `Micros` is assigned something else than the numeral 0.
+    /// An assignment to `Micros` of anything but the numeral 0.
     Micros(Place),
     /// A field, control variable, local or block is past the most that there may be.
     TooMany(Place, What),
-    /// There was no memory left.
+    /// Out of memory.
     NoMemory,
 }
 

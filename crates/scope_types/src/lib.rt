@@ -1,5 +1,5 @@
-//! What the names of a program text stand for: a text's forms become a program, or are refused where the first
-//! rule of the language fails.
+//! The names of a program text and their meaning: a text's forms become a program, or are refused by the first rule of
+//! the language that fails.
 #![tactic(auto)]
 
 mod assignment;

@@ -1,4 +1,4 @@
-//! What a declared or local name stands for, and whether a variable or an expression is a Bool.
+//! The meaning of a declared or local name, and whether a variable or an expression is a Bool.
 ghost use Rattle.std.specs.Prelude.{◌≡◌, ◌≤◌, length, map, slice_get};
 ghost use Rattle.portus_core.specs.Programs.{term_of};
 ghost use Rattle.portus_core.specs.ValidPrograms.{declares_truth, is_bool_there};
@@ -30,7 +30,7 @@ fn find_local(locals: &[Local], name: &[u8]) -> Option<u32>
     None
 }
 
-/// What a word that isn't reserved stands for.
+/// The meaning of a word that isn't reserved.
 pub(crate) fn meaning_of(names: &Names, w: &[u8]) -> Option<Var>
     ensures { result ≡ meaning_of (scope_of names.now) w.now }
 {

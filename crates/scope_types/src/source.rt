@@ -22,7 +22,7 @@ use ccp_base::{Place, Sequence};
 use portus_core::{Block, Program, Source, Tree};
 use std::alloc::{AllocError, Global};
 
-/// What is declared before the first part of `def`.
+/// The declarations before the first part of `def`: none.
 fn nothing_declared(alloc: Global) -> Declared
     ensures { declaring_of result ≡ nothing_declared }
 {
@@ -67,7 +67,8 @@ fn program(alloc: Global, names: &Names, blocks: Vec<Block>) -> Result<Program, 
     })
 }
 
-/// The program of a text's forms, or the first refusal in the order of the text, where nothing is declared yet.
+// A function of its own: it has the declarations by reference, so that none of its exits drops them.
+/// The program of a text's forms, or the first refusal in the order of the text. `declared` has no declarations yet.
 fn scope_forms_over(
     alloc: Global,
     declared: &mut Declared,
@@ -94,17 +95,17 @@ fn scope_forms(alloc: Global, forms: &[Tree]) -> Result<Program, ScopeFault>
     scope_forms_over(alloc, &mut declared, forms)
 }
 
-/// The program that a text's forms stand for, or the first refusal in the order of the text. Where they stand for
-/// a program, only want of memory can refuse them.
+/// The program of a text's forms, or the first refusal in the order of the text. If they are a program, the call can
+/// fail only by running out of memory.
 pub fn scope(alloc: Global, source: Source) -> Result<Program, ScopeFault>
     ensures found { IfOk result (λ p. IsScoped (nodes_of source.forms.items) (form_of p)) }
     ensures only { (form : Form) → IsScoped (nodes_of source.forms.items) form → ScopesAs result form }
 
-    // The same as equations with the walk over the forms, which is the order of the refusals.
+    // The same as equations with the walk over the forms, which gives the order of the refusals.
     ensures gives { IfOk result (λ p. source_walk (nodes_of source.forms.items) ≡ Ok (form_of p)) }
     ensures refused { IfErr result (λ e. e ≢ ScopeFault.NoMemory → IsRefused (nodes_of source.forms.items) e) }
 
-    // Forms stand for one program or have one first refusal, and not both.
+    // Forms have one program or one first refusal, and not both.
     ensures settled { IsSettled (nodes_of source.forms.items) }
 {
     scope_forms(alloc, source.forms.as_slice())

@@ -13,7 +13,7 @@ use crate::words::{is_field_use, is_primitive_use, is_reserved, variable_of};
 use ccp_base::{Name, Place};
 use portus_core::{Tree, Var};
 
-/// What an assignment names.
+/// The target of an assignment.
 #[derive(Clone, Copy)]
 pub(crate) enum Target {
     /// A name with a meaning.
@@ -22,7 +22,7 @@ pub(crate) enum Target {
     Fresh(Place, Name),
 }
 
-/// The target that a word without a meaning of the language's own is.
+/// The target of a word with this meaning, or without one, that isn't a word of the language.
 fn named_target(at: Place, w: Name, meaning: Option<Var>) -> Result<Target, ScopeFault>
     ensures { result ≡ named_target_walk at w meaning }
 {

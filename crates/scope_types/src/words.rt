@@ -13,7 +13,7 @@ pub(crate) fn same(a: &[u8], b: &[u8]) -> bool
     a == b
 }
 
-/// The variable of the language that a word stands for.
+/// The variable of the language that a word names.
 pub(crate) fn variable_of(w: &[u8]) -> Option<Var>
     ensures { result ≡ variable_of w.now }
 {
@@ -43,7 +43,7 @@ fn is_heading(w: &[u8]) -> bool
         || same(w, b"bind")
 }
 
-/// Whether the word stands for a value.
+/// Whether the word is a value.
 pub(crate) fn is_constant(w: &[u8]) -> bool
     ensures { result ≡ is_constant w.now }
 {

@@ -5,7 +5,7 @@ use Rattle.std.specs.Ordering.{nat_cmp}
 use Rattle.std.specs.FinMap as map
 use Rattle.slot_pool.specs.Pool.{PoolState}
 
--- the free slots from one on, so many: the first word of each is the number of the next
+-- the numbers of `count` free slots, from `slot` on: the first word of each is the number of the next
 abbrev pub free_slots : (ℕ → List ℕ) → ℕ → ℕ → List ℕ
 free_slots words_of slot zero = []
 free_slots words_of slot (suc count) = slot ∷ free_slots words_of (slice_index (words_of slot) 0) count
@@ -27,7 +27,7 @@ abbrev pub AreBelow : ℕ → List ℕ → Type 0
 AreBelow limit [] = Unit {0}
 AreBelow limit (x ∷ xs) = (x < limit) × AreBelow limit xs
 
--- no slot stands twice
+-- no slot is in it twice
 abbrev pub AreApart : List ℕ → Type 0
 AreApart [] = Unit {0}
 AreApart (x ∷ xs) = (is_among x xs ≡ false) × AreApart xs

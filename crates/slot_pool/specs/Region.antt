@@ -2,7 +2,7 @@
 use Rattle.std.specs.Prelude.{◌≡◌, ◌≢◌, ℕ, ◌*◌, List, take, drop}
 use Rattle.slot_pool.specs.declared.region.Region.{Region}
 
--- the words of a slot, in a region of slots that have so many
+-- the words of a slot, in a region of slots of `words` words each
 abbrev pub words_in : List ℕ → ℕ → ℕ → List ℕ
 words_in items words slot = take words (drop (slot * words) items)
 

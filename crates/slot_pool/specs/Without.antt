@@ -1,4 +1,4 @@
--- A pool of which one slot that is out is kept aside: what its holder hands out has the other slots.
+-- A pool of which its holder keeps one slot aside and hands out the others.
 use Rattle.std.proofs.Common.{◌≡◌, ◌≢◌, ℕ, ◌-◌, List, Option, None, is_some, cond, option_map, slice_set, sym, ap, ◌∙◌, inl, inr, arith}
 use Rattle.std.proofs.lemmas.Bool.{cases_eq, true≢false}
 use Rattle.std.specs.Cmp.{nat_cmp_total}

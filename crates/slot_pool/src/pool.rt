@@ -13,7 +13,7 @@ use std::marker::Model;
 #[derive(Drop)]
 pub struct Pool {
     region: Region,
-    /// The first free slot, where one is free. Its first word is the number of the next one.
+    /// The first free slot, if there is one. Its first word is the number of the next one.
     first_free: usize,
     /// The number of free slots.
     free: usize,
@@ -34,7 +34,7 @@ impl Model for Pool {
 }
 
 impl Pool {
-    /// A pool of so many slots of so many words each, with no slot out.
+    /// A pool of `slots` slots of `words` words each, with no slot out.
     pub fn new(alloc: Global, slots: u32, words: u32) -> Result<Pool, AllocError>
         requires slots { 1 ≤ slots }
         requires words { 1 ≤ words }

@@ -21,7 +21,7 @@ impl Region {
     ghost use Rattle.slot_pool.specs.Pool.{with_run};
     ghost use Rattle.slot_pool.specs.Region.{words_of, ChangesWords};
 
-    /// A region of so many slots of so many words.
+    /// A region of `slots` slots of `words` words each.
     pub(crate) fn new(alloc: Global, slots: usize, words: usize) -> Result<Region, AllocError>
         requires has_words { 0 < words }
         requires small { slots * words ≤ 2 ^ 24 }

@@ -1,4 +1,4 @@
-//! The handle of a slot that is out, and the answer where every slot is.
+//! The handle of a slot that is out, and the answer if every slot is.
 ghost use Rattle.std.specs.Prelude.{◌≡◌, ℕ};
 
 use std::marker::Model;

@@ -1,4 +1,4 @@
-//! What hands out slots of words, for callers that needn't know the pool behind it.
+//! A trait for what hands out slots of words, so that callers needn't know the pool behind it.
 ghost use Rattle.std.specs.Prelude.{◌≡◌, ℕ, ◌+◌, ◌<◌, ◌↔◌, List, length, None, Some, IsErr, IfOk, OnOk, OnErr};
 ghost use Rattle.slot_pool.specs.Pool.{PoolState, words_at, IsOut, free_of, ChangesSlot, TakesZeros, WritesWord};
 
@@ -9,11 +9,11 @@ pub trait Slots {
     /// The pool of the slots that are handed out.
     ghost pool: { Self → PoolState };
 
-    /// All else that the object holds, which no call here changes.
+    /// The rest of the object, which no call here changes.
     ghost rest: { Self → List ℕ };
 
-    /// Takes a slot that isn't out. Its words are all 0. Its number is no index below the number of slots: a holder
-    /// that keeps slots of its own numbers the others after them.
+    /// Takes a slot that isn't out. Its words are all 0. Its number may be the number of slots or above, since a holder
+    /// that keeps slots for itself numbers the others after them.
     fn take_slot(&mut self) -> Result<Slot, Full>
         ensures full { IsErr result ↔ (free_of (pool self.old) ≡ 0) }
         ensures was_free { IfOk result (λ slot. words_at (pool self.old) slot ≡ None) }
