@@ -10,9 +10,9 @@ pub returns-clause-sound : goal.returns-clause-sound
 returns-clause-sound c =
     let s = c.args.self.now in
     sound-settled c.args.source.now s c.requires.sound c.args.issued.now c.reply-reply.new.self c.reply-reply.result c.close.new.self
-    c.requires.out c.reply-reply.ensures c.in_ok-close.ensures.tickets c.in_ok-close.ensures.frame s.agent c.obey.new.self c.in_ok-obey.ensures
+    c.requires.out c.reply-reply.ensures.turn c.in_ok-close.ensures.tickets c.in_ok-close.ensures.frame s.agent c.obey.new.self c.in_ok-obey.ensures
 
 pub returns-clause-at : goal.returns-clause-at
 returns-clause-at c = λ w at.
     at-settled c.args.source.now c.args.self.now w at c.args.issued.now c.reply-reply.new.self c.reply-reply.result c.close.new.self
-    c.requires.out c.reply-reply.ensures c.in_ok-close.ensures.tickets c.in_ok-close.ensures.frame c.obey.new.self c.in_ok-obey.ensures
+    c.requires.out c.reply-reply.ensures.turn c.in_ok-close.ensures.tickets c.in_ok-close.ensures.frame c.obey.new.self c.in_ok-obey.ensures
