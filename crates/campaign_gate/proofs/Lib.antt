@@ -2,7 +2,7 @@
 pub mod PlanLemmas
 pub mod PeakLemmas
 pub mod SumLemmas
-pub mod WalkLemmas
+pub mod CaseRunLemmas
 pub mod DueLemmas
 pub mod LinkedLemmas
 pub mod ShareLemmas

@@ -19,10 +19,10 @@ use Rattle.flow_core.proofs.WordLemmas.{take-keeps, answer-keeps}
 use Rattle.flow_core.proofs.LinkWordLemmas.{length-world, length-windows}
 use Rattle.campaign_gate.specs.declared.linked.Linked.{Linked}
 use Rattle.campaign_gate.specs.declared.listed.Listed.{Listed}
-use Rattle.campaign_gate.specs.Walks.{longer, MayMake, Makes}
+use Rattle.campaign_gate.specs.CaseRuns.{longer, MayMake, Makes}
 use Rattle.campaign_gate.specs.LinkedFlows.{linked_at, listed_at}
 use Rattle.campaign_gate.proofs.SumLemmas.{calls-run}
-use Rattle.campaign_gate.proofs.WalkLemmas.{world-longer}
+use Rattle.campaign_gate.proofs.CaseRunLemmas.{world-longer}
 
 -- ---- a letter
 

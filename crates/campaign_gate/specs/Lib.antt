@@ -1,7 +1,8 @@
--- The definitions of campaign_gate, a file each.
+-- The definitions of campaign_gate, a file each. Public contracts cite CampaignWord, CampaignRow, CampaignBooks, LiftedRow and
+-- ReportsMade. Only the crate's own steps and their proofs need CaseRuns, LinkedFlows, Shares and Parts.
 pub mod CampaignWord
 pub mod CampaignRow
-pub mod Walks
+pub mod CaseRuns
 pub mod LinkedFlows
 pub mod LiftedRow
 pub mod Shares

@@ -1,4 +1,4 @@
-//! The run of one case, and of many.
+//! The public calls: the row of one case, and the rows, books or acknowledgements of many.
 ghost use Rattle.std.specs.Prelude.{◌≡◌, ◌≤◌, true, map, length, IfOk};
 ghost use Rattle.std.specs.List.{All};
 ghost use Rattle.ccp_base.specs.Limits.{most_cases};
@@ -14,15 +14,15 @@ ghost use Rattle.campaign_gate.specs.LiftedRow.{IsLifted};
 use crate::case_result::CaseResult;
 use crate::queue::Queue;
 use crate::row::{Row, Rows};
-use crate::workers::by_workers;
+use crate::workers::make_by_workers;
 use ccp_base::{Acks, Gate, NoMemory, Sequence, Workers};
 use flow_core::{Book, Case, Cell};
 use std::alloc::Global;
 use std::marker::Brand;
 use std::thread::Threads;
 
-/// The row of a case: its flow makes its campaign word, which is legal and complete. For all programs that the case's
-/// codes simulate, that is the row read over these sources.
+/// Runs a case along its campaign word, which is legal and complete, and gives its row. For all programs that the case's
+/// codes simulate, this is the row read over their sources.
 pub fn run_case(alloc: Global, case: Case) -> Result<Row, NoMemory>
     ensures row { IfOk result (λ row. row ≡ row_of case) }
     ensures legal { legal (over_codes case) case.link (plan case) ≡ true }
@@ -35,10 +35,9 @@ pub fn run_case(alloc: Global, case: Case) -> Result<Row, NoMemory>
 /// The cases of a campaign in order.
 pub type Cases = Sequence<Case>;
 
-/// The rows of cases, in their order, whatever the number of workers. Worker `w` runs the cases whose number leaves `w`
-/// when it is divided by the number of workers, in order, each in a cell that is dropped after it. It passes the gate at
-/// `InCase` before a case and at `AfterCase` after it. Where a thread can't be started the caller does its work. There
-/// are at most 1,024 cases. The row of each case is that of its programs.
+/// The rows of at most 1,024 cases, in their order. They don't depend on `workers`. Worker `w` runs the cases
+/// `i` with `i mod workers = w`, in order, and drops each flow after its case. It passes `gate` at `InCase` before a case and at
+/// `AfterCase` after it. If a thread can't be started, the caller does its work. The row of each case is that of its programs.
 pub fn rows<R: Threads + Sync, G: Gate + Sync>(
     rt: &R,
     alloc: Global,
@@ -50,13 +49,13 @@ pub fn rows<R: Threads + Sync, G: Gate + Sync>(
     ensures rows { IfOk result (λ rows. rows ≡ map row_of cases) }
     ensures lifted { (case : Case) → IsLifted case }
 {
-    by_workers::<Brand, Row, R, G>(rt, alloc, cases.as_slice(), workers, gate)
+    make_by_workers::<Brand, Row, R, G>(rt, alloc, cases.as_slice(), workers, gate)
 }
 
 /// The books of a campaign in the order of their cases.
 pub type Books = Sequence<Book>;
 
-/// The books of flows, each of which is after its campaign word.
+/// The books of flows that are after their campaign words.
 fn books_of(alloc: Global, cells: Sequence<Cell>) -> Result<Books, NoMemory>
     requires { All (λ (cell : CellState). cell.word ≡ plan cell.case) cells }
     ensures cases { IfOk result (λ books. map (λ (book : Book). book.case) books ≡ map (λ (cell : CellState). cell.case) cells) }
@@ -79,8 +78,8 @@ fn book_of(cell: Cell) -> Book
     cell.finish()
 }
 
-/// The book of each case after its campaign word, in the order of the cases, whatever the number of workers: the same
-/// workers as those of `rows`, with the same gates, run the same cases. There are at most 1,024 cases.
+/// The book of each of at most 1,024 cases after its campaign word, in the order of the cases. The workers are those of `rows`:
+/// the same number of them runs the same cases and passes the same gates.
 pub fn books<R: Threads + Sync, G: Gate + Sync>(
     rt: &R,
     alloc: Global,
@@ -92,15 +91,15 @@ pub fn books<R: Threads + Sync, G: Gate + Sync>(
     ensures books { IfOk result (λ books. AreCampaignBooks cases books) }
     ensures source { (case : Case) → HasSourcePlan case }
 {
-    let cells = by_workers::<Brand, Cell, R, G>(rt, alloc, cases.as_slice(), workers, gate)?;
+    let cells = make_by_workers::<Brand, Cell, R, G>(rt, alloc, cases.as_slice(), workers, gate)?;
     books_of(alloc, cells)
 }
 
 /// The acknowledgements of each case of a campaign, in the order of the cases.
 pub type CaseAcks = Sequence<Acks>;
 
-/// The acknowledgements of each case on its campaign word, in the order of the cases, whatever the number of workers:
-/// the same workers as those of `rows`, with the same gates, run the same cases. There are at most 1,024 cases.
+/// The acknowledgements that each of at most 1,024 cases gets on its campaign word, in the order of the cases. The workers are
+/// those of `rows`: the same number of them runs the same cases and passes the same gates.
 pub fn acks<R: Threads + Sync, G: Gate + Sync>(
     rt: &R,
     alloc: Global,
@@ -112,5 +111,5 @@ pub fn acks<R: Threads + Sync, G: Gate + Sync>(
     ensures acks { IfOk result (λ acks. acks ≡ map acks_of_case cases) }
     ensures source { (case : Case) → HasSourcePlan case }
 {
-    by_workers::<Brand, Acks, R, G>(rt, alloc, cases.as_slice(), workers, gate)
+    make_by_workers::<Brand, Acks, R, G>(rt, alloc, cases.as_slice(), workers, gate)
 }

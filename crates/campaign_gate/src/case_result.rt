@@ -1,10 +1,10 @@
-//! What a worker keeps of a case: its row, its flow after the campaign word, or its acknowledgements.
+//! The results that a worker can make of a case: its row, its flow after the campaign word, or its acknowledgements.
 ghost use Rattle.std.specs.Prelude.{◌≡◌, IfOk};
 ghost use Rattle.flow_core.specs.declared.case.Case.{Case};
 ghost use Rattle.campaign_gate.specs.CampaignRow.{row_of};
 ghost use Rattle.campaign_gate.specs.CampaignBooks.{planned, acks_of_case};
 
-use crate::completion::completed;
+use crate::completion::run_to_end;
 use crate::linked::Linked;
 use crate::listed::Listed;
 use crate::row::Row;
@@ -12,9 +12,9 @@ use ccp_base::{Ack, Acks, NoMemory, Sequence};
 use flow_core::{Case, Cell};
 use std::alloc::Global;
 
-/// What a worker makes of each of its cases.
+/// A result that a worker makes of each of its cases.
 pub(crate) trait CaseResult: Drop {
-    /// What it is of a case.
+    /// The result of a case.
     ghost of_case: { Case → Self };
 
     /// Runs the case along its campaign word.
@@ -26,18 +26,18 @@ impl CaseResult for Row {
     ghost of_case = { row_of };
 
     fn make(alloc: Global, case: Case) -> Result<Row, NoMemory> {
-        let walk = completed(alloc, Linked::new(alloc, case)?)?;
-        Ok(walk.row())
+        let run = run_to_end(alloc, Linked::new(alloc, case)?)?;
+        Ok(run.row())
     }
 }
 
-/// The flow after its campaign word, of which a book is made.
+/// The flow after its campaign word, from which a book is made.
 impl CaseResult for Cell {
     ghost of_case = { planned };
 
     fn make(alloc: Global, case: Case) -> Result<Cell, NoMemory> {
-        let walk = completed(alloc, Cell::new(alloc, case)?)?;
-        Ok(walk.flow)
+        let run = run_to_end(alloc, Cell::new(alloc, case)?)?;
+        Ok(run.flow)
     }
 }
 
@@ -46,7 +46,7 @@ impl CaseResult for Sequence<Ack> {
     ghost of_case = { acks_of_case };
 
     fn make(alloc: Global, case: Case) -> Result<Acks, NoMemory> {
-        let walk = completed(alloc, Listed::new(alloc, case)?)?;
-        Ok(walk.flow.acks)
+        let run = run_to_end(alloc, Listed::new(alloc, case)?)?;
+        Ok(run.flow.acks)
     }
 }

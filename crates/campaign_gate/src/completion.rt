@@ -1,57 +1,57 @@
-//! The making of a whole campaign word.
+//! Runs a flow to the end of its campaign word.
 ghost use Rattle.std.specs.Prelude.{◌≡◌, ◌<◌, IfOk, OnOk};
-ghost use Rattle.campaign_gate.specs.Walks.{opened, IsOnWay, IsEnded};
+ghost use Rattle.campaign_gate.specs.CaseRuns.{opened, IsOnWay, IsEnded};
 
-use crate::walk::Walk;
-use crate::walker::Walker;
+use crate::campaign_flow::CampaignFlow;
+use crate::case_run::CaseRun;
 use ccp_base::NoMemory;
 use fold_machine::Steps;
 use std::alloc::Global;
 use std::marker::Brand;
 use std::sync::ledger::{Blank, Ledger};
 
-/// A flow at the end of its campaign word, which has no letter before.
-pub(crate) fn completed<F: Walker>(alloc: Global, flow: F) -> Result<Walk<F>, NoMemory>
+/// Runs a flow, which has no letter yet, to the end of its campaign word.
+pub(crate) fn run_to_end<F: CampaignFlow>(alloc: Global, flow: F) -> Result<CaseRun<F>, NoMemory>
     requires { flow ≡ F.at (opened (F.case_of flow)) }
-    ensures { IfOk result (λ walk. IsEnded F.at (F.case_of flow) walk.flow walk.tally) }
+    ensures { IfOk result (λ run. IsEnded F.at (F.case_of flow) run.flow run.tally) }
 {
-    let mut walk = Walk::begin(flow);
-    match counted::<F, Brand>(alloc, &mut walk, Blank::new(1)) {
-        Ok(()) => Ok(walk),
+    let mut run = CaseRun::begin(flow);
+    match complete_counting::<F, Brand>(alloc, &mut run, Blank::new(1)) {
+        Ok(()) => Ok(run),
         Err(NoMemory) => {
-            drop(walk);
+            drop(run);
             Err(NoMemory)
         }
     }
 }
 
-/// Makes every letter that is left, where a ledger of one part counts the steps.
-fn counted<F: Walker, L: Ledger>(
+/// Makes every letter that is left. The machine counts its steps in a ledger, and here one part of it is enough.
+fn complete_counting<F: CampaignFlow, L: Ledger>(
     alloc: Global,
-    walk: &mut Walk<F>,
+    run: &mut CaseRun<F>,
     blank: Blank,
 ) -> Result<(), NoMemory>
-    requires on { IsOnWay F.at (F.case_of walk.old.flow) walk.old.flow walk.old.tally }
+    requires on { IsOnWay F.at (F.case_of run.old.flow) run.old.flow run.old.tally }
     requires name { blank.name ≡ L.name }
     requires parts { blank.parts ≡ L.parts }
     requires some { 0 < blank.parts }
-    ensures { OnOk result (IsEnded F.at (F.case_of walk.old.flow) walk.new.flow walk.new.tally) }
+    ensures { OnOk result (IsEnded F.at (F.case_of run.old.flow) run.new.flow run.new.tally) }
 {
     let mut steps = Steps::<L>::new(blank);
-    complete(alloc, walk, &mut steps)
+    complete(alloc, run, &mut steps)
 }
 
 /// Makes every letter that is left.
-fn complete<F: Walker, L: Ledger>(
+fn complete<F: CampaignFlow, L: Ledger>(
     alloc: Global,
-    walk: &mut Walk<F>,
+    run: &mut CaseRun<F>,
     steps: &mut Steps<L>,
 ) -> Result<(), NoMemory>
-    requires { IsOnWay F.at (F.case_of walk.old.flow) walk.old.flow walk.old.tally }
-    ensures { OnOk result (IsEnded F.at (F.case_of walk.old.flow) walk.new.flow walk.new.tally) }
+    requires { IsOnWay F.at (F.case_of run.old.flow) run.old.flow run.old.tally }
+    ensures { OnOk result (IsEnded F.at (F.case_of run.old.flow) run.new.flow run.new.tally) }
 {
-    while !walk.flow.is_complete() {
-        walk.next(alloc, steps)?;
+    while !run.flow.is_complete() {
+        run.make_next(alloc, steps)?;
     }
     Ok(())
 }

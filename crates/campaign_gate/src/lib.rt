@@ -1,8 +1,10 @@
-//! Campaigns: one flow a case, which makes its campaign word, and many of them side by side.
+//! Campaigns: each case has one flow, which makes its campaign word, and workers run many cases side by side.
 #![tactic(auto)]
 
 pub mod calls;
+mod campaign_flow;
 mod case_result;
+mod case_run;
 mod completion;
 mod laws;
 mod linked;
@@ -11,8 +13,6 @@ mod queue;
 mod row;
 mod share;
 mod sums;
-mod walk;
-mod walker;
 mod workers;
 
 pub use calls::{Books, CaseAcks, Cases};

@@ -1,15 +1,15 @@
-//! A flow without its history, and its link.
+//! A flow without its history, with its link: the flow of a row.
 ghost use Rattle.std.specs.Prelude.{◌≡◌, [], refl, IfOk};
 ghost use Rattle.flow_core.specs.Readings.{over_codes};
 ghost use Rattle.link_model.specs.Standing.{Stands};
 ghost use Rattle.flow_core.specs.LettersLeft.{left_at};
 ghost use Rattle.flow_core.proofs.SummaryLemmas.{summary-legal};
 ghost use Rattle.flow_core.specs.Cells.{CellState, ack_at};
-ghost use Rattle.campaign_gate.specs.Walks.{opened, MayMake, Makes};
+ghost use Rattle.campaign_gate.specs.CaseRuns.{opened, MayMake, Makes};
 ghost use Rattle.campaign_gate.specs.LinkedFlows.{linked_at, left_in, left_linked};
 
+use crate::campaign_flow::CampaignFlow;
 use crate::sums::Sums;
-use crate::walker::Walker;
 use ccp_base::{Ack, NoMemory};
 use flow_core::{Bare, Case, Letter};
 use fold_machine::Steps;
@@ -24,7 +24,7 @@ pub(crate) struct Linked {
     pub(crate) link: Link,
 }
 
-/// The link of a case, to which no window was given yet.
+/// The link of a case, before its first window.
 fn link_of(alloc: Global, case: &Case) -> Result<Link, NoMemory>
     ensures case { IfOk result (λ link. link.case ≡ case.now.link) }
     ensures stands { IfOk result (λ link. Stands link []) }
@@ -62,8 +62,8 @@ impl Linked {
     }
 }
 
-/// What later letters depend on, and nothing else.
-impl Walker for Linked {
+/// It keeps what later letters depend on, and nothing else.
+impl CampaignFlow for Linked {
     ghost at = { linked_at };
 
     ghost case_of = { λ linked. linked.bare.case };

@@ -1,11 +1,11 @@
 //! A flow that lists its acknowledgements.
 ghost use Rattle.std.specs.Prelude.{◌≡◌, refl, IfOk};
-ghost use Rattle.campaign_gate.specs.Walks.{opened};
+ghost use Rattle.campaign_gate.specs.CaseRuns.{opened};
 ghost use Rattle.campaign_gate.specs.LinkedFlows.{listed_at, left_in, left_linked};
 
+use crate::campaign_flow::CampaignFlow;
 use crate::linked::Linked;
 use crate::sums::Sums;
-use crate::walker::Walker;
 use ccp_base::{Acks, NoMemory};
 use flow_core::Case;
 use fold_machine::Steps;
@@ -31,7 +31,7 @@ impl Listed {
 }
 
 /// The list has the acknowledgements that are in.
-impl Walker for Listed {
+impl CampaignFlow for Listed {
     ghost at = { listed_at };
 
     ghost case_of = { λ listed. listed.linked.bare.case };
@@ -47,7 +47,7 @@ impl Walker for Listed {
     }
 
     fn acks(&self) -> u32 {
-        Walker::acks(&self.linked)
+        CampaignFlow::acks(&self.linked)
     }
 
     fn cwnd(&self) -> u64 {

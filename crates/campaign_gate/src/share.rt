@@ -1,4 +1,4 @@
-//! A worker's share of a campaign: the cases that fall to it by number, and what it makes of them.
+//! A worker's share of a campaign: its cases, which are chosen by their numbers, and their results.
 ghost use Rattle.std.specs.Prelude.{◌≡◌, ◌<◌, ◌≤◌, [], List, map, length, IfOk, OnOk};
 ghost use Rattle.ccp_base.specs.Limits.{most_cases};
 ghost use Rattle.flow_core.specs.declared.case.Case.{Case};
@@ -20,8 +20,7 @@ impl Campaign for Brand {
     ghost cases = { [] };
 }
 
-/// What one of the workers of a campaign made: an item for each case whose number leaves the worker's when it is divided
-/// by the number of workers, in order, and nothing else.
+/// The results of worker `worker` of `workers`: one for each case `i` with `i mod workers = worker`, in order, and nothing else.
 #[derive(Drop)]
 pub(crate) struct Share<C: Campaign, M: CaseResult> {
     pub(crate) worker: u32,
@@ -31,7 +30,7 @@ pub(crate) struct Share<C: Campaign, M: CaseResult> {
     ghost is_share: { made ≡ every workers.count worker (map M.of_case C.cases) },
 }
 
-/// The work of one worker. It passes the gate at `InCase` before a case and at `AfterCase` after it.
+/// Does the work of one worker. It passes `gate` at `InCase` before a case and at `AfterCase` after it.
 pub(crate) fn share_of<C: Campaign, M: CaseResult, G: Gate>(
     alloc: Global,
     cases: &[Case],
@@ -55,7 +54,7 @@ pub(crate) fn share_of<C: Campaign, M: CaseResult, G: Gate>(
     })
 }
 
-/// Puts what is made of a worker's cases into a queue that is empty.
+/// Puts the results of a worker's cases into a queue that is empty.
 fn put_share<M: CaseResult, G: Gate>(
     alloc: Global,
     made: &mut Queue<M>,

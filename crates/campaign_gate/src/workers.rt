@@ -13,9 +13,9 @@ use std::alloc::Global;
 use std::thread;
 use std::thread::Threads;
 
-/// What is made of each case of a campaign, in the order of the cases, by this number of workers. Each case is run once.
-/// Where a worker runs out of memory, so does the call.
-pub(crate) fn by_workers<
+/// The result of each case of a campaign, in the order of the cases. `workers` workers make them, and run each case once. If a
+/// worker runs out of memory, so does the call.
+pub(crate) fn make_by_workers<
     C: Campaign + Send + Sync,
     M: CaseResult + Send,
     R: Threads + Sync,
@@ -37,12 +37,12 @@ pub(crate) fn by_workers<
         ensures workers { IfOk result (λ share. share.workers ≡ workers) }
     { share_of::<C, M, G>(alloc, cases, workers, worker as u32, gate) };
     let parts = thread::map_indices(rt, alloc, workers.count() as usize, &part)?;
-    let queues = queues::<C, M>(alloc, Queue::from_vec(parts), workers)?;
-    merged::<C, M>(alloc, queues, workers)
+    let queues = queues_of::<C, M>(alloc, Queue::from_vec(parts), workers)?;
+    merge::<C, M>(alloc, queues, workers)
 }
 
-/// What the workers made, a queue each, in their order.
-fn queues<C: Campaign, M: CaseResult>(
+/// The results of each worker in a queue, in the order of the workers.
+fn queues_of<C: Campaign, M: CaseResult>(
     alloc: Global,
     parts: Queue<Result<Share<C, M>, NoMemory>>,
     workers: Workers,
@@ -60,8 +60,8 @@ fn queues<C: Campaign, M: CaseResult>(
     Ok(queues)
 }
 
-/// What is made of each case, in the order of the cases, out of the workers' queues, which give an item each by turns.
-fn merged<C: Campaign, M: CaseResult>(
+/// Merges the workers' queues to the results in the order of the cases: the queues give one item each, in turns.
+fn merge<C: Campaign, M: CaseResult>(
     alloc: Global,
     queues: Queue<Queue<M>>,
     workers: Workers,
@@ -71,14 +71,14 @@ fn merged<C: Campaign, M: CaseResult>(
 {
     let mut queues = queues;
     let mut made = Sequence::new(alloc);
-    while let Some(one) = next(&mut queues)? {
+    while let Some(one) = take_front(&mut queues)? {
         made.push(one)?;
     }
     Ok(made)
 }
 
-/// Takes the first item of the first queue, and puts that queue behind the others.
-fn next<M: Drop>(queues: &mut Queue<Queue<M>>) -> Result<Option<M>, NoMemory>
+/// Takes the first item of the first queue, and puts that queue last.
+fn take_front<M: Drop>(queues: &mut Queue<Queue<M>>) -> Result<Option<M>, NoMemory>
     ensures item { IfOk result (λ item. item ≡ front_of queues.old) }
     ensures rest { OnOk result (queues.new ≡ turned queues.old) }
 {

@@ -14,8 +14,9 @@ abbrev pub headings : List Column → List ℕ
 headings [] = []
 headings (column ∷ rest) = codes " " ⧺ heading_of column ⧺ headings rest
 
-abbrev pub heading : List ℕ
-heading = codes "case agent" ⧺ headings columns ⧺ codes "\n"
+-- the line above rows with these columns
+abbrev pub heading : List Column → List ℕ
+heading columns = codes "case agent" ⧺ headings columns ⧺ codes "\n"
 
 -- ---- rows
 
@@ -65,7 +66,7 @@ total_line rows = codes "total cases=" ⧺ decimal (length rows) ⧺ sums column
 -- ---- the texts
 
 abbrev pub table_text : List (List ℕ) → List Agent → List Row → List ℕ
-table_text names agents rows = heading ⧺ row_lines rows names agents ⧺ total_line rows
+table_text names agents rows = heading columns ⧺ row_lines rows names agents ⧺ total_line rows
 
 abbrev pub soak_head : ℕ → List ℕ
 soak_head number = codes "soak number=" ⧺ decimal number ⧺ codes "\n"

@@ -28,7 +28,7 @@ pub fn table_text(
     ensures { IfOk result (λ text. text ≡ table_text names.now agents.now rows.now) }
 {
     let mut text = Bytes::new(alloc);
-    put_heading(&mut text)?;
+    put_heading(&mut text, Column::all())?;
     put_rows(
         alloc,
         &mut text,
@@ -59,11 +59,11 @@ fn soak_head(alloc: Global, number: u32) -> Result<Bytes, NoMemory>
     Ok(text)
 }
 
-fn put_heading(text: &mut Bytes) -> Result<(), NoMemory>
-    ensures { OnOk result (text.new ≡ text.old ++ heading) }
+fn put_heading(text: &mut Bytes, columns: &[Column]) -> Result<(), NoMemory>
+    ensures { OnOk result (text.new ≡ text.old ++ heading columns.now) }
 {
     text.extend(b"case agent")?;
-    put_headings(text, Column::all())?;
+    put_headings(text, columns)?;
     text.push(b'\n')?;
     Ok(())
 }

@@ -1,11 +1,11 @@
 use Rattle.std.proofs.Common.{◌≡◌}
-use Rattle.campaign_gate.specs.Walks.{IsOnWay}
+use Rattle.campaign_gate.specs.CaseRuns.{IsOnWay}
 use Rattle.campaign_gate.proofs.completion.complete.Given as goal
 
 abbrev pub invariant-loop-alloc : goal.invariant-loop-alloc
 invariant-loop-alloc g l =
-    IsOnWay g.F.Walker.at (g.F.Walker.case_of l.walk.flow) l.walk.flow l.walk.tally
-    × (g.F.Walker.case_of l.walk.flow ≡ g.F.Walker.case_of l.initial.walk.flow)
+    IsOnWay g.F.CampaignFlow.at (g.F.CampaignFlow.case_of l.run.flow) l.run.flow l.run.tally
+    × (g.F.CampaignFlow.case_of l.run.flow ≡ g.F.CampaignFlow.case_of l.initial.run.flow)
 
 abbrev pub decreases-loop-alloc : goal.decreases-loop-alloc
-decreases-loop-alloc g l = g.F.Walker.left_of l.walk.flow
+decreases-loop-alloc g l = g.F.CampaignFlow.left_of l.run.flow
