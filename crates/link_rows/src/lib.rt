@@ -10,6 +10,8 @@ mod lines;
 #[cfg(test)]
 mod links;
 #[cfg(test)]
+mod long_flow;
+#[cfg(test)]
 mod pools;
 #[cfg(test)]
 mod reno_replies;

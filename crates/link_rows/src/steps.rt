@@ -1,13 +1,45 @@
-//! What agents are told, step by step, and what they are to reply.
+//! What agents are told, event by event, and what they are to reply.
 use agent_core::Agent;
 use ccp_base::{FaultKind, Look, Notice, Reply, Report, Role, Told, Values};
 use std::process::Abort;
 
-/// An epoch, the time, the window, the fields of a report (acked, loss, timeout, rtt, inflight, ecn) or None for a fault
-/// notice, and the reply.
-pub(crate) type Step = (u32, u64, u64, Option<[u64; 6]>, Reply);
+/// The fields of a report.
+#[derive(Clone, Copy)]
+pub(crate) struct Fields {
+    pub(crate) acked: u64,
+    pub(crate) loss: u64,
+    pub(crate) timeout: u64,
+    pub(crate) rtt: u64,
+    pub(crate) inflight: u64,
+    pub(crate) ecn: u64,
+}
 
-/// A program with this number, whose fields lie in the order of a step's.
+/// Fields that are 0.
+pub(crate) const NONE: Fields = Fields {
+    acked: 0,
+    loss: 0,
+    timeout: 0,
+    rtt: 0,
+    inflight: 0,
+    ecn: 0,
+};
+
+/// What an agent is told: a report with these fields, or a fault notice if there are none.
+#[derive(Clone, Copy)]
+pub(crate) struct Event {
+    pub(crate) epoch: u32,
+    pub(crate) now: u64,
+    pub(crate) fields: Option<Fields>,
+}
+
+/// The window at an event, and the agent's reply.
+#[derive(Clone, Copy)]
+pub(crate) struct Answer {
+    pub(crate) cwnd: u64,
+    pub(crate) reply: Reply,
+}
+
+/// A program with this number, whose fields lie in the order of `Fields`.
 pub(crate) fn role(number: u32) -> Role {
     Role {
         number,
@@ -25,7 +57,15 @@ pub(crate) fn role(number: u32) -> Role {
 }
 
 /// A report of these fields.
-pub(crate) fn report(epoch: u32, now: u64, cwnd: u64, fields: &[u64; 6]) -> Told {
+fn report(epoch: u32, now: u64, cwnd: u64, fields: &Fields) -> Told {
+    let fields = [
+        fields.acked,
+        fields.loss,
+        fields.timeout,
+        fields.rtt,
+        fields.inflight,
+        fields.ecn,
+    ];
     Told::Report(Report {
         flow: 0,
         program: 0,
@@ -35,7 +75,7 @@ pub(crate) fn report(epoch: u32, now: u64, cwnd: u64, fields: &[u64; 6]) -> Told
         now,
         cwnd,
         rate: 0,
-        fields: Values::from_slice(fields),
+        fields: Values::from_slice(&fields),
     })
 }
 
@@ -53,18 +93,27 @@ fn notice(epoch: u32, now: u64, cwnd: u64) -> Told {
     })
 }
 
-/// What a step tells.
-fn told(step: &Step) -> Told {
-    match &step.3 {
-        Some(fields) => report(step.0, step.1, step.2, fields),
-        None => notice(step.0, step.1, step.2),
+/// What an event tells at this window.
+pub(crate) fn told(event: &Event, cwnd: u64) -> Told {
+    match &event.fields {
+        Some(fields) => report(event.epoch, event.now, cwnd, fields),
+        None => notice(event.epoch, event.now, cwnd),
     }
 }
 
-/// Tells an agent step by step, and compares its replies.
-pub(crate) fn replies(rt: &impl Abort, agent: Agent, steps: &[Step]) {
+/// Tells an agent event by event, and compares its replies.
+pub(crate) fn assert_replies<const N: usize>(
+    rt: &impl Abort,
+    agent: Agent,
+    events: &[Event; N],
+    answers: &[Answer; N],
+) {
     let mut agent = agent;
-    for (place, step) in steps.iter().enumerate() {
-        assert!(rt; agent.reply(&told(step)) == step.4, "at {place}");
+    for place in 0..N {
+        let Answer { cwnd, reply } = answers[place];
+        assert!(rt;
+            agent.reply(&told(&events[place], cwnd)) == reply,
+            "at {place}"
+        );
     }
 }
