@@ -28,11 +28,11 @@ use Rattle.flow_core.proofs.SimulatedEpochs.{IsEnvOf-after, declared-simulated}
 use Rattle.portus_build.specs.TextWalk.{program_of}
 use Rattle.live_install.specs.declared.account.Account.{Account}
 use Rattle.live_install.specs.declared.entry.Entry.{Entry}
-use Rattle.live_install.specs.Accounts.{reporter, met_in, Heard}
+use Rattle.live_install.specs.Accounts.{reporter, met_in, HasRun}
 use Rattle.live_install.specs.declared.letter.OpenLetter.{OpenLetter}
 use Rattle.live_install.specs.declared.state.State.{State}
 use Rattle.live_install.specs.OpenWorld.{Installed, Running, OpenWorld, track_of, cwnd_of, bare, met_by, after_ack, eras_of, with_entry, after_install, next_of, running_of, with_next, after_change}
-use Rattle.live_install.specs.BuiltTexts.{came_of, built_of}
+use Rattle.live_install.specs.BuiltTexts.{form_or_refusal, built_of}
 use Rattle.live_install.specs.Entries.{installed_of, built_in, built_at, place_of}
 use Rattle.live_install.specs.OpenBooks.{Seen, failure_at, seen_of, seen_as}
 use Rattle.live_install.specs.States.{kept_track, next_from, Runs, RunsAs, FitsBuilt, FitsAt, epoch_of, turn_of, Keeps}
@@ -73,7 +73,7 @@ module _ (s : State) (base : OpenWorld) (link : LinkState) (ack : Ack) (word : R
 
   module _ (machine : MachineState) (account : Account) (step : ℕ) (running : Running) (is_running : s.running ≡ Some step)
       (keeps : Keeps s (record base { present = Some running })) (runs : Runs s.entries.items step running)
-      (heard : Heard s.entries.items running.form (turn_of s step) s.machine machine s.account account ack) where
+      (heard : HasRun s.entries.items running.form (turn_of s step) s.machine machine s.account account ack) where
     -- what runs after it
     abbrev next : Running
     next = record running { era = with_event (acknowledged ack true) running.era }
@@ -224,7 +224,7 @@ came_form default (Some (Ok form)) = form
 came_form default (Some (Err refusal)) = default
 
 -- the program of an accepted entry is what was built of it
-form-answer : (built : Built) (form : Form) (answer : Result Built BuildFault) → built_of answer ≡ Some built → Some (came_of answer) ≡ Some (Ok form) → form_of built.program ≡ form
+form-answer : (built : Built) (form : Form) (answer : Result Built BuildFault) → built_of answer ≡ Some built → Some (form_or_refusal answer) ≡ Some (Ok form) → form_of built.program ≡ form
 form-answer built form (Ok other) one two = sym (ap (built_form form) one) ∙ ap (came_form form) two
 form-answer built form (Err refusal) one two = absurd (none-some built one)
 

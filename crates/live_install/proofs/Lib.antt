@@ -4,7 +4,7 @@ pub mod ListLemmas
 pub mod SeenLemmas
 pub mod NextLemmas
 pub mod LetterLemmas
-pub mod HearingLemmas
+pub mod RunLemmas
 pub mod KeepsLemmas
 pub mod OpenLemmas
 pub mod OpeningLemmas

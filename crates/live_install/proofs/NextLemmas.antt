@@ -11,7 +11,7 @@ use Rattle.portus_core.specs.ProgramForm.{form_of}
 use Rattle.flow_core.specs.World.{Era}
 use Rattle.live_install.specs.declared.entry.Entry.{Entry}
 use Rattle.live_install.specs.OpenWorld.{Installed, OpenWorld, was_started, first_left, eras_of, next_of}
-use Rattle.live_install.specs.BuiltTexts.{is_accepted, came_of, built_of}
+use Rattle.live_install.specs.BuiltTexts.{is_accepted, form_or_refusal, built_of}
 use Rattle.live_install.specs.Entries.{installed_of, built_in, built_at}
 use Rattle.live_install.specs.States.{accepted_from, ArePassed}
 use Rattle.live_install.proofs.ListLemmas.{slice_get-front}
@@ -57,7 +57,7 @@ steps left = option_map (λ next. next.0) left
 -- the first entry wasn't changed to
 fresh-first : (eras : List Era) (step : ℕ) (answer : Result Built BuildFault) (rest : List Entry) → was_started step eras ≡ false
     → steps (first_left eras (step + 1) (map installed_of rest)) ≡ accepted_from (step + 1) rest
-    → steps (first_left eras step (came_of answer ∷ map installed_of rest))
+    → steps (first_left eras step (form_or_refusal answer ∷ map installed_of rest))
     ≡ (if is_accepted answer then Some step else accepted_from (step + 1) rest)
 fresh-first eras step (Ok built) rest fresh later =
     λ i. steps (if fresh i then first_left eras (step + 1) (map installed_of rest) else Some (step, form_of built.program))
@@ -74,9 +74,9 @@ after-left eras step (entry ∷ rest) none =
 
 -- the first entry was passed
 passed-first : (eras : List Era) (step : ℕ) (answer : Result Built BuildFault) (rest : List Entry) (out : Option ℕ)
-    → ((form : Form) → came_of answer ≡ Ok form → was_started step eras ≡ true)
+    → ((form : Form) → form_or_refusal answer ≡ Ok form → was_started step eras ≡ true)
     → steps (first_left eras (step + 1) (map installed_of rest)) ≡ out
-    → steps (first_left eras step (came_of answer ∷ map installed_of rest)) ≡ out
+    → steps (first_left eras step (form_or_refusal answer ∷ map installed_of rest)) ≡ out
 passed-first eras step (Ok built) rest out was later =
     (λ i. steps (if was (form_of built.program) refl i then first_left eras (step + 1) (map installed_of rest) else Some (step, form_of built.program)))
     ∙ later
@@ -220,7 +220,7 @@ none-built entries step form ok none = by (slice_get entries step) refl where
   by : (found : Option Entry) → slice_get entries step ≡ found → ⊥
   by None here = none-some (Ok form) (ap (option_map installed_of) (sym here) ∙ sym (slice_get-map installed_of entries step) ∙ ok)
   by (Some entry) here = by_answer entry.answer (ap built_in (sym here) ∙ none) (ap (option_map installed_of) (sym here) ∙ sym (slice_get-map installed_of entries step) ∙ ok) where
-    by_answer : (answer : Result Built BuildFault) → built_of answer ≡ None → Some (came_of answer) ≡ Some (Ok form) → ⊥
+    by_answer : (answer : Result Built BuildFault) → built_of answer ≡ None → Some (form_or_refusal answer) ≡ Some (Ok form) → ⊥
     by_answer (Ok built) one two = none-some built (sym one)
     by_answer (Err refusal) one two = err≢ok refusal form (ap (first_of (Err refusal)) two)
 

@@ -22,12 +22,12 @@ use Rattle.live_install.specs.declared.entry.Entry.{Entry}
 use Rattle.live_install.specs.declared.letter.OpenLetter.{OpenLetter}
 use Rattle.live_install.specs.declared.letter.OpenLetter.TheVariants.{A, I, G}
 use Rattle.live_install.specs.declared.state.State.{State}
-use Rattle.live_install.specs.Accounts.{Heard, met_in, faults_of}
+use Rattle.live_install.specs.Accounts.{HasRun, met_in, faults_of}
 use Rattle.live_install.specs.OpenWorld.{Running, OpenWorld, track_of, cwnd_of, after_ack, eras_of, next_of, met_by}
 use Rattle.live_install.specs.OpenWords.{after_letter, install_world, next_ack, is_legal, legal}
 use Rattle.live_install.specs.BuiltTexts.{Answers}
 use Rattle.live_install.specs.Entries.{installed_of, built_at, AreStepsFrom}
-use Rattle.live_install.specs.OpenCells.{Tells, AnswersTo, ran_with, ran_in, next_at}
+use Rattle.live_install.specs.OpenCells.{HasOutcome, AnswersTo, ran_with, ran_in, next_at}
 use Rattle.live_install.specs.States.{cell_of, world_of, kept_track, next_from, RunsAs, Runs, FitsAt, FitsBuilt, faults_left, turn_of, form_at, Keeps, IsFit, IsOpen}
 use Rattle.live_install.proofs.LetterLemmas.{world-append, legal-append}
 use Rattle.live_install.proofs.KeepsLemmas.{counted_state, keeps-counted, keeps-heard, put_state, keeps-put, fits-more, started_state, keeps-started}
@@ -142,9 +142,9 @@ module _ (s : State) (opens : IsOpen s) (left : s.acks < s.case.acks) (window : 
       (is_built : built_at s.entries.items step ≡ Some built)
       (fits : FitsBuilt machine (built_at s.entries.items step))
       (heard : (form : Form) → form_at s.entries.items step ≡ Some form → IsEnvOf form (kept_track s).env
-      → Heard s.entries.items form (turn_of s step) s.machine machine s.account account ack)
+      → HasRun s.entries.items form (turn_of s step) s.machine machine s.account account ack)
       (told : (form : Form) → form_at s.entries.items step ≡ Some form → IsEnvOf form (kept_track s).env
-      → Tells (built_at s.entries.items step) answer (met_in form (kept_track s) ack).0) where
+      → HasOutcome (built_at s.entries.items step) answer (met_in form (kept_track s) ack).0) where
     running-at : (r : Running) × (((world_of s).present ≡ Some r) × Runs s.entries.items step r)
     running-at = some-runs s.running step some (world_of s).present opens.keeps.runs
 
@@ -172,7 +172,7 @@ module _ (s : State) (opens : IsOpen s) (left : s.acks < s.case.acks) (window : 
     shape : IsEnvOf r.form (kept_track s).env
     shape = subst (λ (t : Track). IsEnvOf r.form t.env) (sym track_same) runs.shape
 
-    heard-now : Heard s.entries.items r.form (turn_of s step) s.machine machine s.account account ack
+    heard-now : HasRun s.entries.items r.form (turn_of s step) s.machine machine s.account account ack
     heard-now = heard r.form runs.form shape
 
     fit-with : IsFit run_state
@@ -215,10 +215,10 @@ module _ (s : State) (opens : IsOpen s) (left : s.acks < s.case.acks) (window : 
     pub told-run : AnswersTo s.entries.items (next_ack s.case w) w.present (Some answer)
     told-run =
         let here = told r.form runs.form shape in
-        let by_track : Tells (built_at s.entries.items step) answer (met_by r ack).0 =
-        subst (λ (t : Track). Tells (built_at s.entries.items step) answer (met_in r.form t ack).0) track_same here in
-        let by_step : Tells (built_at s.entries.items r.era.program) answer (met_by r ack).0 =
-        subst (λ (n : ℕ). Tells (built_at s.entries.items n) answer (met_by r ack).0) (sym runs.program) by_track in
+        let by_track : HasOutcome (built_at s.entries.items step) answer (met_by r ack).0 =
+        subst (λ (t : Track). HasOutcome (built_at s.entries.items step) answer (met_in r.form t ack).0) track_same here in
+        let by_step : HasOutcome (built_at s.entries.items r.era.program) answer (met_by r ack).0 =
+        subst (λ (n : ℕ). HasOutcome (built_at s.entries.items n) answer (met_by r ack).0) (sym runs.program) by_track in
         subst (λ (k : Ack). AnswersTo s.entries.items k w.present (Some answer)) ack-same
         (subst (λ (p : Option Running). AnswersTo s.entries.items ack p (Some answer)) (sym is_present) by_step)
 

@@ -28,7 +28,7 @@ use Rattle.flow_core.specs.World.{failures_met}
 use Rattle.live_install.specs.declared.entry.Entry.{Entry}
 use Rattle.live_install.specs.Entries.{built_at, place_of}
 use Rattle.live_install.specs.OpenBooks.{Seen, seen_of, seen_as}
-use Rattle.live_install.specs.OpenCells.{Tells}
+use Rattle.live_install.specs.OpenCells.{HasOutcome}
 use Rattle.live_install.specs.Accounts.{notice_by}
 
 -- an outcome of the code with the place of a fault, None where there is none
@@ -146,18 +146,18 @@ module _ (entries : List Entry) (flow step number at : ℕ) (ack : Ack) (env : E
 
 abbrev tells_by : Built → Acked → Option (Outcome Cause) → Type 0
 tells_by built answer None = Unit {0}
-tells_by built answer (Some out) = Tells (Some built) answer out
+tells_by built answer (Some out) = HasOutcome (Some built) answer out
 
 tells-fault : (built : Built) (kind : FaultKind) (index : ℕ) (place : Option Place) (out : Outcome Cause)
     → slice_get built.places index ≡ place → option_map (λ place. failed (kind, place)) place ≡ Some out
-    → Tells (Some built) (acked.Faulted kind index) out
+    → HasOutcome (Some built) (acked.Faulted kind index) out
 tells-fault built kind index None out is same = absurd (none-some out same)
 tells-fault built kind index (Some place) out is same =
     subst (tells_by built (acked.Faulted kind index)) same
     (ap (option_map (λ place. failed (kind, place))) is)
 
 pub tells-placed : (built : Built) (answer : Acked) (report : List ℕ) (out : Outcome Cause) → placed built.places (outcome_by answer report) ≡ Some out
-    → Tells (Some built) answer out
+    → HasOutcome (Some built) answer out
 tells-placed built acked.Quiet report out same = subst (tells_by built acked.Quiet) same refl
 tells-placed built acked.Reported report out same = subst (tells_by built acked.Reported) same refl
 tells-placed built acked.Held report out same = subst (tells_by built acked.Held) same refl

@@ -1,4 +1,4 @@
--- What an acknowledgement that is run changes of what is kept.
+-- What running an acknowledgement changes of what is kept.
 use Rattle.std.specs.Prelude.{◌≡◌, ℕ, ◌+◌, ◌<◌, ◌≤◌, Bool, true, false, List, ◌++◌, length, map}
 use Rattle.ccp_base.specs.declared.ack.Ack.{Ack}
 use Rattle.ccp_base.specs.declared.arithmetic.FaultKind.{FaultKind}
@@ -23,7 +23,7 @@ use Rattle.live_install.specs.OpenBooks.{seen_of, seen_as}
 
 -- ---- the machine's answer
 
--- the outcome that the machine's answer tells, and the env that it keeps
+-- the outcome by the machine's answer, and the env that it keeps
 abbrev pub met_as : Acked → MachineState → Outcome (FaultKind × ℕ) × Env
 met_as answer machine = (outcome_by answer machine.report, env_of machine.kept)
 
@@ -36,12 +36,12 @@ IsMet code old ack new answer =
 abbrev pub ran_on : Code → MachineState → Ack → ℕ
 ran_on code machine ack = ran_by machine.is_stopped code (env_of machine.kept) ack true
 
--- there is a place for the fault, where the answer tells one
+-- there is room for the fault, if the answer is one
 abbrev pub HasPlaceFor : Acked → Account → Type 0
 HasPlaceFor answer account =
     (kind : FaultKind) (index : ℕ) → answer ≡ acked.Faulted kind index → length account.faults.items < account.faults.room
 
--- ---- what is put down
+-- ---- what is recorded
 
 -- whose reports they are
 abbrev pub reporter : Turn → Epoch
@@ -61,7 +61,7 @@ notice_by flow failure = record {
 }
 
 -- what an outcome of the code with this env changes
-pub record PutDown (turn : Turn) (old new : Account) (ack : Ack) (met : Outcome (FaultKind × ℕ) × Env) : Type 0 where
+pub record RecordsOutcome (turn : Turn) (old new : Account) (ack : Ack) (met : Outcome (FaultKind × ℕ) × Env) : Type 0 where
   pub first : (track : Track) → track.first ≡ old.first → track.count ≡ turn.at → new.first ≡ next_first met.0 track
   pub reports : (track : Track) → track.first ≡ old.first → track.count ≡ turn.at
       → new.reports.items ≡ old.reports.items ++ reports_met (reporter turn) track ack met.0 met.1
@@ -69,7 +69,7 @@ pub record PutDown (turn : Turn) (old new : Account) (ack : Ack) (met : Outcome 
   pub reports_room : new.reports.room ≡ old.reports.room
   pub faults_room : new.faults.room ≡ old.faults.room
 
--- what an acknowledgement comes to where this program runs, with room always
+-- the outcome of an acknowledgement where this program runs, always with room
 abbrev pub met_in : Form → Track → Ack → Outcome Cause × Env
 met_in form track ack = heard (by_source form) track.is_stopped track.env ack true
 
@@ -83,7 +83,7 @@ faults_of true = 0
 faults_of false = 1
 
 -- what an acknowledgement that is run changes where this program runs
-pub record Heard (entries : List Entry) (form : Form) (turn : Turn) (machine : MachineState) (new_machine : MachineState) (old new : Account) (ack : Ack) : Type 0 where
+pub record HasRun (entries : List Entry) (form : Form) (turn : Turn) (machine : MachineState) (new_machine : MachineState) (old new : Account) (ack : Ack) : Type 0 where
   pub env : env_of new_machine.kept ≡ (met_in form (track_by turn machine old) ack).1
   pub stopping : new_machine.is_stopped ≡ stops (met_in form (track_by turn machine old) ack).0
   pub first : new.first ≡ next_first (met_in form (track_by turn machine old) ack).0 (track_by turn machine old)

@@ -1,4 +1,4 @@
--- The text of books: of each the account that it tells, with the places of its entries.
+-- The text of books: the account of each, with the places of its entries.
 use Rattle.std.specs.Prelude.{ℕ, ◌-◌, Option, Some, None, List, [], ◌∷◌, ◌++◌, length, map}
 use Rattle.ccp_base.specs.declared.exchange.Notice.{Notice}
 use Rattle.ccp_base.specs.declared.place.Place.{Place}

@@ -9,20 +9,20 @@ use Rattle.portus_build.specs.TextWalk.{program_of}
 use Rattle.live_install.specs.OpenWorld.{Installed}
 
 -- the program of what was built, or the refusal
-abbrev pub came_of : Result Built BuildFault → Installed
-came_of (Ok built) = Ok (form_of built.program)
-came_of (Err refusal) = Err refusal
+abbrev pub form_or_refusal : Result Built BuildFault → Installed
+form_or_refusal (Ok built) = Ok (form_of built.program)
+form_or_refusal (Err refusal) = Err refusal
 
 abbrev pub is_accepted : Result Built BuildFault → Bool
 is_accepted (Ok built) = true
 is_accepted (Err refusal) = false
 
--- whether memory was wanting
-abbrev pub is_wanting : Result Built BuildFault → Bool
-is_wanting (Ok built) = false
-is_wanting (Err refusal) = is_want_of_memory refusal
+-- whether memory ran out
+abbrev pub is_out_of_memory : Result Built BuildFault → Bool
+is_out_of_memory (Ok built) = false
+is_out_of_memory (Err refusal) = is_want_of_memory refusal
 
--- whether memory was wanting beside the steps of building
+-- whether memory ran out outside the steps of building
 abbrev pub is_no_memory : BuildFault → Bool
 is_no_memory NoMemory = true
 is_no_memory (Parse fault) = false
@@ -31,7 +31,7 @@ is_no_memory (Compile fault) = false
 
 -- it is what the text stands for
 abbrev pub Answers : List ℕ → Result Built BuildFault → Type 0
-Answers text answer = program_of text ≡ came_of answer
+Answers text answer = program_of text ≡ form_or_refusal answer
 
 abbrev pub built_of : Result Built BuildFault → Option Built
 built_of (Ok built) = Some built
@@ -43,7 +43,7 @@ pub record EntryState : Type 0 where
   pub text : List ℕ
   pub answer : Result Built BuildFault
 
--- the answer is what the text stands for, and memory wasn't wanting
+-- the answer is what the text stands for, and memory didn't run out
 pub record IsEntry (text : List ℕ) (answer : Result Built BuildFault) : Type 0 where
   pub answers : Answers text answer
-  pub ruled : is_wanting answer ≡ false
+  pub ruled : is_out_of_memory answer ≡ false

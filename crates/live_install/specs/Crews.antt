@@ -2,8 +2,8 @@
 use Rattle.std.specs.Prelude.{◌≡◌, ℕ, zero, suc, ◌+◌, List, [], ◌∷◌, ◌++◌}
 use Rattle.worker_desk.specs.declared.receipt.Duty.{Duty}
 use Rattle.flow_table.specs.Duties.{duties}
-use Rattle.live_install.specs.declared.equipping.Equipping.{Equipping}
-use Rattle.live_install.specs.declared.equipping.Equipping.TheVariants as equipping
+use Rattle.live_install.specs.declared.installer_threads.InstallerWork.{InstallerWork}
+use Rattle.live_install.specs.declared.installer_threads.InstallerWork.TheVariants as work
 use Rattle.live_install.specs.declared.crew.Crew.{Crew}
 
 -- the duty of an installer, whose number at the gate comes after those of the datapath workers
@@ -11,9 +11,9 @@ abbrev pub install_duty : ℕ → ℕ → ℕ → ℕ → Duty
 install_duty datapaths agents flows agent = record { worker = datapaths + agent; first = agent; workers = agents; flows = flows }
 
 -- the duty of the installer whose work was begun
-abbrev pub install_duty_of : Equipping → Duty
-install_duty_of (equipping.Thread handle) = handle.promise
-install_duty_of (equipping.Here equipped) = equipped
+abbrev pub install_duty_of : InstallerWork → Duty
+install_duty_of (work.Thread handle) = handle.promise
+install_duty_of (work.Here equipped) = equipped
 
 -- the duties of the installers below a number, in order
 abbrev pub install_duties : ℕ → ℕ → ℕ → ℕ → List Duty

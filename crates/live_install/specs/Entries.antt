@@ -4,11 +4,11 @@ use Rattle.ccp_base.specs.declared.place.Place.{Place}
 use Rattle.reg_compiler.specs.declared.built.Built.{Built}
 use Rattle.live_install.specs.declared.entry.Entry.{Entry}
 use Rattle.live_install.specs.OpenWorld.{Installed}
-use Rattle.live_install.specs.BuiltTexts.{came_of, built_of}
+use Rattle.live_install.specs.BuiltTexts.{form_or_refusal, built_of}
 
 -- the program of an entry, or the refusal
 abbrev pub installed_of : Entry → Installed
-installed_of entry = came_of entry.answer
+installed_of entry = form_or_refusal entry.answer
 
 abbrev pub built_in : Option Entry → Option Built
 built_in None = None

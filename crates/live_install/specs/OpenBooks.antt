@@ -1,4 +1,4 @@
--- What the history of a flow of a rollout comes to, as its book tells it.
+-- The book of a flow of a rollout: its entries, epochs, reports and faults are those of the state after its word.
 use Rattle.std.specs.Prelude.{◌≡◌, ℕ, Option, Some, option_map, List, length, map}
 use Rattle.ccp_base.specs.declared.place.Place.{Place}
 use Rattle.ccp_base.specs.declared.exchange.Notice.{Notice}
@@ -25,14 +25,15 @@ failure_at notice place = record {
   cwnd = notice.cwnd;
 }
 
--- what a notice tells of its flow: its instruction's index stands for its place
+-- a notice as a failure of its flow: its instruction's index becomes its place
 abbrev pub seen_of : List Entry → Notice → Seen
 seen_of entries notice = (notice.flow, option_map (failure_at notice) (place_at entries notice.program notice.index))
 
 abbrev pub seen_as : ℕ → Failure Place → Seen
 seen_as flow failure = (flow, Some failure)
 
--- the book tells what the history came to
+-- the book is that of this state; of the machine a book has the registers and whether it is stopped, and not the last
+-- report
 pub record IsOpenBookOf (w : OpenWorld) (book : OpenBook) : Type 0 where
   pub steps : AreStepsFrom 0 book.entries
   pub entries : map installed_of book.entries ≡ w.entries

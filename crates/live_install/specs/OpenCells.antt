@@ -46,7 +46,7 @@ IsComplete cell = is_complete cell.case (world_at cell) ≡ true
 abbrev pub most_letters : OpenCase → ℕ
 most_letters case = case.acks + 2 * length case.steps
 
--- ---- what an entry is answered
+-- ---- an entry
 
 -- the entry's step is the number of entries so far, and its text is the case's of that step
 abbrev pub IsNextEntry : OpenState → Entry → Type 0
@@ -56,9 +56,9 @@ IsNextEntry cell entry = (entry.step ≡ length cell.entries) × (slice_get cell
 abbrev pub with_entry : OpenState → Entry → OpenState
 with_entry cell entry = record cell { entries = cell.entries ++ entry ∷ []; word = cell.word ++ I ∷ [] }
 
--- ---- what an acknowledgement is answered
+-- ---- the answer to an acknowledgement
 
--- the outcome that an answer tells with the fields of its report, where a fault's index stands for its place
+-- the outcome that an answer stands for, with the fields of its report; a fault's index becomes its place
 abbrev pub outcome_seen : Option Built → Acked → List ℕ → Option (Outcome Cause)
 outcome_seen built acked.Quiet fields = Some quiet
 outcome_seen built acked.Reported fields = Some (reported fields)
@@ -66,20 +66,20 @@ outcome_seen built acked.Held fields = Some held
 outcome_seen built (acked.Faulted kind index) fields = option_map (λ place. failed (kind, place)) (place_of built index)
 outcome_seen built acked.Stopped fields = Some stopped
 
--- an answer tells an outcome, whatever its report's fields are
-abbrev pub Tells : Option Built → Acked → Outcome Cause → Type 0
-Tells built answer (reported fields) = answer ≡ acked.Reported
-Tells built answer quiet = outcome_seen built answer [] ≡ Some quiet
-Tells built answer held = outcome_seen built answer [] ≡ Some held
-Tells built answer (failed cause) = outcome_seen built answer [] ≡ Some (failed cause)
-Tells built answer stopped = outcome_seen built answer [] ≡ Some stopped
+-- an answer stands for an outcome, whatever its report's fields are
+abbrev pub HasOutcome : Option Built → Acked → Outcome Cause → Type 0
+HasOutcome built answer (reported fields) = answer ≡ acked.Reported
+HasOutcome built answer quiet = outcome_seen built answer [] ≡ Some quiet
+HasOutcome built answer held = outcome_seen built answer [] ≡ Some held
+HasOutcome built answer (failed cause) = outcome_seen built answer [] ≡ Some (failed cause)
+HasOutcome built answer stopped = outcome_seen built answer [] ≡ Some stopped
 
--- None before the first change, and then what the running program comes to
+-- None before the first change, and then the outcome of the running program
 abbrev pub AnswersTo : List Entry → Ack → Option Running → Option Acked → Type 0
 AnswersTo entries ack None None = ⊤
 AnswersTo entries ack None (Some answer) = ⊥
 AnswersTo entries ack (Some running) None = ⊥
-AnswersTo entries ack (Some running) (Some answer) = Tells (built_at entries running.era.program) answer (met_by running ack).0
+AnswersTo entries ack (Some running) (Some answer) = HasOutcome (built_at entries running.era.program) answer (met_by running ack).0
 
 -- the answer to the next acknowledgement
 abbrev pub Answered : OpenState → Option Acked → Type 0
@@ -97,7 +97,7 @@ ran_in entries (Some running) ack = ran_with (built_at entries running.era.progr
 abbrev pub ran_at : OpenState → ℕ
 ran_at cell = ran_in cell.entries (world_at cell).present (ack_at cell)
 
--- ---- what a change is answered
+-- ---- the answer to a change
 
 -- the step that the next change changes to, None where there is none
 abbrev pub next_at : OpenState → Option ℕ

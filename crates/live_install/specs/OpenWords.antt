@@ -1,4 +1,4 @@
--- The history of a flow of a rollout as a word, and the states that words come to.
+-- The history of a flow of a rollout as a word, and the state after a word.
 use Rattle.std.specs.Prelude.{Bool, true, not, ◌&&◌, nat_lt, is_some, List, [], ◌∷◌, length}
 use Rattle.link_model.specs.Link.{ack_after}
 use Rattle.scene_members.specs.declared.open_case.OpenCase.{OpenCase}
@@ -27,8 +27,8 @@ install_world case word = world_from case opening word
 
 -- ---- legal and complete words
 
--- an acknowledgement while fewer than the case's are in; an entry while there are fewer than steps; a change where an
--- accepted entry is left that wasn't changed to
+-- an acknowledgement while fewer than the case's are in; an entry while there are fewer than steps; a change while an
+-- accepted entry hasn't been started
 abbrev pub is_legal : OpenCase → OpenWorld → OpenLetter → Bool
 is_legal case w A = nat_lt (length w.acks) case.acks
 is_legal case w I = nat_lt (length w.entries) (length case.steps)

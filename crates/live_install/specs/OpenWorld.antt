@@ -23,7 +23,7 @@ pub record Running : Type 0 where
   pub era : Era
 
 -- the state of a flow: its acknowledgements and the window at each; its entries, and how many acknowledgements were in
--- as each was installed; its ended epochs, and what runs, or none before the first change; the reports and the faults
+-- when each was installed; its ended epochs, and what runs, or none before the first change; the reports and the faults
 pub record OpenWorld : Type 0 where
   pub acks : List Ack
   pub windows : List ℕ
@@ -75,7 +75,7 @@ cwnd_of case w = (track_now case w).env.cwnd
 
 -- ---- an acknowledgement
 
--- what an acknowledgement comes to in a running program, with room always, and the env after it
+-- the outcome of an acknowledgement in a running program, always with room, and the env after it
 abbrev pub met_by : Running → Ack → Outcome Cause × Env
 met_by running ack = heard (by_source running.form) (track_of running).is_stopped (track_of running).env ack true
 
@@ -123,12 +123,12 @@ eras_in past (Some running) = past ++ running.era ∷ []
 abbrev pub eras_of : OpenWorld → List Era
 eras_of w = eras_in w.past w.present
 
--- whether a step was changed to
+-- whether a step was started
 abbrev pub was_started : ℕ → List Era → Bool
 was_started step [] = false
 was_started step (era ∷ rest) = (era.program == step) || was_started step rest
 
--- the first accepted entry, of those from this step on, that wasn't changed to
+-- the first accepted entry, of those from this step on, that hasn't been started
 abbrev pub first_left : List Era → ℕ → List Installed → Option (ℕ × Form)
 first_left eras step [] = None
 first_left eras step (Ok form ∷ rest) =

@@ -1,5 +1,6 @@
--- The text of a rollout: for each flow what its history came to, read over the sources of its steps' texts.
-use Rattle.std.specs.Prelude.{ℕ, ◌+◌, Option, Some, None, Ok, Err, List, [], ◌∷◌, length, slice_get, map, codes, decimal}
+-- The text of a rollout: for each flow its entries, changes, faults, reports and end, read over the sources of its steps'
+-- texts.
+use Rattle.std.specs.Prelude.{ℕ, ◌+◌, ◌-◌, Option, Some, None, Ok, Err, List, [], ◌∷◌, length, slice_get, map, codes, decimal}
 use Rattle.ccp_base.specs.Text.{◌⧺◌}
 use Rattle.ccp_base.specs.declared.exchange.Report.{Report}
 use Rattle.ccp_base.specs.declared.place.Place.{Place}
@@ -19,7 +20,7 @@ use Rattle.live_install.specs.declared.letter.OpenLetter.{OpenLetter}
 use Rattle.live_install.specs.OpenWorld.{Installed, OpenWorld, eras_of, track_now}
 use Rattle.live_install.specs.OpenWords.{install_world}
 
--- ---- what is told of a flow
+-- ---- the account of a flow
 
 -- its entries, and at how many acknowledgements each was installed; its changes, its faults with their places and its
 -- reports, each in order; and how it stands at the end
@@ -68,17 +69,21 @@ fields_in (Some entry) = fields_of entry
 abbrev pub fields_at : List Installed → ℕ → List Decl
 fields_at entries step = fields_in (slice_get entries step)
 
--- those of the last of these epochs, or these where there is none
-abbrev pub last_fields : List Installed → List Decl → List EpochLine → List Decl
-last_fields entries fields [] = fields
-last_fields entries fields (epoch ∷ rest) = last_fields entries (fields_at entries epoch.program) rest
+-- those of an epoch's program; none where there is no epoch
+abbrev pub fields_during : List Installed → Option EpochLine → List Decl
+fields_during entries None = []
+fields_during entries (Some epoch) = fields_at entries epoch.program
+
+-- those of the last of these epochs
+abbrev pub last_fields : List Installed → List EpochLine → List Decl
+last_fields entries epochs = fields_during entries (slice_get epochs (length epochs - 1))
 
 -- ---- its lines
 
 abbrev pub flow_line : ℕ → List ℕ → List ℕ
 flow_line flow name = flow_head flow name ⧺ codes "\n"
 
--- a step's text was installed at so many acknowledgements
+-- a step's text was installed after this many acknowledgements
 abbrev pub installed_line : ℕ → ℕ → List ℕ
 installed_line step at = codes "step " ⧺ decimal step ⧺ codes " installed at=" ⧺ decimal at ⧺ codes "\n"
 
@@ -119,7 +124,7 @@ shown_lines entries (report ∷ rest) =
 
 abbrev pub last_line : OpenAccount → List ℕ
 last_line account =
-    end_head (length account.reports) account.end ⧺ end_tail (last_fields account.entries [] account.epochs) account.end
+    end_head (length account.reports) account.end ⧺ end_tail (last_fields account.entries account.epochs) account.end
 
 -- ---- the parts and the whole
 

@@ -1,4 +1,4 @@
--- What a book of a rollout is: it tells what a legal and complete word of its case came to.
+-- What a book of a rollout is: it has the state after a legal and complete word of its case.
 use Rattle.std.specs.Prelude.{◌≡◌, true, List, map}
 use Rattle.scene_members.specs.declared.open_case.OpenCase.{OpenCase}
 use Rattle.live_install.specs.declared.book.OpenBook.{OpenBook}
@@ -19,7 +19,7 @@ flow_of book = (book.case, book.word)
 abbrev pub flows_of : List OpenBook → List (OpenCase × List OpenLetter)
 flows_of books = map flow_of books
 
--- the book has what its word came to
+-- the book has the state after its word
 abbrev pub IsRightBook : OpenBook → Type 0
 IsRightBook book = IsOpenBookOf (install_world book.case book.word) book
 
@@ -27,7 +27,7 @@ pub record IsWhole (book : OpenBook) : Type 0 where
   pub history : IsHistory (flow_of book)
   pub right : IsRightBook book
 
--- the flow whose history a book tells
+-- the flow whose history a book has
 abbrev pub state_of : OpenBook → OpenState
 state_of book = record { case = book.case; entries = book.entries; word = book.word }
 

@@ -1,10 +1,10 @@
-//! What comes of the acknowledgements that are run.
+//! Running an acknowledgement, and recording its report or its fault.
 ghost use Rattle.std.specs.Prelude.{◌≡◌, ◌+◌, ◌<◌, length};
 ghost use Rattle.portus_core.specs.Epoch.{stops, reported, failed};
 ghost use Rattle.fold_machine.specs.MachineState.{Fits};
 ghost use Rattle.flow_core.specs.Readings.{env_of};
 ghost use Rattle.flow_core.specs.States.{outcome_by};
-ghost use Rattle.live_install.specs.Accounts.{met_as, IsMet, ran_on, HasPlaceFor, PutDown};
+ghost use Rattle.live_install.specs.Accounts.{met_as, IsMet, ran_on, HasPlaceFor, RecordsOutcome};
 
 use ccp_base::{Ack, FaultKind, Notice, Report};
 use flow_core::Roomy;
@@ -32,7 +32,7 @@ pub(crate) struct Turn {
 }
 
 /// Runs an acknowledgement on the machine, with room for a report.
-pub(crate) fn run<L: Ledger>(
+pub(crate) fn run_ack<L: Ledger>(
     machine: &mut Machine,
     code: &Checked,
     ack: &Ack,
@@ -48,11 +48,11 @@ pub(crate) fn run<L: Ledger>(
 }
 
 impl Account {
-    /// Puts down what an acknowledgement came to, by the machine's answer.
+    /// Records the outcome of an acknowledgement, by the machine's answer.
     pub(crate) fn record_outcome(&mut self, turn: Turn, machine: &Machine, ack: &Ack, acked: Acked)
         requires reports { length self.old.reports.items < self.old.reports.room }
         requires faults { HasPlaceFor acked self.old }
-        ensures { PutDown turn self.old self.new ack.entry.now (met_as acked machine.now) }
+        ensures { RecordsOutcome turn self.old self.new ack.entry.now (met_as acked machine.now) }
     {
         match acked {
             Acked::Quiet | Acked::Held | Acked::Stopped => {}
@@ -61,10 +61,10 @@ impl Account {
         }
     }
 
-    /// Puts down the report that the machine made.
+    /// Records the report that the machine made.
     fn record_report(&mut self, turn: Turn, machine: &Machine, ack: &Ack)
         requires { length self.old.reports.items < self.old.reports.room }
-        ensures { PutDown turn self.old self.new ack.entry.now (reported machine.now.report, env_of machine.now.kept) }
+        ensures { RecordsOutcome turn self.old self.new ack.entry.now (reported machine.now.report, env_of machine.now.kept) }
     {
         let end = u64::from(turn.at) + 1;
         let report = Report {
@@ -82,7 +82,7 @@ impl Account {
         self.first = end;
     }
 
-    /// Puts down a fault of this kind at the instruction with this index.
+    /// Records a fault of this kind at the instruction with this index.
     fn record_fault(
         &mut self,
         turn: Turn,
@@ -92,7 +92,7 @@ impl Account {
         index: u16,
     )
         requires { length self.old.faults.items < self.old.faults.room }
-        ensures { PutDown turn self.old self.new ack.entry.now (failed (kind, index), env_of machine.now.kept) }
+        ensures { RecordsOutcome turn self.old self.new ack.entry.now (failed (kind, index), env_of machine.now.kept) }
     {
         let notice = Notice {
             flow: turn.flow,

@@ -6,14 +6,14 @@ use flow_core::EpochLine;
 use fold_machine::Machine;
 use scene_members::OpenCase;
 
-/// What the history of a flow of a rollout came to.
+/// The history of a flow of a rollout, and the state after it.
 #[derive(Drop)]
 pub struct OpenBook {
     pub case: OpenCase,
     pub word: OpenWord,
     /// The entries, in the order of the steps.
     pub entries: Entries,
-    /// For each entry, how many acknowledgements were in as it was installed.
+    /// For each entry, how many acknowledgements were in when it was installed.
     pub installed: Sequence<u32>,
     /// The epochs in order, each with its step as program.
     pub epochs: Sequence<EpochLine>,

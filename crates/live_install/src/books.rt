@@ -13,7 +13,7 @@ use ccp_base::{NoMemory, Sequence};
 use flow_table::{WorkerCounts, make_books};
 use std::alloc::Global;
 
-/// The books of flows, in order, once the work of each of their workers is done: each tells the history that the workers
+/// The books of flows, in order, once the work of each of their workers is done: each has the history that the workers
 /// left, with the caller's letters after it.
 pub(crate) fn books(
     alloc: Global,

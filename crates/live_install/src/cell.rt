@@ -27,7 +27,7 @@ pub struct Late {
     pub want: u32,
 }
 
-/// No accepted entry is left that wasn't changed to.
+/// Each accepted entry has been started already.
 #[derive(Clone, Copy, PartialEq, Eq)]
 pub struct Nothing;
 
@@ -119,8 +119,8 @@ impl OpenCell {
         Ok(())
     }
 
-    /// Changes the flow to the first accepted entry that it wasn't changed to, and answers its step. Nothing exactly
-    /// where there is none; then nothing has changed.
+    /// Changes the flow to the program of the first accepted entry that hasn't been started, and returns its step. Nothing
+    /// exactly where there is none; then nothing has changed.
     pub fn change(&mut self) -> Result<u32, Nothing>
         ensures nothing { IsErr result ↔ (next_at self.old ≡ None) }
         ensures ok { OnOk result (self.new ≡ record self.old { word = self.old.word ++ OpenLetter.G ∷ [] }) }
@@ -129,15 +129,14 @@ impl OpenCell {
         ensures step { IfOk result (λ step. next_at self.old ≡ Some step) }
         ensures unchanged { OnErr result (self.new ≡ self.old) }
     {
-        let Some(step) = self.state.next() else {
+        let Some(step) = self.state.next_step() else {
             return Err(Nothing);
         };
         self.state.start(step);
         Ok(step)
     }
 
-    /// Whether all acknowledgements are in, all steps have entries, and no accepted entry is left that wasn't changed
-    /// to.
+    /// Whether all acknowledgements are in, all steps have entries, and each accepted entry has been started.
     pub fn is_complete(&self) -> bool
         ensures { result ≡ is_complete self.now.case (world_at self.now) }
     {
@@ -149,11 +148,11 @@ impl OpenCell {
         !self.can_change()
     }
 
-    /// Whether an accepted entry is left that wasn't changed to.
+    /// Whether there is an accepted entry that hasn't been started.
     pub fn can_change(&self) -> bool
         ensures { result ≡ is_legal_at self.now OpenLetter.G }
     {
-        self.state.next().is_some()
+        self.state.next_step().is_some()
     }
 
     /// How many acknowledgements are in.
@@ -181,7 +180,7 @@ impl OpenCell {
         &self.state.case
     }
 
-    /// What the history came to. The word must be complete.
+    /// The flow's book. The word must be complete.
     pub fn finish(self) -> OpenBook
         requires { IsComplete self }
         ensures case { result.case ≡ self.case }

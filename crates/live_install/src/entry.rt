@@ -1,6 +1,6 @@
 //! The entries of a flow's library: a step's text with its program and code, or with its refusal.
 ghost use Rattle.std.specs.Prelude.{◌≡◌, false, IfOk, option_copied};
-ghost use Rattle.live_install.specs.BuiltTexts.{is_accepted, is_no_memory, is_wanting, Answers, IsEntry, built_of};
+ghost use Rattle.live_install.specs.BuiltTexts.{is_accepted, is_no_memory, is_out_of_memory, Answers, IsEntry, built_of};
 
 use ccp_base::{Bytes, NoMemory, Sequence};
 use portus_build::{BuildFault, build};
@@ -32,7 +32,7 @@ impl Model for Entry {
     ghost invariant = { λ e. IsEntry e.text e.answer };
 }
 
-/// Whether memory was wanting beside the steps of building.
+/// Whether memory ran out outside the steps of building.
 fn is_no_memory(refusal: &BuildFault) -> bool
     ensures { result ≡ is_no_memory refusal.now }
 {
@@ -45,7 +45,7 @@ fn is_no_memory(refusal: &BuildFault) -> bool
 }
 
 /// What a text is built into.
-fn answer(alloc: Global, text: &[u8]) -> Result<Result<Built, BuildFault>, NoMemory>
+fn build_answer(alloc: Global, text: &[u8]) -> Result<Result<Built, BuildFault>, NoMemory>
     ensures { IfOk result (λ answer. IsEntry text.now answer) }
 {
     match build(alloc, text) {
@@ -64,7 +64,7 @@ impl Entry {
         ensures step { IfOk result (λ entry. entry.step ≡ step) }
         ensures text { IfOk result (λ entry. entry.text ≡ text.now) }
     {
-        let answer = answer(alloc, text)?;
+        let answer = build_answer(alloc, text)?;
         let text = Sequence::from_vec(text.to_vec(alloc)?);
         Ok(Entry { step, text, answer })
     }
@@ -89,7 +89,7 @@ impl Entry {
     pub fn answer(&self) -> &Result<Built, BuildFault>
         ensures answer { result.now ≡ self.now.answer }
         ensures answers { Answers self.now.text self.now.answer }
-        ensures ruled { is_wanting self.now.answer ≡ false }
+        ensures ruled { is_out_of_memory self.now.answer ≡ false }
     {
         &self.answer
     }
@@ -102,7 +102,7 @@ impl Entry {
     }
 
     /// Whether the text is that of a program.
-    pub fn accepted(&self) -> bool
+    pub fn is_accepted(&self) -> bool
         ensures { result ≡ is_accepted self.now.answer }
     {
         self.answer.is_ok()

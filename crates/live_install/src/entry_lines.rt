@@ -11,7 +11,7 @@ use flow_core::EpochLine;
 use portus_build::{BuildFault, put_refusal};
 use std::alloc::Global;
 
-/// Puts the lines of entries, of which each was installed at so many acknowledgements, at the end of a text.
+/// Puts the lines of entries at the end of a text, each with the number of acknowledgements at which it was installed.
 pub(crate) fn put_entries(
     alloc: Global,
     text: &mut Bytes,

@@ -1,24 +1,24 @@
-//! Rollouts: programs are compiled and installed while datapaths run, and the text of what came of it.
+//! Rollouts: programs are compiled and installed while datapaths run. The books of the flows, and their text.
 #![tactic(auto)]
 
 mod account;
+mod advance;
 mod book;
 mod books;
 mod cell;
 mod crew;
+mod datapath_threads;
 mod entry;
 mod entry_lines;
-mod equipping;
-mod hearing;
 mod install_desk;
 mod installer;
+mod installer_threads;
 mod laws;
 mod letter;
+mod library;
 mod opening;
 mod rollout_flow;
 mod run;
-mod serving;
-mod starting;
 mod state;
 mod text;
 mod turn;

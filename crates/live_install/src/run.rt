@@ -6,7 +6,7 @@ ghost use Rattle.live_install.specs.WholeBooks.{IsWhole, case_in};
 
 use crate::OpenBooks;
 use crate::books::books;
-use crate::workers::work;
+use crate::workers::run_workers;
 use ccp_base::{Gate, NoMemory, Workers};
 use flow_table::{FlowTable, WorkerCounts};
 use scene_members::OpenCases;
@@ -14,9 +14,9 @@ use std::alloc::Global;
 use std::sync::Wait;
 use std::thread::Threads;
 
-/// One book a case, in order, whatever the numbers of workers, and in whatever order threads take the flows' locks: each
-/// book has its case, a word that is legal and complete for it, and what that word results in, read over the sources of
-/// the texts. Which such word it is nobody says. There are at most 64 cases.
+/// One book a case, in order, whatever the numbers of workers, and in whatever order threads take
+/// the flows' locks: each book has its case, a word that is legal and complete for it, and the state after it, read
+/// over the sources of the texts. No clause says which such word it is. There are at most 64 cases.
 ///
 /// Datapath worker `d` takes the acknowledgements of the flows `f` with `f mod datapaths = d`, one of each in turn. It
 /// passes the gate at `BeforeAck` and `AfterAck` without a lock and at `InAck` with the flow's. Installer `a`, whose
@@ -33,12 +33,12 @@ pub fn rollout<R: Threads + Wait + Sync, G: Gate + Sync>(
     gate: &G,
 ) -> Result<OpenBooks, NoMemory>
     requires few { length cases ≤ most_flows }
-    // The books are those of the cases, and each tells of a legal and complete word.
+    // The books are those of the cases, and each has the state after a legal and complete word.
     ensures cases { IfOk result (λ books. map case_in books ≡ cases) }
     ensures whole { IfOk result (λ books. All IsWhole books) }
 {
     let table = FlowTable::new(alloc, cases)?;
     let workers = WorkerCounts { datapaths, agents };
-    let crew = work(rt, alloc, &table, workers, gate)?;
+    let crew = run_workers(rt, alloc, &table, workers, gate)?;
     books(alloc, table.close(alloc)?, workers, crew)
 }

@@ -22,7 +22,7 @@ pub(crate) struct State {
     pub(crate) time: u64,
     pub(crate) account: Account,
     pub(crate) entries: Roomy<Entry>,
-    /// For each entry, how many acknowledgements were in as it was installed.
+    /// For each entry, how many acknowledgements were in when it was installed.
     pub(crate) installed: Roomy<u32>,
     pub(crate) epochs: Roomy<EpochLine>,
     pub(crate) word: Roomy<OpenLetter>,

@@ -1,5 +1,5 @@
 //! The text of a rollout: for each flow its entries, changes, faults, reports and end.
-ghost use Rattle.std.specs.Prelude.{◌≡◌, ◌≤◌, ◌++◌, IfOk, OnOk, [], map};
+ghost use Rattle.std.specs.Prelude.{◌≡◌, ◌≤◌, ◌++◌, IfOk, OnOk, map};
 ghost use Rattle.std.specs.List.{All};
 ghost use Rattle.live_install.specs.Entries.{installed_of, place_at};
 ghost use Rattle.live_install.specs.RolloutText.{fault_lines, fields_at, fields_of, flow_line, last_fields, last_line};
@@ -19,8 +19,8 @@ use report_lines::{End, is_faulted, put_end, put_fault, put_flow_head, put_repor
 use std::alloc::Global;
 
 /// The text of a rollout: of each book its flow, its entries, its changes, its faults with their places, its reports,
-/// and how the flow stands at the end. The fields and places are those of the entries. Where each book tells what its
-/// word came to, it is the rollout text of these words.
+/// and how the flow stands at the end. The fields and places are those of the entries. If each book has the state
+/// after its word, it is the rollout text of these words.
 pub fn rollout_text(alloc: Global, books: &OpenBooks) -> Result<Bytes, NoMemory>
     ensures text { IfOk result (λ text. text ≡ books_text books.now) }
     ensures rollout { All IsRightBook books.now → IfOk result (λ text. text ≡ rollout_text (flows_of books.now)) }
@@ -167,13 +167,12 @@ fn put_last(alloc: Global, text: &mut Bytes, book: &OpenBook) -> Result<(), NoMe
 
 /// The fields of the last epoch's program; none where there is no epoch.
 fn last_fields<'a>(entries: &'a [Entry], epochs: &[EpochLine]) -> &'a [Decl]
-    ensures { result.now ≡ last_fields (map installed_of entries.now) [] epochs.now }
+    ensures { result.now ≡ last_fields (map installed_of entries.now) epochs.now }
 {
-    let mut fields: &'a [Decl] = &[];
-    for epoch in epochs {
-        fields = fields_at(entries, epoch.program);
+    match epochs.last() {
+        None => &[],
+        Some(epoch) => fields_at(entries, epoch.program),
     }
-    fields
 }
 
 /// How a book's flow stands at the end. A fault stops its epoch, so the last epoch is stopped where a fault is of it.

@@ -4,7 +4,7 @@ ghost use Rattle.live_install.specs.Crews.{HasWorked};
 
 use crate::cell::OpenCell;
 use crate::crew::Crew;
-use crate::{equipping, serving};
+use crate::{datapath_threads, installer_threads};
 use ccp_base::{Gate, NoMemory};
 use flow_table::{FlowTable, WorkerCounts, end_serving};
 use std::alloc::Global;
@@ -14,7 +14,7 @@ use std::thread::Threads;
 
 /// The workers over the flows of a table, until the work of each of them is done. That of a worker for which no thread
 /// can be started is done here.
-pub(crate) fn work<R: Threads + Wait + Sync, G: Gate + Sync>(
+pub(crate) fn run_workers<R: Threads + Wait + Sync, G: Gate + Sync>(
     rt: &R,
     alloc: Global,
     table: &FlowTable<OpenCell>,
@@ -29,9 +29,9 @@ pub(crate) fn work<R: Threads + Wait + Sync, G: Gate + Sync>(
         move |scope| -> Result<Crew, NoMemory>
             ensures { IfOk result (λ crew. HasWorked crew workers.datapaths.count workers.agents.count (length table.entry.now)) }
         {
-            let equippings = equipping::begin_all(scope, rt, alloc, table, workers, gate)?;
-            let servings = serving::begin_all(scope, rt, alloc, table, workers.datapaths, gate)?;
-            let equipped = equipping::end_all(rt, alloc, equippings)?;
+            let works = installer_threads::begin_all(scope, rt, alloc, table, workers, gate)?;
+            let servings = datapath_threads::begin_all(scope, rt, alloc, table, workers.datapaths, gate)?;
+            let equipped = installer_threads::end_all(rt, alloc, works)?;
             let served = end_serving(rt, alloc, servings)?;
             Ok(Crew { served, equipped })
         },

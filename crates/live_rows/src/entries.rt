@@ -23,8 +23,8 @@ fn cell(alloc: Global, cases: &OpenCases) -> Result<OpenCell, Fail> {
     Ok(OpenCell::new(alloc, first(alloc, cases)?)?)
 }
 
-/// The step that is wanted in place of this one; None where it is installed.
-fn wanted(cell: &mut OpenCell, entry: Entry) -> Option<u32> {
+/// The step whose entry comes next instead of this one; None where this one is installed.
+fn next_instead(cell: &mut OpenCell, entry: Entry) -> Option<u32> {
     match cell.install(entry) {
         Ok(()) => None,
         Err(late) => Some(late.want),
@@ -42,7 +42,7 @@ fn opened(alloc: Global, text: &[u8]) -> Result<OpenCell, Fail> {
 /// An entry of the second step is late, and nothing is left to change to.
 fn refuses(rt: &impl Abort, alloc: Global, cell: &mut OpenCell) -> Result<(), Fail> {
     let second = Entry::make(alloc, 1, b"(def) (when x)")?;
-    assert!(rt; wanted(cell, second) == Some(0));
+    assert!(rt; next_instead(cell, second) == Some(0));
     assert!(rt; cell.change() == Err(Nothing));
     Ok(())
 }

@@ -140,7 +140,7 @@ fn shows(alloc: Global, cell: OpenCell, expected: &[u8]) -> Result<bool, Fail> {
 }
 
 /// Whether this is the text of the flow at a place after a word.
-fn comes_to(
+fn has_text(
     alloc: Global,
     place: usize,
     word: &[OpenLetter],
@@ -158,12 +158,12 @@ fn comes_to(
 
 #[test]
 fn a_change_after_an_acknowledgement_and_a_fault(rt: HostRuntime) -> Result<(), Fail> {
-    assert!(rt; comes_to(rt.alloc(), 0, &FAULTING, FAULTING_TEXT)?);
+    assert!(rt; has_text(rt.alloc(), 0, &FAULTING, FAULTING_TEXT)?);
     Ok(())
 }
 
 #[test]
 fn two_entries_before_a_change_and_reports_with_fields(rt: HostRuntime) -> Result<(), Fail> {
-    assert!(rt; comes_to(rt.alloc(), 1, &REPORTING, REPORTING_TEXT)?);
+    assert!(rt; has_text(rt.alloc(), 1, &REPORTING, REPORTING_TEXT)?);
     Ok(())
 }

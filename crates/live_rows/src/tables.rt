@@ -25,7 +25,7 @@ fn table(alloc: Global, text: &[u8]) -> Result<FlowTable<Cell>, Fail> {
 }
 
 /// Takes an acknowledgement of a flow under its lock.
-fn hear<L: Ledger>(rt: &impl Wait, cell: &Mutex<Cell>, blank: Blank) -> bool
+fn run_ack<L: Ledger>(rt: &impl Wait, cell: &Mutex<Cell>, blank: Blank) -> bool
     requires name { blank.name ≡ L.name }
     requires parts { blank.parts ≡ L.parts }
     requires some { 0 < blank.parts }
@@ -43,31 +43,31 @@ fn shown(cells: &Sequence<Cell>, place: usize) -> Option<(u32, u32)> {
     Some((cell.case().flow, cell.acks()))
 }
 
-/// There are two flows, and an acknowledgement of the second one is taken.
-fn is_heard<R: Abort + Wait>(rt: &R, table: &FlowTable<Cell>) {
+/// Takes an acknowledgement of the second one of two flows.
+fn acknowledge_second<R: Abort + Wait>(rt: &R, table: &FlowTable<Cell>) {
     let flows = table.flows();
     assert!(rt; flows == 2);
-    assert!(rt; hear::<Brand>(rt, table.cell(1), Blank::new(1)));
+    assert!(rt; run_ack::<Brand>(rt, table.cell(1), Blank::new(1)));
 }
 
-/// At this place stands the flow of its number, with so many acknowledgements.
-fn stands(rt: &impl Abort, cells: &Sequence<Cell>, place: u32, acks: u32) {
+/// At this place stands the flow of its number, with this many acknowledgements.
+fn has_acks(rt: &impl Abort, cells: &Sequence<Cell>, place: u32, acks: u32) {
     assert!(rt; shown(cells, place as usize) == Some((place, acks)));
 }
 
 /// There are two flows, as they were left.
-fn come_back(rt: &impl Abort, cells: &Sequence<Cell>) {
+fn are_as_left(rt: &impl Abort, cells: &Sequence<Cell>) {
     assert!(rt; cells.len() == 2);
-    stands(rt, cells, 0, 0);
-    stands(rt, cells, 1, 1);
+    has_acks(rt, cells, 0, 0);
+    has_acks(rt, cells, 1, 1);
 }
 
 #[test]
 fn cells_come_back_as_they_were_left(rt: HostRuntime) -> Result<(), Fail> {
     let table = table(rt.alloc(), TWO)?;
-    is_heard(&rt, &table);
+    acknowledge_second(&rt, &table);
     let cells = table.close(rt.alloc())?;
-    come_back(&rt, &cells);
+    are_as_left(&rt, &cells);
     drop(cells);
     Ok(())
 }

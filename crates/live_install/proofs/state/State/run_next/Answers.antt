@@ -3,10 +3,10 @@ use Rattle.live_install.specs.declared.entry.Entry.{Entry}
 use Rattle.live_install.specs.declared.account.Turn.{Turn}
 use Rattle.flow_core.specs.Readings.{env_of}
 use Rattle.flow_core.specs.States.{outcome_by}
-use Rattle.live_install.specs.Accounts.{PutDown}
+use Rattle.live_install.specs.Accounts.{RecordsOutcome}
 use Rattle.live_install.specs.Entries.{built_at}
 use Rattle.live_install.specs.States.{FitsBuilt, turn_of}
-use Rattle.live_install.proofs.HearingLemmas.{heard-by, told}
+use Rattle.live_install.proofs.RunLemmas.{heard-by, told}
 use Rattle.live_install.proofs.OpenLemmas.{open-run, told-run, ran-run}
 use Rattle.live_install.proofs.state.State.run_next.Goals as goal
 
@@ -14,59 +14,59 @@ pub returns-clause-open_state : goal.returns-clause-open_state
 returns-clause-open_state g c =
     let s = c.args.self.now in
     let built = c.in-Some.built.now in
-    let machine = c.run-acked.new.machine in
+    let machine = c.run_ack-acked.new.machine in
     let account = c.record_outcome.new.self in
-    let answer = c.run-acked.result in
+    let answer = c.run_ack-acked.result in
     let is : built_at s.entries.items c.args.step ≡ Some built =
     ap (λ (entries : List Entry). built_at entries c.args.step) (sym c.as_slice.ensures) ∙ sym c.in-Some.ensures in
-    let down : PutDown (turn_of s c.args.step) s.account account c.next-ack.result (outcome_by answer machine.report, env_of machine.kept) =
-    subst (λ (t : Turn). PutDown t s.account account c.next-ack.result (outcome_by answer machine.report, env_of machine.kept))
+    let down : RecordsOutcome (turn_of s c.args.step) s.account account c.next-ack.result (outcome_by answer machine.report, env_of machine.kept) =
+    subst (λ (t : Turn). RecordsOutcome t s.account account c.next-ack.result (outcome_by answer machine.report, env_of machine.kept))
     (λ i. record { flow = s.case.flow; step = c.args.step; epoch = c.len.ensures.len i - 1; at = s.acks }) c.record_outcome.ensures in
     open-run s c.requires.open_state c.requires.left c.cwnd-window.result c.cwnd-window.ensures
     c.next-ack.new.self c.next-ack.result c.push.new.self c.next-ack.ensures.ack c.next-ack.ensures.stands c.next-ack.ensures.case c.next-ack.ensures.calls
     c.push.ensures.items c.push.ensures.room
     c.args.step c.requires.running machine account answer built is
-    (subst (FitsBuilt machine) (sym is) c.run-acked.ensures.fits)
-    (λ form is_form shape. heard-by s.entries.items (turn_of s c.args.step) s.machine machine s.account account built c.next-ack.result answer is c.run-acked.ensures.met c.run-acked.ensures.stopped down form is_form shape)
-    (λ form is_form shape. told s.entries.items (turn_of s c.args.step) s.machine machine s.account account built c.next-ack.result answer is c.run-acked.ensures.met c.run-acked.ensures.stopped down form is_form shape)
+    (subst (FitsBuilt machine) (sym is) c.run_ack-acked.ensures.fits)
+    (λ form is_form shape. heard-by s.entries.items (turn_of s c.args.step) s.machine machine s.account account built c.next-ack.result answer is c.run_ack-acked.ensures.met c.run_ack-acked.ensures.stopped down form is_form shape)
+    (λ form is_form shape. told s.entries.items (turn_of s c.args.step) s.machine machine s.account account built c.next-ack.result answer is c.run_ack-acked.ensures.met c.run_ack-acked.ensures.stopped down form is_form shape)
 
 pub returns-clause-answered : goal.returns-clause-answered
 returns-clause-answered g c =
     let s = c.args.self.now in
     let built = c.in-Some.built.now in
-    let machine = c.run-acked.new.machine in
+    let machine = c.run_ack-acked.new.machine in
     let account = c.record_outcome.new.self in
-    let answer = c.run-acked.result in
+    let answer = c.run_ack-acked.result in
     let is : built_at s.entries.items c.args.step ≡ Some built =
     ap (λ (entries : List Entry). built_at entries c.args.step) (sym c.as_slice.ensures) ∙ sym c.in-Some.ensures in
-    let down : PutDown (turn_of s c.args.step) s.account account c.next-ack.result (outcome_by answer machine.report, env_of machine.kept) =
-    subst (λ (t : Turn). PutDown t s.account account c.next-ack.result (outcome_by answer machine.report, env_of machine.kept))
+    let down : RecordsOutcome (turn_of s c.args.step) s.account account c.next-ack.result (outcome_by answer machine.report, env_of machine.kept) =
+    subst (λ (t : Turn). RecordsOutcome t s.account account c.next-ack.result (outcome_by answer machine.report, env_of machine.kept))
     (λ i. record { flow = s.case.flow; step = c.args.step; epoch = c.len.ensures.len i - 1; at = s.acks }) c.record_outcome.ensures in
     told-run s c.requires.open_state c.requires.left c.cwnd-window.result c.cwnd-window.ensures
     c.next-ack.new.self c.next-ack.result c.push.new.self c.next-ack.ensures.ack c.next-ack.ensures.stands c.next-ack.ensures.case c.next-ack.ensures.calls
     c.push.ensures.items c.push.ensures.room
     c.args.step c.requires.running machine account answer built is
-    (subst (FitsBuilt machine) (sym is) c.run-acked.ensures.fits)
-    (λ form is_form shape. heard-by s.entries.items (turn_of s c.args.step) s.machine machine s.account account built c.next-ack.result answer is c.run-acked.ensures.met c.run-acked.ensures.stopped down form is_form shape)
-    (λ form is_form shape. told s.entries.items (turn_of s c.args.step) s.machine machine s.account account built c.next-ack.result answer is c.run-acked.ensures.met c.run-acked.ensures.stopped down form is_form shape)
+    (subst (FitsBuilt machine) (sym is) c.run_ack-acked.ensures.fits)
+    (λ form is_form shape. heard-by s.entries.items (turn_of s c.args.step) s.machine machine s.account account built c.next-ack.result answer is c.run_ack-acked.ensures.met c.run_ack-acked.ensures.stopped down form is_form shape)
+    (λ form is_form shape. told s.entries.items (turn_of s c.args.step) s.machine machine s.account account built c.next-ack.result answer is c.run_ack-acked.ensures.met c.run_ack-acked.ensures.stopped down form is_form shape)
 
 pub returns-clause-steps : goal.returns-clause-steps
 returns-clause-steps g c =
     let s = c.args.self.now in
     let built = c.in-Some.built.now in
-    let machine = c.run-acked.new.machine in
+    let machine = c.run_ack-acked.new.machine in
     let account = c.record_outcome.new.self in
-    let answer = c.run-acked.result in
+    let answer = c.run_ack-acked.result in
     let is : built_at s.entries.items c.args.step ≡ Some built =
     ap (λ (entries : List Entry). built_at entries c.args.step) (sym c.as_slice.ensures) ∙ sym c.in-Some.ensures in
-    let down : PutDown (turn_of s c.args.step) s.account account c.next-ack.result (outcome_by answer machine.report, env_of machine.kept) =
-    subst (λ (t : Turn). PutDown t s.account account c.next-ack.result (outcome_by answer machine.report, env_of machine.kept))
+    let down : RecordsOutcome (turn_of s c.args.step) s.account account c.next-ack.result (outcome_by answer machine.report, env_of machine.kept) =
+    subst (λ (t : Turn). RecordsOutcome t s.account account c.next-ack.result (outcome_by answer machine.report, env_of machine.kept))
     (λ i. record { flow = s.case.flow; step = c.args.step; epoch = c.len.ensures.len i - 1; at = s.acks }) c.record_outcome.ensures in
-    c.run-acked.ensures.steps
+    c.run_ack-acked.ensures.steps
     ∙ ap (λ (n : ℕ). c.args.steps.now + n) (ran-run s c.requires.open_state c.requires.left c.cwnd-window.result c.cwnd-window.ensures
     c.next-ack.new.self c.next-ack.result c.push.new.self c.next-ack.ensures.ack c.next-ack.ensures.stands c.next-ack.ensures.case c.next-ack.ensures.calls
     c.push.ensures.items c.push.ensures.room
     c.args.step c.requires.running machine account answer built is
-    (subst (FitsBuilt machine) (sym is) c.run-acked.ensures.fits)
-    (λ form is_form shape. heard-by s.entries.items (turn_of s c.args.step) s.machine machine s.account account built c.next-ack.result answer is c.run-acked.ensures.met c.run-acked.ensures.stopped down form is_form shape)
-    (λ form is_form shape. told s.entries.items (turn_of s c.args.step) s.machine machine s.account account built c.next-ack.result answer is c.run-acked.ensures.met c.run-acked.ensures.stopped down form is_form shape))
+    (subst (FitsBuilt machine) (sym is) c.run_ack-acked.ensures.fits)
+    (λ form is_form shape. heard-by s.entries.items (turn_of s c.args.step) s.machine machine s.account account built c.next-ack.result answer is c.run_ack-acked.ensures.met c.run_ack-acked.ensures.stopped down form is_form shape)
+    (λ form is_form shape. told s.entries.items (turn_of s c.args.step) s.machine machine s.account account built c.next-ack.result answer is c.run_ack-acked.ensures.met c.run_ack-acked.ensures.stopped down form is_form shape))

@@ -22,8 +22,8 @@ use Rattle.live_install.specs.declared.account.Turn.{Turn}
 use Rattle.live_install.specs.declared.entry.Entry.{Entry}
 use Rattle.live_install.specs.Entries.{built_at}
 use Rattle.live_install.specs.OpenBooks.{seen_of, seen_as}
-use Rattle.live_install.specs.OpenCells.{Tells}
-use Rattle.live_install.specs.Accounts.{reporter, notice_by, faults_of, track_by, PutDown, met_in, Heard}
+use Rattle.live_install.specs.OpenCells.{HasOutcome}
+use Rattle.live_install.specs.Accounts.{reporter, notice_by, faults_of, track_by, RecordsOutcome, met_in, HasRun}
 use Rattle.live_install.specs.OpenWorld.{Running}
 use Rattle.live_install.specs.States.{RunsAs, step_in, form_at}
 use Rattle.live_install.proofs.SeenLemmas.{placed, heard-placed, heard-env, stops-placed, first-placed, reports-placed, failures-placed, tells-placed}
@@ -74,7 +74,7 @@ module _ (entries : List Entry) (turn : Turn) (machine new_machine : MachineStat
     (is : built_at entries turn.step ≡ Some built)
     (met : heard (by_code built.code.code) machine.is_stopped (env_of machine.kept) ack true ≡ (outcome_by answer new_machine.report, env_of new_machine.kept))
     (stopping : new_machine.is_stopped ≡ stops (outcome_by answer new_machine.report))
-    (down : PutDown turn old new ack (outcome_by answer new_machine.report, env_of new_machine.kept))
+    (down : RecordsOutcome turn old new ack (outcome_by answer new_machine.report, env_of new_machine.kept))
     (form : Form) (is_form : form_at entries turn.step ≡ Some form) (shape : IsEnvOf form (env_of machine.kept)) where
   abbrev track : Track
   track = track_by turn machine old
@@ -104,10 +104,10 @@ module _ (entries : List Entry) (turn : Turn) (machine new_machine : MachineStat
       ∙ heard-env (form_of built.program) built.code.code built.places built.simulates machine.is_stopped (env_of machine.kept) ack old_shape
       ∙ ap (λ (f : Form). (met_in f track ack).1) same_form
 
-  pub told : Tells (built_at entries turn.step) answer source.0
-  told = subst (λ (b : Option Built). Tells b answer source.0) (sym is) (tells-placed built answer new_machine.report source.0 placed-same)
+  pub told : HasOutcome (built_at entries turn.step) answer source.0
+  told = subst (λ (b : Option Built). HasOutcome b answer source.0) (sym is) (tells-placed built answer new_machine.report source.0 placed-same)
 
-  pub heard-by : Heard entries form turn machine new_machine old new ack
+  pub heard-by : HasRun entries form turn machine new_machine old new ack
   heard-by =
       let env = env_of new_machine.kept in
       let reports : new.reports.items ≡ old.reports.items ++ reports_met (reporter turn) track ack outcome env = down.reports track refl refl in

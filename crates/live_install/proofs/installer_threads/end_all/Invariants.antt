@@ -1,6 +1,6 @@
 use Rattle.std.proofs.Common.{◌≡◌, ◌++◌, map, vec_len}
 use Rattle.live_install.specs.Crews.{install_duty_of}
-use Rattle.live_install.proofs.equipping.end_all.Given as goal
+use Rattle.live_install.proofs.installer_threads.end_all.Given as goal
 
 abbrev pub invariant-loop-left : goal.invariant-loop-left
 invariant-loop-left g l = l.all.items ++ map install_duty_of l.left.items ≡ map install_duty_of l.initial.left.items

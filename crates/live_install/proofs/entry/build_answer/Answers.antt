@@ -1,6 +1,6 @@
 use Rattle.std.proofs.Common.{Ok, Err, sym, ◌∙◌}
 use Rattle.live_install.proofs.EntryLemmas.{is_entry}
-use Rattle.live_install.proofs.entry.answer.Goals as goal
+use Rattle.live_install.proofs.entry.build_answer.Goals as goal
 
 pub returns-in-Ok : goal.returns-in-Ok
 returns-in-Ok c = is_entry c.args.text.now c.in-Ok.ensures.settled (Ok c.in-Ok.built) tt c.in-Ok.ensures.found tt

@@ -3,7 +3,7 @@ use Rattle.std.proofs.Crossing.{crosses}
 use Rattle.std.proofs.sync.Mutex.TheSendSync as mutex
 use denote.Param.Send.{IsSync, sendable}
 use Rattle.live_install.proofs.SendLemmas.{cell-send}
-use Rattle.live_install.proofs.equipping.begin.Goals as goal
+use Rattle.live_install.proofs.installer_threads.begin.Goals as goal
 
 pub spawn_with-started-requires-send-F : goal.spawn_with-started-requires-send-F
 spawn_with-started-requires-send-F g c κs within =

@@ -3,7 +3,7 @@ use Rattle.std.proofs.lemmas.List.{take_rest}
 use Rattle.live_install.specs.declared.entry.Entry.{Entry}
 use Rattle.live_install.specs.States.{world_of, next_from, accepted_from}
 use Rattle.live_install.proofs.NextLemmas.{next-found}
-use Rattle.live_install.proofs.state.State.next.Goals as goal
+use Rattle.live_install.proofs.state.State.next_step.Goals as goal
 
 pub returns : goal.returns
 returns c =

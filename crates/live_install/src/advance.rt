@@ -4,7 +4,7 @@ ghost use Rattle.live_install.specs.Entries.{built_at};
 ghost use Rattle.live_install.specs.OpenCells.{ran_at, Answered};
 ghost use Rattle.live_install.specs.States.{cell_of, world_of, step_in, IsOpen};
 
-use crate::account::{Turn, run};
+use crate::account::{Turn, run_ack};
 use crate::entry::Entry;
 use crate::letter::OpenLetter;
 use crate::state::State;
@@ -20,8 +20,8 @@ pub(crate) fn built_at(entries: &[Entry], step: u32) -> Option<&Built>
 }
 
 impl State {
-    /// The step of the program that hears the next acknowledgement; None exactly before the first change.
-    fn hearer(&self) -> Option<u32>
+    /// The step whose program runs; None exactly before the first change.
+    fn running_step(&self) -> Option<u32>
         requires { IsOpen self.now }
         ensures kept { result ≡ self.now.running }
         ensures present { result ≡ step_in (world_of self.now).present }
@@ -40,7 +40,7 @@ impl State {
         ensures answered { Answered (cell_of self.old) result }
         ensures steps { steps.new ≡ steps.old + ran_at (cell_of self.old) }
     {
-        match self.hearer() {
+        match self.running_step() {
             Some(step) => Some(self.run_next(step, steps)),
             None => {
                 self.count_next();
@@ -90,7 +90,7 @@ impl State {
         let Some(built) = built_at(self.entries.as_slice(), step) else {
             unreachable!()
         };
-        let acked = run(&mut self.machine, &built.code, &ack, steps);
+        let acked = run_ack(&mut self.machine, &built.code, &ack, steps);
         self.account
             .record_outcome(turn, &self.machine, &ack, acked);
         self.acks += 1;

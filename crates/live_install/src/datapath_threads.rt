@@ -1,4 +1,4 @@
-//! The work of datapath workers, begun.
+//! The threads of datapath workers, begun.
 
 ghost use Rattle.std.specs.Prelude.{◌≡◌, map, IfOk, length};
 ghost use Rattle.flow_table.specs.Duties.{duty_of, duty, duties};

@@ -1,4 +1,4 @@
-//! The library and its changes: an entry is put into it, and the first accepted one that wasn't changed to is started.
+//! A flow's library: `put` adds an entry to it, and `start` changes the flow to an entry's program.
 ghost use Rattle.std.specs.Prelude.{◌≡◌, ◌+◌, ◌<◌, ◌≤◌, Some, slice_get, length, ◌∷◌, [], ◌++◌};
 ghost use Rattle.std.specs.Option.{ForSome};
 ghost use Rattle.ccp_base.specs.Limits.{most_steps};
@@ -6,8 +6,8 @@ ghost use Rattle.live_install.specs.BuiltTexts.{Answers};
 ghost use Rattle.live_install.specs.OpenCells.{next_at};
 ghost use Rattle.live_install.specs.States.{next_from, first_accepted, accepted_from, cell_of, IsOpen};
 
+use crate::advance::built_at;
 use crate::entry::Entry;
-use crate::hearing::built_at;
 use crate::letter::OpenLetter;
 use crate::state::State;
 use ccp_base::Fields;
@@ -18,7 +18,7 @@ fn first_accepted(entries: &[Entry]) -> Option<usize>
     ensures place { result ≡ first_accepted entries.now }
     ensures within { ForSome result (λ place. place < length entries.now) }
 {
-    entries.iter().position(|entry| entry.accepted())
+    entries.iter().position(|entry| entry.is_accepted())
 }
 
 /// The step of the first accepted one of these entries, which are those from this step on.
@@ -42,8 +42,8 @@ fn next_from(running: Option<u32>) -> u32
 }
 
 impl State {
-    /// The step of the first accepted entry that wasn't changed to, None exactly where there is none.
-    pub(crate) fn next(&self) -> Option<u32>
+    /// The step of the first accepted entry that hasn't been started, None exactly where there is none.
+    pub(crate) fn next_step(&self) -> Option<u32>
         requires { IsOpen self.now }
         ensures { result ≡ next_at (cell_of self.now) }
     {

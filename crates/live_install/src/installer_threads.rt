@@ -1,4 +1,4 @@
-//! The work of installers, begun and ended.
+//! The threads of installers, begun and ended.
 
 ghost use Rattle.std.specs.Prelude.{◌≡◌, ◌<◌, map, IfOk, length};
 ghost use Rattle.live_install.specs.Crews.{install_duty_of, install_duty, install_duties};
@@ -14,7 +14,7 @@ use worker_desk::{Duty, Equipped};
 
 /// The work of an installer, which goes on in a thread or was done here.
 #[derive(Drop)]
-pub(crate) enum Equipping {
+pub(crate) enum InstallerWork {
     /// In a thread.
     Thread(PromisedHandle<Equipped, Duty>),
     /// Done.
@@ -29,16 +29,16 @@ pub(crate) fn begin_all<'s, 'e, R: Threads + Wait + Sync, G: Gate + Sync>(
     table: &'e FlowTable<OpenCell>,
     workers: WorkerCounts,
     gate: &'e G,
-) -> Result<Vec<Equipping>, NoMemory>
+) -> Result<Vec<InstallerWork>, NoMemory>
     ensures { IfOk result (λ all. map install_duty_of all.items
         ≡ install_duties workers.datapaths.count workers.agents.count (length table.now) workers.agents.count) }
 {
-    let mut equippings = Vec::new(alloc);
+    let mut works = Vec::new(alloc);
     for agent in 0..workers.agents.count() {
-        let equipping = begin(scope, rt, alloc, table, workers, agent, gate);
-        equippings.push(equipping)?;
+        let work = begin(scope, rt, alloc, table, workers, agent, gate);
+        works.push(work)?;
     }
-    Ok(equippings)
+    Ok(works)
 }
 
 /// Begins the work of an installer. Where no thread can be started for it, it is done here.
@@ -50,7 +50,7 @@ fn begin<'s, 'e, R: Threads + Wait + Sync, G: Gate + Sync>(
     workers: WorkerCounts,
     agent: u32,
     gate: &'e G,
-) -> Equipping
+) -> InstallerWork
     requires { agent < workers.agents.count }
     ensures { install_duty_of result ≡ install_duty workers.datapaths.count workers.agents.count (length table.now) agent }
 {
@@ -68,18 +68,18 @@ fn begin<'s, 'e, R: Threads + Wait + Sync, G: Gate + Sync>(
         { run_installer(rt, alloc, table, workers, agent, gate) },
     );
     match started {
-        Ok(handle) => Equipping::Thread(handle),
-        Err(_) => Equipping::Here(run_installer(rt, alloc, table, workers, agent, gate)),
+        Ok(handle) => InstallerWork::Thread(handle),
+        Err(_) => InstallerWork::Here(run_installer(rt, alloc, table, workers, agent, gate)),
     }
 }
 
 /// The end of an installer's work.
-fn end<R: Threads>(rt: &R, equipping: Equipping) -> Equipped
-    ensures { result ≡ install_duty_of equipping }
+fn end<R: Threads>(rt: &R, work: InstallerWork) -> Equipped
+    ensures { result ≡ install_duty_of work }
 {
-    match equipping {
-        Equipping::Thread(handle) => handle.join(rt),
-        Equipping::Here(equipped) => equipped,
+    match work {
+        InstallerWork::Thread(handle) => handle.join(rt),
+        InstallerWork::Here(equipped) => equipped,
     }
 }
 
@@ -87,15 +87,15 @@ fn end<R: Threads>(rt: &R, equipping: Equipping) -> Equipped
 pub(crate) fn end_all<R: Threads>(
     rt: &R,
     alloc: Global,
-    equippings: Vec<Equipping>,
+    works: Vec<InstallerWork>,
 ) -> Result<Vec<Equipped>, NoMemory>
-    ensures { IfOk result (λ all. all.items ≡ map install_duty_of equippings.items) }
+    ensures { IfOk result (λ all. all.items ≡ map install_duty_of works.items) }
 {
-    let mut left = equippings;
+    let mut left = works;
     let mut all = Vec::new(alloc);
     while !left.is_empty() {
-        let equipping = left.remove(0);
-        all.push(end(rt, equipping))?;
+        let work = left.remove(0);
+        all.push(end(rt, work))?;
     }
     Ok(all)
 }
