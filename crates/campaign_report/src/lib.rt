@@ -1,17 +1,14 @@
-//! The texts of modes: what a fold came to, what a checked program is, what a live run and what a campaign came to, the
-//! acknowledgements of flows, and the frames that install programs.
+//! The texts of modes: of folds, checked programs, live runs and campaigns, of the acknowledgements of flows, and of the
+//! frames that install programs.
 #![tactic(auto)]
 
 mod acks;
-mod agent_text;
 mod check;
-mod flow;
 mod fold;
 mod live;
 mod programs;
 mod sums;
 mod table;
-mod tickets;
 mod wire;
 
 pub use acks::acks_text;

@@ -6,11 +6,11 @@ ghost use Rattle.campaign_report.specs.TableText.{after_space, columns, first_to
 ghost use Rattle.campaign_report.specs.TableText.{row_line, row_lines, soak_head, soak_text, spaced, table_text};
 ghost use Rattle.campaign_report.specs.TableText.{total_line};
 
-use crate::agent_text::agent_text;
 use crate::sums::{Column, sum};
 use agent_core::Agent;
 use campaign_gate::{Row, Rows};
 use ccp_base::{Bytes, Name, Names, NoMemory, Sequence};
+use live_lines::agent_text;
 use std::alloc::Global;
 
 /// The agents of cases, in order.
