@@ -15,6 +15,5 @@ pub use acks::acks_text;
 pub use check::check_text;
 pub use fold::fold_text;
 pub use live::live_text;
-pub use report_lines::End;
 pub use table::{Agents, soak_text, table_text};
 pub use wire::wire_text;
