@@ -1,61 +1,33 @@
--- The text of a book that tells what its word came to is its flow's part of the live text.
-use Rattle.std.specs.Prelude.{◌≡◌, ℕ, zero, suc, ◌+◌, ◌-◌, ◌==◌, ◌||◌, Bool, List, [], ◌∷◌, ◌++◌, length, map, codes, decimal, refl}
+-- The text of a book with the state after its word is its flow's part of the live text.
+use Rattle.std.specs.Prelude.{◌≡◌, ℕ, suc, ◌+◌, List, [], ◌∷◌, ◌++◌, length, map, codes, decimal, refl}
 use Rattle.std.specs.List.{All}
-use Rattle.std.proofs.Common.{ap, sym, ◌∙◌, arith, length-append}
-use Rattle.std.proofs.lemmas.List.{length-map}
-use Rattle.ccp_base.specs.declared.exchange.Notice.{Notice}
+use Rattle.std.proofs.Common.{ap, sym, ◌∙◌, arith}
 use Rattle.ccp_base.specs.declared.exchange.Told.{Told}
 use Rattle.ccp_base.specs.declared.exchange.Told.TheVariants.{Report, Fault}
 use Rattle.ccp_base.specs.declared.place.Place.{Place}
 use Rattle.ccp_base.specs.Text.{◌⧺◌}
-use Rattle.portus_core.specs.declared.env.Env.{Env}
 use Rattle.portus_core.specs.Epoch.{Track}
 use Rattle.reg_compiler.specs.declared.built.Built.{Built}
-use Rattle.report_lines.specs.EndLine.{end_head, end_tail, is_faulted}
 use Rattle.flow_core.specs.declared.book.Book.{Book}
 use Rattle.flow_core.specs.declared.book.EpochLine.{EpochLine}
 use Rattle.flow_core.specs.declared.book.TicketLine.{TicketLine}
 use Rattle.flow_core.specs.declared.case.Case.{Case}
-use Rattle.flow_core.specs.declared.letter.Letter.{Letter}
-use Rattle.flow_core.specs.declared.letter.Letter.TheVariants.{A, T, C}
 use Rattle.flow_core.specs.Books.{ticket_line, epoch_line}
-use Rattle.flow_core.specs.LiveText.{Account, Sources, account_of, account_text, answer_text, end_of, epoch_lines, fault_lines, fields_at, flow_line, live_text, part, report_count, reports_told, source_at, ticket_lines, told_text}
+use Rattle.flow_core.specs.LiveText.{Account, Sources, account_of, account_text, answer_text, end_of, epoch_lines, fault_lines, fields_at, flow_line, last_line, live_text, part, report_count, reports_told, sources_of, ticket_lines, told_text}
 use Rattle.flow_core.specs.Readings.{Flow}
-use Rattle.flow_core.specs.WordLaws.{acks_in}
-use Rattle.flow_core.specs.World.{Failure, Era, Answered, World, told_as, track_of}
+use Rattle.flow_core.specs.Words.{acks_in}
+use Rattle.flow_core.specs.World.{Era, Answered, World, told_as, track_of}
 use Rattle.flow_core.proofs.LinkWordLemmas.{length-world}
-use Rattle.campaign_report.specs.BookText.{account_in, ack_count, book_text, books_text, end_in, failure_of, fault_text, fault_texts, last_program, sources_of}
+use Rattle.campaign_report.specs.BookText.{account_in, book_text, books_text, end_in, last_program}
 use Rattle.campaign_report.specs.BooksRead.{answered_of, content_of, flows_of, IsRead, read_flow, read_world}
-use Rattle.campaign_report.proofs.StopLemmas.{fails_in, stopped-where}
-
-ack_count-acks_in : (word : List Letter) → ack_count word ≡ acks_in word
-ack_count-acks_in [] = refl
-ack_count-acks_in (A ∷ rest) = omega (arith, ack_count-acks_in rest)
-ack_count-acks_in (T ∷ rest) = omega (arith, ack_count-acks_in rest)
-ack_count-acks_in (C ∷ rest) = omega (arith, ack_count-acks_in rest)
-
-pub fault_texts-lines : (programs : List (ℕ × Built)) (case : Case) (faults : List Notice) → fault_texts programs case faults ≡ fault_lines (map (failure_of programs case) faults)
-fault_texts-lines programs case [] = refl
-fault_texts-lines programs case (notice ∷ rest) = ap (λ (t : List ℕ). fault_text programs case notice ⧺ t) (fault_texts-lines programs case rest)
 
 last_program-present : (program : ℕ) (past : List Era) (present : Era) → last_program program (map epoch_line (past ++ present ∷ [])) ≡ present.program
 last_program-present program [] present = refl
 last_program-present program (era ∷ rest) present = last_program-present era.program rest present
 
--- the last epoch's number
-last_number : (past : List Era) (present : Era) → length (map epoch_line (past ++ present ∷ [])) - 1 ≡ length past
-last_number past present =
-    let same = length-map (past ++ present ∷ []) epoch_line in
-    let more = length-append past (present ∷ []) in
-    omega (arith, same, more)
-
 module _ (programs : List (ℕ × Built)) (case : Case) (flow : Flow Place) where
   abbrev texts : Sources
   texts = sources_of programs
-
-  faulted-fails : (number : ℕ) (faults : List Notice) → is_faulted number faults ≡ fails_in number (map (failure_of programs case) faults)
-  faulted-fails number [] = refl
-  faulted-fails number (notice ∷ rest) = ap (λ (b : Bool). (notice.epoch == number) || b) (faulted-fails number rest)
 
   -- a fault's place isn't shown with its ticket
   told-shown : (told : Told) (answer : List ℕ) → told_text texts told answer ≡ told_text texts (told_as flow (content_of programs case told)) answer
@@ -73,7 +45,7 @@ module _ (programs : List (ℕ × Built)) (case : Case) (flow : Flow Place) wher
   tickets-shown : (number : ℕ) (tickets : List TicketLine) → ticket_lines texts number tickets ≡ ticket_lines texts number (shown tickets)
   tickets-shown number [] = refl
   tickets-shown number (ticket ∷ rest) =
-      λ i. codes "ticket " ⧺ decimal number ⧺ codes " " ⧺ told-shown ticket.told (answer_text ticket) i ⧺ tickets-shown (number + 1) rest i
+      λ i. (codes "ticket " ⧺ decimal number ⧺ codes " " ⧺ told-shown ticket.told (answer_text ticket) i) ⧺ tickets-shown (number + 1) rest i
 
   counts-shown : (tickets : List TicketLine) → report_count tickets ≡ report_count (shown tickets)
   counts-shown [] = refl
@@ -90,9 +62,7 @@ module _ (programs : List (ℕ × Built)) (case : Case) (flow : Flow Place) wher
       ⧺ epoch_lines 0 account.epochs
       ⧺ fault_lines account.faults
       ⧺ tickets-shown 0 tickets i
-      ⧺ end_head (counts-shown tickets i) account.end
-      ⧺ codes " held=" ⧺ decimal account.held ⧺ codes " faults=" ⧺ decimal (length account.faults)
-      ⧺ end_tail (fields_at texts account.program) account.end
+      ⧺ last_line (fields_at texts account.program) (counts-shown tickets i) account.held (length account.faults) account.end
 
 module _ (programs : List (ℕ × Built)) (book : Book) (told : IsRead programs book) where
   abbrev flow : Flow Place
@@ -104,23 +74,13 @@ module _ (programs : List (ℕ × Built)) (book : Book) (told : IsRead programs 
   abbrev track : Track
   track = track_of flow w
 
-  stopped : is_faulted (length book.epochs - 1) book.faults ≡ track.is_stopped
-  stopped =
-      let ss = source_at (sources_of programs) book.case.ss.role.number in
-      let ca = source_at (sources_of programs) book.case.ca.role.number in
-      ap (λ (es : List EpochLine). is_faulted (length es - 1) book.faults) told.epochs
-      ∙ ap (λ (n : ℕ). is_faulted n book.faults) (last_number w.past w.present)
-      ∙ faulted-fails programs book.case flow (length w.past) book.faults
-      ∙ ap (fails_in (length w.past)) told.faults
-      ∙ sym (stopped-where book.case ss ca book.case.link book.word)
-
   ends : end_in book ≡ end_of (length w.acks) track
   ends =
-      let acks : ack_count book.word ≡ length w.acks = ack_count-acks_in book.word ∙ sym (length-world flow book.case.link book.word) in
+      let acks : acks_in book.word ≡ length w.acks = sym (length-world flow book.case.link book.word) in
       λ i. record {
         acks = acks i;
         first = told.first i;
-        stopped = stopped i;
+        stopped = told.stopped i;
         cwnd = (told.registers i).cwnd;
         rate = (told.registers i).rate;
         fields = (told.registers i).fields;

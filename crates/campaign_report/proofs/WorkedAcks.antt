@@ -1,5 +1,5 @@
 -- Lines of acknowledgements, worked out: one of a flow that loses nothing, a timeout, and one at time zero.
-use Rattle.std.specs.Prelude.{◌≡◌, ℕ, refl, true, false, [], codes, decimal}
+use Rattle.std.specs.Prelude.{◌≡◌, refl, true, false, [], codes, decimal}
 use Rattle.ccp_base.specs.declared.ack.Ack.{Ack}
 use Rattle.ccp_base.specs.Text.{◌⧺◌}
 use Rattle.campaign_report.specs.AcksText.{ack_line}

@@ -1,4 +1,4 @@
--- When a book tells what its flow's word came to, read over the sources of programs, with the places of their
+-- When a book has its flow's state after its word, read over the sources of programs with the places of their
 -- instructions.
 use Rattle.std.specs.Prelude.{◌≡◌, ℕ, List, [], ◌∷◌, ◌++◌, map}
 use Rattle.ccp_base.specs.declared.exchange.Told.{Told}
@@ -10,13 +10,13 @@ use Rattle.flow_core.specs.declared.book.TicketLine.{TicketLine}
 use Rattle.flow_core.specs.declared.case.Case.{Case}
 use Rattle.flow_core.specs.declared.letter.Letter.{Letter}
 use Rattle.flow_core.specs.Books.{epoch_line}
-use Rattle.flow_core.specs.LiveText.{flow_from, live_text}
+use Rattle.flow_core.specs.LiveText.{flow_from, live_text, sources_of}
 use Rattle.flow_core.specs.Readings.{Flow, env_of}
 use Rattle.flow_core.specs.Words.{world}
 use Rattle.flow_core.specs.World.{Content, of_report, of_failure, Answered, World, track_of}
-use Rattle.campaign_report.specs.BookText.{failure_of, sources_of}
+use Rattle.campaign_report.specs.BookText.{failure_of}
 
--- what a ticket told, a fault with the place of its instruction
+-- the content of a ticket, where a fault has the place of its instruction
 abbrev pub content_of : List (ℕ × Built) → Case → Told → Content Place
 content_of programs case (Report report) = of_report report
 content_of programs case (Fault notice) = of_failure (failure_of programs case notice)

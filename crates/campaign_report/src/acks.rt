@@ -4,11 +4,11 @@ ghost use Rattle.ccp_base.specs.Limits.{most_cases, primitive_count};
 ghost use Rattle.campaign_report.specs.AcksText.{ack_line, ack_lines, acks_text, flow_text, flows_text, gap, is_shown};
 ghost use Rattle.campaign_report.specs.AcksText.{item_text, items_text};
 
-use crate::flow::put_flow;
 use crate::table::Agents;
 use agent_core::Agent;
 use campaign_gate::CaseAcks;
 use ccp_base::{Ack, Acks, Bytes, Name, Names, NoMemory, PRIMITIVE_NAMES, prim};
+use live_lines::put_flow_line;
 use std::alloc::Global;
 
 /// The number of `now` among the primitives.
@@ -78,11 +78,11 @@ fn put_flow_text(
 ) -> Result<(), NoMemory>
     ensures { OnOk result (text.new ≡ text.old ++ flow_text flow name.now agent.now acks.now) }
 {
-    put_flow(alloc, text, flow, name, agent)?;
+    put_flow_line(alloc, text, flow, name, agent)?;
     put_acks(alloc, text, acks.as_slice())
 }
 
-/// Puts the lines of acknowledgements at the end of a text.
+/// Appends the lines of acknowledgements.
 fn put_acks(alloc: Global, text: &mut Bytes, acks: &[Ack]) -> Result<(), NoMemory>
     ensures { OnOk result (text.new ≡ text.old ++ ack_lines acks.now) }
 {
@@ -102,7 +102,7 @@ fn put_ack(alloc: Global, text: &mut Bytes, ack: &Ack) -> Result<(), NoMemory>
     Ok(())
 }
 
-/// Puts the primitives of an acknowledgement that are shown at the end of a text, with these names.
+/// Appends the primitives of an acknowledgement that are shown, with these names.
 fn put_items(
     alloc: Global,
     text: &mut Bytes,
@@ -122,7 +122,7 @@ fn put_items(
     Ok(())
 }
 
-/// Puts the item of a primitive at the end of a text, where it is shown.
+/// Appends the item of a primitive if it is shown.
 fn put_item(
     alloc: Global,
     text: &mut Bytes,

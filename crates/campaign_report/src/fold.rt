@@ -33,7 +33,7 @@ pub fn fold_text(
     Ok(text)
 }
 
-/// Puts the line of a fault, where there is one, at the end of a text.
+/// Appends the line of a fault if there is one.
 fn put_notice(
     alloc: Global,
     text: &mut Bytes,

@@ -4,11 +4,11 @@ ghost use Rattle.ccp_base.specs.Limits.{most_cases};
 ghost use Rattle.campaign_report.specs.TableText.{after_space, heading, headings, row_head, row_line, row_lines, soak_head, soak_text};
 ghost use Rattle.campaign_report.specs.TableText.{table_text, values};
 
-use crate::agent_text::agent_text;
 use crate::total::put_total;
 use agent_core::Agent;
 use campaign_gate::{Column, Row, Rows};
 use ccp_base::{Bytes, Name, Names, NoMemory, Sequence};
+use live_lines::agent_text;
 use std::alloc::Global;
 
 /// The agents of cases, in order.

@@ -10,11 +10,11 @@ use ccp_messages::{Message, Short, Version, encode_into};
 use reg_compiler::{Built, Builts};
 use std::alloc::Global;
 
-/// The most fields of a program whose Install is of version 1.
+/// The most fields of a program whose Install has version 1.
 const SHORT_FIELDS: usize = 32;
 
 /// The text of the frames that install programs: for each, in order, its number and the hexadecimal digits of its
-/// Install for flow 0. The frame is of version 1 where the program has at most 32 fields, and else of version 2.
+/// Install for flow 0. The frame has version 1 if the program has at most 32 fields, and version 2 otherwise.
 pub fn wire_text(alloc: Global, programs: &Builts) -> Result<Bytes, NoMemory>
     ensures { IfOk result (λ text. text ≡ wire_text programs.now) }
 {

@@ -9,14 +9,12 @@ use Rattle.portus_core.specs.Value.{Cause}
 use Rattle.reg_compiler.specs.declared.built.Built.{Built}
 use Rattle.portus_build.specs.declared.fault.BuildFault.{BuildFault}
 use Rattle.portus_build.specs.Texts.{IsBuiltFrom, IsNoProgram}
-use Rattle.report_lines.specs.declared.end_line.End.{End}
 use Rattle.ccp_base.specs.Text.{◌⧺◌}
 use Rattle.report_lines.specs.EndLine.{end_line}
 use Rattle.report_lines.specs.FaultLine.{fault_line}
 use Rattle.report_lines.specs.ReportLine.{report_lines}
 use Rattle.fold_run.specs.declared.acks.LineFault.{LineFault}
 use Rattle.fold_run.specs.declared.acks.LineFault.TheVariants as lines
-use Rattle.fold_run.specs.declared.end.End.{End as FoldEnd}
 use Rattle.fold_run.specs.Acknowledgements.{acks_of}
 use Rattle.fold_run.specs.Fold.{fold_reports, fold_fault, fold_end}
 use Rattle.fold_run.specs.Ran.{ran_of}
@@ -43,21 +41,11 @@ abbrev pub stopping_line : Option (ℕ × Cause) → List ℕ
 stopping_line None = []
 stopping_line (Some fault) = fault_line 0 fault.0 fault.1.0 fault.1.1
 
-abbrev pub shown_end : FoldEnd → End
-shown_end end = record {
-  acks = end.acks;
-  first = end.first;
-  stopped = end.stopped;
-  cwnd = end.cwnd;
-  rate = end.rate;
-  fields = end.fields;
-}
-
 -- the text of what a program means over acknowledgements: its reports, the fault that stopped it, and how it ends
 abbrev pub folded_text : Form → List Ack → List ℕ
 folded_text form acks =
     report_lines form.fields (fold_reports form acks) ⧺ stopping_line (fold_fault form acks)
-    ⧺ end_line form.fields (length (fold_reports form acks)) (shown_end (fold_end form acks))
+    ⧺ end_line form.fields (length (fold_reports form acks)) (fold_end form acks)
 
 -- the output is the text of the program's meaning, and the program's code runs so many instructions
 pub record IsFoldOutput (bytes : List ℕ) (output : ModeOutput) : Type 0 where

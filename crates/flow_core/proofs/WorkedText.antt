@@ -62,14 +62,14 @@ first-line state = refl
 -- the lines after it, each number as its digits
 other-lines : (case : Case) → account_text slow_start case account
     ≡ flow_line case.flow case.name case.agent
-    ⧺ (codes "epoch " ⧺ decimal 0 ⧺ codes " program=" ⧺ decimal 0 ⧺ codes " at=" ⧺ decimal 0 ⧺ codes " cwnd=" ⧺ decimal 4344 ⧺ codes "\n")
-    ⧺ (codes "ticket " ⧺ decimal 0 ⧺ codes " "
+    ⧺ ((codes "epoch " ⧺ decimal 0 ⧺ codes " program=" ⧺ decimal 0 ⧺ codes " at=" ⧺ decimal 0 ⧺ codes " cwnd=" ⧺ decimal 4344 ⧺ codes "\n") ⧺ [])
+    ⧺ ((codes "ticket " ⧺ decimal 0 ⧺ codes " "
     ⧺ ((codes "report program=" ⧺ decimal 0 ⧺ codes " epoch=" ⧺ decimal 0 ⧺ codes " span=" ⧺ decimal 0 ⧺ codes ".." ⧺ decimal 4)
     ⧺ (codes " taken=" ⧺ decimal 4 ⧺ codes " answered=" ⧺ decimal 4 ⧺ codes " reply=none")
     ⧺ (codes " now=" ⧺ decimal 60000 ⧺ (codes " cwnd=" ⧺ decimal 10136 ⧺ codes " rate=" ⧺ decimal 0)
     ⧺ (codes " acked=" ⧺ decimal 5792 ⧺ codes " sacked=" ⧺ decimal 0 ⧺ codes " loss=" ⧺ decimal 0 ⧺ codes " timeout=" ⧺ decimal 0
     ⧺ codes " rtt=" ⧺ decimal 30000 ⧺ codes " inflight=" ⧺ decimal 7240 ⧺ codes " ecn=" ⧺ decimal 0 ⧺ [])
-    ⧺ codes "\n"))
+    ⧺ codes "\n")))
     ⧺ [])
     ⧺ (codes "end acks=" ⧺ decimal 4 ⧺ codes " reports=" ⧺ decimal 1)
     ⧺ codes " held=" ⧺ decimal 0 ⧺ codes " faults=" ⧺ decimal 0

@@ -6,8 +6,10 @@ use Rattle.ccp_base.specs.declared.exchange.Told.{Told}
 use Rattle.ccp_base.specs.declared.exchange.Told.TheVariants.{Report, Fault}
 use Rattle.ccp_base.specs.declared.place.Place.{Place}
 use Rattle.portus_core.specs.declared.program.Decl.{Decl}
+use Rattle.portus_core.specs.ProgramForm.{form_of}
 use Rattle.portus_core.specs.Programs.{Form}
 use Rattle.portus_core.specs.Epoch.{Track}
+use Rattle.reg_compiler.specs.declared.built.Built.{Built}
 use Rattle.report_lines.specs.declared.end_line.End.{End}
 use Rattle.ccp_base.specs.Text.{◌⧺◌}
 use Rattle.report_lines.specs.FlowLine.{flow_head}
@@ -29,6 +31,10 @@ use Rattle.flow_core.specs.Books.{ticket_line, epoch_line}
 
 abbrev pub Sources : Type 0
 Sources = List (ℕ × Form)
+
+-- the sources of built programs, each with its number
+abbrev pub sources_of : List (ℕ × Built) → Sources
+sources_of programs = map (λ (program : ℕ × Built). (program.0, form_of program.1.program)) programs
 
 -- the first program with this number; one without a declaration where there is none
 abbrev pub source_at : Sources → ℕ → Form
@@ -79,17 +85,23 @@ agent_text agent = agent_name agent
 abbrev pub flow_line : ℕ → List ℕ → Agent → List ℕ
 flow_line flow name agent = flow_head flow name ⧺ codes " agent=" ⧺ agent_text agent ⧺ codes "\n"
 
+-- the line of the epoch with this number
+abbrev pub epoch_text : ℕ → EpochLine → List ℕ
+epoch_text number epoch =
+    codes "epoch " ⧺ decimal number ⧺ codes " program=" ⧺ decimal epoch.program
+    ⧺ codes " at=" ⧺ decimal epoch.at ⧺ codes " cwnd=" ⧺ decimal epoch.cwnd ⧺ codes "\n"
+
 -- the epochs, numbered from this one on
 abbrev pub epoch_lines : ℕ → List EpochLine → List ℕ
 epoch_lines number [] = []
-epoch_lines number (epoch ∷ rest) =
-    codes "epoch " ⧺ decimal number ⧺ codes " program=" ⧺ decimal epoch.program
-    ⧺ codes " at=" ⧺ decimal epoch.at ⧺ codes " cwnd=" ⧺ decimal epoch.cwnd ⧺ codes "\n"
-    ⧺ epoch_lines (number + 1) rest
+epoch_lines number (epoch ∷ rest) = epoch_text number epoch ⧺ epoch_lines (number + 1) rest
+
+abbrev pub failure_line : Failure Place → List ℕ
+failure_line failure = fault_line failure.epoch failure.at failure.kind failure.site
 
 abbrev pub fault_lines : List (Failure Place) → List ℕ
 fault_lines [] = []
-fault_lines (failure ∷ rest) = fault_line failure.epoch failure.at failure.kind failure.site ⧺ fault_lines rest
+fault_lines (failure ∷ rest) = failure_line failure ⧺ fault_lines rest
 
 abbrev pub reply_text : Reply → List ℕ
 reply_text Nothing = codes "none"
@@ -109,12 +121,15 @@ told_text sources (Report report) answer =
     report_head report ⧺ answer ⧺ report_tail (fields_at sources report.program) report
 told_text sources (Fault notice) answer = fault_head notice.epoch notice.at ⧺ answer ⧺ codes "\n"
 
+-- the line of the ticket with this number
+abbrev pub ticket_text : Sources → ℕ → TicketLine → List ℕ
+ticket_text sources number ticket =
+    codes "ticket " ⧺ decimal number ⧺ codes " " ⧺ told_text sources ticket.told (answer_text ticket)
+
 -- the tickets, numbered from this one on
 abbrev pub ticket_lines : Sources → ℕ → List TicketLine → List ℕ
 ticket_lines sources number [] = []
-ticket_lines sources number (ticket ∷ rest) =
-    codes "ticket " ⧺ decimal number ⧺ codes " " ⧺ told_text sources ticket.told (answer_text ticket)
-    ⧺ ticket_lines sources (number + 1) rest
+ticket_lines sources number (ticket ∷ rest) = ticket_text sources number ticket ⧺ ticket_lines sources (number + 1) rest
 
 abbrev pub reports_told : Told → ℕ
 reports_told (Report report) = 1
@@ -125,11 +140,17 @@ abbrev pub report_count : List TicketLine → ℕ
 report_count [] = 0
 report_count (ticket ∷ rest) = reports_told ticket.told + report_count rest
 
+-- how a flow with these fields ends, after this many reports, held reports and faults
+abbrev pub last_line : List Decl → ℕ → ℕ → ℕ → End → List ℕ
+last_line fields reports held faults end =
+    end_head reports end
+    ⧺ codes " held=" ⧺ decimal held ⧺ codes " faults=" ⧺ decimal faults
+    ⧺ end_tail fields end
+
 abbrev pub end_line : Sources → Account → List ℕ
 end_line sources account =
-    end_head (report_count account.tickets) account.end
-    ⧺ codes " held=" ⧺ decimal account.held ⧺ codes " faults=" ⧺ decimal (length account.faults)
-    ⧺ end_tail (fields_at sources account.program) account.end
+    last_line (fields_at sources account.program) (report_count account.tickets) account.held
+    (length account.faults) account.end
 
 -- ---- the parts and the whole
 

@@ -182,6 +182,13 @@ impl Machine {
         self.ran
     }
 
+    /// Whether a fault stopped the program since its last start.
+    pub fn is_stopped(&self) -> bool
+        ensures { result ≡ self.now.is_stopped }
+    {
+        self.stopped
+    }
+
     /// The fields of the last report, in order of declaration; none before it.
     pub fn reported(&self) -> Values
         ensures { result ≡ self.now.report }

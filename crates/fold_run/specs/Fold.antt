@@ -10,7 +10,7 @@ use Rattle.portus_core.specs.Epoch.{Event, acknowledged, by_source, Track, track
 use Rattle.portus_core.specs.Reports.{Epoch, reports, fault_of}
 use Rattle.portus_core.specs.ProgramForm.{form_of}
 use Rattle.reg_compiler.specs.declared.built.Built.{Built}
-use Rattle.fold_run.specs.declared.end.End.{End}
+use Rattle.report_lines.specs.declared.end_line.End.{End}
 
 -- the one epoch of a fold
 abbrev pub fold_epoch : Epoch

@@ -18,7 +18,7 @@ use Rattle.reg_code.specs.CodeStep.{Kept, Made, one_by_code}
 use Rattle.reg_compiler.specs.declared.built.Built.{Built}
 use Rattle.fold_machine.specs.MachineState.{Fits}
 use Rattle.fold_run.specs.Fold.{IsFoldNotice, fold_epoch, told_fault, with_room}
-use Rattle.fold_run.specs.declared.end.End.{End}
+use Rattle.report_lines.specs.declared.end_line.End.{End}
 use Rattle.fold_run.specs.declared.folded.Folded.{Folded}
 use Rattle.fold_run.specs.declared.folding.Folding.{Folding}
 use Rattle.fold_run.specs.Ran.{Running, running_after}

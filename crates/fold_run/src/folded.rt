@@ -1,6 +1,6 @@
 //! The result of a program's fold: its reports, its fault, its end, and the instructions that ran.
-use crate::end::End;
 use ccp_base::{Notice, Reports};
+use report_lines::End;
 
 /// The result of a program's fold over acknowledgements.
 #[derive(Drop)]

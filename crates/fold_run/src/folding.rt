@@ -11,10 +11,10 @@ ghost use Rattle.fold_run.specs.Folding.{code_after, end_with, fault_after, faul
 ghost use Rattle.fold_run.specs.Folding.{reports_after, track_after};
 ghost use Rattle.fold_run.specs.Ran.{running_start};
 
-use crate::end::End;
 use ccp_base::{Ack, FaultKind, Fields, NoMemory, Notice, Report, Reports};
 use fold_machine::{Acked, Machine, Steps};
 use reg_compiler::Built;
+use report_lines::End;
 use std::alloc::Global;
 use std::sync::ledger::Ledger;
 

@@ -5,7 +5,6 @@
 mod ack_line;
 mod acks;
 pub mod calls;
-mod end;
 mod first_line;
 mod fold;
 mod folded;
@@ -17,7 +16,6 @@ mod names;
 mod separated;
 
 pub use acks::{LineFault, acknowledgements};
-pub use end::End;
 pub use folded::Folded;
 pub use laws::reading_laws;
 pub use separated::{Separated, separate};

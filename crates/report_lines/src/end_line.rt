@@ -38,7 +38,7 @@ pub fn is_faulted(number: usize, faults: &[Notice]) -> bool
     false
 }
 
-/// Puts the last line of a flow, whose program has these fields, at the end of a text.
+/// Appends the last line of a flow, whose program has these fields.
 pub fn put_end(
     alloc: Global,
     text: &mut Bytes,
@@ -52,7 +52,7 @@ pub fn put_end(
     put_end_tail(alloc, text, fields, end)
 }
 
-/// Puts the beginning of the last line at the end of a text: the numbers of acknowledgements and reports.
+/// Appends the beginning of the last line: the numbers of acknowledgements and reports.
 pub fn put_end_head(
     alloc: Global,
     text: &mut Bytes,
@@ -66,7 +66,7 @@ pub fn put_end_head(
     Ok(())
 }
 
-/// Puts the rest of the last line at the end of a text: the unreported span, and how the flow stands.
+/// Appends the rest of the last line: the unreported span, and the flow's window and fields as they stand.
 pub fn put_end_tail(
     alloc: Global,
     text: &mut Bytes,

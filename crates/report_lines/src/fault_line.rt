@@ -1,11 +1,11 @@
 //! The line of a fault: its epoch, its acknowledgement, its kind and its place in the source.
 ghost use Rattle.std.specs.Prelude.{◌≡◌, ◌++◌, OnOk};
-ghost use Rattle.report_lines.specs.FaultLine.{fault_head, notice_line, kind_text, place_tail};
+ghost use Rattle.report_lines.specs.FaultLine.{fault_head, fault_line, kind_text, notice_line, place_tail};
 
 use ccp_base::{Bytes, FaultKind, NoMemory, Notice, Place};
 use std::alloc::Global;
 
-/// Puts the line of a fault, whose operation has this place, at the end of a text.
+/// Appends the line of the fault that a notice tells, whose operation has this place.
 pub fn put_fault(
     alloc: Global,
     text: &mut Bytes,
@@ -14,13 +14,27 @@ pub fn put_fault(
 ) -> Result<(), NoMemory>
     ensures { OnOk result (text.new ≡ text.old ++ notice_line notice.entry.now place) }
 {
-    put_fault_head(alloc, text, notice.epoch, notice.at)?;
+    put_fault_line(alloc, text, notice.epoch, notice.at, notice.kind, place)
+}
+
+/// Appends the line of a fault of this kind: its epoch, the number of its acknowledgement, and its operation's place.
+pub fn put_fault_line(
+    alloc: Global,
+    text: &mut Bytes,
+    epoch: u32,
+    at: u64,
+    kind: FaultKind,
+    place: Place,
+) -> Result<(), NoMemory>
+    ensures { OnOk result (text.new ≡ text.old ++ fault_line epoch at kind place) }
+{
+    put_fault_head(alloc, text, epoch, at)?;
     text.extend(b" kind=")?;
-    text.extend(kind_text(notice.kind).as_bytes())?;
+    text.extend(kind_text(kind).as_bytes())?;
     put_place_tail(alloc, text, place)
 }
 
-/// Puts the epoch of a fault and the number of its acknowledgement at the end of a text.
+/// Appends the epoch of a fault and the number of its acknowledgement.
 pub fn put_fault_head(alloc: Global, text: &mut Bytes, epoch: u32, at: u64) -> Result<(), NoMemory>
     ensures { OnOk result (text.new ≡ text.old ++ fault_head epoch at) }
 {

@@ -6,7 +6,7 @@ use ccp_base::{Bytes, NoMemory, Values};
 use portus_core::Decl;
 use std::alloc::Global;
 
-/// Puts the window, in bytes, and the rate, in bytes a second, at the end of a text.
+/// Appends the window, in bytes, and the rate, in bytes a second.
 pub fn put_window(alloc: Global, text: &mut Bytes, cwnd: u64, rate: u64) -> Result<(), NoMemory>
     ensures { OnOk result (text.new ≡ text.old ++ window_text cwnd rate) }
 {
@@ -15,7 +15,7 @@ pub fn put_window(alloc: Global, text: &mut Bytes, cwnd: u64, rate: u64) -> Resu
     Ok(())
 }
 
-/// Puts each field with its value at the end of a text, in order of declaration.
+/// Appends each field with its value, in order of declaration.
 pub fn put_fields(
     alloc: Global,
     text: &mut Bytes,

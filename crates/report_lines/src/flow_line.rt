@@ -5,7 +5,7 @@ ghost use Rattle.report_lines.specs.FlowLine.{flow_head};
 use ccp_base::{Bytes, NoMemory};
 use std::alloc::Global;
 
-/// Puts the beginning of a flow's first line at the end of a text: its number and the name of its case.
+/// Appends the beginning of a flow's first line: its number and the name of its case.
 pub fn put_flow_head(
     alloc: Global,
     text: &mut Bytes,

@@ -8,7 +8,7 @@ mod flow_line;
 mod report_line;
 
 pub use end_line::{End, is_faulted, put_end, put_end_head, put_end_tail};
-pub use fault_line::{put_fault, put_fault_head};
+pub use fault_line::{put_fault, put_fault_head, put_fault_line};
 pub use fields_text::{put_fields, put_window};
 pub use flow_line::put_flow_head;
 pub use report_line::{put_report, put_report_head, put_report_tail, put_reports};

@@ -7,7 +7,7 @@ use ccp_base::{Bytes, NoMemory, Report};
 use portus_core::Decl;
 use std::alloc::Global;
 
-/// Puts the lines of reports of the program with these fields at the end of a text.
+/// Appends the lines of reports of the program with these fields.
 pub fn put_reports(
     alloc: Global,
     text: &mut Bytes,
@@ -24,7 +24,7 @@ pub fn put_reports(
     Ok(())
 }
 
-/// Puts the line of a report of the program with these fields at the end of a text.
+/// Appends the line of a report of the program with these fields.
 pub fn put_report(
     alloc: Global,
     text: &mut Bytes,
@@ -37,7 +37,7 @@ pub fn put_report(
     put_report_tail(alloc, text, fields, report)
 }
 
-/// Puts what a report is of at the end of a text: its program, epoch and span.
+/// Appends what a report is of: its program, epoch and span.
 pub fn put_report_head(alloc: Global, text: &mut Bytes, report: &Report) -> Result<(), NoMemory>
     ensures { OnOk result (text.new ≡ text.old ++ report_head report.entry.now) }
 {
@@ -49,7 +49,7 @@ pub fn put_report_head(alloc: Global, text: &mut Bytes, report: &Report) -> Resu
     Ok(())
 }
 
-/// Puts what a report shows at the end of a text, to the end of its line.
+/// Appends what a report shows, to the end of its line.
 pub fn put_report_tail(
     alloc: Global,
     text: &mut Bytes,

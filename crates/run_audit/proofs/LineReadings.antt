@@ -19,7 +19,7 @@ use Rattle.report_lines.specs.FaultLine.{kind_text, fault_head}
 use Rattle.flow_core.specs.declared.book.EpochLine.{EpochLine}
 use Rattle.flow_core.specs.declared.book.TicketLine.{TicketLine}
 use Rattle.flow_core.specs.World.{Failure}
-use Rattle.flow_core.specs.LiveText.{Sources, fields_at, Account, epoch_lines, fault_lines, reply_text, answer_text, told_text, ticket_lines, end_line}
+use Rattle.flow_core.specs.LiveText.{Sources, fields_at, Account, epoch_lines, fault_lines, reply_text, answer_text, told_text, ticket_lines, ticket_text, end_line}
 use Rattle.run_audit.specs.PartLeft.{body_text}
 use Rattle.run_audit.specs.Marks.{marks_at, ticket_marks, past, first_number, number_at, number_by, marks_if, marks_in, marks_of, text_marks}
 use Rattle.run_audit.proofs.ForcedLemmas.{AreWithin}
@@ -45,7 +45,7 @@ quiet_line pieces rest are other =
 pub epochs-marks : (number : ℕ) (epochs : List EpochLine) (more : List ℕ) → text_marks (epoch_lines number epochs ++ more) ≡ text_marks more
 epochs-marks number [] more = refl
 epochs-marks number (epoch ∷ rest) more =
-    ap text_marks (joined-append pieces (codes "\n" ++ epoch_lines (number + 1) rest) more)
+    ap text_marks (append_assoc (joined pieces (codes "\n" ++ [])) (epoch_lines (number + 1) rest) more ∙ joined-append pieces (codes "\n" ++ []) (epoch_lines (number + 1) rest ++ more))
     ∙ quiet_line pieces (epoch_lines (number + 1) rest ++ more) are refl
     ∙ epochs-marks (number + 1) rest more
   where
@@ -320,10 +320,10 @@ tickets-marks sources named most fits number (ticket ∷ rest) more within =
 
     text : ticket_lines sources number (ticket ∷ rest) ++ more ≡ joined (ticket_pieces sources number ticket) (codes "\n" ++ (later ++ more))
     text =
-        joined-append (codes "ticket " ∷ decimal number ∷ codes " " ∷ []) (told_text sources ticket.told (answer_text ticket) ++ later) more
+        append_assoc (ticket_text sources number ticket) later more
+        ∙ joined-append (codes "ticket " ∷ decimal number ∷ codes " " ∷ []) (told_text sources ticket.told (answer_text ticket)) (later ++ more)
         ∙ ap (joined (codes "ticket " ∷ decimal number ∷ codes " " ∷ [])) (
-        append_assoc (told_text sources ticket.told (answer_text ticket)) later more
-        ∙ told-pieces sources ticket.told (answer_text ticket) (later ++ more)
+        told-pieces sources ticket.told (answer_text ticket) (later ++ more)
         ∙ ap (λ pieces. joined pieces (codes "\n" ++ (later ++ more))) (told-split sources ticket.told (answer_text ticket)))
 
 -- ---- the end

@@ -59,11 +59,11 @@ pub record IsNot (sources : Sources) (cases : List Case) (text : List ℕ) (coun
   pub begins : BeginsWith sources (take count cases) text
   pub greatest : (more : ℕ) → more ≤ length cases → BeginsWith sources (take more cases) text → more ≤ count
 
--- what is said of a text as the live text of cases
+-- the verdict is true of a text as the live text of cases
 abbrev pub IsVerdict : Sources → List Case → List ℕ → Verdict → Type 0
 IsVerdict sources cases text Yes = IsLiveText sources cases text
 IsVerdict sources cases text (No flow) = IsNot sources cases text flow
 
--- an answer that is given is this verdict
+-- the verdict, if there is memory for one, is this
 abbrev pub Says : Result Verdict NoMemory → Verdict → Type 0
 Says answer verdict = IfOk answer (λ said. said ≡ verdict)

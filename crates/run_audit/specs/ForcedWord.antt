@@ -8,8 +8,8 @@ use Rattle.run_audit.specs.declared.mark.Mark.{Mark}
 abbrev pub with_acks : List Letter → ℕ → List Letter
 with_acks letters count = letters ++ replicate count A
 
--- the letters of so many acknowledgements and those that the marks add, to the end of all acknowledgements; None where
--- the marks fall, or pass that number
+-- the letters, of `at` acknowledgements so far, with those that the marks add, to the end of all acknowledgements; None
+-- if the marks fall, or pass that number
 abbrev pub word_after : ℕ → List Letter → ℕ → List Mark → Option (List Letter)
 word_after acks letters at [] = Some (with_acks letters (acks - at))
 word_after acks letters at (mark ∷ rest) =

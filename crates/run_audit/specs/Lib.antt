@@ -4,4 +4,3 @@ pub mod Fronts
 pub mod Marks
 pub mod ForcedWord
 pub mod PartLeft
-pub mod LineTexts

@@ -10,7 +10,7 @@ use Rattle.run_audit.specs.declared.mark.Mark.{Mark}
 
 -- ---- of tickets
 
--- a ticket was taken and answered, each at so many acknowledgements
+-- a ticket was taken after one number of acknowledgements and answered after another
 abbrev pub marks_at : ℕ → ℕ → List Mark
 marks_at taken answered = record { at = taken; letter = T } ∷ record { at = answered; letter = C } ∷ []
 

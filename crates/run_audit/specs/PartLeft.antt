@@ -12,16 +12,16 @@ use Rattle.run_audit.specs.Marks.{text_marks}
 use Rattle.run_audit.specs.ForcedWord.{forced_word}
 
 -- an account's lines from its tickets on
-abbrev pub tickets_on : Sources → Account → List ℕ
-tickets_on sources account = ticket_lines sources 0 account.tickets ⧺ end_line sources account
+abbrev pub text_from_tickets : Sources → Account → List ℕ
+text_from_tickets sources account = ticket_lines sources 0 account.tickets ⧺ end_line sources account
 
 -- those from its faults on
-abbrev pub faults_on : Sources → Account → List ℕ
-faults_on sources account = fault_lines account.faults ⧺ tickets_on sources account
+abbrev pub text_from_faults : Sources → Account → List ℕ
+text_from_faults sources account = fault_lines account.faults ⧺ text_from_tickets sources account
 
 -- those from its epochs on, which are all after its flow's first line
 abbrev pub body_text : Sources → Account → List ℕ
-body_text sources account = epoch_lines 0 account.epochs ⧺ faults_on sources account
+body_text sources account = epoch_lines 0 account.epochs ⧺ text_from_faults sources account
 
 -- what of this is left after an account's lines
 abbrev pub account_left : Sources → List ℕ → Option Account → Option (List ℕ)
@@ -43,7 +43,7 @@ body_left sources case (Some body) = word_left sources case body (forced_word ca
 abbrev pub part_left : Sources → Case → List ℕ → Option (List ℕ)
 part_left sources case text = body_left sources case (after (flow_line case.flow case.name case.agent) text)
 
--- the verdict, case by case, where so many parts were there before
+-- the verdict, case by case, after this many parts
 abbrev pub judged : Sources → List Case → ℕ → List ℕ → Verdict
 judged sources [] count [] = Yes
 judged sources [] count (byte ∷ rest) = No count

@@ -1,20 +1,23 @@
-//! What follows each kind of line of an account at the front of a text, if the text begins with it.
+//! An account's lines of each kind are taken off the front of a text, if the text begins with them.
 ghost use Rattle.std.specs.Prelude.{IfOk, map};
-ghost use Rattle.flow_core.specs.LiveText.{end_line, epoch_lines, fault_lines, flow_line, ticket_lines};
-ghost use Rattle.source_flow.specs.SourceAccounts.{account_in, failure_of, sources_of};
+ghost use Rattle.flow_core.specs.LiveText.{end_line, epoch_lines, epoch_text, failure_line, fault_lines, flow_line};
+ghost use Rattle.flow_core.specs.LiveText.{sources_of, ticket_lines, ticket_text};
+ghost use Rattle.source_flow.specs.SourceAccounts.{account_in, failure_of};
 ghost use Rattle.run_audit.specs.Fronts.{IsLeftAfter};
-ghost use Rattle.run_audit.specs.LineTexts.{epoch_text, fault_text, ticket_text};
 
 use crate::fronts::after;
-use crate::put_lines::{put_epoch, put_flow, put_last, put_source_fault, put_ticket};
 use ccp_base::{Bytes, NoMemory};
 use flow_core::{Case, EpochLine, TicketLine};
+use live_lines::{
+    Counts, fields_of, put_epoch_line, put_flow_line, put_last_line, put_ticket_line, report_count,
+};
 use reg_compiler::Built;
+use report_lines::put_fault_line;
 use source_flow::{FlowAccount, SourceFault};
 use std::alloc::Global;
 
-/// What follows the first line of a case's part; None exactly where the text doesn't begin with that line.
-pub fn after_flow<'a>(
+/// What follows the first line of a case's part; None exactly if the text doesn't begin with that line.
+pub fn strip_flow<'a>(
     alloc: Global,
     text: &'a [u8],
     case: &Case,
@@ -22,12 +25,12 @@ pub fn after_flow<'a>(
     ensures { IfOk result (IsLeftAfter (flow_line case.now.flow case.now.name case.now.agent) text.now) }
 {
     let mut line = Bytes::new(alloc);
-    put_flow(alloc, &mut line, case)?;
+    put_flow_line(alloc, &mut line, case.flow, &case.name, &case.agent)?;
     Ok(after(text, line.as_slice()))
 }
 
-/// What follows the lines of epochs, numbered from 0; None exactly where the text doesn't begin with them.
-pub fn after_epochs<'a>(
+/// What follows the lines of epochs, numbered from 0; None exactly if the text doesn't begin with them.
+pub fn strip_epochs<'a>(
     alloc: Global,
     text: &'a [u8],
     epochs: &[EpochLine],
@@ -39,7 +42,7 @@ pub fn after_epochs<'a>(
     let mut left = text;
     let mut todo = epochs;
     while let Some((epoch, later)) = todo.split_first() {
-        match after_epoch(alloc, left, number, epoch)? {
+        match strip_epoch(alloc, left, number, epoch)? {
             None => return Ok(None),
             Some(rest) => left = rest,
         }
@@ -50,7 +53,7 @@ pub fn after_epochs<'a>(
     Ok(Some(left))
 }
 
-fn after_epoch<'a>(
+fn strip_epoch<'a>(
     alloc: Global,
     text: &'a [u8],
     number: usize,
@@ -59,12 +62,12 @@ fn after_epoch<'a>(
     ensures { IfOk result (IsLeftAfter (epoch_text number epoch.now) text.now) }
 {
     let mut line = Bytes::new(alloc);
-    put_epoch(alloc, &mut line, number, epoch)?;
+    put_epoch_line(alloc, &mut line, number, epoch)?;
     Ok(after(text, line.as_slice()))
 }
 
-/// What follows the lines of faults; None exactly where the text doesn't begin with them.
-pub fn after_faults<'a>(
+/// What follows the lines of faults; None exactly if the text doesn't begin with them.
+pub fn strip_faults<'a>(
     alloc: Global,
     text: &'a [u8],
     faults: &[SourceFault],
@@ -74,7 +77,7 @@ pub fn after_faults<'a>(
     let mut left = text;
     let mut todo = faults;
     while let Some((fault, later)) = todo.split_first() {
-        match after_fault(alloc, left, fault)? {
+        match strip_fault(alloc, left, fault)? {
             None => return Ok(None),
             Some(rest) => left = rest,
         }
@@ -83,20 +86,27 @@ pub fn after_faults<'a>(
     Ok(Some(left))
 }
 
-fn after_fault<'a>(
+fn strip_fault<'a>(
     alloc: Global,
     text: &'a [u8],
     fault: &SourceFault,
 ) -> Result<Option<&'a [u8]>, NoMemory>
-    ensures { IfOk result (IsLeftAfter (fault_text fault.now) text.now) }
+    ensures { IfOk result (IsLeftAfter (failure_line (failure_of fault.now)) text.now) }
 {
     let mut line = Bytes::new(alloc);
-    put_source_fault(alloc, &mut line, fault)?;
+    put_fault_line(
+        alloc,
+        &mut line,
+        fault.epoch,
+        fault.at,
+        fault.kind,
+        fault.place,
+    )?;
     Ok(after(text, line.as_slice()))
 }
 
-/// What follows the lines of tickets, numbered from 0; None exactly where the text doesn't begin with them.
-pub fn after_tickets<'a>(
+/// What follows the lines of tickets, numbered from 0; None exactly if the text doesn't begin with them.
+pub fn strip_tickets<'a>(
     alloc: Global,
     text: &'a [u8],
     programs: &[(u32, Built)],
@@ -109,7 +119,7 @@ pub fn after_tickets<'a>(
     let mut left = text;
     let mut todo = tickets;
     while let Some((ticket, later)) = todo.split_first() {
-        match after_ticket(alloc, left, programs, number, ticket)? {
+        match strip_ticket(alloc, left, programs, number, ticket)? {
             None => return Ok(None),
             Some(rest) => left = rest,
         }
@@ -120,7 +130,7 @@ pub fn after_tickets<'a>(
     Ok(Some(left))
 }
 
-fn after_ticket<'a>(
+fn strip_ticket<'a>(
     alloc: Global,
     text: &'a [u8],
     programs: &[(u32, Built)],
@@ -130,12 +140,12 @@ fn after_ticket<'a>(
     ensures { IfOk result (IsLeftAfter (ticket_text (sources_of programs.now) number ticket.now) text.now) }
 {
     let mut line = Bytes::new(alloc);
-    put_ticket(alloc, &mut line, programs, number, ticket)?;
+    put_ticket_line(alloc, &mut line, programs, number, ticket)?;
     Ok(after(text, line.as_slice()))
 }
 
-/// What follows the last line of an account; None exactly where the text doesn't begin with that line.
-pub fn after_end<'a>(
+/// What follows the last line of an account; None exactly if the text doesn't begin with that line.
+pub fn strip_end<'a>(
     alloc: Global,
     text: &'a [u8],
     programs: &[(u32, Built)],
@@ -144,6 +154,12 @@ pub fn after_end<'a>(
     ensures { IfOk result (IsLeftAfter (end_line (sources_of programs.now) (account_in account.now)) text.now) }
 {
     let mut line = Bytes::new(alloc);
-    put_last(alloc, &mut line, programs, account)?;
+    let counts = Counts {
+        reports: report_count(account.tickets.as_slice()),
+        held: account.held,
+        faults: account.faults.len(),
+    };
+    let fields = fields_of(programs, account.program);
+    put_last_line(alloc, &mut line, fields, counts, &account.end)?;
     Ok(after(text, line.as_slice()))
 }

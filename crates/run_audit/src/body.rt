@@ -1,18 +1,19 @@
-//! What follows an account's lines after the flow's first one, if a text begins with them.
+//! An account's lines after the flow's first one are taken off the front of a text, if the text begins with them.
 ghost use Rattle.std.specs.Prelude.{IfOk};
-ghost use Rattle.source_flow.specs.SourceAccounts.{account_in, sources_of};
+ghost use Rattle.flow_core.specs.LiveText.{sources_of};
+ghost use Rattle.source_flow.specs.SourceAccounts.{account_in};
 ghost use Rattle.run_audit.specs.Fronts.{IsLeftAfter};
-ghost use Rattle.run_audit.specs.PartLeft.{tickets_on, body_text, faults_on};
+ghost use Rattle.run_audit.specs.PartLeft.{text_from_tickets, body_text, text_from_faults};
 
-use crate::account_lines::{after_end, after_epochs, after_faults, after_tickets};
+use crate::account_lines::{strip_end, strip_epochs, strip_faults, strip_tickets};
 use ccp_base::NoMemory;
 use reg_compiler::Built;
 use source_flow::FlowAccount;
 use std::alloc::Global;
 
-/// What follows the lines of an account after its flow's first line; None exactly where the text doesn't begin with
+/// What follows the lines of an account after its flow's first line; None exactly if the text doesn't begin with
 /// them.
-pub fn after_body<'a>(
+pub fn strip_body<'a>(
     alloc: Global,
     text: &'a [u8],
     programs: &[(u32, Built)],
@@ -20,38 +21,38 @@ pub fn after_body<'a>(
 ) -> Result<Option<&'a [u8]>, NoMemory>
     ensures { IfOk result (IsLeftAfter (body_text (sources_of programs.now) (account_in account.now)) text.now) }
 {
-    match after_epochs(alloc, text, account.epochs.as_slice())? {
+    match strip_epochs(alloc, text, account.epochs.as_slice())? {
         None => Ok(None),
-        Some(left) => after_faults_on(alloc, left, programs, account),
+        Some(left) => strip_from_faults(alloc, left, programs, account),
     }
 }
 
 /// What follows the lines of an account from its faults on.
-fn after_faults_on<'a>(
+fn strip_from_faults<'a>(
     alloc: Global,
     text: &'a [u8],
     programs: &[(u32, Built)],
     account: &FlowAccount,
 ) -> Result<Option<&'a [u8]>, NoMemory>
-    ensures { IfOk result (IsLeftAfter (faults_on (sources_of programs.now) (account_in account.now)) text.now) }
+    ensures { IfOk result (IsLeftAfter (text_from_faults (sources_of programs.now) (account_in account.now)) text.now) }
 {
-    match after_faults(alloc, text, account.faults.as_slice())? {
+    match strip_faults(alloc, text, account.faults.as_slice())? {
         None => Ok(None),
-        Some(left) => after_tickets_on(alloc, left, programs, account),
+        Some(left) => strip_from_tickets(alloc, left, programs, account),
     }
 }
 
 /// What follows the lines of an account from its tickets on.
-fn after_tickets_on<'a>(
+fn strip_from_tickets<'a>(
     alloc: Global,
     text: &'a [u8],
     programs: &[(u32, Built)],
     account: &FlowAccount,
 ) -> Result<Option<&'a [u8]>, NoMemory>
-    ensures { IfOk result (IsLeftAfter (tickets_on (sources_of programs.now) (account_in account.now)) text.now) }
+    ensures { IfOk result (IsLeftAfter (text_from_tickets (sources_of programs.now) (account_in account.now)) text.now) }
 {
-    match after_tickets(alloc, text, programs, account.tickets.as_slice())? {
+    match strip_tickets(alloc, text, programs, account.tickets.as_slice())? {
         None => Ok(None),
-        Some(left) => after_end(alloc, left, programs, account),
+        Some(left) => strip_end(alloc, left, programs, account),
     }
 }

@@ -7,7 +7,7 @@ use ccp_base::NoMemory;
 use flow_core::{Letter, Words};
 use std::alloc::Global;
 
-/// The word of a flow with this many acknowledgements that the letters of its tickets force; None exactly where their
+/// The word of a flow with this many acknowledgements that the letters of its tickets force; None exactly if their
 /// counts fall or pass that number.
 pub fn forced_word(alloc: Global, acks: u32, marks: &[Mark]) -> Result<Option<Words>, NoMemory>
     ensures { IfOk result (λ word. word ≡ forced_word acks marks.now) }
@@ -29,7 +29,7 @@ pub fn forced_word(alloc: Global, acks: u32, marks: &[Mark]) -> Result<Option<Wo
     Ok(Some(letters))
 }
 
-/// Puts so many acknowledgements at the end of letters.
+/// Appends this many acknowledgements to letters.
 fn put_acks(letters: &mut Words, count: u64) -> Result<(), NoMemory>
     ensures { OnOk result (letters.new ≡ with_acks letters.old count) }
 {

@@ -2,7 +2,7 @@
 ghost use Rattle.std.specs.Prelude.{◌≡◌};
 ghost use Rattle.run_audit.specs.Fronts.{after, bytes_found};
 
-/// What follows this front of a text; None exactly where the text doesn't begin with it.
+/// What follows this front of a text; None exactly if the text doesn't begin with it.
 pub fn after<'a>(text: &'a [u8], front: &[u8]) -> Option<&'a [u8]>
     ensures { bytes_found result ≡ after front.now text.now }
 {

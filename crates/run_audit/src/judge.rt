@@ -3,7 +3,7 @@ ghost use Rattle.std.specs.Prelude.{◌≡◌, ◌≤◌, ℕ, IfOk, length};
 ghost use Rattle.std.specs.List.{All};
 ghost use Rattle.ccp_base.specs.Limits.{most_flows};
 ghost use Rattle.scenario_json.specs.ScenePrograms.{forms_of};
-ghost use Rattle.source_flow.specs.SourceAccounts.{sources_of};
+ghost use Rattle.flow_core.specs.LiveText.{sources_of};
 ghost use Rattle.source_flow.specs.Sourced.{IsSourced};
 ghost use Rattle.run_audit.specs.declared.verdict.Verdict.TheVariants.{Yes, No};
 ghost use Rattle.run_audit.specs.Audit.{IsLiveText, IsNot, IsVerdict, Says};
@@ -23,10 +23,10 @@ pub fn audit(alloc: Global, scene: &Scenario, text: &[u8]) -> Result<Verdict, No
     requires few { length scene.now.cases ≤ most_flows }
     requires sourced { All (IsSourced scene.now.programs) scene.now.cases }
 
-    // The verdict is what is so of the text.
+    // The verdict is true of the text.
     ensures is { IfOk result (IsVerdict (forms_of scene.now.programs) scene.now.cases text.now) }
 
-    // A live text has no other verdict than Yes, and every other text none than No with its number.
+    // A live text gets Yes, and every other text gets No with its number.
     ensures yes { IsLiveText (forms_of scene.now.programs) scene.now.cases text.now → Says result Yes }
     ensures no { (count : ℕ) → IsNot (forms_of scene.now.programs) scene.now.cases text.now count
         → Says result (No count) }
@@ -34,7 +34,7 @@ pub fn audit(alloc: Global, scene: &Scenario, text: &[u8]) -> Result<Verdict, No
     judge(alloc, &scene.programs, scene.cases.as_slice(), text)
 }
 
-/// What is said of a text as the live text of cases, by the parts that it begins with.
+/// The verdict on a text as the live text of cases, part by part.
 fn judge(alloc: Global, programs: &Builts, cases: &[Case], text: &[u8]) -> Result<Verdict, NoMemory>
     requires few { length cases.now ≤ most_flows }
     requires sourced { All (IsSourced programs.now) cases.now }

@@ -1,5 +1,4 @@
-//! A judge of printed live runs: whether a text is what the flows of a scenario come to by the meaning of their
-//! programs' sources.
+//! A judge of printed live runs: whether a text is the live text of a scenario by the meaning of its programs' sources.
 #![tactic(auto)]
 
 mod account_lines;
@@ -10,7 +9,6 @@ mod judge;
 mod laws;
 mod mark;
 mod part;
-mod put_lines;
 mod read_marks;
 mod verdict;
 

@@ -1,8 +1,8 @@
-//! The letters of a ticket, each with the number of acknowledgements at which it stands.
+//! The letters of a ticket, each with the number of acknowledgements before it.
 use ccp_base::Sequence;
 use flow_core::Letter;
 
-/// A letter of a ticket, and at how many acknowledgements it stands.
+/// A letter of a ticket, and the number of acknowledgements before it.
 #[derive(Clone, Copy)]
 pub struct Mark {
     pub at: u64,

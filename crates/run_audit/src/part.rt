@@ -1,12 +1,12 @@
 //! What a text leaves after a case's part, if it begins with that of a legal and complete word.
 ghost use Rattle.std.specs.Prelude.{◌≡◌, IfOk};
-ghost use Rattle.source_flow.specs.SourceAccounts.{sources_of};
+ghost use Rattle.flow_core.specs.LiveText.{sources_of};
 ghost use Rattle.source_flow.specs.Sourced.{IsSourced};
 ghost use Rattle.run_audit.specs.Fronts.{bytes_found};
 ghost use Rattle.run_audit.specs.PartLeft.{part_left};
 
-use crate::account_lines::after_flow;
-use crate::body::after_body;
+use crate::account_lines::strip_flow;
+use crate::body::strip_body;
 use crate::forced_word::forced_word;
 use crate::read_marks::read_marks;
 use ccp_base::NoMemory;
@@ -15,7 +15,7 @@ use reg_compiler::Builts;
 use source_flow::calls::account;
 use std::alloc::Global;
 
-/// What of a text is left after a case's part; None exactly where the text doesn't begin with the part of a legal and
+/// What of a text is left after a case's part; None exactly if the text doesn't begin with the part of a legal and
 /// complete word.
 pub fn part_left<'a>(
     alloc: Global,
@@ -26,7 +26,7 @@ pub fn part_left<'a>(
     requires { IsSourced programs.now case.now }
     ensures { IfOk result (λ left. bytes_found left ≡ part_left (sources_of programs.now) case.now text.now) }
 {
-    let Some(body) = after_flow(alloc, text, case)? else {
+    let Some(body) = strip_flow(alloc, text, case)? else {
         return Ok(None);
     };
     let marks = read_marks(alloc, body)?;
@@ -36,5 +36,5 @@ pub fn part_left<'a>(
     let Some(account) = account(alloc, case, programs, word.as_slice())? else {
         return Ok(None);
     };
-    after_body(alloc, body, programs.as_slice(), &account)
+    strip_body(alloc, body, programs.as_slice(), &account)
 }

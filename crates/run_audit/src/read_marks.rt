@@ -1,4 +1,4 @@
-//! How the letters of a flow's tickets are read off the lines of a live text.
+//! The letters of a flow's tickets are read off the lines of a live text.
 ghost use Rattle.std.specs.Prelude.{◌≡◌, ◌++◌, IfOk, OnOk, Some};
 ghost use Rattle.run_audit.specs.Fronts.{bytes_found};
 ghost use Rattle.run_audit.specs.Marks.{marks_in, number_at, number_by, past, text_marks};
@@ -25,7 +25,7 @@ pub fn read_marks(alloc: Global, text: &[u8]) -> Result<Marks, NoMemory>
     Ok(marks)
 }
 
-/// Puts the two letters of the ticket that a line is of at the end of others, where it says both counts.
+/// Appends the two letters of a line's ticket if the line has both counts.
 fn put_marks(marks: &mut Marks, line: &[u8]) -> Result<(), NoMemory>
     ensures { OnOk result (marks.new ≡ marks.old ++ marks_in line.now) }
 {
@@ -53,7 +53,7 @@ fn number_by(line: &[u8], name: &[u8]) -> Option<u64>
     first_number(past(line, name)?)
 }
 
-/// The number that the first word of a text is.
+/// The first word of a text as a number.
 fn first_number(text: &[u8]) -> Option<u64>
     ensures { result ≡ number_at (Some text.now) }
 {

@@ -1,5 +1,5 @@
 //! The verdict of an audit: yes, or how many flows' parts the text begins with.
-/// What is said of a text as the live text of a scenario.
+/// The verdict on a text as the live text of a scenario.
 #[derive(Clone, Copy)]
 pub enum Verdict {
     /// It is the text of the scenario's flows, for some histories.

@@ -4,8 +4,7 @@ use Rattle.std.proofs.Common.{ap}
 use Rattle.portus_core.specs.Programs.{Form}
 use Rattle.portus_core.specs.ProgramForm.{form_of}
 use Rattle.reg_compiler.specs.declared.built.Built.{Built}
-use Rattle.flow_core.specs.LiveText.{source_at}
-use Rattle.source_flow.specs.SourceAccounts.{sources_of}
+use Rattle.flow_core.specs.LiveText.{source_at, sources_of}
 use Rattle.source_flow.specs.Sourced.{built_at}
 
 found-by : (test : Bool) (one built : Built) (later : Option Built) (rest : Form)

@@ -2,20 +2,15 @@
 use Rattle.std.specs.Prelude.{◌≡◌, ℕ, ◌&&◌, Option, Some, None, option_map, if◌then◌else◌, List, map}
 use Rattle.ccp_base.specs.declared.place.Place.{Place}
 use Rattle.link_model.specs.declared.link_case.LinkCase.{LinkCase}
-use Rattle.portus_core.specs.ProgramForm.{form_of}
 use Rattle.reg_compiler.specs.declared.built.Built.{Built}
 use Rattle.flow_core.specs.declared.case.Case.{Case}
 use Rattle.flow_core.specs.declared.letter.Letter.{Letter}
 use Rattle.flow_core.specs.Readings.{Flow}
 use Rattle.flow_core.specs.World.{Failure}
 use Rattle.flow_core.specs.Words.{world, legal, is_complete}
-use Rattle.flow_core.specs.LiveText.{Sources, Account, account_of, flow_from}
+use Rattle.flow_core.specs.LiveText.{Account, account_of, flow_from, sources_of}
 use Rattle.source_flow.specs.declared.flow_account.SourceFault.{SourceFault}
 use Rattle.source_flow.specs.declared.flow_account.FlowAccount.{FlowAccount}
-
--- the sources of programs, each with its number
-abbrev pub sources_of : List (ℕ × Built) → Sources
-sources_of programs = map (λ one. (one.0, form_of one.1.program)) programs
 
 -- the flow of a case, read over the sources of these programs
 abbrev pub flow_by : List (ℕ × Built) → Case → Flow Place

@@ -4,7 +4,7 @@ ghost use Rattle.ccp_base.specs.Limits.{most_acks};
 ghost use Rattle.portus_core.specs.ProgramForm.{form_of};
 ghost use Rattle.fold_run.specs.Ran.{ran_of};
 ghost use Rattle.ccp_run.specs.Attempts.{IsAnswer};
-ghost use Rattle.ccp_run.specs.Fold.{folded_text, shown_end};
+ghost use Rattle.ccp_run.specs.Fold.{folded_text};
 ghost use Rattle.ccp_run.specs.Modes.{Task};
 
 use crate::outcome::ModeOutput;
@@ -12,11 +12,11 @@ use crate::program::{numbered_zero, program};
 use crate::refusal::Refusal;
 use crate::stop::Stop;
 use agent_loop::Books;
-use campaign_report::{End, fold_text};
+use campaign_report::fold_text;
 use ccp_base::{Ack, NoMemory};
 use ccp_words::Alone;
 use fold_run::calls::folded;
-use fold_run::{Folded, LineFault, acknowledgements, separate};
+use fold_run::{LineFault, acknowledgements, separate};
 use reg_compiler::Built;
 use std::alloc::Global;
 
@@ -45,32 +45,11 @@ fn run_fold(alloc: Global, built: Built, acks: &[Ack]) -> Result<ModeOutput, NoM
     ensures ran { IfOk result (λ output. output.ran ≡ ran_of built.code.code acks.now) }
 {
     let folded = folded(alloc, &built, acks)?;
-    let text = fold_text(
-        alloc,
-        &built,
-        &folded.reports,
-        folded.fault,
-        &shown_end(&folded),
-    )?;
+    let text = fold_text(alloc, &built, &folded.reports, folded.fault, &folded.end)?;
     Ok(ModeOutput {
         text,
         books: Books::new(alloc),
         programs: numbered_zero(alloc, built)?,
         ran: folded.ran,
     })
-}
-
-/// How a fold ends, as texts show it.
-fn shown_end(folded: &Folded) -> End
-    ensures { result ≡ shown_end folded.now.end }
-{
-    let end = &folded.end;
-    End {
-        acks: end.acks,
-        first: end.first,
-        stopped: end.stopped,
-        cwnd: end.cwnd,
-        rate: end.rate,
-        fields: end.fields,
-    }
 }

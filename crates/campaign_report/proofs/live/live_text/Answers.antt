@@ -1,7 +1,9 @@
-use Rattle.std.proofs.Common.{◌≡◌, ℕ, List, IfOk, subst}
+use Rattle.std.proofs.Common.{rules, ◌≡◌, ◌∙◌}
+use Rattle.campaign_report.specs.BookText.{books_text}
 use Rattle.campaign_report.proofs.BookLemmas.{books-live}
 use Rattle.campaign_report.proofs.live.live_text.Goals as goal
 
 pub returns-clause-live : goal.returns-clause-live
 returns-clause-live c = λ told.
-    subst (λ (t : List ℕ). IfOk c.books_text.result (λ text. text ≡ t)) (books-live c.args.programs.now c.args.books.now told) c.books_text.ensures
+    let text : c.put_books.new.text ≡ books_text c.args.programs.now c.args.books.now = search rules in
+    text ∙ books-live c.args.programs.now c.args.books.now told

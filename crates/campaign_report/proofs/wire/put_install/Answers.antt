@@ -1,5 +1,5 @@
-use Rattle.std.proofs.Common.{◌≡◌, ◌∙◌, List, ℕ, ◌++◌, rules, ap, append_assoc}
-use Rattle.campaign_report.specs.WireText.{hex_line, install_frame, install_head}
+use Rattle.std.proofs.Common.{◌≡◌, ◌∙◌, ◌++◌, rules, ap, append_assoc}
+use Rattle.campaign_report.specs.WireText.{hex_line, install_head}
 use Rattle.campaign_report.proofs.wire.put_install.Goals as goal
 
 pub returns : goal.returns

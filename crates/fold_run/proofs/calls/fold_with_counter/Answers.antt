@@ -1,5 +1,5 @@
 use Rattle.std.proofs.Common.{ℕ, ap, sym, subst}
-use Rattle.fold_run.specs.declared.end.End.{End}
+use Rattle.report_lines.specs.declared.end_line.End.{End}
 use Rattle.fold_run.specs.Fold.{IsFoldNotice}
 use Rattle.fold_run.proofs.calls.fold_with_counter.Goals as goal
 

@@ -7,9 +7,8 @@ use Rattle.report_lines.specs.declared.end_line.End.{End}
 use Rattle.report_lines.specs.EndLine.{end_line}
 use Rattle.report_lines.specs.ReportLine.{report_lines}
 use Rattle.campaign_report.specs.FoldText.{ShowsAll, fold_text}
-use Rattle.fold_run.specs.declared.end.End.{End as FoldEnd}
 use Rattle.fold_run.specs.Fold.{fold_reports, fold_fault}
-use Rattle.ccp_run.specs.Fold.{shown_end, stopping_line}
+use Rattle.ccp_run.specs.Fold.{stopping_line}
 use Rattle.ccp_run.proofs.FoldLemmas.{reports_show_all, end_shows_all, line_of_notice}
 use Rattle.ccp_run.proofs.modes.fold.run_fold.Goals as goal
 
@@ -23,8 +22,7 @@ fold_text-requires-clause-fault c = λ notice is. (c.in_ok-folded.ensures.notice
 
 pub fold_text-requires-clause-end : goal.fold_text-requires-clause-end
 fold_text-requires-clause-end c =
-    ap (λ (end : End). length end.fields) c.shown_end.ensures
-    ∙ (ap (λ (end : FoldEnd). length end.fields) c.in_ok-folded.ensures.end ∙ end_shows_all (form_of c.args.built.program) c.args.acks.now)
+    ap (λ (end : End). length end.fields) c.in_ok-folded.ensures.end ∙ end_shows_all (form_of c.args.built.program) c.args.acks.now
 
 pub returns-clause-text : goal.returns-clause-text
 returns-clause-text c =
@@ -34,6 +32,6 @@ returns-clause-text c =
     let folded = c.in_ok-folded.folded in
     let reports = fold_reports form acks in
     c.in_ok-text.ensures
-    ∙ (ap (λ (r : List Report). fold_text form.fields places r folded.fault c.shown_end.result) c.in_ok-folded.ensures.reports
-    ∙ (ap (λ (line : List ℕ). report_lines form.fields reports ++ (line ++ end_line form.fields (length reports) c.shown_end.result)) (line_of_notice acks places folded.end.cwnd folded.fault (fold_fault form acks) c.in_ok-folded.ensures.notice c.in_ok-folded.ensures.fault)
-    ∙ ap (λ (end : End). report_lines form.fields reports ++ (stopping_line (fold_fault form acks) ++ end_line form.fields (length reports) end)) (c.shown_end.ensures ∙ ap shown_end c.in_ok-folded.ensures.end)))
+    ∙ (ap (λ (r : List Report). fold_text form.fields places r folded.fault folded.end) c.in_ok-folded.ensures.reports
+    ∙ (ap (λ (line : List ℕ). report_lines form.fields reports ++ (line ++ end_line form.fields (length reports) folded.end)) (line_of_notice acks places folded.end.cwnd folded.fault (fold_fault form acks) c.in_ok-folded.ensures.notice c.in_ok-folded.ensures.fault)
+    ∙ ap (λ (end : End). report_lines form.fields reports ++ (stopping_line (fold_fault form acks) ++ end_line form.fields (length reports) end)) c.in_ok-folded.ensures.end))
