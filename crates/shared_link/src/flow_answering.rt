@@ -30,8 +30,26 @@ impl FlowTraffic {
         ensures room { OnOk result (min left most_flight ≤ vec_capacity self.new.acks) }
     {
         let _ = link;
-        self.acks = Vec::with_capacity(alloc, (left as usize).min(PACKETS))?;
+        let most = (left as usize).min(PACKETS);
+        if self.acks.capacity() < most {
+            self.acks = Vec::with_capacity(alloc, most)?;
+        }
         Ok(())
+    }
+
+    /// Keeps the memory of a list that the flow was given.
+    pub(crate) fn keep_list(&mut self, link: &FlowLink, list: Acks)
+        requires kept { IsFlowKept link.now self.old }
+        ensures kept { IsFlowKept link.now self.new }
+        ensures standing { flow_in self.new ≡ flow_in self.old }
+        ensures in_flight { self.new.in_flight ≡ self.old.in_flight }
+        ensures sent { self.new.sent ≡ self.old.sent }
+        ensures acks { self.new.acks.items ≡ [] }
+    {
+        let _ = link;
+        let mut acks = list.into_vec();
+        acks.clear();
+        self.acks = acks;
     }
 
     /// The acknowledgements of the round, which leaves none.
