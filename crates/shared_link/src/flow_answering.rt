@@ -32,9 +32,26 @@ impl FlowTraffic {
     {
         // for the contract alone: what holds of a flow depends on its listed losses
         let _ = link;
-        let most = u64::from(left).min(self.in_flight.max(may));
-        self.acks = Vec::with_capacity(alloc, most as usize)?;
+        let most = u64::from(left).min(self.in_flight.max(may)) as usize;
+        if self.acks.capacity() < most {
+            self.acks = Vec::with_capacity(alloc, most)?;
+        }
         Ok(())
+    }
+
+    /// Keeps the memory of a list that the flow was given.
+    pub(crate) fn keep_list(&mut self, link: &FlowLink, list: Acks)
+        requires kept { IsFlowKept link.now self.old }
+        ensures kept { IsFlowKept link.now self.new }
+        ensures standing { flow_in self.new ≡ flow_in self.old }
+        ensures in_flight { self.new.in_flight ≡ self.old.in_flight }
+        ensures sent { self.new.sent ≡ self.old.sent }
+        ensures acks { self.new.acks.items ≡ [] }
+    {
+        let _ = link;
+        let mut acks = list.into_vec();
+        acks.clear();
+        self.acks = acks;
     }
 
     /// Takes the acknowledgements of the round out.

@@ -196,6 +196,17 @@ impl Flows {
         Ok(())
     }
 
+    /// Keeps the memory of a list that a flow was given.
+    pub(crate) fn keep_list(&mut self, case: &SharedCase, rounds: u32, flow: usize, list: Acks)
+        requires ready { AreReady case.now rounds self.old.traffic.items }
+        requires flow { flow < length self.old.traffic.items }
+        ensures ready { AreReady case.now rounds self.new.traffic.items }
+        ensures same { map flow_in self.new.traffic.items ≡ map flow_in self.old.traffic.items }
+    {
+        let _ = rounds;
+        self.traffic[flow].keep_list(link_of(case, flow), list);
+    }
+
     /// The acknowledgements of a flow before `end`, in microseconds.
     fn answer_one(
         &mut self,

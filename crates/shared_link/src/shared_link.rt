@@ -92,6 +92,16 @@ impl SharedLink {
         Ok(Sequence::from_vec(answers))
     }
 
+    /// Takes back a list that `round` gave a flow, whose memory serves the flow's next list. The link is as before.
+    pub fn give_back(&mut self, flow: u32, list: Acks)
+        ensures unchanged { self.new ≡ self.old }
+    {
+        let flow = flow as usize;
+        if flow < self.flows.traffic.len() {
+            self.flows.keep_list(&self.case, self.rounds, flow, list);
+        }
+    }
+
     /// Counts the packets of all flows: those sent, acknowledged, lost and in flight.
     pub fn counts(&self) -> Counts
         ensures { (rounds : List (List Ask)) → Stands self.now rounds → result ≡ counts_of self.now.case rounds }

@@ -1,5 +1,5 @@
 -- The run of cases round by round: what its flows are, ask for and are given, and where the whole run ends.
-use Rattle.std.specs.Prelude.{◌≡◌, ◌<◌, ◌≤◌, ℕ, zero, suc, ◌+◌, ◌-◌, ◌==◌, Bool, true, false, ◌&&◌, nat_le, if◌then◌else◌, Some, None, option_map, Result, Ok, Err, OnOk, List, [], ◌∷◌, ◌++◌, length, map, take, drop, slice_get, refl}
+use Rattle.std.specs.Prelude.{◌≡◌, ◌<◌, ◌≤◌, ℕ, zero, suc, ◌+◌, ◌-◌, ◌==◌, Bool, true, false, ◌&&◌, nat_le, if◌then◌else◌, Some, option_map, Result, Ok, Err, OnOk, List, [], ◌∷◌, ◌++◌, length, take, drop, slice_get, refl}
 use Rattle.std.proofs.Common.{arith, ap, sym, ◌∙◌, subst, add-one, ◌⊎◌, inl, inr}
 use Rattle.std.proofs.lemmas.Bool.{leb-true, leb-false, ne_eqb}
 use Rattle.std.proofs.lemmas.Bool.Decides.{leb_tells}
@@ -13,9 +13,9 @@ use Rattle.shared_link.specs.declared.round.Ask.{Ask}
 use Rattle.shared_link.specs.declared.shared_case.SharedCase.{SharedCase}
 use Rattle.shared_link.specs.SharedStanding.{SharedState, Stands}
 use Rattle.shared_run.specs.RoundLetters.{opened, part}
-use Rattle.shared_run.specs.SharedHistory.{Progress, ask_of, asks_of, parts, have_all, rounds_from, most_of}
-use Rattle.shared_run.specs.Courses.{run_after, flows_after, asks_in, acks_in, none_left, StandsAfter, HasEnded, EndsAfter, Ends}
-use Rattle.shared_run.proofs.LaneLemmas.{KeepCounts, Within, within-after, no-some, same-some, lists-length}
+use Rattle.shared_run.specs.SharedHistory.{ask_of, asks_of, parts, have_all, rounds_from, most_of}
+use Rattle.shared_run.specs.Courses.{run_after, flows_after, asks_in, acks_in, none_left, StandsAfter, Ends}
+use Rattle.shared_run.proofs.CountLemmas.{KeepCounts, Within, within-after, no-some, same-some, lists-length}
 use Rattle.shared_run.proofs.RoomyLemmas.{round-keeps, opened-keep}
 
 -- ---- lists

@@ -6,7 +6,8 @@ pub mod LikeFlows
 pub mod LiftedFlowLemmas
 pub mod LiftedRunLemmas
 pub mod AnswerLemmas
-pub mod LaneLemmas
+pub mod CountLemmas
+pub mod OrderLemmas
 pub mod RoomyLemmas
 pub mod CourseLemmas
 pub mod BookLemmas

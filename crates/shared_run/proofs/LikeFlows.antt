@@ -11,10 +11,10 @@ use Rattle.flow_core.specs.Words.{from_list, world_over, is_legal}
 use Rattle.flow_core.specs.WordLaws.{world_over-append}
 use Rattle.flow_core.specs.Cores.{CoreState}
 use Rattle.campaign_gate.specs.CampaignWord.{is_due, first_letter}
-use Rattle.campaign_gate.specs.CampaignRow.{window_of, row_over}
+use Rattle.campaign_gate.specs.CampaignRow.{window_of, peak_from, row_over}
 use Rattle.flow_core.specs.LettersLeft.{letters_left}
 use Rattle.shared_run.specs.RoundLetters.{Read, with_ack, next_letter, with_next, settled_in, settled, heard, part}
-use Rattle.shared_run.specs.FlowRow.{peak_from, peak_of}
+use Rattle.shared_run.specs.FlowRow.{peak_of}
 use Rattle.shared_run.specs.LiftedFlow.{AreAlike}
 use Rattle.shared_run.proofs.TurnLemmas.{settled-case}
 

@@ -9,8 +9,7 @@ use Rattle.flow_core.specs.World.{World, opening, after_ack, after_take, after_a
 use Rattle.flow_core.specs.Words.{Giving, from_list, with_given, after_letter, world_from}
 use Rattle.flow_core.specs.WordLaws.{acks_in}
 use Rattle.flow_core.proofs.WordLemmas.{take-keeps, answer-keeps, next-given}
-use Rattle.campaign_gate.specs.CampaignRow.{window_of}
-use Rattle.shared_run.specs.FlowRow.{peak_from}
+use Rattle.campaign_gate.specs.CampaignRow.{window_of, peak_from}
 
 max-assoc : (a b c : ℕ) → max a (max b c) ≡ max (max a b) c
 max-assoc a b c = omega arith

@@ -15,7 +15,7 @@ use Rattle.shared_run.specs.FlowRow.{AreRoomy}
 use Rattle.shared_run.proofs.TurnLemmas.{part-case, part-acks}
 use Rattle.shared_run.specs.SharedHistory.{Progress, progress, asks_of, parts, after_round, have_all, rounds_from, most_of, run_of}
 use Rattle.shared_run.proofs.AnswerLemmas.{AreSmall, AreAllSmall, after-all-small}
-use Rattle.shared_run.proofs.LaneLemmas.{KeepCounts, Within, within-after}
+use Rattle.shared_run.proofs.CountLemmas.{KeepCounts, Within, within-after}
 
 abbrev pub SmallFlows : List CoreState → Type 0
 SmallFlows [] = Unit {0}

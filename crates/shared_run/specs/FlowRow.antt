@@ -1,19 +1,12 @@
 -- The row of a flow with its own acknowledgements: over the state after its word, and over those on the way.
-use Rattle.std.specs.Prelude.{ℕ, ◌<◌, max, List, [], ◌∷◌}
+use Rattle.std.specs.Prelude.{ℕ, ◌<◌, ◌^◌, List}
 use Rattle.ccp_base.specs.declared.ack.Ack.{Ack}
-use Rattle.flow_core.specs.declared.letter.Letter.{Letter}
-use Rattle.flow_core.specs.Readings.{Flow}
-use Rattle.flow_core.specs.World.{World, opening}
-use Rattle.flow_core.specs.Words.{Giving, from_list, after_letter}
+use Rattle.flow_core.specs.World.{opening}
+use Rattle.flow_core.specs.Words.{from_list}
 use Rattle.flow_core.specs.Cores.{CoreState}
 use Rattle.campaign_gate.specs.declared.row.Row.{Row}
-use Rattle.campaign_gate.specs.CampaignRow.{lost_in, acked_in, window_of, row_over}
+use Rattle.campaign_gate.specs.CampaignRow.{lost_in, acked_in, peak_from, row_over}
 use Rattle.shared_run.specs.RoundLetters.{Read, state_of}
-
--- the greatest `Cwnd` in a state or after a letter of a word from there on
-abbrev pub peak_from : {X : Type 0} → Flow X → Giving X → World X → List Letter → ℕ
-peak_from flow giving w [] = window_of flow w
-peak_from flow giving w (letter ∷ rest) = max (window_of flow w) (peak_from flow giving (after_letter flow giving w letter) rest)
 
 -- the greatest `Cwnd` of a flow at its opening or after a letter
 abbrev pub peak_of : {X : Type 0} → Read X → CoreState → ℕ
@@ -25,5 +18,5 @@ flow_row read core = row_over (read core.case) (state_of read core) (peak_of rea
 
 -- what a row sums over acknowledgements are numbers of 64 bits
 pub record AreRoomy (acks : List Ack) : Type 0 where
-  pub lost : lost_in acks < 18446744073709551616
-  pub acked : acked_in acks < 18446744073709551616
+  pub lost : lost_in acks < 2 ^ 64
+  pub acked : acked_in acks < 2 ^ 64

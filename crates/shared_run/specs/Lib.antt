@@ -8,3 +8,4 @@ pub mod SharedBooks
 pub mod WholeRun
 pub mod LiftedRun
 pub mod Courses
+pub mod Orders

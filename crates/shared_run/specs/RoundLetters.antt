@@ -1,5 +1,5 @@
 -- The letters of a flow's part of a round: its acknowledgements, each with what is taken and answered after it.
-use Rattle.std.specs.Prelude.{ℕ, zero, suc, Bool, true, false, Option, Some, None, List, [], ◌∷◌, ◌++◌}
+use Rattle.std.specs.Prelude.{◌≡◌, ℕ, zero, suc, Bool, true, false, Option, Some, None, List, [], ◌∷◌, ◌++◌}
 use Rattle.ccp_base.specs.declared.ack.Ack.{Ack}
 use Rattle.flow_core.specs.declared.case.Case.{Case}
 use Rattle.flow_core.specs.declared.letter.Letter.{Letter}
@@ -54,9 +54,13 @@ settled_in at_end read zero core = core
 settled_in at_end read (suc more) core =
     with_next (next_letter at_end read core) (settled_in at_end read more) core
 
--- such letters until none comes
+-- such letters until none comes: as many as the flow's word can have yet, which `SettlingEnds` says is enough
 abbrev pub settled : {X : Type 0} → Bool → Read X → CoreState → CoreState
 settled at_end read core = settled_in at_end read (letters_left (read core.case) (state_of read core)) core
+
+-- after them no such letter comes, on the way and at the run's end
+abbrev pub SettlingEnds : {X : Type 0} → Read X → Type 0
+SettlingEnds read = (at_end : Bool) (core : CoreState) → next_letter at_end read (settled at_end read core) ≡ None
 
 -- ---- a part
 

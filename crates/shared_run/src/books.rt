@@ -14,11 +14,11 @@ use flow_core::Given;
 use shared_link::Counts;
 use std::alloc::Global;
 
-/// What the flows of a run came to, in order.
+/// The books of a run's flows with their acknowledgements, in order.
 pub type Givens = Sequence<Given>;
 
-/// What a run came to: the flows' books with their acknowledgements and the flows' rows, both in the order of the
-/// flows, and the link's packets.
+/// The result of a run: the flows' books with their acknowledgements and the flows' rows, both in the order of the flows,
+/// and the link's packets.
 #[derive(Drop)]
 pub struct SharedRun {
     pub givens: Givens,
@@ -26,20 +26,20 @@ pub struct SharedRun {
     pub counts: Counts,
 }
 
-/// Closes the flows, each of which takes and answers until nothing is left, and tells what they came to.
-pub(crate) fn finished(alloc: Global, flows: Vec<SharedFlow>) -> Result<(Givens, Rows), NoMemory>
+/// The books and rows of the flows, each of which takes and answers until nothing is left.
+pub(crate) fn close_flows(alloc: Global, flows: Vec<SharedFlow>) -> Result<(Givens, Rows), NoMemory>
     requires { All (λ (core : CoreState). AreRoomy core.acks) flows.items }
     ensures givens { IfOk result (λ made. AreGivensOf (map (closed over_codes) flows.items) made.0) }
     ensures rows { IfOk result (λ made. made.1 ≡ map (flow_row over_codes) (map (closed over_codes) flows.items)) }
 {
     let mut givens = Givens::new(alloc);
     let mut rows = Rows::new(alloc);
-    finish_all(alloc, flows, &mut givens, &mut rows)?;
+    close_into(alloc, flows, &mut givens, &mut rows)?;
     Ok((givens, rows))
 }
 
-/// Puts what flows came to into two lists that have nothing yet.
-fn finish_all(
+/// Puts the books and rows of flows into two empty lists.
+fn close_into(
     alloc: Global,
     flows: Vec<SharedFlow>,
     givens: &mut Givens,
@@ -52,15 +52,15 @@ fn finish_all(
     ensures rows { OnOk result (rows.new ≡ map (flow_row over_codes) (map (closed over_codes) flows.items)) }
 {
     for flow in flows {
-        let (given, row) = ended(alloc, flow)?;
+        let (given, row) = close_flow(alloc, flow)?;
         givens.push(given)?;
         rows.push(row)?;
     }
     Ok(())
 }
 
-/// Closes a flow, which takes and answers until nothing is left, and tells what it came to.
-fn ended(alloc: Global, flow: SharedFlow) -> Result<(Given, Row), NoMemory>
+/// The book and row of a flow, which takes and answers until nothing is left.
+fn close_flow(alloc: Global, flow: SharedFlow) -> Result<(Given, Row), NoMemory>
     requires { AreRoomy flow.acks }
     ensures given { IfOk result (λ made. IsGivenOf (closed over_codes flow) made.0) }
     ensures row { IfOk result (λ made. made.1 ≡ flow_row over_codes (closed over_codes flow)) }

@@ -1,4 +1,4 @@
-//! The course of a run, which the types of its lanes name.
+//! The course of a run, which the types of its flows name.
 ghost use Rattle.std.specs.Prelude.{List, []};
 ghost use Rattle.flow_core.specs.declared.case.Case.{Case};
 ghost use Rattle.shared_link.specs.declared.shared_case.SharedCase.{SharedCase};

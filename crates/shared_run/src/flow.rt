@@ -1,5 +1,5 @@
 //! A flow on a shared link: its part of each round, the close at the end, and its book with its row.
-ghost use Rattle.std.specs.Prelude.{◌≡◌, ◌+◌, ◌-◌, ◌<◌, ◌≤◌, Some, true, false, nat_le, length, OnOk, IfOk};
+ghost use Rattle.std.specs.Prelude.{◌≡◌, ◌+◌, ◌-◌, ◌<◌, ◌≤◌, Some, true, false, nat_le, length, OnOk, IfOk, IsOk};
 ghost use Rattle.flow_core.specs.Readings.{over_codes};
 ghost use Rattle.flow_core.specs.Words.{is_still, is_legal, legal_over};
 ghost use Rattle.flow_core.specs.Books.{IsBookOf};
@@ -9,9 +9,8 @@ ghost use Rattle.shared_run.specs.FlowRow.{flow_row, AreRoomy};
 ghost use Rattle.shared_run.specs.LiftedFlow.{IsLifted};
 ghost use Rattle.shared_run.specs.OnWay.{Turned, Took};
 
-use crate::sums::{acked_in, lost_in, reports_in, timeouts_in};
 use agent_core::calls::answer;
-use campaign_gate::Row;
+use campaign_gate::{Row, Sums};
 use ccp_base::{Ack, NoMemory};
 use flow_core::{Case, Core, Given, Letter, TakeFault};
 use fold_machine::Steps;
@@ -24,7 +23,7 @@ use std::sync::ledger::{Blank, Ledger};
 #[derive(Drop)]
 pub(crate) struct SharedFlow {
     core: Core,
-    /// At how many acknowledgements the ticket that is out was taken.
+    /// How many acknowledgements were in when the ticket that is out was taken.
     taken: u32,
     /// The greatest window so far, in bytes.
     peak: u64,
@@ -85,17 +84,18 @@ impl SharedFlow {
         self.core.case().acks <= self.core.acks()
     }
 
-    /// The flow's part of a round: each of these acknowledgements, and what is taken and answered after it. For want of
-    /// memory a front of its letters was made.
+    /// The flow's part of a round: each of these acknowledgements, and what is taken and answered after it. If memory runs
+    /// out, only the first of its letters are made; without an acknowledgement it can't run out.
     pub(crate) fn part(&mut self, alloc: Global, acks: &[Ack]) -> Result<(), NoMemory>
         requires { length self.old.acks + length acks.now ≤ self.old.case.acks }
-        ensures { OnOk result (self.new ≡ part over_codes acks.now self.old) }
+        ensures part { OnOk result (self.new ≡ part over_codes acks.now self.old) }
+        ensures nothing { length acks.now ≡ 0 → IsOk result }
     {
-        self.counted::<Brand>(alloc, acks, Blank::new(1))
+        self.hear_all::<Brand>(alloc, acks, Blank::new(1))
     }
 
     /// The same, where a ledger of one part counts the steps.
-    fn counted<L: Ledger>(
+    fn hear_all<L: Ledger>(
         &mut self,
         alloc: Global,
         acks: &[Ack],
@@ -105,7 +105,8 @@ impl SharedFlow {
         requires parts { blank.parts ≡ L.parts }
         requires some { 0 < blank.parts }
         requires left { length self.old.acks + length acks.now ≤ self.old.case.acks }
-        ensures { OnOk result (self.new ≡ part over_codes acks.now self.old) }
+        ensures part { OnOk result (self.new ≡ part over_codes acks.now self.old) }
+        ensures nothing { length acks.now ≡ 0 → IsOk result }
     {
         let mut steps = Steps::<L>::new(blank);
         let mut left = acks;
@@ -210,28 +211,8 @@ impl SharedFlow {
         ensures row { result.1 ≡ flow_row over_codes self }
         ensures lifted { IsLifted self.case }
     {
-        let cwnd = self.core.cwnd();
-        let acks = u64::from(self.core.acks());
-        let now = match self.core.last() {
-            Some(ack) => ack.now,
-            None => 0,
-        };
-        let peak = self.peak;
-        let given = self.core.finish();
-        let row = Row {
-            acks,
-            reports: reports_in(given.book.tickets.as_slice()),
-            held: u64::from(given.book.held),
-            faults: given.book.faults.len() as u64,
-            epochs: given.book.epochs.len() as u64,
-            lost: lost_in(given.acks.as_slice()),
-            timeouts: timeouts_in(given.acks.as_slice()),
-            acked: acked_in(given.acks.as_slice()),
-            peak,
-            cwnd,
-            now,
-            tail: acks.saturating_sub(given.book.first),
-        };
-        (given, row)
+        let sums = Sums::of(self.core.given());
+        let row = Row::of(self.core.bare(), sums, self.peak);
+        (self.core.finish(), row)
     }
 }

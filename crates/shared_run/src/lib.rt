@@ -3,15 +3,18 @@
 
 mod books;
 mod course;
-mod desk;
 mod flow;
-mod lane;
-mod lanes;
+mod flows;
+mod laws;
+mod line;
+mod order;
 mod round_acks;
 mod rounds;
 mod run;
-mod sums;
+mod run_flow;
 mod worker;
+mod worker_handle;
 
 pub use books::{Givens, SharedRun};
+pub use laws::settling_law;
 pub use run::shared;

@@ -24,6 +24,8 @@ impl<C: Course> RoundAcks<C> {
     pub(crate) fn new(acks: Acks, number: u32, round: u32) -> Self
         requires are { slice_get (acks_in C.link C.cases round) number ≡ Some acks }
         requires few { round < most_rounds }
+        ensures acks { result.acks ≡ acks }
+        ensures number { result.number ≡ number }
     {
         RoundAcks {
             acks,
@@ -31,5 +33,10 @@ impl<C: Course> RoundAcks<C> {
             round,
             of: PhantomData,
         }
+    }
+
+    /// The list of the acknowledgements.
+    pub(crate) fn into_acks(self) -> Acks {
+        self.acks
     }
 }

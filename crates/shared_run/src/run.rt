@@ -9,22 +9,19 @@ ghost use Rattle.shared_run.specs.Courses.{Ends};
 ghost use Rattle.shared_run.specs.WholeRun.{IsRunOf};
 ghost use Rattle.shared_run.specs.LiftedRun.{IsLifted};
 
-use crate::books::{SharedRun, finished};
+use crate::books::{SharedRun, close_flows};
 use crate::course::Course;
-use crate::lanes::{flows, open_all};
-use crate::rounds::by_workers;
+use crate::flows::{open_flows, take_flows};
+use crate::rounds::run_by_workers;
 use campaign_gate::Cases;
-use ccp_base::{Ack, Gate, NoMemory, Workers};
+use ccp_base::{Gate, NoMemory, Workers};
 use flow_core::Case;
 use scenario_json::SharedScene;
 use shared_link::{SharedCase, SharedLink};
 use std::alloc::Global;
 use std::marker::Brand;
 use std::sync::Wait;
-use std::thread::Threads;
-
-/// The acknowledgements for which the link reserves memory in a flow's list of a round.
-const LIST: usize = 4_096;
+use std::thread::{Parker, Threads};
 
 /// Runs the flows of a scenario over its link, whatever the number of workers. In each round the flows ask for
 /// acknowledgements, the link answers, and each flow that has some does its part on a worker: worker `w` does those of
@@ -97,12 +94,20 @@ fn run_course<C: Course + Send + Sync, R: Threads + Wait + Sync, G: Gate + Sync>
 {
     let most = most_of(cases.as_slice(), most);
     let link = SharedLink::new(alloc, link)?;
-    let lanes = open_all::<C>(alloc, cases)?;
-    take_round_memory(alloc, lanes.len())?;
-    let ended = by_workers(rt, alloc, link, lanes.as_slice(), most, workers, gate)?;
-    let counts = ended.link.counts();
-    let flows = flows(alloc, lanes, ended.rounds)?;
-    let (givens, rows) = finished(alloc, flows)?;
+    let flows = open_flows::<C>(alloc, cases)?;
+    let bells = make_bells(alloc, workers)?;
+    let end = run_by_workers(
+        rt,
+        alloc,
+        link,
+        flows.as_slice(),
+        most,
+        bells.as_slice(),
+        gate,
+    )?;
+    let counts = end.link.counts();
+    let taken = take_flows(alloc, flows, end.rounds)?;
+    let (givens, rows) = close_flows(alloc, taken)?;
     Ok(SharedRun {
         givens,
         rows,
@@ -110,15 +115,15 @@ fn run_course<C: Course + Send + Sync, R: Threads + Wait + Sync, G: Gate + Sync>
     })
 }
 
-/// Takes the memory of a round's lists once, and gives it back. The link reserves each flow's list in each round. After
-/// this the allocator keeps their memory from round to round: else it would give it back to the system each time, and a
-/// run of short rounds would take four times as long.
-fn take_round_memory(alloc: Global, flows: usize) -> Result<(), NoMemory>
-    requires { flows ≤ most_flows }
+/// A bell for each worker of a run.
+fn make_bells(alloc: Global, workers: Workers) -> Result<Vec<Parker>, NoMemory>
+    ensures { IfOk result (λ bells. length bells.items ≡ workers.count) }
 {
-    let lists = Vec::<Ack>::with_capacity(alloc, flows * LIST)?;
-    drop(lists);
-    Ok(())
+    let mut bells = Vec::new(alloc);
+    for _worker in 0..workers.count() {
+        bells.push(Parker::new())?;
+    }
+    Ok(bells)
 }
 
 /// How many rounds these cases are run for at most.

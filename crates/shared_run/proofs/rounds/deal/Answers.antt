@@ -1,26 +1,44 @@
-use Rattle.std.proofs.Common.{◌≡◌, ◌≤◌, List, ◌∷◌, length, arith, ap, sym, ◌∙◌}
+use Rattle.std.proofs.Common.{◌≡◌, ◌+◌, ◌≤◌, List, [], ◌∷◌, ◌++◌, Some, take, length, slice_get, arith, ap, sym, refl, ◌∙◌, subst}
+use Rattle.std.proofs.lemmas.List.{length-take-le}
 use Rattle.std.specs.Vec.Iter.{into_iter_items}
 use Rattle.ccp_base.specs.declared.ack.Ack.{Ack}
 use Rattle.shared_run.specs.Courses.{acks_in}
-use Rattle.shared_run.proofs.CourseLemmas.{drop_get, dropped_on}
+use Rattle.shared_run.specs.Orders.{AreDealt}
+use Rattle.shared_run.proofs.CourseLemmas.{drop_get, dropped_on, taken_on}
 use Rattle.shared_run.proofs.rounds.deal.Goals as goal
 
-pub new-requires-clause-are : goal.new-requires-clause-are
-new-requires-clause-are g c =
+pub new-part-requires-clause-are : goal.new-part-requires-clause-are
+new-part-requires-clause-are g c =
     let l = c.loop-acks in
     let rest = into_iter_items c.next.new.self in
     let is : into_iter_items l.acks-iterator ≡ c.in-Some.acks ∷ rest = c.in-Some.ensures.steps.0 in
     drop_get (acks_in g.C.Course.link g.C.Course.cases c.args.round) l.number c.in-Some.acks rest (sym is ∙ l.invariant.0)
 
+pub deal_part-requires-clause-before : goal.deal_part-requires-clause-before
+deal_part-requires-clause-before g c =
+    let l = c.loop-acks in
+    let all = acks_in g.C.Course.link g.C.Course.cases c.args.round in
+    let is : into_iter_items l.acks-iterator ≡ c.in-Some.acks ∷ into_iter_items c.next.new.self = c.in-Some.ensures.steps.0 in
+    let shorter = ap (λ (xs : List (List Ack)). length xs) is in
+    let within : l.number ≤ length all = omega (arith, shorter, l.invariant.1) in
+    (take l.number all, length-take-le l.number all within ∙ sym c.new-part.ensures.number, l.invariant.3)
+
 pub loop-acks-preserved : goal.loop-acks-preserved
 loop-acks-preserved g c =
     let l = c.loop-acks in
+    let all = acks_in g.C.Course.link g.C.Course.cases c.args.round in
     let rest = into_iter_items c.next.new.self in
     let is : into_iter_items l.acks-iterator ≡ c.in-Some.acks ∷ rest = c.in-Some.ensures.steps.0 in
     let shorter = ap (λ (xs : List (List Ack)). length xs) is in
-    let same = c.give.auto.desks in (
-      dropped_on (acks_in g.C.Course.link g.C.Course.cases c.args.round) l.number c.in-Some.acks rest (sym is ∙ l.invariant.0),
+    let within : l.number ≤ length all = omega (arith, shorter, l.invariant.1) in
+    let at : slice_get all l.number ≡ Some c.in-Some.acks = drop_get all l.number c.in-Some.acks rest (sym is ∙ l.invariant.0) in
+    let acks : c.new-part.result.acks ≡ c.in-Some.acks = c.new-part.ensures.acks in
+    let longer : take l.number all ++ c.new-part.result.acks ∷ [] ≡ take (l.number + 1) all =
+    ap (λ (a : List Ack). take l.number all ++ a ∷ []) acks ∙ taken_on all (take l.number all) (take l.number all ++ c.in-Some.acks ∷ []) l.number c.in-Some.acks refl refl at in
+    let dealt = c.in_ok-deal_part.ensures.orders (take l.number all) (length-take-le l.number all within ∙ sym c.new-part.ensures.number) l.invariant.3 in (
+      dropped_on all l.number c.in-Some.acks rest (sym is ∙ l.invariant.0),
       omega (arith, shorter, l.invariant.1),
-      omega (arith, same, l.invariant.2),
-      omega (arith, shorter, c.in-Some.ensures.steps.1, l.invariant.3),
+      omega (arith, shorter, c.in-Some.ensures.steps.1, l.invariant.2),
+      subst (λ (xs : List (List Ack)). AreDealt c.args.workers xs c.deal_part.new.orders.items) longer dealt,
+      c.in_ok-deal_part.ensures.link ∙ l.invariant.4,
     )

@@ -12,32 +12,32 @@ use Rattle.shared_run.proofs.CourseLemmas.{flows_count}
 use Rattle.shared_run.proofs.RunLemmas.{all-roomy-now, flows-are, counts-are}
 use Rattle.shared_run.proofs.run.run_course.Goals as goal
 
-pub flows-requires-clause-flows : goal.flows-requires-clause-flows
-flows-requires-clause-flows g c = c.in_ok-lanes.ensures ∙ sym (flows_count g.C.Course.link g.C.Course.cases c.in_ok-ended.ended.rounds)
+pub take_flows-requires-clause-flows : goal.take_flows-requires-clause-flows
+take_flows-requires-clause-flows g c = c.in_ok-flows.ensures ∙ sym (flows_count g.C.Course.link g.C.Course.cases c.in_ok-end.end.rounds)
 
-pub finished-requires : goal.finished-requires
-finished-requires g c =
+pub close_flows-requires : goal.close_flows-requires
+close_flows-requires g c =
     let link = g.C.Course.link in
     let cases = g.C.Course.cases in
-    let end = c.in_ok-ended.ended in
+    let end = c.in_ok-end.end in
     let most : c.most_of-most.result ≡ most_of cases c.args.most =
     c.most_of-most.ensures ∙ ap (λ (list : List Case). most_of list c.args.most) (c.as_slice.ensures ∙ c.requires.cases) in
     let ended : HasEnded link cases (most_of cases c.args.most) end.rounds end.link =
-    subst (λ (n : ℕ). HasEnded link cases n end.rounds end.link) most c.in_ok-ended.ensures in
-    subst (λ (cores : List CoreState). All (λ (core : CoreState). AreRoomy core.acks) cores) (sym c.in_ok-flows.ensures)
+    subst (λ (n : ℕ). HasEnded link cases n end.rounds end.link) most c.in_ok-end.ensures in
+    subst (λ (cores : List CoreState). All (λ (core : CoreState). AreRoomy core.acks) cores) (sym c.in_ok-taken.ensures)
     (all-roomy-now link cases c.args.most end.rounds end.link ended c.requires.within c.requires.rounds)
 
 pub returns : goal.returns
 returns g c =
     let link = g.C.Course.link in
     let cases = g.C.Course.cases in
-    let end = c.in_ok-ended.ended in
+    let end = c.in_ok-end.end in
     let most : c.most_of-most.result ≡ most_of cases c.args.most =
     c.most_of-most.ensures ∙ ap (λ (list : List Case). most_of list c.args.most) (c.as_slice.ensures ∙ c.requires.cases) in
     let ended : HasEnded link cases (most_of cases c.args.most) end.rounds end.link =
-    subst (λ (n : ℕ). HasEnded link cases n end.rounds end.link) most c.in_ok-ended.ensures in
-    let ends : map (closed over_codes) c.in_ok-flows.flows.items ≡ flows_of link over_codes cases c.args.most =
-    ap (λ (cores : List CoreState). map (closed over_codes) cores) c.in_ok-flows.ensures
+    subst (λ (n : ℕ). HasEnded link cases n end.rounds end.link) most c.in_ok-end.ensures in
+    let ends : map (closed over_codes) c.in_ok-taken.taken.items ≡ flows_of link over_codes cases c.args.most =
+    ap (λ (cores : List CoreState). map (closed over_codes) cores) c.in_ok-taken.ensures
     ∙ flows-are link cases c.args.most end.rounds end.link ended in
     record {
       givens = subst (λ (cores : List CoreState). AreGivensOf cores c.in_ok-givens.givens) ends c.in_ok-givens.ensures.givens;

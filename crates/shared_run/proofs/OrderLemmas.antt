@@ -1,0 +1,122 @@
+-- The parts of a round are dealt to the workers' orders one flow after another.
+use Rattle.std.specs.Prelude.{◌≡◌, ◌≢◌, ◌<◌, ℕ, ◌+◌, ◌%◌, suc, ◌==◌, Bool, true, false, Some, Result, Ok, Err, OnOk, List, [], ◌∷◌, ◌++◌, length, slice_get, refl}
+use Rattle.std.specs.List.{filter, enumerate_from}
+use Rattle.std.proofs.Common.{arith, ap, sym, ◌∙◌, set, cond, append-nil, inl, inr}
+use Rattle.std.proofs.lemmas.Bool.{cases_lt}
+use Rattle.std.proofs.lemmas.Bool.Decides.{eqb_tells}
+use Rattle.std.proofs.lemmas.List.Elements.{filter-append}
+use Rattle.std.proofs.lemmas.Option.{slice_get_within}
+use Rattle.std.proofs.Math.Nat.{mod-lt}
+use Rattle.circular_buffer.proofs.Places.{slice_get-set_same, slice_get-set_other, slice_get-append_left, slice_get-last}
+use Rattle.ccp_base.specs.declared.ack.Ack.{Ack}
+use Rattle.shared_run.proofs.CountLemmas.{same-some}
+use Rattle.shared_run.specs.Orders.{Part, OrderState, with_part, is_done_by, parts_of, order_of, IsDealtBefore, DealsOne}
+
+enumerate-last : {X : Type 0} (n : ℕ) (xs : List X) (x : X) → enumerate_from n (xs ++ x ∷ []) ≡ enumerate_from n xs ++ (n + length xs, x) ∷ []
+enumerate-last n [] x =
+    let here : n ≡ n + 0 = omega arith in
+    ap (λ (k : ℕ). (k, x) ∷ []) here
+enumerate-last n (y ∷ ys) x =
+    let here : n + 1 + length ys ≡ n + suc (length ys) = omega arith in
+    ap (λ rest. (n, y) ∷ rest) (enumerate-last (n + 1) ys x ∙ ap (λ (k : ℕ). enumerate_from (n + 1) ys ++ (k, x) ∷ []) here)
+
+-- one more flow may be one more part
+parts-last : (workers worker : ℕ) (lists : List (List Ack)) (acks : List Ack)
+    → parts_of workers worker (lists ++ acks ∷ [])
+    ≡ parts_of workers worker lists ++ filter (is_done_by workers worker) ((length lists, acks) ∷ [])
+parts-last workers worker lists acks =
+    let here : 0 + length lists ≡ length lists = omega arith in
+    ap (filter (is_done_by workers worker)) (enumerate-last 0 lists acks ∙ ap (λ (n : ℕ). enumerate_from 0 lists ++ (n, acks) ∷ []) here)
+    ∙ filter-append (is_done_by workers worker) (enumerate_from 0 lists) ((length lists, acks) ∷ [])
+
+no-part : (workers worker : ℕ) (part : Part) → is_done_by workers worker part ≡ false → filter (is_done_by workers worker) (part ∷ []) ≡ []
+no-part workers worker part isnt = ap (λ (b : Bool). cond b (part ∷ []) []) isnt
+
+a-part : (workers worker : ℕ) (part : Part) → is_done_by workers worker part ≡ true → filter (is_done_by workers worker) (part ∷ []) ≡ part ∷ []
+a-part workers worker part is = ap (λ (b : Bool). cond b (part ∷ []) []) is
+
+abbrev with-parts : ℕ → ℕ → List Part → OrderState
+with-parts workers worker parts = record { worker = worker; workers = workers; parts = parts }
+
+-- a flow that isn't the worker's, or that has no acknowledgement, leaves the worker's order
+order-same : (workers worker : ℕ) (lists : List (List Ack)) (acks : List Ack) → is_done_by workers worker (length lists, acks) ≡ false
+    → order_of workers worker lists ≡ order_of workers worker (lists ++ acks ∷ [])
+order-same workers worker lists acks isnt =
+    ap (with-parts workers worker)
+    (sym (parts-last workers worker lists acks
+    ∙ ap (λ (more : List Part). parts_of workers worker lists ++ more) (no-part workers worker (length lists, acks) isnt)
+    ∙ append-nil (parts_of workers worker lists)))
+
+-- and else is one more part
+order-longer : (workers worker : ℕ) (lists : List (List Ack)) (acks : List Ack) → is_done_by workers worker (length lists, acks) ≡ true
+    → with_part (length lists, acks) (order_of workers worker lists) ≡ order_of workers worker (lists ++ acks ∷ [])
+order-longer workers worker lists acks is =
+    ap (with-parts workers worker)
+    (sym (parts-last workers worker lists acks
+    ∙ ap (λ (more : List Part). parts_of workers worker lists ++ more) (a-part workers worker (length lists, acks) is)))
+
+pub deals-none : (workers number : ℕ) (acks : List Ack) (orders : List OrderState) → length acks ≡ 0 → DealsOne workers (number, acks) orders orders
+deals-none workers number [] orders none lists is dealt worker less =
+    dealt worker less ∙ ap (λ (order : OrderState). Some order) (order-same workers worker lists [] refl)
+deals-none workers number (ack ∷ rest) orders none lists is dealt worker less = absurd (omega (arith, none))
+
+-- its worker's order is there, and it is that worker's
+pub worker-there : (workers number : ℕ) (orders : List OrderState) → 0 < workers → IsDealtBefore workers number orders
+    → (worker : ℕ) → worker ≡ number % workers → worker < length orders
+worker-there workers number orders some before worker is =
+    let less : number % workers < workers = mod-lt number some in
+    let within : worker < workers = omega (arith, is, less) in
+    slice_get_within orders worker (order_of workers worker before.0) (before.2 worker within)
+
+pub worker-own : (workers number : ℕ) (orders : List OrderState) → 0 < workers → IsDealtBefore workers number orders
+    → (worker : ℕ) (order : OrderState) → worker ≡ number % workers → slice_get orders worker ≡ Some order → number % order.workers ≡ order.worker
+worker-own workers number orders some before worker order is at =
+    let less : number % workers < workers = mod-lt number some in
+    let within : worker < workers = omega (arith, is, less) in
+    let same : order_of workers worker before.0 ≡ order = same-some (order_of workers worker before.0) order (sym (before.2 worker within) ∙ at) in
+    ap (λ (o : OrderState). number % o.workers) (sym same) ∙ sym is ∙ ap (λ (o : OrderState). o.worker) same
+
+pub deals-part : (workers number : ℕ) (acks : List Ack) (orders : List OrderState) (order new : OrderState) (at : ℕ)
+    → 0 < length acks → at ≡ number % workers → slice_get orders at ≡ Some order → new ≡ with_part (number, acks) order
+    → DealsOne workers (number, acks) orders (set orders at new)
+deals-part workers number [] orders order new at some is there made lists same dealt worker less = absurd (omega (arith, some))
+deals-part workers number (ack ∷ rest) orders order new at some is there made lists same dealt worker less =
+    elim (eqb_tells (number % workers) worker) as (λ _. slice_get (set orders at new) worker ≡ Some (order_of workers worker (lists ++ (ack ∷ rest) ∷ []))) [
+      | inl own ↦
+          (let here : at ≡ worker = is ∙ own.1 in
+          let was : order_of workers worker lists ≡ order =
+          same-some (order_of workers worker lists) order (sym (dealt worker less) ∙ ap (slice_get orders) (sym here) ∙ there) in
+          let mine : is_done_by workers worker (length lists, ack ∷ rest) ≡ true = ap (λ (n : ℕ). n % workers == worker) same ∙ own.0 in
+          ap (slice_get (set orders at new)) (sym here)
+          ∙ slice_get-set_same orders at new (slice_get_within orders at order there)
+          ∙ ap (λ (o : OrderState). Some o)
+          (made ∙ ap (λ (o : OrderState). with_part (number, ack ∷ rest) o) (sym was)
+          ∙ ap (λ (n : ℕ). with_part (n, ack ∷ rest) (order_of workers worker lists)) (sym same)
+          ∙ order-longer workers worker lists (ack ∷ rest) mine))
+      | inr others ↦
+          (let apart : worker ≢ at = λ e. others.1 (sym is ∙ sym e) in
+          let other : is_done_by workers worker (length lists, ack ∷ rest) ≡ false = ap (λ (n : ℕ). n % workers == worker) same ∙ others.0 in
+          slice_get-set_other orders at worker new apart
+          ∙ dealt worker less
+          ∙ ap (λ (o : OrderState). Some o) (order-same workers worker lists (ack ∷ rest) other))
+    ]
+
+-- ---- orders without a part
+
+abbrev pub AreOpen : ℕ → ℕ → List OrderState → Type 0
+AreOpen workers count orders = (worker : ℕ) → worker < count → slice_get orders worker ≡ Some (order_of workers worker [])
+
+pub open-on : (workers count : ℕ) (orders : List OrderState) (order : OrderState) → length orders ≡ count → AreOpen workers count orders
+    → order ≡ order_of workers count [] → AreOpen workers (count + 1) (orders ++ order ∷ [])
+open-on workers count orders order long open_ is worker less =
+    elim (cases_lt worker count) as (λ _. slice_get (orders ++ order ∷ []) worker ≡ Some (order_of workers worker [])) [
+      | inl below ↦ slice_get-append_left orders (order ∷ []) worker (omega (arith, below, long)) ∙ open_ worker below
+      | inr past ↦
+          (let here : worker ≡ count = omega (arith, past, less) in
+          slice_get-last orders order worker (here ∙ sym long)
+          ∙ ap (λ (o : OrderState). Some o) (is ∙ ap (λ (n : ℕ). order_of workers n []) (sym here)))
+    ]
+
+pub on_ok : {A E P Q : Type 0} (result : Result A E) → (P → Q) → OnOk result P → OnOk result Q
+on_ok (Ok value) follows holds = follows holds
+on_ok (Err fault) follows holds = tt

@@ -1,0 +1,10 @@
+use Rattle.std.proofs.Common.{◌≡◌, ◌+◌, take, length}
+use Rattle.std.specs.Vec.Iter.{into_iter_items, into_iter_len}
+use Rattle.shared_run.specs.Courses.{flows_after}
+use Rattle.shared_run.proofs.flows.take_flows.Given as goal
+
+abbrev pub invariant-loop-flow : goal.invariant-loop-flow
+invariant-loop-flow g l =
+    (l.taken.items ≡ take l.number (flows_after g.C.Course.link g.C.Course.cases l.round))
+    × (l.number + length (into_iter_items l.flow-iterator) ≡ length (flows_after g.C.Course.link g.C.Course.cases l.round))
+    × (into_iter_len l.flow-iterator ≡ length (into_iter_items l.flow-iterator))

@@ -1,0 +1,36 @@
+use Rattle.std.proofs.Common.{◌≡◌, ◌+◌, ◌<◌, true, false, List, arith, ap, sym, ◌∙◌}
+use Rattle.shared_link.specs.declared.round.Ask.{Ask}
+use Rattle.shared_run.specs.SharedHistory.{have_all}
+use Rattle.shared_run.specs.Courses.{flows_after, asks_in, none_left}
+use Rattle.shared_run.proofs.CourseLemmas.{none_asked, way_on, way_ends}
+use Rattle.shared_run.proofs.rounds.run_rounds.Goals as goal
+
+pub returns-then-none_left : goal.returns-then-none_left
+returns-then-none_left g c =
+    let l = c.loop-done in
+    let link = g.C.Course.link in
+    let cases = g.C.Course.cases in
+    let less : l.done < c.args.most = omega (arith, c.loop-done-test.true) in
+    let asked : c.as_slice-in-loop-done.result.now ≡ asks_in link cases (l.done + 1) = c.as_slice-in-loop-done.ensures ∙ c.in_ok-asked-2.ensures.asks in
+    let has : have_all (flows_after link cases (l.done + 1)) ≡ true =
+    sym (none_asked (flows_after link cases (l.done + 1))) ∙ sym (ap (λ (asks : List Ask). none_left asks) asked) ∙ sym c.none_left.ensures
+    ∙ c.if-none_left.true in
+    record { stands = c.in_ok-asked-2.ensures.stands; whole = way_ends link cases c.args.most l.done less l.invariant.2 has }
+
+pub loop-done-preserved : goal.loop-done-preserved
+loop-done-preserved g c =
+    let l = c.loop-done in
+    let link = g.C.Course.link in
+    let cases = g.C.Course.cases in
+    let less : l.done < c.args.most = omega (arith, c.loop-done-test.true) in
+    let asked : c.as_slice-in-loop-done.result.now ≡ asks_in link cases (l.done + 1) = c.as_slice-in-loop-done.ensures ∙ c.in_ok-asked-2.ensures.asks in
+    let lacks : have_all (flows_after link cases (l.done + 1)) ≡ false =
+    sym (none_asked (flows_after link cases (l.done + 1))) ∙ sym (ap (λ (asks : List Ask). none_left asks) asked) ∙ sym c.none_left.ensures
+    ∙ c.if-none_left.false in
+    let same = c.run_round.auto.handles in (
+      c.in_ok-asked-2.ensures.stands,
+      c.in_ok-asked-2.ensures.asks,
+      way_on link cases c.args.most l.done less l.invariant.2 lacks,
+      omega (arith, less),
+      omega (arith, same, l.invariant.4),
+    )

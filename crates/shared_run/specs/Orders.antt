@@ -1,0 +1,45 @@
+-- Which parts of a round each worker does.
+use Rattle.std.specs.Prelude.{◌≡◌, ℕ, ◌%◌, ◌==◌, Bool, true, false, ◌&&◌, ◌<◌, Some, List, [], ◌∷◌, ◌++◌, length, slice_get}
+use Rattle.std.specs.List.{filter, enumerate_from}
+use Rattle.ccp_base.specs.declared.ack.Ack.{Ack}
+
+-- a flow's part of a round: its number and its acknowledgements
+abbrev pub Part : Type 0
+Part = ℕ × List Ack
+
+-- what a worker of so many is to do
+pub record OrderState : Type 0 where
+  pub worker : ℕ
+  pub workers : ℕ
+  pub parts : List Part
+
+abbrev pub with_part : Part → OrderState → OrderState
+with_part part order = record { worker = order.worker; workers = order.workers; parts = order.parts ++ part ∷ [] }
+
+abbrev pub has_any : List Ack → Bool
+has_any [] = false
+has_any (ack ∷ rest) = true
+
+-- the flow has acknowledgements in the round, and its number leaves the worker's when divided by the number of workers
+abbrev pub is_done_by : ℕ → ℕ → Part → Bool
+is_done_by workers worker part = has_any part.1 && (part.0 % workers == worker)
+
+-- of the acknowledgements of all flows in a round, those of the parts of a worker, in the order of the flows
+abbrev pub parts_of : ℕ → ℕ → List (List Ack) → List Part
+parts_of workers worker lists = filter (is_done_by workers worker) (enumerate_from 0 lists)
+
+abbrev pub order_of : ℕ → ℕ → List (List Ack) → OrderState
+order_of workers worker lists = record { worker = worker; workers = workers; parts = parts_of workers worker lists }
+
+-- the workers' orders, in order: each has the parts of its worker, and all lists that aren't empty are in one of them
+abbrev pub AreDealt : ℕ → List (List Ack) → List OrderState → Type 0
+AreDealt workers lists orders = (worker : ℕ) → worker < workers → slice_get orders worker ≡ Some (order_of workers worker lists)
+
+-- the orders have the parts of the flows before this one
+abbrev pub IsDealtBefore : ℕ → ℕ → List OrderState → Type 0
+IsDealtBefore workers number orders = (lists : List (List Ack)) × (length lists ≡ number) × AreDealt workers lists orders
+
+-- and then that of this one too
+abbrev pub DealsOne : ℕ → Part → List OrderState → List OrderState → Type 0
+DealsOne workers part old new =
+    (lists : List (List Ack)) → length lists ≡ part.0 → AreDealt workers lists old → AreDealt workers (lists ++ part.1 ∷ []) new

@@ -1,0 +1,86 @@
+//! A flow of a run between two rounds.
+ghost use Rattle.std.specs.Prelude.{◌≡◌, ◌+◌, ◌↔◌, false, Some, length, slice_get, IfOk, IsTrue};
+ghost use Rattle.shared_run.specs.Courses.{flows_after, asks_in};
+
+use crate::course::Course;
+use crate::flow::SharedFlow;
+use crate::round_acks::RoundAcks;
+use ccp_base::NoMemory;
+use shared_link::Ask;
+use std::alloc::Global;
+use std::marker::PhantomData;
+
+/// A flow of a run, its number, and how many rounds it is through. Unless its part of a round ran out of memory, it is
+/// that flow of the run after these rounds.
+#[derive(Drop)]
+pub(crate) struct RunFlow<C: Course> {
+    flow: SharedFlow,
+    number: u32,
+    round: u32,
+    /// Whether its part of the next round ran out of memory.
+    lacked_memory: bool,
+    of: PhantomData<C>,
+    ghost stands: { lacked_memory ≡ false → slice_get (flows_after C.link C.cases round) number ≡ Some flow },
+}
+
+impl<C: Course> RunFlow<C> {
+    /// A flow before the first round.
+    pub(crate) fn begin(flow: SharedFlow, number: u32) -> Self
+        requires { slice_get (flows_after C.link C.cases 0) number ≡ Some flow }
+    {
+        RunFlow {
+            flow,
+            number,
+            round: 0,
+            lacked_memory: false,
+            of: PhantomData,
+        }
+    }
+
+    /// Whether this is that flow after this many rounds.
+    pub(crate) fn is_at(&self, number: u32, round: u32) -> bool
+        ensures { IsTrue result ↔ ((self.now.lacked_memory ≡ false) × (self.now.number ≡ number) × (self.now.round ≡ round)) }
+    {
+        !self.lacked_memory && self.number == number && self.round == round
+    }
+
+    /// What that flow asks the link for after this many rounds. If it isn't there, that is reported as out of memory.
+    #[tactic(auto, using(crate::proofs::CourseLemmas::flow_asks))]
+    pub(crate) fn ask(&self, number: u32, round: u32) -> Result<Ask, NoMemory>
+        ensures { IfOk result (λ ask. slice_get (asks_in C.link C.cases round) number ≡ Some ask) }
+    {
+        if !self.is_at(number, round) {
+            return Err(NoMemory);
+        }
+        Ok(Ask {
+            window: self.flow.window(),
+            left: self.flow.left(),
+        })
+    }
+
+    /// The flow's part of its next round, in which it has these acknowledgements. It is through the round then, unless
+    /// memory ran out on the way.
+    pub(crate) fn hear(&mut self, alloc: Global, acks: &RoundAcks<C>)
+        requires whole { self.old.lacked_memory ≡ false }
+        requires number { self.old.number ≡ acks.now.number }
+        requires round { self.old.round ≡ acks.now.round }
+        ensures number { self.new.number ≡ self.old.number }
+        ensures through { self.new.lacked_memory ≡ false → self.new.round ≡ self.old.round + 1 }
+        ensures nothing { length acks.now.acks ≡ 0 → self.new.lacked_memory ≡ false }
+    {
+        match self.flow.part(alloc, acks.acks.as_slice()) {
+            Ok(()) => self.round += 1,
+            Err(NoMemory) => self.lacked_memory = true,
+        }
+    }
+
+    /// That flow after this many rounds. If it isn't there, that is reported as out of memory.
+    pub(crate) fn into_flow(self, number: u32, round: u32) -> Result<SharedFlow, NoMemory>
+        ensures { IfOk result (λ flow. slice_get (flows_after C.link C.cases round) number ≡ Some flow) }
+    {
+        if !self.is_at(number, round) {
+            return Err(NoMemory);
+        }
+        Ok(self.flow)
+    }
+}

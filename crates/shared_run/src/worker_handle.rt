@@ -1,0 +1,192 @@
+//! The workers of a run as its caller has them: the caller hands out the orders of a round and takes them back.
+ghost use Rattle.std.specs.Prelude.{◌≡◌, ◌<◌, length, IfOk};
+
+use crate::course::Course;
+use crate::line::{Receiver, Sender, line};
+use crate::order::Order;
+use crate::run_flow::RunFlow;
+use crate::worker::{do_order, serve};
+use ccp_base::{Gate, NoMemory};
+use shared_link::SharedLink;
+use std::alloc::Global;
+use std::sync::{Mutex, Wait};
+use std::thread::{Parker, Scope, Threads};
+
+/// The lines to a worker's thread and back.
+#[derive(Drop)]
+struct Lines<'e, C: Course> {
+    orders: Sender<'e, Order<C>>,
+    done: Receiver<'e, Order<C>>,
+}
+
+/// A worker, with the lines to its thread if it has one.
+#[derive(Drop)]
+pub(crate) struct WorkerHandle<'e, C: Course> {
+    lines: Option<Lines<'e, C>>,
+    /// Whether its thread has an order.
+    is_busy: bool,
+}
+
+/// Starts the workers of a run: one for each bell, which wakes its thread. The first bell wakes the caller.
+pub(crate) fn start_workers<
+    's,
+    'e,
+    C: Course + Send + Sync + 'e,
+    R: Threads + Wait + Sync,
+    G: Gate + Sync,
+>(
+    scope: &'s Scope<'s, &'e ()>,
+    rt: &'e R,
+    alloc: Global,
+    flows: &'e [Mutex<RunFlow<C>>],
+    bells: &'e [Parker],
+    gate: &'e G,
+) -> Result<Vec<WorkerHandle<'e, C>>, NoMemory>
+    ensures { IfOk result (λ handles. length handles.items ≡ length bells.now) }
+{
+    let mut handles = Vec::new(alloc);
+    for worker in 0..bells.len() {
+        let lines = start_worker(scope, rt, alloc, flows, bells, worker, gate)?;
+        handles.push(WorkerHandle {
+            lines,
+            is_busy: false,
+        })?;
+    }
+    Ok(handles)
+}
+
+/// Starts a worker's thread. Worker 0 has none, whose parts the caller does, nor has a worker without a flow, nor one for
+/// which no thread can be started.
+fn start_worker<'s, 'e, C: Course + Send + Sync + 'e, R: Threads + Wait + Sync, G: Gate + Sync>(
+    scope: &'s Scope<'s, &'e ()>,
+    rt: &'e R,
+    alloc: Global,
+    flows: &'e [Mutex<RunFlow<C>>],
+    bells: &'e [Parker],
+    worker: usize,
+    gate: &'e G,
+) -> Result<Option<Lines<'e, C>>, NoMemory>
+    requires { worker < length bells.now }
+{
+    if worker == 0 || flows.len() <= worker {
+        return Ok(None);
+    }
+    let (orders, coming) = line::<Order<C>>(alloc, &bells[worker])?;
+    let (going, done) = line::<Order<C>>(alloc, &bells[0])?;
+    let started = scope.spawn(move || serve(rt, alloc, flows, coming, going, gate));
+    match started {
+        Ok(_) => Ok(Some(Lines { orders, done })),
+        Err(_) => Ok(None),
+    }
+}
+
+impl<'e, C: Course> WorkerHandle<'e, C> {
+    /// Hands an order to the worker's thread, or gives it back if the worker has none.
+    fn hand_out(&mut self, order: Order<C>) -> Option<Order<C>> {
+        let Some(lines) = &mut self.lines else {
+            return Some(order);
+        };
+        let unsent = lines.orders.send(order);
+        self.is_busy = unsent.is_none();
+        unsent
+    }
+
+    /// Waits until the worker's thread has done its order, if it has one.
+    fn take_back<R: Wait>(&mut self, rt: &R) -> Option<Order<C>> {
+        if !self.is_busy {
+            return None;
+        }
+        self.is_busy = false;
+        self.lines.as_mut()?.done.receive(rt)
+    }
+}
+
+/// Does all orders of a round. The caller does the first one that has a part, beside the threads that do the others: a
+/// thread is woken only if two workers have parts. The link gets the lists of the parts back.
+pub(crate) fn do_orders<'e, C: Course, R: Wait, G: Gate>(
+    rt: &R,
+    alloc: Global,
+    link: &mut SharedLink,
+    flows: &[Mutex<RunFlow<C>>],
+    orders: Vec<Order<C>>,
+    handles: &mut [WorkerHandle<'e, C>],
+    gate: &G,
+)
+    ensures { link.new ≡ link.old }
+{
+    let mut own = None;
+    for order in orders {
+        if order.is_empty() {
+            drop(order);
+        } else if own.is_none() {
+            own = Some(order);
+        } else {
+            hand_out(rt, alloc, link, flows, order, handles, gate);
+        }
+    }
+    if let Some(order) = own {
+        do_here(rt, alloc, link, flows, order, gate);
+    }
+    take_back_all(rt, link, handles);
+}
+
+/// Hands an order to its worker's thread. If the worker has none, the order is done here.
+fn hand_out<'e, C: Course, R: Wait, G: Gate>(
+    rt: &R,
+    alloc: Global,
+    link: &mut SharedLink,
+    flows: &[Mutex<RunFlow<C>>],
+    order: Order<C>,
+    handles: &mut [WorkerHandle<'e, C>],
+    gate: &G,
+)
+    ensures { link.new ≡ link.old }
+{
+    let unsent = match handles.get_mut(order.worker() as usize) {
+        Some(handle) => handle.hand_out(order),
+        None => Some(order),
+    };
+    if let Some(order) = unsent {
+        do_here(rt, alloc, link, flows, order, gate);
+    }
+}
+
+/// Does an order here.
+fn do_here<C: Course, R: Wait, G: Gate>(
+    rt: &R,
+    alloc: Global,
+    link: &mut SharedLink,
+    flows: &[Mutex<RunFlow<C>>],
+    order: Order<C>,
+    gate: &G,
+)
+    ensures { link.new ≡ link.old }
+{
+    do_order(rt, alloc, flows, &order, gate);
+    give_lists_back(link, order);
+}
+
+/// Waits for the threads that have orders.
+fn take_back_all<'e, C: Course, R: Wait>(
+    rt: &R,
+    link: &mut SharedLink,
+    handles: &mut [WorkerHandle<'e, C>],
+)
+    ensures { link.new ≡ link.old }
+{
+    for handle in handles {
+        if let Some(order) = handle.take_back(rt) {
+            give_lists_back(link, order);
+        }
+    }
+}
+
+/// Gives the link the lists of an order's parts back.
+fn give_lists_back<C: Course>(link: &mut SharedLink, order: Order<C>)
+    ensures { link.new ≡ link.old }
+{
+    for part in order.into_parts() {
+        let flow = part.number;
+        link.give_back(flow, part.into_acks());
+    }
+}
