@@ -21,8 +21,8 @@ mss_of (Reno state) = state.mss
 mss_of (Cubic state) = state.mss
 
 -- the change that an agent begins with
-abbrev pub begun : Agent → Reply
-begun agent = opening_of (mss_of agent) (course_of agent)
+abbrev pub opening_change : Agent → Reply
+opening_change agent = opening_of (mss_of agent) (course_of agent)
 
 abbrev pub as_reno : RenoState × Reply → Agent × Reply
 as_reno turn = (Reno turn.0, turn.1)

@@ -1,6 +1,6 @@
 //! The agents Reno and CUBIC as one type: its replies, and the values that each reply writes.
 ghost use Rattle.std.specs.Prelude.{◌≡◌, ◌++◌, ◌+◌, ◌<◌, ◌≤◌, ◌↔◌, IsTrue, length};
-ghost use Rattle.agent_core.specs.Agents.{begun, replied, course_of, mss_of, cap_of, segment_of, window_pair, control_pair, values_of};
+ghost use Rattle.agent_core.specs.Agents.{opening_change, replied, course_of, mss_of, cap_of, segment_of, window_pair, control_pair, values_of};
 ghost use Rattle.agent_core.specs.Kinds.{kind_of, agent_name};
 ghost use Rattle.std.specs.Option.{ForSome};
 ghost use Rattle.reply_frames.specs.ValueBytes.{AreTargets};
@@ -21,7 +21,7 @@ pub enum Agent {
 impl Agent {
     /// The change that starts a flow.
     pub fn begin(&self) -> Reply
-        ensures { result ≡ begun self.now }
+        ensures { result ≡ opening_change self.now }
     {
         match self {
             Agent::Reno(reno) => reno.begin(),

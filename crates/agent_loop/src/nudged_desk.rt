@@ -1,6 +1,6 @@
 //! The desk of an agent worker: flows' numbers arrive over a channel, and each flow has its lock.
 ghost use Rattle.std.specs.Prelude.{◌≡◌, ℕ, ◌+◌, ◌<◌, ◌≤◌, Option, Some, None, option_map, [], ◌∷◌, length};
-ghost use Rattle.worker_desk.specs.Logs.{Known, Logs};
+ghost use Rattle.worker_desk.specs.Logs.{KnownLog, Logs};
 ghost use Rattle.worker_desk.specs.declared.event.Event.TheVariants.{Passed, Locked, Unlocked, Received, Took, Settled};
 
 use agent_core::{Answer, Ticket};

@@ -17,7 +17,7 @@ use Rattle.flow_core.specs.Lift.{Placing, place_in, map_world}
 use Rattle.flow_core.proofs.LiftLemmas.{link-lift}
 use Rattle.campaign_gate.specs.CampaignWord.{first_letter, next_of, then_rest, plan_from, plan_over}
 use Rattle.campaign_gate.specs.CampaignRow.{window_of, peak_from, row_over, row_after, row_read, row_of}
-use Rattle.campaign_gate.specs.LiftedRow.{IsLifted}
+use Rattle.campaign_gate.specs.LiftedRow.{RowHoldsForSources}
 use Rattle.campaign_gate.specs.CampaignBooks.{acks_read, HasSourcePlan}
 use Rattle.campaign_gate.proofs.SourceReadings.{late-placed, some-placed, none-placed, can-placed, track-placed, row-placed}
 
@@ -106,7 +106,7 @@ module _ (case : Case) (ss ca : Form) (ss_places ca_places : List Place)
   row-lifts : row_of case ≡ row_read (over_sources case ss ca) case.link case.lag
   row-lifts = rows-lift (plan_over codes link case.lag) ∙ ap (row_after sources link) plan-lifts
 
-pub lifted : (case : Case) → IsLifted case
+pub lifted : (case : Case) → RowHoldsForSources case
 lifted case ss ca ss_places ca_places ss_simulates ca_simulates = row-lifts case ss ca ss_places ca_places ss_simulates ca_simulates
 
 pub source-plan : (case : Case) → HasSourcePlan case

@@ -15,7 +15,7 @@ use Rattle.portus_core.proofs.EnvShapes.{IsEnvOf-declared_env, IsEnvOf-with_valu
 use Rattle.portus_core.specs.Epoch.{track_at}
 use Rattle.reg_compiler.specs.Simulation.{Simulates}
 use Rattle.agent_core.specs.declared.agent.Agent.{Agent}
-use Rattle.agent_core.specs.Agents.{begun, replied, course_of, values_of}
+use Rattle.agent_core.specs.Agents.{opening_change, replied, course_of, values_of}
 use Rattle.flow_core.specs.declared.case.Case.{Case}
 use Rattle.flow_core.specs.declared.letter.Letter.{Letter}
 use Rattle.flow_core.specs.declared.letter.Letter.TheVariants.{A, T, C}
@@ -129,7 +129,7 @@ module _ (case : Case) (ss ca : Form) (ss_places ca_places : List Place)
   Shaped-word : (giving : Giving Place) (word : List Letter) → Shaped (world_from sources giving (opening sources) word)
   Shaped-word giving word =
       Shaped-from giving word (opening sources)
-      (Shaped-era (course_of case.agent).ss.number 0 (values_of case.agent (begun case.agent)) 0 0 0)
+      (Shaped-era (course_of case.agent).ss.number 0 (values_of case.agent (opening_change case.agent)) 0 0 0)
 
   -- ---- the present epoch stands where it does over the source
 

@@ -3,7 +3,7 @@ use Rattle.std.specs.Prelude.{◌≡◌, ℕ, zero, suc, ◌+◌, ◌-◌, ◌*�
 use Rattle.std.proofs.Common.{arith, sym, ◌∙◌, subst, length-append}
 use Rattle.ccp_base.specs.declared.ack.Ack.{Ack}
 use Rattle.link_model.specs.declared.link_case.LinkCase.{LinkCase}
-use Rattle.link_model.specs.Link.{Packet, Taking, Numbered, GivenAck, Run, packet_and_lost_below, time_of, Next, arrives, all_lost, allowance, is_lost, packet_after, with_sent, takes, left_by, lost_by, numbered, in_flight, next_of, answer_by, answer_to, sent_by, called, run_from, run_of, acks_in_order, acks_of}
+use Rattle.link_model.specs.Link.{Packet, Taking, Numbered, GivenAck, Run, packet_and_lost_below, time_of, Next, arrives, all_lost, allowance, is_lost, packet_after, with_sent, takes, left_by, lost_by, numbered, in_flight, next_arrival, answer_by, given_for, sent_by, called, run_from, run_of, acks_in_order, acks_for_windows}
 use Rattle.flow_core.specs.declared.letter.Letter.{Letter}
 use Rattle.flow_core.specs.Readings.{Flow}
 use Rattle.flow_core.specs.Words.{world}
@@ -99,13 +99,13 @@ module _ (case : LinkCase) where
   within-called window run few w =
       let packets = sent_by case window run in
       let flight = in_flight packets run.givens in
-      let given = answer_to case packets run.givens in
+      let given = given_for case packets run.givens in
       let acks = acks_in_order run.givens in
       let before = w.packets in
       let sent : length packets ≤ 4096 * length run.givens + 4096 = omega (arith, before, length-with_sent case (time_of run.givens) (allowance case window - length (in_flight run.packets run.givens)) run.packets) in
-      let lost : given.ack.lost_pkts_sample ≤ length flight = answer-lost case packets run.givens flight (next_of flight) in
+      let lost : given.ack.lost_pkts_sample ≤ length flight = answer-lost case packets run.givens flight (next_arrival flight) in
       let most : length flight ≤ length packets = flight-most packets run.givens in
-      let got : given.ack.bytes_acked ≤ case.mss = answer-acked case packets run.givens flight (next_of flight) in
+      let got : given.ack.bytes_acked ≤ case.mss = answer-acked case packets run.givens flight (next_arrival flight) in
       let segment : case.mss ≤ 65535 = case.mss_within.1 in
       let lost_before = w.lost in
       let timeouts_before = w.timeouts in
@@ -126,7 +126,7 @@ module _ (case : LinkCase) where
   givens-run [] run = omega arith
   givens-run (window ∷ later) run = omega (arith, givens-run later (called case window run))
 
-  roomy-run : (windows : List ℕ) → length windows ≤ 65536 → AreRoomy (sums_of (acks_of case windows))
+  roomy-run : (windows : List ℕ) → length windows ≤ 65536 → AreRoomy (sums_of (acks_for_windows case windows))
   roomy-run windows few =
       let begun : Run = record { packets = []; givens = [] } in
       let nothing : Within begun = record { packets = omega arith; lost = omega arith; timeouts = omega arith; acked = omega arith } in

@@ -11,7 +11,7 @@ use Rattle.flow_core.specs.declared.case.Case.{Case}
 use Rattle.flow_core.specs.Readings.{Flow, over_codes, over_sources}
 use Rattle.flow_core.specs.Words.{world, legal}
 use Rattle.flow_core.specs.Books.{IsBookOf}
-use Rattle.flow_core.specs.Cells.{CellState, flow_at, world_at, IsComplete, IsLifted}
+use Rattle.flow_core.specs.Cells.{CellState, flow_at, world_at, IsComplete, StateHoldsForSources}
 use Rattle.campaign_gate.specs.CampaignWord.{plan_over, plan}
 
 -- a case's flow after its campaign word
@@ -25,7 +25,7 @@ pub record IsCampaignBook (book : Book) : Type 0 where
   pub legal : legal (flow_at (planned book.case)) book.case.link book.word ≡ true
   pub complete : IsComplete (planned book.case)
   pub told : IsBookOf (flow_at (planned book.case)) (world_at (planned book.case)) book
-  pub lifted : IsLifted (planned book.case)
+  pub lifted : StateHoldsForSources (planned book.case)
 
 -- one book a case, in order
 abbrev pub AreCampaignBooks : List Case → List Book → Type 0

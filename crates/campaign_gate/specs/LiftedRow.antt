@@ -8,8 +8,8 @@ use Rattle.flow_core.specs.declared.case.Case.{Case}
 use Rattle.flow_core.specs.Readings.{over_sources}
 use Rattle.campaign_gate.specs.CampaignRow.{row_read, row_of}
 
-abbrev pub IsLifted : Case → Type 0
-IsLifted case =
+abbrev pub RowHoldsForSources : Case → Type 0
+RowHoldsForSources case =
     (ss ca : Form) (ss_places ca_places : List Place)
     → Simulates ss case.ss.code.code ss_places
     → Simulates ca case.ca.code.code ca_places

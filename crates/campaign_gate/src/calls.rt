@@ -9,7 +9,7 @@ ghost use Rattle.flow_core.specs.declared.book.Book.{Book};
 ghost use Rattle.campaign_gate.specs.CampaignWord.{plan};
 ghost use Rattle.campaign_gate.specs.CampaignRow.{row_of};
 ghost use Rattle.campaign_gate.specs.CampaignBooks.{acks_of_case, IsCampaignBook, AreCampaignBooks, HasSourcePlan};
-ghost use Rattle.campaign_gate.specs.LiftedRow.{IsLifted};
+ghost use Rattle.campaign_gate.specs.LiftedRow.{RowHoldsForSources};
 
 use crate::case_result::CaseResult;
 use crate::queue::Queue;
@@ -27,7 +27,7 @@ pub fn run_case(alloc: Global, case: Case) -> Result<Row, NoMemory>
     ensures row { IfOk result (λ row. row ≡ row_of case) }
     ensures legal { legal (over_codes case) case.link (plan case) ≡ true }
     ensures complete { is_complete (over_codes case) (world (over_codes case) case.link (plan case)) ≡ true }
-    ensures lifted { IsLifted case }
+    ensures lifted { RowHoldsForSources case }
 {
     Row::make(alloc, case)
 }
@@ -47,7 +47,7 @@ pub fn rows<R: Threads + Sync, G: Gate + Sync>(
 ) -> Result<Rows, NoMemory>
     requires few { length cases ≤ most_cases }
     ensures rows { IfOk result (λ rows. rows ≡ map row_of cases) }
-    ensures lifted { (case : Case) → IsLifted case }
+    ensures lifted { (case : Case) → RowHoldsForSources case }
 {
     make_by_workers::<Brand, Row, R, G>(rt, alloc, cases.as_slice(), workers, gate)
 }

@@ -1,4 +1,4 @@
--- The text of a book with the state after its word is its flow's part of the live text.
+-- The text of a book with the state after its word is its flow's flow_part of the live text.
 use Rattle.std.specs.Prelude.{◌≡◌, ℕ, suc, ◌+◌, List, [], ◌∷◌, ◌++◌, length, map, codes, decimal, refl}
 use Rattle.std.specs.List.{All}
 use Rattle.std.proofs.Common.{ap, sym, ◌∙◌, arith}
@@ -13,7 +13,7 @@ use Rattle.flow_core.specs.declared.book.EpochLine.{EpochLine}
 use Rattle.flow_core.specs.declared.book.TicketLine.{TicketLine}
 use Rattle.flow_core.specs.declared.case.Case.{Case}
 use Rattle.flow_core.specs.Books.{ticket_line, epoch_line}
-use Rattle.flow_core.specs.LiveText.{Account, Sources, account_of, account_text, answer_text, end_of, epoch_lines, fault_lines, fields_at, flow_line, last_line, live_text, part, report_count, reports_told, sources_of, ticket_lines, told_text}
+use Rattle.flow_core.specs.LiveText.{Account, Sources, account_of, account_text, answer_text, end_of, epoch_lines, fault_lines, fields_at, flow_line, last_line, live_text, flow_part, report_count, reports_told, sources_of, ticket_lines, told_text}
 use Rattle.flow_core.specs.Readings.{Flow}
 use Rattle.flow_core.specs.Words.{acks_in}
 use Rattle.flow_core.specs.World.{Era, Answered, World, told_as, track_of}
@@ -102,7 +102,7 @@ module _ (programs : List (ℕ × Built)) (book : Book) (told : IsRead programs 
         end = ends i;
       }
 
-  pub book-part : book_text programs book ≡ part (sources_of programs) book.case (read_world programs book)
+  pub book-part : book_text programs book ≡ flow_part (sources_of programs) book.case (read_world programs book)
   book-part =
       ap (λ (a : Account). account_text (sources_of programs) book.case a) accounts
       ∙ account-shown programs book.case flow (account_of flow w) book.tickets
@@ -113,6 +113,6 @@ pub books-live : (programs : List (ℕ × Built)) (books : List Book) → All (I
     → books_text programs books ≡ live_text (sources_of programs) (flows_of books)
 books-live programs [] told = refl
 books-live programs (book ∷ rest) told =
-    let part = book-part programs book (told 0 book (omega arith)) in
+    let flow_part = book-part programs book (told 0 book (omega arith)) in
     let parts = books-live programs rest (λ k d h. told (suc k) d (omega (arith, h))) in
-    λ i. part i ⧺ parts i
+    λ i. flow_part i ⧺ parts i

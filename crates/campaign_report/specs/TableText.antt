@@ -45,14 +45,14 @@ row_lines (row ∷ rows) (name ∷ names) (agent ∷ agents) = row_line name age
 -- ---- the total
 
 -- the sum of a column, which has no bound
-abbrev pub sum_of : Column → List Row → ℕ
-sum_of column [] = 0
-sum_of column (row ∷ rest) = value_in column row + sum_of column rest
+abbrev pub column_sum : Column → List Row → ℕ
+column_sum column [] = 0
+column_sum column (row ∷ rest) = value_in column row + column_sum column rest
 
 -- the sum of a column with its word, if it is shown
 abbrev pub sum_text : Bool → Column → List Row → List ℕ
 sum_text false column rows = []
-sum_text true column rows = codes " " ⧺ heading_of column ⧺ codes "=" ⧺ decimal (sum_of column rows)
+sum_text true column rows = codes " " ⧺ heading_of column ⧺ codes "=" ⧺ decimal (column_sum column rows)
 
 -- the sums of those columns that the total has
 abbrev pub sums : List Column → List Row → List ℕ

@@ -1,7 +1,7 @@
 //! The text of a live run: for each flow its epochs, faults with their places, tickets and end.
 ghost use Rattle.std.specs.Prelude.{◌≡◌, ◌++◌, IfOk, OnOk, map};
 ghost use Rattle.std.specs.List.{All};
-ghost use Rattle.flow_core.specs.LiveText.{end_line, epoch_lines, fault_lines, sources_of, ticket_lines};
+ghost use Rattle.flow_core.specs.LiveText.{account_end_line, epoch_lines, fault_lines, sources_of, ticket_lines};
 ghost use Rattle.flow_core.specs.Words.{acks_in};
 ghost use Rattle.campaign_report.specs.BookText.{account_in, book_text, books_text, end_in, failure_of, last_program};
 ghost use Rattle.campaign_report.specs.BooksRead.{IsRead, read_text};
@@ -108,7 +108,7 @@ fn put_last(
     programs: &[(u32, Built)],
     book: &Book,
 ) -> Result<(), NoMemory>
-    ensures { OnOk result (text.new ≡ text.old ++ end_line (sources_of programs.now) (account_in programs.now book.now)) }
+    ensures { OnOk result (text.new ≡ text.old ++ account_end_line (sources_of programs.now) (account_in programs.now book.now)) }
 {
     let counts = Counts {
         reports: report_count(book.tickets.as_slice()),

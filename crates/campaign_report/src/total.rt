@@ -2,7 +2,7 @@
 ghost use Rattle.std.specs.Prelude.{◌≡◌, ◌≤◌, ◌++◌, OnOk, length};
 ghost use Rattle.ccp_base.specs.Limits.{most_cases};
 ghost use Rattle.campaign_gate.specs.CampaignRow.{is_summed};
-ghost use Rattle.campaign_report.specs.TableText.{sum_of, sum_text, sums, total_line};
+ghost use Rattle.campaign_report.specs.TableText.{column_sum, sum_text, sums, total_line};
 
 use campaign_gate::{Column, Row};
 use ccp_base::{Bytes, NoMemory};
@@ -57,7 +57,7 @@ fn put_sum(alloc: Global, text: &mut Bytes, column: Column, rows: &[Row]) -> Res
 /// The sum of a column over at most 1,024 rows.
 fn sum(rows: &[Row], column: Column) -> u128
     requires { length rows.now ≤ most_cases }
-    ensures { result ≡ sum_of column rows.now }
+    ensures { result ≡ column_sum column rows.now }
 {
     let mut total: u128 = 0;
     let mut left = rows;

@@ -6,12 +6,12 @@ use Rattle.std.specs.declared.io.Error.{Error}
 use Rattle.ccp_run.specs.declared.outcome.Outcome.{Outcome}
 use Rattle.ccp_run.specs.declared.status.Status.{Status}
 use Rattle.ccp_run.specs.declared.status.Status.TheVariants as ends
-use Rattle.ccp_run.specs.Statuses.{number_of, words_line, memory_line}
+use Rattle.ccp_run.specs.Statuses.{status_number, words_line, memory_line}
 use Rattle.ccp_run.specs.Streams.{Stream, IsUntouched, Tells}
 use Rattle.ccp_run.specs.Tool.{DoesWords}
 use Rattle.ccp.specs.declared.words.WordsFault.{WordsFault}
 use Rattle.ccp.specs.declared.words.WordsFault.TheVariants as faults
-use Rattle.ccp.specs.Words.{fault_of}
+use Rattle.ccp.specs.Words.{words_fault}
 
 -- the status is that of a run on the words
 pub record IsExit (words : List (List ℕ)) (source sink errors : Stream) (is_finished : Type 0) (status : ℕ) : Type 0 where
@@ -21,7 +21,7 @@ pub record IsExit (words : List (List ℕ)) (source sink errors : Stream) (is_fi
 
 -- the line is reported, and the status is that of this end
 pub record Reports (end : Status) (line : List ℕ) (errors : Stream) (number : ℕ) : Type 0 where
-  pub is : number ≡ number_of end
+  pub is : number ≡ status_number end
   pub told : Tells errors line
 
 -- words that aren't text are reported as words are that the tool doesn't accept
@@ -47,4 +47,4 @@ abbrev pub IsProcess : {I Z : Type 0} → (I → Option (String Z) → I → Typ
 IsProcess next (Ok given) source sink errors is_finished number =
     RunsOnAll next given source sink errors is_finished number ⊎ EndsWithout faults.NoMemory source sink errors number
 IsProcess next (Err error) source sink errors is_finished number =
-    EndsWithout (fault_of (error_kind error)) source sink errors number
+    EndsWithout (words_fault (error_kind error)) source sink errors number

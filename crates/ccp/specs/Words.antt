@@ -9,9 +9,9 @@ use Rattle.ccp.specs.declared.words.WordsFault.{WordsFault}
 use Rattle.ccp.specs.declared.words.WordsFault.TheVariants as faults
 
 -- why there are no words if the system reports an error of this kind
-abbrev pub fault_of : ErrorKind → WordsFault
-fault_of OutOfMemory = faults.NoMemory
-fault_of _ = faults.NotText
+abbrev pub words_fault : ErrorKind → WordsFault
+words_fault OutOfMemory = faults.NoMemory
+words_fault _ = faults.NotText
 
 -- these are all the words that the system gives, in order: what calls of `next` give until there is none
 abbrev pub AreWords : {I W : Type 0} → (I → Option W → I → Type 0) → Result I Error → List W → Type 0
@@ -21,4 +21,4 @@ AreWords next (Err error) words = ⊥
 -- why there are no words: out of memory for the list of those that the system gives, or its error
 abbrev pub IsCause : {I : Type 0} → Result I Error → WordsFault → Type 0
 IsCause (Ok given) fault = fault ≡ faults.NoMemory
-IsCause (Err error) fault = fault ≡ fault_of (error_kind error)
+IsCause (Err error) fault = fault ≡ words_fault (error_kind error)

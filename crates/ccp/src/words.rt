@@ -1,7 +1,7 @@
 //! The words of the command line, as the system gives them to the process.
 ghost use Rattle.std.specs.Prelude.{◌≡◌, IfOk, IfErr};
 ghost use Rattle.std.specs.Iterator.{IsFinite};
-ghost use Rattle.ccp.specs.Words.{fault_of, AreWords, IsCause};
+ghost use Rattle.ccp.specs.Words.{words_fault, AreWords, IsCause};
 
 use std::alloc::{AllocError, Global};
 use std::io;
@@ -29,7 +29,7 @@ impl From<AllocError> for WordsFault {
 
 /// What an error of the system says of the words.
 fn fault_of(kind: ErrorKind) -> WordsFault
-    ensures { result ≡ fault_of kind }
+    ensures { result ≡ words_fault kind }
 {
     match kind {
         ErrorKind::OutOfMemory => WordsFault::NoMemory,

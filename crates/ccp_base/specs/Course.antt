@@ -11,9 +11,9 @@ use Rattle.ccp_base.specs.declared.course.Phase.{Phase}
 use Rattle.ccp_base.specs.declared.course.Phase.TheVariants.{SlowStart, Avoidance}
 
 -- the epoch of a report or notice
-abbrev pub epoch_of : Told → ℕ
-epoch_of (Report report) = report.epoch
-epoch_of (Fault notice) = notice.epoch
+abbrev pub told_epoch : Told → ℕ
+told_epoch (Report report) = report.epoch
+told_epoch (Fault notice) = notice.epoch
 
 -- an agent's course before its first report or notice
 abbrev pub first_course : Role → Role → Course

@@ -21,5 +21,5 @@ is_bad controls Cwnd = false
 is_bad controls Rate = false
 
 -- the place of the first such pair
-abbrev pub first_bad : ℕ → List Pair → Option ℕ
-first_bad controls values = position (λ pair. is_bad controls pair.0) values
+abbrev pub first_bad_pair : ℕ → List Pair → Option ℕ
+first_bad_pair controls values = position (λ pair. is_bad controls pair.0) values

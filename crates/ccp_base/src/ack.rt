@@ -1,6 +1,6 @@
 //! The acknowledgement as the datapath sees it: fifteen primitives, by field and by number.
 ghost use Rattle.std.specs.Prelude.{◌≡◌, ◌<◌, length, slice_index};
-ghost use Rattle.ccp_base.specs.Acknowledgement.{number_of, primitives, prim, flag_number, is_flag, ack_of};
+ghost use Rattle.ccp_base.specs.Acknowledgement.{bool_number, primitives, prim, flag_number, is_flag, ack_of};
 ghost use Rattle.ccp_base.specs.Limits.{primitive_count};
 ghost use Rattle.ccp_base.specs.Truth.{is_true};
 
@@ -113,7 +113,7 @@ pub fn ack_of(numbers: &[u64]) -> Ack
 
 /// A Bool as a number: 1 if it is true, else 0.
 pub fn bool_number(truth: bool) -> u64
-    ensures { result ≡ number_of truth }
+    ensures { result ≡ bool_number truth }
 {
     if truth { 1 } else { 0 }
 }

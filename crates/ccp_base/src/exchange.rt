@@ -50,11 +50,11 @@ pub enum Told {
 
 impl Told {
     ghost use Rattle.std.specs.Prelude.{◌≡◌};
-    ghost use Rattle.ccp_base.specs.Course.{epoch_of};
+    ghost use Rattle.ccp_base.specs.Course.{told_epoch};
 
     /// The epoch of the report or notice.
     pub fn epoch(&self) -> u64
-        ensures { result ≡ epoch_of self.now }
+        ensures { result ≡ told_epoch self.now }
     {
         match self {
             Told::Report(report) => u64::from(report.epoch),

@@ -1,6 +1,6 @@
 //! The values that a change or an update writes, each with its register: at most 66, held in place.
 ghost use Rattle.std.specs.Prelude.{◌≡◌, ◌↔◌, IsTrue, ◌<◌, ◌≤◌, ◌++◌, ◌∷◌, [], IfSome, length, slice_get};
-ghost use Rattle.ccp_base.specs.FieldReg.{Pair, pair_of, is_bad, first_bad};
+ghost use Rattle.ccp_base.specs.FieldReg.{Pair, pair_of, is_bad, first_bad_pair};
 ghost use Rattle.ccp_base.specs.Limits.{most_pairs};
 
 use std::marker::Model;
@@ -117,7 +117,7 @@ impl Fields {
     /// The place, counted from 0, of the first pair that names a control variable numbered `controls` or above; None if
     /// no pair does.
     pub fn first_bad(&self, controls: usize) -> Option<u32>
-        ensures { result ≡ first_bad controls self.now }
+        ensures { result ≡ first_bad_pair controls self.now }
     {
         let place = place_of_bad(controls, self.as_slice())?;
         Some(place as u32)
@@ -126,7 +126,7 @@ impl Fields {
 
 // A function of its own: a search followed by `?` isn't proved in one function.
 fn place_of_bad(controls: usize, pairs: &[(FieldReg, u64)]) -> Option<usize>
-    ensures place { result ≡ first_bad controls pairs.now }
+    ensures place { result ≡ first_bad_pair controls pairs.now }
     ensures within { IfSome result (λ i. i < length pairs.now) }
 {
     pairs.iter().position(|pair| pair.0.is_bad(controls))

@@ -4,7 +4,7 @@ use Rattle.std.specs.Prelude.{map, Option, Some, nat_le, if◌then◌else◌, �
 use Rattle.std.specs.List.{AllByRecursion}
 use Rattle.std.proofs.lemmas.Bool.{and_parts, leb-true}
 use Rattle.ccp_base.specs.declared.operation.Op2.{Op2}
-use Rattle.ccp_base.specs.Acknowledgement.{number_of}
+use Rattle.ccp_base.specs.Acknowledgement.{bool_number}
 use Rattle.ccp_base.specs.Limits.{most_operation}
 use Rattle.ccp_base.specs.Operations.{written_as, first_where, operations}
 use Rattle.ccp_base.specs.OperationLaws.{operation-back}
@@ -21,9 +21,9 @@ use Rattle.reg_code.specs.OperationNumbers.{op_number, op_numbered}
 use Rattle.reg_code.specs.OperationNumberLaws.{op_back, op_again}
 use Rattle.reply_frames.specs.declared.outline.Instruction.{Instruction}
 use Rattle.reply_frames.specs.Frames as parts
-use Rattle.reply_frames.specs.FrameBytes.{IsStart, IsEvent, IsRegister, IsInstruction}
+use Rattle.reply_frames.specs.FrameBytes.{StartFits, IsEvent, IsRegister, IsInstruction}
 use Rattle.reply_frames.proofs.BodyLaws.{truth-back, truth-again}
-use Rattle.ccp_messages.specs.CodeParts.{implicit_number, implicit_of, register, register_part, reg_by, reg_of, start_part, start_of, event_part, event_of, instruction_part, instr_of}
+use Rattle.ccp_messages.specs.CodeParts.{implicit_number, implicit_of, register, register_part, reg_by, decoded_reg, start_part, decoded_start, event_part, decoded_event, instruction_part, decoded_instr}
 use Rattle.ccp_messages.specs.Messages.{IsTypedStart, IsTypedEvent, IsTypedReg, IsTypedInstr}
 
 -- ---- from a code and back
@@ -36,7 +36,7 @@ implicit-back Micros = refl
 implicit-back Cwnd = refl
 implicit-back Rate = refl
 
-reg-back : (r : Reg) → reg_of (register_part r) ≡ r
+reg-back : (r : Reg) → decoded_reg (register_part r) ≡ r
 reg-back (reg.Imm value) = refl
 reg-back (reg.Prim n) = refl
 reg-back (reg.Report i) = refl
@@ -45,32 +45,32 @@ reg-back (reg.Implicit which) = ap (λ w. reg.Implicit w) (implicit-back which)
 reg-back (reg.Local i) = refl
 reg-back (reg.Temp i) = refl
 
-start-back : (start : Start) → start_of (start_part start) ≡ start
+start-back : (start : Start) → decoded_start (start_part start) ≡ start
 start-back start = ap (λ b. record { volatile = b; value = start.value }) (truth-back start.volatile)
 
-instr-back : (i : Instr) → instr_of (instruction_part i) ≡ i
+instr-back : (i : Instr) → decoded_instr (instruction_part i) ≡ i
 instr-back i =
     let o = op_back i.op in
     let a = reg-back i.to in
     let b = reg-back i.left in
     let c = reg-back i.right in
-    ap (λ o. record { op = o; to = reg_of (register_part i.to); left = reg_of (register_part i.left); right = reg_of (register_part i.right) }) o
-    ∙ ap (λ r. record { op = i.op; to = r; left = reg_of (register_part i.left); right = reg_of (register_part i.right) }) a
-    ∙ ap (λ r. record { op = i.op; to = i.to; left = r; right = reg_of (register_part i.right) }) b
+    ap (λ o. record { op = o; to = decoded_reg (register_part i.to); left = decoded_reg (register_part i.left); right = decoded_reg (register_part i.right) }) o
+    ∙ ap (λ r. record { op = i.op; to = r; left = decoded_reg (register_part i.left); right = decoded_reg (register_part i.right) }) a
+    ∙ ap (λ r. record { op = i.op; to = i.to; left = r; right = decoded_reg (register_part i.right) }) b
     ∙ ap (λ r. record { op = i.op; to = i.to; left = i.left; right = r }) c
 
 pub map-back : {A B : Type 0} (f : A → B) (g : B → A) → ((x : A) → g (f x) ≡ x) → (xs : List A) → map g (map f xs) ≡ xs
 map-back f g back [] = refl
 map-back f g back (x ∷ xs) = ap (λ y. y ∷ map g (map f xs)) (back x) ∙ ap (λ ys. x ∷ ys) (map-back f g back xs)
 
-pub starts-back : (starts : List Start) → map start_of (map start_part starts) ≡ starts
-starts-back starts = map-back start_part start_of start-back starts
+pub starts-back : (starts : List Start) → map decoded_start (map start_part starts) ≡ starts
+starts-back starts = map-back start_part decoded_start start-back starts
 
-pub events-back : (events : List Event) → map event_of (map event_part events) ≡ events
-events-back events = map-back event_part event_of (λ event. refl) events
+pub events-back : (events : List Event) → map decoded_event (map event_part events) ≡ events
+events-back events = map-back event_part decoded_event (λ event. refl) events
 
-pub instrs-back : (instrs : List Instr) → map instr_of (map instruction_part instrs) ≡ instrs
-instrs-back instrs = map-back instruction_part instr_of instr-back instrs
+pub instrs-back : (instrs : List Instr) → map decoded_instr (map instruction_part instrs) ≡ instrs
+instrs-back instrs = map-back instruction_part decoded_instr instr-back instrs
 
 -- ---- from a frame and back
 
@@ -93,18 +93,18 @@ register-again (suc (suc (suc (suc (suc zero))))) n ok = (refl, omega (arith, ok
 register-again (suc (suc (suc (suc (suc (suc zero)))))) n ok = (refl, omega (arith, ok.1))
 register-again (suc (suc (suc (suc (suc (suc (suc class))))))) n ok = absurd (omega (arith, ok.0))
 
-start-again : (start : parts.Start) → IsStart start → (start_part (start_of start) ≡ start) × IsTypedStart (start_of start)
+start-again : (start : parts.Start) → StartFits start → (start_part (decoded_start start) ≡ start) × IsTypedStart (decoded_start start)
 start-again start ok = (ap (λ n. record { volatile = n; value = start.value }) (truth-again start.volatile ok.0), ok.1)
 
-instruction-again : (i : Instruction) → IsInstruction i → (instruction_part (instr_of i) ≡ i) × IsTypedInstr (instr_of i)
+instruction-again : (i : Instruction) → IsInstruction i → (instruction_part (decoded_instr i) ≡ i) × IsTypedInstr (decoded_instr i)
 instruction-again i ok =
     let o = op_again i.op ok.0 in
     let a = register-again i.to.class i.to.number ok.1 in
     let b = register-again i.left.class i.left.number ok.2 in
     let c = register-again i.right.class i.right.number ok.3 in (
-      ap (λ o. record { op = o; to = register_part (reg_of i.to); left = register_part (reg_of i.left); right = register_part (reg_of i.right) }) o
-          ∙ ap (λ r. record { op = i.op; to = r; left = register_part (reg_of i.left); right = register_part (reg_of i.right) }) a.0
-          ∙ ap (λ r. record { op = i.op; to = i.to; left = r; right = register_part (reg_of i.right) }) b.0
+      ap (λ o. record { op = o; to = register_part (decoded_reg i.to); left = register_part (decoded_reg i.left); right = register_part (decoded_reg i.right) }) o
+          ∙ ap (λ r. record { op = i.op; to = r; left = register_part (decoded_reg i.left); right = register_part (decoded_reg i.right) }) a.0
+          ∙ ap (λ r. record { op = i.op; to = i.to; left = r; right = register_part (decoded_reg i.right) }) b.0
           ∙ ap (λ r. record { op = i.op; to = i.to; left = i.left; right = r }) c.0,
       (a.1, b.1, c.1),
     )
@@ -116,14 +116,14 @@ map-again f g Valid Typed again (x ∷ xs) valid =
     let others = map-again f g Valid Typed again xs valid.1 in
     (ap (λ y. y ∷ map g (map f xs)) here.0 ∙ ap (λ ys. x ∷ ys) others.0, (here.1, others.1))
 
-pub starts-again : (starts : List parts.Start) → AllByRecursion IsStart starts → (map start_part (map start_of starts) ≡ starts) × AllByRecursion IsTypedStart (map start_of starts)
-starts-again starts ok = map-again start_of start_part IsStart IsTypedStart start-again starts ok
+pub starts-again : (starts : List parts.Start) → AllByRecursion StartFits starts → (map start_part (map decoded_start starts) ≡ starts) × AllByRecursion IsTypedStart (map decoded_start starts)
+starts-again starts ok = map-again decoded_start start_part StartFits IsTypedStart start-again starts ok
 
-pub events-again : (events : List parts.Event) → AllByRecursion IsEvent events → (map event_part (map event_of events) ≡ events) × AllByRecursion IsTypedEvent (map event_of events)
-events-again events ok = map-again event_of event_part IsEvent IsTypedEvent (λ event fits. (refl, fits)) events ok
+pub events-again : (events : List parts.Event) → AllByRecursion IsEvent events → (map event_part (map decoded_event events) ≡ events) × AllByRecursion IsTypedEvent (map decoded_event events)
+events-again events ok = map-again decoded_event event_part IsEvent IsTypedEvent (λ event fits. (refl, fits)) events ok
 
-pub instructions-again : (instructions : List Instruction) → AllByRecursion IsInstruction instructions → (map instruction_part (map instr_of instructions) ≡ instructions) × AllByRecursion IsTypedInstr (map instr_of instructions)
-instructions-again instructions ok = map-again instr_of instruction_part IsInstruction IsTypedInstr instruction-again instructions ok
+pub instructions-again : (instructions : List Instruction) → AllByRecursion IsInstruction instructions → (map instruction_part (map decoded_instr instructions) ≡ instructions) × AllByRecursion IsTypedInstr (map decoded_instr instructions)
+instructions-again instructions ok = map-again decoded_instr instruction_part IsInstruction IsTypedInstr instruction-again instructions ok
 
 -- ---- what is typed has a place in a frame
 
@@ -167,7 +167,7 @@ register-fits (reg.Implicit which) typed = (omega arith, implicit-low which)
 register-fits (reg.Local i) typed = (omega arith, omega arith)
 register-fits (reg.Temp i) typed = (omega arith, omega arith)
 
-pub truth-low : (b : Bool) → number_of b ≤ 1
+pub truth-low : (b : Bool) → bool_number b ≤ 1
 truth-low true = omega arith
 truth-low false = omega arith
 
@@ -175,8 +175,8 @@ pub map-all : {A B : Type 0} (f : A → B) (P : A → Type 0) (Q : B → Type 0)
 map-all f P Q step [] all = tt
 map-all f P Q step (x ∷ xs) all = (step x all.0, map-all f P Q step xs all.1)
 
-pub starts-fit : (starts : List Start) → AllByRecursion IsTypedStart starts → AllByRecursion IsStart (map start_part starts)
-starts-fit starts all = map-all start_part IsTypedStart IsStart (λ start fits. (truth-low start.volatile, fits)) starts all
+pub starts-fit : (starts : List Start) → AllByRecursion IsTypedStart starts → AllByRecursion StartFits (map start_part starts)
+starts-fit starts all = map-all start_part IsTypedStart StartFits (λ start fits. (truth-low start.volatile, fits)) starts all
 
 pub events-fit : (events : List Event) → AllByRecursion IsTypedEvent events → AllByRecursion IsEvent (map event_part events)
 events-fit events all = map-all event_part IsTypedEvent IsEvent (λ event fits. fits) events all

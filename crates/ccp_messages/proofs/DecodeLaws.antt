@@ -10,7 +10,7 @@ use Rattle.reply_frames.specs.declared.outline.Version.TheVariants.{One, Two}
 use Rattle.reply_frames.specs.Parts.{Read}
 use Rattle.reply_frames.specs.Frames.{Frame, frame_at}
 use Rattle.reply_frames.specs.Decoding.{needed_of}
-use Rattle.reply_frames.specs.Whole.{IsCut, IsBadFrom, IsBadIn}
+use Rattle.reply_frames.specs.Whole.{IsFrameFront, IsBadFrom, IsBadIn}
 use Rattle.reply_frames.specs.FrameBytes.{spelled, outline_of}
 use Rattle.reply_frames.proofs.Codec.{AllBytes}
 use Rattle.reply_frames.proofs.CodecFrames.{frame-writes, frame-reads}
@@ -22,8 +22,8 @@ use Rattle.reply_frames.proofs.FrameLaws.{frame_alone, cut_is, is_cut, bad_is}
 use Rattle.ccp_messages.specs.declared.fault.DecodeFault.{DecodeFault}
 use Rattle.ccp_messages.specs.declared.fault.DecodeFault.TheVariants.{More, Bad, NoMemory}
 use Rattle.ccp_messages.specs.declared.message.Message.{Message}
-use Rattle.ccp_messages.specs.Messages.{Meets, flow_of, body_of, frame_bytes, message_of, IsTyped}
-use Rattle.ccp_messages.specs.Decoding.{Found, Begins, found_from, decoded_from, decoded_of, IsAnswer, IsBad}
+use Rattle.ccp_messages.specs.Messages.{Meets, message_flow, message_body, frame_bytes, message_of, IsTyped}
+use Rattle.ccp_messages.specs.Decoding.{Found, Begins, found_from, decoded_from, decoded_of, IsDecoded, IsBad}
 use Rattle.ccp_messages.specs.Laws.{IsReadAs, OneFrame, NoOther, BothVersions}
 use Rattle.ccp_messages.proofs.MessageLaws.{message-back, message-fits, meets-both, meets-one, IsSaid, body-said}
 
@@ -37,7 +37,7 @@ frame-said : (bytes : List ℕ) (frame : Frame) (rest : List ℕ) → AllBytes b
 frame-said bytes frame rest fits e =
     let r = frame-reads bytes (frame, rest) fits e in
     let s = body-said frame.outline.version frame.outline.flow frame.body r.1.0 in
-    (r.0.parts ∙ ap (λ flow. spelled frame.outline.version flow frame.body ++ rest) (sym s.flow_is) ∙ ap (λ body. spelled frame.outline.version (flow_of (said frame)) body ++ rest) (sym s.body_is), s)
+    (r.0.parts ∙ ap (λ flow. spelled frame.outline.version flow frame.body ++ rest) (sym s.flow_is) ∙ ap (λ body. spelled frame.outline.version (message_flow (said frame)) body ++ rest) (sym s.body_is), s)
 
 begins-read : (bytes : List ℕ) (read : Read Frame) (m : Message) (v : Version) (n : ℕ) → AllBytes bytes → frame_at bytes ≡ read → found_from (length bytes) read ≡ Ok (m, v, n) → Begins bytes m v n
 begins-read bytes (Ok (frame, rest)) m v n fits e d =
@@ -57,12 +57,12 @@ pub decoded-begins : (bytes : List ℕ) (f : Found) → AllBytes bytes → decod
 decoded-begins bytes f fits e = begins-read bytes (frame_at bytes) f.0 f.1 f.2 fits refl (decoded-found bytes (found_from (length bytes) (frame_at bytes)) f e)
 
 -- the frame of a message is read as it, whatever follows
-frame-read : (v : Version) (m : Message) (rest : List ℕ) → Meets v m → IsTyped m → frame_at (frame_bytes v m ++ rest) ≡ Ok (record { outline = outline_of v (flow_of m) (body_of m); body = body_of m }, rest)
-frame-read v m rest meets typed = (frame-writes v (flow_of m) (body_of m) (message-fits v m meets typed)).again rest
+frame-read : (v : Version) (m : Message) (rest : List ℕ) → Meets v m → IsTyped m → frame_at (frame_bytes v m ++ rest) ≡ Ok (record { outline = outline_of v (message_flow m) (message_body m); body = message_body m }, rest)
+frame-read v m rest meets typed = (frame-writes v (message_flow m) (message_body m) (message-fits v m meets typed)).again rest
 
 pub begins-decoded : (bytes : List ℕ) (m : Message) (v : Version) (n : ℕ) → Begins bytes m v n → decoded_of bytes ≡ Ok (m, v, n)
 begins-decoded bytes m v n b =
-    let read : frame_at bytes ≡ Ok (record { outline = outline_of v (flow_of m) (body_of m); body = body_of m }, b.rest) = ap frame_at b.parts ∙ frame-read v m b.rest b.meets b.typed in
+    let read : frame_at bytes ≡ Ok (record { outline = outline_of v (message_flow m) (message_body m); body = message_body m }, b.rest) = ap frame_at b.parts ∙ frame-read v m b.rest b.meets b.typed in
     let len : length bytes - length b.rest ≡ n = omega (arith, b.used_is, ap length b.parts, length-append (frame_bytes v m) b.rest) in
     ap (λ read. decoded_from bytes (found_from (length bytes) read)) read
     ∙ ap (λ message. decoded_from bytes (Ok (message, v, length bytes - length b.rest))) (message-back m)
@@ -79,12 +79,12 @@ cut-decoded bytes (Ok found) n e = absurd cc
 cut-decoded bytes (Err stops.Cut) n e = let same : needed_of bytes ≡ n = cc in (refl, sym same)
 cut-decoded bytes (Err (stops.Bad field left)) n e = absurd cc
 
-pub decoded-more : (bytes : List ℕ) (n : ℕ) → decoded_of bytes ≡ Err (More n) → IsCut bytes × (n ≡ needed_of bytes)
+pub decoded-more : (bytes : List ℕ) (n : ℕ) → decoded_of bytes ≡ Err (More n) → IsFrameFront bytes × (n ≡ needed_of bytes)
 decoded-more bytes n e =
     let c = cut-decoded bytes (found_from (length bytes) (frame_at bytes)) n e in
     (cut_is bytes (found-stops (length bytes) (frame_at bytes) stops.Cut c.0), c.1)
 
-pub cut-more : (bytes : List ℕ) → IsCut bytes → decoded_of bytes ≡ Err (More (needed_of bytes))
+pub cut-more : (bytes : List ℕ) → IsFrameFront bytes → decoded_of bytes ≡ Err (More (needed_of bytes))
 cut-more bytes cut = ap (λ read. decoded_from bytes (found_from (length bytes) read)) (is_cut bytes cut)
 
 bad-decoded : (bytes : List ℕ) (found : Result Found Stop) (field : BadKind) (place : ℕ) → decoded_from bytes found ≡ Err (Bad field place) → (left : ℕ) × (found ≡ Err (stops.Bad field left)) × (place ≡ length bytes - left)
@@ -106,7 +106,7 @@ decoded-bad bytes field place e =
 -- ---- what a call answers, where there was memory
 
 abbrev pub IsTold : List ℕ → Result Found DecodeFault → Type 0
-IsTold bytes result = IsAnswer result (decoded_of bytes)
+IsTold bytes result = IsDecoded result (decoded_of bytes)
 
 told-ok : (bytes : List ℕ) (f : Found) → IsTold bytes (Ok f) → decoded_of bytes ≡ Ok f
 told-ok bytes f told = sym (told (λ (e : ◌≡◌ {A = Result Found DecodeFault} (Ok f) (Err NoMemory)). cc))
@@ -118,15 +118,15 @@ pub told_found : (bytes : List ℕ) (result : Result Found DecodeFault) → AllB
 told_found bytes (Ok f) fits told = decoded-begins bytes f fits (told-ok bytes f told)
 told_found bytes (Err fault) fits told = tt
 
-pub told_only : (bytes : List ℕ) (result : Result Found DecodeFault) → IsTold bytes result → (m : Message) (v : Version) (n : ℕ) → Begins bytes m v n → IsAnswer result (Ok (m, v, n))
+pub told_only : (bytes : List ℕ) (result : Result Found DecodeFault) → IsTold bytes result → (m : Message) (v : Version) (n : ℕ) → Begins bytes m v n → IsDecoded result (Ok (m, v, n))
 told_only bytes result told m v n begins some = told some ∙ begins-decoded bytes m v n begins
 
-pub told_more : (bytes : List ℕ) (result : Result Found DecodeFault) → IsTold bytes result → (n : ℕ) → result ≡ Err (More n) → IsCut bytes × (n ≡ needed_of bytes)
+pub told_more : (bytes : List ℕ) (result : Result Found DecodeFault) → IsTold bytes result → (n : ℕ) → result ≡ Err (More n) → IsFrameFront bytes × (n ≡ needed_of bytes)
 told_more bytes result told n e =
     let some : (result ≢ Err NoMemory) = λ none. let clash : ◌≡◌ {A = Result Found DecodeFault} (Err (More n)) (Err NoMemory) = sym e ∙ none in cc in
     decoded-more bytes n (sym (told some) ∙ e)
 
-pub told_cut : (bytes : List ℕ) (result : Result Found DecodeFault) → IsTold bytes result → IsCut bytes → IsAnswer result (Err (More (needed_of bytes)))
+pub told_cut : (bytes : List ℕ) (result : Result Found DecodeFault) → IsTold bytes result → IsFrameFront bytes → IsDecoded result (Err (More (needed_of bytes)))
 told_cut bytes result told cut some = told some ∙ cut-more bytes cut
 
 pub told_bad : (bytes : List ℕ) (result : Result Found DecodeFault) → IsTold bytes result → (field : BadKind) (place : ℕ) → result ≡ Err (Bad field place) → IsBadIn bytes field place
@@ -134,7 +134,7 @@ told_bad bytes result told field place e =
     let some : (result ≢ Err NoMemory) = λ none. let clash : ◌≡◌ {A = Result Found DecodeFault} (Err (Bad field place)) (Err NoMemory) = sym e ∙ none in cc in
     decoded-bad bytes field place (sym (told some) ∙ e)
 
-pub told_refused : (bytes : List ℕ) (result : Result Found DecodeFault) → AllBytes bytes → IsTold bytes result → ((m : Message) (v : Version) (n : ℕ) → ¬ Begins bytes m v n) → ¬ IsCut bytes → (result ≢ Err NoMemory) → IsBad result
+pub told_refused : (bytes : List ℕ) (result : Result Found DecodeFault) → AllBytes bytes → IsTold bytes result → ((m : Message) (v : Version) (n : ℕ) → ¬ Begins bytes m v n) → ¬ IsFrameFront bytes → (result ≢ Err NoMemory) → IsBad result
 told_refused bytes (Ok f) fits told none whole some = none f.0 f.1 f.2 (decoded-begins bytes f fits (told-ok bytes f told))
 told_refused bytes (Err (More n)) fits told none whole some =
     whole (decoded-more bytes n (told-err bytes (More n) (λ (e : More n ≡ NoMemory). cc) told)).0
@@ -143,13 +143,13 @@ told_refused bytes (Err NoMemory) fits told none whole some = some refl
 
 -- ---- the laws
 
-frame-alone : (v : Version) (m : Message) → Meets v m → IsTyped m → frame_at (frame_bytes v m) ≡ Ok (record { outline = outline_of v (flow_of m) (body_of m); body = body_of m }, [])
+frame-alone : (v : Version) (m : Message) → Meets v m → IsTyped m → frame_at (frame_bytes v m) ≡ Ok (record { outline = outline_of v (message_flow m) (message_body m); body = message_body m }, [])
 frame-alone v m meets typed = ap frame_at (sym (append-nil (frame_bytes v m))) ∙ frame-read v m [] meets typed
 
 read-frame : (v : Version) (m : Message) → Meets v m → IsTyped m → IsReadAs (frame_bytes v m) m v
 read-frame v m meets typed = record {
-  are_bytes = frame-bytes v (flow_of m) (body_of m) (message-fits v m meets typed);
-  frame = record { outline = outline_of v (flow_of m) (body_of m); body = body_of m };
+  are_bytes = frame-bytes v (message_flow m) (message_body m) (message-fits v m meets typed);
+  frame = record { outline = outline_of v (message_flow m) (message_body m); body = message_body m };
   whole = frame-alone v m meets typed;
   said = message-back m;
   version_is = refl;

@@ -5,7 +5,7 @@ use Rattle.std.specs.List.{AllByRecursion}
 use Rattle.std.proofs.lemmas.List.{length-map}
 use Rattle.ccp_base.specs.declared.arithmetic.FaultKind.{FaultKind}
 use Rattle.ccp_base.specs.declared.arithmetic.FaultKind.TheVariants.{Overflow, Underflow, ZeroDivisor}
-use Rattle.ccp_base.specs.Acknowledgement.{number_of, primitives, flag_number, ack_of}
+use Rattle.ccp_base.specs.Acknowledgement.{bool_number, primitives, flag_number, ack_of}
 use Rattle.ccp_base.specs.FieldReg.{Pair}
 use Rattle.ccp_base.specs.Limits.{most_fields}
 use Rattle.reply_frames.specs.declared.outline.Version.{Version}
@@ -15,25 +15,25 @@ use Rattle.reply_frames.specs.Kinds.{most_n1}
 use Rattle.reply_frames.specs.Frames.{Body}
 use Rattle.reply_frames.specs.Frames as body
 use Rattle.reply_frames.specs.Bodies.{fault_number, fault_kind_of}
-use Rattle.reply_frames.specs.ValueBytes.{AreTargets, IsValue, IsSendable}
+use Rattle.reply_frames.specs.ValueBytes.{AreTargets, ValueFits, IsSendable}
 use Rattle.reply_frames.specs.FrameBytes.{IsNumber, IsCount, IsSpellable}
 use Rattle.reply_frames.proofs.BodyLaws.{fault-back, fault-again, true-back, plain-numbers, ack-again}
 use Rattle.ccp_messages.specs.declared.message.Message.{Message}
 use Rattle.ccp_messages.specs.declared.message.Message.TheVariants.{Create, Measure, Install, Update, Change, Fault, Refused}
 use Rattle.ccp_messages.specs.declared.message.Message.TheVariants as message
-use Rattle.ccp_messages.specs.CodeParts.{start_part, start_of, event_part, event_of, instruction_part, instr_of}
-use Rattle.ccp_messages.specs.Messages.{IsShortCount, AreFew, IsNarrow, Meets, flow_of, body_of, message_of, IsTyped}
+use Rattle.ccp_messages.specs.CodeParts.{start_part, decoded_start, event_part, decoded_event, instruction_part, decoded_instr}
+use Rattle.ccp_messages.specs.Messages.{IsShortCount, AreFew, IsNarrow, Meets, message_flow, message_body, message_of, IsTyped}
 use Rattle.ccp_messages.proofs.CodeLaws.{truth-low, starts-back, events-back, instrs-back, starts-again, events-again, instructions-again, starts-fit, events-fit, instructions-fit}
 
 -- ---- from a message and back
 
-pub message-back : (m : Message) → message_of (flow_of m) (body_of m) ≡ m
+pub message-back : (m : Message) → message_of (message_flow m) (message_body m) ≡ m
 message-back (Create flow mss cwnd) = refl
 message-back (Measure report) = refl
 message-back (Install flow program code) =
-    ap (λ xs. Install flow program (record { reports = xs; controls = map start_of (map start_part code.controls); events = map event_of (map event_part code.events); instrs = map instr_of (map instruction_part code.instrs) })) (starts-back code.reports)
-    ∙ ap (λ xs. Install flow program (record { reports = code.reports; controls = xs; events = map event_of (map event_part code.events); instrs = map instr_of (map instruction_part code.instrs) })) (starts-back code.controls)
-    ∙ ap (λ xs. Install flow program (record { reports = code.reports; controls = code.controls; events = xs; instrs = map instr_of (map instruction_part code.instrs) })) (events-back code.events)
+    ap (λ xs. Install flow program (record { reports = xs; controls = map decoded_start (map start_part code.controls); events = map decoded_event (map event_part code.events); instrs = map decoded_instr (map instruction_part code.instrs) })) (starts-back code.reports)
+    ∙ ap (λ xs. Install flow program (record { reports = code.reports; controls = xs; events = map decoded_event (map event_part code.events); instrs = map decoded_instr (map instruction_part code.instrs) })) (starts-back code.controls)
+    ∙ ap (λ xs. Install flow program (record { reports = code.reports; controls = code.controls; events = xs; instrs = map decoded_instr (map instruction_part code.instrs) })) (events-back code.events)
     ∙ ap (λ xs. Install flow program (record { reports = code.reports; controls = code.controls; events = code.events; instrs = xs })) (instrs-back code.instrs)
 message-back (Update flow values) = refl
 message-back (Change flow program values) = refl
@@ -64,7 +64,7 @@ meets-one (Fault notice) meets narrow = narrow
 meets-one (message.Ack flow ack) meets narrow = tt
 meets-one (Refused flow reason index) meets narrow = meets
 
-pairs-sendable : (values : List Pair) → AreTargets values → AllByRecursion IsValue values → AllByRecursion IsSendable values
+pairs-sendable : (values : List Pair) → AreTargets values → AllByRecursion ValueFits values → AllByRecursion IsSendable values
 pairs-sendable [] targets fit = tt
 pairs-sendable (value ∷ values) targets fit = ((targets.0, fit.0), pairs-sendable values targets.1 fit.1)
 
@@ -74,7 +74,7 @@ fault-low Underflow = omega arith
 fault-low ZeroDivisor = omega arith
 
 abbrev HasBody : Version → Message → Type 0
-HasBody version m = IsSpellable version (flow_of m) (body_of m)
+HasBody version m = IsSpellable version (message_flow m) (message_body m)
 
 -- a count of a typed message that is short enough
 short-count : (version : Version) (n : ℕ) → IsShortCount version n → n < 2 ^ 64 → IsCount version n
@@ -118,14 +118,14 @@ targets-of : (values : List Pair) → AllByRecursion IsSendable values → AreTa
 targets-of [] sendable = tt
 targets-of (value ∷ values) sendable = (sendable.0.0, targets-of values sendable.1)
 
-numbers-of : (values : List Pair) → AllByRecursion IsSendable values → AllByRecursion IsValue values
+numbers-of : (values : List Pair) → AllByRecursion IsSendable values → AllByRecursion ValueFits values
 numbers-of [] sendable = tt
 numbers-of (value ∷ values) sendable = (sendable.0.1, numbers-of values sendable.1)
 
 -- the body's message has it, is typed, and meets the conditions
 pub record IsSaid (version : Version) (flow : ℕ) (b : Body) : Type 0 where
-  pub flow_is : flow_of (message_of flow b) ≡ flow
-  pub body_is : body_of (message_of flow b) ≡ b
+  pub flow_is : message_flow (message_of flow b) ≡ flow
+  pub body_is : message_body (message_of flow b) ≡ b
   pub meets : Meets version (message_of flow b)
   pub typed : IsTyped (message_of flow b)
 
@@ -158,19 +158,19 @@ body-said version flow (body.Install program reports controls events instruction
     let s = starts-again controls ok.2.2 in
     let e = events-again events ok.2.3 in
     let i = instructions-again instructions ok.2.4 in
-    let few = reports-few version (length reports) (length (map start_of reports)) (length-map reports start_of) ok.1.0 in
+    let few = reports-few version (length reports) (length (map decoded_start reports)) (length-map reports decoded_start) ok.1.0 in
     record {
       flow_is = refl;
       body_is =
-          ap (λ xs. body.Install program xs (map start_part (map start_of controls)) (map event_part (map event_of events)) (map instruction_part (map instr_of instructions))) r.0
-          ∙ ap (λ xs. body.Install program reports xs (map event_part (map event_of events)) (map instruction_part (map instr_of instructions))) s.0
-          ∙ ap (λ xs. body.Install program reports controls xs (map instruction_part (map instr_of instructions))) e.0
+          ap (λ xs. body.Install program xs (map start_part (map decoded_start controls)) (map event_part (map decoded_event events)) (map instruction_part (map decoded_instr instructions))) r.0
+          ∙ ap (λ xs. body.Install program reports xs (map event_part (map decoded_event events)) (map instruction_part (map decoded_instr instructions))) s.0
+          ∙ ap (λ xs. body.Install program reports controls xs (map instruction_part (map decoded_instr instructions))) e.0
           ∙ ap (λ xs. body.Install program reports controls events xs) i.0;
       meets = (
         few.1,
-        omega (arith, ok.1.1, length-map controls start_of),
-        omega (arith, ok.1.2, length-map events event_of),
-        omega (arith, ok.1.3, length-map instructions instr_of),
+        omega (arith, ok.1.1, length-map controls decoded_start),
+        omega (arith, ok.1.2, length-map events decoded_event),
+        omega (arith, ok.1.3, length-map instructions decoded_instr),
         few.0,
       );
       typed = (ok.0, (ok.2.0, (r.1, s.1, e.1, i.1)));

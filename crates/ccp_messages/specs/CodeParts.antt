@@ -1,6 +1,6 @@
 -- The parts of a code as an Install frame has them, and back.
 use Rattle.std.specs.Prelude.{ℕ, ◌+◌, ◌*◌, ◌==◌, if◌then◌else◌, List, length, map}
-use Rattle.ccp_base.specs.Acknowledgement.{number_of}
+use Rattle.ccp_base.specs.Acknowledgement.{bool_number}
 use Rattle.reg_code.specs.declared.code.Code.{Code}
 use Rattle.reg_code.specs.declared.code.Event.{Event}
 use Rattle.reg_code.specs.declared.code.Implicit.{Implicit}
@@ -51,26 +51,26 @@ reg_by class number =
     if class == 3 then reg.Control number else if class == 4 then reg.Implicit (implicit_of number) else
     if class == 5 then reg.Local number else reg.Temp number
 
-abbrev pub reg_of : Register → Reg
-reg_of r = reg_by r.class r.number
+abbrev pub decoded_reg : Register → Reg
+decoded_reg r = reg_by r.class r.number
 
 abbrev pub start_part : Start → parts.Start
-start_part start = record { volatile = number_of start.volatile; value = start.value }
+start_part start = record { volatile = bool_number start.volatile; value = start.value }
 
-abbrev pub start_of : parts.Start → Start
-start_of start = record { volatile = start.volatile == 1; value = start.value }
+abbrev pub decoded_start : parts.Start → Start
+decoded_start start = record { volatile = start.volatile == 1; value = start.value }
 
 abbrev pub event_part : Event → parts.Event
 event_part event = record { condition = event.condition; block = event.body }
 
-abbrev pub event_of : parts.Event → Event
-event_of event = record { condition = event.condition; body = event.block }
+abbrev pub decoded_event : parts.Event → Event
+decoded_event event = record { condition = event.condition; body = event.block }
 
 abbrev pub instruction_part : Instr → Instruction
 instruction_part i = record { op = op_number i.op; to = register_part i.to; left = register_part i.left; right = register_part i.right }
 
-abbrev pub instr_of : Instruction → Instr
-instr_of i = record { op = op_numbered i.op; to = reg_of i.to; left = reg_of i.left; right = reg_of i.right }
+abbrev pub decoded_instr : Instruction → Instr
+decoded_instr i = record { op = op_numbered i.op; to = decoded_reg i.to; left = decoded_reg i.left; right = decoded_reg i.right }
 
 -- what an Install says after its head
 abbrev pub code_body : ℕ → Code → Body

@@ -19,7 +19,7 @@ use Rattle.reg_code.specs.declared.code.Instr.{Instr}
 use Rattle.reg_code.specs.declared.code.Start.{Start}
 use Rattle.ccp_messages.specs.declared.message.Message.{Message}
 use Rattle.ccp_messages.specs.declared.message.Message.TheVariants.{Install}
-use Rattle.ccp_messages.specs.CodeParts.{start_of, event_of, instr_of}
+use Rattle.ccp_messages.specs.CodeParts.{decoded_start, decoded_event, decoded_instr}
 use Rattle.ccp_messages.specs.Messages.{Meets, IsTyped, frame_bytes, message_of}
 
 -- a message, its version, and the length of its frame
@@ -42,24 +42,24 @@ made make (Ok x) = Ok (make x.0, x.1)
 made make (Err stop) = Err stop
 
 -- what a function returned, by `view`, is what reading gives, or out of memory
-abbrev pub Answers : {X Y : Type 0} → (X → Y) → Result X Halt → Result Y Stop → Type 0
-Answers view (Ok x) read = read ≡ Ok (view x)
-Answers view (Err (halt.Stopped stop)) read = read ≡ Err stop
-Answers view (Err halt.NoMemory) read = Unit {0}
+abbrev pub ReturnsReading : {X Y : Type 0} → (X → Y) → Result X Halt → Result Y Stop → Type 0
+ReturnsReading view (Ok x) read = read ≡ Ok (view x)
+ReturnsReading view (Err (halt.Stopped stop)) read = read ≡ Err stop
+ReturnsReading view (Err halt.NoMemory) read = Unit {0}
 
 -- the parts of a code
 abbrev pub code_start_at : List ℕ → Read Start
-code_start_at bytes = made start_of (start_at bytes)
+code_start_at bytes = made decoded_start (start_at bytes)
 
 abbrev pub code_event_at : List ℕ → Read Event
-code_event_at bytes = made event_of (event_at bytes)
+code_event_at bytes = made decoded_event (event_at bytes)
 
 abbrev pub code_instr_at : List ℕ → Read Instr
-code_instr_at bytes = made instr_of (instruction_at bytes)
+code_instr_at bytes = made decoded_instr (instruction_at bytes)
 
 -- the Install with a program and its code
-unfoldable pub code_at : ℕ → Counts → List ℕ → Read Message
-code_at flow counts bytes = do
+unfoldable pub install_message_at : ℕ → Counts → List ℕ → Read Message
+install_message_at flow counts bytes = do
   program ← number_at w32 bytes
   reports ← repeated_at code_start_at counts.n1 program.1
   controls ← repeated_at code_start_at counts.n2 reports.1
@@ -77,13 +77,13 @@ found_from total (Ok (frame, rest)) = Ok (message_of frame.outline.flow frame.bo
 found_from total (Err stop) = Err stop
 
 -- why reading stopped
-abbrev pub fault_of : List ℕ → Stop → DecodeFault
-fault_of bytes stops.Cut = More (needed_of bytes)
-fault_of bytes (stops.Bad field left) = Bad field (length bytes - left)
+abbrev pub decode_fault : List ℕ → Stop → DecodeFault
+decode_fault bytes stops.Cut = More (needed_of bytes)
+decode_fault bytes (stops.Bad field left) = Bad field (length bytes - left)
 
 abbrev pub decoded_from : List ℕ → Result Found Stop → Result Found DecodeFault
 decoded_from bytes (Ok found) = Ok found
-decoded_from bytes (Err stop) = Err (fault_of bytes stop)
+decoded_from bytes (Err stop) = Err (decode_fault bytes stop)
 
 -- the message whose frame begins the bytes, or why there is none
 abbrev pub decoded_of : List ℕ → Result Found DecodeFault
@@ -92,8 +92,8 @@ decoded_of bytes = decoded_from bytes (found_from (length bytes) (frame_at bytes
 -- ---- words on an answer that isn't out of memory
 
 -- it is this one
-abbrev pub IsAnswer : Result Found DecodeFault → Result Found DecodeFault → Type 0
-IsAnswer result answer = (result ≢ Err NoMemory) → result ≡ answer
+abbrev pub IsDecoded : Result Found DecodeFault → Result Found DecodeFault → Type 0
+IsDecoded result answer = (result ≢ Err NoMemory) → result ≡ answer
 
 -- it refuses a byte
 abbrev pub IsBad : Result Found DecodeFault → Type 0

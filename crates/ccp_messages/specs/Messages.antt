@@ -19,13 +19,13 @@ use Rattle.reply_frames.specs.Kinds.{size_of}
 use Rattle.reply_frames.specs.Frames.{Body}
 use Rattle.reply_frames.specs.Frames as body
 use Rattle.reply_frames.specs.Bodies.{fault_kind_of, report_body, notice_body, ack_body}
-use Rattle.reply_frames.specs.ValueBytes.{AreTargets, IsValue}
-use Rattle.reply_frames.specs.FrameBytes.{kind_of_body, counts_of, spelled, IsNumber, IsCount}
+use Rattle.reply_frames.specs.ValueBytes.{AreTargets, ValueFits}
+use Rattle.reply_frames.specs.FrameBytes.{kind_of_body, body_counts, spelled, IsNumber, IsCount}
 use Rattle.reply_frames.specs.Writing.{WroteFront}
 use Rattle.ccp_messages.specs.declared.message.Message.{Message}
 use Rattle.ccp_messages.specs.declared.message.Message.TheVariants.{Create, Measure, Install, Update, Change, Fault, Refused}
 use Rattle.ccp_messages.specs.declared.message.Message.TheVariants as message
-use Rattle.ccp_messages.specs.CodeParts.{start_of, event_of, instr_of, code_body}
+use Rattle.ccp_messages.specs.CodeParts.{decoded_start, decoded_event, decoded_instr, code_body}
 
 -- ---- the conditions of the encoder
 
@@ -68,34 +68,34 @@ Meets version (Refused flow reason index) = (1 ≤ reason) × (reason ≤ most_r
 
 -- ---- the frame of a message
 
-abbrev pub flow_of : Message → ℕ
-flow_of (Create flow mss cwnd) = flow
-flow_of (Measure report) = report.flow
-flow_of (Install flow program code) = flow
-flow_of (Update flow values) = flow
-flow_of (Change flow program values) = flow
-flow_of (Fault notice) = notice.flow
-flow_of (message.Ack flow ack) = flow
-flow_of (Refused flow reason index) = flow
+abbrev pub message_flow : Message → ℕ
+message_flow (Create flow mss cwnd) = flow
+message_flow (Measure report) = report.flow
+message_flow (Install flow program code) = flow
+message_flow (Update flow values) = flow
+message_flow (Change flow program values) = flow
+message_flow (Fault notice) = notice.flow
+message_flow (message.Ack flow ack) = flow
+message_flow (Refused flow reason index) = flow
 
 -- what the frame says after its head
-abbrev pub body_of : Message → Body
-body_of (Create flow mss cwnd) = body.Create cwnd mss
-body_of (Measure report) = report_body report
-body_of (Install flow program code) = code_body program code
-body_of (Update flow values) = body.Update values
-body_of (Change flow program values) = body.Change program values
-body_of (Fault notice) = notice_body notice
-body_of (message.Ack flow ack) = ack_body ack
-body_of (Refused flow reason index) = body.Refused reason index
+abbrev pub message_body : Message → Body
+message_body (Create flow mss cwnd) = body.Create cwnd mss
+message_body (Measure report) = report_body report
+message_body (Install flow program code) = code_body program code
+message_body (Update flow values) = body.Update values
+message_body (Change flow program values) = body.Change program values
+message_body (Fault notice) = notice_body notice
+message_body (message.Ack flow ack) = ack_body ack
+message_body (Refused flow reason index) = body.Refused reason index
 
 -- the length of the message's frame in a version
 abbrev pub size_in : Version → Message → ℕ
-size_in version message = size_of (kind_of_body (body_of message)) version (counts_of (body_of message))
+size_in version message = size_of (kind_of_body (message_body message)) version (body_counts (message_body message))
 
 -- the message's frame in a version, if it meets the conditions
 abbrev pub frame_bytes : Version → Message → List ℕ
-frame_bytes version message = spelled version (flow_of message) (body_of message)
+frame_bytes version message = spelled version (message_flow message) (message_body message)
 
 -- the message's frame was written at the front, and the answer is its length
 abbrev pub WroteFrame : Version → Message → List ℕ → List ℕ → ℕ → Type 0
@@ -113,7 +113,7 @@ message_of flow (body.Create cwnd mss) = Create flow mss cwnd
 message_of flow (body.Measure program epoch first last now cwnd rate fields) =
     Measure (record { flow = flow; program = program; epoch = epoch; first = first; end = last; now = now; cwnd = cwnd; rate = rate; fields = fields })
 message_of flow (body.Install program reports controls events instructions) =
-    Install flow program (record { reports = map start_of reports; controls = map start_of controls; events = map event_of events; instrs = map instr_of instructions })
+    Install flow program (record { reports = map decoded_start reports; controls = map decoded_start controls; events = map decoded_event events; instrs = map decoded_instr instructions })
 message_of flow (body.Update values) = Update flow values
 message_of flow (body.Change program values) = Change flow program values
 message_of flow (body.Fault program epoch place kind index now cwnd) =
@@ -153,7 +153,7 @@ abbrev pub AreTypedNumbers : List ℕ → Type 0
 AreTypedNumbers numbers = (length numbers ≤ most_fields) × AllByRecursion IsNumber numbers
 
 abbrev pub AreTypedPairs : List Pair → Type 0
-AreTypedPairs values = (length values ≤ most_pairs) × AllByRecursion IsValue values
+AreTypedPairs values = (length values ≤ most_pairs) × AllByRecursion ValueFits values
 
 abbrev pub IsTypedReport : Report → Type 0
 IsTypedReport r =
@@ -178,4 +178,4 @@ IsTypedBody (Refused flow reason index) = index < 2 ^ 32
 
 -- the ranges of a message's numbers, and the most that its lists in place hold
 abbrev pub IsTyped : Message → Type 0
-IsTyped message = (flow_of message < 2 ^ 32) × IsTypedBody message
+IsTyped message = (message_flow message < 2 ^ 32) × IsTypedBody message

@@ -3,7 +3,7 @@
 
 ghost use Rattle.std.specs.Prelude.{◌≡◌, ◌<◌, ◌^◌};
 ghost use Rattle.reply_frames.specs.Frames.{IsSmall};
-ghost use Rattle.ccp_messages.specs.CodeParts.{implicit_number, implicit_of, register_part, reg_of};
+ghost use Rattle.ccp_messages.specs.CodeParts.{implicit_number, implicit_of, register_part, decoded_reg};
 
 use reg_code::{Implicit, Reg};
 use reply_frames::Register;
@@ -54,7 +54,7 @@ pub fn register_numbers(reg: Reg) -> (u8, u64)
 /// The register that a part of an instruction is.
 pub fn reg_of(part: Register) -> Reg
     requires { IsSmall part }
-    ensures { result ≡ reg_of part }
+    ensures { result ≡ decoded_reg part }
 {
     let number = part.number;
     match part.class {

@@ -4,10 +4,10 @@ ghost use Rattle.reply_frames.specs.declared.fault.BadKind.{BadKind};
 ghost use Rattle.reply_frames.specs.declared.outline.Version.{Version};
 ghost use Rattle.reply_frames.specs.Frames.{frame_at};
 ghost use Rattle.reply_frames.specs.Decoding.{needed_of};
-ghost use Rattle.reply_frames.specs.Whole.{IsCut, IsBadIn};
+ghost use Rattle.reply_frames.specs.Whole.{IsFrameFront, IsBadIn};
 ghost use Rattle.ccp_messages.specs.declared.message.Message.{Message};
-ghost use Rattle.ccp_messages.specs.Decoding.{Begins, Answers, found_from, fault_of};
-ghost use Rattle.ccp_messages.specs.Decoding.{decoded_of, IsAnswer, IsBad, BeginsInstall};
+ghost use Rattle.ccp_messages.specs.Decoding.{Begins, ReturnsReading, found_from, decode_fault};
+ghost use Rattle.ccp_messages.specs.Decoding.{decoded_of, IsDecoded, IsBad, BeginsInstall};
 
 use crate::fault::{DecodeFault, Halt};
 use crate::message::Message;
@@ -18,7 +18,7 @@ use std::alloc::Global;
 
 /// Why bytes don't begin with a frame, from where reading stopped.
 fn stopped(bytes: &[u8], stop: Stop) -> DecodeFault
-    ensures { result ≡ fault_of bytes.now stop }
+    ensures { result ≡ decode_fault bytes.now stop }
 {
     match stop {
         Stop::Cut => DecodeFault::More(needed(bytes)),
@@ -29,7 +29,7 @@ fn stopped(bytes: &[u8], stop: Stop) -> DecodeFault
 /// The message whose frame begins the bytes, its version and the frame's length.
 #[tactic(auto, unfolding(reply_frames::specs::Frames::frame_at))]
 fn found(alloc: Global, bytes: &[u8]) -> Result<(Message, Version, usize), Halt>
-    ensures read { Answers (λ x. x) result (found_from (length bytes.now) (frame_at bytes.now)) }
+    ensures read { ReturnsReading (λ x. x) result (found_from (length bytes.now) (frame_at bytes.now)) }
     ensures memory { result ≡ Err Halt.NoMemory → BeginsInstall bytes.now }
 {
     let (head, rest) = outline(bytes)?;
@@ -40,7 +40,7 @@ fn found(alloc: Global, bytes: &[u8]) -> Result<(Message, Version, usize), Halt>
 
 /// The same, with its faults.
 fn answered(alloc: Global, bytes: &[u8]) -> Result<(Message, Version, usize), DecodeFault>
-    ensures told { IsAnswer result (decoded_of bytes.now) }
+    ensures told { IsDecoded result (decoded_of bytes.now) }
     ensures memory { result ≡ Err DecodeFault.NoMemory → BeginsInstall bytes.now }
 {
     match found(alloc, bytes) {
@@ -54,22 +54,22 @@ fn answered(alloc: Global, bytes: &[u8]) -> Result<(Message, Version, usize), De
 /// length. The code of an Install is any that a frame can have; `code_verifier` says which is accepted. No other kind
 /// takes memory. The faults are those of `DecodeFault`.
 pub fn decode(alloc: Global, bytes: &[u8]) -> Result<(Message, Version, usize), DecodeFault>
-    ensures told { IsAnswer result (decoded_of bytes.now) }
+    ensures told { IsDecoded result (decoded_of bytes.now) }
 
     // What is read begins the bytes, and what begins them is read.
     ensures found { IfOk result (λ x. Begins bytes.now x.0 x.1 x.2) }
     ensures only { (message : Message) (version : Version) (used : ℕ) → Begins bytes.now message version used
-        → IsAnswer result (Ok (message, version, used)) }
+        → IsDecoded result (Ok (message, version, used)) }
 
     // The answer is More exactly if the bytes are a proper prefix of a frame.
-    ensures more { (n : ℕ) → result ≡ Err (DecodeFault.More n) → IsCut bytes.now × (n ≡ needed_of bytes.now) }
-    ensures cut { IsCut bytes.now → IsAnswer result (Err (DecodeFault.More (needed_of bytes.now))) }
+    ensures more { (n : ℕ) → result ≡ Err (DecodeFault.More n) → IsFrameFront bytes.now × (n ≡ needed_of bytes.now) }
+    ensures cut { IsFrameFront bytes.now → IsDecoded result (Err (DecodeFault.More (needed_of bytes.now))) }
 
     // Bad has the length of the longest prefix that some frame begins with, and the field of the byte after it.
     ensures bad { (field : BadKind) (place : ℕ) → result ≡ Err (DecodeFault.Bad field place)
         → IsBadIn bytes.now field place }
     ensures refused { ((message : Message) (version : Version) (used : ℕ) → ¬ Begins bytes.now message version used)
-        → ¬ IsCut bytes.now → (result ≢ Err DecodeFault.NoMemory) → IsBad result }
+        → ¬ IsFrameFront bytes.now → (result ≢ Err DecodeFault.NoMemory) → IsBad result }
 
     // Only the code of an Install takes memory.
     ensures memory { result ≡ Err DecodeFault.NoMemory → BeginsInstall bytes.now }

@@ -5,7 +5,7 @@ ghost use Rattle.reply_frames.specs.FrameBytes.{outline_of, body_bytes};
 ghost use Rattle.reply_frames.specs.Writing.{Wrote};
 ghost use Rattle.ccp_messages.specs.CodeParts.{code_counts};
 ghost use Rattle.ccp_messages.specs.Laws.{HasOneFrame};
-ghost use Rattle.ccp_messages.specs.Messages.{Meets, flow_of, body_of, size_in, frame_bytes};
+ghost use Rattle.ccp_messages.specs.Messages.{Meets, message_flow, message_body, size_in, frame_bytes};
 ghost use Rattle.ccp_messages.specs.Messages.{WroteFrame, IsFrameOf, IsTypedBody, IsTyped};
 
 use crate::encode_body::{
@@ -37,8 +37,8 @@ fn code_counts(code: &Code) -> Counts
 /// The head of a message's frame.
 fn head_of(message: &Message, version: Version) -> Outline
     requires { Meets version message.now }
-    ensures head { result ≡ outline_of version (flow_of message.now) (body_of message.now) }
-    ensures typed { flow_of message.now < 2 ^ 32 }
+    ensures head { result ≡ outline_of version (message_flow message.now) (message_body message.now) }
+    ensures typed { message_flow message.now < 2 ^ 32 }
 {
     match message {
         Message::Create { flow, .. } => head_with_count(FrameKind::Create, version, 0, *flow),
@@ -68,7 +68,7 @@ fn head_of(message: &Message, version: Version) -> Outline
 fn put_body(out: &mut [u8], message: &Message, version: Version) -> usize
     requires room { size_in version message.now ≤ length out.old }
     requires meets { Meets version message.now }
-    ensures wrote { Wrote 16 (body_bytes version (body_of message.now)) out.old out.new result }
+    ensures wrote { Wrote 16 (body_bytes version (message_body message.now)) out.old out.new result }
     ensures typed { IsTypedBody message.now }
 {
     match message {

@@ -9,7 +9,7 @@ ghost use Rattle.reply_frames.specs.ValueBytes.{values_bytes};
 ghost use Rattle.reply_frames.specs.FrameBytes.{count_width, body_bytes};
 ghost use Rattle.reply_frames.specs.Writing.{Wrote};
 ghost use Rattle.ccp_messages.specs.declared.message.Message.TheVariants as message;
-ghost use Rattle.ccp_messages.specs.Messages.{IsShortCount, body_of, AreTypedPairs};
+ghost use Rattle.ccp_messages.specs.Messages.{IsShortCount, message_body, AreTypedPairs};
 ghost use Rattle.ccp_messages.specs.Messages.{IsTypedReport, IsTypedNotice, IsTypedAck};
 
 use crate::writing::{put_count, put_numbers, put8, put16, put32, put64};
@@ -33,7 +33,7 @@ pub fn put_measure(out: &mut [u8], at: usize, version: Version, report: Report) 
     requires first { IsShortCount version report.first }
     requires end { IsShortCount version report.end }
     ensures typed { IsTypedReport report }
-    ensures wrote { Wrote at (body_bytes version (body_of (message.Measure report))) out.old out.new result }
+    ensures wrote { Wrote at (body_bytes version (message_body (message.Measure report))) out.old out.new result }
 {
     let end = put32(out, at, report.program);
     let end = put32(out, end, report.epoch);
@@ -70,7 +70,7 @@ pub fn put_fault(out: &mut [u8], at: usize, version: Version, notice: Notice) ->
     requires room { at + (27 + count_width version) ≤ length out.old }
     requires at { IsShortCount version notice.at }
     ensures typed { IsTypedNotice notice }
-    ensures wrote { Wrote at (body_bytes version (body_of (message.Fault notice))) out.old out.new result }
+    ensures wrote { Wrote at (body_bytes version (message_body (message.Fault notice))) out.old out.new result }
 {
     let end = put32(out, at, notice.program);
     let end = put32(out, end, notice.epoch);

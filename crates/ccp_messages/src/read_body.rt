@@ -4,9 +4,9 @@ ghost use Rattle.std.specs.Prelude.{◌≡◌, ◌≤◌, Err};
 ghost use Rattle.ccp_base.specs.Limits.{most_fields, most_pairs};
 ghost use Rattle.reply_frames.specs.Kinds.{most_n1};
 ghost use Rattle.reply_frames.specs.Parts.{Gives};
-ghost use Rattle.reply_frames.specs.Frames.{create_at, measure_at, update_at, change_at, fault_at, ack_at, refused_at};
+ghost use Rattle.reply_frames.specs.Frames.{create_at, measure_at, update_at, change_at, fault_body_at, ack_body_at, refused_at};
 ghost use Rattle.ccp_messages.specs.Messages.{message_of};
-ghost use Rattle.ccp_messages.specs.Decoding.{Answers, made, message_at};
+ghost use Rattle.ccp_messages.specs.Decoding.{ReturnsReading, made, message_at};
 
 use crate::fault::Halt;
 use crate::message::Message;
@@ -63,7 +63,7 @@ fn change(bytes: &[u8], flow: u32, count: u8) -> Result<(Message, &[u8]), Stop>
 
 /// A Fault from its body, and the bytes after it.
 fn fault(bytes: &[u8], version: Version, flow: u32) -> Result<(Message, &[u8]), Stop>
-    ensures { Gives (λ x. (x.0, x.1.now)) result (made (message_of flow) (fault_at version bytes.now)) }
+    ensures { Gives (λ x. (x.0, x.1.now)) result (made (message_of flow) (fault_body_at version bytes.now)) }
 {
     let (notice, rest) = bodies::fault(bytes, version, flow)?;
     Ok((Message::Fault(notice), rest))
@@ -71,7 +71,7 @@ fn fault(bytes: &[u8], version: Version, flow: u32) -> Result<(Message, &[u8]), 
 
 /// An Ack from its body, and the bytes after it.
 fn ack(bytes: &[u8], flow: u32) -> Result<(Message, &[u8]), Stop>
-    ensures { Gives (λ x. (x.0, x.1.now)) result (made (message_of flow) (ack_at bytes.now)) }
+    ensures { Gives (λ x. (x.0, x.1.now)) result (made (message_of flow) (ack_body_at bytes.now)) }
 {
     let (ack, rest) = bodies::ack(bytes)?;
     Ok((Message::Ack { flow, ack }, rest))
@@ -95,7 +95,7 @@ fn refused(bytes: &[u8], flow: u32) -> Result<(Message, &[u8]), Stop>
 /// The message of a frame with this head, from its body, and the bytes after it.
 pub fn body(alloc: Global, bytes: &[u8], head: Outline) -> Result<(Message, &[u8]), Halt>
     requires { head.counts.n1 ≤ most_n1 head.kind head.version }
-    ensures read { Answers (λ x. (x.0, x.1.now)) result (message_at head bytes.now) }
+    ensures read { ReturnsReading (λ x. (x.0, x.1.now)) result (message_at head bytes.now) }
     ensures memory { result ≡ Err Halt.NoMemory → head.kind ≡ FrameKind.Install }
 {
     let first = head.counts.n1;

@@ -1,7 +1,7 @@
 //! A code, read from the body of an Install.
 
 ghost use Rattle.reply_frames.specs.Parts.{Gives, repeated_at};
-ghost use Rattle.ccp_messages.specs.Decoding.{Answers, code_start_at, code_event_at, code_instr_at, code_at};
+ghost use Rattle.ccp_messages.specs.Decoding.{ReturnsReading, code_start_at, code_event_at, code_instr_at, install_message_at};
 
 use crate::code_parts::reg_of;
 use crate::fault::Halt;
@@ -43,7 +43,7 @@ fn instr(bytes: &[u8]) -> Result<(Instr, &[u8]), Stop>
 
 /// How `count` registers start, and the bytes after them.
 fn starts(alloc: Global, bytes: &[u8], count: u8) -> Result<(Sequence<Start>, &[u8]), Halt>
-    ensures { Answers (λ x. (x.0, x.1.now)) result (repeated_at code_start_at count bytes.now) }
+    ensures { ReturnsReading (λ x. (x.0, x.1.now)) result (repeated_at code_start_at count bytes.now) }
 {
     let mut items = Sequence::from_vec(Vec::with_capacity(alloc, count as usize)?);
     let mut rest = bytes;
@@ -57,7 +57,7 @@ fn starts(alloc: Global, bytes: &[u8], count: u8) -> Result<(Sequence<Start>, &[
 
 /// `count` events, and the bytes after them.
 fn events(alloc: Global, bytes: &[u8], count: u16) -> Result<(Sequence<Event>, &[u8]), Halt>
-    ensures { Answers (λ x. (x.0, x.1.now)) result (repeated_at code_event_at count bytes.now) }
+    ensures { ReturnsReading (λ x. (x.0, x.1.now)) result (repeated_at code_event_at count bytes.now) }
 {
     let mut items = Sequence::from_vec(Vec::with_capacity(alloc, count as usize)?);
     let mut rest = bytes;
@@ -71,7 +71,7 @@ fn events(alloc: Global, bytes: &[u8], count: u16) -> Result<(Sequence<Event>, &
 
 /// `count` instructions, and the bytes after them.
 fn instrs(alloc: Global, bytes: &[u8], count: u16) -> Result<(Sequence<Packed>, &[u8]), Halt>
-    ensures { Answers (λ x. (x.0, x.1.now)) result (repeated_at code_instr_at count bytes.now) }
+    ensures { ReturnsReading (λ x. (x.0, x.1.now)) result (repeated_at code_instr_at count bytes.now) }
 {
     let mut items = Sequence::from_vec(Vec::with_capacity(alloc, count as usize)?);
     let mut rest = bytes;
@@ -91,7 +91,7 @@ pub fn install(
     flow: u32,
     counts: Counts,
 ) -> Result<(Message, &[u8]), Halt>
-    ensures { Answers (λ x. (x.0, x.1.now)) result (code_at flow counts bytes.now) }
+    ensures { ReturnsReading (λ x. (x.0, x.1.now)) result (install_message_at flow counts bytes.now) }
 {
     let (program, rest) = number32(bytes)?;
     let (reports, rest) = starts(alloc, rest, counts.n1)?;

@@ -3,7 +3,7 @@
 ghost use Rattle.std.specs.Prelude.{◌≡◌, ◌+◌, ◌*◌, ◌≤◌, [], ◌∷◌, length};
 ghost use Rattle.std.specs.List.{AllByRecursion};
 ghost use Rattle.std.specs.Int.{w16, w32, w64, to_le_bytes};
-ghost use Rattle.ccp_base.specs.Acknowledgement.{number_of};
+ghost use Rattle.ccp_base.specs.Acknowledgement.{bool_number};
 ghost use Rattle.reply_frames.specs.FrameBytes.{count_width, count_bytes, numbers_bytes, IsNumber};
 ghost use Rattle.reply_frames.specs.Writing.{Wrote};
 ghost use Rattle.ccp_messages.specs.Messages.{IsShortCount};
@@ -13,7 +13,7 @@ use reply_frames::encode::put;
 
 /// A Bool as a byte: 1 if it is true, else 0.
 pub fn flag(truth: bool) -> u8
-    ensures { result ≡ number_of truth }
+    ensures { result ≡ bool_number truth }
 {
     if truth { 1 } else { 0 }
 }

@@ -10,7 +10,7 @@ use Rattle.std.proofs.lemmas.List.{get_or-set_other}
 use Rattle.ccp_base.specs.declared.ack.Ack.{Ack}
 use Rattle.ccp_base.specs.declared.parts.Separator.{Separator}
 use Rattle.ccp_base.specs.declared.parts.Separator.TheVariants.{LineFeed, Blank}
-use Rattle.ccp_base.specs.Acknowledgement.{primitives, prim, number_of, is_flag, ack_of}
+use Rattle.ccp_base.specs.Acknowledgement.{primitives, prim, bool_number, is_flag, ack_of}
 use Rattle.ccp_base.specs.Limits.{most_acks}
 use Rattle.ccp_base.specs.Numerals.{is_digit, numeral_of}
 use Rattle.ccp_base.specs.Parts.{separates, parts_of, with_first, without_last}
@@ -19,7 +19,7 @@ use Rattle.ccp_base.specs.Truth.{is_true}
 use Rattle.ccp_base.proofs.PartLemmas.{without_last-other}
 use Rattle.fold_run.specs.declared.acks.LineFault.TheVariants.{TooMany}
 use Rattle.fold_run.specs.declared.line_values.LineValues.{LineValues}
-use Rattle.fold_run.specs.AckLine.{AckLine, nothing, given, refused, no_values, with_value, with_item, with_word, with_words, given_or_refused, begins_blank, ends_blank, line_of}
+use Rattle.fold_run.specs.AckLine.{AckLine, nothing, given, refused, no_values, with_line_value, with_item, with_one_word, with_each_word, given_or_refused, begins_blank, ends_blank, read_ack_line}
 use Rattle.fold_run.specs.Acknowledgements.{with_line, with_lines}
 use Rattle.campaign_report.specs.AcksText.{is_shown, gap, items_text, ack_line, ack_lines}
 use Rattle.run_audit.proofs.NumeralLemmas.{numeral_of-decimal}
@@ -150,9 +150,9 @@ module _ (text : List ℕ) (tight : IsTight text) where
       sym (without_last-other 13 text tight.front tight.last tight.ends (grind (arith, nat_tests, other)))
 
   -- such a line says what its words say
-  told : line_of text ≡ given_or_refused (with_words (Some no_values) (parts_of Blank text))
+  told : read_ack_line text ≡ given_or_refused (with_each_word (Some no_values) (parts_of Blank text))
   told =
-      let said : AckLine = given_or_refused (with_words (Some no_values) (parts_of Blank text)) in
+      let said : AckLine = given_or_refused (with_each_word (Some no_values) (parts_of Blank text)) in
       ap (λ (b : Bool). cond b nothing (cond (begins_blank text || ends_blank text) refused said)) not_all_blank
       ∙ ap (λ (b : Bool). cond (b || ends_blank text) refused said) begins_plain
       ∙ ap (λ (b : Bool). cond b refused said) ends_plain
@@ -340,7 +340,7 @@ found_at name rest plain =
     ap (λ (n : ℕ). cond (nat_lt n (length (name ++ 61 ∷ rest))) (Some n) None) at
     ∙ ap (λ (b : Bool). cond b (Some (length name)) None) within
 
-as_item : (values : LineValues) (name rest : List ℕ) → with_word values (name ++ 61 ∷ rest) ≡ with_item values (name ++ 61 ∷ rest)
+as_item : (values : LineValues) (name rest : List ℕ) → with_one_word values (name ++ 61 ∷ rest) ≡ with_item values (name ++ 61 ∷ rest)
 as_item values [] rest = refl
 as_item values (byte ∷ name) rest = refl
 
@@ -373,7 +373,7 @@ module _ (ack : Ack) (fits : IsOf64Bits ack) where
   flag_within : (number : ℕ) → (nat_lt 1 (prim number ack) && is_flag number) ≡ false
   flag_within number = go (is_flag number) refl
     where
-      bool_within : (b : Bool) → (nat_lt 1 (number_of b) && true) ≡ false
+      bool_within : (b : Bool) → (nat_lt 1 (bool_number b) && true) ≡ false
       bool_within true = refl
       bool_within false = refl
 
@@ -409,23 +409,23 @@ module _ (ack : Ack) (fits : IsOf64Bits ack) where
   }
 
   with_shown : (number : ℕ) (known : PrimitiveName) (values : LineValues) → number < 15 → IsNamed number known → HasValues number values
-      → with_word values (word_text known.1 (prim number ack)) ≡ Some (next number values)
+      → with_one_word values (word_text known.1 (prim number ack)) ≡ Some (next number values)
   with_shown number known values below is has =
       let name : List ℕ = known.1 in
       let value : ℕ = prim number ack in
       let digits : List ℕ = decimal value in
       as_item values name digits
-      ∙ ap (option_and_then (λ at. with_value values (value_named (take at (name ++ 61 ∷ digits))) (numeral_of (drop (at + 1) (name ++ 61 ∷ digits))))) (found_at name digits is.plain)
-      ∙ ap (λ (t : List ℕ). with_value values (value_named t) (numeral_of (drop (length name + 1) (name ++ 61 ∷ digits)))) (take-append_seam name (61 ∷ digits))
-      ∙ ap (λ (t : List ℕ). with_value values (value_named name) (numeral_of t)) (drop-append-add name (61 ∷ digits) 1)
-      ∙ ap (λ (o : Option ℕ). with_value values o (numeral_of digits)) is.found
-      ∙ ap (λ (o : Option ℕ). with_value values (Some number) o) (numeral_of-decimal value (fits_at number below))
+      ∙ ap (option_and_then (λ at. with_line_value values (value_named (take at (name ++ 61 ∷ digits))) (numeral_of (drop (at + 1) (name ++ 61 ∷ digits))))) (found_at name digits is.plain)
+      ∙ ap (λ (t : List ℕ). with_line_value values (value_named t) (numeral_of (drop (length name + 1) (name ++ 61 ∷ digits)))) (take-append_seam name (61 ∷ digits))
+      ∙ ap (λ (t : List ℕ). with_line_value values (value_named name) (numeral_of t)) (drop-append-add name (61 ∷ digits) 1)
+      ∙ ap (λ (o : Option ℕ). with_line_value values o (numeral_of digits)) is.found
+      ∙ ap (λ (o : Option ℕ). with_line_value values (Some number) o) (numeral_of-decimal value (fits_at number below))
       ∙ ap (λ (b : Bool). cond (b || (nat_lt 1 value && is_flag number)) None (Some (next number values))) (has.unnamed number (omega arith))
       ∙ ap (λ (b : Bool). cond b None (Some (next number values))) (flag_within number)
 
   record ComesTo (words : List (List ℕ)) (values : LineValues) : Type 0 where
     final : LineValues
-    come : with_words (Some values) words ≡ Some final
+    come : with_each_word (Some values) words ≡ Some final
     has : HasValues 15 final
 
   read_words : (number : ℕ) (names : List PrimitiveName) → number + length names ≡ 15 → AreNamed number names
@@ -445,7 +445,7 @@ module _ (ack : Ack) (fits : IsOf64Bits ack) where
           let come = later (next number values) (has_next number values has) in
           record {
             final = come.final;
-            come = ap (λ (o : Option LineValues). with_words o (words_from ack (number + 1) rest)) (with_shown number known values (omega (arith, count)) are.0 has) ∙ come.come;
+            come = ap (λ (o : Option LineValues). with_each_word o (words_from ack (number + 1) rest)) (with_shown number known values (omega (arith, count)) are.0 has) ∙ come.come;
             has = come.has;
           }
       go later false is =
@@ -466,19 +466,19 @@ module _ (ack : Ack) (fits : IsOf64Bits ack) where
   none_named (suc n) zero = refl
   none_named (suc n) (suc k) = none_named n k
 
-  given_back : (truth : Bool) → is_true (number_of truth) ≡ truth
+  given_back : (truth : Bool) → is_true (bool_number truth) ≡ truth
   given_back true = refl
   given_back false = refl
 
   as_ack : ack_of (primitives ack) ≡ ack
   as_ack = λ i. record ack { was_timeout = given_back ack.was_timeout i }
 
-  said : line_of (without_last 13 line) ≡ given ack
+  said : read_ack_line (without_last 13 line) ≡ given ack
   said =
       let come = read_words 0 primitive_names refl all_named no_values (record { numbers = refl; unnamed = λ n above. none_named 15 n }) in
-      ap line_of (no_return line tight_line)
+      ap read_ack_line (no_return line tight_line)
       ∙ told line tight_line
-      ∙ ap (λ (ws : List (List ℕ)). given_or_refused (with_words (Some no_values) ws)) (parts_all ack 0 primitive_names all_named)
+      ∙ ap (λ (ws : List (List ℕ)). given_or_refused (with_each_word (Some no_values) ws)) (parts_all ack 0 primitive_names all_named)
       ∙ ap given_or_refused come.come
       ∙ ap (λ (ns : List ℕ). given (ack_of ns)) come.has.numbers
       ∙ ap given as_ack

@@ -17,7 +17,7 @@ use Rattle.portus_build.proofs.SettledTexts.{settled_text}
 use Rattle.ccp_words.specs.declared.mode.Alone.{Alone as AloneMode}
 use Rattle.ccp_words.specs.declared.mode.Alone.TheVariants as mode
 use Rattle.ccp_run.specs.Modes.{Alone, IsInput}
-use Rattle.fold_run.specs.AckLine.{AckLine, line_of}
+use Rattle.fold_run.specs.AckLine.{AckLine, read_ack_line}
 use Rattle.fold_run.specs.AckLine as said
 use Rattle.fold_run.specs.declared.acks.LineFault.{LineFault}
 use Rattle.fold_run.specs.declared.acks.LineFault.TheVariants as lines
@@ -27,7 +27,7 @@ use Rattle.feed_core.specs.declared.ending.FeedEnd.{FeedEnd}
 use Rattle.feed_core.specs.declared.ending.FeedEnd.TheVariants as ends
 use Rattle.feed_core.specs.FeedBytes.{Tail, feed_of}
 use Rattle.feed_core.specs.FeedBytes as feeds
-use Rattle.feed_core.specs.FeedEnds.{end_from, end_of}
+use Rattle.feed_core.specs.FeedEnds.{end_from, feed_end}
 use Rattle.ccp_run.specs.declared.refusal.Limit.TheVariants.{Input, Audit}
 use Rattle.ccp_run.specs.declared.refusal.Refusal.{Refusal}
 use Rattle.ccp_run.specs.declared.refusal.Refusal.TheVariants.{TooLong, NoSeparator, Program, Line, TooManyAcks, Scene as SceneRefused, Frame, FrameCut}
@@ -86,7 +86,7 @@ of_lines : (number : ℕ) (so_far : Result (List Ack) LineFault) (texts : List (
 of_lines number (Err fault) texts not = not
 of_lines number (Ok acks) [] not = not
 of_lines number (Ok acks) (text ∷ rest) not =
-    of_lines (number + 1) (with_line number acks (line_of (without_last 13 text))) rest (of_line number acks (line_of (without_last 13 text)))
+    of_lines (number + 1) (with_line number acks (read_ack_line (without_last 13 text))) rest (of_line number acks (read_ack_line (without_last 13 text)))
 
 -- ---- fold
 
@@ -189,7 +189,7 @@ refusal_of (ends.Cut place) = Some (FrameCut place)
 refusal_of ends.TooLong = Some (TooLong Input)
 refusal_of _ = None
 
-no_feed : (bytes : List ℕ) (refusal : Refusal) → IsNoFeed bytes refusal → refusal_of (end_of bytes) ≡ Some refusal
+no_feed : (bytes : List ℕ) (refusal : Refusal) → IsNoFeed bytes refusal → refusal_of (feed_end bytes) ≡ Some refusal
 no_feed bytes (TooLong Input) is = ap refusal_of is
 no_feed bytes (TooLong Audit) is = absurd is
 no_feed bytes NoSeparator is = absurd is
@@ -200,7 +200,7 @@ no_feed bytes (SceneRefused fault) is = absurd is
 no_feed bytes (Frame field place) is = ap refusal_of is
 no_feed bytes (FrameCut place) is = ap refusal_of is
 
-feed_some : (bytes : List ℕ) (tail : Tail) (longer : Bool) → end_of bytes ≡ end_from tail longer → IsInput (Alone mode.Feed) bytes ⊎ ((refusal : Refusal) × IsNoFeed bytes refusal)
+feed_some : (bytes : List ℕ) (tail : Tail) (longer : Bool) → feed_end bytes ≡ end_from tail longer → IsInput (Alone mode.Feed) bytes ⊎ ((refusal : Refusal) × IsNoFeed bytes refusal)
 feed_some bytes (feeds.bad field place) longer is = inr (Frame field place, is)
 feed_some bytes (feeds.left place rest) true is = inr (TooLong Input, is)
 feed_some bytes (feeds.left place []) false is = inl is

@@ -5,14 +5,14 @@ use Rattle.reg_compiler.specs.declared.built.Built.{Built}
 use Rattle.flow_core.specs.declared.case.Case.{Case}
 use Rattle.flow_core.specs.LiveText.{source_at}
 use Rattle.campaign_gate.specs.CampaignRow.{row_of}
-use Rattle.campaign_gate.specs.LiftedRow.{IsLifted}
+use Rattle.campaign_gate.specs.LiftedRow.{RowHoldsForSources}
 use Rattle.campaign_report.specs.BookText.{places_of}
 use Rattle.scenario_json.specs.Cases.{IsCoded, AreNumberedFrom}
 use Rattle.scenario_json.specs.ScenePrograms.{forms_of}
 use Rattle.ccp_run.specs.Campaign.{source_row, source_rows}
 use Rattle.ccp_run.proofs.CodedLemmas.{simulated}
 
-module _ (programs : List (ℕ × Built)) (numbered : AreNumberedFrom 0 programs) (lifted : (case : Case) → IsLifted case) where
+module _ (programs : List (ℕ × Built)) (numbered : AreNumberedFrom 0 programs) (lifted : (case : Case) → RowHoldsForSources case) where
   -- a coded case's row is that of its sources
   row_over : (case : Case) → IsCoded programs case → row_of case ≡ source_row (forms_of programs) case
   row_over case coded =

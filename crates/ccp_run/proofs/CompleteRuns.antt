@@ -7,10 +7,10 @@ use Rattle.ccp_run.specs.declared.refusal.Refusal.{Refusal}
 use Rattle.ccp_run.specs.declared.status.Status.{Status}
 use Rattle.ccp_run.specs.declared.status.Status.TheVariants as status
 use Rattle.ccp_run.specs.Attempts.{MakesOutput, RefusesBytes, RefusesAny}
-use Rattle.ccp_run.specs.Complete.{EndsAs, IsNoInput, IsComplete}
-use Rattle.ccp_run.specs.Modes.{Task, limit_of, is_read, is_stream, IsInput, IsMade, IsRefused}
+use Rattle.ccp_run.specs.Complete.{EndsAs, IsNoInput, AnswersOrRefuses}
+use Rattle.ccp_run.specs.Modes.{Task, limit_of, is_read, is_stream, IsInput, IsMade, IsInputRefusal}
 use Rattle.ccp_run.specs.Run.{EndsWith, IsRun, WritesAnyFront}
-use Rattle.ccp_run.specs.Statuses.{number_of}
+use Rattle.ccp_run.specs.Statuses.{status_number}
 use Rattle.ccp_run.specs.Streams.{Stream, HasInput}
 use Rattle.ccp_run.proofs.WorkerModes.{is_mode}
 
@@ -43,14 +43,14 @@ module _ (task : Task) (source : Stream) (bytes : List ℕ) (is : source.old ≡
   not_refused_bytes : (refusal : Refusal) → IsInput task bytes → (r : RefusesBytes task source refusal) → (reads : Bool) → is_read task ≡ reads → HasInput reads source r.bytes → ⊥
   not_refused_bytes refusal input r true reads has =
       ((is_mode task).settled bytes).apart refusal input
-      (subst (λ (b : List ℕ). IsRefused task b refusal) (sym (same_bytes r.bytes has)) r.cause)
+      (subst (λ (b : List ℕ). IsInputRefusal task b refusal) (sym (same_bytes r.bytes has)) r.cause)
   not_refused_bytes refusal input r false reads has = (is_mode task).unread reads r.bytes refusal r.cause
 
   not_refused : (refusal : Refusal) → length bytes ≤ limit_of task → IsInput task bytes → (answers_early : Bool) → RefusesAny answers_early task source refusal → ⊥
   not_refused refusal short input true (inl early) =
       let parts = split bytes early.bytes source.old source.new is early.taken in
       ((is_mode task).settled bytes).apart refusal input
-      (subst (λ (b : List ℕ). IsRefused task b refusal) (sym parts.1) (early.cause parts.0))
+      (subst (λ (b : List ℕ). IsInputRefusal task b refusal) (sym parts.1) (early.cause parts.0))
   not_refused refusal short input true (inr r) = not_refused_bytes refusal input r (is_read task) refl r.read
   not_refused refusal short input false (inl long) = not_over (limit_of task) bytes source.old source.new is short long.over
   not_refused refusal short input false (inr r) = not_refused_bytes refusal input r (is_read task) refl r.read
@@ -73,7 +73,7 @@ module _ (task : Task) (source : Stream) (bytes : List ℕ) (is : source.old ≡
 module _ (task : Task) (source sink errors : Stream) (is_finished : Type 0) (outcome : Outcome) where
   answered : (bytes : List ℕ) → source.old ≡ Some bytes → length bytes ≤ limit_of task → IsInput task bytes
       → (Rose source.before source.now → ⊥) → (Rose sink.before sink.now → ⊥)
-      → (end : Status) → outcome.status ≡ number_of end → EndsWith end task source sink errors is_finished outcome → EndsAs status.Done outcome
+      → (end : Status) → outcome.status ≡ status_number end → EndsWith end task source sink errors is_finished outcome → EndsAs status.Done outcome
   answered bytes is short input no_read no_write status.Done e ended = inl e
   answered bytes is short input no_read no_write status.WordsRefused e ended = absurd ended
   answered bytes is short input no_read no_write status.InputRefused e ended =
@@ -89,7 +89,7 @@ module _ (task : Task) (source sink errors : Stream) (is_finished : Type 0) (out
 
   refuses : (bytes : List ℕ) → source.old ≡ Some bytes → IsNoInput task bytes → (Rose source.before source.now → ⊥)
       → (is_stream task ≡ true → Rose sink.before sink.now → ⊥)
-      → (end : Status) → outcome.status ≡ number_of end → EndsWith end task source sink errors is_finished outcome → EndsAs status.InputRefused outcome
+      → (end : Status) → outcome.status ≡ status_number end → EndsWith end task source sink errors is_finished outcome → EndsAs status.InputRefused outcome
   refuses bytes is other no_read no_write status.Done e ended = absurd (not_made task source bytes is ended.output other ended.made)
   refuses bytes is other no_read no_write status.WordsRefused e ended = absurd ended
   refuses bytes is other no_read no_write status.InputRefused e ended = inl e
@@ -99,7 +99,7 @@ module _ (task : Task) (source sink errors : Stream) (is_finished : Type 0) (out
   refuses bytes is other no_read no_write status.NoMemory e ended = inr e
 
   -- a run is complete
-  pub complete : IsRun task source sink errors is_finished outcome → IsComplete task source sink outcome
+  pub complete : IsRun task source sink errors is_finished outcome → AnswersOrRefuses task source sink outcome
   complete run = record {
     answered = λ bytes is short input no_read no_write. answered bytes is short input no_read no_write run.end run.numbered run.ended;
     refused = λ bytes is other no_read no_write. refuses bytes is other no_read no_write run.end run.numbered run.ended;

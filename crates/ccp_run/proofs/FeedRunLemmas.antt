@@ -4,7 +4,7 @@ use Rattle.ccp_base.specs.Limits.{most_input_bytes}
 use Rattle.ccp_base.specs.Outside.{Takes, TakesWithin}
 use Rattle.feed_core.specs.declared.ending.FeedEnd.{FeedEnd}
 use Rattle.feed_core.specs.declared.ending.FeedEnd.TheVariants as ends
-use Rattle.feed_core.specs.FeedEnds.{answers_of, IsFed, Answers}
+use Rattle.feed_core.specs.FeedEnds.{answers_written, IsFed, AnswersInput}
 use Rattle.feed_core.specs.FeedEnds.{Stream as Frames, stream as frames}
 use Rattle.ccp_words.specs.declared.mode.Alone.TheVariants.{Feed}
 use Rattle.ccp_run.specs.Modes.{Alone}
@@ -27,7 +27,7 @@ module _ (source sink errors : Stream) (is_finished : Type 0) (outcome : Outcome
   abbrev sink_of : Frames
   sink_of = frames sink.old sink.new sink.before sink.now
 
-  answers : (bytes : List ℕ) → Answers source_of sink_of bytes → WritesAnswers (Alone Feed) source sink
+  answers : (bytes : List ℕ) → AnswersInput source_of sink_of bytes → WritesAnswers (Alone Feed) source sink
   answers bytes all = record { taken = bytes; takes = all.taken; answers = all.written }
 
   no_rest : WritesAnswers (Alone Feed) source sink → WritesSomeAnswers (Alone Feed) source sink
@@ -37,7 +37,7 @@ module _ (source sink errors : Stream) (is_finished : Type 0) (outcome : Outcome
     later = [];
     takes = subst (Takes source.old source.new) (sym (append-nil all.taken)) all.takes;
     answers = all.answers;
-    begins = ap answers_of (append-nil all.taken) ∙ sym (append-nil (answers_of all.taken));
+    begins = ap answers_written (append-nil all.taken) ∙ sym (append-nil (answers_written all.taken));
     kept = omega arith;
   }
 
@@ -51,7 +51,7 @@ module _ (source sink errors : Stream) (is_finished : Type 0) (outcome : Outcome
 
   pub run_of_feed : (end : FeedEnd) → IsFed source_of sink_of is_finished end → EndsFeed errors outcome end → IsRun (Alone Feed) source sink errors is_finished outcome
   run_of_feed ends.Whole fed e =
-      let output : ModeOutput = record { text = answers_of fed.0.bytes; books = []; programs = []; ran = 0 } in
+      let output : ModeOutput = record { text = answers_written fed.0.bytes; books = []; programs = []; ran = 0 } in
       ends_done (Alone Feed) source sink errors is_finished outcome output
       (record {
         bytes = fed.0.bytes;

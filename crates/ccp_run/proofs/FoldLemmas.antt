@@ -10,7 +10,7 @@ use Rattle.ccp_base.specs.declared.place.Place.{Place}
 use Rattle.portus_core.specs.declared.env.Env.{Env}
 use Rattle.portus_core.specs.declared.env.Mean.{Mean}
 use Rattle.portus_core.specs.declared.env.Mean.TheVariants as mean
-use Rattle.portus_core.specs.Blocks.{begun, blocks_of}
+use Rattle.portus_core.specs.Blocks.{before_blocks, blocks_of}
 use Rattle.portus_core.specs.Command.{Going}
 use Rattle.portus_core.proofs.EnvShapes.{IsEnvOf-blocks, IsEnvOf-declared_env, IsEnvOf-one_of}
 use Rattle.portus_core.specs.Epoch.{by_source, outcome_of, Track, after_event, after, heard}
@@ -41,7 +41,7 @@ module _ (form : Form) where
   shows_settled env room (Err cause) kept = tt
 
   shows_one : (env : Env) (ack : Ack) → IsEnvOf form env → Shows (one_of form env ack true).0
-  shows_one env ack shape = shows_settled env true (blocks_of form.blocks ack (begun env)) (IsEnvOf-blocks form form.blocks ack (begun env) shape)
+  shows_one env ack shape = shows_settled env true (blocks_of form.blocks ack (before_blocks env)) (IsEnvOf-blocks form form.blocks ack (before_blocks env) shape)
 
   shown_outcome : (track : Track) (ack : Ack) (meant : Mean) (env : Env) → Shows meant → All (ShowsAll form.fields) (reports_met fold_epoch track ack (outcome_of meant) env)
   shown_outcome track ack mean.Quiet env shows = All-nil (ShowsAll form.fields)

@@ -3,7 +3,7 @@ use Rattle.std.proofs.Common.{◌≡◌, ℕ, Bool, true, false, Result, Ok, Err
 use Rattle.ccp_run.specs.declared.outcome.ModeOutput.{ModeOutput}
 use Rattle.ccp_run.specs.declared.stop.Stop.{Stop}
 use Rattle.ccp_run.specs.declared.stop.Stop.TheVariants as stop
-use Rattle.ccp_run.specs.Attempts.{IsAnswer, IsAttempt, IsRead}
+use Rattle.ccp_run.specs.Attempts.{IsOutputOrRefusal, IsAttempt, IsRead}
 use Rattle.ccp_run.specs.Modes.{Task, limit_in, is_read}
 use Rattle.ccp_run.specs.Streams.{Stream, ReadsToEnd, HasInput}
 use Rattle.ccp_run.proofs.RunLemmas.{is_left}
@@ -20,7 +20,7 @@ not_read task source stop.NoMemory reads r = record { left = is_left (is_read ta
 
 -- the source was read to its end
 pub answered : (task : Task) (source : Stream) (bytes : List ℕ) (made : Result ModeOutput Stop) → is_read task ≡ true
-    → IsRead (limit_in task) source (Ok bytes) → IsAnswer task bytes made → IsAttempt task source made
+    → IsRead (limit_in task) source (Ok bytes) → IsOutputOrRefusal task bytes made → IsAttempt task source made
 answered task source bytes (Ok output) reads r made = record { bytes = bytes; read = has_input (is_read task) source bytes reads r.0; short = r.1; made = made }
 answered task source bytes (Err (stop.Refused refusal)) reads r made =
     inr (record { bytes = bytes; read = has_input (is_read task) source bytes reads r.0; short = r.1; cause = made })

@@ -8,12 +8,12 @@ use Rattle.ccp_run.specs.declared.status.Status.{Status}
 use Rattle.ccp_run.specs.declared.status.Status.TheVariants as status
 use Rattle.ccp_run.specs.declared.stop.Stop.{Stop}
 use Rattle.ccp_run.specs.declared.stop.Stop.TheVariants as stop
-use Rattle.ccp_run.specs.Attempts.{IsAttempt, MakesOutput, RefusesInput, RefusesAny, FailsToRead, WantsMemory}
+use Rattle.ccp_run.specs.Attempts.{IsAttempt, MakesOutput, RefusesInput, RefusesAny, FailsToRead, LacksMemory}
 use Rattle.ccp_run.specs.Endings.{Ends, IsEnding, Writes, WritesAll, Refuses}
 use Rattle.ccp_run.specs.ErrorLine.{refusal_line}
 use Rattle.ccp_run.specs.Modes.{Task, limit_in, limit_of, is_read, is_stream, answers_before}
 use Rattle.ccp_run.specs.Run.{EndsWith, IsReadFailed, IsRun, WritesFront, WritesAnyFront, WritesAnswers, WritesSomeAnswers}
-use Rattle.ccp_run.specs.Statuses.{number_of, read_line, write_line, memory_line}
+use Rattle.ccp_run.specs.Statuses.{status_number, read_line, write_line, memory_line}
 use Rattle.ccp_run.specs.Streams.{Stream, HasInput, IsLeft, IsUntouched}
 use Rattle.ccp_run.proofs.WorkerModes.{is_mode}
 
@@ -115,7 +115,7 @@ module _ (task : Task) (source sink errors : Stream) (is_finished : Type 0) (out
     ended = record { output = output; made = made; written = written };
   }
 
-  not_words_refused : (end : Status) → outcome.status ≡ number_of end → EndsWith end task source sink errors is_finished outcome → outcome.status ≡ number_of status.WordsRefused → ⊥
+  not_words_refused : (end : Status) → outcome.status ≡ status_number end → EndsWith end task source sink errors is_finished outcome → outcome.status ≡ status_number status.WordsRefused → ⊥
   not_words_refused status.Done is ended at = omega (arith, is, at)
   not_words_refused status.WordsRefused is ended at = ended
   not_words_refused status.InputRefused is ended at = omega (arith, is, at)
@@ -124,7 +124,7 @@ module _ (task : Task) (source sink errors : Stream) (is_finished : Type 0) (out
   not_words_refused status.NoMemory is ended at = omega (arith, is, at)
 
   -- a run of a task never ends as one whose words are refused
-  pub never_words_refused : IsRun task source sink errors is_finished outcome → outcome.status ≡ number_of status.WordsRefused → ⊥
+  pub never_words_refused : IsRun task source sink errors is_finished outcome → outcome.status ≡ status_number status.WordsRefused → ⊥
   never_words_refused run at = not_words_refused run.end run.numbered run.ended at
 
   -- memory was wanted before anything was read
@@ -177,7 +177,7 @@ module _ (task : Task) (plain : is_stream task ≡ false) (source sink errors : 
       (plain_front (record { output = output; made = made; front = failed.front }))
       (within_of task source made.bytes (is_read task) made.read made.short) (left_of source made.bytes (is_read task) made.read) failed.ends
 
-  wants_memory : WantsMemory task source → sink.new ≡ sink.old → Ends errors outcome status.NoMemory memory_line → IsRun task source sink errors is_finished outcome
+  wants_memory : LacksMemory task source → sink.new ≡ sink.old → Ends errors outcome status.NoMemory memory_line → IsRun task source sink errors is_finished outcome
   wants_memory wants same e = ends_wanting task source sink errors is_finished outcome wants.within wants.left (some_answers wants.within same) e
 
   read_failed : FailsToRead task source → sink.new ≡ sink.old → Ends errors outcome status.ReadFailed read_line → IsRun task source sink errors is_finished outcome

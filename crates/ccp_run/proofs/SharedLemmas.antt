@@ -16,10 +16,10 @@ use Rattle.scenario_json.specs.SharedScenes.{flow_link_of}
 use Rattle.shared_link.specs.declared.shared_case.SharedCase.{SharedCase}
 use Rattle.shared_link.specs.SharedLimits.{IsFlowWithin, IsWithin}
 use Rattle.shared_link.specs.SharedRounds.{acks_after}
-use Rattle.shared_run.specs.RoundLetters.{Read, opened, closed}
+use Rattle.shared_run.specs.RoundLetters.{CaseReading, opened, closed_flow}
 use Rattle.shared_run.specs.FlowRow.{flow_row}
 use Rattle.shared_run.specs.LiftedRun.{AreSimulated}
-use Rattle.shared_run.specs.SharedHistory.{Progress, progress, asks_of, parts, after_round, have_all, rounds_from, most_of, run_of, flows_of, shared_rows}
+use Rattle.shared_run.specs.SharedHistory.{Progress, progress, asks_of, parts, after_round, have_all, rounds_from, round_limit, whole_run, flows_at_end, shared_rows}
 use Rattle.ccp_run.proofs.CodedLemmas.{simulated}
 
 one_some : {A : Type 0} (left right : A) → Some left ≡ Some right → left ≡ right
@@ -68,7 +68,7 @@ flows_within (case ∷ rest) (suc k) d less = flows_within rest k d (omega (arit
 
 -- ---- how many rows
 
-parts-count : {X : Type 0} (read : Read X) (lists : List (List Ack)) (flows : List CoreState) → length (parts read lists flows) ≡ length flows
+parts-count : {X : Type 0} (read : CaseReading X) (lists : List (List Ack)) (flows : List CoreState) → length (parts read lists flows) ≡ length flows
 parts-count read [] flows = refl
 parts-count read (acks ∷ others) [] = refl
 parts-count read (acks ∷ others) (core ∷ rest) = ap suc (parts-count read others rest)
@@ -77,7 +77,7 @@ either-count : (ends : Bool) (now later : Progress) (n : ℕ) → length now.flo
 either-count true now later n here there = here
 either-count false now later n here there = there
 
-module _ {X : Type 0} (link : SharedCase) (read : Read X) where
+module _ {X : Type 0} (link : SharedCase) (read : CaseReading X) where
   rounds-count : (n : ℕ) (run : Progress) → length (rounds_from link read n run).flows ≡ length run.flows
   rounds-count zero run = refl
   rounds-count (suc more) run =
@@ -88,9 +88,9 @@ module _ {X : Type 0} (link : SharedCase) (read : Read X) where
 -- one row a case
 pub rows-count : (link : SharedCase) (cases : List Case) (rounds : ℕ) → length (shared_rows link over_codes cases rounds) ≡ length cases
 rows-count link cases rounds =
-    length-map (flows_of link over_codes cases rounds) (flow_row over_codes)
-    ∙ length-map (run_of link over_codes cases rounds).flows (closed over_codes)
-    ∙ rounds-count link over_codes (most_of cases rounds) (progress [] (map opened cases))
+    length-map (flows_at_end link over_codes cases rounds) (flow_row over_codes)
+    ∙ length-map (whole_run link over_codes cases rounds).flows (closed_flow over_codes)
+    ∙ rounds-count link over_codes (round_limit cases rounds) (progress [] (map opened cases))
     ∙ length-map cases opened
 
 -- ---- the link

@@ -7,7 +7,7 @@ use Rattle.flow_core.specs.declared.book.Book.{Book}
 use Rattle.flow_core.specs.declared.case.Case.{Case}
 use Rattle.flow_core.specs.declared.letter.Letter.{Letter}
 use Rattle.flow_core.specs.Books.{IsBookOf}
-use Rattle.flow_core.specs.Cells.{CellState, flow_at, world_at, IsComplete, IsLifted}
+use Rattle.flow_core.specs.Cells.{CellState, flow_at, world_at, IsComplete, StateHoldsForSources}
 use Rattle.flow_core.specs.LiveText.{source_at}
 use Rattle.flow_table.specs.WholeBooks.{IsWhole}
 use Rattle.campaign_gate.specs.CampaignBooks.{IsCampaignBook, AreCampaignBooks, HasSourcePlan, acks_of_case}
@@ -33,7 +33,7 @@ whole_book book is = record {
   legal = is.legal;
   complete = subst (λ (word : List Letter). IsComplete (with_word book word)) (sym is.word) is.complete;
   told = subst (λ (word : List Letter). IsBookOf (flow_at (with_word book word)) (world_at (with_word book word)) book) (sym is.word) is.told;
-  lifted = subst (λ (word : List Letter). IsLifted (with_word book word)) (sym is.word) is.lifted;
+  lifted = subst (λ (word : List Letter). StateHoldsForSources (with_word book word)) (sym is.word) is.lifted;
 }
 
 module _ (programs : List (ℕ × Built)) (numbered : AreNumberedFrom 0 programs) (planned : (case : Case) → HasSourcePlan case) where

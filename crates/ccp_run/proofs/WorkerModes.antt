@@ -8,7 +8,7 @@ use Rattle.scenario_json.specs.Scene.{scene_of}
 use Rattle.scenario_json.specs.SharedScenes.{shared_scene_of}
 use Rattle.ccp_run.specs.declared.outcome.ModeOutput.{ModeOutput}
 use Rattle.ccp_run.specs.declared.refusal.Refusal.{Refusal}
-use Rattle.ccp_run.specs.Modes.{Task, Alone, Live, Campaign, Soak, Rollout, Shared, Timeline, Acks, IsInput, IsMade, IsRefused}
+use Rattle.ccp_run.specs.Modes.{Task, Alone, Live, Campaign, Soak, Rollout, Shared, Timeline, Acks, IsInput, IsMade, IsInputRefusal}
 use Rattle.ccp_run.specs.Rollout.{SaysRollout, HasRolloutFault}
 use Rattle.ccp_run.specs.Scenes.{Says, HasFault, IsOfScene, SaysSomething}
 use Rattle.ccp_run.specs.Settled.{IsSettled}
@@ -23,8 +23,8 @@ scenes_apart mode bytes = by_function (scene_of mode bytes)
 -- a mode whose inputs say something, or have a first fault
 settled_by : (task : Task) (bytes : List ℕ) {Said : Type 0} (says : Said → Type 0) (has : SceneFault → Type 0) → AreApart says has
     → (SaysSomething says → IsInput task bytes) → (IsInput task bytes → SaysSomething says)
-    → ((refusal : Refusal) → IsOfScene has refusal → IsRefused task bytes refusal)
-    → ((refusal : Refusal) → IsRefused task bytes refusal → IsOfScene has refusal)
+    → ((refusal : Refusal) → IsOfScene has refusal → IsInputRefusal task bytes refusal)
+    → ((refusal : Refusal) → IsInputRefusal task bytes refusal → IsOfScene has refusal)
     → ((output : ModeOutput) → IsMade task bytes output → IsInput task bytes)
     → IsSettled task bytes
 settled_by task bytes says has parted input said refused of made = record {
@@ -34,7 +34,7 @@ settled_by task bytes says has parted input said refused of made = record {
   made = made;
 }
   where
-    either : SaysSomething says ⊎ ((refusal : Refusal) × IsOfScene has refusal) → IsInput task bytes ⊎ ((refusal : Refusal) × IsRefused task bytes refusal)
+    either : SaysSomething says ⊎ ((refusal : Refusal) × IsOfScene has refusal) → IsInput task bytes ⊎ ((refusal : Refusal) × IsInputRefusal task bytes refusal)
     either (inl some) = inl (input some)
     either (inr bad) = inr (bad.0, refused bad.0 bad.1)
 

@@ -8,15 +8,15 @@ use Rattle.ccp_run.specs.declared.refusal.Refusal.TheVariants.{TooLong}
 use Rattle.ccp_run.specs.declared.stop.Stop.{Stop}
 use Rattle.ccp_run.specs.declared.stop.Stop.TheVariants as stop
 use Rattle.ccp_run.specs.ErrorLine.{most_bytes}
-use Rattle.ccp_run.specs.Modes.{Task, limit_in, limit_of, is_read, IsMade, IsRefused}
+use Rattle.ccp_run.specs.Modes.{Task, limit_in, limit_of, is_read, IsMade, IsInputRefusal}
 use Rattle.ccp_run.specs.Streams.{Stream, ReadsToEnd, HasInput, IsLeft}
 
 -- the mode's output for bytes, or the first refusal of these
-abbrev pub IsAnswer : Task → List ℕ → Result ModeOutput Stop → Type 0
-IsAnswer task bytes (Ok output) = IsMade task bytes output
-IsAnswer task bytes (Err (stop.Refused refusal)) = IsRefused task bytes refusal
-IsAnswer task bytes (Err stop.ReadFailed) = ⊥
-IsAnswer task bytes (Err stop.NoMemory) = Unit {0}
+abbrev pub IsOutputOrRefusal : Task → List ℕ → Result ModeOutput Stop → Type 0
+IsOutputOrRefusal task bytes (Ok output) = IsMade task bytes output
+IsOutputOrRefusal task bytes (Err (stop.Refused refusal)) = IsInputRefusal task bytes refusal
+IsOutputOrRefusal task bytes (Err stop.ReadFailed) = ⊥
+IsOutputOrRefusal task bytes (Err stop.NoMemory) = Unit {0}
 
 -- the input was read to its end, is within the limit, and the mode makes this of it
 pub record MakesOutput (task : Task) (source : Stream) (output : ModeOutput) : Type 0 where
@@ -30,7 +30,7 @@ pub record RefusesBytes (task : Task) (source : Stream) (refusal : Refusal) : Ty
   pub bytes : List ℕ
   pub read : HasInput (is_read task) source bytes
   pub short : length bytes ≤ limit_of task
-  pub cause : IsRefused task bytes refusal
+  pub cause : IsInputRefusal task bytes refusal
 
 -- more bytes were taken than the limit, and that is the refusal
 pub record RefusesLength (task : Task) (source : Stream) (refusal : Refusal) : Type 0 where
@@ -47,7 +47,7 @@ RefusesInput task source refusal = RefusesLength task source refusal ⊎ Refuses
 pub record RefusesEarly (task : Task) (source : Stream) (refusal : Refusal) : Type 0 where
   pub bytes : List ℕ
   pub taken : Takes source.old source.new bytes
-  pub cause : (more : List ℕ) → IsRefused task (bytes ++ more) refusal
+  pub cause : (more : List ℕ) → IsInputRefusal task (bytes ++ more) refusal
 
 -- whether the input is a stream that is answered as it comes, and how it is refused then or else
 abbrev pub RefusesAny : Bool → Task → Stream → Refusal → Type 0
@@ -61,7 +61,7 @@ pub record FailsToRead (task : Task) (source : Stream) : Type 0 where
   pub within : TakesWithin (limit_of task) source.old source.new
 
 -- out of memory, before more bytes were taken than the limit
-pub record WantsMemory (task : Task) (source : Stream) : Type 0 where
+pub record LacksMemory (task : Task) (source : Stream) : Type 0 where
   pub left : IsLeft (is_read task) source
   pub within : TakesWithin (limit_of task) source.old source.new
 
@@ -79,4 +79,4 @@ abbrev pub IsAttempt : Task → Stream → Result ModeOutput Stop → Type 0
 IsAttempt task source (Ok output) = MakesOutput task source output
 IsAttempt task source (Err (stop.Refused refusal)) = RefusesInput task source refusal
 IsAttempt task source (Err stop.ReadFailed) = FailsToRead task source
-IsAttempt task source (Err stop.NoMemory) = WantsMemory task source
+IsAttempt task source (Err stop.NoMemory) = LacksMemory task source

@@ -31,11 +31,11 @@ IsNoCheck bytes (Program fault) = IsNoProgram bytes fault
 IsNoCheck bytes _ = ⊥
 
 -- bytes are the text of a program
-abbrev pub IsProgram : List ℕ → Type 0
-IsProgram bytes = (form : Form) × IsBuiltFrom bytes form
+abbrev pub IsProgramText : List ℕ → Type 0
+IsProgramText bytes = (form : Form) × IsBuiltFrom bytes form
 
 abbrev pub check_rules : Rules
-check_rules = reads_whole Input IsProgram IsCheckOutput IsNoCheck
+check_rules = reads_whole Input IsProgramText IsCheckOutput IsNoCheck
 
 -- why a text isn't built, but for want of memory
 abbrev pub StopsProgram : List ℕ → Stop → Type 0

@@ -11,12 +11,12 @@ use Rattle.ccp_run.specs.declared.status.Status.TheVariants as status
 use Rattle.ccp_run.specs.declared.stop.Stop.{Stop}
 use Rattle.ccp_run.specs.declared.stop.Stop.TheVariants as stop
 use Rattle.ccp_run.specs.ErrorLine.{refusal_line}
-use Rattle.ccp_run.specs.Statuses.{number_of, read_line, write_line, memory_line}
+use Rattle.ccp_run.specs.Statuses.{status_number, read_line, write_line, memory_line}
 use Rattle.ccp_run.specs.Streams.{Stream, Tells}
 
 -- the run ends with this status, reports this line, and keeps nothing
 pub record Ends (errors : Stream) (outcome : Outcome) (end : Status) (line : List ℕ) : Type 0 where
-  pub status : outcome.status ≡ number_of end
+  pub status : outcome.status ≡ status_number end
   pub books : outcome.books ≡ []
   pub programs : outcome.programs ≡ []
   pub ran : outcome.ran ≡ 0
@@ -39,14 +39,14 @@ pub record FailsToWrite (sink errors : Stream) (outcome : Outcome) (output : Mod
 
 -- the output is written, or a write fails
 pub record Writes (sink errors : Stream) (is_finished : Type 0) (outcome : Outcome) (output : ModeOutput) : Type 0 where
-  pub whole : outcome.status ≡ number_of status.Done → WritesAll sink errors is_finished outcome output
-  pub failed : outcome.status ≢ number_of status.Done → FailsToWrite sink errors outcome output
+  pub whole : outcome.status ≡ status_number status.Done → WritesAll sink errors is_finished outcome output
+  pub failed : outcome.status ≢ status_number status.Done → FailsToWrite sink errors outcome output
 
 -- the refusal is reported, or out of memory for its line; that the input is too long is always reported
 pub record Refuses (errors : Stream) (outcome : Outcome) (refusal : Refusal) : Type 0 where
-  pub told : outcome.status ≡ number_of status.InputRefused → Ends errors outcome status.InputRefused (refusal_line refusal)
-  pub failed : outcome.status ≢ number_of status.InputRefused → Ends errors outcome status.NoMemory memory_line
-  pub too_long : (limit : Limit) → refusal ≡ TooLong limit → outcome.status ≡ number_of status.InputRefused
+  pub told : outcome.status ≡ status_number status.InputRefused → Ends errors outcome status.InputRefused (refusal_line refusal)
+  pub failed : outcome.status ≢ status_number status.InputRefused → Ends errors outcome status.NoMemory memory_line
+  pub too_long : (limit : Limit) → refusal ≡ TooLong limit → outcome.status ≡ status_number status.InputRefused
 
 -- how a run ends that came to this; where there is no output the sink is as it was
 abbrev pub IsEnding : Stream → Stream → Type 0 → Outcome → Result ModeOutput Stop → Type 0

@@ -7,12 +7,12 @@ use Rattle.ccp_run.specs.declared.refusal.Limit.TheVariants.{Input}
 use Rattle.ccp_run.specs.declared.refusal.Refusal.TheVariants.{TooLong, Frame, FrameCut}
 use Rattle.ccp_run.specs.declared.status.Status.TheVariants as status
 use Rattle.ccp_run.specs.Endings.{Ends, Refuses}
-use Rattle.ccp_run.specs.Statuses.{number_of, read_line, write_line, memory_line}
+use Rattle.ccp_run.specs.Statuses.{status_number, read_line, write_line, memory_line}
 use Rattle.ccp_run.specs.Streams.{Stream}
 
 -- nothing was reported, and nothing is kept
 pub record EndsWhole (errors : Stream) (outcome : Outcome) : Type 0 where
-  pub status : outcome.status ≡ number_of status.Done
+  pub status : outcome.status ≡ status_number status.Done
   pub books : outcome.books ≡ []
   pub programs : outcome.programs ≡ []
   pub ran : outcome.ran ≡ 0

@@ -1,7 +1,7 @@
 -- What `feed` makes of its input, and the inputs that it refuses.
 use Rattle.std.specs.Prelude.{◌≡◌, ℕ, true, List, []}
 use Rattle.feed_core.specs.declared.ending.FeedEnd.TheVariants as ends
-use Rattle.feed_core.specs.FeedEnds.{IsOpen, answers_of, end_of}
+use Rattle.feed_core.specs.FeedEnds.{MayGoOn, answers_written, feed_end}
 use Rattle.ccp_run.specs.declared.outcome.ModeOutput.{ModeOutput}
 use Rattle.ccp_run.specs.declared.refusal.Limit.TheVariants.{Input}
 use Rattle.ccp_run.specs.declared.refusal.Refusal.{Refusal}
@@ -10,17 +10,17 @@ use Rattle.ccp_run.specs.Rules.{Rules}
 
 -- the frames of the input are whole up to its end, and the output is their answers
 pub record IsFeedOutput (bytes : List ℕ) (output : ModeOutput) : Type 0 where
-  pub whole : end_of bytes ≡ ends.Whole
-  pub written : output.text ≡ answers_of bytes
+  pub whole : feed_end bytes ≡ ends.Whole
+  pub written : output.text ≡ answers_written bytes
   pub kept : output.programs ≡ []
   pub no_books : output.books ≡ []
   pub idle : output.ran ≡ 0
 
 -- the input ends otherwise, and the refusal says how
 abbrev pub IsNoFeed : List ℕ → Refusal → Type 0
-IsNoFeed bytes (TooLong Input) = end_of bytes ≡ ends.TooLong
-IsNoFeed bytes (Frame field place) = end_of bytes ≡ ends.Bad field place
-IsNoFeed bytes (FrameCut place) = end_of bytes ≡ ends.Cut place
+IsNoFeed bytes (TooLong Input) = feed_end bytes ≡ ends.TooLong
+IsNoFeed bytes (Frame field place) = feed_end bytes ≡ ends.Bad field place
+IsNoFeed bytes (FrameCut place) = feed_end bytes ≡ ends.Cut place
 IsNoFeed bytes _ = ⊥
 
 -- it is the one mode that answers as its input comes
@@ -29,9 +29,9 @@ feed_rules = record {
   limit = Input;
   is_read = true;
   is_stream = true;
-  answers_before = answers_of;
-  GoesOn = λ bytes. IsOpen (end_of bytes);
-  IsInput = λ bytes. end_of bytes ≡ ends.Whole;
+  answers_before = answers_written;
+  GoesOn = λ bytes. MayGoOn (feed_end bytes);
+  IsInput = λ bytes. feed_end bytes ≡ ends.Whole;
   IsMade = IsFeedOutput;
   IsRefused = IsNoFeed;
 }

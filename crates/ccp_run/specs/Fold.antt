@@ -15,7 +15,7 @@ use Rattle.report_lines.specs.FaultLine.{fault_line}
 use Rattle.report_lines.specs.ReportLine.{report_lines}
 use Rattle.fold_run.specs.declared.acks.LineFault.{LineFault}
 use Rattle.fold_run.specs.declared.acks.LineFault.TheVariants as lines
-use Rattle.fold_run.specs.Acknowledgements.{acks_of}
+use Rattle.fold_run.specs.Acknowledgements.{acks_of_lines}
 use Rattle.fold_run.specs.Fold.{fold_reports, fold_fault, fold_end}
 use Rattle.fold_run.specs.Ran.{ran_of}
 use Rattle.fold_run.specs.Separated.{Cut, cut_of}
@@ -27,7 +27,7 @@ use Rattle.ccp_run.specs.Rules.{Rules, reads_whole}
 
 -- the acknowledgements of what stands below the separator, or the first fault among its lines
 abbrev pub acks_below : Cut → Result (List Ack) LineFault
-acks_below cut = acks_of cut.next (parts_of LineFeed cut.rest)
+acks_below cut = acks_of_lines cut.next (parts_of LineFeed cut.rest)
 
 -- bytes are an input of `fold`: a program and acknowledgements
 pub record IsFold (bytes : List ℕ) (form : Form) (acks : List Ack) : Type 0 where

@@ -106,5 +106,5 @@ abbrev pub IsMade : Task → List ℕ → ModeOutput → Type 0
 IsMade task bytes output = (rules_of task).IsMade bytes output
 
 -- bytes are no input of the mode, and this is their first refusal
-abbrev pub IsRefused : Task → List ℕ → Refusal → Type 0
-IsRefused task bytes refusal = (rules_of task).IsRefused bytes refusal
+abbrev pub IsInputRefusal : Task → List ℕ → Refusal → Type 0
+IsInputRefusal task bytes refusal = (rules_of task).IsRefused bytes refusal

@@ -11,7 +11,7 @@ use Rattle.ccp_run.specs.Attempts.{MakesOutput, RefusesAny}
 use Rattle.ccp_run.specs.Endings.{Ends, WritesAll}
 use Rattle.ccp_run.specs.ErrorLine.{refusal_line}
 use Rattle.ccp_run.specs.Modes.{Task, limit_of, is_read, is_stream, answers_before, GoesOn}
-use Rattle.ccp_run.specs.Statuses.{number_of, words_line, read_line, write_line, memory_line}
+use Rattle.ccp_run.specs.Statuses.{status_number, words_line, read_line, write_line, memory_line}
 use Rattle.ccp_run.specs.Streams.{Stream, IsLeft, IsUntouched}
 
 -- ---- what was written
@@ -109,12 +109,12 @@ pub record IsRun (task : Task) (source sink errors : Stream) (is_finished : Type
   pub left : IsLeft (is_read task) source
   -- how it ended: the outcome's number is that of this status, and what the status says holds
   pub end : Status
-  pub numbered : outcome.status ≡ number_of end
+  pub numbered : outcome.status ≡ status_number end
   pub ended : EndsWith end task source sink errors is_finished outcome
 
 -- the words aren't accepted: nothing is read or written, and that is reported, or out of memory
 pub record IsUnasked (source sink errors : Stream) (outcome : Outcome) : Type 0 where
   pub unread : IsUntouched source
   pub unwritten : IsUntouched sink
-  pub told : outcome.status ≢ number_of status.NoMemory → Ends errors outcome status.WordsRefused words_line
-  pub told_memory : outcome.status ≡ number_of status.NoMemory → Ends errors outcome status.NoMemory memory_line
+  pub told : outcome.status ≢ status_number status.NoMemory → Ends errors outcome status.WordsRefused words_line
+  pub told_memory : outcome.status ≡ status_number status.NoMemory → Ends errors outcome status.NoMemory memory_line

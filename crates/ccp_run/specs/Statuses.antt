@@ -3,13 +3,13 @@ use Rattle.std.specs.Prelude.{ℕ, List, codes}
 use Rattle.ccp_run.specs.declared.status.Status.{Status}
 use Rattle.ccp_run.specs.declared.status.Status.TheVariants as status
 
-abbrev pub number_of : Status → ℕ
-number_of status.Done = 0
-number_of status.WordsRefused = 2
-number_of status.InputRefused = 3
-number_of status.ReadFailed = 4
-number_of status.WriteFailed = 5
-number_of status.NoMemory = 6
+abbrev pub status_number : Status → ℕ
+status_number status.Done = 0
+status_number status.WordsRefused = 2
+status_number status.InputRefused = 3
+status_number status.ReadFailed = 4
+status_number status.WriteFailed = 5
+status_number status.NoMemory = 6
 
 abbrev pub words_line : List ℕ
 words_line = codes "ccp: words refused\n"

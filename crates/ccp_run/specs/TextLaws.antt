@@ -11,7 +11,7 @@ use Rattle.link_model.specs.declared.link_case.LinkCase.{LinkCase}
 use Rattle.flow_core.specs.LiveText.{Account, account_of, report_count}
 use Rattle.flow_core.specs.Readings.{Flow}
 use Rattle.flow_core.specs.Words.{world}
-use Rattle.fold_run.specs.Acknowledgements.{acks_of}
+use Rattle.fold_run.specs.Acknowledgements.{acks_of_lines}
 use Rattle.fold_run.specs.Separated.{Cut}
 use Rattle.campaign_gate.specs.declared.row.Row.{Row}
 use Rattle.campaign_gate.specs.CampaignRow.{row_read}
@@ -37,7 +37,7 @@ IsOf64Bits ack = All (λ (value : ℕ). value < 2 ^ 64) (primitives ack)
 abbrev pub ReadsAcksBack : Type 0
 ReadsAcksBack =
     (acks : List Ack) (next : ℕ) → length acks ≤ most_acks → All IsOf64Bits acks
-    → acks_of next (parts_of LineFeed (ack_lines acks)) ≡ Ok acks
+    → acks_of_lines next (parts_of LineFeed (ack_lines acks)) ≡ Ok acks
 
 -- a row of a campaign's table has the numbers that the lines of an account show: its tickets that tell reports, its
 -- faults, its epochs, and its last line

@@ -4,22 +4,22 @@ use Rattle.ccp_words.specs.declared.words.Asked.{Asked}
 use Rattle.ccp_words.specs.Words.{are_accepted, asked_in}
 use Rattle.ccp_run.specs.declared.outcome.Outcome.{Outcome}
 use Rattle.ccp_run.specs.declared.status.Status.TheVariants as status
-use Rattle.ccp_run.specs.Complete.{IsComplete}
+use Rattle.ccp_run.specs.Complete.{AnswersOrRefuses}
 use Rattle.ccp_run.specs.Modes.{task_of}
 use Rattle.ccp_run.specs.Run.{IsRun, IsUnasked}
-use Rattle.ccp_run.specs.Statuses.{number_of}
+use Rattle.ccp_run.specs.Statuses.{status_number}
 use Rattle.ccp_run.specs.Streams.{Stream}
 
 pub record DoesWords (given : List (List ℕ)) (source sink errors : Stream) (is_finished : Type 0) (outcome : Outcome) : Type 0 where
   -- status 2 comes exactly where the words aren't accepted; then nothing is read or written
-  pub words : outcome.status ≢ number_of status.NoMemory
-      → (outcome.status ≡ number_of status.WordsRefused) ↔ (are_accepted given ≡ false)
+  pub words : outcome.status ≢ status_number status.NoMemory
+      → (outcome.status ≡ status_number status.WordsRefused) ↔ (are_accepted given ≡ false)
   pub unasked : are_accepted given ≡ false → IsUnasked source sink errors outcome
   -- else it is a run of the mode that they ask for
-  pub asks : outcome.status ≢ number_of status.WordsRefused → outcome.status ≢ number_of status.NoMemory
+  pub asks : outcome.status ≢ status_number status.WordsRefused → outcome.status ≢ status_number status.NoMemory
       → IsSome (asked_in given)
   pub asked : (asked : Asked) → are_accepted given ≡ true → asked_in given ≡ Some asked
       → IsRun (task_of asked) source sink errors is_finished outcome
   -- an input of that mode is answered, and every other is refused
   pub complete : (asked : Asked) → are_accepted given ≡ true → asked_in given ≡ Some asked
-      → IsComplete (task_of asked) source sink outcome
+      → AnswersOrRefuses (task_of asked) source sink outcome

@@ -15,7 +15,7 @@ mod timeline;
 
 ghost use Rattle.std.specs.Prelude.{◌≡◌, false};
 ghost use Rattle.ccp_words.specs.Words.{HasWorkers};
-ghost use Rattle.ccp_run.specs.Attempts.{IsAnswer, IsAttempt};
+ghost use Rattle.ccp_run.specs.Attempts.{IsOutputOrRefusal, IsAttempt};
 ghost use Rattle.ccp_run.specs.Modes.{Task, is_alone, is_stream, limit_in, task_of};
 ghost use Rattle.ccp_run.specs.Run.{IsRun};
 ghost use Rattle.ccp_run.specs.Streams.{over};
@@ -78,7 +78,7 @@ fn limit(mode: Alone) -> Limit
 /// The output of a mode for an input that was read to its end. `feed` never comes here: it answers as its input comes.
 fn output(alloc: Global, mode: Alone, bytes: &[u8]) -> Result<ModeOutput, Stop>
     requires { is_stream (Task.Alone mode) ≡ false }
-    ensures { IsAnswer (Task.Alone mode) bytes.now result }
+    ensures { IsOutputOrRefusal (Task.Alone mode) bytes.now result }
 {
     match mode {
         Alone::Check => check_output(alloc, bytes),

@@ -1,6 +1,6 @@
 //! The statuses with which a run ends, and the lines that report them.
 ghost use Rattle.std.specs.Prelude.{◌≡◌};
-ghost use Rattle.ccp_run.specs.Statuses.{number_of, words_line, read_line, write_line, memory_line};
+ghost use Rattle.ccp_run.specs.Statuses.{status_number, words_line, read_line, write_line, memory_line};
 
 /// How a run ends.
 #[derive(Clone, Copy)]
@@ -33,7 +33,7 @@ pub const MEMORY_LINE: &[u8] = b"ccp: no memory\n";
 impl Status {
     /// The status of the process.
     pub fn number(self) -> u8
-        ensures { result ≡ number_of self }
+        ensures { result ≡ status_number self }
     {
         match self {
             Status::Done => 0,

@@ -8,7 +8,7 @@ use Rattle.clap.specs.Simple.{built, entered, matches_of}
 use Rattle.clap.specs.Walk.{Rule, Text, Walk, finished, nothing_held, walk}
 use Rattle.clap.specs.declared.builder.value_parser.ValueParser.TheVariants.{Names}
 use Rattle.clap.specs.declared.error.kind.ErrorKind.TheVariants.{InvalidValue}
-use Rattle.ccp_words.specs.Words.{HeldNames, command_of}
+use Rattle.ccp_words.specs.Words.{HeldNames, command_line}
 use Rattle.ccp_words.proofs.AlikeWalks.{Alike, AllAlike, finishes, walks}
 use Rattle.ccp_words.proofs.AlikeFaults.{level_same}
 
@@ -26,7 +26,7 @@ same_names m n e text =
 
 module _ (m n : HeldNames) (e : texts n ≡ texts m) where
   abbrev rules : HeldNames → List Rule
-  rules names = (built (command_of names)).top.rules
+  rules names = (built (command_line names)).top.rules
 
   same_rule : (r : Rule) → Alike r r
   same_rule r = record { rest = refl; kinds = λ text. refl; reading = refl }
@@ -34,14 +34,14 @@ module _ (m n : HeldNames) (e : texts n ≡ texts m) where
   alike : AllAlike (rules m) (rules n)
   alike = (record { rest = refl; kinds = same_names m n e; reading = refl }, (same_rule _, (same_rule _, (same_rule _, (same_rule _, (same_rule _, tt))))))
 
-  pub same_faults : (words : List Text) → fault_of (command_of n) words ≡ fault_of (command_of m) words
+  pub same_faults : (words : List Text) → fault_of (command_line n) words ≡ fault_of (command_line m) words
   same_faults words =
-      ap (λ (w : Walk). level_fault (built (command_of n)).top [] nothing_held (drop 1 words) (is_some (entered (built (command_of n)) w.stopped)) (entered_fault (built (command_of n)) w.stopped))
+      ap (λ (w : Walk). level_fault (built (command_line n)).top [] nothing_held (drop 1 words) (is_some (entered (built (command_line n)) w.stopped)) (entered_fault (built (command_line n)) w.stopped))
       (walks (rules m) (rules n) alike [] nothing_held (drop 1 words))
       ∙ (let stopped = (walk (rules m) [] nothing_held (drop 1 words)).stopped in
-      level_same (built (command_of m)).top (rules n) alike [] nothing_held (drop 1 words) (is_some (entered (built (command_of m)) stopped)) (entered_fault (built (command_of m)) stopped))
+      level_same (built (command_line m)).top (rules n) alike [] nothing_held (drop 1 words) (is_some (entered (built (command_line m)) stopped)) (entered_fault (built (command_line m)) stopped))
 
-  pub same_matches : (words : List Text) → matches_of (command_of n) words ≡ matches_of (command_of m) words
+  pub same_matches : (words : List Text) → matches_of (command_line n) words ≡ matches_of (command_line m) words
   same_matches words =
       ap (λ (w : Walk). finished (rules n) w.held) (walks (rules m) (rules n) alike [] nothing_held (drop 1 words))
       ∙ finishes (rules m) (rules n) alike (walk (rules m) [] nothing_held (drop 1 words)).held

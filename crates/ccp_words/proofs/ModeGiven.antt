@@ -14,7 +14,7 @@ use Rattle.clap.specs.declared.parser.matches.ArgMatches.{ArgMatches}
 use Rattle.clap.proofs.CallerReads.{required_reads}
 use Rattle.clap.proofs.FaultLemmas.{free_args}
 use Rattle.clap.proofs.SimpleLemmas.{ready_simple, simple_groups}
-use Rattle.ccp_words.specs.Words.{HeldNames, command_of, mode_argument}
+use Rattle.ccp_words.specs.Words.{HeldNames, command_line, mode_argument}
 
 -- the first of some arguments
 pub head : (xs : List Arg) (r : Rule) (rs : List Rule) → map rule_of xs ≡ r ∷ rs → Arg
@@ -45,8 +45,8 @@ alone (x ∷ xs) r rs id e none (suc j) d lt is =
     let rest : map rule_of xs ≡ rs = cc in
     absurd (unnamed xs id (ap (list_any (λ (s : Rule). bytes_eq s.id id)) rest ∙ none) j d (omega arith) is)
 
-module _ (command : Command) (names : HeldNames) (app : app_of command ≡ command_of names) where
-  pub shape : shape_of command ≡ (command_of names).top
+module _ (command : Command) (names : HeldNames) (app : app_of command ≡ command_line names) where
+  pub shape : shape_of command ≡ (command_line names).top
   shape = ap (λ a. a.top) app
 
   pub simple : IsSimple command
@@ -58,7 +58,7 @@ module _ (command : Command) (names : HeldNames) (app : app_of command ≡ comma
       let groups = simple_groups command (ap (λ s. list_all (λ (a : Rule). a.is_simple) s.rules) shape) in
       ((λ k d lt. let f = free k d lt in (f.exclusive, f.conflicts, f.overrides, groups k d lt)), simple.groups)
 
-  pub rules_are : map rule_of (args_of command) ≡ (command_of names).top.rules
+  pub rules_are : map rule_of (args_of command) ≡ (command_line names).top.rules
   rules_are = ap (λ s. s.rules) shape
 
   pub mode_given : (m : ArgMatches) → IsParsedFrom command m

@@ -13,7 +13,7 @@ use Rattle.clap.specs.declared.builder.arg.Arg.{Arg}
 use Rattle.clap.specs.declared.builder.command.Command.{Command}
 use Rattle.clap.specs.declared.builder.value_parser.ValueParser.TheVariants.{Unsigned}
 use Rattle.clap.specs.declared.parser.matches.ArgMatches.{ArgMatches}
-use Rattle.ccp_words.specs.Words.{HeldNames, command_of, mode_argument, number_option}
+use Rattle.ccp_words.specs.Words.{HeldNames, command_line, mode_argument, number_option}
 use Rattle.ccp_words.proofs.DefaultReads.{default_reads}
 use Rattle.ccp_words.proofs.ModeGiven.{head, plain, rules_are, simple}
 
@@ -27,25 +27,25 @@ as_many : {X Y : Type 0} (f : X → Y) (xs : List X) → length (map f xs) ≡ l
 as_many f [] = refl
 as_many f (x ∷ xs) = ap suc (as_many f xs)
 
-module _ (command : Command) (names : HeldNames) (app : app_of command ≡ command_of names) (m : ArgMatches) (parsed : IsParsedFrom command m) where
+module _ (command : Command) (names : HeldNames) (app : app_of command ≡ command_line names) (m : ArgMatches) (parsed : IsParsedFrom command m) where
   some : Arg
   some = head (args_of command) (mode_argument names) _ (rules_are command names app)
 
   six : length (args_of command) ≡ 6
   six = sym (as_many rule_of (args_of command)) ∙ ap length (rules_are command names app)
 
-  rule_is : (k : ℕ) (d : Arg) → k < 6 → rule_of (slice_index_or (args_of command) k d) ≡ slice_index_or (command_of names).top.rules k (rule_of d)
+  rule_is : (k : ℕ) (d : Arg) → k < 6 → rule_of (slice_index_or (args_of command) k d) ≡ slice_index_or (command_line names).top.rules k (rule_of d)
   rule_is k d lt =
       let within : k < length (args_of command) = omega (arith, six) in
       rule_at (args_of command) k d within ∙ ap (λ rules. slice_index_or rules k (rule_of d)) (rules_are command names app)
 
-  id_of : (j : ℕ) (d : Arg) → j < 6 → (slice_index_or (args_of command) j d).id.now ≡ (slice_index_or (command_of names).top.rules j (rule_of d)).id
+  id_of : (j : ℕ) (d : Arg) → j < 6 → (slice_index_or (args_of command) j d).id.now ≡ (slice_index_or (command_line names).top.rules j (rule_of d)).id
   id_of j d lt = ap (λ (r : Rule). r.id) (rule_is j d lt)
 
   -- the option at a place with this name and range has a value in the range, where no other argument has its name
   number_at : (k : ℕ) (name : Text) (least most : ℕ) → k < 6
-      → slice_index_or (command_of names).top.rules k (rule_of some) ≡ number_option name least most
-      → ((j : ℕ) (d : Rule) → j < 6 → bytes_eq (slice_index_or (command_of names).top.rules j d).id name ≡ true → j ≡ k)
+      → slice_index_or (command_line names).top.rules k (rule_of some) ≡ number_option name least most
+      → ((j : ℕ) (d : Rule) → j < 6 → bytes_eq (slice_index_or (command_line names).top.rules j d).id name ≡ true → j ≡ k)
       → bytes_eq name [] ≡ false → bytes_eq name (codes "help") ≡ false → bytes_eq name (codes "version") ≡ false
       → (text : Text) × (one_text (found_of m) name ≡ Some text) × IsUnsignedIn least most text
   number_at k name least most lt is only not_empty not_help not_version =
@@ -70,7 +70,7 @@ module _ (command : Command) (names : HeldNames) (app : app_of command ≡ comma
       (Unsigned least most) (ap (λ (r : Rule). r.parser) rule) in
       (read.0, ap (one_text (found_of m)) (sym id_is) ∙ read.1, subst (λ b. Accepts b (Unsigned least most) read.0) (ap (λ (r : Rule). r.ignore_case) rule) read.2)
 
-  at_datapaths : (j : ℕ) (d : Rule) → j < 6 → bytes_eq (slice_index_or (command_of names).top.rules j d).id (codes "datapaths") ≡ true → j ≡ 1
+  at_datapaths : (j : ℕ) (d : Rule) → j < 6 → bytes_eq (slice_index_or (command_line names).top.rules j d).id (codes "datapaths") ≡ true → j ≡ 1
   at_datapaths zero d lt is = cc
   at_datapaths (suc zero) d lt is = refl
   at_datapaths (suc (suc zero)) d lt is = cc
@@ -79,7 +79,7 @@ module _ (command : Command) (names : HeldNames) (app : app_of command ≡ comma
   at_datapaths (suc (suc (suc (suc (suc zero))))) d lt is = cc
   at_datapaths (suc (suc (suc (suc (suc (suc j)))))) d lt is = absurd (omega arith)
 
-  at_agents : (j : ℕ) (d : Rule) → j < 6 → bytes_eq (slice_index_or (command_of names).top.rules j d).id (codes "agents") ≡ true → j ≡ 2
+  at_agents : (j : ℕ) (d : Rule) → j < 6 → bytes_eq (slice_index_or (command_line names).top.rules j d).id (codes "agents") ≡ true → j ≡ 2
   at_agents zero d lt is = cc
   at_agents (suc zero) d lt is = cc
   at_agents (suc (suc zero)) d lt is = refl
@@ -88,7 +88,7 @@ module _ (command : Command) (names : HeldNames) (app : app_of command ≡ comma
   at_agents (suc (suc (suc (suc (suc zero))))) d lt is = cc
   at_agents (suc (suc (suc (suc (suc (suc j)))))) d lt is = absurd (omega arith)
 
-  at_workers : (j : ℕ) (d : Rule) → j < 6 → bytes_eq (slice_index_or (command_of names).top.rules j d).id (codes "workers") ≡ true → j ≡ 3
+  at_workers : (j : ℕ) (d : Rule) → j < 6 → bytes_eq (slice_index_or (command_line names).top.rules j d).id (codes "workers") ≡ true → j ≡ 3
   at_workers zero d lt is = cc
   at_workers (suc zero) d lt is = cc
   at_workers (suc (suc zero)) d lt is = cc
@@ -97,7 +97,7 @@ module _ (command : Command) (names : HeldNames) (app : app_of command ≡ comma
   at_workers (suc (suc (suc (suc (suc zero))))) d lt is = cc
   at_workers (suc (suc (suc (suc (suc (suc j)))))) d lt is = absurd (omega arith)
 
-  at_number : (j : ℕ) (d : Rule) → j < 6 → bytes_eq (slice_index_or (command_of names).top.rules j d).id (codes "number") ≡ true → j ≡ 4
+  at_number : (j : ℕ) (d : Rule) → j < 6 → bytes_eq (slice_index_or (command_line names).top.rules j d).id (codes "number") ≡ true → j ≡ 4
   at_number zero d lt is = cc
   at_number (suc zero) d lt is = cc
   at_number (suc (suc zero)) d lt is = cc

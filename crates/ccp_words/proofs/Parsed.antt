@@ -16,7 +16,7 @@ use Rattle.clap.specs.declared.parser.matches.ArgMatches.{ArgMatches}
 use Rattle.clap.proofs.WalkLemmas.{one_text-rows}
 use Rattle.ccp_words.specs.Modes.{modes, mode_named, mode_names}
 use Rattle.ccp_words.specs.Words.{HasWorkers, IsCommandLine, are_accepted, asked_in, ccp, unplaced, said}
-use Rattle.ccp_words.specs.Matches.{HasOptions, ReadsNumber, is_flag_text, number_of}
+use Rattle.ccp_words.specs.Matches.{HasOptions, ReadsNumber, is_flag_text, written_number}
 use Rattle.ccp_words.specs.declared.words.Asked.{Asked}
 use Rattle.ccp_words.proofs.OptionsGiven.{datapaths_given, agents_given, workers_given, number_given}
 use Rattle.clap.specs.Values.{IsUnsignedIn}
@@ -80,34 +80,34 @@ module _ (command : Command) (line : IsCommandLine command) (words : List Text) 
   number_is : (m : ArgMatches) → HasMatchesOf (app_of command) words m → (name : Text) (least most : ℕ) → most < 2 ^ 32
       → (text : Text) × (one_text (found_of m) name ≡ Some text) × IsUnsignedIn least most text
       → (number : ℕ) → ReadsNumber (one_text (found_of m) name) number
-      → (number ≡ number_of (said name words)) × (least ≤ number) × (number ≤ most)
+      → (number ≡ written_number (said name words)) × (least ≤ number) × (number ≤ most)
   number_is m has name least most fits given number read =
       let value = subst (λ o. ReadsNumber o number) given.1 read given.2.0 (omega arith) in
       let said_so : said name words ≡ Some given.0 = sym (said_is m has name) ∙ given.1 in
-      (value ∙ sym (ap number_of said_so), omega (arith, value, given.2.2), omega (arith, value, given.2.3))
+      (value ∙ sym (ap written_number said_so), omega (arith, value, given.2.2), omega (arith, value, given.2.3))
 
   -- options that are read of the matches, beside the mode that the words say, are what the words ask for
   all_asked : (asked : Asked) (text : Text) → said (codes "mode") words ≡ Some text → mode_named text ≡ Some asked.mode
-      → asked.datapaths ≡ number_of (said (codes "datapaths") words) → asked.agents ≡ number_of (said (codes "agents") words)
-      → asked.workers ≡ number_of (said (codes "workers") words) → asked.number ≡ number_of (said (codes "number") words)
+      → asked.datapaths ≡ written_number (said (codes "datapaths") words) → asked.agents ≡ written_number (said (codes "agents") words)
+      → asked.workers ≡ written_number (said (codes "workers") words) → asked.number ≡ written_number (said (codes "number") words)
       → asked.wire ≡ is_flag_text (said (codes "wire") words)
       → asked_in words ≡ Some asked
   unfolding asked_in
   all_asked asked text mode_said mode datapaths agents workers number wire =
       ap (λ (o : Option Text). option_map (λ mode. record {
         mode = mode;
-        datapaths = number_of (said (codes "datapaths") words);
-        agents = number_of (said (codes "agents") words);
-        workers = number_of (said (codes "workers") words);
-        number = number_of (said (codes "number") words);
+        datapaths = written_number (said (codes "datapaths") words);
+        agents = written_number (said (codes "agents") words);
+        workers = written_number (said (codes "workers") words);
+        number = written_number (said (codes "number") words);
         wire = is_flag_text (said (codes "wire") words);
       }) (option_and_then mode_named o)) mode_said
       ∙ (ap (option_map (λ (mode : ToolMode). record {
         mode = mode;
-        datapaths = number_of (said (codes "datapaths") words);
-        agents = number_of (said (codes "agents") words);
-        workers = number_of (said (codes "workers") words);
-        number = number_of (said (codes "number") words);
+        datapaths = written_number (said (codes "datapaths") words);
+        agents = written_number (said (codes "agents") words);
+        workers = written_number (said (codes "workers") words);
+        number = written_number (said (codes "number") words);
         wire = is_flag_text (said (codes "wire") words);
       })) mode
       ∙ (λ i. Some (record { mode = asked.mode; datapaths = sym datapaths i; agents = sym agents i; workers = sym workers i; number = sym number i; wire = sym wire i })))

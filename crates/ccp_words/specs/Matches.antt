@@ -9,9 +9,9 @@ use Rattle.ccp_words.specs.declared.words.Asked.{Asked}
 use Rattle.ccp_words.specs.Modes.{mode_named}
 
 -- the number that digits write, after a plus or none; 1 where nothing is said
-abbrev pub number_of : Option (List ℕ) → ℕ
-number_of None = 1
-number_of (Some text) = digits_value 10 (without_leading_plus text)
+abbrev pub written_number : Option (List ℕ) → ℕ
+written_number None = 1
+written_number (Some text) = digits_value 10 (without_leading_plus text)
 
 -- a flag that is given is said to be true
 abbrev pub is_flag_text : Option (List ℕ) → Bool

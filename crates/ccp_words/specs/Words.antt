@@ -8,7 +8,7 @@ use Rattle.clap.specs.declared.builder.action.ArgAction.TheVariants.{Set, SetTru
 use Rattle.clap.specs.declared.builder.command.Command.{Command}
 use Rattle.clap.specs.declared.builder.value_parser.ValueParser.TheVariants.{Names, Unsigned}
 use Rattle.ccp_words.specs.declared.words.Asked.{Asked}
-use Rattle.ccp_words.specs.Matches.{number_of, is_flag_text}
+use Rattle.ccp_words.specs.Matches.{written_number, is_flag_text}
 use Rattle.ccp_words.specs.Modes.{mode_named, mode_names}
 
 -- names as an argument holds them, each at some place in memory
@@ -36,8 +36,8 @@ abbrev pub wire_flag : Rule
 wire_flag = record (new_rule (codes "wire")) { long = Some (codes "wire"); action = Some SetTrue }
 
 -- the command line with modes of these names, and without flags for help and the version
-abbrev pub command_of : HeldNames → App
-command_of names = record {
+abbrev pub command_line : HeldNames → App
+command_line names = record {
   top = record (new_shape (codes "ccp")) {
     rules = mode_argument names ∷ number_option (codes "datapaths") 1 32 ∷ number_option (codes "agents") 1 32
         ∷ number_option (codes "workers") 1 32 ∷ number_option (codes "number") 0 4294967295 ∷ wire_flag ∷ [];
@@ -53,7 +53,7 @@ unplaced x = record { ref_ptr = (0, 0); now = x }
 
 -- the tool's command line
 abbrev pub ccp : App
-ccp = command_of (unplaced (map unplaced mode_names))
+ccp = command_line (unplaced (map unplaced mode_names))
 
 -- words are accepted where the command line names no fault in them; the first is the program's name
 unfoldable pub are_accepted : List Text → Bool
@@ -67,10 +67,10 @@ said name words = one_of name (matches_of ccp words)
 unfoldable pub asked_in : List Text → Option Asked
 asked_in words = option_map (λ mode. record {
   mode = mode;
-  datapaths = number_of (said (codes "datapaths") words);
-  agents = number_of (said (codes "agents") words);
-  workers = number_of (said (codes "workers") words);
-  number = number_of (said (codes "number") words);
+  datapaths = written_number (said (codes "datapaths") words);
+  agents = written_number (said (codes "agents") words);
+  workers = written_number (said (codes "workers") words);
+  number = written_number (said (codes "number") words);
   wire = is_flag_text (said (codes "wire") words);
 }) (option_and_then mode_named (said (codes "mode") words))
 
@@ -84,4 +84,4 @@ pub record HasWorkers (asked : Asked) : Type 0 where
 pub record IsCommandLine (command : Command) : Type 0 where
   pub names : HeldNames
   pub modes : map (λ name. name.now) names.now ≡ mode_names
-  pub app : app_of command ≡ command_of names
+  pub app : app_of command ≡ command_line names

@@ -1,6 +1,6 @@
 //! The rules of acceptance for an instruction at its place, and the first that it fails.
 ghost use Rattle.std.specs.Prelude.{◌≡◌, ◌&&◌, not, IsTrue, IfNone};
-ghost use Rattle.reg_code.specs.AcceptedCode.{rule_where, is_there, are_there, is_readable, unwritten, unwritten_target, is_bind, is_ewma, is_zero, is_weight, is_fixed, is_micros, is_flag, is_temp, is_in_condition, is_misplaced, rule_failed};
+ghost use Rattle.reg_code.specs.AcceptedCode.{rule_where, is_there, are_there, is_readable, unwritten, unwritten_target, is_bind, is_ewma, is_zero, is_weight, is_fixed, is_micros, is_flag_reg, is_temp, is_in_condition, is_misplaced, rule_failed};
 ghost use Rattle.code_verifier.specs.Marked.{marks_of};
 
 use crate::tables::{Tables, has_mark, writes};
@@ -150,7 +150,7 @@ fn is_micros(to: Reg) -> bool
 }
 
 fn is_flag(to: Reg) -> bool
-    ensures { result ≡ is_flag to }
+    ensures { result ≡ is_flag_reg to }
 {
     matches!(to, Reg::Implicit(Implicit::Flag))
 }

@@ -2,7 +2,7 @@
 ghost use Rattle.std.specs.Prelude.{◌≡◌, ◌+◌, ◌<◌, ◌≤◌, ◌^◌, ◌↔◌, Some, None, IsOk, IfOk, IfErr, IfNone, length, take, drop};
 ghost use Rattle.std.specs.Option.{option_or};
 ghost use Rattle.ccp_base.specs.Limits.{most_blocks, most_instrs};
-ghost use Rattle.reg_code.specs.CodeStep.{condition_of, body_of, rest_of};
+ghost use Rattle.reg_code.specs.CodeStep.{condition_of, event_body, instrs_after};
 ghost use Rattle.reg_code.specs.AcceptedCode.{IsAccepted, refusal_where, no_marks, marks_after, part_refusal, instrs_refusal, events_refusal, counts_refusal, sizes_of, rejected};
 ghost use Rattle.code_verifier.specs.PartRefusals.{parts_refusal};
 ghost use Rattle.code_verifier.specs.Marked.{marks_of};

@@ -25,7 +25,7 @@ use Rattle.std.specs.Prelude.{ℕ, ◌-◌, ◌/◌, ◌^◌, ◌≤◌, ◌==�
 use Rattle.ccp_base.specs.Limits.{most_segment_bytes}
 use Rattle.ccp_base.specs.Saturating.{◌+ˢ◌, ◌*ˢ◌, muldiv, clamped}
 use Rattle.ccp_base.specs.Measurement.{measurement_of}
-use Rattle.ccp_base.specs.Course.{epoch_of, first_course, role_of, course_after, change_to, initial_segments}
+use Rattle.ccp_base.specs.Course.{told_epoch, first_course, role_of, course_after, change_to, initial_segments}
 use Rattle.ccp_base.specs.declared.look.Role.{Role}
 use Rattle.ccp_base.specs.declared.measurement.Measurement.{Measurement}
 use Rattle.ccp_base.specs.declared.course.Course.{Course}
@@ -67,8 +67,8 @@ growth_of s =
     record { window = s.window; w_max = s.w_max; w_prior = s.w_prior; w_est = s.w_est; k = s.k; start = s.start }
 
 -- the state of these parts: the segment's size, the course, the growth, the threshold and until when it is calm
-abbrev pub state_of : ℕ → Course → Growth → ℕ → ℕ → CubicState
-state_of mss course growth ssthresh calm = record {
+abbrev pub cubic_state : ℕ → Course → Growth → ℕ → ℕ → CubicState
+cubic_state mss course growth ssthresh calm = record {
   mss = mss;
   course = course;
   window = growth.window;
@@ -151,8 +151,8 @@ in_slow_start r s =
     else (s, Nothing)
 
 -- what was acknowledged, in thousandths of a segment, at most the greatest window
-abbrev pub acked_of : ℕ → Measurement → ℕ
-acked_of mss r = min most_window (muldiv r.acked 1000 mss)
+abbrev pub acked_thousandths : ℕ → Measurement → ℕ
+acked_thousandths mss r = min most_window (muldiv r.acked 1000 mss)
 
 -- W_est after these acknowledgements: it grows by alpha segments in a round-trip time until it has reached
 -- cwnd_prior, and by one segment from then on (RFC 9438, section 4.3)
@@ -179,7 +179,7 @@ grown acked t rtt s =
 -- congestion avoidance: W_est first, then the window
 abbrev pub in_avoidance : Measurement → CubicState → Turn
 in_avoidance r s =
-    let acked = acked_of s.mss r in
+    let acked = acked_thousandths s.mss r in
     let estimated = record s { w_est = estimate_of acked s } in
     let window = grown acked ((r.now - s.start) / 1000) (r.rtt / 1000) estimated in
     if r.acked == 0 then (s, Nothing) else (record estimated { window = window }, Update (bytes_of s.mss window))
@@ -216,4 +216,4 @@ after_told (Fault notice) s = after_fault s
 
 -- CUBIC: a report or notice of another epoch is ignored
 abbrev pub cubic : CubicState → Told → Turn
-cubic s told = if epoch_of told == s.course.epoch then after_told told s else (s, Nothing)
+cubic s told = if told_epoch told == s.course.epoch then after_told told s else (s, Nothing)

@@ -50,11 +50,11 @@ pub struct Cubic {
 }
 
 impl Model for Cubic {
-    ghost use Rattle.cubic_agent.specs.Cubic.{CubicState, IsInRange, growth_of, state_of};
+    ghost use Rattle.cubic_agent.specs.Cubic.{CubicState, IsInRange, growth_of, cubic_state};
 
     ghost Value = { CubicState };
 
-    ghost view = { λ c. state_of c.mss c.course c.growth c.ssthresh c.calm };
+    ghost view = { λ c. cubic_state c.mss c.course c.growth c.ssthresh c.calm };
 
     ghost invariant = { λ c. IsInRange c.mss c.growth };
 
@@ -68,7 +68,7 @@ impl Model for Cubic {
 }
 
 impl Cubic {
-    ghost use Rattle.cubic_agent.specs.Cubic.{cubic, first_cubic, growth_of, window_told, after_timeout, after_loss, in_slow_start, in_avoidance, after_measurement, after_fault, acked_of, estimate_of, target_of, grown};
+    ghost use Rattle.cubic_agent.specs.Cubic.{cubic, first_cubic, growth_of, window_told, after_timeout, after_loss, in_slow_start, in_avoidance, after_measurement, after_fault, acked_thousandths, estimate_of, target_of, grown};
     ghost use Rattle.cubic_agent.specs.Window.{most_window};
     ghost use Rattle.ccp_base.specs.Course.{opening_of};
 
@@ -263,7 +263,7 @@ impl Cubic {
 
     /// What was acknowledged, in thousandths of a segment, at most the greatest window.
     fn acked(&self, measurement: Measurement) -> u64
-        ensures { result ≡ acked_of self.now.mss measurement }
+        ensures { result ≡ acked_thousandths self.now.mss measurement }
     {
         muldiv(measurement.acked, SEGMENT, u64::from(self.mss)).min(WINDOW_MOST)
     }

@@ -1,7 +1,7 @@
 //! What installers do.
 ghost use Rattle.std.specs.Prelude.{◌≡◌, ◌≤◌, Some, None, IfOk};
 ghost use Rattle.ccp_base.specs.Limits.{most_steps};
-ghost use Rattle.worker_desk.specs.Serving.{flows_of};
+ghost use Rattle.worker_desk.specs.Serving.{flows_of_worker};
 ghost use Rattle.worker_desk.specs.Equipping.{tasks, Equips};
 
 use crate::kept::keep;
@@ -109,7 +109,7 @@ fn desk<'a, R: Abort>(rt: &'a R, alloc: Global, answers: &[bool]) -> Result<Step
 fn work<R: Abort>(desk: &mut StepDesk<R>, worker: u32, first: u32, workers: u32)
     requires workers { 1 ≤ workers }
     requires free { desk.old.held ≡ None }
-    ensures { Equips worker (tasks (flows_of first workers desk.old.flows) most_steps) (Some desk.old.events.items) (Some desk.new.events.items) }
+    ensures { Equips worker (tasks (flows_of_worker first workers desk.old.flows) most_steps) (Some desk.old.events.items) (Some desk.new.events.items) }
 {
     drop(run_installer(desk, worker, first, workers));
 }

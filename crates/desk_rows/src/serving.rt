@@ -1,6 +1,6 @@
 //! What datapath workers do.
 ghost use Rattle.std.specs.Prelude.{◌≡◌, ◌+◌, ◌≤◌, Some, None, IfOk, vec_len};
-ghost use Rattle.worker_desk.specs.Serving.{flows_of, heard, Serves};
+ghost use Rattle.worker_desk.specs.Serving.{flows_of_worker, heard_count, Serves};
 
 use crate::kept::keep;
 use ccp_base::Point;
@@ -71,7 +71,7 @@ impl<'a, R: Abort> Desk for AnswerDesk<'a, R> {
 
 /// The next answer; Ended where none is left.
 fn next(answers: &mut Vec<Heard>) -> Heard
-    ensures { vec_len answers.new + heard result ≤ vec_len answers.old }
+    ensures { vec_len answers.new + heard_count result ≤ vec_len answers.old }
 {
     match answers.pop() {
         Some(answer) => answer,
@@ -102,7 +102,7 @@ fn desk<'a, R: Abort>(
 fn work<R: Abort>(desk: &mut AnswerDesk<R>, worker: u32, datapaths: u32)
     requires datapaths { 1 ≤ datapaths }
     requires free { desk.old.held ≡ None }
-    ensures { Serves worker (flows_of worker datapaths desk.old.flows) (Some desk.old.events.items) (Some desk.new.events.items) }
+    ensures { Serves worker (flows_of_worker worker datapaths desk.old.flows) (Some desk.old.events.items) (Some desk.new.events.items) }
 {
     drop(run_datapath_worker(desk, worker, datapaths));
 }

@@ -5,7 +5,7 @@ use Rattle.ccp_base.specs.Outside.{Known, Takes, Appends}
 use Rattle.feed_core.specs.declared.ending.FeedEnd.TheVariants as ends
 use Rattle.feed_core.specs.Feed.{FeedState, no_flows}
 use Rattle.feed_core.specs.FeedBytes.{left, Fed, with_answers, fed, feed_of, IsFeeding}
-use Rattle.feed_core.specs.FeedEnds.{answers_of, end_from, stream, IsFed}
+use Rattle.feed_core.specs.FeedEnds.{answers_written, end_from, stream, IsFed}
 use Rattle.feed_core.proofs.FrameEnds.{fed-nothing}
 use Rattle.feed_core.proofs.StreamEnds.{takes-nothing, appends-nothing}
 
@@ -34,7 +34,7 @@ nothing-fed : feed_of [] ≡ record { answers = []; tail = left 0 [] }
 unfolding feed_of
 nothing-fed = fed-nothing most_input_bytes 0 no_flows
 
-pub no-answers : answers_of [] ≡ []
+pub no-answers : answers_written [] ≡ []
 no-answers = ap (λ (f : Fed). f.answers) nothing-fed
 
 -- no memory for a feed
@@ -46,7 +46,7 @@ ends-unbegun source sink rb rn wb wn is_finished = record {
   taken = takes-nothing source;
   within = omega arith;
   written = subst (Appends sink sink) (sym no-answers) (appends-nothing sink);
-  begins = sym (append-nil (answers_of []));
+  begins = sym (append-nil (answers_written []));
   whole = ap (λ (f : Fed). end_from f.tail false) nothing-fed;
   kept = omega arith;
   cause = inl refl;

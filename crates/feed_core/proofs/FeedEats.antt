@@ -8,7 +8,7 @@ use Rattle.ccp_messages.specs.declared.message.Message.{Message}
 use Rattle.ccp_messages.specs.Messages.{frame_bytes}
 use Rattle.ccp_messages.specs.Decoding.{Begins, decoded_of}
 use Rattle.ccp_messages.proofs.DecodeLaws.{begins-decoded}
-use Rattle.feed_core.specs.Feed.{FeedState, no_flows, answered}
+use Rattle.feed_core.specs.Feed.{FeedState, no_flows, answer_message}
 use Rattle.feed_core.specs.FeedBytes.{Fed, answer_bytes, with_answers, fed_on, fed, IsFeeding}
 
 -- a frame takes some bytes
@@ -24,15 +24,15 @@ with-with a b f = λ i. record { answers = sym (append_assoc a b f.answers) i; t
 -- the frames from a whole one on
 pub fed-frame : (frames place : ℕ) (state : FeedState) (frame more : List ℕ) (message : Message) (version : Version) → frame ≡ frame_bytes version message
     → decoded_of (frame ++ more) ≡ Ok (message, version, length frame)
-    → fed (suc frames) place state (frame ++ more) ≡ with_answers (answer_bytes (answered state message version).0) (fed frames (place + length frame) (answered state message version).1 more)
+    → fed (suc frames) place state (frame ++ more) ≡ with_answers (answer_bytes (answer_message state message version).0) (fed frames (place + length frame) (answer_message state message version).1 more)
 fed-frame frames place state frame more message version is read =
     ap (fed_on (fed frames) place state (frame ++ more)) read
-    ∙ ap (λ bytes. with_answers (answer_bytes (answered state message version).0) (fed frames (place + length frame) (answered state message version).1 bytes)) (drop-append_seam frame more)
+    ∙ ap (λ bytes. with_answers (answer_bytes (answer_message state message version).0) (fed frames (place + length frame) (answer_message state message version).1 bytes)) (drop-append_seam frame more)
 
 module _ (source source' sink sink' after : Known) (state : FeedState) (eaten : ℕ) (rest : List ℕ) (feeding : IsFeeding source source' sink sink' state eaten rest)
     (message : Message) (version : Version) (used : ℕ) (begins : Begins rest message version used) (some : 0 < used) where
-  pub eats : (next : FeedState) → (answered state message version).1 ≡ next → next.messages ≡ state.messages + 1
-      → Appends sink' after (answer_bytes (answered state message version).0)
+  pub eats : (next : FeedState) → (answer_message state message version).1 ≡ next → next.messages ≡ state.messages + 1
+      → Appends sink' after (answer_bytes (answer_message state message version).0)
       → IsFeeding source source' sink after next (eaten + used) (drop used rest)
   eats next is one appended =
       let frame = frame_bytes version message in
@@ -44,10 +44,10 @@ module _ (source source' sink sink' after : Known) (state : FeedState) (eaten : 
       let fuel : most_input_bytes - state.messages ≡ suc (most_input_bytes - next.messages) = omega (arith, one, feeding.few, feeding.within, room, some) in
       record {
         front = feeding.front ++ frame;
-        answers = feeding.answers ++ answer_bytes (answered state message version).0;
+        answers = feeding.answers ++ answer_bytes (answer_message state message version).0;
         taken = subst (Takes source source') whole feeding.taken;
         eaten_is = long;
-        written = Appends-append sink sink' after feeding.answers (answer_bytes (answered state message version).0) feeding.written appended;
+        written = Appends-append sink sink' after feeding.answers (answer_bytes (answer_message state message version).0) feeding.written appended;
         goes = λ more.
             let read : decoded_of (frame ++ more) ≡ Ok (message, version, length frame) =
             begins-decoded (frame ++ more) message version (length frame) (record { rest = more; parts = refl; used_is = refl; meets = begins.meets; typed = begins.typed }) in
@@ -56,9 +56,9 @@ module _ (source source' sink sink' after : Known) (state : FeedState) (eaten : 
             ∙ ap (with_answers feeding.answers)
             (ap (λ n. fed n eaten state (frame ++ more)) fuel
             ∙ fed-frame (most_input_bytes - next.messages) eaten state frame more message version refl read
-            ∙ ap (λ n. with_answers (answer_bytes (answered state message version).0) (fed (most_input_bytes - next.messages) (eaten + n) (answered state message version).1 more)) (sym begins.used_is)
-            ∙ ap (λ s. with_answers (answer_bytes (answered state message version).0) (fed (most_input_bytes - next.messages) (eaten + used) s more)) is)
-            ∙ with-with feeding.answers (answer_bytes (answered state message version).0) (fed (most_input_bytes - next.messages) (eaten + used) next more);
+            ∙ ap (λ n. with_answers (answer_bytes (answer_message state message version).0) (fed (most_input_bytes - next.messages) (eaten + n) (answer_message state message version).1 more)) (sym begins.used_is)
+            ∙ ap (λ s. with_answers (answer_bytes (answer_message state message version).0) (fed (most_input_bytes - next.messages) (eaten + used) s more)) is)
+            ∙ with-with feeding.answers (answer_bytes (answer_message state message version).0) (fed (most_input_bytes - next.messages) (eaten + used) next more);
         few = omega (arith, one, feeding.few, some);
         within = omega (arith, room, feeding.within);
       }

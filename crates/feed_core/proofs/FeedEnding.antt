@@ -16,10 +16,10 @@ use Rattle.ccp_messages.proofs.DecodeLaws.{begins-decoded}
 use Rattle.feed_core.specs.declared.ending.FeedEnd.{FeedEnd}
 use Rattle.feed_core.specs.declared.ending.FeedEnd.TheVariants as ends
 use Rattle.feed_core.specs.declared.flow.Flow.{Flow}
-use Rattle.feed_core.specs.Feed.{FeedState, there, no_flows, refused, created_at, counted, answered, TakesMemory}
+use Rattle.feed_core.specs.Feed.{FeedState, there, no_flows, refused, created_at, counted, answer_message, TakesMemory}
 use Rattle.feed_core.specs.FeedBytes.{left, bad, Fed, answer_bytes, with_answers, fed_on, fed, feed_of, IsFeeding}
 use Rattle.feed_core.specs.FeedTurns.{BeginsTaking, FailsOne}
-use Rattle.feed_core.specs.FeedEnds.{answers_of, end_from, end_of, stream, Answers, IsOpen, MakesFlow, TakesMemoryAt, IsFed}
+use Rattle.feed_core.specs.FeedEnds.{answers_written, end_from, feed_end, stream, AnswersInput, MayGoOn, MakesFlow, TakesMemoryAt, IsFed}
 use Rattle.feed_core.specs.FeedLast.{IsLast}
 use Rattle.feed_core.proofs.FrameEnds.{take-front, fed-part, fed-bad, fed-nothing, bad-on}
 use Rattle.feed_core.proofs.FeedEats.{some-used, fed-frame}
@@ -41,7 +41,7 @@ end-some : (place : ℕ) (rest : List ℕ) → 0 < length rest → end_from (lef
 end-some place [] some = absurd (omega (arith, some))
 end-some place (byte ∷ rest) some = refl
 
-is-open : (place : ℕ) (rest : List ℕ) → IsOpen (end_from (left place rest) false)
+is-open : (place : ℕ) (rest : List ℕ) → MayGoOn (end_from (left place rest) false)
 is-open place [] = tt
 is-open place (byte ∷ rest) = tt
 
@@ -79,13 +79,13 @@ module _ (source source' sink sink' : Known) (state : FeedState) (eaten : ℕ) (
     left-here : feed_of bytes ≡ record { answers = feeding.answers ++ []; tail = left eaten rest }
     left-here = here ∙ ap (with_answers feeding.answers) (fed-part frames eaten state rest needed cut)
 
-    answers-here : answers_of bytes ≡ feeding.answers
+    answers-here : answers_written bytes ≡ feeding.answers
     answers-here = ap (λ (f : Fed). f.answers) left-here ∙ append-nil feeding.answers
 
-    all-answered : Answers (stream source source' rb rn) (stream sink sink' wb wn) bytes
+    all-answered : AnswersInput (stream source source' rb rn) (stream sink sink' wb wn) bytes
     all-answered = record { taken = feeding.taken; written = subst (Appends sink sink') (sym answers-here) feeding.written }
 
-    end-here : end_of bytes ≡ end_from (left eaten rest) false
+    end-here : feed_end bytes ≡ end_from (left eaten rest) false
     end-here = ap (λ (f : Fed). end_from f.tail (nat_lt most_input_bytes (length bytes))) left-here ∙ ap (end_from (left eaten rest)) (not-longer (length bytes) fits)
 
     -- the source was read to its end
@@ -113,7 +113,7 @@ module _ (source source' sink sink' : Known) (state : FeedState) (eaten : ℕ) (
       taken = feeding.taken;
       within = fits;
       rose = rose-late wb wm wn first last.1 grown;
-      front = appends-all sink sink' (answers_of bytes) all-answered.written;
+      front = appends-all sink sink' (answers_written bytes) all-answered.written;
     }
     ends-last at_end wm first grown (ends.Bad field place) last = absurd last
     ends-last at_end wm first grown ends.TooLong last = absurd last
@@ -127,7 +127,7 @@ module _ (source source' sink sink' : Known) (state : FeedState) (eaten : ℕ) (
       answered = all-answered;
       within = fits;
       rose = rose-late rb rm rn first rose grown;
-      goes_on = subst IsOpen (sym end-here) (is-open eaten rest);
+      goes_on = subst MayGoOn (sym end-here) (is-open eaten rest);
     }
 
     -- a byte more than the longest input is there
@@ -143,8 +143,8 @@ module _ (source source' sink sink' : Known) (state : FeedState) (eaten : ℕ) (
         ∙ ap (λ n. with_answers feeding.answers (fed frames eaten state (rest ++ take n (piece ++ more)))) none
         ∙ ap (λ xs. with_answers feeding.answers (fed frames eaten state xs)) (append-nil rest)
         ∙ ap (with_answers feeding.answers) (fed-part frames eaten state rest needed cut) in
-        let answers : (more : List ℕ) → answers_of (taken ++ more) ≡ feeding.answers = λ more. ap (λ (f : Fed). f.answers) (again more) ∙ append-nil feeding.answers in
-        let now : answers_of taken ≡ feeding.answers = ap answers_of (sym (append-nil taken)) ∙ answers [] in
+        let answers : (more : List ℕ) → answers_written (taken ++ more) ≡ feeding.answers = λ more. ap (λ (f : Fed). f.answers) (again more) ∙ append-nil feeding.answers in
+        let now : answers_written taken ≡ feeding.answers = ap answers_written (sym (append-nil taken)) ∙ answers [] in
         record {
           bytes = taken;
           answered = record {
@@ -169,8 +169,8 @@ module _ (source source' sink sink' : Known) (state : FeedState) (eaten : ℕ) (
       on more
       ∙ ap (with_answers feeding.answers) (fed-bad frames eaten state (rest ++ take (most_input_bytes - length bytes) more) field offset some (bad-on rest (take (most_input_bytes - length bytes) more) field offset refused))
       ∙ ap (λ n. with_answers feeding.answers (record { answers = []; tail = bad field n })) (sym at) in
-      let answers : (more : List ℕ) → answers_of (bytes ++ more) ≡ feeding.answers = λ more. ap (λ (f : Fed). f.answers) (again more) ∙ append-nil feeding.answers in
-      let now : answers_of bytes ≡ feeding.answers = ap answers_of (sym (append-nil bytes)) ∙ answers [] in
+      let answers : (more : List ℕ) → answers_written (bytes ++ more) ≡ feeding.answers = λ more. ap (λ (f : Fed). f.answers) (again more) ∙ append-nil feeding.answers in
+      let now : answers_written bytes ≡ feeding.answers = ap answers_written (sym (append-nil bytes)) ∙ answers [] in
       record {
         bytes = bytes;
         answered = record { taken = feeding.taken; written = subst (Appends sink sink') (sym now) feeding.written };
@@ -187,8 +187,8 @@ module _ (source source' sink sink' : Known) (state : FeedState) (eaten : ℕ) (
       let some : 0 < fails.used = fails.some in
       let used : fails.used ≤ length rest = fails.within in
       let fuel : frames ≡ suc (frames - 1) = omega (arith, some, used, feeding.few, feeding.within) in
-      let later : Fed = fed (frames - 1) (eaten + fails.used) (answered state fails.message fails.version).1 (drop fails.used rest) in
-      let step : feed_of bytes ≡ with_answers feeding.answers (with_answers (answer_bytes (answered state fails.message fails.version).0) later) =
+      let later : Fed = fed (frames - 1) (eaten + fails.used) (answer_message state fails.message fails.version).1 (drop fails.used rest) in
+      let step : feed_of bytes ≡ with_answers feeding.answers (with_answers (answer_bytes (answer_message state fails.message fails.version).0) later) =
       here
       ∙ ap (λ n. with_answers feeding.answers (fed n eaten state rest)) fuel
       ∙ ap (λ read. with_answers feeding.answers (fed_on (fed (frames - 1)) eaten state rest read)) (begins-decoded rest fails.message fails.version fails.used fails.begins) in
@@ -198,7 +198,7 @@ module _ (source source' sink sink' : Known) (state : FeedState) (eaten : ℕ) (
         within = fits;
         rose = rose-late wb wm wn first fails.rose grown;
         front = subst (AppendsPrefix sink sink'') (sym (ap (λ (f : Fed). f.answers) step))
-            (appends-front sink sink' sink'' feeding.answers (answer_bytes (answered state fails.message fails.version).0) later.answers feeding.written fails.written);
+            (appends-front sink sink' sink'' feeding.answers (answer_bytes (answer_message state fails.message fails.version).0) later.answers feeding.written fails.written);
       }
 
   -- ---- out of memory
@@ -214,12 +214,12 @@ module _ (source source' sink sink' : Known) (state : FeedState) (eaten : ℕ) (
       ∙ ap (with_answers feeding.answers) (fed-nothing frames eaten state)
       ∙ ap (λ (xs : List ℕ). record { answers = xs; tail = left eaten [] }) (append-nil feeding.answers)
 
-  front-answers : answers_of feeding.front ≡ feeding.answers
+  front-answers : answers_written feeding.front ≡ feeding.answers
   front-answers = ap (λ (f : Fed). f.answers) front-here
 
   -- a further frame that has no answer
-  quiet-frame : (message : Message) (version : Version) (used : ℕ) → Begins rest message version used → answer_bytes (answered state message version).0 ≡ []
-      → answers_of (feeding.front ++ take used rest) ≡ feeding.answers
+  quiet-frame : (message : Message) (version : Version) (used : ℕ) → Begins rest message version used → answer_bytes (answer_message state message version).0 ≡ []
+      → answers_written (feeding.front ++ take used rest) ≡ feeding.answers
   unfolding feed_of
   quiet-frame message version used begins quiet =
       let frame : List ℕ = frame_bytes version message in
@@ -233,11 +233,11 @@ module _ (source source' sink sink' : Known) (state : FeedState) (eaten : ℕ) (
       let fits' : length (feeding.front ++ frame) ≤ most_input_bytes = omega (arith, feeding.within, feeding.eaten_is, fit, used_is, length-append feeding.front frame) in
       let read : decoded_of (frame ++ []) ≡ Ok (message, version, length frame) =
       begins-decoded (frame ++ []) message version (length frame) (record { rest = []; parts = refl; used_is = refl; meets = begins.meets; typed = begins.typed }) in
-      let next : FeedState = (answered state message version).1 in
-      let on' : fed frames eaten state frame ≡ with_answers (answer_bytes (answered state message version).0) (fed (frames - 1) (eaten + length frame) next []) =
+      let next : FeedState = (answer_message state message version).1 in
+      let on' : fed frames eaten state frame ≡ with_answers (answer_bytes (answer_message state message version).0) (fed (frames - 1) (eaten + length frame) next []) =
       ap (λ n. fed n eaten state frame) fuel ∙ ap (fed (suc (frames - 1)) eaten state) (sym (append-nil frame)) ∙ fed-frame (frames - 1) eaten state frame [] message version refl read in
       let none : (fed (frames - 1) (eaten + length frame) next []).answers ≡ [] = ap (λ (f : Fed). f.answers) (fed-nothing (frames - 1) (eaten + length frame) next) in
-      ap (λ xs. answers_of (feeding.front ++ xs)) first
+      ap (λ xs. answers_written (feeding.front ++ xs)) first
       ∙ ap (λ xs. (fed most_input_bytes 0 no_flows xs).answers) (take_all most_input_bytes (feeding.front ++ frame) fits')
       ∙ ap (λ (f : Fed). f.answers) (feeding.goes frame)
       ∙ ap (λ (f : Fed). feeding.answers ++ f.answers) on'

@@ -6,7 +6,7 @@ use Rattle.std.proofs.lemmas.List.{length-set, length-map}
 use Rattle.ccp_base.specs.declared.ack.Ack.{Ack}
 use Rattle.ccp_base.specs.declared.fields.FieldReg.{FieldReg}
 use Rattle.ccp_base.specs.declared.fields.FieldReg.TheVariants as field
-use Rattle.ccp_base.specs.FieldReg.{Pair, first_bad}
+use Rattle.ccp_base.specs.FieldReg.{Pair, first_bad_pair}
 use Rattle.ccp_base.specs.declared.exchange.Notice.{Notice}
 use Rattle.ccp_base.specs.declared.exchange.Report.{Report}
 use Rattle.ccp_base.specs.Limits.{most_fields, most_flows, most_kept_programs, most_messages}
@@ -14,7 +14,7 @@ use Rattle.ccp_base.specs.Truth.{is_true}
 use Rattle.reg_code.specs.declared.code.Code.{Code}
 use Rattle.reg_code.specs.AcceptedCode.{◌or_else◌, Refusal, rejected, IsAccepted, sizes_of, counts_refusal, events_refusal}
 use Rattle.reg_code.specs.CodeStart.{with_value, with_values, declared_kept}
-use Rattle.reg_code.specs.CodeStep.{Kept, IsKeptOf, Work, done, failed, stuck, events_of, begun, settled, made_of}
+use Rattle.reg_code.specs.CodeStep.{Kept, IsKeptOf, Work, done, failed, stuck, events_of, before_events, settled, made_of}
 use Rattle.reg_code.specs.CodeStep as steps
 use Rattle.reg_code.specs.SoundLaws.{WorkSized, events-sized, none-first, none-next, refusal_where-none, IsSound-accepted}
 use Rattle.reply_frames.specs.declared.outline.Version.{Version}
@@ -27,10 +27,10 @@ use Rattle.ccp_messages.proofs.Encoding.{length-frame}
 use Rattle.fold_machine.specs.declared.acked.Acked.{Acked}
 use Rattle.fold_machine.specs.declared.acked.Acked.TheVariants as acked
 use Rattle.fold_machine.specs.MachineState.{MachineState, Fits}
-use Rattle.fold_machine.specs.Heard.{heard, heard_where, after_made, started_by, updated_by}
+use Rattle.fold_machine.specs.Heard.{after_acknowledgement, heard_where, after_made, started_by, updated_by}
 use Rattle.feed_core.specs.declared.flow.Epoch.{Epoch}
 use Rattle.feed_core.specs.declared.flow.Flow.{Flow}
-use Rattle.feed_core.specs.Feed.{FeedState, there, Answer, Answered, refused, with_flow, fresh_flow, created_at, installed_as, installed_at, next_epoch, changed_flow, is_too_wide, changed_with, changed_to, changed_at, code_of, updated_flow, updated_with, updated_on, updated_at, counted_flow, first_after, flow_after, message_about, in_version, acked_on, acked_at, handled}
+use Rattle.feed_core.specs.Feed.{FeedState, there, Answer, MessageAnswer, refused, with_flow, fresh_flow, created_at, installed_as, installed_at, next_epoch, changed_flow, is_too_wide, changed_with, changed_to, changed_at, running_code, updated_flow, updated_with, updated_on, updated_at, counted_flow, first_after, flow_after, message_about, in_version, acked_on, flow_acked, handled}
 use Rattle.feed_core.specs.FeedHolds.{RunsOn, IsFlow, IsFlowThere, IsAcceptedThere, AreFeedParts, IsFeed, longest_answer, HasFrame}
 
 -- ---- lists of places
@@ -161,8 +161,8 @@ module _ (code : Code) (ack : Ack) (n : ℕ) (epoch : Epoch) (flow : Flow) (firs
   heard-framed true machine accepted fits = tt
   heard-framed false machine accepted fits =
       let none = none-next (counts_refusal code or_else events_refusal code.events 0 (length code.instrs)) _ accepted in
-      work-framed (events_of code.events 0 code.instrs ack 0 (begun machine.kept)) machine.kept machine
-      (events-sized code.events (sizes_of code) 0 0 code.instrs ack 0 (begun machine.kept) none (record { reports = fits.kept.reports; controls = fits.kept.controls }))
+      work-framed (events_of code.events 0 code.instrs ack 0 (before_events machine.kept)) machine.kept machine
+      (events-sized code.events (sizes_of code) 0 0 code.instrs ack 0 (before_events machine.kept) none (record { reports = fits.kept.reports; controls = fits.kept.controls }))
 
   -- a report ends the span, which begins at most at the count
   first-within : (came : Option Acked × MachineState) → first_after came.0 flow ≤ flow.count + 1
@@ -176,10 +176,10 @@ module _ (code : Code) (ack : Ack) (n : ℕ) (epoch : Epoch) (flow : Flow) (firs
 -- ---- a message
 
 -- what holds after a message: of the fields, and of the answer
-abbrev pub IsKept : ℕ → Answered → Type 0
+abbrev pub IsKept : ℕ → MessageAnswer → Type 0
 IsKept messages (answer, state) = AreFeedParts state.flows state.programs messages × HasFrame answer
 
-kept-if : (messages : ℕ) (b : Bool) (x y : Answered) → IsKept messages x → IsKept messages y → IsKept messages (cond b x y)
+kept-if : (messages : ℕ) (b : Bool) (x y : MessageAnswer) → IsKept messages x → IsKept messages y → IsKept messages (cond b x y)
 kept-if messages true x y p q = p
 kept-if messages false x y p q = q
 
@@ -245,8 +245,8 @@ module _ (state : FeedState) (is_feed : IsFeed state) where
     runs = go flow.epoch is.runs;
   }
     where
-      go : (epoch : Option Epoch) → RunsOn epoch flow.version flow.machine (code_of epoch state.programs)
-          → RunsOn epoch flow.version flow.machine (code_of epoch (slice_set state.programs p (Some code)))
+      go : (epoch : Option Epoch) → RunsOn epoch flow.version flow.machine (running_code epoch state.programs)
+          → RunsOn epoch flow.version flow.machine (running_code epoch (slice_set state.programs p (Some code)))
       go None runs = tt
       go (Some epoch) runs = runs-stay epoch flow.version flow.machine (there state.programs epoch.program) (there (slice_set state.programs p (Some code)) epoch.program)
           (λ other is. there-stays state.programs p epoch.program (Some code) other free is) runs
@@ -288,9 +288,9 @@ module _ (state : FeedState) (is_feed : IsFeed state) where
     }) tt
 
     kept-narrow : (code : Code) → there state.programs program ≡ Some code → (b : Bool) → is_too_wide flow.version code ≡ b
-        → IsKept (state.messages + 1) (cond b (refused state version n 9 program) (changed_with (first_bad (length code.controls) values) state version n program values flow code))
+        → IsKept (state.messages + 1) (cond b (refused state version n 9 program) (changed_with (first_bad_pair (length code.controls) values) state version n program values flow code))
     kept-narrow code here true wide = kept-refused version n 9 program (omega arith) (omega arith)
-    kept-narrow code here false wide = kept-with code here wide (first_bad (length code.controls) values)
+    kept-narrow code here false wide = kept-with code here wide (first_bad_pair (length code.controls) values)
 
     kept-to : (o : Option Code) → there state.programs program ≡ o → IsKept (state.messages + 1) (changed_to o state version n program values flow)
     kept-to None here = kept-refused version n 6 program (omega arith) (omega arith)
@@ -307,14 +307,14 @@ module _ (state : FeedState) (is_feed : IsFeed state) where
   -- ---- Update and Ack: the program that was started is there
 
   runs-at : (epoch : Epoch) (program : Option Epoch) (version : Version) (machine : MachineState) (code : Code) → program ≡ Some epoch → there state.programs epoch.program ≡ Some code
-      → Fits machine code → AreFew version (length code.reports) → RunsOn program version machine (code_of program state.programs)
+      → Fits machine code → AreFew version (length code.reports) → RunsOn program version machine (running_code program state.programs)
   runs-at epoch program version machine code e here fits few =
-      subst (λ (p : Option Epoch). RunsOn p version machine (code_of p state.programs)) (sym e)
+      subst (λ (p : Option Epoch). RunsOn p version machine (running_code p state.programs)) (sym e)
       (subst (λ (o : Option Code). RunsOn (Some epoch) version machine (option_map (λ code. (epoch, code)) o)) (sym here) (fits, few))
 
   module _ (n : ℕ) (flow : Flow) (is : IsFlow state.programs state.messages flow) where
-    runs-now : (epoch : Option Epoch) → flow.epoch ≡ epoch → RunsOn epoch flow.version flow.machine (code_of epoch state.programs)
-    runs-now epoch e = subst (λ (p : Option Epoch). RunsOn p flow.version flow.machine (code_of p state.programs)) e is.runs
+    runs-now : (epoch : Option Epoch) → flow.epoch ≡ epoch → RunsOn epoch flow.version flow.machine (running_code epoch state.programs)
+    runs-now epoch e = subst (λ (p : Option Epoch). RunsOn p flow.version flow.machine (running_code p state.programs)) e is.runs
 
     module _ (version : Version) (values : List Pair) where
       kept-written : (epoch : Epoch) (code : Code) → flow.epoch ≡ Some epoch → there state.programs epoch.program ≡ Some code → Fits flow.machine code → AreFew flow.version (length code.reports)
@@ -331,9 +331,9 @@ module _ (state : FeedState) (is_feed : IsFeed state) where
           → RunsOn (Some epoch) flow.version flow.machine (option_map (λ code. (epoch, code)) o)
           → IsKept (state.messages + 1) (updated_on (option_map (λ code. (epoch, code)) o) state version n values flow)
       kept-updated-code epoch e None here runs = absurd runs
-      kept-updated-code epoch e (Some code) here runs = kept-written epoch code e here runs.0 runs.1 (first_bad (length code.controls) values)
+      kept-updated-code epoch e (Some code) here runs = kept-written epoch code e here runs.0 runs.1 (first_bad_pair (length code.controls) values)
 
-      kept-updated-on : (epoch : Option Epoch) → flow.epoch ≡ epoch → IsKept (state.messages + 1) (updated_on (code_of epoch state.programs) state version n values flow)
+      kept-updated-on : (epoch : Option Epoch) → flow.epoch ≡ epoch → IsKept (state.messages + 1) (updated_on (running_code epoch state.programs) state version n values flow)
       kept-updated-on None e = kept-refused version n 6 0 (omega arith) (omega arith)
       kept-updated-on (Some epoch) e = kept-updated-code epoch e (there state.programs epoch.program) refl (runs-now (Some epoch) e)
 
@@ -344,7 +344,7 @@ module _ (state : FeedState) (is_feed : IsFeed state) where
       kept-acked-code epoch e None here runs = absurd runs
       kept-acked-code epoch e (Some code) here runs =
           let accepted = accepted-there epoch.program code here in
-          let came = heard code ack true flow.machine in
+          let came = after_acknowledgement code ack true flow.machine in
           let count : flow.count < most_messages = omega (arith, is.counted, small) in
           kept-flow n (flow_after came ack flow) (in_version flow.version (message_about came ack n epoch flow)) (record {
             counted = omega (arith, is.counted);
@@ -353,7 +353,7 @@ module _ (state : FeedState) (is_feed : IsFeed state) where
             runs = runs-at epoch flow.epoch flow.version came.1 code e here (heard-fits flow.machine.is_stopped code ack flow.machine accepted runs.0) runs.1;
           }) (heard-framed code ack n epoch flow is.spanned count runs.1 (fields-few code accepted) flow.machine.is_stopped flow.machine accepted runs.0)
 
-      kept-acked-on : (epoch : Option Epoch) → flow.epoch ≡ epoch → IsKept (state.messages + 1) (acked_on (code_of epoch state.programs) state n ack flow)
+      kept-acked-on : (epoch : Option Epoch) → flow.epoch ≡ epoch → IsKept (state.messages + 1) (acked_on (running_code epoch state.programs) state n ack flow)
       kept-acked-on None e = kept-flow n (counted_flow ack flow) None (record {
         counted = omega (arith, is.counted);
         spanned = omega (arith, is.spanned);
@@ -368,7 +368,7 @@ module _ (state : FeedState) (is_feed : IsFeed state) where
   kept-updated version n values (Some flow) is = kept-updated-on n flow is version values flow.epoch refl
 
   kept-acked : (version : Version) (n : ℕ) (ack : Ack) → state.messages < most_messages → (flow : Option Flow) → IsFlowThere state.programs state.messages flow
-      → IsKept (state.messages + 1) (acked_at flow state version n ack)
+      → IsKept (state.messages + 1) (flow_acked flow state version n ack)
   kept-acked version n ack small None is = kept-refused version n 3 0 (omega arith) (omega arith)
   kept-acked version n ack small (Some flow) is = kept-acked-on n flow is small ack flow.epoch refl
 

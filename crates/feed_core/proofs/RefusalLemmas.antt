@@ -2,7 +2,7 @@
 use Rattle.std.proofs.Common.{◌≡◌, ℕ, zero, suc, ◌+◌, ◌<◌, ◌≤◌, Bool, true, false, cond, nat_lt, Option, Some, None, List, length, ap, sym, refl, subst, ◌∙◌, arith}
 use Rattle.std.proofs.lemmas.Bool.Decides.{nat_tests}
 use Rattle.ccp_base.specs.declared.ack.Ack.{Ack}
-use Rattle.ccp_base.specs.FieldReg.{Pair, first_bad}
+use Rattle.ccp_base.specs.FieldReg.{Pair, first_bad_pair}
 use Rattle.ccp_base.specs.Limits.{most_flows, most_kept_programs}
 use Rattle.reg_code.specs.declared.code.Code.{Code}
 use Rattle.reg_code.specs.AcceptedCode.{Refusal, rejected}
@@ -10,14 +10,14 @@ use Rattle.reply_frames.specs.declared.outline.Version.{Version}
 use Rattle.ccp_messages.specs.declared.message.Message.{Message}
 use Rattle.ccp_messages.specs.declared.message.Message.TheVariants.{Create, Measure, Install, Update, Change, Fault, Refused}
 use Rattle.ccp_messages.specs.declared.message.Message.TheVariants as message
-use Rattle.ccp_messages.specs.Messages.{flow_of}
+use Rattle.ccp_messages.specs.Messages.{message_flow}
 use Rattle.fold_machine.specs.declared.acked.Acked.{Acked}
 use Rattle.fold_machine.specs.declared.acked.Acked.TheVariants as acked
 use Rattle.fold_machine.specs.MachineState.{MachineState}
-use Rattle.fold_machine.specs.Heard.{heard}
+use Rattle.fold_machine.specs.Heard.{after_acknowledgement}
 use Rattle.feed_core.specs.declared.flow.Epoch.{Epoch}
 use Rattle.feed_core.specs.declared.flow.Flow.{Flow}
-use Rattle.feed_core.specs.Feed.{FeedState, there, Answer, Answered, refused, created_at, installed_as, installed_at, is_too_wide, changed_with, changed_to, changed_at, code_of, updated_with, updated_on, updated_at, message_about, in_version, acked_on, acked_at, handled}
+use Rattle.feed_core.specs.Feed.{FeedState, there, Answer, MessageAnswer, refused, created_at, installed_as, installed_at, is_too_wide, changed_with, changed_to, changed_at, running_code, updated_with, updated_on, updated_at, message_about, in_version, acked_on, flow_acked, handled}
 use Rattle.feed_core.specs.Refusals.{IsFlowAt, IsCodeAt, IsFreeAt, FlowAbove, FlowExists, NoFlow, ProgramAbove, ProgramExists, NoProgram, NotAccepted, NoRegister, TooWide, ComesWhere, NoOtherReason, ChangesNothing}
 
 -- the row of a reason
@@ -114,7 +114,7 @@ is-above a b is = grind (arith, nat_tests, is)
 -- ---- each refusal has the row of its reason
 
 module _ (state : FeedState) (version : Version) (r i : ℕ) where
-  abbrev Told : ℕ → Answered → Type 0
+  abbrev Told : ℕ → MessageAnswer → Type 0
   Told n a = a.0 ≡ refusal_of n r i version
 
   none-refused : (n : ℕ) (W : Type 0) → ◌≡◌ {A = Answer} None (refusal_of n r i version) → W
@@ -152,16 +152,16 @@ module _ (state : FeedState) (version : Version) (r i : ℕ) where
     change = Change n program values
 
     why-changed-with : (flow : Flow) (code : Code) → IsFlowAt state n flow → IsCodeAt state program code → is_too_wide flow.version code ≡ false
-        → (o : Option ℕ) → first_bad (length code.controls) values ≡ o
+        → (o : Option ℕ) → first_bad_pair (length code.controls) values ≡ o
         → Told n (changed_with o state version n program values flow code) → Why state change r i (changed_with o state version n program values flow code).1
     why-changed-with flow code at here narrow (Some place) is e = why-is state change n version r i 8 place (flow, code, at, here, narrow, is) (omega arith) (omega arith) e
     why-changed-with flow code at here narrow None is e = none-refused n _ e
 
     why-changed-wide : (flow : Flow) (code : Code) → IsFlowAt state n flow → IsCodeAt state program code → (b : Bool) → is_too_wide flow.version code ≡ b
-        → Told n (cond b (refused state version n 9 program) (changed_with (first_bad (length code.controls) values) state version n program values flow code))
-        → Why state change r i (cond b (refused state version n 9 program) (changed_with (first_bad (length code.controls) values) state version n program values flow code)).1
+        → Told n (cond b (refused state version n 9 program) (changed_with (first_bad_pair (length code.controls) values) state version n program values flow code))
+        → Why state change r i (cond b (refused state version n 9 program) (changed_with (first_bad_pair (length code.controls) values) state version n program values flow code)).1
     why-changed-wide flow code at here true wide e = why-is state change n version r i 9 program (flow, code, at, here, wide, refl) (omega arith) (omega arith) e
-    why-changed-wide flow code at here false wide e = why-changed-with flow code at here wide (first_bad (length code.controls) values) refl e
+    why-changed-wide flow code at here false wide e = why-changed-with flow code at here wide (first_bad_pair (length code.controls) values) refl e
 
     why-changed-to : (flow : Flow) → IsFlowAt state n flow → program < most_kept_programs → (o : Option Code) → there state.programs program ≡ o
         → Told n (changed_to o state version n program values flow) → Why state change r i (changed_to o state version n program values flow).1
@@ -183,21 +183,21 @@ module _ (state : FeedState) (version : Version) (r i : ℕ) where
     abbrev update : Message
     update = Update n values
 
-    why-updated-with : (flow : Flow) (epoch : Epoch) (code : Code) → IsFlowAt state n flow → code_of flow.epoch state.programs ≡ Some (epoch, code)
-        → (o : Option ℕ) → first_bad (length code.controls) values ≡ o
+    why-updated-with : (flow : Flow) (epoch : Epoch) (code : Code) → IsFlowAt state n flow → running_code flow.epoch state.programs ≡ Some (epoch, code)
+        → (o : Option ℕ) → first_bad_pair (length code.controls) values ≡ o
         → Told n (updated_with o state version n values flow) → Why state update r i (updated_with o state version n values flow).1
     why-updated-with flow epoch code at runs (Some place) is e = why-is state update n version r i 8 place (flow, epoch, code, at, runs, is) (omega arith) (omega arith) e
     why-updated-with flow epoch code at runs None is e = none-refused n _ e
 
-    why-updated-on : (flow : Flow) → IsFlowAt state n flow → (o : Option (Epoch × Code)) → code_of flow.epoch state.programs ≡ o
+    why-updated-on : (flow : Flow) → IsFlowAt state n flow → (o : Option (Epoch × Code)) → running_code flow.epoch state.programs ≡ o
         → Told n (updated_on o state version n values flow) → Why state update r i (updated_on o state version n values flow).1
     why-updated-on flow at None runs e = why-is state update n version r i 6 0 (flow, at, runs, refl) (omega arith) (omega arith) e
-    why-updated-on flow at (Some (epoch, code)) runs e = why-updated-with flow epoch code at runs (first_bad (length code.controls) values) refl e
+    why-updated-on flow at (Some (epoch, code)) runs e = why-updated-with flow epoch code at runs (first_bad_pair (length code.controls) values) refl e
 
     why-updated : (o : Option Flow) → there state.flows n ≡ o
         → Told n (updated_at o state version n values) → Why state update r i (updated_at o state version n values).1
     why-updated None is e = why-is state update n version r i 3 0 (is, refl) (omega arith) (omega arith) e
-    why-updated (Some flow) is e = why-updated-on flow is (code_of flow.epoch state.programs) refl e
+    why-updated (Some flow) is e = why-updated-on flow is (running_code flow.epoch state.programs) refl e
 
   -- the report of an acknowledgement is no refusal
   report-told : (n m : ℕ) (ack : Ack) (epoch : Epoch) (flow : Flow) (W : Type 0) (came : Option Acked × MachineState)
@@ -213,14 +213,14 @@ module _ (state : FeedState) (version : Version) (r i : ℕ) where
     why-acked-on : (flow : Flow) (o : Option (Epoch × Code))
         → Told n (acked_on o state n ack flow) → Why state (message.Ack n ack) r i (acked_on o state n ack flow).1
     why-acked-on flow None e = none-refused n _ e
-    why-acked-on flow (Some (epoch, code)) e = report-told n n ack epoch flow _ (heard code ack true flow.machine) e
+    why-acked-on flow (Some (epoch, code)) e = report-told n n ack epoch flow _ (after_acknowledgement code ack true flow.machine) e
 
     why-acked : (o : Option Flow) → there state.flows n ≡ o
-        → Told n (acked_at o state version n ack) → Why state (message.Ack n ack) r i (acked_at o state version n ack).1
+        → Told n (flow_acked o state version n ack) → Why state (message.Ack n ack) r i (flow_acked o state version n ack).1
     why-acked None is e = why-is state (message.Ack n ack) n version r i 3 0 (is, refl) (omega arith) (omega arith) e
-    why-acked (Some flow) is e = why-acked-on flow (code_of flow.epoch state.programs) e
+    why-acked (Some flow) is e = why-acked-on flow (running_code flow.epoch state.programs) e
 
-  why : (message : Message) → Told (flow_of message) (handled state message version) → Why state message r i (handled state message version).1
+  why : (message : Message) → Told (message_flow message) (handled state message version) → Why state message r i (handled state message version).1
   why (Create n mss cwnd) e = why-created n mss cwnd (nat_lt n most_flows) (there state.flows n) refl refl e
   why (Install n program code) e = why-installed n program code (nat_lt program most_kept_programs) refl e
   why (Change n program values) e = why-changed n program values (there state.flows n) refl e
@@ -237,7 +237,7 @@ module _ (state : FeedState) (version : Version) (i : ℕ) where
   answer_of message = (handled state message version).0
 
   abbrev Gets : ℕ → Message → Type 0
-  Gets reason message = answer_of message ≡ refusal_of (flow_of message) reason i version
+  Gets reason message = answer_of message ≡ refusal_of (message_flow message) reason i version
 
   at-index : (n reason index : ℕ) → i ≡ index → refusal_of n reason index version ≡ refusal_of n reason i version
   at-index n reason index is = ap (λ (k : ℕ). refusal_of n reason k version) (sym is)
@@ -268,7 +268,7 @@ module _ (state : FeedState) (version : Version) (i : ℕ) where
   gets-no-flow : (message : Message) → NoFlow state message i → Gets 3 message
   gets-no-flow (Change n program values) row = ap (λ (o : Option Flow). (changed_at o state version n program values).0) row.0 ∙ at-index n 3 0 row.1
   gets-no-flow (Update n values) row = ap (λ (o : Option Flow). (updated_at o state version n values).0) row.0 ∙ at-index n 3 0 row.1
-  gets-no-flow (message.Ack n ack) row = ap (λ (o : Option Flow). (acked_at o state version n ack).0) row.0 ∙ at-index n 3 0 row.1
+  gets-no-flow (message.Ack n ack) row = ap (λ (o : Option Flow). (flow_acked o state version n ack).0) row.0 ∙ at-index n 3 0 row.1
   gets-no-flow (Create n mss cwnd) row = absurd row
   gets-no-flow (Measure report) row = absurd row
   gets-no-flow (Install n program code) row = absurd row
@@ -352,7 +352,7 @@ module _ (state : FeedState) (version : Version) (i : ℕ) where
       let flow : Flow = row.0 in
       let code : Code = row.1 in
       changes-code n program values flow code row.2 row.3
-      ∙ ap (λ (b : Bool). (cond b (refused state version n 9 program) (changed_with (first_bad (length code.controls) values) state version n program values flow code)).0) row.4
+      ∙ ap (λ (b : Bool). (cond b (refused state version n 9 program) (changed_with (first_bad_pair (length code.controls) values) state version n program values flow code)).0) row.4
       ∙ ap (λ (o : Option ℕ). (changed_with o state version n program values flow code).0) row.5
   gets-no-register (Update n values) row =
       let flow : Flow = row.0 in
@@ -372,7 +372,7 @@ module _ (state : FeedState) (version : Version) (i : ℕ) where
       let flow : Flow = row.0 in
       let code : Code = row.1 in
       changes-code n program values flow code row.2 row.3
-      ∙ ap (λ (b : Bool). (cond b (refused state version n 9 program) (changed_with (first_bad (length code.controls) values) state version n program values flow code)).0) row.4
+      ∙ ap (λ (b : Bool). (cond b (refused state version n 9 program) (changed_with (first_bad_pair (length code.controls) values) state version n program values flow code)).0) row.4
       ∙ at-index n 9 program row.5
   gets-too-wide (Create n mss cwnd) row = absurd row
   gets-too-wide (Measure report) row = absurd row

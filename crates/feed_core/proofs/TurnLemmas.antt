@@ -3,19 +3,19 @@ use Rattle.std.proofs.Common.{◌≡◌, ◌≢◌, inl, ℕ, zero, suc, ◌<◌
 use Rattle.ccp_base.specs.Limits.{most_frame_bytes}
 use Rattle.ccp_base.specs.Outside.{Known}
 use Rattle.reply_frames.specs.declared.fault.BadKind.{BadKind}
-use Rattle.reply_frames.specs.Whole.{AreBytes, IsCut, IsBadIn}
+use Rattle.reply_frames.specs.Whole.{AreBytes, IsFrameFront, IsBadIn}
 use Rattle.reply_frames.specs.Decoding.{needed_of}
 use Rattle.reply_frames.proofs.Codec.{AllBytes}
 use Rattle.reply_frames.proofs.ExactParts.{AreBytes-append}
 use Rattle.reply_frames.proofs.NeededLaw.{longest}
 use Rattle.ccp_messages.specs.declared.fault.DecodeFault.{DecodeFault}
 use Rattle.ccp_messages.specs.declared.fault.DecodeFault.TheVariants.{More, Bad, NoMemory}
-use Rattle.ccp_messages.specs.Decoding.{Found, decoded_of, IsAnswer, BeginsInstall}
+use Rattle.ccp_messages.specs.Decoding.{Found, decoded_of, IsDecoded, BeginsInstall}
 use Rattle.feed_core.specs.Feed.{FeedState}
 use Rattle.feed_core.specs.FeedTurns.{without_frame, IsTurn}
 
 -- a refusal that isn't want of memory is what decoding gives
-pub told-fault : (result answer : Result Found DecodeFault) (fault : DecodeFault) → IsAnswer result answer → result ≡ Err fault → fault ≢ NoMemory → answer ≡ Err fault
+pub told-fault : (result answer : Result Found DecodeFault) (fault : DecodeFault) → IsDecoded result answer → result ≡ Err fault → fault ≢ NoMemory → answer ≡ Err fault
 told-fault result answer fault told is other =
     sym (told (λ none. let same : ◌≡◌ {A = Result Found DecodeFault} (Err fault) (Err NoMemory) = sym is ∙ none in other cc)) ∙ is
 
@@ -28,15 +28,15 @@ some-more [] some = absurd (some refl)
 some-more (byte ∷ more) some = omega arith
 
 -- a part of a frame is shorter than the longest frame
-pub cut-short : (bytes : List ℕ) → AllBytes bytes → IsCut bytes → length bytes < most_frame_bytes
+pub cut-short : (bytes : List ℕ) → AllBytes bytes → IsFrameFront bytes → length bytes < most_frame_bytes
 cut-short bytes fits cut =
     let long : length (bytes ++ cut.more) ≤ most_frame_bytes = longest (bytes ++ cut.more) (AreBytes-append bytes cut.more (are-bytes bytes fits) cut.are_bytes) cut.frame in
     omega (arith, long, length-append bytes cut.more, some-more cut.more cut.some)
 
 -- bytes that don't begin with a frame
 pub turns-without : (faults : ℕ) (written : Known) (state : FeedState) (bytes : List ℕ) → AllBytes bytes
-    → (result : Result Found DecodeFault) → IsAnswer result (decoded_of bytes)
-    → ((n : ℕ) → result ≡ Err (More n) → IsCut bytes × (n ≡ needed_of bytes))
+    → (result : Result Found DecodeFault) → IsDecoded result (decoded_of bytes)
+    → ((n : ℕ) → result ≡ Err (More n) → IsFrameFront bytes × (n ≡ needed_of bytes))
     → ((field : BadKind) (place : ℕ) → result ≡ Err (Bad field place) → IsBadIn bytes field place)
     → (result ≡ Err NoMemory → BeginsInstall bytes)
     → (fault : DecodeFault) → result ≡ Err fault → IsTurn faults faults written written state state bytes (without_frame fault)

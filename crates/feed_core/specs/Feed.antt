@@ -1,7 +1,7 @@
 -- What a datapath over a stream of frames keeps, and its answer to a message.
 use Rattle.std.specs.Prelude.{◌≡◌, ℕ, ◌+◌, ◌<◌, nat_lt, Bool, true, false, if◌then◌else◌, Option, Some, None, option_map, unwrap_or, List, length, slice_get, slice_set, replicate}
 use Rattle.ccp_base.specs.declared.ack.Ack.{Ack}
-use Rattle.ccp_base.specs.FieldReg.{Pair, first_bad}
+use Rattle.ccp_base.specs.FieldReg.{Pair, first_bad_pair}
 use Rattle.ccp_base.specs.Limits.{most_flows, most_kept_programs, most_short_fields}
 use Rattle.reg_code.specs.declared.code.Code.{Code}
 use Rattle.reg_code.specs.AcceptedCode.{Refusal, rejected}
@@ -13,7 +13,7 @@ use Rattle.ccp_messages.specs.declared.message.Message.TheVariants as message
 use Rattle.fold_machine.specs.declared.acked.Acked.{Acked}
 use Rattle.fold_machine.specs.declared.acked.Acked.TheVariants as acked
 use Rattle.fold_machine.specs.MachineState.{MachineState, fresh_machine}
-use Rattle.fold_machine.specs.Heard.{heard, started_by, updated_by}
+use Rattle.fold_machine.specs.Heard.{after_acknowledgement, started_by, updated_by}
 use Rattle.feed_core.specs.declared.flow.Epoch.{Epoch}
 use Rattle.feed_core.specs.declared.flow.Flow.{Flow}
 
@@ -36,11 +36,11 @@ abbrev pub Answer : Type 0
 Answer = Option (Message × Version)
 
 -- the answer to a message, and the state after it
-abbrev pub Answered : Type 0
-Answered = Answer × FeedState
+abbrev pub MessageAnswer : Type 0
+MessageAnswer = Answer × FeedState
 
--- a refused frame is answered in its own version, and changes nothing
-abbrev pub refused : FeedState → Version → ℕ → ℕ → ℕ → Answered
+-- a refused frame is answer_message in its own version, and changes nothing
+abbrev pub refused : FeedState → Version → ℕ → ℕ → ℕ → MessageAnswer
 refused state version n reason index = (Some (Refused n reason index, version), state)
 
 abbrev pub with_flow : FeedState → ℕ → Flow → FeedState
@@ -51,25 +51,25 @@ with_flow state n flow = record state { flows = slice_set state.flows n (Some fl
 abbrev pub fresh_flow : Version → ℕ → Flow
 fresh_flow version cwnd = record { version = version; machine = fresh_machine cwnd 0 0; epoch = None; first = 0; count = 0; last = 0 }
 
-abbrev pub created_at : Option Flow → FeedState → Version → ℕ → ℕ → Answered
+abbrev pub created_at : Option Flow → FeedState → Version → ℕ → ℕ → MessageAnswer
 created_at (Some flow) state version n cwnd = refused state version n 2 0
 created_at None state version n cwnd = (None, with_flow state n (fresh_flow version cwnd))
 
-abbrev pub created : FeedState → Version → ℕ → ℕ → Answered
+abbrev pub created : FeedState → Version → ℕ → ℕ → MessageAnswer
 created state version n cwnd =
     if nat_lt n most_flows then created_at (there state.flows n) state version n cwnd else refused state version n 1 0
 
 -- ---- Install: an accepted code is kept
 
-abbrev pub installed_as : Option Refusal → FeedState → Version → ℕ → ℕ → Code → Answered
+abbrev pub installed_as : Option Refusal → FeedState → Version → ℕ → ℕ → Code → MessageAnswer
 installed_as (Some refusal) state version n program code = refused state version n 7 refusal.1
 installed_as None state version n program code = (None, record state { programs = slice_set state.programs program (Some code) })
 
-abbrev pub installed_at : Option Code → FeedState → Version → ℕ → ℕ → Code → Answered
+abbrev pub installed_at : Option Code → FeedState → Version → ℕ → ℕ → Code → MessageAnswer
 installed_at (Some old) state version n program code = refused state version n 5 program
 installed_at None state version n program code = installed_as (rejected code) state version n program code
 
-abbrev pub installed : FeedState → Version → ℕ → ℕ → Code → Answered
+abbrev pub installed : FeedState → Version → ℕ → ℕ → Code → MessageAnswer
 installed state version n program code =
     if nat_lt program most_kept_programs then installed_at (there state.programs program) state version n program code
     else refused state version n 4 program
@@ -92,49 +92,49 @@ abbrev pub is_too_wide : Version → Code → Bool
 is_too_wide One code = nat_lt most_short_fields (length code.reports)
 is_too_wide Two code = false
 
-abbrev pub changed_with : Option ℕ → FeedState → Version → ℕ → ℕ → List Pair → Flow → Code → Answered
+abbrev pub changed_with : Option ℕ → FeedState → Version → ℕ → ℕ → List Pair → Flow → Code → MessageAnswer
 changed_with (Some place) state version n program values flow code = refused state version n 8 place
 changed_with None state version n program values flow code = (None, with_flow state n (changed_flow code program values flow))
 
-abbrev pub changed_to : Option Code → FeedState → Version → ℕ → ℕ → List Pair → Flow → Answered
+abbrev pub changed_to : Option Code → FeedState → Version → ℕ → ℕ → List Pair → Flow → MessageAnswer
 changed_to None state version n program values flow = refused state version n 6 program
 changed_to (Some code) state version n program values flow =
     if is_too_wide flow.version code then refused state version n 9 program
-    else changed_with (first_bad (length code.controls) values) state version n program values flow code
+    else changed_with (first_bad_pair (length code.controls) values) state version n program values flow code
 
-abbrev pub changed_at : Option Flow → FeedState → Version → ℕ → ℕ → List Pair → Answered
+abbrev pub changed_at : Option Flow → FeedState → Version → ℕ → ℕ → List Pair → MessageAnswer
 changed_at None state version n program values = refused state version n 3 0
 changed_at (Some flow) state version n program values =
     if nat_lt program most_kept_programs then changed_to (there state.programs program) state version n program values flow
     else refused state version n 4 program
 
-abbrev pub changed : FeedState → Version → ℕ → ℕ → List Pair → Answered
+abbrev pub changed : FeedState → Version → ℕ → ℕ → List Pair → MessageAnswer
 changed state version n program values = changed_at (there state.flows n) state version n program values
 
 -- ---- Update: values for the program that was started; a stopped one stays stopped
 
 -- the code that a flow runs
-abbrev pub code_of : Option Epoch → List (Option Code) → Option (Epoch × Code)
-code_of None programs = None
-code_of (Some epoch) programs = option_map (λ code. (epoch, code)) (there programs epoch.program)
+abbrev pub running_code : Option Epoch → List (Option Code) → Option (Epoch × Code)
+running_code None programs = None
+running_code (Some epoch) programs = option_map (λ code. (epoch, code)) (there programs epoch.program)
 
 abbrev pub updated_flow : List Pair → Flow → Flow
 updated_flow values flow = record flow { machine = updated_by values flow.machine }
 
-abbrev pub updated_with : Option ℕ → FeedState → Version → ℕ → List Pair → Flow → Answered
+abbrev pub updated_with : Option ℕ → FeedState → Version → ℕ → List Pair → Flow → MessageAnswer
 updated_with (Some place) state version n values flow = refused state version n 8 place
 updated_with None state version n values flow = (None, with_flow state n (updated_flow values flow))
 
-abbrev pub updated_on : Option (Epoch × Code) → FeedState → Version → ℕ → List Pair → Flow → Answered
+abbrev pub updated_on : Option (Epoch × Code) → FeedState → Version → ℕ → List Pair → Flow → MessageAnswer
 updated_on None state version n values flow = refused state version n 6 0
 updated_on (Some (epoch, code)) state version n values flow =
-    updated_with (first_bad (length code.controls) values) state version n values flow
+    updated_with (first_bad_pair (length code.controls) values) state version n values flow
 
-abbrev pub updated_at : Option Flow → FeedState → Version → ℕ → List Pair → Answered
+abbrev pub updated_at : Option Flow → FeedState → Version → ℕ → List Pair → MessageAnswer
 updated_at None state version n values = refused state version n 3 0
-updated_at (Some flow) state version n values = updated_on (code_of flow.epoch state.programs) state version n values flow
+updated_at (Some flow) state version n values = updated_on (running_code flow.epoch state.programs) state version n values flow
 
-abbrev pub updated : FeedState → Version → ℕ → List Pair → Answered
+abbrev pub updated : FeedState → Version → ℕ → List Pair → MessageAnswer
 updated state version n values = updated_at (there state.flows n) state version n values
 
 -- ---- Ack: one acknowledgement with room for a report, only counted if no program was started
@@ -178,22 +178,22 @@ message_about _ ack n epoch flow = None
 abbrev pub in_version : Version → Option Message → Answer
 in_version version told = option_map (λ message. (message, version)) told
 
-abbrev pub acked_on : Option (Epoch × Code) → FeedState → ℕ → Ack → Flow → Answered
+abbrev pub acked_on : Option (Epoch × Code) → FeedState → ℕ → Ack → Flow → MessageAnswer
 acked_on None state n ack flow = (None, with_flow state n (counted_flow ack flow))
 acked_on (Some (epoch, code)) state n ack flow =
-    let came = heard code ack true flow.machine in
+    let came = after_acknowledgement code ack true flow.machine in
     (in_version flow.version (message_about came ack n epoch flow), with_flow state n (flow_after came ack flow))
 
-abbrev pub acked_at : Option Flow → FeedState → Version → ℕ → Ack → Answered
-acked_at None state version n ack = refused state version n 3 0
-acked_at (Some flow) state version n ack = acked_on (code_of flow.epoch state.programs) state n ack flow
+abbrev pub flow_acked : Option Flow → FeedState → Version → ℕ → Ack → MessageAnswer
+flow_acked None state version n ack = refused state version n 3 0
+flow_acked (Some flow) state version n ack = acked_on (running_code flow.epoch state.programs) state n ack flow
 
-abbrev pub acked_by : FeedState → Version → ℕ → Ack → Answered
-acked_by state version n ack = acked_at (there state.flows n) state version n ack
+abbrev pub acked_by : FeedState → Version → ℕ → Ack → MessageAnswer
+acked_by state version n ack = flow_acked (there state.flows n) state version n ack
 
 -- ---- a message of any kind
 
-abbrev pub handled : FeedState → Message → Version → Answered
+abbrev pub handled : FeedState → Message → Version → MessageAnswer
 handled state (Create n mss cwnd) version = created state version n cwnd
 handled state (Install n program code) version = installed state version n program code
 handled state (Change n program values) version = changed state version n program values
@@ -203,12 +203,12 @@ handled state (Measure report) version = (None, state)
 handled state (Fault notice) version = (None, state)
 handled state (Refused n reason index) version = (None, state)
 
-abbrev pub counted : Answered → Answered
+abbrev pub counted : MessageAnswer → MessageAnswer
 counted (answer, state) = (answer, record state { messages = state.messages + 1 })
 
 -- the answer to a message, and the state after it; every message counts
-abbrev pub answered : FeedState → Message → Version → Answered
-answered state message version = counted (handled state message version)
+abbrev pub answer_message : FeedState → Message → Version → MessageAnswer
+answer_message state message version = counted (handled state message version)
 
 -- the messages whose handling takes memory: a Create of a flow that doesn't exist, for its machine
 abbrev pub TakesMemory : FeedState → Message → Type 0

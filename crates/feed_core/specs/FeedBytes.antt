@@ -9,7 +9,7 @@ use Rattle.ccp_messages.specs.declared.fault.DecodeFault.{DecodeFault}
 use Rattle.ccp_messages.specs.declared.fault.DecodeFault.TheVariants.{More, Bad, NoMemory}
 use Rattle.ccp_messages.specs.Messages.{frame_bytes}
 use Rattle.ccp_messages.specs.Decoding.{Found, decoded_of}
-use Rattle.feed_core.specs.Feed.{FeedState, no_flows, Answer, Answered, answered}
+use Rattle.feed_core.specs.Feed.{FeedState, no_flows, Answer, MessageAnswer, answer_message}
 
 -- after the last whole frame: a place, and the bytes from there on, which are no whole frame; or a bad byte's place
 pub data Tail : Type 0 where
@@ -27,18 +27,18 @@ answer_bytes (Some (message, version)) = frame_bytes version message
 
 -- the frame that answers a message, as it is written
 abbrev pub answer_to : FeedState → Message → Version → List ℕ
-answer_to state message version = answer_bytes (answered state message version).0
+answer_to state message version = answer_bytes (answer_message state message version).0
 
 abbrev pub with_answers : List ℕ → Fed → Fed
 with_answers answers fed = record { answers = answers ++ fed.answers; tail = fed.tail }
 
 -- an answer, and then those to the rest
-abbrev pub fed_after : Answered → (FeedState → Fed) → Fed
+abbrev pub fed_after : MessageAnswer → (FeedState → Fed) → Fed
 fed_after (answer, state) rest = with_answers (answer_bytes answer) (rest state)
 
 abbrev pub fed_on : (ℕ → FeedState → List ℕ → Fed) → ℕ → FeedState → List ℕ → Result Found DecodeFault → Fed
 fed_on rest place state bytes (Ok (message, version, used)) =
-    fed_after (answered state message version) (λ state. rest (place + used) state (drop used bytes))
+    fed_after (answer_message state message version) (λ state. rest (place + used) state (drop used bytes))
 fed_on rest place state bytes (Err (Bad field offset)) = record { answers = []; tail = bad field (place + offset) }
 fed_on rest place state bytes (Err (More needed)) = record { answers = []; tail = left place bytes }
 fed_on rest place state bytes (Err NoMemory) = record { answers = []; tail = left place bytes }
@@ -52,7 +52,7 @@ fed (suc frames) place state bytes = fed_on (fed frames) place state bytes (deco
 unfoldable pub feed_of : List ℕ → Fed
 feed_of bytes = fed most_input_bytes 0 no_flows (take most_input_bytes bytes)
 
--- how far a feed has come: what it took and wrote, its state, and the bytes after the frames that it has answered
+-- how far a feed has come: what it took and wrote, its state, and the bytes after the frames that it has answer_message
 pub record IsFeeding (source source' sink sink' : Known) (state : FeedState) (eaten : ℕ) (rest : List ℕ) : Type 0 where
   pub front : List ℕ
   pub answers : List ℕ

@@ -10,8 +10,8 @@ use Rattle.feed_core.specs.declared.ending.FeedEnd.TheVariants.{Whole, Bad, Cut,
 use Rattle.feed_core.specs.FeedBytes.{Tail, left, bad, feed_of}
 
 -- the answers to the frames of an input, as they are written
-abbrev pub answers_of : List ℕ → List ℕ
-answers_of bytes = (feed_of bytes).answers
+abbrev pub answers_written : List ℕ → List ℕ
+answers_written bytes = (feed_of bytes).answers
 
 -- the end after these frames, of an input that is too long or isn't: the first that holds of a bad frame, a further
 -- byte, a last frame that is cut; else it is whole
@@ -22,8 +22,8 @@ end_from (left place []) false = Whole
 end_from (left place (byte ∷ rest)) false = Cut place
 
 -- the end of an input
-abbrev pub end_of : List ℕ → FeedEnd
-end_of bytes = end_from (feed_of bytes).tail (nat_lt most_input_bytes (length bytes))
+abbrev pub feed_end : List ℕ → FeedEnd
+feed_end bytes = end_from (feed_of bytes).tail (nat_lt most_input_bytes (length bytes))
 
 -- a source or a sink over a call: the bytes that it has left, or was given, before and after, and how many of its calls
 -- had failed before and after
@@ -37,47 +37,47 @@ abbrev pub stream : Known → Known → ℕ → ℕ → Stream
 stream old new before now = record { old = old; new = new; before = before; now = now }
 
 -- these bytes were taken, and exactly the answers to the frames that they begin with were written
-pub record Answers (source sink : Stream) (bytes : List ℕ) : Type 0 where
+pub record AnswersInput (source sink : Stream) (bytes : List ℕ) : Type 0 where
   pub taken : Takes source.old source.new bytes
-  pub written : Appends sink.old sink.new (answers_of bytes)
+  pub written : Appends sink.old sink.new (answers_written bytes)
 
 -- the source was read to its end, and the input ends so
 pub record EndsThere (source sink : Stream) (end : FeedEnd) : Type 0 where
   pub bytes : List ℕ
-  pub answered : Answers source sink bytes
+  pub answered : AnswersInput source sink bytes
   pub at_end : IsAtEnd source.new
   pub within : length bytes ≤ most_input_bytes
-  pub end_is : end_of bytes ≡ end
+  pub end_is : feed_end bytes ≡ end
 
 -- the input ends so whatever follows what was taken of it, and has no further answers
 pub record EndsBefore (limit : ℕ) (source sink : Stream) (end : FeedEnd) : Type 0 where
   pub bytes : List ℕ
-  pub answered : Answers source sink bytes
+  pub answered : AnswersInput source sink bytes
   pub within : length bytes ≤ limit
-  pub end_is : (more : List ℕ) → end_of (bytes ++ more) ≡ end
-  pub no_more : (more : List ℕ) → answers_of (bytes ++ more) ≡ answers_of bytes
+  pub end_is : (more : List ℕ) → feed_end (bytes ++ more) ≡ end
+  pub no_more : (more : List ℕ) → answers_written (bytes ++ more) ≡ answers_written bytes
 
 -- the frames aren't at their end: none is bad, and there is no further byte
-abbrev pub IsOpen : FeedEnd → Type 0
-IsOpen Whole = Unit {0}
-IsOpen (Cut place) = Unit {0}
-IsOpen _ = ⊥
+abbrev pub MayGoOn : FeedEnd → Type 0
+MayGoOn Whole = Unit {0}
+MayGoOn (Cut place) = Unit {0}
+MayGoOn _ = ⊥
 
 -- a read failed, and all frames that were whole before it are answered
-pub record FailsToRead (source sink : Stream) : Type 0 where
+pub record FeedFailsToRead (source sink : Stream) : Type 0 where
   pub bytes : List ℕ
-  pub answered : Answers source sink bytes
+  pub answered : AnswersInput source sink bytes
   pub within : length bytes ≤ most_input_bytes
   pub rose : Rose source.before source.now
-  pub goes_on : IsOpen (end_of bytes)
+  pub goes_on : MayGoOn (feed_end bytes)
 
 -- a write failed, and a front of the answers to what was taken was written
-pub record FailsToWrite (source sink : Stream) : Type 0 where
+pub record FeedFailsToWrite (source sink : Stream) : Type 0 where
   pub bytes : List ℕ
   pub taken : Takes source.old source.new bytes
   pub within : length bytes ≤ most_input_bytes
   pub rose : Rose sink.before sink.now
-  pub front : AppendsPrefix sink.old sink.new (answers_of bytes)
+  pub front : AppendsPrefix sink.old sink.new (answers_written bytes)
 
 -- a Create begins the bytes that follow the front, and makes a flow: it has no answer
 pub record MakesFlow (front rest : List ℕ) : Type 0 where
@@ -87,7 +87,7 @@ pub record MakesFlow (front rest : List ℕ) : Type 0 where
   pub version : Version
   pub used : ℕ
   pub begins : Begins rest (Create flow mss cwnd) version used
-  pub unanswered : answers_of (front ++ take used rest) ≡ answers_of front
+  pub unanswered : answers_written (front ++ take used rest) ≡ answers_written front
 
 -- why memory is taken at bytes that follow the front: for the state at first, for the code of an Install, or for a flow
 abbrev pub TakesMemoryAt : List ℕ → List ℕ → Type 0
@@ -95,15 +95,15 @@ TakesMemoryAt front rest = (front ++ rest ≡ []) ⊎ (BeginsInstall rest ⊎ Ma
 
 -- out of memory: exactly the answers to the front are written, whose frames are whole, and the rest of what was taken,
 -- at most a frame's bytes, begins with what takes memory
-pub record WantsMemory (source sink : Stream) : Type 0 where
+pub record FeedLacksMemory (source sink : Stream) : Type 0 where
   pub front : List ℕ
   pub rest : List ℕ
   pub later : List ℕ
   pub taken : Takes source.old source.new (front ++ rest)
   pub within : length (front ++ rest) ≤ most_input_bytes
-  pub written : Appends sink.old sink.new (answers_of front)
-  pub begins : answers_of (front ++ rest) ≡ answers_of front ++ later
-  pub whole : end_of front ≡ Whole
+  pub written : Appends sink.old sink.new (answers_written front)
+  pub begins : answers_written (front ++ rest) ≡ answers_written front ++ later
+  pub whole : feed_end front ≡ Whole
   pub kept : length rest ≤ most_frame_bytes
   pub cause : TakesMemoryAt front rest
 
@@ -113,6 +113,6 @@ IsFed source sink is_finished Whole = EndsThere source sink Whole × is_finished
 IsFed source sink is_finished (Bad field place) = EndsBefore most_input_bytes source sink (Bad field place)
 IsFed source sink is_finished (Cut place) = EndsThere source sink (Cut place)
 IsFed source sink is_finished TooLong = EndsBefore (most_input_bytes + 1) source sink TooLong
-IsFed source sink is_finished ReadFailed = FailsToRead source sink
-IsFed source sink is_finished WriteFailed = FailsToWrite source sink
-IsFed source sink is_finished NoMemory = WantsMemory source sink
+IsFed source sink is_finished ReadFailed = FeedFailsToRead source sink
+IsFed source sink is_finished WriteFailed = FeedFailsToWrite source sink
+IsFed source sink is_finished NoMemory = FeedLacksMemory source sink

@@ -11,7 +11,7 @@ use Rattle.ccp_base.specs.Limits.{most_fields, most_flows, most_kept_programs}
 use Rattle.feed_core.specs.declared.flow.Epoch.{Epoch}
 use Rattle.feed_core.specs.declared.flow.Flow.{Flow}
 use Rattle.feed_core.specs.declared.tables.Tables.{Tables}
-use Rattle.feed_core.specs.Feed.{FeedState, Answer, next_epoch, code_of}
+use Rattle.feed_core.specs.Feed.{FeedState, Answer, next_epoch, running_code}
 
 -- the code of an accepted one
 abbrev pub code_in : Option Checked → Option Code
@@ -21,8 +21,8 @@ abbrev pub codes_in : List (Option Checked) → List (Option Code)
 codes_in programs = map code_in programs
 
 -- what contracts see of a feed
-abbrev pub state_of : Tables → FeedState
-state_of tables = record { flows = tables.flows.items; programs = codes_in tables.programs.items; messages = tables.messages }
+abbrev pub feed_state : Tables → FeedState
+feed_state tables = record { flows = tables.flows.items; programs = codes_in tables.programs.items; messages = tables.messages }
 
 -- the flow's machine runs the code, whose reports have frames of the flow's version
 abbrev pub RunsOn : Option Epoch → Version → MachineState → Option (Epoch × Code) → Type 0
@@ -35,7 +35,7 @@ pub record IsFlow (programs : List (Option Code)) (messages : ℕ) (flow : Flow)
   pub counted : flow.count ≤ messages
   pub spanned : flow.first ≤ flow.count
   pub changed : next_epoch flow.epoch ≤ messages
-  pub runs : RunsOn flow.epoch flow.version flow.machine (code_of flow.epoch programs)
+  pub runs : RunsOn flow.epoch flow.version flow.machine (running_code flow.epoch programs)
 
 abbrev pub IsFlowThere : List (Option Code) → ℕ → Option Flow → Type 0
 IsFlowThere programs messages None = Unit {0}

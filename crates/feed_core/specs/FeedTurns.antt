@@ -9,7 +9,7 @@ use Rattle.ccp_messages.specs.declared.fault.DecodeFault.TheVariants.{More, Bad,
 use Rattle.ccp_messages.specs.Decoding.{Begins, BeginsInstall, decoded_of}
 use Rattle.feed_core.specs.declared.turn.Turn.{Turn}
 use Rattle.feed_core.specs.declared.turn.Turn.TheVariants as turn
-use Rattle.feed_core.specs.Feed.{FeedState, answered, TakesMemory}
+use Rattle.feed_core.specs.Feed.{FeedState, answer_message, TakesMemory}
 use Rattle.feed_core.specs.FeedBytes.{answer_bytes}
 
 -- a frame begins the bytes, and its whole answer was written
@@ -19,9 +19,9 @@ pub record AnswersOne (old new : Known) (state state' : FeedState) (bytes : List
   pub begins : Begins bytes message version used
   pub some : 0 < used
   pub within : used ≤ length bytes
-  pub next : (answered state message version).1 ≡ state'
+  pub next : (answer_message state message version).1 ≡ state'
   pub counted : state'.messages ≡ state.messages + 1
-  pub written : Appends old new (answer_bytes (answered state message version).0)
+  pub written : Appends old new (answer_bytes (answer_message state message version).0)
 
 -- a frame begins the bytes, and a write of its answer failed
 pub record FailsOne (before now : ℕ) (old new : Known) (state : FeedState) (bytes : List ℕ) : Type 0 where
@@ -32,7 +32,7 @@ pub record FailsOne (before now : ℕ) (old new : Known) (state : FeedState) (by
   pub some : 0 < used
   pub within : used ≤ length bytes
   pub rose : Rose before now
-  pub written : AppendsPrefix old new (answer_bytes (answered state message version).0)
+  pub written : AppendsPrefix old new (answer_bytes (answer_message state message version).0)
 
 -- the turn of bytes that don't begin with a frame
 abbrev pub without_frame : DecodeFault → Turn

@@ -1,6 +1,6 @@
 -- The reasons for which a datapath over frames refuses a message: a row for each, with its exact condition.
 use Rattle.std.specs.Prelude.{◌≡◌, ◌↔◌, ℕ, ◌<◌, ◌≤◌, ◌+◌, true, false, Some, None, length}
-use Rattle.ccp_base.specs.FieldReg.{first_bad}
+use Rattle.ccp_base.specs.FieldReg.{first_bad_pair}
 use Rattle.ccp_base.specs.Limits.{most_flows, most_kept_programs, most_reason}
 use Rattle.reg_code.specs.declared.code.Code.{Code}
 use Rattle.reg_code.specs.AcceptedCode.{Refusal, rejected}
@@ -8,14 +8,14 @@ use Rattle.reply_frames.specs.declared.outline.Version.{Version}
 use Rattle.ccp_messages.specs.declared.message.Message.{Message}
 use Rattle.ccp_messages.specs.declared.message.Message.TheVariants.{Create, Install, Update, Change, Refused}
 use Rattle.ccp_messages.specs.declared.message.Message.TheVariants as message
-use Rattle.ccp_messages.specs.Messages.{flow_of}
+use Rattle.ccp_messages.specs.Messages.{message_flow}
 use Rattle.feed_core.specs.declared.flow.Epoch.{Epoch}
 use Rattle.feed_core.specs.declared.flow.Flow.{Flow}
-use Rattle.feed_core.specs.Feed.{FeedState, there, is_too_wide, code_of, answered}
+use Rattle.feed_core.specs.Feed.{FeedState, there, is_too_wide, running_code, answer_message}
 
 -- the message is refused for this reason, with this index, in the version of its frame
-abbrev pub IsRefused : FeedState → Message → Version → ℕ → ℕ → Type 0
-IsRefused state message version reason index = (answered state message version).0 ≡ Some (Refused (flow_of message) reason index, version)
+abbrev pub RefusesMessage : FeedState → Message → Version → ℕ → ℕ → Type 0
+RefusesMessage state message version reason index = (answer_message state message version).0 ≡ Some (Refused (message_flow message) reason index, version)
 
 -- ---- which flows and programs exist
 
@@ -61,7 +61,7 @@ ProgramExists state _ index = ⊥
 -- 6: a Change to a program that doesn't exist, or an Update of a flow without a program
 abbrev pub NoProgram : FeedState → Message → ℕ → Type 0
 NoProgram state (Change n program values) index = (flow : Flow) × IsFlowAt state n flow × IsFreeAt state program × (index ≡ program)
-NoProgram state (Update n values) index = (flow : Flow) × IsFlowAt state n flow × (code_of flow.epoch state.programs ≡ None) × (index ≡ 0)
+NoProgram state (Update n values) index = (flow : Flow) × IsFlowAt state n flow × (running_code flow.epoch state.programs ≡ None) × (index ≡ 0)
 NoProgram state _ index = ⊥
 
 -- 7: an Install of a code that isn't accepted
@@ -73,10 +73,10 @@ NotAccepted state _ index = ⊥
 abbrev pub NoRegister : FeedState → Message → ℕ → Type 0
 NoRegister state (Change n program values) index =
     (flow : Flow) × (code : Code) × IsFlowAt state n flow × IsCodeAt state program code
-    × (is_too_wide flow.version code ≡ false) × (first_bad (length code.controls) values ≡ Some index)
+    × (is_too_wide flow.version code ≡ false) × (first_bad_pair (length code.controls) values ≡ Some index)
 NoRegister state (Update n values) index =
     (flow : Flow) × (epoch : Epoch) × (code : Code) × IsFlowAt state n flow
-    × (code_of flow.epoch state.programs ≡ Some (epoch, code)) × (first_bad (length code.controls) values ≡ Some index)
+    × (running_code flow.epoch state.programs ≡ Some (epoch, code)) × (first_bad_pair (length code.controls) values ≡ Some index)
 NoRegister state _ index = ⊥
 
 -- 9: a Change of a flow of version 1 to a program of more than 32 fields
@@ -91,15 +91,15 @@ TooWide state _ index = ⊥
 -- a message is refused for the reason exactly if its row holds, with the row's index
 abbrev pub ComesWhere : ℕ → (FeedState → Message → ℕ → Type 0) → Type 0
 ComesWhere reason Row = (state : FeedState) (message : Message) (version : Version) (index : ℕ)
-    → (IsRefused state message version reason index ↔ Row state message index)
+    → (RefusesMessage state message version reason index ↔ Row state message index)
 
 -- there is no other reason
 abbrev pub NoOtherReason : Type 0
 NoOtherReason = (state : FeedState) (message : Message) (version : Version) (reason index : ℕ)
-    → IsRefused state message version reason index → (1 ≤ reason) × (reason ≤ most_reason)
+    → RefusesMessage state message version reason index → (1 ≤ reason) × (reason ≤ most_reason)
 
 -- a refused message is counted, and changes nothing else
 abbrev pub ChangesNothing : Type 0
 ChangesNothing = (state : FeedState) (message : Message) (version : Version) (reason index : ℕ)
-    → IsRefused state message version reason index
-    → (answered state message version).1 ≡ record state { messages = state.messages + 1 }
+    → RefusesMessage state message version reason index
+    → (answer_message state message version).1 ≡ record state { messages = state.messages + 1 }

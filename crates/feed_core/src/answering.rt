@@ -3,7 +3,7 @@
 ghost use Rattle.std.specs.Prelude.{◌≡◌, ◌+◌, ◌<◌, ◌≤◌, length, OnOk, IfErr, Err};
 ghost use Rattle.ccp_base.specs.Outside.{Rose, Appends, AppendsPrefix};
 ghost use Rattle.ccp_base.specs.Limits.{most_messages};
-ghost use Rattle.feed_core.specs.Feed.{answered, TakesMemory};
+ghost use Rattle.feed_core.specs.Feed.{answer_message, TakesMemory};
 ghost use Rattle.feed_core.specs.FeedHolds.{longest_answer};
 ghost use Rattle.ccp_messages.specs.Messages.{Meets, frame_bytes};
 ghost use Rattle.feed_core.specs.FeedBytes.{answer_to};
@@ -46,7 +46,7 @@ pub fn answer<K: Sink>(
     sink: &mut K,
 ) -> Result<(), Unanswered>
     requires few { feed.old.messages < most_messages }
-    ensures state { OnOk result (feed.new ≡ (answered feed.old message version).1) }
+    ensures state { OnOk result (feed.new ≡ (answer_message feed.old message version).1) }
     ensures one { OnOk result (feed.new.messages ≡ feed.old.messages + 1) }
     ensures written { OnOk result
         (Appends (K.written sink.old) (K.written sink.new) (answer_to feed.old message version)) }

@@ -2,7 +2,7 @@
 
 ghost use Rattle.std.specs.Prelude.{◌≡◌, ◌+◌, ◌<◌, IfOk, OnOk, OnErr};
 ghost use Rattle.ccp_base.specs.Limits.{most_messages};
-ghost use Rattle.feed_core.specs.Feed.{no_flows, answered, TakesMemory};
+ghost use Rattle.feed_core.specs.Feed.{no_flows, answer_message, TakesMemory};
 ghost use Rattle.feed_core.specs.FeedHolds.{HasFrame};
 
 use crate::tables::Tables;
@@ -27,11 +27,11 @@ impl Model for Feed {
 
     ghost coded = { Prim.hlevel (codes, machine_code) };
 
-    ghost use Rattle.feed_core.specs.FeedHolds.{state_of, IsFeed};
+    ghost use Rattle.feed_core.specs.FeedHolds.{feed_state, IsFeed};
 
-    ghost view = { λ feed. state_of feed.tables };
+    ghost view = { λ feed. feed_state feed.tables };
 
-    ghost invariant = { λ feed. IsFeed (state_of feed.tables) };
+    ghost invariant = { λ feed. IsFeed (feed_state feed.tables) };
 }
 
 impl Feed {
@@ -60,7 +60,7 @@ impl Feed {
         version: Version,
     ) -> Result<Option<(Message, Version)>, NoMemory>
         requires few { self.old.messages < most_messages }
-        ensures answered { IfOk result (λ answer. (answer, self.new) ≡ answered self.old message version) }
+        ensures answered { IfOk result (λ answer. (answer, self.new) ≡ answer_message self.old message version) }
         ensures unchanged { OnErr result (self.new ≡ self.old) }
         ensures memory { OnErr result (TakesMemory self.old message) }
         ensures counted { OnOk result (self.new.messages ≡ self.old.messages + 1) }

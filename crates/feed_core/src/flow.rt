@@ -2,8 +2,8 @@
 
 ghost use Rattle.std.specs.Prelude.{◌≡◌, ◌+◌, ◌<◌, ◌^◌, true, None, IfOk, Some, IsOk, ◌↔◌, length, IfErr, OnOk, OnErr};
 ghost use Rattle.fold_machine.specs.MachineState.{Fits};
-ghost use Rattle.fold_machine.specs.Heard.{heard};
-ghost use Rattle.ccp_base.specs.FieldReg.{first_bad};
+ghost use Rattle.fold_machine.specs.Heard.{after_acknowledgement};
+ghost use Rattle.ccp_base.specs.FieldReg.{first_bad_pair};
 ghost use Rattle.feed_core.specs.Feed.{fresh_flow, next_epoch, changed_flow, updated_flow};
 ghost use Rattle.feed_core.specs.Feed.{counted_flow, flow_after, message_about};
 
@@ -63,8 +63,8 @@ impl Flow {
         values: &Fields,
     ) -> Result<(), BadRegister>
         requires { next_epoch self.old.epoch < 2 ^ 32 }
-        ensures ok { IsOk result ↔ (first_bad (length code.now.code.controls) values.now ≡ None) }
-        ensures refused { IfErr result (λ bad. first_bad (length code.now.code.controls) values.now ≡ Some bad.0) }
+        ensures ok { IsOk result ↔ (first_bad_pair (length code.now.code.controls) values.now ≡ None) }
+        ensures refused { IfErr result (λ bad. first_bad_pair (length code.now.code.controls) values.now ≡ Some bad.0) }
         ensures changed { OnOk result (self.new ≡ changed_flow code.now.code program values.now self.old) }
         ensures fits { OnOk result (Fits self.new.machine code.now.code) }
         ensures unchanged { OnErr result (self.new ≡ self.old) }
@@ -79,8 +79,8 @@ impl Flow {
     /// Writes values of the program that was started. After a refusal nothing has changed.
     pub fn update(&mut self, code: &Checked, values: &Fields) -> Result<(), BadRegister>
         requires { Fits self.old.machine code.now.code }
-        ensures ok { IsOk result ↔ (first_bad (length code.now.code.controls) values.now ≡ None) }
-        ensures refused { IfErr result (λ bad. first_bad (length code.now.code.controls) values.now ≡ Some bad.0) }
+        ensures ok { IsOk result ↔ (first_bad_pair (length code.now.code.controls) values.now ≡ None) }
+        ensures refused { IfErr result (λ bad. first_bad_pair (length code.now.code.controls) values.now ≡ Some bad.0) }
         ensures updated { OnOk result (self.new ≡ updated_flow values.now self.old) }
         ensures unchanged { OnErr result (self.new ≡ self.old) }
     {
@@ -101,8 +101,8 @@ impl Flow {
         requires count { self.old.count + 1 < 2 ^ 64 }
         requires fits { Fits self.old.machine code.now.code }
         ensures after { self.new
-            ≡ flow_after (heard code.now.code ack.entry.now true self.old.machine) ack.entry.now self.old }
-        ensures message { result ≡ message_about (heard code.now.code ack.entry.now true self.old.machine)
+            ≡ flow_after (after_acknowledgement code.now.code ack.entry.now true self.old.machine) ack.entry.now self.old }
+        ensures message { result ≡ message_about (after_acknowledgement code.now.code ack.entry.now true self.old.machine)
             ack.entry.now number epoch self.old }
         ensures fits { Fits self.new.machine code.now.code }
     {
@@ -164,7 +164,7 @@ fn run<L: Ledger>(machine: &mut Machine, code: &Checked, ack: &Ack, blank: Blank
     requires parts { blank.parts ≡ L.parts }
     requires some { 0 < blank.parts }
     requires fits { Fits machine.old code.now.code }
-    ensures heard { (Some result, machine.new) ≡ heard code.now.code ack.entry.now true machine.old }
+    ensures heard { (Some result, machine.new) ≡ after_acknowledgement code.now.code ack.entry.now true machine.old }
     ensures fits { Fits machine.new code.now.code }
 {
     let mut steps = Steps::<L>::new(blank);

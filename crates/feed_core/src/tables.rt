@@ -5,8 +5,8 @@ ghost use Rattle.std.specs.Prelude.{OnErr, IsTrue, ◌↔◌, true, option_map, 
 ghost use Rattle.ccp_base.specs.Limits.{most_flows, most_messages};
 ghost use Rattle.reg_code.specs.declared.checked.Checked.{Checked};
 ghost use Rattle.feed_core.specs.Feed.{no_flows, there, refused, created, installed, is_too_wide, changed};
-ghost use Rattle.feed_core.specs.Feed.{code_of, updated, in_version, acked_by, handled, answered, TakesMemory};
-ghost use Rattle.feed_core.specs.FeedHolds.{state_of, codes_in, AreFeedParts, IsFeed, HasFrame};
+ghost use Rattle.feed_core.specs.Feed.{running_code, updated, in_version, acked_by, handled, answer_message, TakesMemory};
+ghost use Rattle.feed_core.specs.FeedHolds.{feed_state, codes_in, AreFeedParts, IsFeed, HasFrame};
 
 use crate::flow::{Epoch, Flow};
 use ccp_base::{Ack, Fields, NoMemory};
@@ -57,7 +57,7 @@ fn program_at(programs: &[Option<Checked>], number: u32) -> Option<&Checked>
 
 /// The program that a flow runs, with its epoch.
 fn code_of(epoch: Option<Epoch>, programs: &[Option<Checked>]) -> Option<(Epoch, &Checked)>
-    ensures { option_map (λ pair. (pair.0, pair.1.now.code)) result ≡ code_of epoch (codes_in programs.now) }
+    ensures { option_map (λ pair. (pair.0, pair.1.now.code)) result ≡ running_code epoch (codes_in programs.now) }
 {
     let epoch = epoch?;
     let checked = program_at(programs, epoch.program)?;
@@ -101,8 +101,8 @@ fn refused(version: Version, flow: u32, reason: u8, index: u32) -> Option<(Messa
 impl Tables {
     /// No flows and no programs.
     pub fn new(alloc: Global) -> Result<Tables, NoMemory>
-        ensures state { IfOk result (λ tables. state_of tables ≡ no_flows) }
-        ensures is_feed { IfOk result (λ tables. IsFeed (state_of tables)) }
+        ensures state { IfOk result (λ tables. feed_state tables ≡ no_flows) }
+        ensures is_feed { IfOk result (λ tables. IsFeed (feed_state tables)) }
     {
         Ok(Tables {
             flows: places(alloc, FLOWS)?,
@@ -120,13 +120,13 @@ impl Tables {
         version: Version,
     ) -> Result<Option<(Message, Version)>, NoMemory>
         requires few { self.old.messages < most_messages }
-        requires is_feed { IsFeed (state_of self.old) }
+        requires is_feed { IsFeed (feed_state self.old) }
         ensures answered { IfOk result (λ answer.
-            (answer, state_of self.new) ≡ answered (state_of self.old) message version) }
-        ensures unchanged { OnErr result (state_of self.new ≡ state_of self.old) }
-        ensures memory { OnErr result (TakesMemory (state_of self.old) message) }
+            (answer, feed_state self.new) ≡ answer_message (feed_state self.old) message version) }
+        ensures unchanged { OnErr result (feed_state self.new ≡ feed_state self.old) }
+        ensures memory { OnErr result (TakesMemory (feed_state self.old) message) }
         ensures counted { OnOk result (self.new.messages ≡ self.old.messages + 1) }
-        ensures is_feed { IsFeed (state_of self.new) }
+        ensures is_feed { IsFeed (feed_state self.new) }
         ensures frame { IfOk result HasFrame }
     {
         let answer = self.handle(alloc, message, version)?;
@@ -142,12 +142,12 @@ impl Tables {
         version: Version,
     ) -> Result<Option<(Message, Version)>, NoMemory>
         requires few { self.old.messages < most_messages }
-        requires is_feed { IsFeed (state_of self.old) }
+        requires is_feed { IsFeed (feed_state self.old) }
         ensures handled { IfOk result (λ answer.
-            (answer, state_of self.new) ≡ handled (state_of self.old) message version) }
+            (answer, feed_state self.new) ≡ handled (feed_state self.old) message version) }
         ensures messages { self.new.messages ≡ self.old.messages }
-        ensures unchanged { OnErr result (state_of self.new ≡ state_of self.old) }
-        ensures memory { OnErr result (TakesMemory (state_of self.old) message) }
+        ensures unchanged { OnErr result (feed_state self.new ≡ feed_state self.old) }
+        ensures memory { OnErr result (TakesMemory (feed_state self.old) message) }
     {
         match message {
             Message::Create { flow, cwnd, .. } => self.create(alloc, version, flow, cwnd),
@@ -175,12 +175,12 @@ impl Tables {
         n: u32,
         cwnd: u64,
     ) -> Result<Option<(Message, Version)>, NoMemory>
-        requires is_feed { IsFeed (state_of self.old) }
+        requires is_feed { IsFeed (feed_state self.old) }
         ensures handled { IfOk result (λ answer.
-            (answer, state_of self.new) ≡ created (state_of self.old) version n cwnd) }
+            (answer, feed_state self.new) ≡ created (feed_state self.old) version n cwnd) }
         ensures messages { self.new.messages ≡ self.old.messages }
-        ensures unchanged { OnErr result (state_of self.new ≡ state_of self.old) }
-        ensures memory { OnErr result ((n < most_flows) × (there (state_of self.old).flows n ≡ None)) }
+        ensures unchanged { OnErr result (feed_state self.new ≡ feed_state self.old) }
+        ensures memory { OnErr result ((n < most_flows) × (there (feed_state self.old).flows n ≡ None)) }
     {
         let at = n as usize;
         if at >= FLOWS {
@@ -201,8 +201,8 @@ impl Tables {
         program: u32,
         code: Code,
     ) -> Option<(Message, Version)>
-        requires is_feed { IsFeed (state_of self.old) }
-        ensures handled { (result, state_of self.new) ≡ installed (state_of self.old) version n program code }
+        requires is_feed { IsFeed (feed_state self.old) }
+        ensures handled { (result, feed_state self.new) ≡ installed (feed_state self.old) version n program code }
         ensures messages { self.new.messages ≡ self.old.messages }
     {
         let at = program as usize;
@@ -230,8 +230,8 @@ impl Tables {
         values: &Fields,
     ) -> Option<(Message, Version)>
         requires few { self.old.messages < most_messages }
-        requires is_feed { IsFeed (state_of self.old) }
-        ensures handled { (result, state_of self.new) ≡ changed (state_of self.old) version n program values.now }
+        requires is_feed { IsFeed (feed_state self.old) }
+        ensures handled { (result, feed_state self.new) ≡ changed (feed_state self.old) version n program values.now }
         ensures messages { self.new.messages ≡ self.old.messages }
     {
         let at = n as usize;
@@ -258,8 +258,8 @@ impl Tables {
 
     /// Writes values of the program that was started on a flow.
     fn update(&mut self, version: Version, n: u32, values: &Fields) -> Option<(Message, Version)>
-        requires is_feed { IsFeed (state_of self.old) }
-        ensures handled { (result, state_of self.new) ≡ updated (state_of self.old) version n values.now }
+        requires is_feed { IsFeed (feed_state self.old) }
+        ensures handled { (result, feed_state self.new) ≡ updated (feed_state self.old) version n values.now }
         ensures messages { self.new.messages ≡ self.old.messages }
     {
         let at = n as usize;
@@ -281,8 +281,8 @@ impl Tables {
     /// Runs an acknowledgement of a flow.
     fn ack(&mut self, version: Version, n: u32, ack: &Ack) -> Option<(Message, Version)>
         requires few { self.old.messages < most_messages }
-        requires is_feed { IsFeed (state_of self.old) }
-        ensures handled { (result, state_of self.new) ≡ acked_by (state_of self.old) version n ack.entry.now }
+        requires is_feed { IsFeed (feed_state self.old) }
+        ensures handled { (result, feed_state self.new) ≡ acked_by (feed_state self.old) version n ack.entry.now }
         ensures messages { self.new.messages ≡ self.old.messages }
     {
         let at = n as usize;

@@ -20,7 +20,7 @@ use Rattle.fold_machine.specs.MachineState.{Fits}
 use Rattle.fold_machine.specs.Store.{slot_words}
 use Rattle.slot_pool.specs.Pool.{PoolState, words_at, free_of}
 use Rattle.flow_core.specs.declared.bare.BareParts.{BareParts}
-use Rattle.flow_core.specs.Outbox.{OutboxState, report_words, IsInRange, AreStored, Lies, next_told, notice_left}
+use Rattle.flow_core.specs.Outbox.{OutboxState, report_words, ReportFits, AreStored, Lies, next_told, notice_left}
 use Rattle.flow_core.specs.Readings.{Flow, env_of, code_at, by_code, over_codes}
 use Rattle.flow_core.specs.ReportWords.{narrow, report_in}
 use Rattle.flow_core.specs.States.{outcome_by, some_count}
@@ -36,7 +36,7 @@ narrow-small : (n : ℕ) → n ≤ 4294967295 → narrow n ≡ n
 narrow-small n small = omega (arith, small)
 
 -- words that begin with a report's
-read-again : (report : Report) (rest : List ℕ) → IsInRange report → report_in (report_words report ++ rest) ≡ report
+read-again : (report : Report) (rest : List ℕ) → ReportFits report → report_in (report_words report ++ rest) ≡ report
 read-again report rest range =
     let few : min (length report.fields) 64 ≡ length report.fields = omega (arith, range.fields) in
     λ i. record {
@@ -51,7 +51,7 @@ read-again report rest range =
       fields = (ap (λ (n : ℕ). take n (report.fields ++ rest)) few ∙ take-append_seam report.fields rest) i;
     }
 
-read-stored : (report : Report) (words : Option (List ℕ)) → IsInRange report
+read-stored : (report : Report) (words : Option (List ℕ)) → ReportFits report
     → option_map (take (length (report_words report))) words ≡ Some (report_words report) → report_in (unwrap_or words []) ≡ report
 read-stored report None range begins = absurd (let wrong : None ≡ Some (report_words report) = begins in (cc))
 read-stored report (Some words) range begins =

@@ -7,7 +7,7 @@ use Rattle.portus_core.specs.Epoch as epoch
 use Rattle.slot_pool.specs.Pool.{free_of}
 use Rattle.fold_machine.specs.MachineState.{MachineState}
 use Rattle.reg_code.specs.CodeStart.{declared_kept}
-use Rattle.agent_core.specs.Agents.{begun, values_of}
+use Rattle.agent_core.specs.Agents.{opening_change, values_of}
 use Rattle.flow_core.specs.declared.bare.First.{First}
 use Rattle.flow_core.specs.declared.bare.BareParts.{BareParts}
 use Rattle.flow_core.specs.declared.case.Case.{Case}
@@ -39,7 +39,7 @@ module _ (case : Case) (made : First) (is : IsFirst case made) where
 
   env-open : env_of made.machine.kept ≡ (opening (over_codes case)).present.first
   env-open =
-      let values = values_of case.agent (begun case.agent) in
+      let values = values_of case.agent (opening_change case.agent) in
       ap (λ (m : MachineState). env_of m.kept) is.machine
       ∙ values-alike values (declared_kept (code_at case made.program) 0 0 0)
       ∙ (λ i. epoch.with_values values (env_of (declared_kept (code_at case (is.program i)) 0 0 0)))

@@ -2,7 +2,7 @@
 use Rattle.std.specs.Prelude.{Some, Result, Ok, Err, OnOk, OnErr, IfOk, ◌≡◌, ℕ, ◌+◌, ◌<◌, Bool, true, false, ◌&&◌, [], ◌∷◌, ◌++◌, length, refl}
 use Rattle.std.proofs.Common.{ap, sym, ◌∙◌, subst, arith, length-append}
 use Rattle.ccp_base.specs.declared.ack.Ack.{Ack}
-use Rattle.link_model.specs.Link.{ack_after, acks_of}
+use Rattle.link_model.specs.Link.{ack_after, acks_for_windows}
 use Rattle.link_model.specs.LinkLaws.{acks_of-push}
 use Rattle.link_model.specs.Standing.{LinkState, Stands}
 use Rattle.agent_core.specs.declared.ticket.Ticket.{Ticket}
@@ -12,7 +12,7 @@ use Rattle.flow_core.specs.Words.{legal, legal_over}
 use Rattle.flow_core.specs.WordLaws.{world-append, acks_in-A, acks_in-T, acks_in-C}
 use Rattle.flow_core.specs.Books.{out_ticket}
 use Rattle.flow_core.specs.Cores.{CoreState, flow_in, world_in, out_in}
-use Rattle.flow_core.specs.Cells.{CellState, world_at, ack_at, out_at, IsCell, IsLifted}
+use Rattle.flow_core.specs.Cells.{CellState, world_at, ack_at, out_at, IsCell, StateHoldsForSources}
 use Rattle.flow_core.proofs.WordLemmas.{take-keeps, answer-keeps, acks-of-world_over}
 use Rattle.flow_core.proofs.LinkWordLemmas.{over-link, legal_over-link}
 use Rattle.flow_core.proofs.LiftLemmas.{link-lift}
@@ -21,7 +21,7 @@ abbrev pub cell_of : CoreState → CellState
 cell_of core = record { case = core.case; word = core.word }
 
 -- the state over a link is lifted to the sources
-pub lifted : (cell : CellState) → IsLifted cell
+pub lifted : (cell : CellState) → StateHoldsForSources cell
 lifted cell ss ca ss_places ca_places ss_same ca_same = link-lift cell.case ss ca ss_places ca_places ss_same ca_same cell.case.link cell.word
 
 module _ (core : CoreState) (link : LinkState) (cell : IsCell core link) where
@@ -55,7 +55,7 @@ module _ (core : CoreState) (link : LinkState) (cell : IsCell core link) where
         acks =
             (λ i. cell.acks i ++ is_ack i ∷ [])
             ∙ sym (acks_of-push core.case.link w.windows window)
-            ∙ ap (acks_of core.case.link) (sym windows);
+            ∙ ap (acks_for_windows core.case.link) (sym windows);
         stands = subst (Stands next) (sym windows) stands;
         calls = omega (arith, calls, old_calls, more);
         within = omega (arith, left, more);
@@ -70,7 +70,7 @@ module _ (core : CoreState) (link : LinkState) (cell : IsCell core link) where
       let whole : IsCell literal link = record {
         case = cell.case;
         all = acks_in-T core.word ∙ cell.all;
-        acks = cell.acks ∙ ap (acks_of core.case.link) (sym windows);
+        acks = cell.acks ∙ ap (acks_for_windows core.case.link) (sym windows);
         stands = subst (Stands link) (sym windows) cell.stands;
         calls = cell.calls;
         within = cell.within;
@@ -85,7 +85,7 @@ module _ (core : CoreState) (link : LinkState) (cell : IsCell core link) where
       let whole : IsCell literal link = record {
         case = cell.case;
         all = acks_in-C core.word ∙ cell.all;
-        acks = cell.acks ∙ ap (acks_of core.case.link) (sym windows);
+        acks = cell.acks ∙ ap (acks_for_windows core.case.link) (sym windows);
         stands = subst (Stands link) (sym windows) cell.stands;
         calls = cell.calls;
         within = cell.within;

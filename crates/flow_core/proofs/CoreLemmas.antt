@@ -27,7 +27,7 @@ use Rattle.flow_core.specs.Cores.{acked_as}
 use Rattle.flow_core.specs.States.{issued_as, some_count}
 use Rattle.flow_core.specs.Summaries.{Summary, summary, outcome_at, step_ack, next_telling, with_told, step_take, can_tell, step_reply, step_turn, step_out, step_answer, may_make}
 use Rattle.flow_core.specs.Bares.{BareState, told_ticket, InRange}
-use Rattle.flow_core.specs.Journals.{with_item, with_some, journal_ack, journal_take, journal_answer, new_notice, line_of, taken_at, line_after, HasRoom, HaveRoom, HasLines, Records, world_by, letter_count, IsCore}
+use Rattle.flow_core.specs.Journals.{with_item, with_some, journal_ack, journal_take, journal_answer, new_notice, journal_line, taken_at, line_after, HasRoom, HaveLineRoom, HasLines, Records, world_by, letter_count, IsCore}
 use Rattle.flow_core.proofs.WordLemmas.{world_over-A, legal_over-A}
 use Rattle.flow_core.proofs.SummaryLemmas.{summary-ack, summary-take, summary-answer, summary-legal}
 use Rattle.flow_core.proofs.JournalLemmas.{records-ack, records-take, records-answer}
@@ -70,7 +70,7 @@ module _ {X : Type 0} where
   room-some (Some item) list = refl
 
 -- whatever is out has its room where there is room
-lines-any : (out : Option Issued) (j : Journal) → HaveRoom j.tickets j.epochs → HasLines out j.tickets j.epochs
+lines-any : (out : Option Issued) (j : Journal) → HaveLineRoom j.tickets j.epochs → HasLines out j.tickets j.epochs
 lines-any None j room = tt
 lines-any (Some issued) j room = room
 
@@ -147,9 +147,9 @@ module _ (bare : BareState) (j : Journal) (core : IsCore bare j) where
         let none = ap some_count (none-out s.out (can_tell s) may) in
         omega (arith, core.letters, none, range.tickets, range.acks, told-some s.waiting s.untold (can-out s.out (can_tell s) may), core.rooms.word)
 
-    pub room-C : (ticket : Ticket) → told_ticket bare.case s ≡ Some ticket → HasRoom j.word × HaveRoom j.tickets j.epochs
+    pub room-C : (ticket : Ticket) → told_ticket bare.case s ≡ Some ticket → HasRoom j.word × HaveLineRoom j.tickets j.epochs
     room-C ticket is = by s.out refl core.lines where
-      by : (out : Option Issued) → s.out ≡ out → HasLines out j.tickets j.epochs → HasRoom j.word × HaveRoom j.tickets j.epochs
+      by : (out : Option Issued) → s.out ≡ out → HasLines out j.tickets j.epochs → HasRoom j.word × HaveLineRoom j.tickets j.epochs
       by None none lines = absurd (none-some ticket (sym (ap (λ (o : Option Issued). told_ticket bare.case (record s { out = o })) none) ∙ is))
       by (Some issued) some lines =
           let one = ap some_count some in
@@ -215,7 +215,7 @@ module _ (bare : BareState) (j : Journal) (core : IsCore bare j) where
     pub world-T : world_by bare-T (journal_take j) ≡ after_take w
     world-T = world_over-append flow j.acks.items j.word.items T
 
-    pub core-T : HaveRoom j.tickets j.epochs → IsCore bare-T (journal_take j)
+    pub core-T : HaveLineRoom j.tickets j.epochs → IsCore bare-T (journal_take j)
     core-T room = record {
       stands = ap step_take core.stands ∙ sym (summary-take flow w) ∙ ap (summary flow) (sym world-T);
       records = subst (λ (v : World ℕ). Records flow v (journal_take j)) (sym world-T) (records-take flow w j core.records);
@@ -237,7 +237,7 @@ module _ (bare : BareState) (j : Journal) (core : IsCore bare j) where
     bare-C = record bare { summary = step_answer flow s }
 
     abbrev journal-C : Journal
-    journal-C = journal_answer (line_of ticket (taken_at s) s.acks) (line_after s.epoch (step_answer flow s)) j
+    journal-C = journal_answer (journal_line ticket (taken_at s) s.acks) (line_after s.epoch (step_answer flow s)) j
 
     pub world-C : world_by bare-C journal-C ≡ after_answer flow w
     world-C = world_over-append flow j.acks.items j.word.items C
@@ -248,8 +248,8 @@ module _ (bare : BareState) (j : Journal) (core : IsCore bare j) where
     records-C : Records flow (after_answer flow w) journal-C
     records-C =
         let o = out-is flow w ticket (sym out-same ∙ is) in
-        let line : line_of (ticket_of flow w o.taken.told) (taken_at (summary flow w)) (length w.acks) ≡ line_of ticket (taken_at s) s.acks =
-        λ i. line_of (o.same i) (taken_at (sym core.stands i)) (sym core.stands i).acks in
+        let line : journal_line (ticket_of flow w o.taken.told) (taken_at (summary flow w)) (length w.acks) ≡ journal_line ticket (taken_at s) s.acks =
+        λ i. journal_line (o.same i) (taken_at (sym core.stands i)) (sym core.stands i).acks in
         let begun : line_after (length w.past) (summary flow (after_answer flow w)) ≡ line_after s.epoch (step_answer flow s) =
         λ i. line_after (sym core.stands i).epoch (sym after-C i) in
         subst (Records flow (after_answer flow w)) (λ i. journal_answer (line i) (begun i) j)
@@ -279,7 +279,7 @@ module _ (bare : BareState) (j : Journal) (core : IsCore bare j) where
       all = acks_in-C j.word.items ∙ core.all;
       letters = length-append j.word.items (C ∷ []) ∙ ap (λ (n : ℕ). n + 1) core.letters ∙ sym counts-C.0;
       rooms = record { faults = core.rooms.faults; acks = core.rooms.acks; word = core.rooms.word };
-      lines = subst (λ (out : Option Issued). HasLines out (with_item (line_of ticket (taken_at s) s.acks) j.tickets) (with_some (line_after s.epoch (step_answer flow s)) j.epochs)) (sym counts-C.1) tt;
+      lines = subst (λ (out : Option Issued). HasLines out (with_item (journal_line ticket (taken_at s) s.acks) j.tickets) (with_some (line_after s.epoch (step_answer flow s)) j.epochs)) (sym counts-C.1) tt;
     }
 
 -- ---- a ticket is taken, once room for the lines of its answer was reserved
@@ -287,7 +287,7 @@ module _ (bare : BareState) (j : Journal) (core : IsCore bare j) where
 module _ (bare : BareState) (j : Journal) (core : IsCore bare j) (may : may_make (over_codes bare.case) bare.summary T ≡ true)
     (room_for : Journal) (framed : room_for ≡ record j { tickets = room_for.tickets; epochs = room_for.epochs })
     (same_tickets : room_for.tickets.items ≡ j.tickets.items) (same_epochs : room_for.epochs.items ≡ j.epochs.items)
-    (room : HaveRoom room_for.tickets room_for.epochs)
+    (room : HaveLineRoom room_for.tickets room_for.epochs)
     (new : BareState) (next : Journal) (step : new ≡ record bare { summary = step_take bare.summary }) (put : next ≡ journal_take room_for) where
   core-before : IsCore bare room_for
   core-before =

@@ -25,7 +25,7 @@ use Rattle.flow_core.specs.Books.{ticket_of, ticket_line, epoch_line}
 use Rattle.flow_core.specs.Cores.{acked_as}
 use Rattle.flow_core.specs.States.{issued_as}
 use Rattle.flow_core.specs.Summaries.{summary, notice_after, outcome_at, step_ack}
-use Rattle.flow_core.specs.Journals.{with_item, with_some, journal_ack, journal_take, journal_answer, new_notice, line_of, taken_at, begun_line, line_after, Records}
+use Rattle.flow_core.specs.Journals.{with_item, with_some, journal_ack, journal_take, journal_answer, new_notice, journal_line, taken_at, begun_line, line_after, Records}
 
 module _ (flow : Flow ℕ) where
   -- ---- A
@@ -103,7 +103,7 @@ module _ (flow : Flow ℕ) where
   module _ (w : World ℕ) (ticket : Taken ℕ) (out : w.out ≡ Some ticket) (j : Journal) (records : Records flow w j) where
     -- its line
     abbrev line : TicketLine
-    line = line_of (ticket_of flow w ticket.told) (taken_at (summary flow w)) (length w.acks)
+    line = journal_line (ticket_of flow w ticket.told) (taken_at (summary flow w)) (length w.acks)
 
     records-turn : Records flow (with_turn flow ticket (replied w.agent (told_as flow ticket.told)) w)
         (journal_answer line (line_after (length w.past) (summary flow (with_turn flow ticket (replied w.agent (told_as flow ticket.told)) w))) j)

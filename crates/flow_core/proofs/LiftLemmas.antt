@@ -18,7 +18,7 @@ use Rattle.portus_core.specs.Epoch.{Outcome, Track, track_at, heard, with_values
 use Rattle.portus_core.specs.Reports.{Epoch}
 use Rattle.reg_compiler.specs.Simulation.{Simulates}
 use Rattle.agent_core.specs.declared.agent.Agent.{Agent}
-use Rattle.agent_core.specs.Agents.{begun, replied, course_of, values_of}
+use Rattle.agent_core.specs.Agents.{opening_change, replied, course_of, values_of}
 use Rattle.agent_core.proofs.ReplyLemmas.{replied-site}
 use Rattle.flow_core.specs.declared.case.Case.{Case}
 use Rattle.flow_core.specs.Readings.{Flow, by_number, code_at, over_codes, over_sources}
@@ -233,10 +233,10 @@ module _ (case : Case) (ss ca : Form) (ss_places ca_places : List Place)
 
   opening-lifts : map_world place (opening codes) ≡ opening sources
   opening-lifts = ap (λ (era : Era). record (opening sources) { present = era })
-      (era-lifts (course_of case.agent).ss.number 0 (values_of case.agent (begun case.agent)) 0 0 0)
+      (era-lifts (course_of case.agent).ss.number 0 (values_of case.agent (opening_change case.agent)) 0 0 0)
 
   Shaped-opening : Shaped (opening codes).present
-  Shaped-opening = Shaped-era (course_of case.agent).ss.number 0 (values_of case.agent (begun case.agent)) 0 0 0
+  Shaped-opening = Shaped-era (course_of case.agent).ss.number 0 (values_of case.agent (opening_change case.agent)) 0 0 0
 
   from_list-alike : (acks : List Ack) → GivesAlike (from_list acks) (from_list acks)
   from_list-alike acks w shape = refl

@@ -3,7 +3,7 @@ use Rattle.std.specs.Prelude.{◌≡◌, ℕ, ◌+◌, ◌&&◌, Option, Some, N
 use Rattle.std.proofs.Common.{ap, sym, ◌∙◌, subst, arith, append_assoc, append-nil, length-append}
 use Rattle.ccp_base.specs.declared.ack.Ack.{Ack}
 use Rattle.link_model.specs.declared.link_case.LinkCase.{LinkCase}
-use Rattle.link_model.specs.Link.{ack_after, acks_of}
+use Rattle.link_model.specs.Link.{ack_after, acks_for_windows}
 use Rattle.link_model.specs.LinkLaws.{acks_of-push}
 use Rattle.flow_core.specs.declared.letter.Letter.{Letter}
 use Rattle.flow_core.specs.declared.letter.Letter.TheVariants.{A, T, C}
@@ -26,14 +26,14 @@ GoesOn-one : {Y : Type 0} → (before : List Y) (one : Y) (now : List Y) → Goe
 GoesOn-one before one now on = (one ∷ on.0, on.1 ∙ append_assoc before (one ∷ []) on.0)
 
 -- more windows give more acknowledgements
-acks_of-on : (link : LinkCase) (windows more : List ℕ) → GoesOn (acks_of link windows) (acks_of link (windows ++ more))
-acks_of-on link windows [] = GoesOn-same (acks_of link windows) (acks_of link (windows ++ [])) (ap (acks_of link) (append-nil windows))
+acks_of-on : (link : LinkCase) (windows more : List ℕ) → GoesOn (acks_for_windows link windows) (acks_for_windows link (windows ++ more))
+acks_of-on link windows [] = GoesOn-same (acks_for_windows link windows) (acks_for_windows link (windows ++ [])) (ap (acks_for_windows link) (append-nil windows))
 acks_of-on link windows (window ∷ more) =
     let longer = windows ++ window ∷ [] in
     let on = acks_of-on link longer more in
-    let all : acks_of link (windows ++ window ∷ more) ≡ acks_of link longer ++ on.0 =
-    ap (acks_of link) (sym (append_assoc windows (window ∷ []) more)) ∙ on.1 in
-    GoesOn-one (acks_of link windows) (ack_after link windows window) (acks_of link (windows ++ window ∷ more))
+    let all : acks_for_windows link (windows ++ window ∷ more) ≡ acks_for_windows link longer ++ on.0 =
+    ap (acks_for_windows link) (sym (append_assoc windows (window ∷ []) more)) ∙ on.1 in
+    GoesOn-one (acks_for_windows link windows) (ack_after link windows window) (acks_for_windows link (windows ++ window ∷ more))
     (on.0, all ∙ ap (λ (xs : List Ack). xs ++ on.0) (acks_of-push link windows window))
 
 module _ {X : Type 0} (flow : Flow X) where
@@ -60,7 +60,7 @@ module _ {X : Type 0} (flow : Flow X) where
 
   -- the acknowledgements so far are the link's for the windows so far
   abbrev Linked : LinkCase → World X → Type 0
-  Linked link w = w.acks ≡ acks_of link w.windows
+  Linked link w = w.acks ≡ acks_for_windows link w.windows
 
   Linked-ack : (link : LinkCase) (ack : Ack) (w : World X) → Linked link w → ack ≡ ack_after link w.windows (track_of flow w).env.cwnd
       → Linked link (after_ack flow ack w)
@@ -70,7 +70,7 @@ module _ {X : Type 0} (flow : Flow X) where
 
   -- the next one of a list is the link's, where the windows go on with the present `Cwnd`
   next-linked : (link : LinkCase) (acks : List Ack) (w : World X) (windows : List ℕ) → Linked link w
-      → GoesOn (w.windows ++ (track_of flow w).env.cwnd ∷ []) windows → acks ≡ acks_of link windows
+      → GoesOn (w.windows ++ (track_of flow w).env.cwnd ∷ []) windows → acks ≡ acks_for_windows link windows
       → slice_get acks (length w.acks) ≡ Some (ack_after link w.windows (track_of flow w).env.cwnd)
   next-linked link acks w windows linked on same =
       let window = (track_of flow w).env.cwnd in
@@ -78,29 +78,29 @@ module _ {X : Type 0} (flow : Flow X) where
       let longer = w.windows ++ window ∷ [] in
       let more = acks_of-on link longer on.0 in
       let split : acks ≡ w.acks ++ ack ∷ more.0 =
-      same ∙ ap (acks_of link) on.1 ∙ more.1
+      same ∙ ap (acks_for_windows link) on.1 ∙ more.1
       ∙ ap (λ (xs : List Ack). xs ++ more.0) (acks_of-push link w.windows window)
-      ∙ append_assoc (acks_of link w.windows) (ack ∷ []) more.0
+      ∙ append_assoc (acks_for_windows link w.windows) (ack ∷ []) more.0
       ∙ ap (λ (xs : List Ack). xs ++ ack ∷ more.0) (sym linked) in
       next-given flow acks w ack more.0 split
 
   Linked-take : (link : LinkCase) (w : World X) → Linked link w → Linked link (after_take w)
-  Linked-take link w linked = (take-keeps flow w).acks ∙ linked ∙ ap (acks_of link) (sym (take-keeps flow w).windows)
+  Linked-take link w linked = (take-keeps flow w).acks ∙ linked ∙ ap (acks_for_windows link) (sym (take-keeps flow w).windows)
 
   Linked-answer : (link : LinkCase) (w : World X) → Linked link w → Linked link (after_answer flow w)
-  Linked-answer link w linked = (answer-keeps flow w).acks ∙ linked ∙ ap (acks_of link) (sym (answer-keeps flow w).windows)
+  Linked-answer link w linked = (answer-keeps flow w).acks ∙ linked ∙ ap (acks_for_windows link) (sym (answer-keeps flow w).windows)
 
   link-agree : (link : LinkCase) (acks : List Ack) (word : List Letter) (w : World X) (rest : List Ack)
       → acks ≡ w.acks ++ rest → acks_in word ≡ length rest → Linked link w
-      → acks ≡ acks_of link (world_from flow (from_list acks) w word).windows
+      → acks ≡ acks_for_windows link (world_from flow (from_list acks) w word).windows
       → Agree flow (from_list acks) (from_link flow link) w word
   link-agree link acks [] w rest split all linked same = tt
   link-agree link acks (A ∷ word) w [] split all linked same = absurd (omega arith)
   link-agree link acks (A ∷ word) w (ack ∷ rest) split all linked same =
       let given = next-given flow acks w ack rest split in
       let next = after_ack flow ack w in
-      let last : acks ≡ acks_of link (world_from flow (from_list acks) next word).windows =
-      subst (λ (g : Option Ack). acks ≡ acks_of link (world_from flow (from_list acks) (with_given flow g w) word).windows) given same in
+      let last : acks ≡ acks_for_windows link (world_from flow (from_list acks) next word).windows =
+      subst (λ (g : Option Ack). acks ≡ acks_for_windows link (world_from flow (from_list acks) (with_given flow g w) word).windows) given same in
       let by_link = next-linked link acks w (world_from flow (from_list acks) next word).windows linked
       (windows-on (from_list acks) word next) last in
       let one : ack ≡ ack_after link w.windows (track_of flow w).env.cwnd =
@@ -123,13 +123,13 @@ module _ {X : Type 0} (flow : Flow X) where
 
   -- a list whose acknowledgements are all taken and are the link's for the windows comes to the link's state
   pub over-link : (link : LinkCase) (acks : List Ack) (word : List Letter) → acks_in word ≡ length acks
-      → acks ≡ acks_of link (world_over flow acks word).windows → world_over flow acks word ≡ world flow link word
+      → acks ≡ acks_for_windows link (world_over flow acks word).windows → world_over flow acks word ≡ world flow link word
   over-link link acks word all same =
       world_from-agreed flow (from_list acks) (from_link flow link) word (opening flow)
       (link-agree link acks word (opening flow) acks refl all refl same)
 
   pub legal_over-link : (link : LinkCase) (acks : List Ack) (word : List Letter) → acks_in word ≡ length acks
-      → acks ≡ acks_of link (world_over flow acks word).windows → legal_over flow acks word ≡ legal flow link word
+      → acks ≡ acks_for_windows link (world_over flow acks word).windows → legal_over flow acks word ≡ legal flow link word
   legal_over-link link acks word all same =
       let given = all-given acks word (omega (arith, all)) in
       let legals =
@@ -148,7 +148,7 @@ module _ {X : Type 0} (flow : Flow X) where
   Linked-after link (C ∷ word) w linked = Linked-after link word (after_answer flow w) (Linked-answer link w linked)
 
   -- the acknowledgements of a word over the link are the link's for its windows
-  pub acks-of-world : (link : LinkCase) (word : List Letter) → (world flow link word).acks ≡ acks_of link (world flow link word).windows
+  pub acks-of-world : (link : LinkCase) (word : List Letter) → (world flow link word).acks ≡ acks_for_windows link (world flow link word).windows
   acks-of-world link word = Linked-after link word (opening flow) refl
 
   count-acks : (link : LinkCase) (word : List Letter) (w : World X)

@@ -3,7 +3,7 @@ use Rattle.std.proofs.Common.{◌≡◌, ℕ, ◌+◌, ◌≤◌, List, [], ◌�
 use Rattle.std.proofs.Math.Seq.{set-append_seam, take-append_seam}
 use Rattle.std.proofs.lemmas.List.{append-nil, length-replicate}
 use Rattle.ccp_base.specs.declared.exchange.Report.{Report}
-use Rattle.flow_core.specs.Outbox.{head_words, report_words, IsInRange}
+use Rattle.flow_core.specs.Outbox.{head_words, report_words, ReportFits}
 use Rattle.flow_core.specs.ReportWords.{written_over}
 
 -- one word is written at the place after a front
@@ -23,7 +23,7 @@ written_after (word ∷ words) front (x ∷ rest) at e fits =
     ∙ ap (λ xs. Some (xs ++ drop (length words) rest)) (append_assoc front (word ∷ []) words)
 
 -- a slot of zeros over which the head of a report and then its fields are written
-pub written_report : (size : ℕ) (report : Report) (head fields : List ℕ) (fresh headed written : Option (List ℕ)) → 80 ≤ size → IsInRange report → head ≡ head_words report → fields ≡ report.fields → fresh ≡ Some (replicate size 0) → headed ≡ written_over fresh 0 head → written ≡ written_over headed 9 fields → option_map (take (length (report_words report))) written ≡ Some (report_words report)
+pub written_report : (size : ℕ) (report : Report) (head fields : List ℕ) (fresh headed written : Option (List ℕ)) → 80 ≤ size → ReportFits report → head ≡ head_words report → fields ≡ report.fields → fresh ≡ Some (replicate size 0) → headed ≡ written_over fresh 0 head → written ≡ written_over headed 9 fields → option_map (take (length (report_words report))) written ≡ Some (report_words report)
 written_report size report head fields fresh headed written large range head_is fields_is zeros first second =
     let zeros_all : List ℕ = replicate size 0 in
     let rest = drop 9 zeros_all in

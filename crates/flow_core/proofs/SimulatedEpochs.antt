@@ -19,7 +19,7 @@ use Rattle.reg_code.specs.declared.code.Code.{Code}
 use Rattle.reg_code.specs.declared.code.Start.{Start}
 use Rattle.reg_code.specs.CodeStep as steps
 use Rattle.reg_code.specs.CodeStart.{declared_kept}
-use Rattle.reg_compiler.specs.Simulation.{Simulates, seen, start_of}
+use Rattle.reg_compiler.specs.Simulation.{Simulates, seen, register_start}
 use Rattle.flow_core.specs.Readings.{env_of, outcome_of, by_code}
 use Rattle.flow_core.specs.Lift.{no_place, place_at}
 
@@ -114,7 +114,7 @@ IsEnvOf-after form [] track shape = shape
 IsEnvOf-after form (event ∷ rest) track shape =
     IsEnvOf-after form rest (after_event (by_source form) event track) (IsEnvOf-after_event form event track shape)
 
-values-of-starts : (decls : List Decl) → map (λ (start : Start). start.value) (map start_of decls) ≡ map (λ (decl : Decl). decl.start) decls
+values-of-starts : (decls : List Decl) → map (λ (start : Start). start.value) (map register_start decls) ≡ map (λ (decl : Decl). decl.start) decls
 values-of-starts [] = refl
 values-of-starts (decl ∷ rest) = ap (λ (values : List ℕ). decl.start ∷ values) (values-of-starts rest)
 

@@ -12,7 +12,7 @@ use Rattle.ccp_base.specs.declared.exchange.Reply.{Reply}
 use Rattle.ccp_base.specs.declared.exchange.Reply.TheVariants.{Nothing, Update, Change}
 use Rattle.portus_core.specs.Epoch as epoch
 use Rattle.reg_code.specs.CodeStep.{Kept}
-use Rattle.ccp_base.specs.FieldReg.{is_bad, first_bad}
+use Rattle.ccp_base.specs.FieldReg.{is_bad, first_bad_pair}
 use Rattle.reg_code.specs.CodeStart.{with_value, with_values}
 use Rattle.agent_core.specs.declared.agent.Agent.{Agent}
 use Rattle.agent_core.specs.Agents.{course_of, cap_of, segment_of, mss_of, window_pair, control_pair, values_of}
@@ -47,7 +47,7 @@ passed n pair rest good rest_good =
     let more : 1 + length rest ≡ length (pair ∷ rest) = omega arith in
     (λ i. cond (not (good i)) (1 + rest_good i) 0) ∙ more
 
-passes-none : (n : ℕ) (values : List Pair) → Passes n values → first_bad n values ≡ None
+passes-none : (n : ℕ) (values : List Pair) → Passes n values → first_bad_pair n values ≡ None
 passes-none n values passes =
     cond-false _ (Some _) None (ap (λ (k : ℕ). nat_lt k (length values)) passes ∙ le-ltb (length values) (length values) (omega arith))
 

@@ -9,7 +9,7 @@ use Rattle.portus_core.specs.Epoch.{Outcome, quiet, reported, held, failed, stop
 use Rattle.portus_core.specs.Reports.{report_of}
 use Rattle.ccp_base.specs.declared.exchange.Reply.{Reply}
 use Rattle.ccp_base.specs.declared.exchange.Reply.TheVariants.{Nothing, Update, Change}
-use Rattle.ccp_base.specs.FieldReg.{Pair, first_bad}
+use Rattle.ccp_base.specs.FieldReg.{Pair, first_bad_pair}
 use Rattle.fold_machine.specs.Heard.{started_by, updated_by}
 use Rattle.slot_pool.specs.Pool.{PoolState, words_at, free_of}
 use Rattle.fold_machine.specs.MachineState.{Fits}
@@ -145,8 +145,8 @@ closed_parts after reports s = record s {
 -- the code that a reply is for, while this program runs, has each control register that the values name
 abbrev pub AreGood : Case → ℕ → Reply → List Pair → Type 0
 AreGood case running Nothing values = Unit {0}
-AreGood case running (Update cwnd) values = first_bad (length (code_at case running).controls) values ≡ None
-AreGood case running (Change program cwnd cap) values = first_bad (length (code_at case program).controls) values ≡ None
+AreGood case running (Update cwnd) values = first_bad_pair (length (code_at case running).controls) values ≡ None
+AreGood case running (Change program cwnd cap) values = first_bad_pair (length (code_at case program).controls) values ≡ None
 
 -- an update writes its values
 pub record UpdatesBare (old new : BareParts) (values : List Pair) : Type 0 where

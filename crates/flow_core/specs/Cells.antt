@@ -5,7 +5,7 @@ use Rattle.ccp_base.specs.declared.place.Place.{Place}
 use Rattle.portus_core.specs.Programs.{Form}
 use Rattle.reg_compiler.specs.Simulation.{Simulates}
 use Rattle.agent_core.specs.declared.ticket.Ticket.{Ticket}
-use Rattle.link_model.specs.Link.{ack_after, acks_of}
+use Rattle.link_model.specs.Link.{ack_after, acks_for_windows}
 use Rattle.link_model.specs.Standing.{LinkState, Stands}
 use Rattle.fold_machine.specs.declared.acked.Acked.{Acked}
 use Rattle.flow_core.specs.declared.case.Case.{Case}
@@ -59,8 +59,8 @@ IsComplete cell = is_complete (flow_at cell) (world_at cell) ≡ true
 
 -- for all programs that the codes simulate, the state is the one over these sources: each fault's instruction stands
 -- for its place
-abbrev pub IsLifted : CellState → Type 0
-IsLifted cell =
+abbrev pub StateHoldsForSources : CellState → Type 0
+StateHoldsForSources cell =
     (ss ca : Form) (ss_places ca_places : List Place)
     → Simulates ss cell.case.ss.code.code ss_places
     → Simulates ca cell.case.ca.code.code ca_places
@@ -70,7 +70,7 @@ IsLifted cell =
 pub record IsCell (core : CoreState) (link : LinkState) : Type 0 where
   pub case : link.case ≡ core.case.link
   pub all : acks_in core.word ≡ length core.acks
-  pub acks : core.acks ≡ acks_of core.case.link (world_in core).windows
+  pub acks : core.acks ≡ acks_for_windows core.case.link (world_in core).windows
   pub stands : Stands link (world_in core).windows
   pub calls : link.standing.calls ≡ length core.acks
   pub within : length core.acks ≤ core.case.acks

@@ -51,8 +51,8 @@ new_notice Held untold = None
 new_notice Stopped untold = None
 
 -- the line of a ticket, with the numbers of acknowledgements at which it was taken and answered
-abbrev pub line_of : Ticket → ℕ → ℕ → TicketLine
-line_of ticket taken answered = record { told = ticket.told; taken = taken; answered = answered; reply = reply_of ticket }
+abbrev pub journal_line : Ticket → ℕ → ℕ → TicketLine
+journal_line ticket taken answered = record { told = ticket.told; taken = taken; answered = answered; reply = reply_of ticket }
 
 -- at how many acknowledgements the ticket that is out was taken, 0 where none is out
 abbrev pub taken_at : Summary → ℕ
@@ -72,13 +72,13 @@ abbrev pub HasRoom : {X : Type 0} → RoomyState X → Type 0
 HasRoom list = length list.items < list.room
 
 -- one ticket and one epoch more have their room
-abbrev pub HaveRoom : RoomyState TicketLine → RoomyState EpochLine → Type 0
-HaveRoom tickets epochs = HasRoom tickets × HasRoom epochs
+abbrev pub HaveLineRoom : RoomyState TicketLine → RoomyState EpochLine → Type 0
+HaveLineRoom tickets epochs = HasRoom tickets × HasRoom epochs
 
 -- the lines that the answer to the ticket that is out puts down have their room
 abbrev pub HasLines : Option Issued → RoomyState TicketLine → RoomyState EpochLine → Type 0
 HasLines None tickets epochs = Unit {0}
-HasLines (Some issued) tickets epochs = HaveRoom tickets epochs
+HasLines (Some issued) tickets epochs = HaveLineRoom tickets epochs
 
 -- there is room for every acknowledgement, for a fault and three letters each
 pub record HasRooms (most : ℕ) (j : Journal) : Type 0 where

@@ -147,8 +147,8 @@ last_line fields reports held faults end =
     ⧺ codes " held=" ⧺ decimal held ⧺ codes " faults=" ⧺ decimal faults
     ⧺ end_tail fields end
 
-abbrev pub end_line : Sources → Account → List ℕ
-end_line sources account =
+abbrev pub account_end_line : Sources → Account → List ℕ
+account_end_line sources account =
     last_line (fields_at sources account.program) (report_count account.tickets) account.held
     (length account.faults) account.end
 
@@ -161,18 +161,18 @@ account_text sources case account =
     ⧺ epoch_lines 0 account.epochs
     ⧺ fault_lines account.faults
     ⧺ ticket_lines sources 0 account.tickets
-    ⧺ end_line sources account
+    ⧺ account_end_line sources account
 
 -- the flow of a case, read over the sources of its programs
 abbrev pub flow_from : Sources → Case → Flow Place
 flow_from sources case = over_sources case (source_at sources case.ss.role.number) (source_at sources case.ca.role.number)
 
--- a flow's part of the text, where this is its state
-abbrev pub part : Sources → Case → World Place → List ℕ
-part sources case w = account_text sources case (account_of (flow_from sources case) w)
+-- a flow's flow_part of the text, where this is its state
+abbrev pub flow_part : Sources → Case → World Place → List ℕ
+flow_part sources case w = account_text sources case (account_of (flow_from sources case) w)
 
 -- the text of flows, each a case and its word
 abbrev pub live_text : Sources → List (Case × List Letter) → List ℕ
 live_text sources [] = []
 live_text sources (flow ∷ rest) =
-    part sources flow.0 (world (flow_from sources flow.0) flow.0.link flow.1) ⧺ live_text sources rest
+    flow_part sources flow.0 (world (flow_from sources flow.0) flow.0.link flow.1) ⧺ live_text sources rest

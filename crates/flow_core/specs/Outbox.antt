@@ -42,7 +42,7 @@ abbrev pub report_words : Report → List ℕ
 report_words report = head_words report ++ report.fields
 
 -- the numbers of a report fit their types
-pub record IsInRange (report : Report) : Type 0 where
+pub record ReportFits (report : Report) : Type 0 where
   pub flow : report.flow < 2 ^ 32
   pub program : report.program < 2 ^ 32
   pub epoch : report.epoch < 2 ^ 32
@@ -51,7 +51,7 @@ pub record IsInRange (report : Report) : Type 0 where
 -- the slot is out, and its words begin with the report's
 pub record Stores (pool : PoolState) (slot : ℕ) (report : Report) : Type 0 where
   pub begins : option_map (take (length (report_words report))) (words_at pool slot) ≡ Some (report_words report)
-  pub in_range : IsInRange report
+  pub in_range : ReportFits report
 
 -- each of the slots stores the report at its place in the list
 abbrev pub AreStored : PoolState → List ℕ → List Report → Type 0

@@ -13,7 +13,7 @@ use Rattle.portus_core.specs.declared.env.Env.{Env}
 use Rattle.portus_core.specs.Epoch.{Event, acknowledged, updated, Outcome, quiet, reported, held, failed, stopped, Track, track_at, heard, after, with_values}
 use Rattle.portus_core.specs.Reports.{reports_met}
 use Rattle.agent_core.specs.declared.agent.Agent.{Agent}
-use Rattle.agent_core.specs.Agents.{begun, replied, course_of, values_of}
+use Rattle.agent_core.specs.Agents.{opening_change, replied, course_of, values_of}
 use Rattle.flow_core.specs.Readings.{Flow}
 
 -- what a fault notice says, with the fault's site
@@ -99,7 +99,7 @@ opening flow = record {
   acks = [];
   windows = [];
   past = [];
-  present = era_of flow (course_of flow.agent).ss.number 0 (values_of flow.agent (begun flow.agent)) 0 0 0;
+  present = era_of flow (course_of flow.agent).ss.number 0 (values_of flow.agent (opening_change flow.agent)) 0 0 0;
   waiting = [];
   untold = None;
   agent = flow.agent;

@@ -1,6 +1,6 @@
 //! What later letters of a flow depend on, without its history.
 ghost use Rattle.std.specs.Prelude.{◌≡◌, ◌+◌, ◌<◌, ◌≤◌, length, true, is_some, None, Some, option_map, IfOk};
-ghost use Rattle.ccp_base.specs.FieldReg.{first_bad};
+ghost use Rattle.ccp_base.specs.FieldReg.{first_bad_pair};
 ghost use Rattle.ccp_base.specs.Limits.{most_acks};
 ghost use Rattle.portus_core.specs.Epoch.{reported, failed};
 ghost use Rattle.slot_pool.specs.Pool.{free_of};
@@ -329,7 +329,7 @@ impl BareParts {
     /// Starts the program with this number, with the values of the reply that is a change to it.
     #[inline(never)]
     fn follow(&mut self, program: u32, reply: &Reply)
-        requires good { first_bad (length (code_at self.old.case program).controls) (values_of self.old.agent reply.now) ≡ None }
+        requires good { first_bad_pair (length (code_at self.old.case program).controls) (values_of self.old.agent reply.now) ≡ None }
         requires epoch { self.old.epoch < most_acks }
         ensures { ChangesBare self.old self.new program (values_of self.old.agent reply.now) }
     {
@@ -340,7 +340,7 @@ impl BareParts {
     /// Writes an update's values.
     fn update(&mut self, values: &Fields)
         requires fits { Fits self.old.machine (code_at self.old.case self.old.program) }
-        requires good { first_bad (length (code_at self.old.case self.old.program).controls) values.now ≡ None }
+        requires good { first_bad_pair (length (code_at self.old.case self.old.program).controls) values.now ≡ None }
         ensures { UpdatesBare self.old self.new values.now }
     {
         let code = self.case.code(self.program);
@@ -351,7 +351,7 @@ impl BareParts {
 
     /// Starts the program with this number, and with it an epoch. An untold notice is void then.
     fn change(&mut self, program: u32, values: &Fields)
-        requires good { first_bad (length (code_at self.old.case program).controls) values.now ≡ None }
+        requires good { first_bad_pair (length (code_at self.old.case program).controls) values.now ≡ None }
         requires epoch { self.old.epoch < most_acks }
         ensures { ChangesBare self.old self.new program values.now }
     {

@@ -6,7 +6,7 @@ ghost use Rattle.flow_core.specs.World.{track_of, after_take, after_answer};
 ghost use Rattle.flow_core.specs.Words.{is_still, is_legal, legal, is_complete};
 ghost use Rattle.flow_core.specs.Books.{IsBookOf};
 ghost use Rattle.flow_core.specs.Cells.{flow_at, world_at, heard_at, acked_at, ran_at, out_at, out_number_at};
-ghost use Rattle.flow_core.specs.Cells.{IsComplete, IsLifted};
+ghost use Rattle.flow_core.specs.Cells.{IsComplete, StateHoldsForSources};
 
 use crate::book::Book;
 use crate::case::Case;
@@ -142,7 +142,7 @@ impl Cell {
     pub fn case(&self) -> &Case
         ensures case { result.now ≡ self.now.case }
         ensures legal { legal (flow_at self.now) self.now.case.link self.now.word ≡ true }
-        ensures lifted { IsLifted self.now }
+        ensures lifted { StateHoldsForSources self.now }
     {
         self.core.case()
     }
@@ -189,7 +189,7 @@ impl Cell {
         ensures word { result.word ≡ self.word }
         ensures legal { legal (flow_at self) self.case.link self.word ≡ true }
         ensures book { IsBookOf (flow_at self) (world_at self) result }
-        ensures lifted { IsLifted self }
+        ensures lifted { StateHoldsForSources self }
     {
         self.core.finish().book
     }

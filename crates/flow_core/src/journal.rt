@@ -1,6 +1,6 @@
 //! The history of a flow, as lists that each letter makes longer.
 ghost use Rattle.std.specs.Prelude.{◌≡◌, ◌<◌, length, IfOk, OnOk};
-ghost use Rattle.flow_core.specs.Journals.{OpensJournal, HasRoom, HaveRoom, journal_ack, journal_take, journal_answer, line_of};
+ghost use Rattle.flow_core.specs.Journals.{OpensJournal, HasRoom, HaveLineRoom, journal_ack, journal_take, journal_answer, journal_line};
 
 use crate::book::{EpochLine, TicketLine};
 use crate::letter::Letter;
@@ -44,7 +44,7 @@ impl Journal {
         ensures frame { self.new ≡ record self.old { tickets = self.new.tickets; epochs = self.new.epochs } }
         ensures tickets { self.new.tickets.items ≡ self.old.tickets.items }
         ensures epochs { self.new.epochs.items ≡ self.old.epochs.items }
-        ensures room { OnOk result (HaveRoom self.new.tickets self.new.epochs) }
+        ensures room { OnOk result (HaveLineRoom self.new.tickets self.new.epochs) }
     {
         self.tickets.reserve(1)?;
         self.epochs.reserve(1)?;
@@ -82,9 +82,9 @@ impl Journal {
         answered: u32,
         epoch: Option<EpochLine>,
     )
-        requires lines { HaveRoom self.old.tickets self.old.epochs }
+        requires lines { HaveLineRoom self.old.tickets self.old.epochs }
         requires word { HasRoom self.old.word }
-        ensures { self.new ≡ journal_answer (line_of answer.now taken answered) epoch self.old }
+        ensures { self.new ≡ journal_answer (journal_line answer.now taken answered) epoch self.old }
     {
         self.tickets.push(TicketLine {
             told: answer.ticket().told,

@@ -2,7 +2,7 @@
 ghost use Rattle.std.specs.Prelude.{◌≡◌, ◌+◌, ◌<◌, ◌≤◌, None, length};
 ghost use Rattle.ccp_base.specs.declared.exchange.Report.{Report};
 ghost use Rattle.slot_pool.specs.Pool.{words_at, IsOut, free_of, ChangesSlot};
-ghost use Rattle.flow_core.specs.Outbox.{most_report_words, head_words, IsInRange, Stores};
+ghost use Rattle.flow_core.specs.Outbox.{most_report_words, head_words, ReportFits, Stores};
 ghost use Rattle.flow_core.specs.ReportWords.{WritesOver, narrow, report_in};
 
 use ccp_base::{Report, Values};
@@ -38,7 +38,7 @@ pub(crate) fn store<P: Slots>(slots: &mut P, report: &Report) -> Slot
 /// The words of a report that stand before its fields.
 fn head(report: &Report) -> [u64; 9]
     ensures words { result ≡ head_words report.entry.now }
-    ensures in_range { IsInRange report.entry.now }
+    ensures in_range { ReportFits report.entry.now }
 {
     [
         u64::from(report.flow),

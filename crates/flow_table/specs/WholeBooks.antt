@@ -3,7 +3,7 @@ use Rattle.std.specs.Prelude.{◌≡◌, true}
 use Rattle.flow_core.specs.declared.book.Book.{Book}
 use Rattle.flow_core.specs.Words.{legal}
 use Rattle.flow_core.specs.Books.{IsBookOf}
-use Rattle.flow_core.specs.Cells.{CellState, flow_at, world_at, IsComplete, IsLifted}
+use Rattle.flow_core.specs.Cells.{CellState, flow_at, world_at, IsComplete, StateHoldsForSources}
 
 -- the flow that a book is of: its case and its word
 abbrev pub flow_of : Book → CellState
@@ -15,4 +15,4 @@ pub record IsWhole (book : Book) : Type 0 where
   pub legal : legal (flow_at (flow_of book)) book.case.link book.word ≡ true
   pub complete : IsComplete (flow_of book)
   pub told : IsBookOf (flow_at (flow_of book)) (world_at (flow_of book)) book
-  pub lifted : IsLifted (flow_of book)
+  pub lifted : StateHoldsForSources (flow_of book)

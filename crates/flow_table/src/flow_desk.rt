@@ -1,8 +1,8 @@
 //! The desk of a datapath worker over a table of flows.
 
 ghost use Rattle.std.specs.Prelude.{◌≡◌, ℕ, ◌+◌, ◌<◌, ◌≤◌, Option, Some, None, option_map, [], ◌∷◌, length};
-ghost use Rattle.worker_desk.specs.Logs.{Known, Logs};
-ghost use Rattle.worker_desk.specs.Serving.{heard};
+ghost use Rattle.worker_desk.specs.Logs.{KnownLog, Logs};
+ghost use Rattle.worker_desk.specs.Serving.{heard_count};
 ghost use Rattle.worker_desk.specs.declared.event.Event.TheVariants.{Passed, Locked, Unlocked, Acked, Nudged};
 
 use crate::flow::LockedFlow;

@@ -6,7 +6,7 @@ use Rattle.std.specs.Ordering.{nat_cmp}
 use Rattle.std.specs.Cmp.{nat_cmp_total}
 use Rattle.std.specs.FinMap as map
 use Rattle.std.specs.FinMap.{nat_cmp-IsAntisymmetric}
-use Rattle.slot_pool.specs.Pool.{PoolState, words_at, IsOut, free_of, unused, with_word, with_run, ChangesSlot}
+use Rattle.slot_pool.specs.Pool.{PoolState, words_at, IsOut, free_of, unused, words_with_one, with_run, ChangesSlot}
 use Rattle.slot_pool.specs.PoolLaws.{IsOut-kept, free_apart}
 use Rattle.slot_pool.specs.Without.{without, words_at-without_same, words_at-without, without_apart, IsOut-from_without, IsOut-without, free_of-without, ChangesSlot-without, without-changed}
 use Rattle.fold_machine.specs.Store.{StoreState, words_in, further_of, store_of, fresh_store, IsOwned, slot_words}
@@ -82,7 +82,7 @@ free_slot p a b s owned free = record {
 pub words_at-further : (p : PoolState) (a b s : ℕ) → IsApart a b s → words_at (further_of p a b) s ≡ words_at p s
 words_at-further p a b s apart = words_at-without (without p a) b s apart.second ∙ words_at-without p a s apart.first
 
-pub with_word-further : (p : PoolState) (a b s at word : ℕ) → IsApart a b s → with_word (further_of p a b) s at word ≡ with_word p s at word
+pub with_word-further : (p : PoolState) (a b s at word : ℕ) → IsApart a b s → words_with_one (further_of p a b) s at word ≡ words_with_one p s at word
 with_word-further p a b s at word apart = ap (option_map (λ words. slice_set words at word)) (words_at-further p a b s apart)
 
 pub free_of-further : (p : PoolState) (a b : ℕ) → IsOwned p a b → free_of (further_of p a b) ≡ free_of p

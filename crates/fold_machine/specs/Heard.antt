@@ -26,12 +26,12 @@ abbrev pub updated_by : List Pair → MachineState → MachineState
 updated_by values state = record state { kept = with_values values state.kept }
 
 -- the answer for an outcome; accepted code is never lost
-abbrev pub acked_of : CodeOutcome → Option Acked
-acked_of quiet = Some acked.Quiet
-acked_of (reported fields) = Some acked.Reported
-acked_of held = Some acked.Held
-acked_of (faulted kind index) = Some (acked.Faulted kind index)
-acked_of lost = None
+abbrev pub answer_for : CodeOutcome → Option Acked
+answer_for quiet = Some acked.Quiet
+answer_for (reported fields) = Some acked.Reported
+answer_for held = Some acked.Held
+answer_for (faulted kind index) = Some (acked.Faulted kind index)
+answer_for lost = None
 
 -- a fault stops the program
 abbrev pub stops : CodeOutcome → Bool
@@ -50,7 +50,7 @@ report_after lost report = report
 
 abbrev pub after_made : Made → MachineState → Option Acked × MachineState
 after_made made state =
-    (acked_of made.outcome, record state { kept = made.kept; is_stopped = stops made.outcome; ran = made.ran; report = report_after made.outcome state.report })
+    (answer_for made.outcome, record state { kept = made.kept; is_stopped = stops made.outcome; ran = made.ran; report = report_after made.outcome state.report })
 
 -- acknowledgements of a stopped program aren't run
 abbrev pub heard_where : Bool → Code → Ack → Bool → MachineState → Option Acked × MachineState
@@ -58,8 +58,8 @@ heard_where true code ack room state = (Some acked.Stopped, record state { ran =
 heard_where false code ack room state = after_made (one_by_code code state.kept ack room) state
 
 -- the answer to an acknowledgement, and the machine after it
-abbrev pub heard : Code → Ack → Bool → MachineState → Option Acked × MachineState
-heard code ack room state = heard_where state.is_stopped code ack room state
+abbrev pub after_acknowledgement : Code → Ack → Bool → MachineState → Option Acked × MachineState
+after_acknowledgement code ack room state = heard_where state.is_stopped code ack room state
 
 -- ---- what the code of the machine and of a fold reads off an answer; no public clause cites it
 

@@ -1,7 +1,7 @@
 -- What contracts see of a machine.
 use Rattle.std.specs.Prelude.{◌≡◌, ℕ, Bool, true, false, List, [], ◌∷◌, ◌++◌, length, refl}
 use Rattle.std.specs.Coded.{Coded, code_by, coded×, coded_ℕ, coded_bool, coded_list}
-use Rattle.ccp_base.specs.Acknowledgement.{number_of}
+use Rattle.ccp_base.specs.Acknowledgement.{bool_number}
 use Rattle.reg_code.specs.declared.code.Code.{Code}
 use Rattle.reg_code.specs.CodeStep.{Kept, IsKeptOf}
 use Rattle.slot_pool.specs.Pool.{PoolState, pool_code, unused}
@@ -52,7 +52,7 @@ pub record Fits (state : MachineState) (code : Code) : Type 0 where
   pub kept : IsKeptOf code state.kept
 
 -- all that a machine holds besides its further slots, as numbers
-abbrev pub rest_of : MachineState → List ℕ
-rest_of state =
-    number_of state.is_started ∷ number_of state.is_stopped ∷ state.ran ∷ state.kept.cwnd ∷ state.kept.rate ∷ state.kept.zero
+abbrev pub machine_numbers : MachineState → List ℕ
+machine_numbers state =
+    bool_number state.is_started ∷ bool_number state.is_stopped ∷ state.ran ∷ state.kept.cwnd ∷ state.kept.rate ∷ state.kept.zero
     ∷ length state.kept.reports ∷ length state.kept.controls ∷ (state.kept.reports ++ (state.kept.controls ++ state.report))

@@ -1,9 +1,9 @@
 -- The numbers of a machine's rest determine the state that they are read from.
 use Rattle.std.proofs.Common.{◌≡◌, ℕ, Bool, true, false, List, [], ◌∷◌, ◌++◌, length, drop, slice_index, refl, ap, arith}
-use Rattle.ccp_base.specs.Acknowledgement.{number_of}
-use Rattle.fold_machine.specs.MachineState.{MachineState, rest_of}
+use Rattle.ccp_base.specs.Acknowledgement.{bool_number}
+use Rattle.fold_machine.specs.MachineState.{MachineState, machine_numbers}
 
-number_of-same : (a b : Bool) → number_of a ≡ number_of b → a ≡ b
+number_of-same : (a b : Bool) → bool_number a ≡ bool_number b → a ≡ b
 number_of-same true true same = refl
 number_of-same true false same = absurd (omega arith)
 number_of-same false true same = absurd (omega arith)
@@ -20,9 +20,9 @@ fronts-same (x ∷ a) b (y ∷ c) d long same =
     (λ i. first i ∷ rest.0 i, rest.1)
 
 -- two machines with the same rest differ in their further slots alone
-pub same_rest : (a b : MachineState) → rest_of a ≡ rest_of b → a ≡ record b { further = a.further }
+pub same_rest : (a b : MachineState) → machine_numbers a ≡ machine_numbers b → a ≡ record b { further = a.further }
 same_rest a b same =
-    let at : (n : ℕ) → slice_index (rest_of a) n ≡ slice_index (rest_of b) n = λ n. ap (λ xs. slice_index xs n) same in
+    let at : (n : ℕ) → slice_index (machine_numbers a) n ≡ slice_index (machine_numbers b) n = λ n. ap (λ xs. slice_index xs n) same in
     let lists : a.kept.reports ++ (a.kept.controls ++ a.report) ≡ b.kept.reports ++ (b.kept.controls ++ b.report) = ap (drop 8) same in
     let reports = fronts-same a.kept.reports (a.kept.controls ++ a.report) b.kept.reports (b.kept.controls ++ b.report) (at 6) lists in
     let controls = fronts-same a.kept.controls a.report b.kept.controls b.report (at 7) reports.1 in

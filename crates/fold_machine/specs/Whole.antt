@@ -19,7 +19,7 @@ machine_of store sizes reported started stopped ran = record {
   further = store.further;
 }
 
-pub record IsWhole (store : StoreState) (words : List ℕ) (sizes : Sizes) (count : ℕ) : Type 0 where
+pub record IsMachineWhole (store : StoreState) (words : List ℕ) (sizes : Sizes) (count : ℕ) : Type 0 where
   pub ready : IsReady sizes store
   pub full : length words ≡ all_places
   pub loaded : kept_on sizes words ≡ kept_in sizes store.registers

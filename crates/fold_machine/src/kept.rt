@@ -4,11 +4,11 @@ ghost use Rattle.ccp_base.specs.Limits.{most_fields};
 ghost use Rattle.reg_code.specs.AcceptedCode.{sizes_of};
 ghost use Rattle.reg_code.specs.CodeStep.{reset_of};
 ghost use Rattle.reg_code.specs.CodeStart.{with_value, with_values, declared_kept};
-ghost use Rattle.reg_code.specs.Places.{all_places, reports_at};
+ghost use Rattle.reg_code.specs.Places.{all_places, reports_place};
 ghost use Rattle.fold_machine.specs.Store.{slot_words};
 ghost use Rattle.fold_machine.specs.Layout.{HasRoom, KeepsOthers, words_from, kept_in};
 ghost use Rattle.fold_machine.specs.KeptWords.{declared_words, reset_words};
-ghost use Rattle.fold_machine.specs.Works.{IsDeclared, IsReset};
+ghost use Rattle.fold_machine.specs.Works.{HaveStartValues, IsReset};
 
 use crate::places::{CWND, RATE, REPORTS, ZERO};
 use crate::store::Store;
@@ -20,7 +20,7 @@ pub(crate) fn keep_report(store: &mut Store, words: &[u64], count: usize)
     requires count { count ≤ most_fields }
     requires words { length words.now ≡ all_places }
     requires full { length store.old.report ≡ slot_words }
-    ensures copied { words_from store.new.report 0 count ≡ words_from words.now reports_at count }
+    ensures copied { words_from store.new.report 0 count ≡ words_from words.now reports_place count }
     ensures length { length store.new.report ≡ slot_words }
     ensures others { store.new ≡ record store.old { report = store.new.report } }
 {
@@ -60,7 +60,7 @@ fn reset_from(store: &mut Store, starts: &[Start], first: u32)
 /// Writes every register's start value, and makes `now` the time zero.
 pub(crate) fn declare(store: &mut Store, code: &Code, now: u64)
     requires { HasRoom (sizes_of code.now) store.old.registers }
-    ensures declared { IsDeclared code.now now store.old.registers store.new.registers }
+    ensures declared { HaveStartValues code.now now store.old.registers store.new.registers }
     ensures others { KeepsOthers store.old store.new }
 {
     store.set_register(ZERO, now);

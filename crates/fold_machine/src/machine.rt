@@ -1,9 +1,9 @@
 //! The machine: it runs accepted code on each acknowledgement, and hands out its further slots.
 ghost use Rattle.std.specs.Prelude.{◌≡◌, ◌+◌, ◌≤◌, ◌↔◌, Some, None, IsTrue, IsOk, true, IfOk, IfErr, OnOk, OnErr, length};
 ghost use Rattle.reg_code.specs.AcceptedCode.{sizes_of};
-ghost use Rattle.ccp_base.specs.FieldReg.{first_bad};
+ghost use Rattle.ccp_base.specs.FieldReg.{first_bad_pair};
 ghost use Rattle.fold_machine.specs.MachineState.{fresh_machine, Fits};
-ghost use Rattle.fold_machine.specs.Heard.{started_by, updated_by, heard, is_fault, count_after};
+ghost use Rattle.fold_machine.specs.Heard.{started_by, updated_by, after_acknowledgement, is_fault, count_after};
 
 use crate::acked::{Acked, BadRegister};
 use crate::kept::{declare, write_values};
@@ -43,11 +43,11 @@ impl Model for Machine {
 
     ghost coded = { machine_code };
 
-    ghost use Rattle.fold_machine.specs.Whole.{machine_of, IsWhole};
+    ghost use Rattle.fold_machine.specs.Whole.{machine_of, IsMachineWhole};
 
     ghost view = { λ m. machine_of m.store m.sizes m.reported m.started m.stopped m.ran };
 
-    ghost invariant = { λ m. IsWhole m.store m.words.items m.sizes m.reported };
+    ghost invariant = { λ m. IsMachineWhole m.store m.words.items m.sizes m.reported };
 }
 
 impl Machine {
@@ -87,8 +87,8 @@ impl Machine {
     /// and the rate stay unless the values name them. `now` is the time of the flow's last acknowledgement in
     /// microseconds, 0 before the first, and becomes time zero. After a refusal nothing has changed.
     pub fn start(&mut self, code: &Checked, values: &Fields, now: u64) -> Result<(), BadRegister>
-        ensures ok { IsOk result ↔ (first_bad (length code.now.code.controls) values.now ≡ None) }
-        ensures refused { IfErr result (λ bad. first_bad (length code.now.code.controls) values.now ≡ Some bad.0) }
+        ensures ok { IsOk result ↔ (first_bad_pair (length code.now.code.controls) values.now ≡ None) }
+        ensures refused { IfErr result (λ bad. first_bad_pair (length code.now.code.controls) values.now ≡ Some bad.0) }
         ensures started { OnOk result (self.new ≡ started_by code.now.code values.now now self.old) }
         ensures fits { OnOk result (Fits self.new code.now.code) }
         ensures unchanged { OnErr result (self.new ≡ self.old) }
@@ -127,8 +127,8 @@ impl Machine {
         steps: &mut Steps<L>,
     ) -> Acked
         requires { Fits self.old code.now.code }
-        ensures acked { Some result ≡ (heard code.now.code ack.entry.now room self.old).0 }
-        ensures after { self.new ≡ (heard code.now.code ack.entry.now room self.old).1 }
+        ensures acked { Some result ≡ (after_acknowledgement code.now.code ack.entry.now room self.old).0 }
+        ensures after { self.new ≡ (after_acknowledgement code.now.code ack.entry.now room self.old).1 }
         ensures stopped { (result ≡ Acked.Stopped) ↔ (self.old.is_stopped ≡ true) }
         ensures fits { Fits self.new code.now.code }
         ensures steps { steps.new ≡ steps.old + self.new.ran }
@@ -160,8 +160,8 @@ impl Machine {
     /// has changed.
     pub fn update(&mut self, code: &Checked, values: &Fields) -> Result<(), BadRegister>
         requires { Fits self.old code.now.code }
-        ensures ok { IsOk result ↔ (first_bad (length code.now.code.controls) values.now ≡ None) }
-        ensures refused { IfErr result (λ bad. first_bad (length code.now.code.controls) values.now ≡ Some bad.0) }
+        ensures ok { IsOk result ↔ (first_bad_pair (length code.now.code.controls) values.now ≡ None) }
+        ensures refused { IfErr result (λ bad. first_bad_pair (length code.now.code.controls) values.now ≡ Some bad.0) }
         ensures updated { OnOk result (self.new ≡ updated_by values.now self.old) }
         ensures fits { Fits self.new code.now.code }
         ensures unchanged { OnErr result (self.new ≡ self.old) }
@@ -220,11 +220,11 @@ impl Machine {
 }
 
 impl Slots for Machine {
-    ghost use Rattle.fold_machine.specs.MachineState.{MachineState, rest_of};
+    ghost use Rattle.fold_machine.specs.MachineState.{MachineState, machine_numbers};
 
     ghost pool = { λ m. m.further };
 
-    ghost rest = { λ m. rest_of m };
+    ghost rest = { λ m. machine_numbers m };
 
     fn take_slot(&mut self) -> Result<Slot, Full> {
         self.store.take_further()

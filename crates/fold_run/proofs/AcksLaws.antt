@@ -6,7 +6,7 @@ use Rattle.ccp_base.specs.declared.ack.Ack.{Ack}
 use Rattle.ccp_base.specs.Limits.{most_acks}
 use Rattle.ccp_base.specs.Parts.{without_last}
 use Rattle.fold_run.specs.declared.acks.LineFault.TheVariants.{TooMany}
-use Rattle.fold_run.specs.AckLine.{AckLine, nothing, given, refused, line_of}
+use Rattle.fold_run.specs.AckLine.{AckLine, nothing, given, refused, read_ack_line}
 use Rattle.fold_run.specs.Acknowledgements.{with_line, with_lines}
 use Rattle.fold_run.specs.ReadingLaws.{said_by, is_accepted, given_by, AcksLaw}
 
@@ -21,11 +21,11 @@ said number before [] acks few is =
     let same : before ≡ acks = cc in
     record { accepted = refl; whole = sym same ∙ sym (append-nil before); few = subst (λ (xs : List Ack). length xs ≤ most_acks) same few }
 said number before (line ∷ rest) acks few is =
-    go (said (number + 1) before rest acks few) (λ (ack : Ack) fits. said (number + 1) (before ++ ack ∷ []) rest acks fits) (line_of (without_last 13 line)) refl is
+    go (said (number + 1) before rest acks few) (λ (ack : Ack) fits. said (number + 1) (before ++ ack ∷ []) rest acks fits) (read_ack_line (without_last 13 line)) refl is
   where
     go : (with_lines (number + 1) (Ok before) rest ≡ Ok acks → Said before rest acks)
         → ((ack : Ack) → length (before ++ ack ∷ []) ≤ most_acks → with_lines (number + 1) (Ok (before ++ ack ∷ [])) rest ≡ Ok acks → Said (before ++ ack ∷ []) rest acks)
-        → (told : AckLine) → line_of (without_last 13 line) ≡ told → with_lines (number + 1) (with_line number before told) rest ≡ Ok acks → Said before (line ∷ rest) acks
+        → (told : AckLine) → read_ack_line (without_last 13 line) ≡ told → with_lines (number + 1) (with_line number before told) rest ≡ Ok acks → Said before (line ∷ rest) acks
     go passed more nothing told is =
         let later = passed is in
         record {
@@ -51,13 +51,13 @@ said number before (line ∷ rest) acks few is =
 read : (number : ℕ) (before : List Ack) (lines : List (List ℕ)) → list_all is_accepted (said_by lines) ≡ true → length (before ++ given_by (said_by lines)) ≤ most_acks → with_lines number (Ok before) lines ≡ Ok (before ++ given_by (said_by lines))
 read number before [] accepted few = ap Ok (sym (append-nil before))
 read number before (line ∷ rest) accepted few =
-    go (read (number + 1) before rest) (λ (ack : Ack). read (number + 1) (before ++ ack ∷ []) rest) (line_of (without_last 13 line)) refl accepted few
+    go (read (number + 1) before rest) (λ (ack : Ack). read (number + 1) (before ++ ack ∷ []) rest) (read_ack_line (without_last 13 line)) refl accepted few
   where
     go : (list_all is_accepted (said_by rest) ≡ true → length (before ++ given_by (said_by rest)) ≤ most_acks → with_lines (number + 1) (Ok before) rest ≡ Ok (before ++ given_by (said_by rest)))
         → ((ack : Ack) → list_all is_accepted (said_by rest) ≡ true → length ((before ++ ack ∷ []) ++ given_by (said_by rest)) ≤ most_acks → with_lines (number + 1) (Ok (before ++ ack ∷ [])) rest ≡ Ok ((before ++ ack ∷ []) ++ given_by (said_by rest)))
-        → (told : AckLine) → line_of (without_last 13 line) ≡ told → (is_accepted (line_of (without_last 13 line)) && list_all is_accepted (said_by rest)) ≡ true
-        → length (before ++ given_by (line_of (without_last 13 line) ∷ said_by rest)) ≤ most_acks
-        → with_lines number (Ok before) (line ∷ rest) ≡ Ok (before ++ given_by (line_of (without_last 13 line) ∷ said_by rest))
+        → (told : AckLine) → read_ack_line (without_last 13 line) ≡ told → (is_accepted (read_ack_line (without_last 13 line)) && list_all is_accepted (said_by rest)) ≡ true
+        → length (before ++ given_by (read_ack_line (without_last 13 line) ∷ said_by rest)) ≤ most_acks
+        → with_lines number (Ok before) (line ∷ rest) ≡ Ok (before ++ given_by (read_ack_line (without_last 13 line) ∷ said_by rest))
     go passed more nothing told accepted few =
         let others : list_all is_accepted (said_by rest) ≡ true = sym (ap (λ x. is_accepted x && list_all is_accepted (said_by rest)) told) ∙ accepted in
         let room : length (before ++ given_by (said_by rest)) ≤ most_acks = subst (λ (x : AckLine). length (before ++ given_by (x ∷ said_by rest)) ≤ most_acks) told few in

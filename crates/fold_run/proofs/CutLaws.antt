@@ -5,9 +5,9 @@ use Rattle.std.proofs.lemmas.Bool.Decides.{nat_tests}
 use Rattle.std.specs.List.{list_all}
 use Rattle.ccp_base.specs.declared.parts.Separator.TheVariants.{LineFeed}
 use Rattle.ccp_base.specs.Parts.{separates, with_first, parts_of}
-use Rattle.fold_run.specs.FirstPart.{first_of, after_of}
+use Rattle.fold_run.specs.FirstPart.{first_of, after_separator}
 use Rattle.fold_run.specs.Separated.{Cut, is_separator, after_lines, cut_at}
-use Rattle.fold_run.specs.ReadingLaws.{is_other, IsCut, CutLaw}
+use Rattle.fold_run.specs.ReadingLaws.{is_other, IsCutAt, CutLaw}
 use Rattle.fold_run.proofs.FirstLine.{parts-first}
 use Rattle.fold_run.proofs.FirstWord.{here, past}
 use Rattle.fold_run.proofs.SeparatedLemmas.{after_lines-next}
@@ -31,24 +31,24 @@ first-free (byte ∷ rest) after = go (first-free rest after) (separates LineFee
         ∙ sym (ap (λ line. line ∷ parts_of LineFeed after) front)
 
 -- a text is its first line, and what follows it
-split-line : (text : List ℕ) → (text ≡ first_of LineFeed text ++ 10 ∷ after_of LineFeed text) ⊎ ((text ≡ first_of LineFeed text) × (after_of LineFeed text ≡ []))
+split-line : (text : List ℕ) → (text ≡ first_of LineFeed text ++ 10 ∷ after_separator LineFeed text) ⊎ ((text ≡ first_of LineFeed text) × (after_separator LineFeed text ≡ []))
 split-line [] = inr (refl, refl)
 split-line (byte ∷ rest) = go (split-line rest) (separates LineFeed byte) refl
   where
-    go : (rest ≡ first_of LineFeed rest ++ 10 ∷ after_of LineFeed rest) ⊎ ((rest ≡ first_of LineFeed rest) × (after_of LineFeed rest ≡ [])) → (b : Bool) → separates LineFeed byte ≡ b
-        → (byte ∷ rest ≡ first_of LineFeed (byte ∷ rest) ++ 10 ∷ after_of LineFeed (byte ∷ rest)) ⊎ ((byte ∷ rest ≡ first_of LineFeed (byte ∷ rest)) × (after_of LineFeed (byte ∷ rest) ≡ []))
+    go : (rest ≡ first_of LineFeed rest ++ 10 ∷ after_separator LineFeed rest) ⊎ ((rest ≡ first_of LineFeed rest) × (after_separator LineFeed rest ≡ [])) → (b : Bool) → separates LineFeed byte ≡ b
+        → (byte ∷ rest ≡ first_of LineFeed (byte ∷ rest) ++ 10 ∷ after_separator LineFeed (byte ∷ rest)) ⊎ ((byte ∷ rest ≡ first_of LineFeed (byte ∷ rest)) × (after_separator LineFeed (byte ∷ rest) ≡ []))
     go later true is =
         let same : byte ≡ 10 = grind (arith, nat_tests, is) in
         let first = ap (λ b. cond b [] (byte ∷ first_of LineFeed rest)) is in
-        let behind = ap (λ b. cond b rest (after_of LineFeed rest)) is in
+        let behind = ap (λ b. cond b rest (after_separator LineFeed rest)) is in
         inl (ap (λ x. x ∷ rest) same ∙ sym (ap₂ (λ line after. line ++ 10 ∷ after) first behind))
     go (inl e) false is =
         let first = ap (λ b. cond b [] (byte ∷ first_of LineFeed rest)) is in
-        let behind = ap (λ b. cond b rest (after_of LineFeed rest)) is in
+        let behind = ap (λ b. cond b rest (after_separator LineFeed rest)) is in
         inl (ap (λ xs. byte ∷ xs) e ∙ sym (ap₂ (λ line after. line ++ 10 ∷ after) first behind))
     go (inr p) false is =
         let first = ap (λ b. cond b [] (byte ∷ first_of LineFeed rest)) is in
-        let behind = ap (λ b. cond b rest (after_of LineFeed rest)) is in
+        let behind = ap (λ b. cond b rest (after_separator LineFeed rest)) is in
         inr (ap (λ xs. byte ∷ xs) p.0 ∙ sym first, behind ∙ p.1)
 
 -- the lines before a line, with their line feeds, and those from it on
@@ -65,17 +65,17 @@ front-of (suc n) (byte ∷ rest) within =
     let text = byte ∷ rest in
     let parts = parts-first LineFeed text (omega arith) in
     let count = ap length parts in
-    let later = front-of n (after_of LineFeed text) (omega (arith, count)) in
+    let later = front-of n (after_separator LineFeed text) (omega (arith, count)) in
     go parts later (split-line text)
   where
     text : List ℕ
     text = byte ∷ rest
 
-    go : parts_of LineFeed text ≡ first_of LineFeed text ∷ parts_of LineFeed (after_of LineFeed text) → Front n (after_of LineFeed text)
-        → (text ≡ first_of LineFeed text ++ 10 ∷ after_of LineFeed text) ⊎ ((text ≡ first_of LineFeed text) × (after_of LineFeed text ≡ [])) → Front (suc n) text
+    go : parts_of LineFeed text ≡ first_of LineFeed text ∷ parts_of LineFeed (after_separator LineFeed text) → Front n (after_separator LineFeed text)
+        → (text ≡ first_of LineFeed text ++ 10 ∷ after_separator LineFeed text) ⊎ ((text ≡ first_of LineFeed text) × (after_separator LineFeed text ≡ [])) → Front (suc n) text
     go parts later (inl whole) = record {
       front = first_of LineFeed text ++ 10 ∷ later.front;
-      whole = whole ∙ ap (λ after. first_of LineFeed text ++ 10 ∷ after) later.whole ∙ sym (append_assoc (first_of LineFeed text) (10 ∷ later.front) (after_lines n (after_of LineFeed text)));
+      whole = whole ∙ ap (λ after. first_of LineFeed text ++ 10 ∷ after) later.whole ∙ sym (append_assoc (first_of LineFeed text) (10 ∷ later.front) (after_lines n (after_separator LineFeed text)));
       lines = first-free text later.front ∙ ap (λ lines. first_of LineFeed text ∷ lines) later.lines ∙ sym (ap (take (suc n)) parts);
       left = later.left ∙ sym (ap (drop (suc n)) parts);
     }
@@ -84,9 +84,9 @@ front-of (suc n) (byte ∷ rest) within =
         let count = ap length none in
         record {
           front = text;
-          whole = absurd (no-line n (after_of LineFeed text) p.1 within parts);
-          lines = absurd (no-line n (after_of LineFeed text) p.1 within parts);
-          left = absurd (no-line n (after_of LineFeed text) p.1 within parts);
+          whole = absurd (no-line n (after_separator LineFeed text) p.1 within parts);
+          lines = absurd (no-line n (after_separator LineFeed text) p.1 within parts);
+          left = absurd (no-line n (after_separator LineFeed text) p.1 within parts);
         }
       where
         no-line : (n : ℕ) (after : List ℕ) → after ≡ [] → suc n < length (parts_of LineFeed text) → parts_of LineFeed text ≡ first_of LineFeed text ∷ parts_of LineFeed after → ⊥
@@ -128,7 +128,7 @@ first-at (line ∷ rest) n is = go (first-at rest) (is_separator line) refl (pos
           separator = f.separator;
         })
 
-cut-at : (text : List ℕ) (n : ℕ) → position is_separator (parts_of LineFeed text) ≡ Some n → IsCut text (cut_at text n)
+cut-at : (text : List ℕ) (n : ℕ) → position is_separator (parts_of LineFeed text) ≡ Some n → IsCutAt text (cut_at text n)
 cut-at text n is =
     let at = first-at (parts_of LineFeed text) n is in
     let f = front-of n text at.within in
@@ -153,20 +153,20 @@ cut-at text n is =
         ap (λ k. take k text) n ∙ ap (take (length front)) e ∙ take-append_seam front left
 
     whole : (f : Front n text) → (cut_at text n).program ≡ f.front
-        → (after_lines n text ≡ first_of LineFeed (after_lines n text) ++ 10 ∷ after_of LineFeed (after_lines n text)) ⊎ ((after_lines n text ≡ first_of LineFeed (after_lines n text)) × (after_of LineFeed (after_lines n text) ≡ []))
+        → (after_lines n text ≡ first_of LineFeed (after_lines n text) ++ 10 ∷ after_separator LineFeed (after_lines n text)) ⊎ ((after_lines n text ≡ first_of LineFeed (after_lines n text)) × (after_separator LineFeed (after_lines n text) ≡ []))
         → (text ≡ (cut_at text n).program ++ first_of LineFeed (after_lines n text) ++ 10 ∷ (cut_at text n).rest) ⊎ ((text ≡ (cut_at text n).program ++ first_of LineFeed (after_lines n text)) × ((cut_at text n).rest ≡ []))
     whole f program (inl e) = inl (
         f.whole ∙ ap₂ (λ front left. front ++ left) (sym program) e
-        ∙ sym (append_assoc (cut_at text n).program (first_of LineFeed (after_lines n text)) (10 ∷ after_of LineFeed (after_lines n text)))
+        ∙ sym (append_assoc (cut_at text n).program (first_of LineFeed (after_lines n text)) (10 ∷ after_separator LineFeed (after_lines n text)))
         ∙ ap (λ rest. ((cut_at text n).program ++ first_of LineFeed (after_lines n text)) ++ 10 ∷ rest) (sym (after_lines-next n text)))
     whole f program (inr p) = inr (f.whole ∙ ap₂ (λ front left. front ++ left) (sym program) p.0, after_lines-next n text ∙ p.1)
 
 pub cut-law : CutLaw
 cut-law text cut is = go (position is_separator (parts_of LineFeed text)) refl
   where
-    go : (found : Option ℕ) → position is_separator (parts_of LineFeed text) ≡ found → IsCut text cut
+    go : (found : Option ℕ) → position is_separator (parts_of LineFeed text) ≡ found → IsCutAt text cut
     go None found = let none = sym (ap (option_map (cut_at text)) found) ∙ is in cc
     go (Some n) found =
         let some = sym (ap (option_map (cut_at text)) found) ∙ is in
         let same : cut_at text n ≡ cut = cc in
-        subst (λ (c : Cut). IsCut text c) same (cut-at text n found)
+        subst (λ (c : Cut). IsCutAt text c) same (cut-at text n found)

@@ -11,20 +11,20 @@ use Rattle.ccp_base.specs.declared.parts.Separator.TheVariants.{Blank}
 use Rattle.ccp_base.specs.Parts.{separates, parts_of}
 use Rattle.ccp_base.specs.PrimitiveNames.{PrimitiveName, primitive_names, value_named}
 use Rattle.fold_run.specs.declared.line_values.LineValues.{LineValues}
-use Rattle.fold_run.specs.FirstPart.{first_of, after_of, equals_from}
-use Rattle.fold_run.specs.AckLine.{with_value, with_item, with_word, with_words}
+use Rattle.fold_run.specs.FirstPart.{first_of, after_separator, equals_from}
+use Rattle.fold_run.specs.AckLine.{with_line_value, with_item, with_one_word, with_each_word}
 use Rattle.fold_run.proofs.FirstLine.{parts-first}
 
 -- the words go on after the first one
-pub words_step : (values : LineValues) (text : List ℕ) → 0 < length text → with_words (Some values) (parts_of Blank text) ≡ with_words (with_word values (first_of Blank text)) (parts_of Blank (after_of Blank text))
-words_step values text some = ap (with_words (Some values)) (parts-first Blank text some)
+pub words_step : (values : LineValues) (text : List ℕ) → 0 < length text → with_each_word (Some values) (parts_of Blank text) ≡ with_each_word (with_one_word values (first_of Blank text)) (parts_of Blank (after_separator Blank text))
+words_step values text some = ap (with_each_word (Some values)) (parts-first Blank text some)
 
-pub after_shorter : (s : Separator) (text : List ℕ) → 0 < length text → length (after_of s text) < length text
+pub after_shorter : (s : Separator) (text : List ℕ) → 0 < length text → length (after_separator s text) < length text
 after_shorter s [] some = absurd (omega arith)
 after_shorter s (byte ∷ []) some = elim (separates s byte) as (λ b. length {A = ℕ} (cond b [] []) < 1) [ true ↦ omega arith | false ↦ omega arith ]
 after_shorter s (byte ∷ x ∷ rest) some =
     let later = after_shorter s (x ∷ rest) (omega arith) in
-    elim (separates s byte) as (λ b. length (cond b (x ∷ rest) (after_of s (x ∷ rest))) < length (byte ∷ x ∷ rest)) [ true ↦ omega arith | false ↦ omega (arith, later) ]
+    elim (separates s byte) as (λ b. length (cond b (x ∷ rest) (after_separator s (x ∷ rest))) < length (byte ∷ x ∷ rest)) [ true ↦ omega arith | false ↦ omega (arith, later) ]
 
 -- the test that finds the equals sign
 abbrev pub is_equals : ℕ → Bool
@@ -58,7 +58,7 @@ pub record IsItem (text : List ℕ) (n : ℕ) : Type 0 where
   pub equals : position is_equals (first_of Blank text) ≡ Some n
   pub name : take n (first_of Blank text) ≡ take n text
   pub value : drop (suc n) (first_of Blank text) ≡ first_of Blank (drop (suc n) text)
-  pub after : after_of Blank text ≡ after_of Blank (drop (suc n) text)
+  pub after : after_separator Blank text ≡ after_separator Blank (drop (suc n) text)
 
 not_blank : (byte : ℕ) → is_equals byte ≡ true → separates Blank byte ≡ false
 not_blank byte is = grind (arith, nat_tests)
@@ -70,8 +70,8 @@ item-from at (byte ∷ rest) found is = go (item-from (at + 1) rest found) (is_e
     front : separates Blank byte ≡ false → first_of Blank (byte ∷ rest) ≡ byte ∷ first_of Blank rest
     front other = ap (λ b. cond b [] (byte ∷ first_of Blank rest)) other
 
-    behind : separates Blank byte ≡ false → after_of Blank (byte ∷ rest) ≡ after_of Blank rest
-    behind other = ap (λ b. cond b rest (after_of Blank rest)) other
+    behind : separates Blank byte ≡ false → after_separator Blank (byte ∷ rest) ≡ after_separator Blank rest
+    behind other = ap (λ b. cond b rest (after_separator Blank rest)) other
 
     later : separates Blank byte ≡ false → is_equals byte ≡ false → (n : ℕ) × (found ≡ (at + 1) + n) × IsItem rest n → (n : ℕ) × (found ≡ at + n) × IsItem (byte ∷ rest) n
     later other different (n, place, item) = (
@@ -121,33 +121,33 @@ no-item at (byte ∷ rest) is = go (no-item (at + 1) rest) (is_equals byte) (sep
         ∙ past is_equals byte (first_of Blank rest) equal
         ∙ ap (option_map (λ k. 1 + k)) (again is)
 
-item-of : (values : LineValues) (word : List ℕ) (n : ℕ) → position is_equals word ≡ Some n → with_item values word ≡ with_value values (value_named (take n word)) (numeral_of (drop (n + 1) word))
-item-of values word n is = ap (option_and_then (λ at. with_value values (value_named (take at word)) (numeral_of (drop (at + 1) word)))) is
+item-of : (values : LineValues) (word : List ℕ) (n : ℕ) → position is_equals word ≡ Some n → with_item values word ≡ with_line_value values (value_named (take n word)) (numeral_of (drop (n + 1) word))
+item-of values word n is = ap (option_and_then (λ at. with_line_value values (value_named (take at word)) (numeral_of (drop (at + 1) word)))) is
 
-word-of : (values : LineValues) (word : List ℕ) (n : ℕ) → position is_equals word ≡ Some n → with_word values word ≡ with_item values word
+word-of : (values : LineValues) (word : List ℕ) (n : ℕ) → position is_equals word ≡ Some n → with_one_word values word ≡ with_item values word
 word-of values [] n is = cc
 word-of values (byte ∷ rest) n is = refl
 
 -- what the first word of a text gives
-pub word-at : (values : LineValues) (text : List ℕ) (n : ℕ) → equals_from 0 text ≡ Some n → with_word values (first_of Blank text) ≡ with_value values (value_named (take n text)) (numeral_of (first_of Blank (drop (n + 1) text)))
+pub word-at : (values : LineValues) (text : List ℕ) (n : ℕ) → equals_from 0 text ≡ Some n → with_one_word values (first_of Blank text) ≡ with_line_value values (value_named (take n text)) (numeral_of (first_of Blank (drop (n + 1) text)))
 word-at values text n is =
     let item = item-at text n is in
     word-of values (first_of Blank text) n item.equals
     ∙ item-of values (first_of Blank text) n item.equals
-    ∙ ap (λ name. with_value values (value_named name) (numeral_of (drop (n + 1) (first_of Blank text)))) item.name
-    ∙ ap (λ k. with_value values (value_named (take n text)) (numeral_of (drop k (first_of Blank text)))) (add-one n)
-    ∙ ap (λ xs. with_value values (value_named (take n text)) (numeral_of xs)) item.value
-    ∙ ap (λ k. with_value values (value_named (take n text)) (numeral_of (first_of Blank (drop k text)))) (sym (add-one n))
+    ∙ ap (λ name. with_line_value values (value_named name) (numeral_of (drop (n + 1) (first_of Blank text)))) item.name
+    ∙ ap (λ k. with_line_value values (value_named (take n text)) (numeral_of (drop k (first_of Blank text)))) (add-one n)
+    ∙ ap (λ xs. with_line_value values (value_named (take n text)) (numeral_of xs)) item.value
+    ∙ ap (λ k. with_line_value values (value_named (take n text)) (numeral_of (first_of Blank (drop k text)))) (sym (add-one n))
 
-pub after-at : (text : List ℕ) (n : ℕ) → equals_from 0 text ≡ Some n → after_of Blank text ≡ after_of Blank (drop (n + 1) text)
-after-at text n is = (item-at text n is).after ∙ ap (λ k. after_of Blank (drop k text)) (sym (add-one n))
+pub after-at : (text : List ℕ) (n : ℕ) → equals_from 0 text ≡ Some n → after_separator Blank text ≡ after_separator Blank (drop (n + 1) text)
+after-at text n is = (item-at text n is).after ∙ ap (λ k. after_separator Blank (drop k text)) (sym (add-one n))
 
 -- a word without an equals sign gives nothing
-pub word-none : (values : LineValues) (text : List ℕ) → 0 < length text → separates Blank (slice_index text 0) ≡ false → equals_from 0 text ≡ None → with_word values (first_of Blank text) ≡ None
+pub word-none : (values : LineValues) (text : List ℕ) → 0 < length text → separates Blank (slice_index text 0) ≡ false → equals_from 0 text ≡ None → with_one_word values (first_of Blank text) ≡ None
 word-none values [] some other is = absurd (omega arith)
 word-none values (byte ∷ rest) some other is =
-    ap (with_word values) front
-    ∙ ap (option_and_then (λ at. with_value values (value_named (take at (byte ∷ first_of Blank rest))) (numeral_of (drop (at + 1) (byte ∷ first_of Blank rest))))) (sym (ap (position is_equals) front) ∙ no-item 0 (byte ∷ rest) is)
+    ap (with_one_word values) front
+    ∙ ap (option_and_then (λ at. with_line_value values (value_named (take at (byte ∷ first_of Blank rest))) (numeral_of (drop (at + 1) (byte ∷ first_of Blank rest))))) (sym (ap (position is_equals) front) ∙ no-item 0 (byte ∷ rest) is)
   where
     front : first_of Blank (byte ∷ rest) ≡ byte ∷ first_of Blank rest
     front = ap (λ b. cond b [] (byte ∷ first_of Blank rest)) other
@@ -232,11 +232,11 @@ module _ (text : List ℕ) (at : ℕ) (within : at < length text) (before : (k :
       go (inr none) = let plain = known-plain (take at text) n known in cc
 
   -- where no value has that name, the first word gives nothing
-  pub equals-unknown : (values : LineValues) → separates Blank (slice_index text 0) ≡ false → value_named (take at text) ≡ None → with_word values (first_of Blank text) ≡ None
+  pub equals-unknown : (values : LineValues) → separates Blank (slice_index text 0) ≡ false → value_named (take at text) ≡ None → with_one_word values (first_of Blank text) ≡ None
   equals-unknown values other unknown = go (first-equals 0 text at within before is)
     where
-      go : (equals_from 0 text ≡ Some (0 + at)) ⊎ ((equals_from 0 text ≡ None) × (has_blank (take at text) ≡ true)) → with_word values (first_of Blank text) ≡ None
+      go : (equals_from 0 text ≡ Some (0 + at)) ⊎ ((equals_from 0 text ≡ None) × (has_blank (take at text) ≡ true)) → with_one_word values (first_of Blank text) ≡ None
       go (inl found) =
           word-at values text at (found ∙ ap (λ k. Some k) (omega arith))
-          ∙ ap (λ name. with_value values name (numeral_of (first_of Blank (drop (at + 1) text)))) unknown
+          ∙ ap (λ name. with_line_value values name (numeral_of (first_of Blank (drop (at + 1) text)))) unknown
       go (inr none) = word-none values text (omega arith) other none.0

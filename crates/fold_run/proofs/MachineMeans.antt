@@ -17,11 +17,11 @@ use Rattle.reg_code.specs.declared.code.Code.{Code}
 use Rattle.reg_code.specs.CodeStep.{IsKeptOf, Kept, CodeOutcome, quiet, reported, held, faulted, lost, one_by_code}
 use Rattle.fold_machine.specs.declared.acked.Acked.{Acked}
 use Rattle.fold_machine.specs.declared.acked.Acked.TheVariants as acked
-use Rattle.fold_machine.specs.Heard.{acked_of, after_made, heard, heard_where, report_after}
+use Rattle.fold_machine.specs.Heard.{answer_for, after_made, after_acknowledgement, heard_where, report_after}
 use Rattle.fold_machine.specs.MachineState.{MachineState, Fits}
-use Rattle.reg_compiler.specs.Simulation.{Simulates, seen, start_of}
+use Rattle.reg_compiler.specs.Simulation.{Simulates, seen, register_start}
 use Rattle.fold_run.specs.Fold.{place_at}
-use Rattle.fold_run.specs.AnswerMeaning.{mean_of, IsPlaced}
+use Rattle.fold_run.specs.AnswerMeaning.{mean_of, HasItsPlace}
 use Rattle.fold_run.specs.Folding.{env_of}
 
 there : (places : List Place) (kind : FaultKind) (index : ℕ) (m : Mean) → option_map (λ place. mean.Fault kind place) (slice_get places index) ≡ Some m
@@ -37,9 +37,9 @@ there places kind index m e = go (slice_get places index) refl e
 
 -- what an answer tells of the meaning, where the last report has these fields
 abbrev pub Tells : List Place → List ℕ → Mean → Acked → Type 0
-Tells places report m a = (m ≡ mean_of places report a) × IsPlaced places a
+Tells places report m a = (m ≡ mean_of places report a) × HasItsPlace places a
 
-tells : (places : List Place) (o : CodeOutcome) (report : List ℕ) (m : Mean) (a : Acked) → Some a ≡ acked_of o → seen places o ≡ Some m → Tells places (report_after o report) m a
+tells : (places : List Place) (o : CodeOutcome) (report : List ℕ) (m : Mean) (a : Acked) → Some a ≡ answer_for o → seen places o ≡ Some m → Tells places (report_after o report) m a
 tells places quiet report m a is e =
     let same : a ≡ acked.Quiet = cc in
     subst (λ (x : Acked). Tells places report m x) (sym same) (let mean_is : m ≡ mean.Quiet = cc in (mean_is, tt))
@@ -55,7 +55,7 @@ tells places (faulted kind index) report m a is e =
     subst (λ (x : Acked). Tells places report m x) (sym same) (found.1, found.0)
 tells places lost report m a is e = let bad : ⊥ = cc in absurd bad
 
-starts : (decls : List Decl) → map (λ (start : Start). start.value) (map start_of decls) ≡ map (λ (decl : Decl). decl.start) decls
+starts : (decls : List Decl) → map (λ (start : Start). start.value) (map register_start decls) ≡ map (λ (decl : Decl). decl.start) decls
 starts [] = refl
 starts (decl ∷ rest) = ap (λ values. decl.start ∷ values) (starts rest)
 
@@ -63,8 +63,8 @@ module _ (form : Form) (code : Code) (places : List Place) (s : Simulates form c
   -- the registers of the code hold an env of the program
   pub env_shape : (kept : Kept) → IsKeptOf code kept → IsEnvOf form (env_of kept)
   env_shape kept k = record {
-    fields = k.reports ∙ (ap length s.2.0 ∙ length-map form.fields start_of);
-    controls = k.controls ∙ (ap length s.2.1 ∙ length-map form.controls start_of);
+    fields = k.reports ∙ (ap length s.2.0 ∙ length-map form.fields register_start);
+    controls = k.controls ∙ (ap length s.2.1 ∙ length-map form.controls register_start);
   }
 
   pub start_shape : env_of (started code [] 0 0 0) ≡ declared_env form 0 0 0
@@ -77,11 +77,11 @@ module _ (form : Form) (code : Code) (places : List Place) (s : Simulates form c
   }
 
   module _ (m : MachineState) (fits : Fits m code) (going : m.is_stopped ≡ false) (ack : Ack) where
-    made : heard code ack true m ≡ after_made (one_by_code code m.kept ack true) m
+    made : after_acknowledgement code ack true m ≡ after_made (one_by_code code m.kept ack true) m
     made = ap (λ stopped. heard_where stopped code ack true m) going
 
     -- a machine that isn't stopped answers what the program means
-    pub told : (a : Acked) → Some a ≡ (heard code ack true m).0 → (new : MachineState) → new ≡ (heard code ack true m).1
+    pub told : (a : Acked) → Some a ≡ (after_acknowledgement code ack true m).0 → (new : MachineState) → new ≡ (after_acknowledgement code ack true m).1
         → Tells places new.report (one_of form (env_of m.kept) ack true).0 a
     told a is new after =
         subst (λ (report : List ℕ). Tells places report (one_of form (env_of m.kept) ack true).0 a)
@@ -89,6 +89,6 @@ module _ (form : Form) (code : Code) (places : List Place) (s : Simulates form c
         (tells places (one_by_code code m.kept ack true).outcome m.report (one_of form (env_of m.kept) ack true).0 a
         (is ∙ ap (λ (p : Option Acked × MachineState). p.0) made) (s.3 (env_of m.kept) ack true (env_shape m.kept fits.kept)).0)
 
-    pub env_after : (new : MachineState) → new ≡ (heard code ack true m).1 → env_of new.kept ≡ (one_of form (env_of m.kept) ack true).1
+    pub env_after : (new : MachineState) → new ≡ (after_acknowledgement code ack true m).1 → env_of new.kept ≡ (one_of form (env_of m.kept) ack true).1
     env_after new is = ap (λ (x : MachineState). env_of x.kept) (is ∙ ap (λ (p : Option Acked × MachineState). p.1) made)
         ∙ ap env_of (s.3 (env_of m.kept) ack true (env_shape m.kept fits.kept)).1

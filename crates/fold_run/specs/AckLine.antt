@@ -33,26 +33,26 @@ with_number values n value =
     if slice_index_or values.named n false || (nat_lt 1 value && is_flag n) then None
     else Some (record { numbers = slice_set values.numbers n value; named = slice_set values.named n true })
 
-abbrev pub with_value : LineValues → Option ℕ → Option ℕ → Option LineValues
-with_value values None value = None
-with_value values (Some n) None = None
-with_value values (Some n) (Some value) = with_number values n value
+abbrev pub with_line_value : LineValues → Option ℕ → Option ℕ → Option LineValues
+with_line_value values None value = None
+with_line_value values (Some n) None = None
+with_line_value values (Some n) (Some value) = with_number values n value
 
 -- the value that a word `name=numeral` gives
 abbrev pub with_item : LineValues → List ℕ → Option LineValues
 with_item values word =
-    option_and_then (λ at. with_value values (value_named (take at word)) (numeral_of (drop (at + 1) word))) (position (λ byte. byte == 61) word)
+    option_and_then (λ at. with_line_value values (value_named (take at word)) (numeral_of (drop (at + 1) word))) (position (λ byte. byte == 61) word)
 
 -- two blanks may stand side by side
-abbrev pub with_word : LineValues → List ℕ → Option LineValues
-with_word values [] = Some values
-with_word values (byte ∷ rest) = with_item values (byte ∷ rest)
+abbrev pub with_one_word : LineValues → List ℕ → Option LineValues
+with_one_word values [] = Some values
+with_one_word values (byte ∷ rest) = with_item values (byte ∷ rest)
 
 -- the values with those of each of the words
-abbrev pub with_words : Option LineValues → List (List ℕ) → Option LineValues
-with_words None words = None
-with_words (Some values) [] = Some values
-with_words (Some values) (word ∷ rest) = with_words (with_word values word) rest
+abbrev pub with_each_word : Option LineValues → List (List ℕ) → Option LineValues
+with_each_word None words = None
+with_each_word (Some values) [] = Some values
+with_each_word (Some values) (word ∷ rest) = with_each_word (with_one_word values word) rest
 
 -- the acknowledgement of a line's values, with 0 for those that it doesn't give
 abbrev pub given_or_refused : Option LineValues → AckLine
@@ -71,11 +71,11 @@ ends_blank line = is_blank_at line (length line - 1)
 
 -- what a line says, without the CR at its end: nothing where it is blank, else a list of `name=numeral` with
 -- blanks between alone, each name at most once
-abbrev pub line_of : List ℕ → AckLine
-line_of line =
+abbrev pub read_ack_line : List ℕ → AckLine
+read_ack_line line =
     if list_all (separates Blank) line then nothing
     else if begins_blank line || ends_blank line then refused
-    else given_or_refused (with_words (Some no_values) (parts_of Blank line))
+    else given_or_refused (with_each_word (Some no_values) (parts_of Blank line))
 
 -- whether the line has a first byte that is no blank
 abbrev pub begins_word : List ℕ → Bool

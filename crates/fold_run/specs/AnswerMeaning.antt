@@ -16,9 +16,9 @@ mean_of places report (acked.Faulted kind index) = mean.Fault kind (place_at pla
 mean_of places report acked.Stopped = mean.Quiet
 
 -- an instruction that faulted has a place
-abbrev pub IsPlaced : List Place → Acked → Type 0
-IsPlaced places acked.Quiet = Unit {0}
-IsPlaced places acked.Reported = Unit {0}
-IsPlaced places acked.Held = Unit {0}
-IsPlaced places (acked.Faulted kind index) = index < length places
-IsPlaced places acked.Stopped = Unit {0}
+abbrev pub HasItsPlace : List Place → Acked → Type 0
+HasItsPlace places acked.Quiet = Unit {0}
+HasItsPlace places acked.Reported = Unit {0}
+HasItsPlace places acked.Held = Unit {0}
+HasItsPlace places (acked.Faulted kind index) = index < length places
+HasItsPlace places acked.Stopped = Unit {0}

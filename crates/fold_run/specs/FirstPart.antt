@@ -8,9 +8,9 @@ abbrev pub first_of : Separator → List ℕ → List ℕ
 first_of separator [] = []
 first_of separator (byte ∷ rest) = if separates separator byte then [] else byte ∷ first_of separator rest
 
-abbrev pub after_of : Separator → List ℕ → List ℕ
-after_of separator [] = []
-after_of separator (byte ∷ rest) = if separates separator byte then rest else after_of separator rest
+abbrev pub after_separator : Separator → List ℕ → List ℕ
+after_separator separator [] = []
+after_separator separator (byte ∷ rest) = if separates separator byte then rest else after_separator separator rest
 
 -- the place of the equals sign of the first word, counted from `at` at the text's front
 abbrev pub equals_from : ℕ → List ℕ → Option ℕ

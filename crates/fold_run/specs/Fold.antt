@@ -7,7 +7,7 @@ use Rattle.ccp_base.specs.declared.place.Place.{Place}
 use Rattle.portus_core.specs.Programs.{Form}
 use Rattle.portus_core.specs.Value.{Cause}
 use Rattle.portus_core.specs.Epoch.{Event, acknowledged, by_source, Track, track_at, declared_env, after}
-use Rattle.portus_core.specs.Reports.{Epoch, reports, fault_of}
+use Rattle.portus_core.specs.Reports.{Epoch, reports, epoch_fault}
 use Rattle.portus_core.specs.ProgramForm.{form_of}
 use Rattle.reg_compiler.specs.declared.built.Built.{Built}
 use Rattle.report_lines.specs.declared.end_line.End.{End}
@@ -33,7 +33,7 @@ fold_reports form acks = reports (by_source form) fold_epoch (map with_room acks
 
 -- the fault that stops the program, with the number of its acknowledgement
 abbrev pub fold_fault : Form → List Ack → Option (ℕ × Cause)
-fold_fault form acks = fault_of (by_source form) (map with_room acks) (fold_start form)
+fold_fault form acks = epoch_fault (by_source form) (map with_room acks) (fold_start form)
 
 abbrev pub end_of : Track → End
 end_of track = record {

@@ -11,7 +11,7 @@ use Rattle.portus_core.specs.declared.env.Mean.{Mean}
 use Rattle.portus_core.specs.OneAcknowledgement.{one_of}
 use Rattle.portus_core.specs.ProgramForm.{form_of}
 use Rattle.portus_core.specs.Epoch.{Track, after_event, by_source}
-use Rattle.portus_core.specs.Reports.{fault_at, reports_at}
+use Rattle.portus_core.specs.Reports.{event_fault, reports_at}
 use Rattle.portus_core.specs.Value.{Cause}
 use Rattle.reg_code.specs.declared.code.Code.{Code}
 use Rattle.reg_code.specs.CodeStep.{Kept, Made, one_by_code}
@@ -21,7 +21,7 @@ use Rattle.fold_run.specs.Fold.{IsFoldNotice, fold_epoch, told_fault, with_room}
 use Rattle.report_lines.specs.declared.end_line.End.{End}
 use Rattle.fold_run.specs.declared.folded.Folded.{Folded}
 use Rattle.fold_run.specs.declared.folding.Folding.{Folding}
-use Rattle.fold_run.specs.Ran.{Running, running_after}
+use Rattle.fold_run.specs.Ran.{CodeRun, running_after}
 
 -- the env that registers hold
 abbrev pub env_of : Kept → Env
@@ -34,8 +34,8 @@ env_of kept = record {
 }
 
 -- the state of a fold's epoch
-abbrev pub track_of : Folding → Track
-track_of folding = record {
+abbrev pub folding_track : Folding → Track
+folding_track folding = record {
   env = env_of folding.machine.kept;
   is_stopped = folding.machine.is_stopped;
   first = folding.first;
@@ -43,7 +43,7 @@ track_of folding = record {
 }
 
 -- the state of a fold's code
-abbrev pub running_of : Folding → Running
+abbrev pub running_of : Folding → CodeRun
 running_of folding = record {
   kept = folding.machine.kept;
   is_stopped = folding.machine.is_stopped;
@@ -94,15 +94,15 @@ by_code built kept ack = one_by_code built.code.code kept ack true
 
 -- the state of the program after it
 abbrev pub track_after : Built → Folding → Ack → Track
-track_after built folding ack = after_event (by_source (form_of built.program)) (with_room ack) (track_of folding)
+track_after built folding ack = after_event (by_source (form_of built.program)) (with_room ack) (folding_track folding)
 
 -- the state of the code after it
-abbrev pub code_after : Built → Folding → Ack → Running
+abbrev pub code_after : Built → Folding → Ack → CodeRun
 code_after built folding ack = running_after built.code.code (running_of folding) ack
 
 -- the reports of it
 abbrev pub reports_after : Built → Folding → Ack → List Report
-reports_after built folding ack = reports_at (by_source (form_of built.program)) fold_epoch (with_room ack) (track_of folding)
+reports_after built folding ack = reports_at (by_source (form_of built.program)) fold_epoch (with_room ack) (folding_track folding)
 
 -- the fault so far
 abbrev pub fault_in : Built → Folding → Option (ℕ × Cause)
@@ -110,7 +110,7 @@ fault_in built folding = option_map (told_fault built.places) folding.fault
 
 -- the fault after it, which is the first one
 abbrev pub fault_after : Built → Folding → Ack → Option (ℕ × Cause)
-fault_after built folding ack = option_or (fault_in built folding) (fault_at (by_source (form_of built.program)) (with_room ack) (track_of folding))
+fault_after built folding ack = option_or (fault_in built folding) (event_fault (by_source (form_of built.program)) (with_room ack) (folding_track folding))
 
 -- if it is the next of some acknowledgements, the notice is still of one of these
 abbrev pub KeepsNotice : Built → Ack → Folding → Folding → Type 0

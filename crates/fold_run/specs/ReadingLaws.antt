@@ -5,26 +5,26 @@ use Rattle.ccp_base.specs.declared.ack.Ack.{Ack}
 use Rattle.ccp_base.specs.declared.parts.Separator.TheVariants.{LineFeed}
 use Rattle.ccp_base.specs.Limits.{most_acks}
 use Rattle.ccp_base.specs.Parts.{parts_of, without_last}
-use Rattle.fold_run.specs.AckLine.{AckLine, nothing, given, refused, line_of}
-use Rattle.fold_run.specs.Acknowledgements.{acks_of}
+use Rattle.fold_run.specs.AckLine.{AckLine, nothing, given, refused, read_ack_line}
+use Rattle.fold_run.specs.Acknowledgements.{acks_of_lines}
 use Rattle.fold_run.specs.Separated.{Cut, is_separator, cut_of}
 
 abbrev pub is_other : List ℕ → Bool
 is_other line = not (is_separator line)
 
 -- a text is a program, a separator line and the rest, and no line of the program is a separator
-pub record IsCut (text : List ℕ) (cut : Cut) : Type 0 where
+pub record IsCutAt (text : List ℕ) (cut : Cut) : Type 0 where
   pub line : List ℕ
   pub separator : is_separator line ≡ true
   pub whole : (text ≡ cut.program ++ line ++ 10 ∷ cut.rest) ⊎ ((text ≡ cut.program ++ line) × (cut.rest ≡ []))
   pub others : list_all is_other (parts_of LineFeed cut.program) ≡ true
 
 abbrev pub CutLaw : Type 0
-CutLaw = (text : List ℕ) (cut : Cut) → cut_of text ≡ Some cut → IsCut text cut
+CutLaw = (text : List ℕ) (cut : Cut) → cut_of text ≡ Some cut → IsCutAt text cut
 
 -- what lines say, each without the CR at its end
 abbrev pub said_by : List (List ℕ) → List AckLine
-said_by lines = map (λ line. line_of (without_last 13 line)) lines
+said_by lines = map (λ line. read_ack_line (without_last 13 line)) lines
 
 abbrev pub is_accepted : AckLine → Bool
 is_accepted nothing = true
@@ -44,4 +44,4 @@ pub record AreAcks (lines : List (List ℕ)) (acks : List Ack) : Type 0 where
   pub few : length acks ≤ most_acks
 
 abbrev pub AcksLaw : Type 0
-AcksLaw = (next : ℕ) (lines : List (List ℕ)) (acks : List Ack) → (acks_of next lines ≡ Ok acks → AreAcks lines acks) × (AreAcks lines acks → acks_of next lines ≡ Ok acks)
+AcksLaw = (next : ℕ) (lines : List (List ℕ)) (acks : List Ack) → (acks_of_lines next lines ≡ Ok acks → AreAcks lines acks) × (AreAcks lines acks → acks_of_lines next lines ≡ Ok acks)

@@ -3,7 +3,7 @@ use Rattle.std.specs.Prelude.{ℕ, zero, suc, ◌+◌, ◌-◌, Bool, Option, Li
 use Rattle.std.specs.Str.{bytes_eq}
 use Rattle.ccp_base.specs.declared.parts.Separator.TheVariants.{LineFeed}
 use Rattle.ccp_base.specs.Parts.{parts_of, without_last}
-use Rattle.fold_run.specs.FirstPart.{after_of}
+use Rattle.fold_run.specs.FirstPart.{after_separator}
 use Rattle.fold_run.specs.declared.separated.Separated.{Separated}
 
 -- the bytes before a line, the bytes after it, and the number in the whole text, counted from 1, of the first line
@@ -20,7 +20,7 @@ is_separator line = bytes_eq (without_last 13 line) (codes "---")
 -- the text after its first `n` lines
 abbrev pub after_lines : ℕ → List ℕ → List ℕ
 after_lines zero text = text
-after_lines (suc n) text = after_lines n (after_of LineFeed text)
+after_lines (suc n) text = after_lines n (after_separator LineFeed text)
 
 -- the cut at the line with this number, counted from 0
 abbrev pub cut_at : List ℕ → ℕ → Cut

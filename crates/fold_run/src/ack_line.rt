@@ -4,9 +4,9 @@ ghost use Rattle.std.specs.List.{list_all};
 ghost use Rattle.ccp_base.specs.declared.parts.Separator.TheVariants.{Blank};
 ghost use Rattle.ccp_base.specs.Limits.{primitive_count};
 ghost use Rattle.ccp_base.specs.Parts.{separates, parts_of};
-ghost use Rattle.fold_run.specs.FirstPart.{first_of, after_of};
-ghost use Rattle.fold_run.specs.AckLine.{with_word, with_words, some_if, no_values, ends_blank};
-ghost use Rattle.fold_run.specs.AckLine.{begins_word, line_told, line_of};
+ghost use Rattle.fold_run.specs.FirstPart.{first_of, after_separator};
+ghost use Rattle.fold_run.specs.AckLine.{with_one_word, with_each_word, some_if, no_values, ends_blank};
+ghost use Rattle.fold_run.specs.AckLine.{begins_word, line_told, read_ack_line};
 
 use crate::line_number::read_number;
 use crate::line_values::LineValues;
@@ -28,7 +28,7 @@ pub enum LineKind {
 /// Reads a line that has no LF and no CR at its end. If it gives an acknowledgement, `values` are the line's values.
 pub fn read_line(values: &mut LineValues, followers: &mut Followers, line: &[u8]) -> LineKind
     requires { values.old ≡ no_values }
-    ensures { line_told result values.new ≡ line_of line.now }
+    ensures { line_told result values.new ≡ read_ack_line line.now }
 {
     if !begins_word(line) {
         return if is_blank(line) {
@@ -71,7 +71,7 @@ fn ends_blank(line: &[u8]) -> bool
 #[tactic(auto, using(crate::proofs::FirstWord::words_step, crate::proofs::FirstWord::after_shorter))]
 /// Takes the values of a line's words. Returns whether each word gives a value that no earlier one gave.
 fn read_words(values: &mut LineValues, followers: &mut Followers, line: &[u8]) -> bool
-    ensures { some_if result values.new ≡ with_words (Some values.old) (parts_of Blank line.now) }
+    ensures { some_if result values.new ≡ with_each_word (Some values.old) (parts_of Blank line.now) }
 {
     let mut left = line;
     let mut before = LINE_BEGIN;
@@ -94,9 +94,9 @@ fn read_word<'a>(
 ) -> Option<&'a [u8]>
     requires some { 0 < length text.now }
     requires before { before.old ≤ primitive_count }
-    ensures word { IfSome result (λ after. with_word values.old (first_of Blank text.now) ≡ Some values.new) }
-    ensures after { IfSome result (λ after. after.now ≡ after_of Blank text.now) }
-    ensures wrong { IfNone result (with_word values.old (first_of Blank text.now) ≡ None) }
+    ensures word { IfSome result (λ after. with_one_word values.old (first_of Blank text.now) ≡ Some values.new) }
+    ensures after { IfSome result (λ after. after.now ≡ after_separator Blank text.now) }
+    ensures wrong { IfNone result (with_one_word values.old (first_of Blank text.now) ≡ None) }
     ensures before { before.new ≤ primitive_count }
 {
     if Separator::Blank.is(text[0]) {

@@ -4,8 +4,8 @@ ghost use Rattle.ccp_base.specs.Limits.{most_acks};
 ghost use Rattle.ccp_base.specs.declared.parts.Separator.TheVariants.{LineFeed};
 ghost use Rattle.ccp_base.specs.Parts.{parts_of};
 ghost use Rattle.fold_run.specs.declared.acks.LineFault.TheVariants.{NoMemory};
-ghost use Rattle.fold_run.specs.AckLine.{line_of};
-ghost use Rattle.fold_run.specs.Acknowledgements.{with_line, acks_of};
+ghost use Rattle.fold_run.specs.AckLine.{read_ack_line};
+ghost use Rattle.fold_run.specs.Acknowledgements.{with_line, acks_of_lines};
 
 use crate::ack_line::{LineKind, read_line};
 use crate::first_line::first_line;
@@ -39,8 +39,8 @@ impl From<AllocError> for LineFault {
 /// and the answer is the first fault in the order of the lines.
 pub fn acknowledgements(alloc: Global, lines: &[u8], next: u64) -> Result<Acks, LineFault>
     requires { next + length lines.now < 2 ^ 64 }
-    ensures ok { IfOk result (λ acks. acks_of next (parts_of LineFeed lines.now) ≡ Ok acks) }
-    ensures err { IfErr result (λ e. e ≢ NoMemory → acks_of next (parts_of LineFeed lines.now) ≡ Err e) }
+    ensures ok { IfOk result (λ acks. acks_of_lines next (parts_of LineFeed lines.now) ≡ Ok acks) }
+    ensures err { IfErr result (λ e. e ≢ NoMemory → acks_of_lines next (parts_of LineFeed lines.now) ≡ Err e) }
     ensures within { IfOk result (λ acks. length acks ≤ most_acks) }
 {
     let mut acks = Acks::from_vec(Vec::with_capacity(alloc, room_for(lines))?);
@@ -75,8 +75,8 @@ fn put_line(
     line: &[u8],
 ) -> Result<(), LineFault>
     requires { length acks.old ≤ most_acks }
-    ensures ok { OnOk result (with_line number acks.old (line_of line.now) ≡ Ok acks.new) }
-    ensures err { IfErr result (λ e. e ≢ NoMemory → with_line number acks.old (line_of line.now) ≡ Err e) }
+    ensures ok { OnOk result (with_line number acks.old (read_ack_line line.now) ≡ Ok acks.new) }
+    ensures err { IfErr result (λ e. e ≢ NoMemory → with_line number acks.old (read_ack_line line.now) ≡ Err e) }
     ensures within { length acks.new ≤ most_acks }
 {
     let mut values = LineValues::none();

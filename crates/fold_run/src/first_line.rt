@@ -2,7 +2,7 @@
 ghost use Rattle.std.specs.Prelude.{◌≡◌, ◌<◌, ◌≤◌, ◌+◌, ◌∷◌, length};
 ghost use Rattle.ccp_base.specs.Parts.{parts_of};
 ghost use Rattle.ccp_base.specs.declared.parts.Separator.TheVariants.{LineFeed};
-ghost use Rattle.fold_run.specs.FirstPart.{first_of, after_of};
+ghost use Rattle.fold_run.specs.FirstPart.{first_of, after_separator};
 
 use memchr::memchr;
 
@@ -11,7 +11,7 @@ use memchr::memchr;
 pub fn first_line(text: &[u8]) -> (&[u8], &[u8])
     requires { 0 < length text.now }
     ensures line { result.0.now ≡ first_of LineFeed text.now }
-    ensures after { result.1.now ≡ after_of LineFeed text.now }
+    ensures after { result.1.now ≡ after_separator LineFeed text.now }
     ensures parts { parts_of LineFeed text.now ≡ result.0.now ∷ parts_of LineFeed result.1.now }
     ensures shorter { length result.1.now < length text.now }
     ensures within { length result.0.now + length result.1.now ≤ length text.now }

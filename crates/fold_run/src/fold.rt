@@ -3,7 +3,7 @@ ghost use Rattle.std.specs.Prelude.{◌≡◌, ◌≤◌, IfOk, length};
 ghost use Rattle.ccp_base.specs.Limits.{most_acks};
 ghost use Rattle.portus_core.specs.ProgramForm.{form_of};
 ghost use Rattle.fold_run.specs.Fold.{TellsFault, fold_reports, fold_track};
-ghost use Rattle.fold_run.specs.Folding.{track_of, IsFoldOf, HasNotice};
+ghost use Rattle.fold_run.specs.Folding.{folding_track, IsFoldOf, HasNotice};
 ghost use Rattle.fold_run.specs.Ran.{ran_of};
 
 use crate::folding::Folding;
@@ -21,7 +21,7 @@ pub fn fold<L: Ledger>(
     steps: &mut Steps<L>,
 ) -> Result<Folding, NoMemory>
     requires { length acks.now ≤ most_acks }
-    ensures track { IfOk result (λ folding. track_of folding ≡ fold_track (form_of built.now.program) acks.now) }
+    ensures track { IfOk result (λ folding. folding_track folding ≡ fold_track (form_of built.now.program) acks.now) }
     ensures ran { IfOk result (λ folding. folding.ran ≡ ran_of built.now.code.code acks.now) }
     ensures reports { IfOk result (λ folding. folding.reports ≡ fold_reports (form_of built.now.program) acks.now) }
     ensures fault { IfOk result (λ folding. TellsFault built.now acks.now folding.fault) }

@@ -5,8 +5,8 @@ ghost use Rattle.portus_core.specs.ProgramForm.{form_of};
 ghost use Rattle.fold_machine.specs.MachineState.{Fits};
 ghost use Rattle.fold_machine.specs.Heard.{is_fault, stops};
 ghost use Rattle.fold_run.specs.Fold.{fold_start};
-ghost use Rattle.fold_run.specs.AnswerMeaning.{mean_of, IsPlaced};
-ghost use Rattle.fold_run.specs.Folding.{env_of, track_of, running_of, IsFoldOf, KeepsNotice, by_code, by_program};
+ghost use Rattle.fold_run.specs.AnswerMeaning.{mean_of, HasItsPlace};
+ghost use Rattle.fold_run.specs.Folding.{env_of, folding_track, running_of, IsFoldOf, KeepsNotice, by_code, by_program};
 ghost use Rattle.fold_run.specs.Folding.{code_after, end_with, fault_after, fault_in, notice_of, reported_by};
 ghost use Rattle.fold_run.specs.Folding.{reports_after, track_after};
 ghost use Rattle.fold_run.specs.Ran.{running_start};
@@ -39,7 +39,7 @@ fn meant<L: Ledger>(machine: &mut Machine, built: &Built, ack: &Ack, steps: &mut
     requires going { machine.old.is_stopped ≡ false }
     ensures mean { (by_program built.now machine.old.kept ack.entry.now).0
         ≡ mean_of built.now.places machine.new.report result }
-    ensures placed { IsPlaced built.now.places result }
+    ensures placed { HasItsPlace built.now.places result }
     ensures env { env_of machine.new.kept ≡ (by_program built.now machine.old.kept ack.entry.now).1 }
     ensures kept { machine.new.kept ≡ (by_code built.now machine.old.kept ack.entry.now).kept }
     ensures ran { machine.new.ran ≡ (by_code built.now machine.old.kept ack.entry.now).ran }
@@ -53,7 +53,7 @@ fn meant<L: Ledger>(machine: &mut Machine, built: &Built, ack: &Ack, steps: &mut
 impl Folding {
     /// A fold before its first acknowledgement.
     pub fn begin(alloc: Global, built: &Built) -> Result<Folding, NoMemory>
-        ensures track { IfOk result (λ folding. track_of folding ≡ fold_start (form_of built.now.program)) }
+        ensures track { IfOk result (λ folding. folding_track folding ≡ fold_start (form_of built.now.program)) }
         ensures running { IfOk result (λ folding. running_of folding ≡ running_start built.now.code.code) }
         ensures reports { IfOk result (λ folding. folding.reports ≡ []) }
         ensures fault { IfOk result (λ folding. folding.fault ≡ None) }
@@ -83,7 +83,7 @@ impl Folding {
     ) -> Result<(), NoMemory>
         requires fold { IsFoldOf built.now.code.code self.old }
         requires room { self.old.count < most_acks }
-        ensures track { OnOk result (track_of self.new ≡ track_after built.now self.old ack.entry.now) }
+        ensures track { OnOk result (folding_track self.new ≡ track_after built.now self.old ack.entry.now) }
         ensures running { OnOk result (running_of self.new ≡ code_after built.now self.old ack.entry.now) }
         ensures reports { OnOk result (self.new.reports
             ≡ self.old.reports ++ reports_after built.now self.old ack.entry.now) }

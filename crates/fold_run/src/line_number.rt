@@ -2,7 +2,7 @@
 ghost use Rattle.std.specs.Prelude.{◌≡◌, ◌<◌, IfSome, IfNone, Some, None, true, ◌^◌};
 ghost use Rattle.ccp_base.specs.declared.parts.Separator.TheVariants.{Blank};
 ghost use Rattle.ccp_base.specs.Numerals.{digit_after, value_after, numeral_of, is_digit};
-ghost use Rattle.fold_run.specs.FirstPart.{first_of, after_of};
+ghost use Rattle.fold_run.specs.FirstPart.{first_of, after_separator};
 
 use ccp_base::Separator;
 
@@ -14,7 +14,7 @@ const SHORT: u64 = 2_147_483_647;
 /// there is no numeral or its value is past 2^64-1.
 pub fn read_number(text: &[u8]) -> Option<(u64, &[u8])>
     ensures number { IfSome result (λ read. numeral_of (first_of Blank text.now) ≡ Some read.0) }
-    ensures after { IfSome result (λ read. read.1.now ≡ after_of Blank text.now) }
+    ensures after { IfSome result (λ read. read.1.now ≡ after_separator Blank text.now) }
     ensures wrong { IfNone result (numeral_of (first_of Blank text.now) ≡ None) }
 {
     match text.first() {
@@ -26,7 +26,7 @@ pub fn read_number(text: &[u8]) -> Option<(u64, &[u8])>
 /// The number of the digits at the front of a text.
 fn read_digits(text: &[u8]) -> Option<(u64, &[u8])>
     ensures number { IfSome result (λ read. value_after (Some 0) (first_of Blank text.now) ≡ Some read.0) }
-    ensures after { IfSome result (λ read. read.1.now ≡ after_of Blank text.now) }
+    ensures after { IfSome result (λ read. read.1.now ≡ after_separator Blank text.now) }
     ensures wrong { IfNone result (value_after (Some 0) (first_of Blank text.now) ≡ None) }
 {
     let mut number: u64 = 0;
@@ -52,7 +52,7 @@ fn read_digits(text: &[u8]) -> Option<(u64, &[u8])>
 #[inline(never)]
 fn read_more_digits(before: u64, text: &[u8]) -> Option<(u64, &[u8])>
     ensures number { IfSome result (λ read. value_after (Some before) (first_of Blank text.now) ≡ Some read.0) }
-    ensures after { IfSome result (λ read. read.1.now ≡ after_of Blank text.now) }
+    ensures after { IfSome result (λ read. read.1.now ≡ after_separator Blank text.now) }
     ensures wrong { IfNone result (value_after (Some before) (first_of Blank text.now) ≡ None) }
 {
     let mut number = before;

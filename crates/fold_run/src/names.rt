@@ -3,7 +3,7 @@ ghost use Rattle.std.specs.Prelude.{◌≡◌, ◌≤◌, ◌<◌, ◌∷◌, �
 ghost use Rattle.ccp_base.specs.declared.parts.Separator.TheVariants.{Blank};
 ghost use Rattle.ccp_base.specs.Limits.{primitive_count};
 ghost use Rattle.ccp_base.specs.Parts.{separates};
-ghost use Rattle.fold_run.specs.Items.{name_of, Gives, GivesNothing};
+ghost use Rattle.fold_run.specs.Items.{primitive_word, GivesNumeral, GivesNothing};
 
 use ccp_base::{PRIMITIVE_NAMES, PRIMITIVES, value_named};
 use memchr::memchr;
@@ -45,7 +45,7 @@ impl Followers {
         requires before { before ≤ primitive_count }
         requires some { 0 < length text.now }
         requires word { separates Blank (slice_index text.now 0) ≡ false }
-        ensures gives { IfSome result (λ item. Gives text.now item.number item.rest.now) }
+        ensures gives { IfSome result (λ item. GivesNumeral text.now item.number item.rest.now) }
         ensures below { IfSome result (λ item. item.number < primitive_count) }
         ensures none { IfNone result (GivesNothing text.now) }
     {
@@ -67,7 +67,7 @@ impl Followers {
 fn searched_item(text: &[u8]) -> Option<Item<'_>>
     requires some { 0 < length text.now }
     requires word { separates Blank (slice_index text.now 0) ≡ false }
-    ensures gives { IfSome result (λ item. Gives text.now item.number item.rest.now) }
+    ensures gives { IfSome result (λ item. GivesNumeral text.now item.number item.rest.now) }
     ensures below { IfSome result (λ item. item.number < primitive_count) }
     ensures none { IfNone result (GivesNothing text.now) }
 {
@@ -97,7 +97,7 @@ macro_rules! after_name_of {
 /// What follows the name of the primitive with this number and an equals sign, if a text begins with them.
 #[inline(always)]
 fn after_name(text: &[u8], number: usize) -> Option<&[u8]>
-    ensures after { IfSome result (λ rest. text.now ≡ name_of number ++ 61 ∷ rest.now) }
+    ensures after { IfSome result (λ rest. text.now ≡ primitive_word number ++ 61 ∷ rest.now) }
     ensures below { IfSome result (λ _. number < primitive_count) }
 {
     after_name_of!(text, number, 0 1 2 3 4 5 6 7 8 9 10 11 12 13 14)

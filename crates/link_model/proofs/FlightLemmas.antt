@@ -1,7 +1,7 @@
 -- The packets in flight of the definition against those that a link keeps.
 use Rattle.std.proofs.Common.{◌≡◌, ℕ, suc, ◌+◌, ◌<◌, ◌≤◌, Bool, true, false, cond, eqb, ltb, ◌||◌, ◌&&◌, List, [], ◌∷◌, ◌++◌, length, refl, ap, ◌∙◌, arith}
 use Rattle.std.proofs.lemmas.Bool.Decides.{nat_tests}
-use Rattle.link_model.specs.Link.{Packet, Fate, Lost, Served, Taking, packet_and_lost_below, all_below, GivenAck, Numbered, takes, left_by, lost_by, is_lost, in_flight, Next, arrives, all_lost, next_by, next_of}
+use Rattle.link_model.specs.Link.{Packet, Fate, Lost, Served, Taking, packet_and_lost_below, all_below, GivenAck, Numbered, takes, left_by, lost_by, is_lost, in_flight, Next, arrives, all_lost, next_by, next_arrival}
 use Rattle.link_model.specs.Flights.{RisesFrom, AllBelow, TakesBelow, AllTakeBelow}
 use Rattle.link_model.specs.Standing.{packets_of}
 use Rattle.link_model.proofs.Whole.{Arrived, AllLost, landing, staying}
@@ -168,12 +168,12 @@ match_served number sent_at chance from lost marked rest order rises =
       order,
     )
 
-match_by : (number sent_at from lost : ℕ) (fate : Fate) (rest : List Numbered) → from ≤ number → RisesFrom (number + 1) rest → MatchNext rest (number + 1) (lost + 1) (next_of rest)
-    → MatchNext (record { number = number; packet = record { sent_at = sent_at; fate = fate } } ∷ rest) from lost (next_of (record { number = number; packet = record { sent_at = sent_at; fate = fate } } ∷ rest))
-match_by number sent_at from lost Lost rest order rises same = match_lost number sent_at from lost rest (next_of rest) order same
+match_by : (number sent_at from lost : ℕ) (fate : Fate) (rest : List Numbered) → from ≤ number → RisesFrom (number + 1) rest → MatchNext rest (number + 1) (lost + 1) (next_arrival rest)
+    → MatchNext (record { number = number; packet = record { sent_at = sent_at; fate = fate } } ∷ rest) from lost (next_arrival (record { number = number; packet = record { sent_at = sent_at; fate = fate } } ∷ rest))
+match_by number sent_at from lost Lost rest order rises same = match_lost number sent_at from lost rest (next_arrival rest) order same
 match_by number sent_at from lost (Served chance marked) rest order rises same = match_served number sent_at chance from lost marked rest order rises
 
-pub match_next : (flight : List Numbered) (from lost : ℕ) → RisesFrom from flight → MatchNext flight from lost (next_of flight)
+pub match_next : (flight : List Numbered) (from lost : ℕ) → RisesFrom from flight → MatchNext flight from lost (next_arrival flight)
 match_next [] from lost rises = (ap AllLost (let e : lost ≡ lost + 0 = omega arith in e), refl)
 match_next (sent ∷ rest) from lost rises =
     match_by sent.number sent.packet.sent_at from lost sent.packet.fate rest rises.0 rises.1 (match_next rest (sent.number + 1) (lost + 1) rises.1)
@@ -187,6 +187,6 @@ next_below_by : (bound number sent_at : ℕ) (fate : Fate) (later : Next) → nu
 next_below_by bound number sent_at Lost later is below = below
 next_below_by bound number sent_at (Served chance marked) later is below = is
 
-pub next_below : (bound : ℕ) (flight : List Numbered) → AllBelow bound flight → IsNextBelow bound (next_of flight)
+pub next_below : (bound : ℕ) (flight : List Numbered) → AllBelow bound flight → IsNextBelow bound (next_arrival flight)
 next_below bound [] below = tt
-next_below bound (sent ∷ rest) below = next_below_by bound sent.number sent.packet.sent_at sent.packet.fate (next_of rest) below.0 (next_below bound rest below.1)
+next_below bound (sent ∷ rest) below = next_below_by bound sent.number sent.packet.sent_at sent.packet.fate (next_arrival rest) below.0 (next_below bound rest below.1)

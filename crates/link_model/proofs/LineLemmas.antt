@@ -5,7 +5,7 @@ use Rattle.std.proofs.lemmas.Bool.{cases_lt}
 use Rattle.link_model.specs.declared.chance.Coming.{Coming}
 use Rattle.link_model.specs.declared.line.Line.{Line}
 use Rattle.link_model.specs.Traces.{longest_period, period, IsTrace}
-use Rattle.link_model.specs.Chances.{number_of, IsFirstChance, chance_time, first_chance}
+use Rattle.link_model.specs.Chances.{chance_number, IsFirstChance, chance_time, first_chance}
 use Rattle.link_model.specs.Lines.{IsComing, IsLine, IsMovedTo}
 use Rattle.link_model.proofs.ChanceLemmas.{chance_time_rises, chance_time-suc, first_chance_at, first_chance_is, first_chance_soon, time_at}
 
@@ -34,37 +34,37 @@ module _ (times : List ℕ) (trace : IsTrace times) where
   after_soon k = omega (arith, period_within, chance_time-suc times trace k)
 
   -- a chance of a later number doesn't come earlier
-  pub coming_rises : (this other : Coming) → IsComing times this → IsComing times other → number_of times this.chance ≤ number_of times other.chance → this.at ≤ other.at
-  coming_rises this other is_this is_other order = omega (arith, is_this.at, is_other.at, chance_time_rises times trace (number_of times this.chance) (number_of times other.chance) order)
+  pub coming_rises : (this other : Coming) → IsComing times this → IsComing times other → chance_number times this.chance ≤ chance_number times other.chance → this.at ≤ other.at
+  coming_rises this other is_this is_other order = omega (arith, is_this.at, is_other.at, chance_time_rises times trace (chance_number times this.chance) (chance_number times other.chance) order)
 
   pub first_is : (time k : ℕ) → IsFirstChance times time 0 k → first_chance times time 0 ≡ k
   first_is time k first = first_chance_is times trace time 0 k (omega arith) first.late first.before
 
   module _ (time : ℕ) (line : Line) (is : IsLine times time line) where
     -- the chances up to a later one that is gone by are gone, too
-    pub gone_past : line.later.at ≤ time → (j : ℕ) → j < number_of times line.later.chance + 1 → chance_time times j ≤ time
-    gone_past gone j under = omega (arith, gone, is.later.at, chance_time_rises times trace j (number_of times line.later.chance) (omega (arith, under)))
+    pub gone_past : line.later.at ≤ time → (j : ℕ) → j < chance_number times line.later.chance + 1 → chance_time times j ≤ time
+    gone_past gone j under = omega (arith, gone, is.later.at, chance_time_rises times trace j (chance_number times line.later.chance) (omega (arith, under)))
 
-    pub later_soon : 0 < line.waiting → chance_time times (number_of times line.later.chance + 1) ≤ line.next.at
-    later_soon some = omega (arith, is.next.at, chance_time_rises times trace (number_of times line.later.chance + 1) (number_of times line.next.chance) (omega (arith, some, is.waiting)))
+    pub later_soon : 0 < line.waiting → chance_time times (chance_number times line.later.chance + 1) ≤ line.next.at
+    later_soon some = omega (arith, is.next.at, chance_time_rises times trace (chance_number times line.later.chance + 1) (chance_number times line.next.chance) (omega (arith, some, is.waiting)))
 
     pub later_first : line.later.at ≤ line.next.at
-    later_first = omega (arith, is.next.at, is.later.at, chance_time_rises times trace (number_of times line.later.chance) (number_of times line.next.chance) (omega (arith, is.waiting)))
+    later_first = omega (arith, is.next.at, is.later.at, chance_time_rises times trace (chance_number times line.later.chance) (chance_number times line.next.chance) (omega (arith, is.waiting)))
 
     module _ (moved : IsMovedTo time line) where
       -- as many packets wait
-      pub waiting_is : line.waiting ≡ number_of times line.next.chance - first_chance times (time + 1) 0
+      pub waiting_is : line.waiting ≡ chance_number times line.next.chance - first_chance times (time + 1) 0
       waiting_is =
-          elim (cases_lt 0 line.waiting) as (λ _. line.waiting ≡ number_of times line.next.chance - first_chance times (time + 1) 0) [
+          elim (cases_lt 0 line.waiting) as (λ _. line.waiting ≡ chance_number times line.next.chance - first_chance times (time + 1) 0) [
             | inl some ↦
-                (let late : time + 1 ≤ chance_time times (number_of times line.later.chance) = omega (arith, moved some, is.later.at) in
-                let first : first_chance times (time + 1) 0 ≡ number_of times line.later.chance =
-                first_chance_is times trace (time + 1) 0 (number_of times line.later.chance) (omega arith) late (λ j above under. omega (arith, is.gone j under)) in
+                (let late : time + 1 ≤ chance_time times (chance_number times line.later.chance) = omega (arith, moved some, is.later.at) in
+                let first : first_chance times (time + 1) 0 ≡ chance_number times line.later.chance =
+                first_chance_is times trace (time + 1) 0 (chance_number times line.later.chance) (omega arith) late (λ j above under. omega (arith, is.gone j under)) in
                 omega (arith, first, is.waiting))
             | inr none ↦
                 (let first : ℕ = first_chance times (time + 1) 0 in
-                let order : number_of times line.next.chance ≤ first_chance times (time + 1) 0 =
-                elim (cases_lt (first_chance times (time + 1) 0) (number_of times line.next.chance)) as (λ _. number_of times line.next.chance ≤ first_chance times (time + 1) 0) [
+                let order : chance_number times line.next.chance ≤ first_chance times (time + 1) 0 =
+                elim (cases_lt (first_chance times (time + 1) 0) (chance_number times line.next.chance)) as (λ _. chance_number times line.next.chance ≤ first_chance times (time + 1) 0) [
                   | inl below ↦ absurd (omega (arith, is.gone (first_chance times (time + 1) 0) (omega (arith, below, none, is.waiting)), first_chance_at times trace (time + 1) 0))
                   | inr not_below ↦ not_below
                 ] in
@@ -83,21 +83,21 @@ module _ (times : List ℕ) (trace : IsTrace times) (coming : Coming) (is : IsCo
   pub inside_rises : coming.chance.place + 1 < length times → get_or times coming.chance.place 0 ≤ get_or times (coming.chance.place + 1) 0
   inside_rises inside = trace.rising coming.chance.place (coming.chance.place + 1) 0 (omega arith) inside
 
-  pub inside_number : coming.chance.turn * length times + (coming.chance.place + 1) ≡ number_of times coming.chance + 1
+  pub inside_number : coming.chance.turn * length times + (coming.chance.place + 1) ≡ chance_number times coming.chance + 1
   inside_number = omega arith
 
   pub inside_time : coming.chance.place + 1 < length times
-      → chance_time times (number_of times coming.chance + 1) ≡ coming.at + 1000 * (get_or times (coming.chance.place + 1) 0 - get_or times coming.chance.place 0)
+      → chance_time times (chance_number times coming.chance + 1) ≡ coming.at + 1000 * (get_or times (coming.chance.place + 1) 0 - get_or times coming.chance.place 0)
   inside_time inside =
       let turn = coming.chance.turn in
       let place = coming.chance.place in
       omega (arith, ap (chance_time times) inside_number, is.at, time_at times trace turn place is.place, time_at times trace turn (place + 1) inside, inside_rises inside)
 
   -- and in the next one
-  pub wrapped_number : length times ≤ coming.chance.place + 1 → (coming.chance.turn + 1) * length times + 0 ≡ number_of times coming.chance + 1
+  pub wrapped_number : length times ≤ coming.chance.place + 1 → (coming.chance.turn + 1) * length times + 0 ≡ chance_number times coming.chance + 1
   wrapped_number wraps = omega (arith, wraps, is.place)
 
-  pub wrapped_time : length times ≤ coming.chance.place + 1 → chance_time times (number_of times coming.chance + 1) ≡ coming.at + 1000 * get_or times 0 0
+  pub wrapped_time : length times ≤ coming.chance.place + 1 → chance_time times (chance_number times coming.chance + 1) ≡ coming.at + 1000 * get_or times 0 0
   wrapped_time wraps =
       let turn = coming.chance.turn in
       let place = coming.chance.place in

@@ -3,7 +3,7 @@ use Rattle.std.proofs.Common.{◌≡◌, ℕ, zero, suc, ◌+◌, ◌-◌, ◌�
 use Rattle.link_model.specs.declared.link_case.LinkCase.{LinkCase}
 use Rattle.link_model.specs.Traces.{IsTrace}
 use Rattle.link_model.specs.Chances.{chance_time, first_chance}
-use Rattle.link_model.specs.Link.{Run, Packet, Fate, Lost, Served, GivenAck, Numbered, packet_and_lost_below, all_below, allowance, waiting, chances_past, is_listed, is_marked, fate_by, packet_after, with_sent, left_by, lost_by, in_flight, time_of, past_in, past_of, acked_of, arrival_of, arrival_ack, timeout_ack, Next, arrives, all_lost, next_of, answer_by, answer_to, sent_by, called, run_from, run_of, ack_after}
+use Rattle.link_model.specs.Link.{Run, Packet, Fate, Lost, Served, GivenAck, Numbered, packet_and_lost_below, all_below, allowance, waiting, chances_past, is_listed, is_marked, fate_by, packet_after, with_sent, left_by, lost_by, in_flight, time_of, past_in, past_of, acked_of, arrival_of, arrival_ack, timeout_ack, Next, arrives, all_lost, next_arrival, answer_by, given_for, sent_by, called, run_from, run_of, ack_after}
 use Rattle.link_model.specs.LinkLaws.{run_from-push}
 use Rattle.link_model.specs.Counts.{served_chances, lost_of}
 use Rattle.link_model.specs.Standing.{packets_of}
@@ -236,38 +236,38 @@ module _ (case : LinkCase) (packets : List Packet) (givens : List GivenAck) wher
 -- ---- one call
 
 module _ (case : LinkCase) (trace : IsTrace case.trace) (packets : List Packet) (givens : List GivenAck) (settled : Settled case packets givens) where
-  matches : MatchNext (in_flight packets givens) 0 0 (next_of (in_flight packets givens))
+  matches : MatchNext (in_flight packets givens) 0 0 (next_arrival (in_flight packets givens))
   matches = match_next (in_flight packets givens) 0 0 settled.rises
 
-  stays : packets_of (in_flight packets (answer_to case packets givens ∷ givens)) ≡ staying (packets_of (in_flight packets givens))
-  stays = stay_same case packets givens (in_flight packets givens) (next_of (in_flight packets givens)) matches settled.below
+  stays : packets_of (in_flight packets (given_for case packets givens ∷ givens)) ≡ staying (packets_of (in_flight packets givens))
+  stays = stay_same case packets givens (in_flight packets givens) (next_arrival (in_flight packets givens)) matches settled.below
 
-  pub settled-answered : Settled case packets (answer_to case packets givens ∷ givens)
+  pub settled-answered : Settled case packets (given_for case packets givens ∷ givens)
   settled-answered =
       let flight = in_flight packets givens in
-      let given = answer_to case packets givens in
-      let goes_on = then_arriving case packets givens trace flight (next_of flight) matches (landed_from case trace (time_of givens) 0 (packets_of flight) settled.arriving) in
+      let given = given_for case packets givens in
+      let goes_on = then_arriving case packets givens trace flight (next_arrival flight) matches (landed_from case trace (time_of givens) 0 (packets_of flight) settled.arriving) in
       record {
-        takings = (taking_below case packets givens flight (next_of flight) (next_below (length packets) flight settled.below), settled.takings);
+        takings = (taking_below case packets givens flight (next_arrival flight) (next_below (length packets) flight settled.below), settled.takings);
         rises = RisesFrom-left_by given.taking 0 flight settled.rises;
         below = AllBelow-left_by given.taking (length packets) flight settled.below;
         queued = IsQueued-later case.trace (time_of givens) given.ack.now packets goes_on.0 settled.queued;
         served = subst (AllServedWithin case.trace (chances_past packets)) (sym stays) (all_served_within-staying case.trace (chances_past packets) (packets_of flight) settled.served);
         arriving = subst (ArriveFrom case given.ack.now) (sym stays) goes_on.1;
         once = settled.once;
-        counts = counts_answered case packets givens flight (next_of flight) (count_next (length packets) flight (next_of flight) matches settled.below) settled.counts;
+        counts = counts_answered case packets givens flight (next_arrival flight) (count_next (length packets) flight (next_arrival flight) matches settled.below) settled.counts;
       }
 
-  pub answer_same : (answer_to case packets givens).ack
+  pub answer_same : (given_for case packets givens).ack
       ≡ ack_by case (with_flight (whole_of (record { packets = packets; givens = givens })) (staying (whole_of (record { packets = packets; givens = givens })).flight))
       (landing (whole_of (record { packets = packets; givens = givens })).flight 0)
-  answer_same = ack_same case packets givens (in_flight packets givens) (next_of (in_flight packets givens)) matches settled.below
+  answer_same = ack_same case packets givens (in_flight packets givens) (next_arrival (in_flight packets givens)) matches settled.below
 
-  pub answered_standing : whole_of (record { packets = packets; givens = answer_to case packets givens ∷ givens })
+  pub answered_standing : whole_of (record { packets = packets; givens = given_for case packets givens ∷ givens })
       ≡ with_ack (with_flight (whole_of (record { packets = packets; givens = givens })) (staying (whole_of (record { packets = packets; givens = givens })).flight))
-      (answer_to case packets givens).ack
+      (given_for case packets givens).ack
   answered_standing =
-      let ack = (answer_to case packets givens).ack in
+      let ack = (given_for case packets givens).ack in
       let with_parts : List Packet → ℕ → ℕ → Whole = λ flight acked calls. record {
         time = ack.now;
         past = past_in ack;
@@ -290,7 +290,7 @@ module _ (case : LinkCase) (trace : IsTrace case.trace) where
       (settled-with_sent case trace (allowance case window - length (in_flight run.packets run.givens)) run.packets run.givens settled)
 
   pub ack_called : (window : ℕ) (run : Run) → Settled case run.packets run.givens
-      → (answer_to case (sent_by case window run) run.givens).ack ≡ next_ack case window (whole_of run)
+      → (given_for case (sent_by case window run) run.givens).ack ≡ next_ack case window (whole_of run)
   ack_called window run settled =
       answer_same case trace (sent_by case window run) run.givens
       (settled-with_sent case trace (allowance case window - length (in_flight run.packets run.givens)) run.packets run.givens settled)
@@ -301,7 +301,7 @@ module _ (case : LinkCase) (trace : IsTrace case.trace) where
   standing_called window run settled =
       answered_standing case trace (sent_by case window run) run.givens
       (settled-with_sent case trace (allowance case window - length (in_flight run.packets run.givens)) run.packets run.givens settled)
-      ∙ ap (λ s. with_ack (with_flight s (staying s.flight)) (answer_to case (sent_by case window run) run.givens).ack) (sent_same case trace window run settled)
+      ∙ ap (λ s. with_ack (with_flight s (staying s.flight)) (given_for case (sent_by case window run) run.givens).ack) (sent_same case trace window run settled)
       ∙ ap (with_ack (with_flight (sent_whole case window (whole_of run)) (staying (sent_whole case window (whole_of run)).flight))) (ack_called window run settled)
 
   -- ---- lists of windows

@@ -8,7 +8,7 @@ use Rattle.link_model.specs.declared.chance.Chance.{Chance}
 use Rattle.link_model.specs.declared.line.Line.{Line}
 use Rattle.link_model.specs.declared.traffic.Traffic.{Traffic}
 use Rattle.link_model.specs.Traces.{IsTrace}
-use Rattle.link_model.specs.Chances.{number_of, chance_time, first_chance}
+use Rattle.link_model.specs.Chances.{chance_number, chance_time, first_chance}
 use Rattle.link_model.specs.Link.{Lost, Served, is_listed, is_marked, arrival_of}
 use Rattle.link_model.specs.Standing.{Standing}
 use Rattle.link_model.specs.LinkMoves.{standing_in, with_lost, with_served, with_fate, with_packet, waiting_now, chance_now, sending}
@@ -135,10 +135,10 @@ served_as standing arrivals chance = record {
 }
 
 pub served_standing : (case : LinkCase) (old : Traffic) (line : Line) (marked : Bool) (arrivals : List Arrival) (next : Chance)
-    → line.next.at ≡ chance_time case.trace (number_of case.trace line.next.chance) → number_of case.trace line.next.chance ≡ chance_now case (standing_in case.trace old) → line.waiting ≡ waiting_now case (standing_in case.trace old)
+    → line.next.at ≡ chance_time case.trace (chance_number case.trace line.next.chance) → chance_number case.trace line.next.chance ≡ chance_now case (standing_in case.trace old) → line.waiting ≡ waiting_now case (standing_in case.trace old)
     → marked ≡ is_marked case.mark line.waiting → arrivals ≡ old.flight.items ++ record { lost = old.lost; sent_at = old.time; at = line.next.at + case.delay_us; marked = marked } ∷ []
-    → number_of case.trace next ≡ number_of case.trace line.next.chance + 1
-    → served_as (standing_in case.trace old) arrivals (number_of case.trace next)
+    → chance_number case.trace next ≡ chance_number case.trace line.next.chance + 1
+    → served_as (standing_in case.trace old) arrivals (chance_number case.trace next)
     ≡ with_served case (chance_now case (standing_in case.trace old)) (is_marked case.mark (waiting_now case (standing_in case.trace old))) (standing_in case.trace old)
 served_standing case old line marked arrivals next own_is chance_is waits marked_is arrivals_are next_is =
     let standing = standing_in case.trace old in
@@ -146,8 +146,8 @@ served_standing case old line marked arrivals next own_is chance_is waits marked
     let last : ℕ → Bool → List Arrival = λ at m. old.flight.items ++ record { lost = old.lost; sent_at = old.time; at = at; marked = m } ∷ [] in
     let at_is : line.next.at + case.delay_us ≡ arrival_of case chance = ap (λ t. t + case.delay_us) own_is ∙ ap (arrival_of case) chance_is in
     let m_is : marked ≡ is_marked case.mark (waiting_now case standing) = marked_is ∙ ap (is_marked case.mark) waits in
-    let number : number_of case.trace next ≡ chance + 1 = next_is ∙ ap (λ k. k + 1) chance_is in
-    ap (λ xs. served_as standing xs (number_of case.trace next)) (arrivals_are ∙ ap (λ t. last t marked) at_is ∙ ap (last (arrival_of case chance)) m_is)
+    let number : chance_number case.trace next ≡ chance + 1 = next_is ∙ ap (λ k. k + 1) chance_is in
+    ap (λ xs. served_as standing xs (chance_number case.trace next)) (arrivals_are ∙ ap (λ t. last t marked) at_is ∙ ap (last (arrival_of case chance)) m_is)
     ∙ ap (served_as standing (last (arrival_of case chance) (is_marked case.mark (waiting_now case standing)))) number
 
 -- ---- an acknowledgement

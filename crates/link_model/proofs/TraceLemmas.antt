@@ -8,7 +8,7 @@ use Rattle.ccp_base.specs.Parts.{without_last}
 use Rattle.link_model.specs.Traces.{period, IsTrace}
 use Rattle.link_model.specs.declared.trace_text.TraceLine.{TraceLine}
 use Rattle.link_model.specs.declared.trace_text.TraceLine.TheVariants.{Nothing, Time, Bad}
-use Rattle.link_model.specs.TraceText.{without_first_blanks, without_last_blanks, time_of, word_line, line_of, is_below, with_time, time_after, times_of, first_fall}
+use Rattle.link_model.specs.TraceText.{without_first_blanks, without_last_blanks, trace_time, word_line, trace_line, is_below, with_time, time_after, times_of, first_fall}
 
 -- times that don't fall, each at least this one and up to an hour
 abbrev pub RisesFrom : ℕ → List ℕ → Type 0
@@ -24,7 +24,7 @@ if_within : (time : ℕ) (b : Bool) → leb time 3600000 ≡ b → HasTimeWithin
 if_within time true is = grind (arith, nat_tests)
 if_within time false is = tt
 
-time_of-within : (number : Option ℕ) → HasTimeWithin (time_of number)
+time_of-within : (number : Option ℕ) → HasTimeWithin (trace_time number)
 time_of-within None = tt
 time_of-within (Some time) = if_within time (leb time 3600000) refl
 
@@ -45,9 +45,9 @@ not_here false number other none = (refl, none)
 pub times_rise : (lines : List (List ℕ)) (number before : ℕ) → first_fall number before lines ≡ None → RisesFrom before (times_of lines)
 times_rise [] number before none = tt
 times_rise (line ∷ rest) number before none =
-    let here = not_here (is_below (line_of line) before) number (first_fall (number + 1) (time_after (line_of line) before) rest) none in
-    one_more (line_of line) before (times_of rest) (word_line-within (without_last_blanks (without_first_blanks (without_last 13 line)))) here.0
-    (times_rise rest (number + 1) (time_after (line_of line) before) here.1)
+    let here = not_here (is_below (trace_line line) before) number (first_fall (number + 1) (time_after (trace_line line) before) rest) none in
+    one_more (trace_line line) before (times_of rest) (word_line-within (without_last_blanks (without_first_blanks (without_last 13 line)))) here.0
+    (times_rise rest (number + 1) (time_after (trace_line line) before) here.1)
 
 at_least_before : (before : ℕ) (times : List ℕ) → RisesFrom before times → (j d : ℕ) → j < length times → before ≤ get_or times j d
 at_least_before before [] rises j d within = absurd (omega arith)

@@ -3,7 +3,7 @@ use Rattle.std.proofs.Common.{◌≡◌, ℕ, true, false, cond, List, [], ◌�
 use Rattle.std.specs.Option.{option_or}
 use Rattle.ccp_base.specs.Parts.{separates}
 use Rattle.ccp_base.specs.declared.parts.Separator.TheVariants.{Blank}
-use Rattle.link_model.specs.TraceText.{in_front, without_last_blanks, times_of, first_bad, first_fall}
+use Rattle.link_model.specs.TraceText.{in_front, without_last_blanks, times_of, first_bad_line, first_fall}
 
 in_front-push : (byte : ℕ) (front : List ℕ) (last : ℕ) → in_front byte (front ++ last ∷ []) ≡ byte ∷ (front ++ last ∷ [])
 in_front-push byte [] last = refl
@@ -26,6 +26,6 @@ without_last_blanks-other line front last split other =
 
 -- what was read of the lines, with what is left of them, is what all of them say
 pub record IsReadingOf (all left : List (List ℕ)) (times : List ℕ) (before number : ℕ) (fall : Option ℕ) : Type 0 where
-  pub goods : first_bad number left ≡ first_bad 1 all
+  pub goods : first_bad_line number left ≡ first_bad_line 1 all
   pub read : times ++ times_of left ≡ times_of all
   pub falls : option_or fall (first_fall number before left) ≡ first_fall 1 0 all

@@ -4,8 +4,8 @@ use Rattle.link_model.specs.declared.chance.Chance.{Chance}
 use Rattle.link_model.specs.Traces.{period}
 
 -- the number of a chance: after the last time of a turn the next turn begins
-abbrev pub number_of : List ℕ → Chance → ℕ
-number_of times chance = chance.turn * length times + chance.place
+abbrev pub chance_number : List ℕ → Chance → ℕ
+chance_number times chance = chance.turn * length times + chance.place
 
 -- when chance k of a trace comes, in microseconds: after its last time the trace begins anew
 abbrev pub chance_time : List ℕ → ℕ → ℕ

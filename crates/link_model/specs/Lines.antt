@@ -2,23 +2,23 @@
 use Rattle.std.specs.Prelude.{◌≡◌, ℕ, ◌+◌, ◌<◌, ◌≤◌, max, List, length}
 use Rattle.link_model.specs.declared.chance.Coming.{Coming}
 use Rattle.link_model.specs.declared.line.Line.{Line}
-use Rattle.link_model.specs.Chances.{number_of, chance_time, first_chance}
+use Rattle.link_model.specs.Chances.{chance_number, chance_time, first_chance}
 
 -- a chance of a trace with its time
 pub record IsComing (times : List ℕ) (coming : Coming) : Type 0 where
   pub place : coming.chance.place < length times
-  pub at : coming.at ≡ chance_time times (number_of times coming.chance)
+  pub at : coming.at ≡ chance_time times (chance_number times coming.chance)
 
 -- a line of a trace at a time: the chances before its later one are gone by then
 pub record IsLine (times : List ℕ) (time : ℕ) (line : Line) : Type 0 where
   pub next : IsComing times line.next
   pub later : IsComing times line.later
-  pub waiting : number_of times line.later.chance + line.waiting ≡ number_of times line.next.chance
-  pub gone : (j : ℕ) → j < number_of times line.later.chance → chance_time times j ≤ time
+  pub waiting : chance_number times line.later.chance + line.waiting ≡ chance_number times line.next.chance
+  pub gone : (j : ℕ) → j < chance_number times line.later.chance → chance_time times j ≤ time
 
 -- the number of the next chance of a line that isn't before this time
 abbrev pub due_number : List ℕ → Line → ℕ → ℕ
-due_number times line now = max (number_of times line.next.chance) (first_chance times now 0)
+due_number times line now = max (chance_number times line.next.chance) (first_chance times now 0)
 
 -- all chances of the line are later than this time
 abbrev pub IsMovedTo : ℕ → Line → Type 0

@@ -224,9 +224,9 @@ abbrev pub next_by : ℕ → ℕ → Fate → Next → Next
 next_by number sent_at Lost later = later
 next_by number sent_at (Served chance marked) later = arrives number sent_at chance marked
 
-abbrev pub next_of : List Numbered → Next
-next_of [] = all_lost
-next_of (sent ∷ rest) = next_by sent.number sent.packet.sent_at sent.packet.fate (next_of rest)
+abbrev pub next_arrival : List Numbered → Next
+next_arrival [] = all_lost
+next_arrival (sent ∷ rest) = next_by sent.number sent.packet.sent_at sent.packet.fate (next_arrival rest)
 
 -- that packet's acknowledgement, or where all are lost the timeout
 abbrev pub answer_by : LinkCase → List Packet → List GivenAck → List Numbered → Next → GivenAck
@@ -242,9 +242,9 @@ answer_by case packets givens flight all_lost = record {
       (length (left_by (all_below (length packets)) flight)) (acked_of givens) (length packets);
 }
 
-abbrev pub answer_to : LinkCase → List Packet → List GivenAck → GivenAck
-answer_to case packets givens =
-    answer_by case packets givens (in_flight packets givens) (next_of (in_flight packets givens))
+abbrev pub given_for : LinkCase → List Packet → List GivenAck → GivenAck
+given_for case packets givens =
+    answer_by case packets givens (in_flight packets givens) (next_arrival (in_flight packets givens))
 
 -- ---- calls
 
@@ -257,7 +257,7 @@ sent_by case window run =
 abbrev pub called : LinkCase → ℕ → Run → Run
 called case window run = record {
   packets = sent_by case window run;
-  givens = answer_to case (sent_by case window run) run.givens ∷ run.givens;
+  givens = given_for case (sent_by case window run) run.givens ∷ run.givens;
 }
 
 abbrev pub run_from : LinkCase → Run → List ℕ → Run
@@ -271,12 +271,12 @@ run_of case windows = run_from case (record { packets = []; givens = [] }) windo
 -- the acknowledgement of one more call after a list of windows
 abbrev pub ack_after : LinkCase → List ℕ → ℕ → Ack
 ack_after case windows window =
-    (answer_to case (sent_by case window (run_of case windows)) (run_of case windows).givens).ack
+    (given_for case (sent_by case window (run_of case windows)) (run_of case windows).givens).ack
 
 abbrev pub acks_in_order : List GivenAck → List Ack
 acks_in_order [] = []
 acks_in_order (given ∷ earlier) = acks_in_order earlier ++ given.ack ∷ []
 
 -- the acknowledgements of a list of windows, the first one first
-abbrev pub acks_of : LinkCase → List ℕ → List Ack
-acks_of case windows = acks_in_order (run_of case windows).givens
+abbrev pub acks_for_windows : LinkCase → List ℕ → List Ack
+acks_for_windows case windows = acks_in_order (run_of case windows).givens

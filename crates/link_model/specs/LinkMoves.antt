@@ -4,9 +4,9 @@ use Rattle.ccp_base.specs.declared.ack.Ack.{Ack}
 use Rattle.link_model.specs.declared.link_case.LinkCase.{LinkCase}
 use Rattle.link_model.specs.declared.arrival.Arrival.{Arrival}
 use Rattle.link_model.specs.declared.traffic.Traffic.{Traffic}
-use Rattle.link_model.specs.Chances.{first_chance, number_of}
+use Rattle.link_model.specs.Chances.{first_chance, chance_number}
 use Rattle.link_model.specs.Link.{Fate, Lost, Served, allowance, is_marked, fate_by, past_in, timeout_ack}
-use Rattle.link_model.specs.Standing.{Standing, arrival_by, ack_at}
+use Rattle.link_model.specs.Standing.{Standing, arrival_by, packet_ack}
 
 -- how many packets are in flight
 abbrev pub count_of : List Arrival → ℕ → ℕ
@@ -20,7 +20,7 @@ standing_in times traffic = record {
   past = traffic.past;
   arrivals = traffic.flight.items;
   lost = traffic.lost;
-  chance = number_of times traffic.line.next.chance;
+  chance = chance_number times traffic.line.next.chance;
   sent = traffic.sent;
   acked = traffic.acked;
   calls = traffic.calls;
@@ -88,7 +88,7 @@ abbrev pub ack_by : LinkCase → Standing → Option Arrival → Ack
 ack_by case standing None =
     timeout_ack case (standing.time + case.timeout_us) standing.past standing.lost 0 standing.acked standing.sent
 ack_by case standing (Some arrival) =
-    ack_at case arrival standing.past (count_of (drop 1 standing.arrivals) standing.lost) (standing.acked + 1)
+    packet_ack case arrival standing.past (count_of (drop 1 standing.arrivals) standing.lost) (standing.acked + 1)
     standing.sent
 
 -- the standing after it
@@ -114,11 +114,11 @@ acked_by case standing (Some arrival) = record {
   calls = standing.calls + 1;
 }
 
-abbrev pub ack_of : LinkCase → Standing → Ack
-ack_of case standing = ack_by case standing (slice_get standing.arrivals 0)
+abbrev pub link_ack : LinkCase → Standing → Ack
+link_ack case standing = ack_by case standing (slice_get standing.arrivals 0)
 
-abbrev pub after_ack : LinkCase → Standing → Standing
-after_ack case standing = acked_by case standing (slice_get standing.arrivals 0)
+abbrev pub standing_after_ack : LinkCase → Standing → Standing
+standing_after_ack case standing = acked_by case standing (slice_get standing.arrivals 0)
 
 -- ---- what is under way
 
@@ -140,8 +140,8 @@ sent_standing case window standing =
 
 -- the acknowledgement of a call
 abbrev pub next_ack : LinkCase → ℕ → Standing → Ack
-next_ack case window standing = ack_of case (sent_standing case window standing)
+next_ack case window standing = link_ack case (sent_standing case window standing)
 
 -- the standing after a call
 abbrev pub next_standing : LinkCase → ℕ → Standing → Standing
-next_standing case window standing = after_ack case (sent_standing case window standing)
+next_standing case window standing = standing_after_ack case (sent_standing case window standing)

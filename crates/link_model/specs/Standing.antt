@@ -88,6 +88,6 @@ StandsOn old window new = (windows : List ℕ) → Stands old windows → Stands
 
 -- the acknowledgement of a packet after this past, if `stay` packets stay in flight, and `acked` were acknowledged and
 -- `sent` sent so far
-abbrev pub ack_at : LinkCase → Arrival → Past → ℕ → ℕ → ℕ → Ack
-ack_at case arrival past stay acked sent =
+abbrev pub packet_ack : LinkCase → Arrival → Past → ℕ → ℕ → ℕ → Ack
+packet_ack case arrival past stay acked sent =
     arrival_ack case arrival.sent_at arrival.at arrival.marked past arrival.lost stay acked sent

@@ -27,22 +27,22 @@ without_last_blanks [] = []
 without_last_blanks (byte ∷ rest) = in_front byte (without_last_blanks rest)
 
 -- a time in milliseconds: a whole number up to an hour
-abbrev pub time_of : Option ℕ → TraceLine
-time_of None = Bad
-time_of (Some time) = if nat_le time most_trace_ms then Time time else Bad
+abbrev pub trace_time : Option ℕ → TraceLine
+trace_time None = Bad
+trace_time (Some time) = if nat_le time most_trace_ms then Time time else Bad
 
 abbrev pub word_line : List ℕ → TraceLine
 word_line [] = Nothing
-word_line (byte ∷ rest) = time_of (numeral_of (byte ∷ rest))
+word_line (byte ∷ rest) = trace_time (numeral_of (byte ∷ rest))
 
 -- what a line says: one CR at its end is dropped, then the blanks around
-abbrev pub line_of : List ℕ → TraceLine
-line_of line = word_line (without_last_blanks (without_first_blanks (without_last 13 line)))
+abbrev pub trace_line : List ℕ → TraceLine
+trace_line line = word_line (without_last_blanks (without_first_blanks (without_last 13 line)))
 
-abbrev pub is_bad : TraceLine → Bool
-is_bad Bad = true
-is_bad Nothing = false
-is_bad (Time time) = false
+abbrev pub is_bad_line : TraceLine → Bool
+is_bad_line Bad = true
+is_bad_line Nothing = false
+is_bad_line (Time time) = false
 
 -- a line's time in front of the later ones
 abbrev pub with_time : TraceLine → List ℕ → List ℕ
@@ -64,19 +64,19 @@ time_after Bad before = before
 -- the times of lines, in order
 abbrev pub times_of : List (List ℕ) → List ℕ
 times_of [] = []
-times_of (line ∷ rest) = with_time (line_of line) (times_of rest)
+times_of (line ∷ rest) = with_time (trace_line line) (times_of rest)
 
 -- the number of the first line that is neither a time nor blank; the first line here has this number
-abbrev pub first_bad : ℕ → List (List ℕ) → Option ℕ
-first_bad number [] = None
-first_bad number (line ∷ rest) = if is_bad (line_of line) then Some number else first_bad (number + 1) rest
+abbrev pub first_bad_line : ℕ → List (List ℕ) → Option ℕ
+first_bad_line number [] = None
+first_bad_line number (line ∷ rest) = if is_bad_line (trace_line line) then Some number else first_bad_line (number + 1) rest
 
 -- the number of the first line whose time is below the one before
 abbrev pub first_fall : ℕ → ℕ → List (List ℕ) → Option ℕ
 first_fall number before [] = None
 first_fall number before (line ∷ rest) =
-    if is_below (line_of line) before then Some number
-    else first_fall (number + 1) (time_after (line_of line) before) rest
+    if is_below (trace_line line) before then Some number
+    else first_fall (number + 1) (time_after (trace_line line) before) rest
 
 -- the first line that falls, with one more line after those before
 abbrev pub fall_after : Option ℕ → TraceLine → ℕ → ℕ → Option ℕ
@@ -96,7 +96,7 @@ checked [] fall = Err EmptyTrace
 checked (time ∷ later) fall = unless_at fall NotRising (with_period (time ∷ later))
 
 abbrev pub trace_of_lines : List (List ℕ) → Result (List ℕ) TraceFault
-trace_of_lines lines = unless_at (first_bad 1 lines) BadLine (checked (times_of lines) (first_fall 1 0 lines))
+trace_of_lines lines = unless_at (first_bad_line 1 lines) BadLine (checked (times_of lines) (first_fall 1 0 lines))
 
 -- the lines of a text
 abbrev pub lines_of : List ℕ → List (List ℕ)
@@ -104,7 +104,7 @@ lines_of text = parts_of LineFeed text
 
 -- the fault has the number of the first bad line, if there is one
 abbrev pub IsAtFirstBad : List ℕ → TraceFault → Type 0
-IsAtFirstBad text fault = (number : ℕ) → first_bad 1 (lines_of text) ≡ Some number → fault ≡ BadLine number
+IsAtFirstBad text fault = (number : ℕ) → first_bad_line 1 (lines_of text) ≡ Some number → fault ≡ BadLine number
 
 -- a trace text: its times, or the first of its refusals
 abbrev pub trace_of : List ℕ → Result (List ℕ) TraceFault

@@ -1,7 +1,7 @@
 //! A trace's chances to send a packet: when each comes, and which is the first at or after a time.
 ghost use Rattle.std.specs.Prelude.{IsTrue, ◌≡◌, ◌+◌, ◌-◌, ◌*◌, ◌%◌, ◌^◌, ◌<◌, ◌≤◌, ℕ, length, slice_index};
 ghost use Rattle.link_model.specs.Traces.{IsTrace, period, search_reach};
-ghost use Rattle.link_model.specs.Chances.{number_of, IsFirstChance, chance_time, first_chance};
+ghost use Rattle.link_model.specs.Chances.{chance_number, IsFirstChance, chance_time, first_chance};
 ghost use Rattle.link_model.specs.Lines.{IsComing};
 
 use crate::trace::Trace;
@@ -26,8 +26,8 @@ impl Trace {
     #[inline]
     pub fn time_of(&self, chance: Chance) -> u64
         requires place { chance.place < length self.now }
-        requires fits { chance_time self.now (number_of self.now chance) < 2 ^ 64 }
-        ensures time { result ≡ chance_time self.now (number_of self.now chance) }
+        requires fits { chance_time self.now (chance_number self.now chance) < 2 ^ 64 }
+        ensures time { result ≡ chance_time self.now (chance_number self.now chance) }
         ensures valid { IsTrace self.now }
     {
         time_of(self.as_slice(), chance)
@@ -38,7 +38,7 @@ impl Trace {
     pub fn after(&self, chance: Chance) -> Chance
         requires place { chance.place < length self.now }
         requires fits { chance.turn + 1 < 2 ^ 64 }
-        ensures number { number_of self.now result ≡ number_of self.now chance + 1 }
+        ensures number { chance_number self.now result ≡ chance_number self.now chance + 1 }
         ensures place { result.place < length self.now }
     {
         after(self.as_slice(), chance)
@@ -48,9 +48,9 @@ impl Trace {
     #[inline(always)]
     pub(crate) fn coming_after(&self, coming: Coming) -> Coming
         requires coming { IsComing self.now coming }
-        requires fits { chance_time self.now (number_of self.now coming.chance + 1) < 2 ^ 64 }
+        requires fits { chance_time self.now (chance_number self.now coming.chance + 1) < 2 ^ 64 }
         ensures coming { IsComing self.now result }
-        ensures number { number_of self.now result.chance ≡ number_of self.now coming.chance + 1 }
+        ensures number { chance_number self.now result.chance ≡ chance_number self.now coming.chance + 1 }
     {
         coming_after(self.as_slice(), coming)
     }
@@ -64,7 +64,7 @@ impl Trace {
         requires early { coming.at < now }
         requires time { now + search_reach < 2 ^ 64 }
         ensures coming { IsComing self.now result }
-        ensures first { IsFirstChance self.now now 0 (number_of self.now result.chance) }
+        ensures first { IsFirstChance self.now now 0 (chance_number self.now result.chance) }
     {
         let after = self.coming_after(coming);
         if after.at >= now {
@@ -79,7 +79,7 @@ impl Trace {
         requires valid { IsTrace self.now }
         requires time { now + search_reach < 2 ^ 64 }
         ensures coming { IsComing self.now result }
-        ensures first { IsFirstChance self.now now 0 (number_of self.now result.chance) }
+        ensures first { IsFirstChance self.now now 0 (chance_number self.now result.chance) }
     {
         let chance = self.find_first_chance(now, near);
         let at = self.time_of(chance);
@@ -91,8 +91,8 @@ impl Trace {
     pub(crate) fn between(&self, from: Chance, to: Chance) -> u128
         requires from { from.place < length self.now }
         requires to { to.place < length self.now }
-        requires order { number_of self.now from ≤ number_of self.now to }
-        ensures { result ≡ number_of self.now to - number_of self.now from }
+        requires order { chance_number self.now from ≤ chance_number self.now to }
+        ensures { result ≡ chance_number self.now to - chance_number self.now from }
     {
         between(self.as_slice(), from, to)
     }
@@ -102,8 +102,8 @@ impl Trace {
     #[inline(always)]
     pub(crate) fn find_first_chance(&self, at: u64, near: usize) -> Chance
         requires { at + 1000 < 2 ^ 64 }
-        ensures number { number_of self.now result ≡ first_chance self.now at 0 }
-        ensures first { IsFirstChance self.now at 0 (number_of self.now result) }
+        ensures number { chance_number self.now result ≡ first_chance self.now at 0 }
+        ensures first { IsFirstChance self.now at 0 (chance_number self.now result) }
         ensures place { result.place < length self.now }
         ensures turn { result.turn ≤ at }
     {
@@ -132,8 +132,8 @@ fn period(times: &[u32]) -> u64
 fn time_of(times: &[u32], chance: Chance) -> u64
     requires valid { IsTrace times.now }
     requires place { chance.place < length times.now }
-    requires fits { chance_time times.now (number_of times.now chance) < 2 ^ 64 }
-    ensures { result ≡ chance_time times.now (number_of times.now chance) }
+    requires fits { chance_time times.now (chance_number times.now chance) < 2 ^ 64 }
+    ensures { result ≡ chance_time times.now (chance_number times.now chance) }
 {
     1000 * (period(times) * chance.turn + u64::from(times[chance.place]))
 }
@@ -143,7 +143,7 @@ fn time_of(times: &[u32], chance: Chance) -> u64
 fn after(times: &[u32], chance: Chance) -> Chance
     requires place { chance.place < length times.now }
     requires fits { chance.turn + 1 < 2 ^ 64 }
-    ensures number { number_of times.now result ≡ number_of times.now chance + 1 }
+    ensures number { chance_number times.now result ≡ chance_number times.now chance + 1 }
     ensures place { result.place < length times.now }
 {
     if chance.place + 1 < times.len() {
@@ -163,9 +163,9 @@ fn after(times: &[u32], chance: Chance) -> Chance
 fn coming_after(times: &[u32], coming: Coming) -> Coming
     requires valid { IsTrace times.now }
     requires coming { IsComing times.now coming }
-    requires fits { chance_time times.now (number_of times.now coming.chance + 1) < 2 ^ 64 }
+    requires fits { chance_time times.now (chance_number times.now coming.chance + 1) < 2 ^ 64 }
     ensures coming { IsComing times.now result }
-    ensures number { number_of times.now result.chance ≡ number_of times.now coming.chance + 1 }
+    ensures number { chance_number times.now result.chance ≡ chance_number times.now coming.chance + 1 }
 {
     let turn = coming.chance.turn;
     let place = coming.chance.place + 1;
@@ -190,8 +190,8 @@ fn coming_after(times: &[u32], coming: Coming) -> Coming
 fn between(times: &[u32], from: Chance, to: Chance) -> u128
     requires from { from.place < length times.now }
     requires to { to.place < length times.now }
-    requires order { number_of times.now from ≤ number_of times.now to }
-    ensures { result ≡ number_of times.now to - number_of times.now from }
+    requires order { chance_number times.now from ≤ chance_number times.now to }
+    ensures { result ≡ chance_number times.now to - chance_number times.now from }
 {
     u128::from(to.turn - from.turn) * times.len() as u128 + to.place as u128 - from.place as u128
 }
@@ -202,7 +202,7 @@ fn between(times: &[u32], from: Chance, to: Chance) -> u128
 fn find_first_chance(times: &[u32], at: u64, near: usize) -> Chance
     requires valid { IsTrace times.now }
     requires fits { at + 1000 < 2 ^ 64 }
-    ensures number { number_of times.now result ≡ first_chance times.now at 0 }
+    ensures number { chance_number times.now result ≡ first_chance times.now at 0 }
     ensures place { result.place < length times.now }
     ensures turn { result.turn ≤ at }
 {

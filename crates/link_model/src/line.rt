@@ -2,7 +2,7 @@
 ghost use Rattle.std.specs.Prelude.{◌≡◌, ◌+◌, ◌^◌, ◌<◌, ◌≤◌};
 ghost use Rattle.ccp_base.specs.Limits.{most_flight};
 ghost use Rattle.link_model.specs.Traces.{IsTrace, search_reach};
-ghost use Rattle.link_model.specs.Chances.{number_of};
+ghost use Rattle.link_model.specs.Chances.{chance_number};
 ghost use Rattle.link_model.specs.Lines.{IsLine, IsMovedTo, due_number};
 
 use crate::chance::{Chance, Coming};
@@ -24,7 +24,7 @@ impl Line {
     pub(crate) fn new(trace: &Trace) -> Line
         requires valid { IsTrace trace.now }
         ensures line { IsLine trace.now 0 result }
-        ensures first { number_of trace.now result.next.chance ≡ 0 }
+        ensures first { chance_number trace.now result.next.chance ≡ 0 }
     {
         let chance = Chance { turn: 0, place: 0 };
         let at = trace.time_of(chance);
@@ -81,7 +81,7 @@ impl Line {
         requires time { now + search_reach < 2 ^ 64 }
         ensures line { IsLine trace.now now result }
         ensures moved { IsMovedTo now result }
-        ensures next { number_of trace.now result.next.chance ≡ due_number trace.now self now }
+        ensures next { chance_number trace.now result.next.chance ≡ due_number trace.now self now }
         ensures waiting { result.waiting ≡ self.waiting }
         ensures late { now ≤ result.next.at }
         ensures order { self.next.at ≤ result.next.at }
@@ -108,7 +108,7 @@ impl Line {
         requires few { self.waiting < most_flight }
         ensures line { IsLine trace.now now result }
         ensures moved { IsMovedTo now result }
-        ensures next { number_of trace.now result.next.chance ≡ number_of trace.now self.next.chance + 1 }
+        ensures next { chance_number trace.now result.next.chance ≡ chance_number trace.now self.next.chance + 1 }
         ensures order { self.next.at ≤ result.next.at }
     {
         let next = trace.coming_after(self.next);

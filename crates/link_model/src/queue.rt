@@ -1,6 +1,6 @@
 //! The queue of a link at one time: its next free chance, and how many packets wait.
 ghost use Rattle.std.specs.Prelude.{◌≡◌, ◌+◌, ◌-◌, ◌^◌, ◌<◌, max, length};
-ghost use Rattle.link_model.specs.Chances.{number_of, chance_time, first_chance};
+ghost use Rattle.link_model.specs.Chances.{chance_number, chance_time, first_chance};
 
 use crate::chance::Chance;
 use crate::trace::Trace;
@@ -22,11 +22,11 @@ impl Trace {
     #[inline(always)]
     pub fn queue(&self, next: Chance, now: u64, near: usize) -> Queue
         requires place { next.place < length self.now }
-        requires fits { chance_time self.now (number_of self.now next) < 2 ^ 64 }
+        requires fits { chance_time self.now (chance_number self.now next) < 2 ^ 64 }
         requires time { now + 1001 < 2 ^ 64 }
         ensures place { result.next.place < length self.now }
-        ensures next { number_of self.now result.next ≡ max (number_of self.now next) (first_chance self.now now 0) }
-        ensures waiting { result.waiting ≡ number_of self.now next - first_chance self.now (now + 1) 0 }
+        ensures next { chance_number self.now result.next ≡ max (chance_number self.now next) (first_chance self.now now 0) }
+        ensures waiting { result.waiting ≡ chance_number self.now next - first_chance self.now (now + 1) 0 }
     {
         let own = self.time_of(next);
         if own > now {

@@ -3,7 +3,7 @@ ghost use Rattle.std.specs.Prelude.{◌≡◌, ℕ, ◌<◌, ◌≤◌, List, le
 ghost use Rattle.std.specs.List.Sorted.{IsStrictlyIncreasing};
 ghost use Rattle.ccp_base.specs.Limits.{most_flight, most_segment_bytes};
 ghost use Rattle.link_model.specs.Link.{allowance_of, allowance, byte_rate, is_marked, is_listed, number_if, arrival_ack_of, timeout_ack_of, timeout_ack, run_of};
-ghost use Rattle.link_model.specs.Standing.{ack_at};
+ghost use Rattle.link_model.specs.Standing.{packet_ack};
 ghost use Rattle.link_model.specs.Counts.{AreOnce, AddUp, most_packets};
 
 use crate::arrival::Arrival;
@@ -65,7 +65,7 @@ impl LinkCase {
         requires stay { stay ≤ most_flight }
         requires acked { acked ≤ most_packets }
         requires sent { sent ≤ most_packets }
-        ensures { result ≡ ack_at self.now arrival past stay acked sent }
+        ensures { result ≡ packet_ack self.now arrival past stay acked sent }
     {
         arrival_ack(self.mss, arrival, past, stay, acked, sent)
     }

@@ -1,6 +1,6 @@
 //! How the lines of a trace's text are read, up to the first bad one.
 ghost use Rattle.std.specs.Prelude.{◌≡◌, ℕ, ◌+◌, ◌^◌, ◌<◌, ◌≤◌, None, IfOk, IfErr, OnOk, ◌≢◌, [], ◌++◌, true, false, length};
-ghost use Rattle.link_model.specs.TraceText.{without_first_blanks, without_last_blanks, word_line, line_of, is_bad, with_time, time_after, times_of, first_bad, first_fall, fall_after, lines_of, IsAtFirstBad};
+ghost use Rattle.link_model.specs.TraceText.{without_first_blanks, without_last_blanks, word_line, trace_line, is_bad_line, with_time, time_after, times_of, first_bad_line, first_fall, fall_after, lines_of, IsAtFirstBad};
 ghost use Rattle.link_model.specs.declared.trace.TraceFault.TheVariants as fault;
 
 use crate::trace::{LONGEST_MS, TraceFault};
@@ -35,12 +35,12 @@ impl TraceReading {
     /// Takes the next line in.
     fn take(&mut self, line: TraceLine) -> Result<(), TraceFault>
         requires { self.old.line + 1 < 2 ^ 64 }
-        ensures good { OnOk result (is_bad line ≡ false) }
+        ensures good { OnOk result (is_bad_line line ≡ false) }
         ensures line { OnOk result (self.new.line ≡ self.old.line + 1) }
         ensures times { OnOk result (self.new.times.items ≡ self.old.times.items ++ with_time line []) }
         ensures before { OnOk result (self.new.before ≡ time_after line self.old.before) }
         ensures fall { OnOk result (self.new.fall ≡ fall_after self.old.fall line self.old.before self.old.line) }
-        ensures bad { IfErr result (λ e. e ≢ fault.NoMemory → is_bad line ≡ true) }
+        ensures bad { IfErr result (λ e. e ≢ fault.NoMemory → is_bad_line line ≡ true) }
         ensures at { IfErr result (λ e. e ≢ fault.NoMemory → e ≡ fault.BadLine self.old.line) }
     {
         match line {
@@ -61,10 +61,10 @@ impl TraceReading {
 
 /// Reads every line of a trace text, up to the first bad one.
 pub(crate) fn read_lines(alloc: Global, text: &[u8]) -> Result<TraceReading, TraceFault>
-    ensures good { OnOk result (first_bad 1 (lines_of text.now) ≡ None) }
+    ensures good { OnOk result (first_bad_line 1 (lines_of text.now) ≡ None) }
     ensures times { IfOk result (λ r. r.times.items ≡ times_of (lines_of text.now)) }
     ensures fall { IfOk result (λ r. r.fall ≡ first_fall 1 0 (lines_of text.now)) }
-    ensures bad { IfErr result (λ e. e ≢ fault.NoMemory → first_bad 1 (lines_of text.now) ≢ None) }
+    ensures bad { IfErr result (λ e. e ≢ fault.NoMemory → first_bad_line 1 (lines_of text.now) ≢ None) }
     ensures at { IfErr result (λ e. e ≢ fault.NoMemory → IsAtFirstBad text.now e) }
 {
     let mut rest = text;
@@ -84,7 +84,7 @@ pub(crate) fn read_lines(alloc: Global, text: &[u8]) -> Result<TraceReading, Tra
 
 /// What a line says, without a CR at its end and without the blanks around.
 fn trace_line(line: &[u8]) -> TraceLine
-    ensures { result ≡ line_of line.now }
+    ensures { result ≡ trace_line line.now }
 {
     word_line(trimmed_end(trimmed_start(without_return(line))))
 }

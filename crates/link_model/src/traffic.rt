@@ -3,7 +3,7 @@ ghost use Rattle.std.specs.Prelude.{◌≡◌, ℕ, ◌+◌, ◌-◌, ◌*◌, �
 ghost use Rattle.ccp_base.specs.Limits.{most_flight, most_acks};
 ghost use Rattle.link_model.specs.Counts.{most_packets};
 ghost use Rattle.link_model.specs.Standing.{first_standing};
-ghost use Rattle.link_model.specs.LinkMoves.{standing_in, TakesStep, SendsOn, with_lost, served_now, sending, ack_of, after_ack};
+ghost use Rattle.link_model.specs.LinkMoves.{standing_in, TakesStep, SendsOn, with_lost, served_now, sending, link_ack, standing_after_ack};
 ghost use Rattle.link_model.specs.Lines.{IsMovedTo};
 ghost use Rattle.link_model.specs.Horizon.{IsKept, IsCounted};
 
@@ -182,8 +182,8 @@ impl Traffic {
         requires sent { self.old.sent ≤ most_packets }
         requires acked { self.old.acked ≤ self.old.calls }
         requires calls { self.old.calls < most_acks }
-        ensures ack { result ≡ ack_of case.now (standing_in case.now.trace self.old) }
-        ensures standing { TakesStep case.now (after_ack case.now) self.old self.new }
+        ensures ack { result ≡ link_ack case.now (standing_in case.now.trace self.old) }
+        ensures standing { TakesStep case.now (standing_after_ack case.now) self.old self.new }
         ensures kept { IsKept case.now self.new }
         ensures sent { self.new.sent ≡ self.old.sent }
         ensures acked { self.new.acked ≤ self.new.calls }
@@ -209,8 +209,8 @@ impl Traffic {
         requires sent { self.old.sent ≤ most_packets }
         requires acked { self.old.acked ≤ self.old.calls }
         requires calls { self.old.calls < most_acks }
-        ensures ack { result ≡ ack_of case.now (standing_in case.now.trace self.old) }
-        ensures standing { TakesStep case.now (after_ack case.now) self.old self.new }
+        ensures ack { result ≡ link_ack case.now (standing_in case.now.trace self.old) }
+        ensures standing { TakesStep case.now (standing_after_ack case.now) self.old self.new }
         ensures kept { IsKept case.now self.new }
         ensures sent { self.new.sent ≡ self.old.sent }
         ensures acked { self.new.acked ≡ self.old.acked }

@@ -31,9 +31,9 @@ use Rattle.live_install.specs.declared.entry.Entry.{Entry}
 use Rattle.live_install.specs.Accounts.{reporter, met_in, HasRun}
 use Rattle.live_install.specs.declared.letter.OpenLetter.{OpenLetter}
 use Rattle.live_install.specs.declared.state.State.{State}
-use Rattle.live_install.specs.OpenWorld.{Installed, Running, OpenWorld, track_of, cwnd_of, bare, met_by, after_ack, eras_of, with_entry, after_install, next_of, running_of, with_next, after_change}
+use Rattle.live_install.specs.OpenWorld.{Installed, Running, OpenWorld, track_of, cwnd_of, bare, met_by, after_ack, eras_of, with_entry, after_install, next_entry, running_of, with_change, after_change}
 use Rattle.live_install.specs.BuiltTexts.{form_or_refusal, built_of}
-use Rattle.live_install.specs.Entries.{installed_of, built_in, built_at, place_of}
+use Rattle.live_install.specs.Entries.{installed_of, built_in, built_at, entry_place}
 use Rattle.live_install.specs.OpenBooks.{Seen, failure_at, seen_of, seen_as}
 use Rattle.live_install.specs.States.{kept_track, next_from, Runs, RunsAs, FitsBuilt, FitsAt, epoch_of, turn_of, Keeps}
 use Rattle.live_install.proofs.ListLemmas.{slice_get-front, time-push}
@@ -144,9 +144,9 @@ seen-front entries more notice failure place is = by (slice_get entries notice.p
   by : (found : Option Entry) → slice_get entries notice.program ≡ found → seen_of (entries ++ more) notice ≡ seen_of entries notice
   by (Some entry) here =
       let within = slice_get_within entries notice.program entry here in
-      ap (λ (b : Option Built). (notice.flow, option_map (failure_at notice) (place_of b notice.index))) (built-front entries more notice.program within)
+      ap (λ (b : Option Built). (notice.flow, option_map (failure_at notice) (entry_place b notice.index))) (built-front entries more notice.program within)
   by None here =
-      absurd (none-some place (ap (λ (b : Option Entry). option_map (failure_at notice) (place_of (built_in b) notice.index)) (sym here) ∙ ap (λ (p : Seen). p.1) is))
+      absurd (none-some place (ap (λ (b : Option Entry). option_map (failure_at notice) (entry_place (built_in b) notice.index)) (sym here) ∙ ap (λ (p : Seen). p.1) is))
 
 seen-more : (entries more : List Entry) (flow : ℕ) (notices : List Notice) (failures : List (Failure Place))
     → map (seen_of entries) notices ≡ map (seen_as flow) failures → map (seen_of (entries ++ more)) notices ≡ map (seen_of entries) notices
@@ -249,7 +249,7 @@ started_state s step machine epochs word = record s {
 }
 
 pub keeps-started : (s : State) (w : OpenWorld) (step : ℕ) (form : Form) (built : Built) (machine : MachineState) (epochs : RoomyState EpochLine) (word : RoomyState OpenLetter)
-    → Keeps s w → next_of w ≡ Some (step, form) → built_at s.entries.items step ≡ Some built
+    → Keeps s w → next_entry w ≡ Some (step, form) → built_at s.entries.items step ≡ Some built
     → machine ≡ started_by built.code.code [] s.time s.machine
     → epochs.items ≡ s.epochs.items ++ record { program = step; at = s.acks; cwnd = machine.kept.cwnd } ∷ []
     → Keeps (started_state s step machine epochs word) (after_change s.case w)
@@ -259,7 +259,7 @@ keeps-started s w step form built machine epochs word keeps left is started push
     form-same s.entries.items step built form is ((λ i. slice_get (keeps.entries i) step) ∙ entry) in
     let running = running_of s.case w step form in
     let next : OpenWorld = record w { past = eras_of w; present = Some running } in
-    let world_is : after_change s.case w ≡ next = ap (λ (left : Option (ℕ × Form)). with_next s.case left w) left in
+    let world_is : after_change s.case w ≡ next = ap (λ (left : Option (ℕ × Form)). with_change s.case left w) left in
     let simulates : Simulates form built.code.code built.places = subst (λ (f : Form). Simulates f built.code.code built.places) same_form built.simulates in
     let env : env_of machine.kept ≡ running.era.first =
     ap (λ (m : MachineState). env_of m.kept) started

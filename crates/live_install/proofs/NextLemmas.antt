@@ -10,8 +10,8 @@ use Rattle.reg_compiler.specs.declared.built.Built.{Built}
 use Rattle.portus_core.specs.ProgramForm.{form_of}
 use Rattle.flow_core.specs.World.{Era}
 use Rattle.live_install.specs.declared.entry.Entry.{Entry}
-use Rattle.live_install.specs.OpenWorld.{Installed, OpenWorld, was_started, first_left, eras_of, next_of}
-use Rattle.live_install.specs.BuiltTexts.{is_accepted, form_or_refusal, built_of}
+use Rattle.live_install.specs.OpenWorld.{Installed, OpenWorld, was_started, first_left, eras_of, next_entry}
+use Rattle.live_install.specs.BuiltTexts.{is_built, form_or_refusal, built_of}
 use Rattle.live_install.specs.Entries.{installed_of, built_in, built_at}
 use Rattle.live_install.specs.States.{accepted_from, ArePassed}
 use Rattle.live_install.proofs.ListLemmas.{slice_get-front}
@@ -44,9 +44,9 @@ by-first step later count true =
 by-first step later count false = shifted step later count (nat_lt later count) refl
 
 accepted-first : (step : ℕ) (entry : Entry) (rest : List Entry)
-    → accepted_from step (entry ∷ rest) ≡ (if is_accepted entry.answer then Some step else accepted_from (step + 1) rest)
+    → accepted_from step (entry ∷ rest) ≡ (if is_built entry.answer then Some step else accepted_from (step + 1) rest)
 accepted-first step entry rest =
-    by-first step (position_or_len (λ (e : Entry). is_accepted e.answer) rest) (length rest) (is_accepted entry.answer)
+    by-first step (position_or_len (λ (e : Entry). is_built e.answer) rest) (length rest) (is_built entry.answer)
 
 -- ---- the next entry
 
@@ -58,7 +58,7 @@ steps left = option_map (λ next. next.0) left
 fresh-first : (eras : List Era) (step : ℕ) (answer : Result Built BuildFault) (rest : List Entry) → was_started step eras ≡ false
     → steps (first_left eras (step + 1) (map installed_of rest)) ≡ accepted_from (step + 1) rest
     → steps (first_left eras step (form_or_refusal answer ∷ map installed_of rest))
-    ≡ (if is_accepted answer then Some step else accepted_from (step + 1) rest)
+    ≡ (if is_built answer then Some step else accepted_from (step + 1) rest)
 fresh-first eras step (Ok built) rest fresh later =
     λ i. steps (if fresh i then first_left eras (step + 1) (map installed_of rest) else Some (step, form_of built.program))
 fresh-first eras step (Err refusal) rest fresh later = later
@@ -275,7 +275,7 @@ left-found step (Some (other, form)) is = (form, λ k. Some (ap (first_of other)
 
 -- what the code finds past what it looked at is the next one
 pub next-found : (next : ℕ) (entries : List Entry) (w : OpenWorld) → map installed_of entries ≡ w.entries → ArePassed next (eras_of w) w.entries
-    → accepted_from next (drop next entries) ≡ steps (next_of w)
+    → accepted_from next (drop next entries) ≡ steps (next_entry w)
 next-found next entries w same passed =
     sym (next-step next (eras_of w) entries (subst (ArePassed next (eras_of w)) (sym same) passed))
     ∙ ap (λ (installed : List Installed). steps (first_left (eras_of w) 0 installed)) same

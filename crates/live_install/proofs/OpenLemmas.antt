@@ -23,11 +23,11 @@ use Rattle.live_install.specs.declared.letter.OpenLetter.{OpenLetter}
 use Rattle.live_install.specs.declared.letter.OpenLetter.TheVariants.{A, I, G}
 use Rattle.live_install.specs.declared.state.State.{State}
 use Rattle.live_install.specs.Accounts.{HasRun, met_in, faults_of}
-use Rattle.live_install.specs.OpenWorld.{Running, OpenWorld, track_of, cwnd_of, after_ack, eras_of, next_of, met_by}
+use Rattle.live_install.specs.OpenWorld.{Running, OpenWorld, track_of, cwnd_of, after_ack, eras_of, next_entry, met_by}
 use Rattle.live_install.specs.OpenWords.{after_letter, install_world, next_ack, is_legal, legal}
 use Rattle.live_install.specs.BuiltTexts.{Answers}
 use Rattle.live_install.specs.Entries.{installed_of, built_at, AreStepsFrom}
-use Rattle.live_install.specs.OpenCells.{HasOutcome, AnswersTo, ran_with, ran_in, next_at}
+use Rattle.live_install.specs.OpenCells.{HasOutcome, AnswersTo, ran_with, ran_in, next_step}
 use Rattle.live_install.specs.States.{cell_of, world_of, kept_track, next_from, RunsAs, Runs, FitsAt, FitsBuilt, faults_left, turn_of, form_at, Keeps, IsFit, IsOpen}
 use Rattle.live_install.proofs.LetterLemmas.{world-append, legal-append}
 use Rattle.live_install.proofs.KeepsLemmas.{counted_state, keeps-counted, keeps-heard, put_state, keeps-put, fits-more, started_state, keeps-started}
@@ -275,9 +275,9 @@ open-put s entry entries installed word opens is_step is_text answers pushed roo
 
 -- ---- a change
 
-module _ (s : State) (opens : IsOpen s) (step : ℕ) (next : next_at (cell_of s) ≡ Some step) where
-  found-at : (form : Form) × (next_of (world_of s) ≡ Some (step, form))
-  found-at = left-found step (next_of (world_of s)) next
+module _ (s : State) (opens : IsOpen s) (step : ℕ) (next : next_step (cell_of s) ≡ Some step) where
+  found-at : (form : Form) × (next_entry (world_of s) ≡ Some (step, form))
+  found-at = left-found step (next_entry (world_of s)) next
 
   -- the step is one of the entries, past those that were looked at
   pub below : step < length s.entries.items

@@ -25,11 +25,11 @@ use Rattle.live_install.specs.OpenBooks.{seen_of, seen_as}
 use Rattle.live_install.specs.OpenCells.{HasOutcome}
 use Rattle.live_install.specs.Accounts.{reporter, notice_by, faults_of, track_by, RecordsOutcome, met_in, HasRun}
 use Rattle.live_install.specs.OpenWorld.{Running}
-use Rattle.live_install.specs.States.{RunsAs, step_in, form_at}
+use Rattle.live_install.specs.States.{RunsAs, running_step, form_at}
 use Rattle.live_install.proofs.SeenLemmas.{placed, heard-placed, heard-env, stops-placed, first-placed, reports-placed, failures-placed, tells-placed}
 
 -- the step that is kept is that of the program that runs
-pub running-step : (entries : List Entry) (step : Option ℕ) (present : Option Running) → RunsAs entries step present → step ≡ step_in present
+pub running-step : (entries : List Entry) (step : Option ℕ) (present : Option Running) → RunsAs entries step present → step ≡ running_step present
 running-step entries None None runs = refl
 running-step entries None (Some running) runs = absurd runs
 running-step entries (Some step) None runs = absurd runs

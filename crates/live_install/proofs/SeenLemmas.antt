@@ -26,7 +26,7 @@ use Rattle.flow_core.specs.Readings.{env_of, outcome_of, by_code}
 use Rattle.flow_core.specs.States.{outcome_by}
 use Rattle.flow_core.specs.World.{failures_met}
 use Rattle.live_install.specs.declared.entry.Entry.{Entry}
-use Rattle.live_install.specs.Entries.{built_at, place_of}
+use Rattle.live_install.specs.Entries.{built_at, entry_place}
 use Rattle.live_install.specs.OpenBooks.{Seen, seen_of, seen_as}
 use Rattle.live_install.specs.OpenCells.{HasOutcome}
 use Rattle.live_install.specs.Accounts.{notice_by}
@@ -138,7 +138,7 @@ module _ (entries : List Entry) (flow step number at : ℕ) (ack : Ack) (env : E
   failures-placed built is (reported fields) out same = ap (by_some [] told) same
   failures-placed built is held out same = ap (by_some [] told) same
   failures-placed built is (failed fault) out same =
-      ap (λ (b : Option Built). noted fault (place_of b fault.1)) is
+      ap (λ (b : Option Built). noted fault (entry_place b fault.1)) is
       ∙ failures-fault fault (slice_get built.places fault.1) out same
   failures-placed built is stopped out same = ap (by_some [] told) same
 

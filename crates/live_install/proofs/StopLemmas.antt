@@ -16,7 +16,7 @@ use Rattle.flow_core.specs.World.{Failure, Era, failures_met}
 use Rattle.scene_members.specs.declared.open_case.OpenCase.{OpenCase}
 use Rattle.live_install.specs.declared.letter.OpenLetter.{OpenLetter}
 use Rattle.live_install.specs.declared.letter.OpenLetter.TheVariants.{A, I, G}
-use Rattle.live_install.specs.OpenWorld.{Running, OpenWorld, opening, track_of, track_in, track_now, run_in, with_entry, eras_in, eras_of, next_of, with_next, cwnd_of}
+use Rattle.live_install.specs.OpenWorld.{Running, OpenWorld, opening, track_of, track_in, track_now, run_in, with_entry, eras_in, eras_of, next_entry, with_change, cwnd_of}
 use Rattle.live_install.specs.OpenWords.{next_ack, after_letter, world_from, install_world}
 
 -- one of the failures is of the epoch with this number
@@ -134,7 +134,7 @@ module _ (case : OpenCase) where
         AreUpTo-next (length past) (length (past ++ running.era ∷ [])) (omega (arith, more)) faults so_far.1,
       )
 
-  stops-change : (next : Option (ℕ × Form)) (w : OpenWorld) → StopsIn w → StopsIn (with_next case next w)
+  stops-change : (next : Option (ℕ × Form)) (w : OpenWorld) → StopsIn w → StopsIn (with_change case next w)
   stops-change None w so_far = so_far
   stops-change (Some next) w so_far = none-yet w.present w.past w.faults so_far
 
@@ -144,7 +144,7 @@ module _ (case : OpenCase) where
   stops-letter A w so_far =
       stops-run (next_ack case w) (record w { acks = w.acks ++ next_ack case w ∷ []; windows = w.windows ++ cwnd_of case w ∷ [] }) w.present refl so_far
   stops-letter I w so_far = stops-entry (slice_get case.steps (length w.entries)) w so_far
-  stops-letter G w so_far = stops-change (next_of w) w so_far
+  stops-letter G w so_far = stops-change (next_entry w) w so_far
 
   stops-from : (word : List OpenLetter) (w : OpenWorld) → StopsIn w → StopsIn (world_from case w word)
   stops-from [] w so_far = so_far

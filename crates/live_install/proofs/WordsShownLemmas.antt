@@ -8,7 +8,7 @@ use Rattle.live_install.specs.OpenWorld.{Installed}
 use Rattle.live_install.specs.OpenWords.{install_world}
 use Rattle.live_install.specs.RolloutText.{open_part}
 use Rattle.live_install.specs.WholeBooks.{IsHistory}
-use Rattle.live_install.specs.WordsShown.{AreAlike, AreAllAlike, AreHistories, text_of, TextShowsWords}
+use Rattle.live_install.specs.WordsShown.{AreAlike, AreAllAlike, AreHistories, text_for_words, TextShowsWords}
 use Rattle.live_install.proofs.CountLemmas.{acks_in, entry_counts, change_counts, AreBetween, entries-between, changes-between, alike-by-counts}
 use Rattle.live_install.proofs.WorldCountLemmas.{acks-all, entries-all, installed-are, starts-are, starts_of, alike-worlds, counted-entries}
 use Rattle.live_install.proofs.ShownLemmas.{AreSmall, part-read}
@@ -55,22 +55,22 @@ module _ (case : OpenCase) where
   part-same word other history other_history alike = ap (open_part case) (alike-worlds case word other history other_history alike)
 
 shows : (cases : List OpenCase) (words others : List (List OpenLetter)) → AreHistories cases words → AreHistories cases others
-    → text_of cases words ≡ text_of cases others → AreAllAlike words others
+    → text_for_words cases words ≡ text_for_words cases others → AreAllAlike words others
 shows [] [] [] histories other_histories same = tt
 shows [] [] (other ∷ others) histories other_histories same = absurd other_histories
 shows [] (word ∷ words) others histories other_histories same = absurd histories
 shows (case ∷ cases) [] others histories other_histories same = absurd histories
 shows (case ∷ cases) (word ∷ words) [] histories other_histories same = absurd other_histories
 shows (case ∷ cases) (word ∷ words) (other ∷ others) histories other_histories same =
-    let alike = part-shows case word other (text_of cases words) (text_of cases others) histories.0 other_histories.0 same in
+    let alike = part-shows case word other (text_for_words cases words) (text_for_words cases others) histories.0 other_histories.0 same in
     let part = open_part case (install_world case word) in
-    let rest : text_of cases words ≡ text_of cases others =
-    append_cancel_left part (text_of cases words) (text_of cases others)
-    (same ∙ ap (λ (p : List ℕ). p ++ text_of cases others) (sym (part-same case word other histories.0 other_histories.0 alike))) in
+    let rest : text_for_words cases words ≡ text_for_words cases others =
+    append_cancel_left part (text_for_words cases words) (text_for_words cases others)
+    (same ∙ ap (λ (p : List ℕ). p ++ text_for_words cases others) (sym (part-same case word other histories.0 other_histories.0 alike))) in
     (alike, shows cases words others histories.1 other_histories.1 rest)
 
 same-text : (cases : List OpenCase) (words others : List (List OpenLetter)) → AreHistories cases words → AreHistories cases others
-    → AreAllAlike words others → text_of cases words ≡ text_of cases others
+    → AreAllAlike words others → text_for_words cases words ≡ text_for_words cases others
 same-text [] [] [] histories other_histories alike = refl
 same-text [] [] (other ∷ others) histories other_histories alike = absurd alike
 same-text [] (word ∷ words) others histories other_histories alike = absurd histories

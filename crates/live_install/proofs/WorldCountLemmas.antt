@@ -13,7 +13,7 @@ use Rattle.scene_members.specs.declared.open_case.OpenCase.{OpenCase}
 use Rattle.portus_build.specs.TextWalk.{program_of}
 use Rattle.live_install.specs.declared.letter.OpenLetter.{OpenLetter}
 use Rattle.live_install.specs.declared.letter.OpenLetter.TheVariants.{A, I, G}
-use Rattle.live_install.specs.OpenWorld.{Installed, Running, OpenWorld, opening, cwnd_of, run_in, with_entry, was_started, first_left, next_of, eras_in, eras_of, with_next}
+use Rattle.live_install.specs.OpenWorld.{Installed, Running, OpenWorld, opening, cwnd_of, run_in, with_entry, was_started, first_left, next_entry, eras_in, eras_of, with_change}
 use Rattle.live_install.specs.OpenWords.{next_ack, after_letter, world_from, install_world, is_legal, legal_from}
 use Rattle.live_install.specs.WholeBooks.{IsHistory}
 use Rattle.live_install.specs.WordsShown.{without_entries, AreAlike}
@@ -51,12 +51,12 @@ put-same (Some text) w = (refl, refl)
 -- ---- a change
 
 changed-same : (case : OpenCase) (next : Option (ℕ × Form)) (w : OpenWorld)
-    → ((with_next case next w).acks ≡ w.acks) × ((with_next case next w).entries ≡ w.entries) × ((with_next case next w).installed ≡ w.installed)
+    → ((with_change case next w).acks ≡ w.acks) × ((with_change case next w).entries ≡ w.entries) × ((with_change case next w).installed ≡ w.installed)
 changed-same case None w = (refl, refl, refl)
 changed-same case (Some next) w = (refl, refl, refl)
 
 changed-starts : (case : OpenCase) (next : Option (ℕ × Form)) (w : OpenWorld) → is_some next ≡ true
-    → starts_of (with_next case next w) ≡ starts_of w ++ length w.acks ∷ []
+    → starts_of (with_change case next w) ≡ starts_of w ++ length w.acks ∷ []
 changed-starts case None w is = absurd (let wrong : false ≡ true = is in (cc))
 changed-starts case (Some next) w is = map-append (λ (era : Era). era.at) (eras_of w) _
 
@@ -129,7 +129,7 @@ module _ (case : OpenCase) where
       acks-of (after_letter case w I) rest
       ∙ ap (λ (acks : List Ack). length acks + acks_in rest) (put-same (slice_get case.steps (length w.entries)) w).0
   acks-of w (G ∷ rest) =
-      acks-of (after_letter case w G) rest ∙ ap (λ (acks : List Ack). length acks + acks_in rest) (changed-same case (next_of w) w).0
+      acks-of (after_letter case w G) rest ∙ ap (λ (acks : List Ack). length acks + acks_in rest) (changed-same case (next_entry w) w).0
 
   pub installed-of : (w : OpenWorld) (word : List OpenLetter) → legal_from case w word ≡ true
       → (world_from case w word).installed ≡ w.installed ++ entry_counts (length w.acks) word
@@ -148,7 +148,7 @@ module _ (case : OpenCase) where
   installed-of w (G ∷ rest) legal =
       let next = after_letter case w G in
       let parts = and_parts (is_legal case w G) (legal_from case next rest) legal in
-      let same = changed-same case (next_of w) w in
+      let same = changed-same case (next_entry w) w in
       installed-of next rest parts.1 ∙ (λ i. same.2 i ++ entry_counts (length (same.0 i)) rest)
 
   pub starts-of : (w : OpenWorld) (word : List OpenLetter) → legal_from case w word ≡ true
@@ -166,16 +166,16 @@ module _ (case : OpenCase) where
   starts-of w (G ∷ rest) legal =
       let next = after_letter case w G in
       let parts = and_parts (is_legal case w G) (legal_from case next rest) legal in
-      let same = changed-same case (next_of w) w in
+      let same = changed-same case (next_entry w) w in
       starts-of next rest parts.1
-      ∙ (λ i. changed-starts case (next_of w) w parts.0 i ++ change_counts (length (same.0 i)) rest)
+      ∙ (λ i. changed-starts case (next_entry w) w parts.0 i ++ change_counts (length (same.0 i)) rest)
       ∙ append_assoc (starts_of w) (length w.acks ∷ []) (change_counts (length w.acks) rest)
 
   in-after : (w : OpenWorld) (letter : OpenLetter) → is_legal case w letter ≡ true → AreIn w → AreIn (after_letter case w letter)
   in-after w A legal are = subst (λ (entries : List Installed). entries ++ map program_of (drop (length entries) case.steps) ≡ all) (sym (acked w).1) are
   in-after w I legal are = put-in w legal are
   in-after w G legal are =
-      subst (λ (entries : List Installed). entries ++ map program_of (drop (length entries) case.steps) ≡ all) (sym (changed-same case (next_of w) w).1) are
+      subst (λ (entries : List Installed). entries ++ map program_of (drop (length entries) case.steps) ≡ all) (sym (changed-same case (next_entry w) w).1) are
 
   are-in : (w : OpenWorld) (word : List OpenLetter) → legal_from case w word ≡ true → AreIn w → AreIn (world_from case w word)
   are-in w [] legal are = are
@@ -196,7 +196,7 @@ module _ (case : OpenCase) where
   counted-after w A is = ap (λ (ns : List ℕ). length ns) (acked w).2 ∙ is ∙ sym (ap (λ (entries : List Installed). length entries) (acked w).1)
   counted-after w I is = counted-put (slice_get case.steps (length w.entries)) w is
   counted-after w G is =
-      let same = changed-same case (next_of w) w in
+      let same = changed-same case (next_entry w) w in
       ap (λ (ns : List ℕ). length ns) same.2 ∙ is ∙ sym (ap (λ (entries : List Installed). length entries) same.1)
 
   counted-from : (w : OpenWorld) (word : List OpenLetter) → length w.installed ≡ length w.entries
@@ -222,11 +222,11 @@ module _ (case : OpenCase) where
   all-put None w = refl
   all-put (Some text) w = refl
 
-  all-changed : (next : Option (ℕ × Form)) (w : OpenWorld) → with-all (with_next case next w) ≡ with_next case next (with-all w)
+  all-changed : (next : Option (ℕ × Form)) (w : OpenWorld) → with-all (with_change case next w) ≡ with_change case next (with-all w)
   all-changed None w = refl
   all-changed (Some next) w = refl
 
-  all-next : (w : OpenWorld) → AreIn w → is_legal case w G ≡ true → next_of (with-all w) ≡ next_of w
+  all-next : (w : OpenWorld) → AreIn w → is_legal case w G ≡ true → next_entry (with-all w) ≡ next_entry w
   all-next w are legal =
       ap (first_left (eras_of w) 0) (sym are)
       ∙ first_left-more (eras_of w) 0 w.entries (map program_of (drop (length w.entries) case.steps)) legal
@@ -236,7 +236,7 @@ module _ (case : OpenCase) where
       (record w { acks = w.acks ++ next_ack case w ∷ []; windows = w.windows ++ cwnd_of case w ∷ [] })
 
   after-G : (w : OpenWorld) → AreIn w → is_legal case w G ≡ true → with-all (after_letter case w G) ≡ after_letter case (with-all w) G
-  after-G w are legal = all-changed (next_of w) w ∙ ap (λ next. with_next case next (with-all w)) (sym (all-next w are legal))
+  after-G w are legal = all-changed (next_entry w) w ∙ ap (λ next. with_change case next (with-all w)) (sym (all-next w are legal))
 
   all-after : (w : OpenWorld) (word : List OpenLetter) → AreIn w → legal_from case w word ≡ true
       → with-all (world_from case w word) ≡ world_from case (with-all w) (without_entries word)
@@ -277,7 +277,7 @@ module _ (case : OpenCase) where
           let same = ap (λ (acks : List Ack). length acks) (put-same (slice_get case.steps (length w.entries)) w).0 in
           omega (arith, same, within)
       one w G legal within =
-          let same = ap (λ (acks : List Ack). length acks) (changed-same case (next_of w) w).0 in
+          let same = ap (λ (acks : List Ack). length acks) (changed-same case (next_entry w) w).0 in
           omega (arith, same, within)
 
   not-more : (a b c : Bool) → (not a && not b && not c) ≡ true → (a ≡ false) × (b ≡ false)

@@ -13,9 +13,9 @@ abbrev pub form_or_refusal : Result Built BuildFault → Installed
 form_or_refusal (Ok built) = Ok (form_of built.program)
 form_or_refusal (Err refusal) = Err refusal
 
-abbrev pub is_accepted : Result Built BuildFault → Bool
-is_accepted (Ok built) = true
-is_accepted (Err refusal) = false
+abbrev pub is_built : Result Built BuildFault → Bool
+is_built (Ok built) = true
+is_built (Err refusal) = false
 
 -- whether memory ran out
 abbrev pub is_out_of_memory : Result Built BuildFault → Bool

@@ -18,13 +18,13 @@ built_in (Some entry) = built_of entry.answer
 abbrev pub built_at : List Entry → ℕ → Option Built
 built_at entries step = built_in (slice_get entries step)
 
-abbrev pub place_of : Option Built → ℕ → Option Place
-place_of None index = None
-place_of (Some built) index = slice_get built.places index
+abbrev pub entry_place : Option Built → ℕ → Option Place
+entry_place None index = None
+entry_place (Some built) index = slice_get built.places index
 
 -- the place of an instruction of a step's code
 abbrev pub place_at : List Entry → ℕ → ℕ → Option Place
-place_at entries step index = place_of (built_at entries step) index
+place_at entries step index = entry_place (built_at entries step) index
 
 -- the entries are those of the steps from this one on, in order
 abbrev pub AreStepsFrom : ℕ → List Entry → Type 0

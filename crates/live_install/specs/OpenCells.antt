@@ -11,9 +11,9 @@ use Rattle.scene_members.specs.declared.open_case.OpenCase.{OpenCase}
 use Rattle.live_install.specs.declared.entry.Entry.{Entry}
 use Rattle.live_install.specs.declared.letter.OpenLetter.{OpenLetter}
 use Rattle.live_install.specs.declared.letter.OpenLetter.TheVariants.{I}
-use Rattle.live_install.specs.OpenWorld.{Running, OpenWorld, track_of, met_by, next_of}
+use Rattle.live_install.specs.OpenWorld.{Running, OpenWorld, track_of, met_by, next_entry}
 use Rattle.live_install.specs.OpenWords.{next_ack, after_letter, install_world, is_legal, is_complete}
-use Rattle.live_install.specs.Entries.{built_at, place_of}
+use Rattle.live_install.specs.Entries.{built_at, entry_place}
 
 pub record OpenState : Type 0 where
   pub case : OpenCase
@@ -63,7 +63,7 @@ abbrev pub outcome_seen : Option Built → Acked → List ℕ → Option (Outcom
 outcome_seen built acked.Quiet fields = Some quiet
 outcome_seen built acked.Reported fields = Some (reported fields)
 outcome_seen built acked.Held fields = Some held
-outcome_seen built (acked.Faulted kind index) fields = option_map (λ place. failed (kind, place)) (place_of built index)
+outcome_seen built (acked.Faulted kind index) fields = option_map (λ place. failed (kind, place)) (entry_place built index)
 outcome_seen built acked.Stopped fields = Some stopped
 
 -- an answer stands for an outcome, whatever its report's fields are
@@ -100,5 +100,5 @@ ran_at cell = ran_in cell.entries (world_at cell).present (ack_at cell)
 -- ---- the answer to a change
 
 -- the step that the next change changes to, None where there is none
-abbrev pub next_at : OpenState → Option ℕ
-next_at cell = option_map (λ next. next.0) (next_of (world_at cell))
+abbrev pub next_step : OpenState → Option ℕ
+next_step cell = option_map (λ next. next.0) (next_entry (world_at cell))

@@ -5,7 +5,7 @@ use Rattle.scene_members.specs.declared.open_case.OpenCase.{OpenCase}
 use Rattle.ccp_base.specs.declared.ack.Ack.{Ack}
 use Rattle.live_install.specs.declared.letter.OpenLetter.{OpenLetter}
 use Rattle.live_install.specs.declared.letter.OpenLetter.TheVariants.{A, I, G}
-use Rattle.live_install.specs.OpenWorld.{OpenWorld, opening, cwnd_of, after_ack, after_install, after_change, next_of}
+use Rattle.live_install.specs.OpenWorld.{OpenWorld, opening, cwnd_of, after_ack, after_install, after_change, next_entry}
 
 -- the link's next acknowledgement: for the windows so far and the present `Cwnd`
 abbrev pub next_ack : OpenCase → OpenWorld → Ack
@@ -32,7 +32,7 @@ install_world case word = world_from case opening word
 abbrev pub is_legal : OpenCase → OpenWorld → OpenLetter → Bool
 is_legal case w A = nat_lt (length w.acks) case.acks
 is_legal case w I = nat_lt (length w.entries) (length case.steps)
-is_legal case w G = is_some (next_of w)
+is_legal case w G = is_some (next_entry w)
 
 abbrev pub legal_from : OpenCase → OpenWorld → List OpenLetter → Bool
 legal_from case w [] = true

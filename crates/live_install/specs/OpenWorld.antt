@@ -80,8 +80,8 @@ abbrev pub met_by : Running → Ack → Outcome Cause × Env
 met_by running ack = heard (by_source running.form) (track_of running).is_stopped (track_of running).env ack true
 
 -- one that is run, in the epoch with this number: its report has the step as program
-abbrev pub with_run : OpenCase → Ack → ℕ → Running → OpenWorld → OpenWorld
-with_run case ack epoch running w =
+abbrev pub with_program_run : OpenCase → Ack → ℕ → Running → OpenWorld → OpenWorld
+with_program_run case ack epoch running w =
     let track = track_of running in
     let met = met_by running ack in
     let step = running.era.program in
@@ -94,7 +94,7 @@ with_run case ack epoch running w =
 -- before the first change it is only counted
 abbrev pub run_in : OpenCase → Ack → Option Running → OpenWorld → OpenWorld
 run_in case ack None w = w
-run_in case ack (Some running) w = with_run case ack (length w.past) running w
+run_in case ack (Some running) w = with_program_run case ack (length w.past) running w
 
 abbrev pub after_ack : OpenCase → Ack → OpenWorld → OpenWorld
 after_ack case ack w =
@@ -135,8 +135,8 @@ first_left eras step (Ok form ∷ rest) =
     if was_started step eras then first_left eras (step + 1) rest else Some (step, form)
 first_left eras step (Err refusal ∷ rest) = first_left eras (step + 1) rest
 
-abbrev pub next_of : OpenWorld → Option (ℕ × Form)
-next_of w = first_left (eras_of w) 0 w.entries
+abbrev pub next_entry : OpenWorld → Option (ℕ × Form)
+next_entry w = first_left (eras_of w) 0 w.entries
 
 -- a program starts without values; `Cwnd` and `Rate` stay, and time zero is the time of the last acknowledgement
 abbrev pub running_of : OpenCase → OpenWorld → ℕ → Form → Running
@@ -150,12 +150,12 @@ running_of case w step form = record {
   };
 }
 
-abbrev pub with_next : OpenCase → Option (ℕ × Form) → OpenWorld → OpenWorld
-with_next case None w = w
-with_next case (Some next) w = record w {
+abbrev pub with_change : OpenCase → Option (ℕ × Form) → OpenWorld → OpenWorld
+with_change case None w = w
+with_change case (Some next) w = record w {
   past = eras_of w;
   present = Some (running_of case w next.0 next.1);
 }
 
 abbrev pub after_change : OpenCase → OpenWorld → OpenWorld
-after_change case w = with_next case (next_of w) w
+after_change case w = with_change case (next_entry w) w

@@ -16,7 +16,7 @@ use Rattle.live_install.specs.declared.account.Turn.{Turn}
 use Rattle.live_install.specs.Accounts.{faults_of}
 use Rattle.live_install.specs.OpenWorld.{Installed, Running, OpenWorld, track_of, track_now, eras_of, was_started}
 use Rattle.live_install.specs.OpenWords.{install_world, legal}
-use Rattle.live_install.specs.BuiltTexts.{is_accepted}
+use Rattle.live_install.specs.BuiltTexts.{is_built}
 use Rattle.live_install.specs.Entries.{installed_of, built_at, AreStepsFrom}
 use Rattle.live_install.specs.OpenBooks.{seen_of, seen_as}
 use Rattle.live_install.specs.OpenCells.{OpenState, most_letters}
@@ -42,7 +42,7 @@ next_from (Some step) = step + 1
 
 -- the place of the first accepted one of these entries
 abbrev pub first_accepted : List Entry → Option ℕ
-first_accepted entries = position (λ entry. is_accepted entry.answer) entries
+first_accepted entries = position (λ entry. is_built entry.answer) entries
 
 -- the step of the first accepted one of these entries, which are those from this step on
 abbrev pub accepted_from : ℕ → List Entry → Option ℕ
@@ -59,8 +59,8 @@ abbrev pub form_at : List Entry → ℕ → Option Form
 form_at entries step = option_map (λ (built : Built). form_of built.program) (built_at entries step)
 
 -- the step whose program runs, none before the first change
-abbrev pub step_in : Option Running → Option ℕ
-step_in present = option_map (λ running. running.era.program) present
+abbrev pub running_step : Option Running → Option ℕ
+running_step present = option_map (λ running. running.era.program) present
 
 -- the step's program is the one that runs
 pub record Runs (entries : List Entry) (step : ℕ) (running : Running) : Type 0 where

@@ -28,8 +28,8 @@ pub record IsWhole (book : OpenBook) : Type 0 where
   pub right : IsRightBook book
 
 -- the flow whose history a book has
-abbrev pub state_of : OpenBook → OpenState
-state_of book = record { case = book.case; entries = book.entries; word = book.word }
+abbrev pub book_state : OpenBook → OpenState
+book_state book = record { case = book.case; entries = book.entries; word = book.word }
 
 abbrev pub case_in : OpenBook → OpenCase
 case_in book = book.case

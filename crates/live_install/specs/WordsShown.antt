@@ -45,11 +45,11 @@ with_words (case ∷ cases) [] = []
 with_words (case ∷ cases) (word ∷ words) = (case, word) ∷ with_words cases words
 
 -- the text of the cases for these words
-abbrev pub text_of : List OpenCase → List (List OpenLetter) → List ℕ
-text_of cases words = rollout_text (with_words cases words)
+abbrev pub text_for_words : List OpenCase → List (List OpenLetter) → List ℕ
+text_for_words cases words = rollout_text (with_words cases words)
 
 -- two rollouts of the same cases have one text exactly where their words are alike
 abbrev pub TextShowsWords : Type 0
 TextShowsWords = (cases : List OpenCase) (words others : List (List OpenLetter))
     → AreHistories cases words → AreHistories cases others
-    → (text_of cases words ≡ text_of cases others) ↔ AreAllAlike words others
+    → (text_for_words cases words ≡ text_for_words cases others) ↔ AreAllAlike words others

@@ -2,7 +2,7 @@
 ghost use Rattle.std.specs.Prelude.{◌≡◌, ◌+◌, ◌<◌, Some, None, option_copied, ◌∷◌, [], ◌++◌};
 ghost use Rattle.live_install.specs.Entries.{built_at};
 ghost use Rattle.live_install.specs.OpenCells.{ran_at, Answered};
-ghost use Rattle.live_install.specs.States.{cell_of, world_of, step_in, IsOpen};
+ghost use Rattle.live_install.specs.States.{cell_of, world_of, running_step, IsOpen};
 
 use crate::account::{Turn, run_ack};
 use crate::entry::Entry;
@@ -24,7 +24,7 @@ impl State {
     fn running_step(&self) -> Option<u32>
         requires { IsOpen self.now }
         ensures kept { result ≡ self.now.running }
-        ensures present { result ≡ step_in (world_of self.now).present }
+        ensures present { result ≡ running_step (world_of self.now).present }
     {
         self.running
     }

@@ -4,7 +4,7 @@ ghost use Rattle.std.specs.List.{All};
 ghost use Rattle.flow_table.specs.Led.{AreLedTo};
 ghost use Rattle.live_install.specs.Crews.{HasWorked};
 ghost use Rattle.live_install.specs.NextLetter.{HasNext};
-ghost use Rattle.live_install.specs.WholeBooks.{IsWhole, case_in, case_of, state_of};
+ghost use Rattle.live_install.specs.WholeBooks.{IsWhole, case_in, case_of, book_state};
 
 use crate::OpenBooks;
 use crate::cell::OpenCell;
@@ -23,7 +23,7 @@ pub(crate) fn books(
 ) -> Result<OpenBooks, NoMemory>
     requires { HasWorked crew workers.datapaths.count workers.agents.count (length (map case_of cells)) }
     ensures cases { IfOk result (λ books. map case_in books ≡ map case_of cells) }
-    ensures led { IfOk result (λ books. AreLedTo HasNext cells (map state_of books)) }
+    ensures led { IfOk result (λ books. AreLedTo HasNext cells (map book_state books)) }
     ensures whole { IfOk result (λ books. All IsWhole books) }
 {
     drop(crew);

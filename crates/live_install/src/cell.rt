@@ -5,7 +5,7 @@ ghost use Rattle.live_install.specs.OpenWords.{legal, is_complete};
 ghost use Rattle.live_install.specs.Entries.{installed_of};
 ghost use Rattle.live_install.specs.OpenBooks.{IsOpenBookOf};
 ghost use Rattle.live_install.specs.OpenCells.{world_at, IsAfter, is_legal_at, HasAll, IsComplete, most_letters};
-ghost use Rattle.live_install.specs.OpenCells.{IsNextEntry, with_entry, Answered, ran_at, next_at};
+ghost use Rattle.live_install.specs.OpenCells.{IsNextEntry, with_entry, Answered, ran_at, next_step};
 
 use crate::account::Account;
 use crate::book::OpenBook;
@@ -122,11 +122,11 @@ impl OpenCell {
     /// Changes the flow to the program of the first accepted entry that hasn't been started, and returns its step. Nothing
     /// exactly where there is none; then nothing has changed.
     pub fn change(&mut self) -> Result<u32, Nothing>
-        ensures nothing { IsErr result ↔ (next_at self.old ≡ None) }
+        ensures nothing { IsErr result ↔ (next_step self.old ≡ None) }
         ensures ok { OnOk result (self.new ≡ record self.old { word = self.old.word ++ OpenLetter.G ∷ [] }) }
         ensures within { OnOk result (length self.new.word ≤ most_letters self.new.case) }
         ensures world { OnOk result (IsAfter self.old OpenLetter.G self.new) }
-        ensures step { IfOk result (λ step. next_at self.old ≡ Some step) }
+        ensures step { IfOk result (λ step. next_step self.old ≡ Some step) }
         ensures unchanged { OnErr result (self.new ≡ self.old) }
     {
         let Some(step) = self.state.next_step() else {

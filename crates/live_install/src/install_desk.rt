@@ -1,6 +1,6 @@
 //! The desk of an installer: texts built without a lock, entries and changes under the flow's lock.
 ghost use Rattle.std.specs.Prelude.{◌≡◌, ℕ, ◌<◌, ◌≤◌, Option, Some, None, option_map, [], ◌∷◌, length, is_some, slice_get, IfSome};
-ghost use Rattle.worker_desk.specs.Logs.{Known, Logs};
+ghost use Rattle.worker_desk.specs.Logs.{KnownLog, Logs};
 ghost use Rattle.worker_desk.specs.declared.event.Event.TheVariants.{Passed, Locked, Unlocked, Built, Installed, Changed};
 
 use crate::cell::OpenCell;

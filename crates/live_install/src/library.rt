@@ -3,7 +3,7 @@ ghost use Rattle.std.specs.Prelude.{◌≡◌, ◌+◌, ◌<◌, ◌≤◌, Some
 ghost use Rattle.std.specs.Option.{ForSome};
 ghost use Rattle.ccp_base.specs.Limits.{most_steps};
 ghost use Rattle.live_install.specs.BuiltTexts.{Answers};
-ghost use Rattle.live_install.specs.OpenCells.{next_at};
+ghost use Rattle.live_install.specs.OpenCells.{next_step};
 ghost use Rattle.live_install.specs.States.{next_from, first_accepted, accepted_from, cell_of, IsOpen};
 
 use crate::advance::built_at;
@@ -45,7 +45,7 @@ impl State {
     /// The step of the first accepted entry that hasn't been started, None exactly where there is none.
     pub(crate) fn next_step(&self) -> Option<u32>
         requires { IsOpen self.now }
-        ensures { result ≡ next_at (cell_of self.now) }
+        ensures { result ≡ next_step (cell_of self.now) }
     {
         let from = next_from(self.running);
         accepted_from(from, &self.entries.as_slice()[from as usize..])
@@ -54,7 +54,7 @@ impl State {
     /// Changes the flow to the program of this step.
     pub(crate) fn start(&mut self, step: u32)
         requires open_state { IsOpen self.old }
-        requires next { next_at (cell_of self.old) ≡ Some step }
+        requires next { next_step (cell_of self.old) ≡ Some step }
         ensures open_state { IsOpen self.new }
         ensures case { self.new.case ≡ self.old.case }
         ensures entries { self.new.entries ≡ self.old.entries }

@@ -2,7 +2,7 @@
 
 ghost use Rattle.std.specs.Prelude.{◌≡◌, ◌↔◌, ◌<◌, true, false, IsTrue, IfOk, OnOk};
 ghost use Rattle.live_install.specs.OpenCells.{IsComplete};
-ghost use Rattle.live_install.specs.WholeBooks.{IsWhole, state_of};
+ghost use Rattle.live_install.specs.WholeBooks.{IsWhole, book_state};
 
 use crate::book::OpenBook;
 use crate::cell::OpenCell;
@@ -21,7 +21,7 @@ impl LockedFlow for OpenCell {
     ghost use Rattle.live_install.specs.OpenCells.{world_at, IsComplete};
     ghost use Rattle.live_install.specs.NextLetter.{HasNext, letters_left};
     ghost use Rattle.live_install.specs.Hearings.{hearing_at};
-    ghost use Rattle.live_install.specs.WholeBooks.{IsWhole, state_of};
+    ghost use Rattle.live_install.specs.WholeBooks.{IsWhole, book_state};
 
     type Case = OpenCase;
 
@@ -33,7 +33,7 @@ impl LockedFlow for OpenCell {
 
     ghost fresh = { λ case. record { case = case; entries = []; word = [] } };
 
-    ghost flow_in = { λ book. state_of book };
+    ghost flow_in = { λ book. book_state book };
 
     ghost HasHeard = { λ old new heard. (new, heard) ≡ hearing_at old };
 
@@ -88,7 +88,7 @@ impl LockedFlow for OpenCell {
 fn whole_book(cell: OpenCell) -> OpenBook
     requires { IsComplete cell }
     ensures case { result.case ≡ cell.case }
-    ensures flow { state_of result ≡ cell }
+    ensures flow { book_state result ≡ cell }
     ensures whole { IsWhole result }
 {
     cell.finish()

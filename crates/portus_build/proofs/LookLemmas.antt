@@ -8,7 +8,7 @@ use Rattle.std.proofs.Math.Path.{PathP, to_path_p}
 use Rattle.ccp_base.specs.Limits.{most_fields}
 use Rattle.ccp_base.specs.declared.look.Look.{Look}
 use Rattle.portus_core.specs.declared.program.Decl.{Decl}
-use Rattle.portus_build.specs.Looks.{has_name, number_of}
+use Rattle.portus_build.specs.Looks.{has_name, declaration_number}
 
 abbrev IsBelow : Option ℕ → Type 0
 IsBelow number = ForSome number (λ n. n < 64)
@@ -41,5 +41,5 @@ same_look a b acked loss timeout rtt inflight cap mss ecn = λ i. record {
 }
 
 -- a program's declarations are all among these
-pub number_of-all : (name : List ℕ) (decls : List Decl) → length decls ≤ most_fields → number_of name decls ≡ position (has_name name) decls
+pub number_of-all : (name : List ℕ) (decls : List Decl) → length decls ≤ most_fields → declaration_number name decls ≡ position (has_name name) decls
 number_of-all name decls short = ap (position (has_name name)) (take_all most_fields decls short)

@@ -12,7 +12,7 @@ use Rattle.portus_lexer.specs.Scanning.{scan}
 use Rattle.portus_lexer.proofs.StrayScans.{stray_of-Err}
 use Rattle.portus_parser.specs.declared.fault.ParseFault.{ParseFault}
 use Rattle.portus_parser.specs.declared.fault.ParseFault.TheVariants.{SourceTooLong, NotText, Unexpected, BadNumeral, BadName, Nesting, Unclosed, NoMemory}
-use Rattle.portus_parser.specs.Readings.{read, unread, lexeme_in}
+use Rattle.portus_parser.specs.Readings.{read_lexemes, unread, lexeme_in}
 use Rattle.portus_parser.specs.Refusals as parsing
 use Rattle.portus_parser.specs.Spelling.{Spells}
 use Rattle.portus_parser.proofs.Exact.{Spells-tokens, RefusesLexemes-tokens}
@@ -44,7 +44,7 @@ lexical text (Unclosed place) h is = h
 lexical text NoMemory h is = absurd (cc)
 
 read_ends : (text : List ℕ) (tokens : List Token) → length text ≤ most_text_bytes → scan Gap first_place 0 text ≡ Ok tokens
-    → (end : Result (List Node) ParseFault) → read unread (map (lexeme_in text) tokens) ≡ end → EndsAs text end
+    → (end : Result (List Node) ParseFault) → read_lexemes unread (map (lexeme_in text) tokens) ≡ end → EndsAs text end
 read_ends text tokens short scanned (Ok forms) is = Spells-tokens text tokens forms short scanned is
 read_ends text tokens short scanned (Err fault) is =
     let lexemes = map (lexeme_in text) tokens in
@@ -53,7 +53,7 @@ read_ends text tokens short scanned (Err fault) is =
 
 scan_ends : (text : List ℕ) → length text ≤ most_text_bytes → (scanned : Result (List Token) Place) → scan Gap first_place 0 text ≡ scanned
     → EndsAs text (forms_in text scanned)
-scan_ends text short (Ok tokens) is = read_ends text tokens short is (read unread (map (lexeme_in text) tokens)) refl
+scan_ends text short (Ok tokens) is = read_ends text tokens short is (read_lexemes unread (map (lexeme_in text) tokens)) refl
 scan_ends text short (Err place) is = (short, stray_of-Err text place is)
 
 past : (most count : ℕ) → nat_lt most count ≡ true → most < count

@@ -10,7 +10,7 @@ use Rattle.portus_lexer.specs.Places.{first_place}
 use Rattle.portus_lexer.specs.Scanning.{scan}
 use Rattle.portus_parser.specs.declared.fault.ParseFault.{ParseFault}
 use Rattle.portus_parser.specs.declared.fault.ParseFault.TheVariants.{SourceTooLong, NotText}
-use Rattle.portus_parser.specs.Readings.{read, unread, lexeme_in}
+use Rattle.portus_parser.specs.Readings.{read_lexemes, unread, lexeme_in}
 use Rattle.scope_types.specs.declared.fault.ScopeFault.{ScopeFault}
 use Rattle.scope_types.specs.ProgramWalk.{source_walk}
 use Rattle.reg_compiler.specs.declared.fault.CompileFault.{CompileFault}
@@ -19,9 +19,9 @@ use Rattle.portus_build.specs.Texts.{IsBuiltFrom, IsNoProgram}
 use Rattle.portus_build.specs.declared.fault.BuildFault.{BuildFault}
 use Rattle.portus_build.specs.declared.fault.BuildFault.TheVariants.{Parse, Scope, Compile}
 
--- the forms that a text's tokens are read as; the scan of a text without tokens ends at a stray byte
+-- the forms that a text's tokens are read_lexemes as; the scan of a text without tokens ends at a stray byte
 abbrev pub forms_in : List ℕ → Result (List Token) Place → Result (List Node) ParseFault
-forms_in text (Ok tokens) = read unread (map (lexeme_in text) tokens)
+forms_in text (Ok tokens) = read_lexemes unread (map (lexeme_in text) tokens)
 forms_in text (Err place) = Err (NotText place)
 
 abbrev pub text_forms : List ℕ → Result (List Node) ParseFault

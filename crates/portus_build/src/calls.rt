@@ -3,7 +3,7 @@ ghost use Rattle.std.specs.Prelude.{◌≡◌, ◌≤◌, ◌<◌, length, posit
 ghost use Rattle.std.specs.Option.{ForSome};
 ghost use Rattle.std.specs.Str.{bytes_eq};
 ghost use Rattle.portus_core.specs.ProgramForm.{form_of};
-ghost use Rattle.portus_build.specs.Looks.{has_name, number_of, look_of};
+ghost use Rattle.portus_build.specs.Looks.{has_name, declaration_number, look_of};
 
 use ccp_base::Look;
 use portus_core::{Decl, Program};
@@ -25,14 +25,14 @@ pub fn look(program: &Program) -> Look
 }
 
 fn field_number(program: &Program, name: &[u8]) -> Option<u32>
-    ensures number { result ≡ number_of name.now (form_of program.now).fields }
+    ensures number { result ≡ declaration_number name.now (form_of program.now).fields }
     ensures below { ForSome result (λ n. n < 64) }
 {
     number_of(program.fields.as_slice(), name)
 }
 
 fn control_number(program: &Program, name: &[u8]) -> Option<u32>
-    ensures number { result ≡ number_of name.now (form_of program.now).controls }
+    ensures number { result ≡ declaration_number name.now (form_of program.now).controls }
     ensures below { ForSome result (λ n. n < 64) }
 {
     number_of(program.controls.as_slice(), name)
@@ -41,7 +41,7 @@ fn control_number(program: &Program, name: &[u8]) -> Option<u32>
 /// The number of the declaration with this name, counted from 0.
 fn number_of(decls: &[Decl], name: &[u8]) -> Option<u32>
     requires { length decls.now ≤ 64 }
-    ensures number { result ≡ number_of name.now decls.now }
+    ensures number { result ≡ declaration_number name.now decls.now }
     ensures below { ForSome result (λ n. n < 64) }
 {
     let index = index_of(decls, name)?;

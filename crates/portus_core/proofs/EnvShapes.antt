@@ -15,8 +15,8 @@ use Rattle.ccp_base.specs.Blending.{blended}
 use Rattle.ccp_base.specs.Chaining.{then_do}
 use Rattle.ccp_base.specs.Truth.{is_true}
 use Rattle.portus_core.specs.Value.{Cause, at_place, read_of}
-use Rattle.portus_core.specs.Command.{Going, written, written_where, value_in, command_of, body_of}
-use Rattle.portus_core.specs.Blocks.{begun, at_block, after_body, after_condition, blocks_of}
+use Rattle.portus_core.specs.Command.{Going, written, written_where, value_in, command_of, run_commands}
+use Rattle.portus_core.specs.Blocks.{before_blocks, at_block, after_body, after_condition, blocks_of}
 use Rattle.portus_core.specs.OneAcknowledgement.{IsEnvOf, reset, answered, settled, one_of}
 use Rattle.portus_core.specs.Epoch.{with_value, with_values, declared_env}
 
@@ -89,10 +89,10 @@ IsEnvOf-command form zero_micros ack going shape = record { fields = shape.field
 IsEnvOf-command form report ack going shape = shape
 IsEnvOf-command form fall ack going shape = shape
 
-IsEnvOf-body : (form : Form) (actions : List Action) (ack : Ack) (going : Going) → Keeps form going → IfOk (body_of actions ack going) (Keeps form)
+IsEnvOf-body : (form : Form) (actions : List Action) (ack : Ack) (going : Going) → Keeps form going → IfOk (run_commands actions ack going) (Keeps form)
 IsEnvOf-body form [] ack going shape = shape
 IsEnvOf-body form (action ∷ rest) ack going shape =
-    IfOk-then_do_from (command_of action ack going) (body_of rest ack) (Keeps form) (Keeps form) (IsEnvOf-command form action ack going shape) (λ done kept.
+    IfOk-then_do_from (command_of action ack going) (run_commands rest ack) (Keeps form) (Keeps form) (IsEnvOf-command form action ack going shape) (λ done kept.
     IsEnvOf-body form rest ack done kept)
 
 IsEnvOf-after_body : (form : Form) (falls : Bool) (rest : Going → Result Going Cause) (going : Going) → ((g : Going) → Keeps form g → IfOk (rest g) (Keeps form)) → Keeps form going → IfOk (after_body falls rest going) (Keeps form)
@@ -101,7 +101,7 @@ IsEnvOf-after_body form false rest going keeps shape = shape
 
 IsEnvOf-after_condition : (form : Form) (held : Bool) (body : List Action) (rest : Going → Result Going Cause) (ack : Ack) (going : Going) → ((g : Going) → Keeps form g → IfOk (rest g) (Keeps form)) → Keeps form going → IfOk (after_condition held body rest ack going) (Keeps form)
 IsEnvOf-after_condition form true body rest ack going keeps shape =
-    IfOk-then_do_from (body_of body ack going) (λ done. after_body done.falls rest done) (Keeps form) (Keeps form) (IsEnvOf-body form body ack going shape) (λ done kept.
+    IfOk-then_do_from (run_commands body ack going) (λ done. after_body done.falls rest done) (Keeps form) (Keeps form) (IsEnvOf-body form body ack going shape) (λ done kept.
     IsEnvOf-after_body form done.falls rest done keeps kept)
 IsEnvOf-after_condition form false body rest ack going keeps shape = keeps going shape
 
@@ -131,10 +131,10 @@ IsEnvOf-settled form env room (Err cause) shape kept = shape
 -- an acknowledgement keeps the shape of the env
 pub IsEnvOf-one_of : (form : Form) (env : Env) (ack : Ack) (room : Bool) → IsEnvOf form env → IsEnvOf form (one_of form env ack room).1
 IsEnvOf-one_of form env ack room shape =
-    IsEnvOf-settled form env room (blocks_of form.blocks ack (begun env)) shape (IsEnvOf-blocks form form.blocks ack (begun env) shape)
+    IsEnvOf-settled form env room (blocks_of form.blocks ack (before_blocks env)) shape (IsEnvOf-blocks form form.blocks ack (before_blocks env) shape)
 
 -- the same, in parts
-pub IsEnvOf-after_blocks : (form : Form) (parts : List Part) (ack : Ack) (env : Env) (going done : Going) → going ≡ begun env → IsEnvOf form env → blocks_of parts ack going ≡ Ok done → IsEnvOf form done.env
+pub IsEnvOf-after_blocks : (form : Form) (parts : List Part) (ack : Ack) (env : Env) (going done : Going) → going ≡ before_blocks env → IsEnvOf form env → blocks_of parts ack going ≡ Ok done → IsEnvOf form done.env
 IsEnvOf-after_blocks form parts ack env going done begins shape run =
-    let kept = subst (λ (g : Going). IfOk (blocks_of parts ack g) (λ d. IsEnvOf form d.env)) (sym begins) (IsEnvOf-blocks form parts ack (begun env) shape) in
+    let kept = subst (λ (g : Going). IfOk (blocks_of parts ack g) (λ d. IsEnvOf form d.env)) (sym begins) (IsEnvOf-blocks form parts ack (before_blocks env) shape) in
     subst (λ (r : Result Going Cause). IfOk r (λ d. IsEnvOf form d.env)) run kept

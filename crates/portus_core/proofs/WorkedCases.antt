@@ -12,8 +12,8 @@ use Rattle.portus_core.specs.declared.program.Decl.{Decl}
 use Rattle.ccp_base.specs.declared.operation.Op2.TheVariants as op
 use Rattle.portus_core.specs.declared.program.Var.TheVariants as var
 use Rattle.portus_core.specs.Programs.{Term, number, truth, name, pair, Action, set, ewma, zero_micros, report, fall, Part, Form}
-use Rattle.portus_core.specs.Epoch.{start_of, declared_env, Event, acknowledged, updated, Track, track_at, by_source, after}
-use Rattle.portus_core.specs.Reports.{Epoch, reports, tail, fault_of}
+use Rattle.portus_core.specs.Epoch.{epoch_start, declared_env, Event, acknowledged, updated, Track, track_at, by_source, after}
+use Rattle.portus_core.specs.Reports.{Epoch, reports, tail, epoch_fault}
 
 abbrev at : ℕ → Place
 at column = record { line = 1; column = column }
@@ -74,10 +74,10 @@ counter = program (volatile_num ∷ []) []
 abbrev three : List Event
 three = acked 1500 ∷ acked 1500 ∷ acked 1500 ∷ []
 
-starts_with_declared_values : start_of (program (plain 5 ∷ []) (plain 6 ∷ plain 7 ∷ []) []) ((reg.Control 1, 8) ∷ (reg.Cwnd, 9) ∷ []) 1 2 3 ≡ Ok (record { fields = 5 ∷ []; controls = 6 ∷ 8 ∷ []; cwnd = 9; rate = 2; zero = 3 })
+starts_with_declared_values : epoch_start (program (plain 5 ∷ []) (plain 6 ∷ plain 7 ∷ []) []) ((reg.Control 1, 8) ∷ (reg.Cwnd, 9) ∷ []) 1 2 3 ≡ Ok (record { fields = 5 ∷ []; controls = 6 ∷ 8 ∷ []; cwnd = 9; rate = 2; zero = 3 })
 starts_with_declared_values = refl
 
-has_no_such_control : start_of (program [] [] []) ((reg.Control 0, 5) ∷ []) 0 0 0 ≡ Err (BadRegister 0)
+has_no_such_control : epoch_start (program [] [] []) ((reg.Control 0, 5) ∷ []) 0 0 0 ≡ Err (BadRegister 0)
 has_no_such_control = refl
 
 reports_the_first_span : all_reports counter three ≡ spanning 0 2 0 (3000 ∷ []) ∷ []
@@ -131,7 +131,7 @@ overflowing = program (plain 0 ∷ []) []
 abbrev two : List Event
 two = at_time 1 ∷ at_time 2 ∷ []
 
-stops_at_an_overflow : (all_reports overflowing two ≡ []) × (fault_of (by_source overflowing) two (first_track overflowing) ≡ Some (0, (Overflow, at 63))) × (last_track overflowing two ≡ record { env = declared_env overflowing 0 0 0; is_stopped = true; first = 0; count = 2 })
+stops_at_an_overflow : (all_reports overflowing two ≡ []) × (epoch_fault (by_source overflowing) two (first_track overflowing) ≡ Some (0, (Overflow, at 63))) × (last_track overflowing two ≡ record { env = declared_env overflowing 0 0 0; is_stopped = true; first = 0; count = 2 })
 stops_at_an_overflow = (refl, refl, refl)
 
 stays_stopped_after_an_update : (last_track overflowing (at_time 1 ∷ updated ((reg.Cwnd, 4) ∷ []) ∷ at_time 2 ∷ [])) ≡ record { env = declared_env overflowing 4 0 0; is_stopped = true; first = 0; count = 2 }
@@ -141,7 +141,7 @@ abbrev dividing : Form
 dividing = program (plain 0 ∷ []) []
     (part (pair op.And (at 31) (truth false) (pair op.Eq (at 41) (number 1) (pair op.Div (at 45) (number 1) (number 0)))) (report ∷ []) ∷ [])
 
-works_out_both_parts : fault_of (by_source dividing) (at_time 1 ∷ []) (first_track dividing) ≡ Some (0, (ZeroDivisor, at 45))
+works_out_both_parts : epoch_fault (by_source dividing) (at_time 1 ∷ []) (first_track dividing) ≡ Some (0, (ZeroDivisor, at 45))
 works_out_both_parts = refl
 
 abbrev blending : ℕ → Form

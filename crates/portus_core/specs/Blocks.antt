@@ -6,11 +6,11 @@ use Rattle.ccp_base.specs.Truth.{is_true}
 use Rattle.portus_core.specs.declared.env.Env.{Env}
 use Rattle.portus_core.specs.Programs.{Action, Part}
 use Rattle.portus_core.specs.Value.{Cause, no_locals}
-use Rattle.portus_core.specs.Command.{Going, value_in, body_of}
+use Rattle.portus_core.specs.Command.{Going, value_in, run_commands}
 
 -- before the first block
-abbrev pub begun : Env → Going
-begun env = record { env = env; locals = no_locals; asked = false; falls = false }
+abbrev pub before_blocks : Env → Going
+before_blocks env = record { env = env; locals = no_locals; asked = false; falls = false }
 
 -- a block begins without locals, and doesn't fall through by itself
 abbrev pub at_block : Going → Going
@@ -23,7 +23,7 @@ after_body false rest going = Ok going
 
 -- the body runs if the condition is true
 abbrev pub after_condition : Bool → List Action → (Going → Result Going Cause) → Ack → Going → Result Going Cause
-after_condition true body rest ack going = then_do (body_of body ack going) (λ done. after_body done.falls rest done)
+after_condition true body rest ack going = then_do (run_commands body ack going) (λ done. after_body done.falls rest done)
 after_condition false body rest ack going = rest going
 
 -- the blocks in order

@@ -53,6 +53,6 @@ command_of report ack going = Ok (record going { asked = true })
 command_of fall ack going = Ok (record going { falls = true })
 
 -- the commands of a body in turn
-abbrev pub body_of : List Action → Ack → Going → Result Going Cause
-body_of [] ack going = Ok going
-body_of (action ∷ rest) ack going = then_do (command_of action ack going) (body_of rest ack)
+abbrev pub run_commands : List Action → Ack → Going → Result Going Cause
+run_commands [] ack going = Ok going
+run_commands (action ∷ rest) ack going = then_do (command_of action ack going) (run_commands rest ack)

@@ -3,7 +3,7 @@ use Rattle.std.specs.Prelude.{ℕ, ◌+◌, Bool, true, false, Option, Some, Non
 use Rattle.ccp_base.specs.declared.ack.Ack.{Ack}
 use Rattle.ccp_base.specs.declared.fields.FieldReg.{FieldReg}
 use Rattle.ccp_base.specs.declared.fields.FieldReg.TheVariants as reg
-use Rattle.ccp_base.specs.FieldReg.{Pair, first_bad}
+use Rattle.ccp_base.specs.FieldReg.{Pair, first_bad_pair}
 use Rattle.portus_core.specs.declared.env.Env.{Env}
 use Rattle.portus_core.specs.declared.env.Mean.{Mean}
 use Rattle.portus_core.specs.declared.env.Mean.TheVariants.{Quiet, Reported, Held, Fault}
@@ -40,8 +40,8 @@ start_from (Some i) values env = Err (BadRegister i)
 start_from None values env = Ok (with_values values env)
 
 -- the start of an epoch with these values
-abbrev pub start_of : Form → List Pair → ℕ → ℕ → ℕ → Result Env StartFault
-start_of form values cwnd rate now = start_from (first_bad (length form.controls) values) values (declared_env form cwnd rate now)
+abbrev pub epoch_start : Form → List Pair → ℕ → ℕ → ℕ → Result Env StartFault
+epoch_start form values cwnd rate now = start_from (first_bad_pair (length form.controls) values) values (declared_env form cwnd rate now)
 
 -- what happens in an epoch: an acknowledgement, with whether there is room for a report, or an update
 pub data Event : Type 0 where

@@ -8,7 +8,7 @@ use Rattle.portus_core.specs.declared.program.Decl.{Decl}
 use Rattle.portus_core.specs.Programs.{Form}
 use Rattle.portus_core.specs.Value.{Cause}
 use Rattle.portus_core.specs.Command.{Going}
-use Rattle.portus_core.specs.Blocks.{begun, blocks_of}
+use Rattle.portus_core.specs.Blocks.{before_blocks, blocks_of}
 
 -- an env of a program has a number for each field and each control variable that it declares; that each of its
 -- numbers is a value below 2^64 is what the types of `Env` say
@@ -37,4 +37,4 @@ settled form env room (Err cause) = (Fault cause.0 cause.1, env)
 
 -- what the program makes of one acknowledgement; `room` says whether there is room for a report
 abbrev pub one_of : Form → Env → Ack → Bool → Mean × Env
-one_of form env ack room = settled form env room (blocks_of form.blocks ack (begun env))
+one_of form env ack room = settled form env room (blocks_of form.blocks ack (before_blocks env))

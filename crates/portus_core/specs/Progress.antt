@@ -13,6 +13,6 @@ abbrev pub going_of : Progress → Going
 going_of progress = record { env = progress.env; locals = locals_of progress.locals; asked = progress.asked; falls = progress.falls }
 
 -- a run gave the state that the definition gives, or its fault
-abbrev pub IsRun : Result (Unit {0}) Cause → Progress → Result Going Cause → Type 0
-IsRun (Ok done) progress meant = meant ≡ Ok (going_of progress)
-IsRun (Err fault) progress meant = meant ≡ Err fault
+abbrev pub RunsAs : Result (Unit {0}) Cause → Progress → Result Going Cause → Type 0
+RunsAs (Ok done) progress meant = meant ≡ Ok (going_of progress)
+RunsAs (Err fault) progress meant = meant ≡ Err fault

@@ -55,11 +55,11 @@ fault_met (reported fields) at = None
 fault_met held at = None
 fault_met stopped at = None
 
-abbrev pub fault_at : {F : Type 0} → Reading F → Event → Track → Option (ℕ × F)
-fault_at reading (acknowledged ack room) track = fault_met (heard reading track.is_stopped track.env ack room).0 track.count
-fault_at reading (updated values) track = None
+abbrev pub event_fault : {F : Type 0} → Reading F → Event → Track → Option (ℕ × F)
+event_fault reading (acknowledged ack room) track = fault_met (heard reading track.is_stopped track.env ack room).0 track.count
+event_fault reading (updated values) track = None
 
 -- the fault that stopped the epoch, with the number of its acknowledgement
-abbrev pub fault_of : {F : Type 0} → Reading F → List Event → Track → Option (ℕ × F)
-fault_of reading [] track = None
-fault_of reading (event ∷ rest) track = option_or (fault_at reading event track) (fault_of reading rest (after_event reading event track))
+abbrev pub epoch_fault : {F : Type 0} → Reading F → List Event → Track → Option (ℕ × F)
+epoch_fault reading [] track = None
+epoch_fault reading (event ∷ rest) track = option_or (event_fault reading event track) (epoch_fault reading rest (after_event reading event track))

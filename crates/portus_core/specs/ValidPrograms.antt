@@ -10,7 +10,7 @@ use Rattle.portus_core.specs.Words.{is_field_name, is_control_name}
 use Rattle.portus_core.specs.Programs.{Term, number, truth, name, pair, Action, set, set_if, set_unless, ewma, zero_micros, report, fall, Part, Form}
 
 -- the names that an expression may use: the declared ones, and of each local of the body so far whether it is a Bool
-pub record Known : Type 0 where
+pub record KnownNames : Type 0 where
   pub fields : List Decl
   pub controls : List Decl
   pub locals : List Bool
@@ -25,7 +25,7 @@ is_bool_there (Some is_bool) = is_bool
 is_bool_there None = false
 
 -- whether the name has a meaning
-abbrev pub is_known : Known → Var → Bool
+abbrev pub is_known : KnownNames → Var → Bool
 is_known known (var.Field i) = nat_lt i (length known.fields)
 is_known known (var.Control i) = nat_lt i (length known.controls)
 is_known known (var.Local i) = nat_lt i (length known.locals)
@@ -35,7 +35,7 @@ is_known known var.Rate = true
 is_known known var.Micros = true
 
 -- whether the name is a Bool
-abbrev pub is_truth : Known → Var → Bool
+abbrev pub is_truth : KnownNames → Var → Bool
 is_truth known (var.Field i) = declares_truth (slice_get known.fields i)
 is_truth known (var.Control i) = declares_truth (slice_get known.controls i)
 is_truth known (var.Local i) = is_bool_there (slice_get known.locals i)
@@ -55,37 +55,37 @@ is_writable var.Cwnd = true
 is_writable var.Rate = true
 
 -- whether the expression is a Bool
-abbrev pub term_is_truth : Known → Term → Bool
+abbrev pub term_is_truth : KnownNames → Term → Bool
 term_is_truth known (number n) = false
 term_is_truth known (truth b) = true
 term_is_truth known (name v) = is_truth known v
 term_is_truth known (pair o place left right) = gives_truth o
 
 -- whether each name of the expression has a meaning
-abbrev pub is_term : Known → Term → Bool
+abbrev pub is_term : KnownNames → Term → Bool
 is_term known (number n) = nat_lt n (2 ^ 64)
 is_term known (truth b) = true
 is_term known (name v) = is_known known v
 is_term known (pair o place left right) = is_term known left && is_term known right
 
 -- an expression that is a Bool
-abbrev pub is_condition : Known → Term → Bool
+abbrev pub is_condition : KnownNames → Term → Bool
 is_condition known term = is_term known term && term_is_truth known term
 
 -- a value that may be assigned to the name: a Bool if the name is one
-abbrev pub fits_target : Known → Var → Term → Bool
+abbrev pub fits_target : KnownNames → Var → Term → Bool
 fits_target known v term = is_term known term && (not (is_truth known v) || term_is_truth known term)
 
 -- a name that has a meaning and may be assigned
-abbrev pub is_target : Known → Var → Bool
+abbrev pub is_target : KnownNames → Var → Bool
 is_target known v = is_known known v && is_writable v
 
 -- the first assignment of the body's next local
-abbrev pub is_next_local : Known → Var → Bool
+abbrev pub is_next_local : KnownNames → Var → Bool
 is_next_local known (var.Local i) = (i == length known.locals) && nat_lt i most_locals
 is_next_local known _ = false
 
-abbrev pub is_action : Known → Action → Bool
+abbrev pub is_action : KnownNames → Action → Bool
 is_action known (set v term) = (is_target known v && fits_target known v term) || (is_next_local known v && is_term known term)
 is_action known (set_if place v condition term) = is_target known v && is_condition known condition && fits_target known v term
 is_action known (set_unless place v condition term) = is_target known v && is_condition known condition && fits_target known v term
@@ -95,13 +95,13 @@ is_action known report = true
 is_action known fall = true
 
 -- the names with one more local, if there is one: whether it is a Bool
-abbrev pub with_local : Known → Bool → Bool → Known
-with_local known true is_bool = record { fields = known.fields; controls = known.controls; locals = known.locals ++ is_bool ∷ [] }
-with_local known false is_bool = known
+abbrev pub with_known_local : KnownNames → Bool → Bool → KnownNames
+with_known_local known true is_bool = record { fields = known.fields; controls = known.controls; locals = known.locals ++ is_bool ∷ [] }
+with_known_local known false is_bool = known
 
 -- the names after the command
-abbrev pub known_after : Known → Action → Known
-known_after known (set v term) = with_local known (is_next_local known v) (term_is_truth known term)
+abbrev pub known_after : KnownNames → Action → KnownNames
+known_after known (set v term) = with_known_local known (is_next_local known v) (term_is_truth known term)
 known_after known (set_if place v condition term) = known
 known_after known (set_unless place v condition term) = known
 known_after known (ewma place v weight term) = known
@@ -110,19 +110,19 @@ known_after known report = known
 known_after known fall = known
 
 -- whether each command is right at its place, and the body has exactly `locals` locals
-abbrev pub is_body : Known → ℕ → List Action → Bool
+abbrev pub is_body : KnownNames → ℕ → List Action → Bool
 is_body known locals [] = locals == length known.locals
 is_body known locals (action ∷ rest) = is_action known action && is_body (known_after known action) locals rest
 
-abbrev pub is_part : Known → Part → Bool
+abbrev pub is_part : KnownNames → Part → Bool
 is_part known part = is_condition known part.condition && is_body known part.locals part.body
 
-abbrev pub are_parts : Known → List Part → Bool
+abbrev pub are_parts : KnownNames → List Part → Bool
 are_parts known [] = true
 are_parts known (part ∷ rest) = is_part known part && are_parts known rest
 
 -- the names that each block begins with
-abbrev pub known_of : Form → Known
+abbrev pub known_of : Form → KnownNames
 known_of form = record { fields = form.fields; controls = form.controls; locals = [] }
 
 -- a declared value, which for a Bool is 0 or 1

@@ -3,7 +3,7 @@ use Rattle.std.specs.Prelude.{ℕ, ◌-◌, Option, None, unwrap_or, Result, Ok,
 use Rattle.ccp_base.specs.declared.arithmetic.FaultKind.{FaultKind}
 use Rattle.ccp_base.specs.declared.place.Place.{Place}
 use Rattle.ccp_base.specs.declared.ack.Ack.{Ack}
-use Rattle.ccp_base.specs.Acknowledgement.{number_of, prim}
+use Rattle.ccp_base.specs.Acknowledgement.{bool_number, prim}
 use Rattle.ccp_base.specs.Chaining.{then_do}
 use Rattle.ccp_base.specs.Operations.{applied}
 use Rattle.portus_core.specs.declared.env.Env.{Env}
@@ -40,7 +40,7 @@ read_of (var.Prim n) env locals ack = prim n ack
 -- the value of an expression: of an operation both parts are evaluated, the left one first
 abbrev pub value_of : Term → Env → Locals → Ack → Result ℕ Cause
 value_of (number n) env locals ack = Ok n
-value_of (truth b) env locals ack = Ok (number_of b)
+value_of (truth b) env locals ack = Ok (bool_number b)
 value_of (name v) env locals ack = Ok (read_of v env locals ack)
 value_of (pair o place left right) env locals ack =
     then_do (value_of left env locals ack) (λ a. then_do (value_of right env locals ack) (λ b. at_place place (applied o a b)))

@@ -2,9 +2,9 @@
 ghost use Rattle.std.specs.Prelude.{IsTrue, map};
 ghost use Rattle.portus_core.specs.Programs.{action_of, part_of};
 ghost use Rattle.portus_core.specs.Runnable.{is_runnable_body, are_runnable};
-ghost use Rattle.portus_core.specs.Command.{body_of};
+ghost use Rattle.portus_core.specs.Command.{run_commands};
 ghost use Rattle.portus_core.specs.Blocks.{blocks_of};
-ghost use Rattle.portus_core.specs.Progress.{going_of, IsRun};
+ghost use Rattle.portus_core.specs.Progress.{going_of, RunsAs};
 
 use crate::command::command;
 use crate::program::{Block, Cmd};
@@ -15,7 +15,7 @@ use ccp_base::{Ack, is_true};
 /// Runs the blocks in order, up to the first one whose body runs and doesn't fall through.
 pub fn blocks(blocks: &[Block], ack: &Ack, progress: &mut Progress) -> Result<(), Fault>
     requires { IsTrue (are_runnable (map part_of blocks.now)) }
-    ensures { IsRun result progress.new (blocks_of (map part_of blocks.now) ack.entry.now (going_of progress.old)) }
+    ensures { RunsAs result progress.new (blocks_of (map part_of blocks.now) ack.entry.now (going_of progress.old)) }
 {
     for block in blocks {
         progress.enter_block();
@@ -32,7 +32,7 @@ pub fn blocks(blocks: &[Block], ack: &Ack, progress: &mut Progress) -> Result<()
 /// Runs the commands in turn.
 fn body(cmds: &[Cmd], ack: &Ack, progress: &mut Progress) -> Result<(), Fault>
     requires { IsTrue (is_runnable_body (map action_of cmds.now)) }
-    ensures { IsRun result progress.new (body_of (map action_of cmds.now) ack.entry.now (going_of progress.old)) }
+    ensures { RunsAs result progress.new (run_commands (map action_of cmds.now) ack.entry.now (going_of progress.old)) }
 {
     for cmd in cmds {
         command(cmd, ack, progress)?;

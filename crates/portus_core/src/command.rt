@@ -3,7 +3,7 @@ ghost use Rattle.std.specs.Prelude.{IsTrue};
 ghost use Rattle.portus_core.specs.Programs.{action_of};
 ghost use Rattle.portus_core.specs.Runnable.{is_runnable};
 ghost use Rattle.portus_core.specs.Command.{command_of};
-ghost use Rattle.portus_core.specs.Progress.{going_of, IsRun};
+ghost use Rattle.portus_core.specs.Progress.{going_of, RunsAs};
 
 use crate::program::Cmd;
 use crate::progress::Progress;
@@ -13,7 +13,7 @@ use ccp_base::{Ack, blended, is_true};
 /// Runs a command. The condition and the value are both evaluated, whatever the condition is.
 pub fn command(cmd: &Cmd, ack: &Ack, progress: &mut Progress) -> Result<(), Fault>
     requires { IsTrue (is_runnable (action_of cmd.now)) }
-    ensures { IsRun result progress.new (command_of (action_of cmd.now) ack.entry.now (going_of progress.old)) }
+    ensures { RunsAs result progress.new (command_of (action_of cmd.now) ack.entry.now (going_of progress.old)) }
 {
     match cmd {
         Cmd::Set(var, expr) => {

@@ -4,7 +4,7 @@ ghost use Rattle.portus_core.specs.Programs.{term_of};
 ghost use Rattle.portus_core.specs.Value.{read_of};
 ghost use Rattle.portus_core.specs.Runnable.{has_place};
 ghost use Rattle.portus_core.specs.Command.{written, written_where, value_in};
-ghost use Rattle.portus_core.specs.Blocks.{begun, at_block};
+ghost use Rattle.portus_core.specs.Blocks.{before_blocks, at_block};
 ghost use Rattle.portus_core.specs.Progress.{going_of};
 
 use crate::env::Env;
@@ -26,7 +26,7 @@ pub struct Progress {
 impl Progress {
     /// Before the first block.
     pub fn begin(env: Env) -> Self
-        ensures { going_of result ≡ begun env }
+        ensures { going_of result ≡ before_blocks env }
     {
         Progress {
             env,

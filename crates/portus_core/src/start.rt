@@ -3,7 +3,7 @@ ghost use Rattle.std.specs.Prelude.{◌≡◌, ◌↔◌, ℕ, ◌<◌, IfOk, If
 ghost use Rattle.portus_core.specs.declared.program.Decl.{Decl};
 ghost use Rattle.portus_core.specs.ProgramForm.{form_of};
 ghost use Rattle.portus_core.specs.OneAcknowledgement.{IsEnvOf};
-ghost use Rattle.portus_core.specs.Epoch.{with_value, with_values, declared_env, start_of};
+ghost use Rattle.portus_core.specs.Epoch.{with_value, with_values, declared_env, epoch_start};
 
 use crate::env::{Env, StartFault};
 use crate::program::{Decl, Program};
@@ -22,11 +22,11 @@ impl Program {
         rate: u64,
         now: u64,
     ) -> Result<Env, StartFault>
-        ensures started { IfOk result (λ env. start_of (form_of self.now) values.now cwnd rate now ≡ Ok env) }
+        ensures started { IfOk result (λ env. epoch_start (form_of self.now) values.now cwnd rate now ≡ Ok env) }
         ensures shape { IfOk result (λ env. IsEnvOf (form_of self.now) env) }
 
         // A register that doesn't exist is refused before memory is taken.
-        ensures refused { let meant = start_of (form_of self.now) values.now cwnd rate now in
+        ensures refused { let meant = epoch_start (form_of self.now) values.now cwnd rate now in
             (i : ℕ) → (result ≡ Err (StartFault.BadRegister i)) ↔ (meant ≡ Err (StartFault.BadRegister i)) }
     {
         if let Some(i) = values.first_bad(self.controls.len()) {

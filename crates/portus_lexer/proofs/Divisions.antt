@@ -3,7 +3,7 @@ use Rattle.std.specs.Prelude.{◌≡◌, ℕ, ◌+◌, Bool, false, IsTrue, List
 use Rattle.std.proofs.Common.{arith, refl, ap, ◌∙◌}
 use Rattle.ccp_base.specs.declared.place.Place.{Place}
 use Rattle.portus_lexer.specs.declared.token.Token.{Token}
-use Rattle.portus_lexer.specs.Places.{step, place_after}
+use Rattle.portus_lexer.specs.Places.{place_past_byte, place_after}
 use Rattle.portus_lexer.specs.Lexemes.{Lexeme, token_of, is_blank, is_lexeme, AreLexemes}
 
 -- bytes have lexemes with these tokens
@@ -13,7 +13,7 @@ pub record Divides (commented : Bool) (at : Place) (number : ℕ) (bytes : List 
   pub same : tokens ≡ map token_of lexemes
 
 -- a byte that goes to the blank text in front
-pub AreLexemes-byte : (commented next : Bool) (b : ℕ) (at : Place) (number : ℕ) (bytes : List ℕ) (lexemes : List Lexeme) → ((gap : List ℕ) → is_blank commented (b ∷ gap) ≡ is_blank next gap) → AreLexemes next (step at b) (number + 1) bytes lexemes → AreLexemes commented at number (b ∷ bytes) lexemes
+pub AreLexemes-byte : (commented next : Bool) (b : ℕ) (at : Place) (number : ℕ) (bytes : List ℕ) (lexemes : List Lexeme) → ((gap : List ℕ) → is_blank commented (b ∷ gap) ≡ is_blank next gap) → AreLexemes next (place_past_byte at b) (number + 1) bytes lexemes → AreLexemes commented at number (b ∷ bytes) lexemes
 AreLexemes-byte commented next b at number bytes [] same h = same bytes ∙ h
 AreLexemes-byte commented next b at number bytes (lexeme ∷ rest) same h =
     let begins = h.0 in (
@@ -29,7 +29,7 @@ AreLexemes-byte commented next b at number bytes (lexeme ∷ rest) same h =
       h.1,
     )
 
-pub Divides-byte : (commented next : Bool) (b : ℕ) (at : Place) (number : ℕ) (bytes : List ℕ) (tokens : List Token) → ((gap : List ℕ) → is_blank commented (b ∷ gap) ≡ is_blank next gap) → Divides next (step at b) (number + 1) bytes tokens → Divides commented at number (b ∷ bytes) tokens
+pub Divides-byte : (commented next : Bool) (b : ℕ) (at : Place) (number : ℕ) (bytes : List ℕ) (tokens : List Token) → ((gap : List ℕ) → is_blank commented (b ∷ gap) ≡ is_blank next gap) → Divides next (place_past_byte at b) (number + 1) bytes tokens → Divides commented at number (b ∷ bytes) tokens
 Divides-byte commented next b at number bytes tokens same h = record {
   lexemes = h.lexemes;
   divided = AreLexemes-byte commented next b at number bytes h.lexemes same h.divided;

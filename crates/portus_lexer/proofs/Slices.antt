@@ -10,7 +10,7 @@ use Rattle.std.proofs.lemmas.Bool.{and_parts, or_cases}
 use Rattle.ccp_base.specs.declared.place.Place.{Place}
 use Rattle.portus_lexer.specs.Bytes.{is_atom_byte}
 use Rattle.portus_lexer.specs.Places.{place_after}
-use Rattle.portus_lexer.specs.Lexemes.{Lexeme, token_of, text_of, slice_of, IsSpan, is_lexeme, is_parenthesis, is_atom, ends_atom, AreLexemes, ended}
+use Rattle.portus_lexer.specs.Lexemes.{Lexeme, token_of, lexeme_text, slice_of, IsSpan, is_lexeme, is_parenthesis, is_atom, ends_atom, AreLexemes, ended}
 
 -- whether bytes end with LF
 abbrev ends_line : List ℕ → Bool
@@ -72,7 +72,7 @@ slice-front front text others whole within h =
     ∙ take-append_seam text others
 
 abbrev pub AreSlices : List ℕ → List Lexeme → Type 0
-AreSlices whole lexemes = map (slice_of whole) (map token_of lexemes) ≡ map text_of lexemes
+AreSlices whole lexemes = map (slice_of whole) (map token_of lexemes) ≡ map lexeme_text lexemes
 
 -- the front of the ended text, up to a lexeme's first byte
 fronted : (front gap rest bytes whole : List ℕ) → bytes ≡ gap ++ rest → front ++ bytes ≡ ended whole → (front ++ gap) ++ rest ≡ ended whole

@@ -7,7 +7,7 @@ use Rattle.portus_lexer.specs.declared.token.Token.{Token}
 use Rattle.portus_lexer.specs.declared.within.Within.{Within}
 use Rattle.portus_lexer.specs.declared.within.Within.TheVariants.{Gap, Comment, Atom}
 use Rattle.portus_lexer.specs.Bytes.{is_allowed, is_atom_byte}
-use Rattle.portus_lexer.specs.Places.{first_place, step}
+use Rattle.portus_lexer.specs.Places.{first_place, place_past_byte}
 use Rattle.portus_lexer.specs.Strays.{stray_from, stray_of}
 use Rattle.portus_lexer.specs.Scanning.{scan, with_front, after_mark, within_next, put_by}
 
@@ -50,17 +50,17 @@ refusal_of-scan [] Gap at i = refl
 refusal_of-scan [] Comment at i = refl
 refusal_of-scan [] (Atom place start) at i = refl
 refusal_of-scan (b ∷ rest) Comment at i =
-    refusal_of-with_front [] (scan (if b == 10 then Gap else Comment) (step at b) (i + 1) rest)
-    ∙ refusal_of-scan rest (if b == 10 then Gap else Comment) (step at b) (i + 1)
-    ∙ ap (λ c. stray_from c (step at b) rest) (is_comment-ended (b == 10))
+    refusal_of-with_front [] (scan (if b == 10 then Gap else Comment) (place_past_byte at b) (i + 1) rest)
+    ∙ refusal_of-scan rest (if b == 10 then Gap else Comment) (place_past_byte at b) (i + 1)
+    ∙ ap (λ c. stray_from c (place_past_byte at b) rest) (is_comment-ended (b == 10))
 refusal_of-scan (b ∷ rest) Gap at i =
     let next = within_next Gap at i b in
-    step_refusal (is_allowed b) at (put_by Gap at i b) (scan next (step at b) (i + 1) rest) (stray_from (b == 35) (step at b) rest)
-    (refusal_of-scan rest next (step at b) (i + 1) ∙ ap (λ c. stray_from c (step at b) rest) (is_comment-Gap b at i (is_atom_byte b) refl))
+    step_refusal (is_allowed b) at (put_by Gap at i b) (scan next (place_past_byte at b) (i + 1) rest) (stray_from (b == 35) (place_past_byte at b) rest)
+    (refusal_of-scan rest next (place_past_byte at b) (i + 1) ∙ ap (λ c. stray_from c (place_past_byte at b) rest) (is_comment-Gap b at i (is_atom_byte b) refl))
 refusal_of-scan (b ∷ rest) (Atom place start) at i =
     let next = within_next (Atom place start) at i b in
-    step_refusal (is_allowed b) at (put_by (Atom place start) at i b) (scan next (step at b) (i + 1) rest) (stray_from (b == 35) (step at b) rest)
-    (refusal_of-scan rest next (step at b) (i + 1) ∙ ap (λ c. stray_from c (step at b) rest) (is_comment-Gap b place start (is_atom_byte b) refl))
+    step_refusal (is_allowed b) at (put_by (Atom place start) at i b) (scan next (place_past_byte at b) (i + 1) rest) (stray_from (b == 35) (place_past_byte at b) rest)
+    (refusal_of-scan rest next (place_past_byte at b) (i + 1) ∙ ap (λ c. stray_from c (place_past_byte at b) rest) (is_comment-Gap b place start (is_atom_byte b) refl))
 
 -- tokens are found exactly where no byte is stray
 pub stray_of-Ok : (text : List ℕ) (tokens : List Token) → scan Gap first_place 0 text ≡ Ok tokens → stray_of text ≡ None

@@ -8,9 +8,9 @@ use Rattle.portus_lexer.specs.declared.token.Token.{Token}
 use Rattle.portus_lexer.specs.declared.within.Within.{Within}
 use Rattle.portus_lexer.specs.declared.within.Within.TheVariants.{Gap, Comment, Atom}
 use Rattle.portus_lexer.specs.Bytes.{is_atom_byte}
-use Rattle.portus_lexer.specs.Places.{first_place, step, place_after}
+use Rattle.portus_lexer.specs.Places.{first_place, place_past_byte, place_after}
 use Rattle.portus_lexer.specs.Lexemes.{Lexeme, token_of, is_blank, is_space, is_lexeme, is_parenthesis, is_atom, ends_atom, AreLexemes, AreLexemesOf, ended}
-use Rattle.portus_lexer.specs.Scanning.{scan, with_front, closed, is_refused, put_by, within_next}
+use Rattle.portus_lexer.specs.Scanning.{scan, with_front, open_atom_token, is_refused, put_by, within_next}
 use Rattle.portus_lexer.proofs.ByteKinds.{Mark, space, tab, carriage_return, line_feed, opening, closing, hash, Mark-space}
 use Rattle.portus_lexer.proofs.Scans.{with_front-nothing, scan-Gap_atom, scan-Atom_atom, scan-Atom_ended}
 
@@ -30,14 +30,14 @@ abbrev Walks : List ℕ → Type 0
 Walks gap = (commented : Bool) (at : Place) (i : ℕ) (others : List ℕ) → is_blank commented gap ≡ true → scan (begun commented) at i (gap ++ others) ≡ scan Gap (place_after at gap) (i + length gap) others
 
 -- one byte of a blank text
-walked : (b : ℕ) (rest : List ℕ) (next : Bool) (at : Place) (i : ℕ) (others : List ℕ) → Walks rest → is_blank next rest ≡ true → with_front [] (scan (begun next) (step at b) (i + 1) (rest ++ others)) ≡ scan Gap (place_after (step at b) rest) (i + suc (length rest)) others
+walked : (b : ℕ) (rest : List ℕ) (next : Bool) (at : Place) (i : ℕ) (others : List ℕ) → Walks rest → is_blank next rest ≡ true → with_front [] (scan (begun next) (place_past_byte at b) (i + 1) (rest ++ others)) ≡ scan Gap (place_after (place_past_byte at b) rest) (i + suc (length rest)) others
 walked b rest next at i others walks blank =
-    with_front-nothing (scan (begun next) (step at b) (i + 1) (rest ++ others))
-    ∙ walks next (step at b) (i + 1) others blank
-    ∙ moved Gap (place_after (step at b) rest) ((i + 1) + length rest) (i + suc (length rest)) others (omega arith)
+    with_front-nothing (scan (begun next) (place_past_byte at b) (i + 1) (rest ++ others))
+    ∙ walks next (place_past_byte at b) (i + 1) others blank
+    ∙ moved Gap (place_after (place_past_byte at b) rest) ((i + 1) + length rest) (i + suc (length rest)) others (omega arith)
 
 abbrev WalksFrom : ℕ → List ℕ → Type 0
-WalksFrom b rest = (at : Place) (i : ℕ) (others : List ℕ) → is_blank false (b ∷ rest) ≡ true → scan Gap at i (b ∷ (rest ++ others)) ≡ scan Gap (place_after (step at b) rest) (i + suc (length rest)) others
+WalksFrom b rest = (at : Place) (i : ℕ) (others : List ℕ) → is_blank false (b ∷ rest) ≡ true → scan Gap at i (b ∷ (rest ++ others)) ≡ scan Gap (place_after (place_past_byte at b) rest) (i + suc (length rest)) others
 
 walked_space : (b : ℕ) (rest : List ℕ) → Mark b → (b == 35) ≡ false → Walks rest → WalksFrom b rest
 walked_space b rest space other walks = λ at i others blank. walked 32 rest false at i others walks blank
@@ -62,7 +62,7 @@ scan-blank : (gap : List ℕ) → Walks gap
 scan-blank [] true at i others blank = absurd (cc)
 scan-blank [] false at i others blank = moved Gap at i (i + 0) others (omega arith)
 scan-blank (b ∷ rest) true at i others blank =
-    ap (λ w. with_front [] (scan w (step at b) (i + 1) (rest ++ others))) (within_after (b == 10))
+    ap (λ w. with_front [] (scan w (place_past_byte at b) (i + 1) (rest ++ others))) (within_after (b == 10))
     ∙ walked b rest (not (b == 10)) at i others (scan-blank rest) blank
 scan-blank (b ∷ rest) false at i others blank = walked_kind b rest (b == 35) refl (scan-blank rest) at i others blank
 
@@ -72,11 +72,11 @@ scan-atom [] place start at i others all = moved (Atom place start) at i (i + 0)
 scan-atom (b ∷ rest) place start at i others all =
     let parts = and_parts (is_atom_byte b) (list_all is_atom_byte rest) all in
     scan-Atom_atom place start b at i (rest ++ others) parts.0
-    ∙ scan-atom rest place start (step at b) (i + 1) others parts.1
-    ∙ moved (Atom place start) (place_after (step at b) rest) ((i + 1) + length rest) (i + suc (length rest)) others (omega arith)
+    ∙ scan-atom rest place start (place_past_byte at b) (i + 1) others parts.1
+    ∙ moved (Atom place start) (place_after (place_past_byte at b) rest) ((i + 1) + length rest) (i + suc (length rest)) others (omega arith)
 
 -- it puts the atom where it ends
-scan-atom_end : (place : Place) (start : ℕ) (at : Place) (i : ℕ) (others : List ℕ) → ends_atom others ≡ true → scan (Atom place start) at i others ≡ with_front (closed (Atom place start) i) (scan Gap at i others)
+scan-atom_end : (place : Place) (start : ℕ) (at : Place) (i : ℕ) (others : List ℕ) → ends_atom others ≡ true → scan (Atom place start) at i others ≡ with_front (open_atom_token (Atom place start) i) (scan Gap at i others)
 scan-atom_end place start at i [] ends = refl
 scan-atom_end place start at i (b ∷ rest) ends = scan-Atom_ended place start b at i rest (not-true (is_atom_byte b) ends)
 
@@ -88,9 +88,9 @@ scan-lexeme_atom [] at i others atom ends = absurd (cc)
 scan-lexeme_atom (b ∷ rest) at i others atom ends =
     let parts = and_parts (is_atom_byte b) (list_all is_atom_byte rest) atom in
     scan-Gap_atom b at i (rest ++ others) parts.0
-    ∙ scan-atom rest at i (step at b) (i + 1) others parts.1
-    ∙ moved (Atom at i) (place_after (step at b) rest) ((i + 1) + length rest) (i + suc (length rest)) others (omega arith)
-    ∙ scan-atom_end at i (place_after (step at b) rest) (i + suc (length rest)) others ends
+    ∙ scan-atom rest at i (place_past_byte at b) (i + 1) others parts.1
+    ∙ moved (Atom at i) (place_after (place_past_byte at b) rest) ((i + 1) + length rest) (i + suc (length rest)) others (omega arith)
+    ∙ scan-atom_end at i (place_after (place_past_byte at b) rest) (i + suc (length rest)) others ends
 
 scan-lexeme_parenthesis : (text : List ℕ) (at : Place) (i : ℕ) (others : List ℕ) → is_parenthesis text ≡ true → PutsLexeme at i text others
 scan-lexeme_parenthesis [] at i others h = absurd (cc)
@@ -127,7 +127,7 @@ scan-ended [] Gap at i = refl
 scan-ended [] Comment at i = refl
 scan-ended [] (Atom place start) at i = refl
 scan-ended (b ∷ rest) within at i =
-    ap (λ (outcome : Result (List Token) Place). if is_refused within b then Err at else with_front (put_by within at i b) outcome) (scan-ended rest (within_next within at i b) (step at b) (i + 1))
+    ap (λ (outcome : Result (List Token) Place). if is_refused within b then Err at else with_front (put_by within at i b) outcome) (scan-ended rest (within_next within at i b) (place_past_byte at b) (i + 1))
 
 pub scan-lexemes : (text : List ℕ) (lexemes : List Lexeme) → AreLexemesOf text lexemes → scan Gap first_place 0 text ≡ Ok (map token_of lexemes)
 scan-lexemes text lexemes h = sym (scan-ended text Gap first_place 0) ∙ complete lexemes false first_place 0 (ended text) h

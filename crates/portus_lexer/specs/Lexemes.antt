@@ -44,7 +44,7 @@ abbrev pub token_of : Lexeme → Token
 token_of lexeme = record { place = lexeme.place; start = lexeme.start; end = lexeme.start + length lexeme.text }
 
 -- bytes begin with a blank text, or the rest of a comment and a blank text, and then this lexeme
-pub record BeginsWith (commented : Bool) (at : Place) (number : ℕ) (bytes : List ℕ) (lexeme : Lexeme) : Type 0 where
+pub record BeginsWithLexeme (commented : Bool) (at : Place) (number : ℕ) (bytes : List ℕ) (lexeme : Lexeme) : Type 0 where
   pub gap : List ℕ
   pub others : List ℕ
   pub whole : bytes ≡ gap ++ (lexeme.text ++ others)
@@ -57,7 +57,7 @@ pub record BeginsWith (commented : Bool) (at : Place) (number : ℕ) (bytes : Li
 abbrev pub AreLexemes : Bool → Place → ℕ → List ℕ → List Lexeme → Type 0
 AreLexemes commented at number bytes [] = IsTrue (is_blank commented bytes)
 AreLexemes commented at number bytes (lexeme ∷ rest) =
-    (begins : BeginsWith commented at number bytes lexeme)
+    (begins : BeginsWithLexeme commented at number bytes lexeme)
     × AreLexemes false (place_after lexeme.place lexeme.text) (lexeme.start + length lexeme.text) begins.others rest
 
 -- a text with LF at its end, so that each comment ends before a LF
@@ -71,8 +71,8 @@ AreLexemesOf text lexemes = AreLexemes false first_place 0 (ended text) lexemes
 abbrev pub slice_of : List ℕ → Token → List ℕ
 slice_of text token = slice_range text token.start token.end
 
-abbrev pub text_of : Lexeme → List ℕ
-text_of lexeme = lexeme.text
+abbrev pub lexeme_text : Lexeme → List ℕ
+lexeme_text lexeme = lexeme.text
 
 -- a token's span is within the text, and isn't empty
 abbrev pub IsSpan : List ℕ → Token → Type 0
@@ -84,4 +84,4 @@ pub record AreTokens (text : List ℕ) (tokens : List Token) : Type 0 where
   pub divided : AreLexemesOf text lexemes
   pub same : tokens ≡ map token_of lexemes
   pub spans : All (IsSpan text) tokens
-  pub slices : map (slice_of text) tokens ≡ map text_of lexemes
+  pub slices : map (slice_of text) tokens ≡ map lexeme_text lexemes

@@ -8,7 +8,7 @@ use Rattle.portus_lexer.specs.declared.token.LexFault.TheVariants.{NotText, NoMe
 use Rattle.portus_lexer.specs.declared.within.Within.{Within}
 use Rattle.portus_lexer.specs.declared.within.Within.TheVariants.{Gap, Comment, Atom}
 use Rattle.portus_lexer.specs.Bytes.{is_allowed, is_atom_byte}
-use Rattle.portus_lexer.specs.Places.{step}
+use Rattle.portus_lexer.specs.Places.{place_past_byte}
 
 -- whether the byte ends the scan
 abbrev pub is_refused : Within → ℕ → Bool
@@ -26,10 +26,10 @@ within_next Gap at i b = if is_atom_byte b then Atom at i else after_mark b
 within_next (Atom place start) at i b = if is_atom_byte b then Atom place start else after_mark b
 
 -- the token of an atom that is open
-abbrev pub closed : Within → ℕ → List Token
-closed (Atom place start) i = record { place = place; start = start; end = i } ∷ []
-closed Gap i = []
-closed Comment i = []
+abbrev pub open_atom_token : Within → ℕ → List Token
+open_atom_token (Atom place start) i = record { place = place; start = start; end = i } ∷ []
+open_atom_token Gap i = []
+open_atom_token Comment i = []
 
 abbrev pub parenthesis : Place → ℕ → ℕ → List Token
 parenthesis at i b = if b == 40 || b == 41 then record { place = at; start = i; end = i + 1 } ∷ [] else []
@@ -38,7 +38,7 @@ parenthesis at i b = if b == 40 || b == 41 then record { place = at; start = i; 
 abbrev pub put_by : Within → Place → ℕ → ℕ → List Token
 put_by Comment at i b = []
 put_by Gap at i b = if is_atom_byte b then [] else parenthesis at i b
-put_by (Atom place start) at i b = if is_atom_byte b then [] else closed (Atom place start) i ++ parenthesis at i b
+put_by (Atom place start) at i b = if is_atom_byte b then [] else open_atom_token (Atom place start) i ++ parenthesis at i b
 
 abbrev pub with_front : List Token → Result (List Token) Place → Result (List Token) Place
 with_front front (Ok rest) = Ok (front ++ rest)
@@ -46,11 +46,11 @@ with_front front (Err place) = Err place
 
 -- the tokens from here on, or the place of the byte that ended the scan
 abbrev pub scan : Within → Place → ℕ → List ℕ → Result (List Token) Place
-scan within at i [] = Ok (closed within i)
+scan within at i [] = Ok (open_atom_token within i)
 scan within at i (b ∷ rest) =
     if is_refused within b
     then Err at
-    else with_front (put_by within at i b) (scan (within_next within at i b) (step at b) (i + 1) rest)
+    else with_front (put_by within at i b) (scan (within_next within at i b) (place_past_byte at b) (i + 1) rest)
 
 -- a fault of the scan at this place
 abbrev pub FaultsAt : Place → Bool → LexFault → Type 0

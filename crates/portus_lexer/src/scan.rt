@@ -3,8 +3,8 @@ ghost use Rattle.std.specs.Prelude.{◌≡◌, ◌+◌, ◌<◌, ◌≤◌, ◌+
 ghost use Rattle.ccp_base.specs.Limits.{most_text_bytes};
 ghost use Rattle.portus_lexer.specs.declared.within.Within.TheVariants.{Gap};
 ghost use Rattle.portus_lexer.specs.Bytes.{is_allowed, is_atom_byte};
-ghost use Rattle.portus_lexer.specs.Places.{first_place, step};
-ghost use Rattle.portus_lexer.specs.Scanning.{is_refused, after_mark, within_next, closed, parenthesis, put_by, FaultsAt};
+ghost use Rattle.portus_lexer.specs.Places.{first_place, place_past_byte};
+ghost use Rattle.portus_lexer.specs.Scanning.{is_refused, after_mark, within_next, open_atom_token, parenthesis, put_by, FaultsAt};
 
 use crate::token::{LexFault, Token, Tokens};
 use crate::within::Within;
@@ -38,7 +38,7 @@ fn is_atom_byte(byte: u8) -> bool
 fn step(place: Place, byte: u8) -> Place
     requires lines { place.line ≤ most_text_bytes }
     requires columns { place.column ≤ most_text_bytes }
-    ensures { result ≡ step place byte }
+    ensures { result ≡ place_past_byte place byte }
 {
     if byte == b'\n' {
         Place {
@@ -119,7 +119,7 @@ impl Scan {
 
     /// Appends the open atom, if there is one, to the tokens.
     pub fn close(&self, tokens: &mut Tokens) -> Result<(), LexFault>
-        ensures ok { OnOk result (tokens.new ≡ tokens.old ++ closed self.now.within self.now.at) }
+        ensures ok { OnOk result (tokens.new ≡ tokens.old ++ open_atom_token self.now.within self.now.at) }
         ensures refused { IfErr result (FaultsAt self.now.place false) }
     {
         if let Within::Atom(place, start) = self.within {
@@ -170,7 +170,7 @@ impl Scan {
     pub fn read(self, tokens: &mut Tokens, byte: u8) -> Result<Self, LexFault>
         requires { self.at < most_text_bytes }
         ensures number { IfOk result (λ next. next.at ≡ self.at + 1) }
-        ensures place { IfOk result (λ next. next.place ≡ step self.place byte) }
+        ensures place { IfOk result (λ next. next.place ≡ place_past_byte self.place byte) }
         ensures within { IfOk result (λ next. next.within ≡ within_next self.within self.place self.at byte) }
         ensures allowed { OnOk result (is_refused self.within byte ≡ false) }
         ensures tokens { OnOk result (tokens.new ≡ tokens.old ++ put_by self.within self.place self.at byte) }

@@ -21,7 +21,7 @@ use Rattle.portus_parser.specs.declared.fault.ParseFault.TheVariants.{SourceTooL
 use Rattle.portus_parser.specs.LexFaults.{lex_fault}
 use Rattle.portus_parser.specs.Spelling.{Spells}
 use Rattle.portus_parser.specs.Refusals.{refusal_of, RefusesLexemes, IsRefused}
-use Rattle.portus_parser.specs.Readings.{read, unread, lexeme_in, EndsReading}
+use Rattle.portus_parser.specs.Readings.{read_lexemes, unread, lexeme_in, EndsReading}
 use Rattle.portus_parser.specs.Outcomes.{RefusesAs, IsExact, IsSettled}
 use Rattle.portus_parser.proofs.Joins.{lexemes-again, lexemes-unique}
 use Rattle.portus_parser.proofs.Spelled.{listed, collected-listed, lexed}
@@ -29,11 +29,11 @@ use Rattle.portus_parser.proofs.Finishes.{SpellsParts-from_read}
 use Rattle.portus_parser.proofs.FirstFaults.{fault_read, fault_read-unread}
 use Rattle.portus_parser.proofs.Lexical.{is_lexical, lexical_if, lexical-refusal_of}
 
--- a text that spells forms has lexemes that are read as these forms
+-- a text that spells forms has lexemes that are read_lexemes as these forms
 record ReadsForms (text : List ℕ) (forms : Nodes) : Type 0 where
   lexemes : List Lexeme
   divided : AreLexemesOf text lexemes
-  reads : read unread lexemes ≡ Ok (listed forms)
+  reads : read_lexemes unread lexemes ≡ Ok (listed forms)
 
 reads_forms : (text : List ℕ) (forms : Nodes) → Spells text forms → ReadsForms text forms
 reads_forms text forms h =
@@ -41,18 +41,18 @@ reads_forms text forms h =
     record {
       lexemes = l.lexemes;
       divided = l.divided;
-      reads = ap (read unread) (sym (append-nil l.lexemes)) ∙ l.reads [] [] [] refl;
+      reads = ap (read_lexemes unread) (sym (append-nil l.lexemes)) ∙ l.reads [] [] [] refl;
     }
 
 no_stray : (text : List ℕ) (lexemes : List Lexeme) → AreLexemesOf text lexemes → stray_of text ≡ None
 no_stray text lexemes h = stray_of-Ok text (map token_of lexemes) (scan-lexemes text lexemes h)
 
-reads_once : (text : List ℕ) (lexemes : List Lexeme) (forms : Nodes) → AreLexemesOf text lexemes → Spells text forms → read unread lexemes ≡ Ok (listed forms)
+reads_once : (text : List ℕ) (lexemes : List Lexeme) (forms : Nodes) → AreLexemesOf text lexemes → Spells text forms → read_lexemes unread lexemes ≡ Ok (listed forms)
 reads_once text lexemes forms h spells =
     let r = reads_forms text forms spells in
-    ap (read unread) (lexemes-unique text lexemes r.lexemes h r.divided) ∙ r.reads
+    ap (read_lexemes unread) (lexemes-unique text lexemes r.lexemes h r.divided) ∙ r.reads
 
-refuses_once : (text : List ℕ) (lexemes : List Lexeme) (fault : ParseFault) → AreLexemesOf text lexemes → RefusesLexemes text fault → fault_read (read unread lexemes) ≡ Some fault
+refuses_once : (text : List ℕ) (lexemes : List Lexeme) (fault : ParseFault) → AreLexemesOf text lexemes → RefusesLexemes text fault → fault_read (read_lexemes unread lexemes) ≡ Some fault
 refuses_once text lexemes fault h refuses =
     fault_read-unread lexemes ∙ ap refusal_of (lexemes-unique text lexemes refuses.lexemes h refuses.divided) ∙ refuses.first
 
@@ -106,7 +106,7 @@ exact-stray text place short stray = record {
 }
 
 -- what a text of its length that has lexemes is refused by
-first-lexical : (text : List ℕ) (lexemes : List Lexeme) → length text ≤ 65536 → AreLexemesOf text lexemes → (refusal : ParseFault) → IsRefused text refusal → fault_read (read unread lexemes) ≡ Some refusal
+first-lexical : (text : List ℕ) (lexemes : List Lexeme) → length text ≤ 65536 → AreLexemesOf text lexemes → (refusal : ParseFault) → IsRefused text refusal → fault_read (read_lexemes unread lexemes) ≡ Some refusal
 first-lexical text lexemes short h SourceTooLong k = absurd (omega (arith, k))
 first-lexical text lexemes short h (NotText place) k = strayed text place lexemes k.1 h
 first-lexical text lexemes short h (Unexpected place) k = refuses_once text lexemes (Unexpected place) h k
@@ -116,7 +116,7 @@ first-lexical text lexemes short h (Nesting place) k = refuses_once text lexemes
 first-lexical text lexemes short h (Unclosed place) k = refuses_once text lexemes (Unclosed place) h k
 first-lexical text lexemes short h NoMemory k = absurd k
 
-exact-found : (text : List ℕ) (lexemes : List Lexeme) (source : Source) → length text ≤ 65536 → AreLexemesOf text lexemes → read unread lexemes ≡ Ok (map node_of source.forms.items) → IsExact text (Ok source)
+exact-found : (text : List ℕ) (lexemes : List Lexeme) (source : Source) → length text ≤ 65536 → AreLexemesOf text lexemes → read_lexemes unread lexemes ≡ Ok (map node_of source.forms.items) → IsExact text (Ok source)
 exact-found text lexemes source short h k = record {
   found = record { short = short; spelled = SpellsParts-from_read lexemes first_place 0 (ended text) (map node_of source.forms.items) h k };
   only = λ forms spells.
@@ -137,7 +137,7 @@ is_refused text lexemes short h (Nesting place) e lexical = record { short = sho
 is_refused text lexemes short h (Unclosed place) e lexical = record { short = short; lexemes = lexemes; divided = h; first = e }
 is_refused text lexemes short h NoMemory e lexical = absurd (cc)
 
-exact-refused : (text : List ℕ) (lexemes : List Lexeme) (fault : ParseFault) → length text ≤ 65536 → AreLexemesOf text lexemes → read unread lexemes ≡ Err fault → IsExact text (Err fault)
+exact-refused : (text : List ℕ) (lexemes : List Lexeme) (fault : ParseFault) → length text ≤ 65536 → AreLexemesOf text lexemes → read_lexemes unread lexemes ≡ Err fault → IsExact text (Err fault)
 exact-refused text lexemes fault short h k =
     let is : refusal_of lexemes ≡ Some fault = sym (fault_read-unread lexemes) ∙ ap fault_read k in
     let lexical : is_lexical fault ≡ true = sym (ap lexical_if is) ∙ lexical-refusal_of lexemes in
@@ -152,7 +152,7 @@ exact-refused text lexemes fault short h k =
           inl same;
     }
 
-exact-ended : (text : List ℕ) (lexemes : List Lexeme) (outcome : Result Source ParseFault) → length text ≤ 65536 → AreLexemesOf text lexemes → IfOk outcome (λ source. read unread lexemes ≡ Ok (map node_of source.forms.items)) → IfErr outcome (EndsReading (read unread lexemes)) → IsExact text outcome
+exact-ended : (text : List ℕ) (lexemes : List Lexeme) (outcome : Result Source ParseFault) → length text ≤ 65536 → AreLexemesOf text lexemes → IfOk outcome (λ source. read_lexemes unread lexemes ≡ Ok (map node_of source.forms.items)) → IfErr outcome (EndsReading (read_lexemes unread lexemes)) → IsExact text outcome
 exact-ended text lexemes (Ok source) short h k e = exact-found text lexemes source short h k
 exact-ended text lexemes (Err NoMemory) short h k e = exact-memory text
 exact-ended text lexemes (Err SourceTooLong) short h k e = exact-refused text lexemes SourceTooLong short h e
@@ -164,12 +164,12 @@ exact-ended text lexemes (Err (Nesting place)) short h k e = exact-refused text 
 exact-ended text lexemes (Err (Unclosed place)) short h k e = exact-refused text lexemes (Unclosed place) short h e
 
 -- what a reading of a text's tokens ends with is exact
-pub exact-read : (text : List ℕ) (tokens : List Token) (outcome : Result Source ParseFault) → length text ≤ 65536 → AreTokens text tokens → IfOk outcome (λ source. read unread (map (lexeme_in text) tokens) ≡ Ok (map node_of source.forms.items)) → IfErr outcome (EndsReading (read unread (map (lexeme_in text) tokens))) → IsExact text outcome
+pub exact-read : (text : List ℕ) (tokens : List Token) (outcome : Result Source ParseFault) → length text ≤ 65536 → AreTokens text tokens → IfOk outcome (λ source. read_lexemes unread (map (lexeme_in text) tokens) ≡ Ok (map node_of source.forms.items)) → IfErr outcome (EndsReading (read_lexemes unread (map (lexeme_in text) tokens))) → IsExact text outcome
 exact-read text tokens outcome short are k e =
     let again = lexemes-again text tokens are in
     exact-ended text are.lexemes outcome short are.divided
-    (subst (λ (ls : List Lexeme). IfOk outcome (λ source. read unread ls ≡ Ok (map node_of source.forms.items))) again k)
-    (subst (λ (ls : List Lexeme). IfErr outcome (EndsReading (read unread ls))) again e)
+    (subst (λ (ls : List Lexeme). IfOk outcome (λ source. read_lexemes unread ls ≡ Ok (map node_of source.forms.items))) again k)
+    (subst (λ (ls : List Lexeme). IfErr outcome (EndsReading (read_lexemes unread ls))) again e)
 
 -- a text that has no tokens
 pub exact-tokens : (text : List ℕ) (fault : LexFault) (refusal : ParseFault) → length text ≤ 65536 → HasCause text fault → refusal ≡ lex_fault fault → IsExact text (Err refusal)
@@ -206,7 +206,7 @@ spells-apart text forms refusal h k =
 abbrev Settled : List ℕ → Type 0
 Settled text = ((forms : Nodes) × Spells text forms) ⊎ ((refusal : ParseFault) × IsRefused text refusal)
 
-settled_read : (text : List ℕ) (lexemes : List Lexeme) (outcome : Result (List Node) ParseFault) → length text ≤ 65536 → AreLexemesOf text lexemes → read unread lexemes ≡ outcome → Settled text
+settled_read : (text : List ℕ) (lexemes : List Lexeme) (outcome : Result (List Node) ParseFault) → length text ≤ 65536 → AreLexemesOf text lexemes → read_lexemes unread lexemes ≡ outcome → Settled text
 settled_read text lexemes (Ok forms) short h e = inl (collected forms, record { short = short; spelled = SpellsParts-from_read lexemes first_place 0 (ended text) forms h e })
 settled_read text lexemes (Err fault) short h e =
     let is : refusal_of lexemes ≡ Some fault = sym (fault_read-unread lexemes) ∙ ap fault_read e in
@@ -215,7 +215,7 @@ settled_read text lexemes (Err fault) short h e =
 settled_scan : (text : List ℕ) (outcome : Result (List Token) Place) → length text ≤ 65536 → scan Gap first_place 0 text ≡ outcome → Settled text
 settled_scan text (Ok tokens) short e =
     let are = AreTokens-from_scan text tokens e in
-    settled_read text are.lexemes (read unread are.lexemes) short are.divided refl
+    settled_read text are.lexemes (read_lexemes unread are.lexemes) short are.divided refl
 settled_scan text (Err place) short e = inr (NotText place, (short, stray_of-Err text place e))
 
 settled : (text : List ℕ) → Settled text
@@ -233,10 +233,10 @@ IsSettled-always text = record {
 }
 
 -- what a text spells, and what it is refused by, from its tokens
-pub Spells-tokens : (text : List ℕ) (tokens : List Token) (forms : List Node) → length text ≤ 65536 → scan Gap first_place 0 text ≡ Ok tokens → read unread (map (lexeme_in text) tokens) ≡ Ok forms → Spells text (collected forms)
+pub Spells-tokens : (text : List ℕ) (tokens : List Token) (forms : List Node) → length text ≤ 65536 → scan Gap first_place 0 text ≡ Ok tokens → read_lexemes unread (map (lexeme_in text) tokens) ≡ Ok forms → Spells text (collected forms)
 Spells-tokens text tokens forms short e k =
     let are = AreTokens-from_scan text tokens e in
-    record { short = short; spelled = SpellsParts-from_read are.lexemes first_place 0 (ended text) forms are.divided (sym (ap (read unread) (lexemes-again text tokens are)) ∙ k) }
+    record { short = short; spelled = SpellsParts-from_read are.lexemes first_place 0 (ended text) forms are.divided (sym (ap (read_lexemes unread) (lexemes-again text tokens are)) ∙ k) }
 
 pub RefusesLexemes-tokens : (text : List ℕ) (tokens : List Token) (fault : ParseFault) → length text ≤ 65536 → scan Gap first_place 0 text ≡ Ok tokens → refusal_of (map (lexeme_in text) tokens) ≡ Some fault → RefusesLexemes text fault
 RefusesLexemes-tokens text tokens fault short e k =

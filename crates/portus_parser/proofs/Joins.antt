@@ -5,7 +5,7 @@ use Rattle.std.proofs.lemmas.Bool.{and_parts, and_from, or_cases, or_left, or_ri
 use Rattle.ccp_base.specs.declared.place.Place.{Place}
 use Rattle.portus_lexer.specs.declared.token.Token.{Token}
 use Rattle.portus_lexer.specs.Places.{first_place, place_after}
-use Rattle.portus_lexer.specs.Lexemes.{Lexeme, token_of, text_of, slice_of, is_blank, is_space, is_lexeme, is_parenthesis, is_atom, ends_atom, AreLexemes, AreLexemesOf, AreTokens, ended}
+use Rattle.portus_lexer.specs.Lexemes.{Lexeme, token_of, lexeme_text, slice_of, is_blank, is_space, is_lexeme, is_parenthesis, is_atom, ends_atom, AreLexemes, AreLexemesOf, AreTokens, ended}
 use Rattle.portus_lexer.proofs.Scans.{place_after-append}
 use Rattle.portus_lexer.proofs.Uniqueness.{scan-lexemes}
 use Rattle.portus_lexer.proofs.Slices.{slices}
@@ -85,11 +85,11 @@ AreLexemes-append (lexeme ∷ rest) commented at i front back others h k ends =
           (moved (place_after at front) (place_after (place_after lexeme.place lexeme.text) begins.others) (i + length front) ((lexeme.start + length lexeme.text) + length begins.others) back others there number k) ends,
     )
 
-again : (text : List ℕ) (lexemes : List Lexeme) → map (slice_of text) (map token_of lexemes) ≡ map text_of lexemes → map (lexeme_in text) (map token_of lexemes) ≡ lexemes
+again : (text : List ℕ) (lexemes : List Lexeme) → map (slice_of text) (map token_of lexemes) ≡ map lexeme_text lexemes → map (lexeme_in text) (map token_of lexemes) ≡ lexemes
 again text [] h = refl
 again text (lexeme ∷ rest) h =
     let here : slice_of text (token_of lexeme) ≡ lexeme.text = cc in
-    let others : map (slice_of text) (map token_of rest) ≡ map text_of rest = cc in
+    let others : map (slice_of text) (map token_of rest) ≡ map lexeme_text rest = cc in
     ap (λ (b : List ℕ). record { place = lexeme.place; start = lexeme.start; text = b } ∷ map (lexeme_in text) (map token_of rest)) here
     ∙ ap (λ xs. lexeme ∷ xs) (again text rest others)
 

@@ -8,9 +8,9 @@ use Rattle.portus_lexer.specs.Lexemes.{Lexeme}
 use Rattle.portus_parser.specs.declared.fault.ParseFault.{ParseFault}
 use Rattle.portus_parser.specs.declared.fault.ParseFault.TheVariants.{SourceTooLong, NotText, Unexpected, BadNumeral, BadName, Nesting, Unclosed, NoMemory}
 use Rattle.ccp_base.specs.Numerals.{numeral_of}
-use Rattle.portus_parser.specs.Atoms.{atom_of, number_at, begins_with_digit, is_word}
+use Rattle.portus_parser.specs.Atoms.{atom_of, numeral_node, begins_with_digit, is_word}
 use Rattle.std.specs.Result.{result_err}
-use Rattle.portus_parser.specs.Refusals.{is_opening, is_closing, open_after, fault_of, first_fault, last_unclosed, refusal_of}
+use Rattle.portus_parser.specs.Refusals.{is_opening, is_closing, open_after, lexeme_fault, first_fault, last_unclosed, refusal_of}
 
 -- a refusal of a text's lexemes
 abbrev pub is_lexical : ParseFault → Bool
@@ -35,7 +35,7 @@ choice : (test : Bool) (left right : Option ParseFault) → lexical_if left ≡ 
 choice true left right h k = h
 choice false left right h k = k
 
-numeral_fault : (place : Place) (value : Option ℕ) → lexical_if (result_err (number_at place value)) ≡ true
+numeral_fault : (place : Place) (value : Option ℕ) → lexical_if (result_err (numeral_node place value)) ≡ true
 numeral_fault place (Some value) = refl
 numeral_fault place None = refl
 
@@ -49,10 +49,10 @@ atom_choice false left right h k = k
 
 atom_fault : (place : Place) (text : List ℕ) → lexical_if (result_err (atom_of place text)) ≡ true
 atom_fault place text =
-    atom_choice (begins_with_digit text) (number_at place (numeral_of text)) (if is_word text then Ok (word place text) else Err (BadName place))
+    atom_choice (begins_with_digit text) (numeral_node place (numeral_of text)) (if is_word text then Ok (word place text) else Err (BadName place))
     (numeral_fault place (numeral_of text)) (word_fault (is_word text) place text)
 
-one_fault : (open_lists : ℕ) (lexeme : Lexeme) → lexical_if (fault_of open_lists lexeme) ≡ true
+one_fault : (open_lists : ℕ) (lexeme : Lexeme) → lexical_if (lexeme_fault open_lists lexeme) ≡ true
 one_fault open_lists lexeme =
     let atom = result_err (atom_of lexeme.place lexeme.text) in
     let inner = if is_closing lexeme.text then None else atom in
@@ -63,7 +63,7 @@ one_fault open_lists lexeme =
 first_faults : (lexemes : List Lexeme) (open_lists : ℕ) → lexical_if (first_fault open_lists lexemes) ≡ true
 first_faults [] open_lists = refl
 first_faults (lexeme ∷ rest) open_lists =
-    either (fault_of open_lists lexeme) (first_fault (open_after open_lists lexeme.text) rest) (one_fault open_lists lexeme) (first_faults rest (open_after open_lists lexeme.text))
+    either (lexeme_fault open_lists lexeme) (first_fault (open_after open_lists lexeme.text) rest) (one_fault open_lists lexeme) (first_faults rest (open_after open_lists lexeme.text))
 
 unclosed_fault : (place : Option Place) → lexical_if (option_map Unclosed place) ≡ true
 unclosed_fault None = refl

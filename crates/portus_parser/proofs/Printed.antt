@@ -4,7 +4,7 @@ use Rattle.std.proofs.Common.{arith, refl, ap, sym, ◌∙◌, subst, append_ass
 use Rattle.ccp_base.specs.declared.place.Place.{Place}
 use Rattle.portus_core.specs.Trees.{Node, number, word, list, Nodes, none, more}
 use Rattle.portus_core.specs.PrintedTree.{printed_of, printed_after, printed_forms}
-use Rattle.portus_lexer.specs.Places.{first_place, step, place_after}
+use Rattle.portus_lexer.specs.Places.{first_place, place_past_byte, place_after}
 use Rattle.portus_lexer.specs.Lexemes.{is_blank, ends_atom, ended}
 use Rattle.portus_parser.specs.Spelling.{IsListAround, SpellsParts}
 use Rattle.portus_parser.specs.PrintedBack.{node_without_places, without_places, PrintsBack}
@@ -17,7 +17,7 @@ abbrev mutual
   placed_node : Place → Node → Node
   placed_node at (number place value) = number at value
   placed_node at (word place name) = word at name
-  placed_node at (list place parts) = list at (placed (codes " ") [] (step at 40) parts)
+  placed_node at (list place parts) = list at (placed (codes " ") [] (place_past_byte at 40) parts)
 
   -- nodes with their places, the first one after this gap and each later one after another
   placed : List ℕ → List ℕ → Place → Nodes → Nodes
@@ -32,7 +32,7 @@ same-placed (more (number place value) rest) between gap at =
 same-placed (more (word place name) rest) between gap at =
     ap (more (word first_place name)) (same-placed rest between between (place_after (place_after at gap) name))
 same-placed (more (list place own) rest) between gap at =
-    ap (λ parts. more (list first_place parts) (without_places rest)) (same-placed own (codes " ") [] (step (place_after at gap) 40))
+    ap (λ parts. more (list first_place parts) (without_places rest)) (same-placed own (codes " ") [] (place_past_byte (place_after at gap) 40))
     ∙ ap (more (node_without_places (placed_node (place_after at gap) (list place own)))) (same-placed rest between between (place_after (place_after at gap) (printed_of (list place own))))
 
 -- each atom ends before a space or the end of its list
@@ -71,7 +71,7 @@ spells_after (more (list place own) rest) depth at there bytes gap blank h =
     let node = list place own in
     let after = place_after begins (printed_of node) in
     let around = list_around depth from begins split.part h.1.0.0 place own h.1.0.1.0 in
-    let within = spells_after own (depth + 1) (step from 40) (step begins 40) h.1.0.0 [] refl h.1.0.1.1 in
+    let within = spells_after own (depth + 1) (place_past_byte from 40) (place_past_byte begins 40) h.1.0.0 [] refl h.1.0.1.1 in
     parts-more (placed_node begins node) (placed (codes " ") (codes " ") after rest) depth there gap (printed_of node) (printed_after (codes " ") rest) blank
     (printed_after [] own, (around, within))
     (spells_after rest depth (place_after from split.part) after split.others (codes " ") refl h.1.1)
@@ -92,7 +92,7 @@ spells_forms (more (list place own) rest) at there bytes gap blank h =
     let node = list place own in
     let after = place_after begins (printed_of node) in
     let around = list_around 0 from begins split.part h.1.0.0 place own h.1.0.1.0 in
-    let within = spells_after own 1 (step from 40) (step begins 40) h.1.0.0 [] refl h.1.0.1.1 in
+    let within = spells_after own 1 (place_past_byte from 40) (place_past_byte begins 40) h.1.0.0 [] refl h.1.0.1.1 in
     let back = (10 ∷ []) ++ ended (printed_forms rest) in
     let spelled = parts-more (placed_node begins node) (placed (codes "\n") (codes "\n") after rest) 0 there gap (printed_of node) back blank
     (printed_after [] own, (around, within))

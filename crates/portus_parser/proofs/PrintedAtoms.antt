@@ -14,7 +14,7 @@ use Rattle.portus_lexer.specs.Bytes.{is_atom_byte}
 use Rattle.portus_lexer.specs.Lexemes.{is_atom, ends_atom}
 use Rattle.portus_parser.specs.declared.fault.ParseFault.TheVariants.{BadName}
 use Rattle.ccp_base.specs.Numerals.{is_digit, numeral_of}
-use Rattle.portus_parser.specs.Atoms.{begins_with_digit, number_at, is_word, atom_of}
+use Rattle.portus_parser.specs.Atoms.{begins_with_digit, numeral_node, is_word, atom_of}
 use Rattle.portus_parser.specs.Spelling.{SpellsAtom}
 use Rattle.portus_parser.proofs.Numerals.{decimal_from, numeral_from, numeral_of-digits, numeral_fits}
 
@@ -62,7 +62,7 @@ digits_begin_with_digit : (ds : List ℕ) → AreDigits ds → 0 < length ds →
 digits_begin_with_digit [] h some = absurd (omega arith)
 digits_begin_with_digit (d ∷ ds) h some = (and_parts (is_digit d) (list_all is_digit ds) h).0
 
-has_value : (digit here : Bool) (at place : Place) (text : List ℕ) (own : Option ℕ) (value : ℕ) → (if digit then number_at at own else (if here then Ok (word at text) else Err (BadName at))) ≡ Ok (number place value) → own ≡ Some value
+has_value : (digit here : Bool) (at place : Place) (text : List ℕ) (own : Option ℕ) (value : ℕ) → (if digit then numeral_node at own else (if here then Ok (word at text) else Err (BadName at))) ≡ Ok (number place value) → own ≡ Some value
 has_value true here at place text (Some n) value h = let same : n ≡ value = cc in ap Some same
 has_value true here at place text None value h = absurd (cc)
 has_value false true at place text own value h = absurd (cc)
@@ -78,7 +78,7 @@ record IsWordItself (digit here : Bool) (text name : List ℕ) : Type 0 where
   is : here ≡ true
   same : text ≡ name
 
-word_itself : (digit here : Bool) (at place : Place) (text name : List ℕ) (value : Option ℕ) → (if digit then number_at at value else (if here then Ok (word at text) else Err (BadName at))) ≡ Ok (word place name) → IsWordItself digit here text name
+word_itself : (digit here : Bool) (at place : Place) (text name : List ℕ) (value : Option ℕ) → (if digit then numeral_node at value else (if here then Ok (word at text) else Err (BadName at))) ≡ Ok (word place name) → IsWordItself digit here text name
 word_itself true here at place text name (Some value) h = absurd (cc)
 word_itself true here at place text name None h = absurd (cc)
 word_itself false true at place text name value h = record { no_digit = refl; is = refl; same = cc }
@@ -93,7 +93,7 @@ spells_number depth at there part others back place value h ends =
     record {
       inside = h.inside;
       atom = and_from (is_atom (decimal value)) (ends_atom back) (digits_are_atom (decimal value) digits some) ends;
-      spelled = rw (digits_begin_with_digit (decimal value) digits some) (ap (number_at there) (numeral_of-decimal value fits));
+      spelled = rw (digits_begin_with_digit (decimal value) digits some) (ap (numeral_node there) (numeral_of-decimal value fits));
     }
 
 -- a word spells itself at any place

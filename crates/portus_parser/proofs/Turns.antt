@@ -13,9 +13,9 @@ use Rattle.portus_lexer.specs.Lexemes.{is_lexeme, is_parenthesis, is_atom, ends_
 use Rattle.portus_parser.specs.declared.fault.ParseFault.{ParseFault}
 use Rattle.portus_parser.specs.declared.fault.ParseFault.TheVariants.{BadName}
 use Rattle.ccp_base.specs.Numerals.{numeral_of}
-use Rattle.portus_parser.specs.Atoms.{atom_of, number_at, begins_with_digit, is_word}
+use Rattle.portus_parser.specs.Atoms.{atom_of, numeral_node, begins_with_digit, is_word}
 use Rattle.portus_parser.specs.Refusals.{is_opening, is_closing}
-use Rattle.portus_parser.specs.Readings.{Opened, with_part, turn_of}
+use Rattle.portus_parser.specs.Readings.{Opened, with_part, reading_after}
 
 pub is_opening-true : (text : List ℕ) → is_opening text ≡ true → text ≡ 40 ∷ []
 is_opening-true text h = (bytes_eq-Decides text (40 ∷ [])).0 h
@@ -59,7 +59,7 @@ is_list (Ok (word place name)) = false
 is_list (Ok (list place parts)) = true
 is_list (Err fault) = false
 
-is_list-number : (place : Place) (value : Option ℕ) → is_list (number_at place value) ≡ false
+is_list-number : (place : Place) (value : Option ℕ) → is_list (numeral_node place value) ≡ false
 is_list-number place (Some value) = refl
 is_list-number place None = refl
 
@@ -73,13 +73,13 @@ is_list-choice false left right h k = k
 
 pub is_list-atom : (place : Place) (text : List ℕ) → is_list (atom_of place text) ≡ false
 is_list-atom place text =
-    is_list-choice (begins_with_digit text) (number_at place (numeral_of text)) (if is_word text then Ok (word place text) else Err (BadName place))
+    is_list-choice (begins_with_digit text) (numeral_node place (numeral_of text)) (if is_word text then Ok (word place text) else Err (BadName place))
     (is_list-number place (numeral_of text)) (is_list-word (is_word text) place text (BadName place))
 
 -- a turn at an opening parenthesis, where fewer than 64 lists are open
-pub turn-open : (place : Place) (opens : List Opened) (parts : List Node) → length opens < 64 → turn_of (record { opens = opens; parts = parts }) place (40 ∷ []) ≡ Ok (record { opens = record { place = place; before = parts } ∷ opens; parts = [] })
+pub turn-open : (place : Place) (opens : List Opened) (parts : List Node) → length opens < 64 → reading_after (record { opens = opens; parts = parts }) place (40 ∷ []) ≡ Ok (record { opens = record { place = place; before = parts } ∷ opens; parts = [] })
 turn-open place opens parts room = rw (lt-leb 64 (length opens) room) refl
 
-pub turn-atom : (place : Place) (text : List ℕ) (opens : List Opened) (parts : List Node) (node : Node) → 0 < length opens → is_atom text ≡ true → atom_of place text ≡ Ok node → turn_of (record { opens = opens; parts = parts }) place text ≡ Ok (record { opens = opens; parts = parts ++ node ∷ [] })
+pub turn-atom : (place : Place) (text : List ℕ) (opens : List Opened) (parts : List Node) (node : Node) → 0 < length opens → is_atom text ≡ true → atom_of place text ≡ Ok node → reading_after (record { opens = opens; parts = parts }) place text ≡ Ok (record { opens = opens; parts = parts ++ node ∷ [] })
 turn-atom place text [] parts node some atom h = absurd (omega arith)
 turn-atom place text (opened ∷ opens) parts node some atom h = rw (is_opening-atom text atom, is_closing-atom text atom) (ap (with_part (record { opens = opened ∷ opens; parts = parts })) h)

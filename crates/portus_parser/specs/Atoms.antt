@@ -24,13 +24,13 @@ abbrev pub begins_with_digit : List ℕ → Bool
 begins_with_digit [] = false
 begins_with_digit (b ∷ rest) = is_digit b
 
-abbrev pub number_at : Place → Option ℕ → Result Node ParseFault
-number_at place (Some value) = Ok (number place value)
-number_at place None = Err (BadNumeral place)
+abbrev pub numeral_node : Place → Option ℕ → Result Node ParseFault
+numeral_node place (Some value) = Ok (number place value)
+numeral_node place None = Err (BadNumeral place)
 
 -- the node of an atom: a numeral's value, or the word itself
 abbrev pub atom_of : Place → List ℕ → Result Node ParseFault
 atom_of place text =
     if begins_with_digit text
-    then number_at place (numeral_of text)
+    then numeral_node place (numeral_of text)
     else (if is_word text then Ok (word place text) else Err (BadName place))

@@ -19,31 +19,31 @@ pub record Opened : Type 0 where
   pub before : List Node
 
 -- the open lists, the innermost one first, and its parts so far
-pub record Reading : Type 0 where
+pub record OpenLists : Type 0 where
   pub opens : List Opened
   pub parts : List Node
 
-abbrev pub opened_at : Place → Reading → Result Reading ParseFault
+abbrev pub opened_at : Place → OpenLists → Result OpenLists ParseFault
 opened_at place reading =
     if nat_le most_lists (length reading.opens)
     then Err (Nesting place)
     else Ok (record { opens = record { place = place; before = reading.parts } ∷ reading.opens; parts = [] })
 
-abbrev pub closed_over : Place → List Opened → List Node → Result Reading ParseFault
+abbrev pub closed_over : Place → List Opened → List Node → Result OpenLists ParseFault
 closed_over place [] parts = Err (Unexpected place)
 closed_over place (opened ∷ opens) parts = Ok (record { opens = opens; parts = opened.before ++ list opened.place (collected parts) ∷ [] })
 
-abbrev pub with_part : Reading → Result Node ParseFault → Result Reading ParseFault
+abbrev pub with_part : OpenLists → Result Node ParseFault → Result OpenLists ParseFault
 with_part reading (Ok node) = Ok (record { opens = reading.opens; parts = reading.parts ++ node ∷ [] })
 with_part reading (Err fault) = Err fault
 
-abbrev pub put_in : Place → List ℕ → Reading → List Opened → Result Reading ParseFault
+abbrev pub put_in : Place → List ℕ → OpenLists → List Opened → Result OpenLists ParseFault
 put_in place text reading [] = Err (Unexpected place)
 put_in place text reading (opened ∷ opens) = with_part reading (atom_of place text)
 
 -- the reading after a lexeme
-abbrev pub turn_of : Reading → Place → List ℕ → Result Reading ParseFault
-turn_of reading place text =
+abbrev pub reading_after : OpenLists → Place → List ℕ → Result OpenLists ParseFault
+reading_after reading place text =
     if is_opening text
     then opened_at place reading
     else (if is_closing text then closed_over place reading.opens reading.parts else put_in place text reading reading.opens)
@@ -52,21 +52,21 @@ abbrev pub finished : List Opened → List Node → Result (List Node) ParseFaul
 finished [] parts = Ok parts
 finished (opened ∷ opens) parts = Err (Unclosed opened.place)
 
-abbrev pub turn_on : Result Reading ParseFault → Lexeme → Result Reading ParseFault
-turn_on (Ok reading) lexeme = turn_of reading lexeme.place lexeme.text
+abbrev pub turn_on : Result OpenLists ParseFault → Lexeme → Result OpenLists ParseFault
+turn_on (Ok reading) lexeme = reading_after reading lexeme.place lexeme.text
 turn_on (Err fault) lexeme = Err fault
 
-abbrev pub finish : Result Reading ParseFault → Result (List Node) ParseFault
+abbrev pub finish : Result OpenLists ParseFault → Result (List Node) ParseFault
 finish (Ok reading) = finished reading.opens reading.parts
 finish (Err fault) = Err fault
 
 -- the forms that the reading ends with
-abbrev pub read : Result Reading ParseFault → List Lexeme → Result (List Node) ParseFault
-read reading [] = finish reading
-read reading (lexeme ∷ rest) = read (turn_on reading lexeme) rest
+abbrev pub read_lexemes : Result OpenLists ParseFault → List Lexeme → Result (List Node) ParseFault
+read_lexemes reading [] = finish reading
+read_lexemes reading (lexeme ∷ rest) = read_lexemes (turn_on reading lexeme) rest
 
 -- before the first lexeme
-abbrev pub unread : Result Reading ParseFault
+abbrev pub unread : Result OpenLists ParseFault
 unread = Ok (record { opens = []; parts = [] })
 
 abbrev pub opened_of : OpenList → Opened
@@ -78,7 +78,7 @@ stacked opens [] = opens
 stacked opens (open_list ∷ rest) = stacked (opened_of open_list ∷ opens) rest
 
 -- the data of open lists and the parts so far
-abbrev pub reading_of : List OpenList → List Tree → Reading
+abbrev pub reading_of : List OpenList → List Tree → OpenLists
 reading_of open_lists parts = record { opens = stacked [] open_lists; parts = map node_of parts }
 
 -- a token with its bytes
@@ -86,7 +86,7 @@ abbrev pub lexeme_in : List ℕ → Token → Lexeme
 lexeme_in text token = record { place = token.place; start = token.start; text = slice_of text token }
 
 -- a fault is the outcome's, or out of memory
-abbrev pub EndsTurn : Result Reading ParseFault → ParseFault → Type 0
+abbrev pub EndsTurn : Result OpenLists ParseFault → ParseFault → Type 0
 EndsTurn outcome NoMemory = Unit {0}
 EndsTurn outcome fault = outcome ≡ Err fault
 

@@ -22,8 +22,8 @@ abbrev pub open_after : ℕ → List ℕ → ℕ
 open_after open_lists text = if is_opening text then open_lists + 1 else (if is_closing text then open_lists - 1 else open_lists)
 
 -- what is wrong with a lexeme inside this many open lists
-abbrev pub fault_of : ℕ → Lexeme → Option ParseFault
-fault_of open_lists lexeme =
+abbrev pub lexeme_fault : ℕ → Lexeme → Option ParseFault
+lexeme_fault open_lists lexeme =
     if is_opening lexeme.text
     then (if nat_le most_lists open_lists then Some (Nesting lexeme.place) else None)
     else (if open_lists == 0
@@ -34,7 +34,7 @@ fault_of open_lists lexeme =
 abbrev pub first_fault : ℕ → List Lexeme → Option ParseFault
 first_fault open_lists [] = None
 first_fault open_lists (lexeme ∷ rest) =
-    option_or (fault_of open_lists lexeme) (first_fault (open_after open_lists lexeme.text) rest)
+    option_or (lexeme_fault open_lists lexeme) (first_fault (open_after open_lists lexeme.text) rest)
 
 -- how many closing parentheses have no opening one among these lexemes
 abbrev pub unopened : List Lexeme → ℕ

@@ -3,7 +3,7 @@ use Rattle.std.specs.Prelude.{◌≡◌, ℕ, ◌+◌, ◌<◌, ◌≤◌, false
 use Rattle.ccp_base.specs.Limits.{most_lists, most_text_bytes}
 use Rattle.ccp_base.specs.declared.place.Place.{Place}
 use Rattle.portus_core.specs.Trees.{Node, number, word, list, Nodes, none, more}
-use Rattle.portus_lexer.specs.Places.{first_place, step, place_after}
+use Rattle.portus_lexer.specs.Places.{first_place, place_past_byte, place_after}
 use Rattle.portus_lexer.specs.Lexemes.{is_blank, is_atom, ends_atom, ended}
 use Rattle.portus_parser.specs.Atoms.{atom_of}
 
@@ -33,7 +33,7 @@ abbrev mutual
   SpellsNode depth at part others (number place value) = SpellsAtom depth at part others (number place value)
   SpellsNode depth at part others (word place name) = SpellsAtom depth at part others (word place name)
   SpellsNode depth at part others (list place parts) =
-      (inner : List ℕ) × (IsListAround depth at part inner place × SpellsParts (depth + 1) (step at 40) inner parts)
+      (inner : List ℕ) × (IsListAround depth at part inner place × SpellsParts (depth + 1) (place_past_byte at 40) inner parts)
 
   -- bytes at a place, inside this many lists, spell the parts of a list
   pub SpellsParts : ℕ → Place → List ℕ → Nodes → Type 0

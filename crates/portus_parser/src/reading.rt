@@ -8,7 +8,7 @@ ghost use Rattle.portus_parser.specs.declared.fault.ParseFault.TheVariants.{NoMe
 ghost use Rattle.portus_parser.specs.Spelling.{Spells};
 ghost use Rattle.portus_parser.specs.Refusals.{IsRefused};
 ghost use Rattle.portus_parser.specs.Outcomes.{ReadsAs, RefusesAs, IsExact, IsSettled};
-ghost use Rattle.portus_parser.specs.Readings.{read, unread, lexeme_in, EndsReading};
+ghost use Rattle.portus_parser.specs.Readings.{read_lexemes, unread, lexeme_in, EndsReading};
 
 use crate::fault::ParseFault;
 use crate::open_list::OpenList;
@@ -33,8 +33,8 @@ fn lexeme<'a>(text: &'a [u8], token: &Token) -> &'a [u8]
 fn read(alloc: Global, text: &[u8], tokens: &[Token]) -> Result<Source, ParseFault>
     requires { All (IsSpan text.now) tokens.now }
     ensures found { IfOk result (λ source.
-        read unread (map (lexeme_in text.now) tokens.now) ≡ Ok (map node_of source.forms.items)) }
-    ensures refused { IfErr result (EndsReading (read unread (map (lexeme_in text.now) tokens.now))) }
+        read_lexemes unread (map (lexeme_in text.now) tokens.now) ≡ Ok (map node_of source.forms.items)) }
+    ensures refused { IfErr result (EndsReading (read_lexemes unread (map (lexeme_in text.now) tokens.now))) }
 {
     let mut open_lists: Vec<OpenList> = Vec::new(alloc);
     let mut parts: Vec<Tree> = Vec::new(alloc);

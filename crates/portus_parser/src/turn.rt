@@ -2,7 +2,7 @@
 ghost use Rattle.std.specs.Prelude.{◌≡◌, IfOk, IfErr, Ok, [], length};
 ghost use Rattle.portus_core.specs.Trees.{node_of};
 ghost use Rattle.portus_parser.specs.Refusals.{is_opening, is_closing};
-ghost use Rattle.portus_parser.specs.Readings.{opened_at, closed_over, put_in, turn_of, reading_of, EndsTurn};
+ghost use Rattle.portus_parser.specs.Readings.{opened_at, closed_over, put_in, reading_after, reading_of, EndsTurn};
 
 use crate::atom::{atom, same};
 use crate::fault::ParseFault;
@@ -93,9 +93,9 @@ pub fn turn(
     text: &[u8],
 ) -> Result<Vec<Tree>, ParseFault>
     ensures ok { IfOk result (λ own.
-        turn_of (reading_of open_lists.old.items parts.items) place text.now
+        reading_after (reading_of open_lists.old.items parts.items) place text.now
         ≡ Ok (reading_of open_lists.new.items own.items)) }
-    ensures err { IfErr result (EndsTurn (turn_of (reading_of open_lists.old.items parts.items) place text.now)) }
+    ensures err { IfErr result (EndsTurn (reading_after (reading_of open_lists.old.items parts.items) place text.now)) }
 {
     if same(text, b"(") {
         open(alloc, open_lists, parts, place)

@@ -15,7 +15,7 @@ use Rattle.reg_code.specs.declared.rule.Part.TheVariants.{Condition, Body}
 use Rattle.reg_code.specs.declared.rule.Rule.{Rule}
 use Rattle.reg_code.specs.declared.rule.Rule.TheVariants as rule
 use Rattle.reg_code.specs.declared.rule.Sizes.{Sizes}
-use Rattle.reg_code.specs.CodeStep.{condition_of, body_of, rest_of}
+use Rattle.reg_code.specs.CodeStep.{condition_of, event_body, instrs_after}
 
 -- a rule that fails, with the index of what it fails at
 abbrev pub Refusal : Type 0
@@ -124,9 +124,9 @@ abbrev pub is_micros : Reg → Bool
 is_micros (reg.Implicit Micros) = true
 is_micros _ = false
 
-abbrev pub is_flag : Reg → Bool
-is_flag (reg.Implicit Flag) = true
-is_flag _ = false
+abbrev pub is_flag_reg : Reg → Bool
+is_flag_reg (reg.Implicit Flag) = true
+is_flag_reg _ = false
 
 abbrev pub is_temp : Reg → Bool
 is_temp (reg.Temp i) = true
@@ -147,9 +147,9 @@ abbrev pub is_misplaced : Part → Bool → Instr → Bool
 is_misplaced part is_last instr =
     is_fixed instr.to
     || (is_micros instr.to && not (is_bind instr.op && is_zero instr.left))
-    || (is_in_condition part && not (is_temp instr.to || is_flag instr.to))
-    || (not (is_in_condition part) && is_flag instr.to)
-    || (is_in_condition part && is_last && not (writes instr.op && is_flag instr.to))
+    || (is_in_condition part && not (is_temp instr.to || is_flag_reg instr.to))
+    || (not (is_in_condition part) && is_flag_reg instr.to)
+    || (is_in_condition part && is_last && not (writes instr.op && is_flag_reg instr.to))
     || (is_ewma instr.op && not (is_readable instr.to))
 
 -- the first rule that an instruction fails at its place
@@ -178,14 +178,14 @@ part_refusal sizes part index marks (instr ∷ rest) =
 abbrev pub event_refusal : Sizes → Event → ℕ → List Instr → Option Refusal
 event_refusal sizes event index instrs =
     part_refusal sizes Condition index no_marks (condition_of event instrs)
-    or_else part_refusal sizes Body (index + event.condition) (marks_after (condition_of event instrs) no_marks) (body_of event instrs)
+    or_else part_refusal sizes Body (index + event.condition) (marks_after (condition_of event instrs) no_marks) (event_body event instrs)
 
 -- the first refusal among the instructions, which are those of the events
 abbrev pub instrs_refusal : Sizes → List Event → ℕ → List Instr → Option Refusal
 instrs_refusal sizes [] index instrs = None
 instrs_refusal sizes (event ∷ rest) index instrs =
     event_refusal sizes event index instrs
-    or_else instrs_refusal sizes rest (index + event.condition + event.body) (rest_of event instrs)
+    or_else instrs_refusal sizes rest (index + event.condition + event.body) (instrs_after event instrs)
 
 -- the first event, by its number from this one on, that has no condition or reaches past the instructions that are
 -- left; past the last event, that some are left

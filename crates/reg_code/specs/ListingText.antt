@@ -28,17 +28,17 @@ implicit_text Micros = codes "micros"
 implicit_text Cwnd = codes "cwnd"
 implicit_text Rate = codes "rate"
 
-abbrev pub numbered : List ℕ → ℕ → List ℕ
-numbered name n = name ⧺ decimal n
+abbrev pub numbered_text : List ℕ → ℕ → List ℕ
+numbered_text name n = name ⧺ decimal n
 
 abbrev pub reg_text : Reg → List ℕ
-reg_text (reg.Imm value) = numbered (codes "#") value
-reg_text (reg.Prim n) = numbered (codes "prim") n
-reg_text (reg.Report i) = numbered (codes "report") i
-reg_text (reg.Control i) = numbered (codes "control") i
+reg_text (reg.Imm value) = numbered_text (codes "#") value
+reg_text (reg.Prim n) = numbered_text (codes "prim") n
+reg_text (reg.Report i) = numbered_text (codes "report") i
+reg_text (reg.Control i) = numbered_text (codes "control") i
 reg_text (reg.Implicit which) = implicit_text which
-reg_text (reg.Local i) = numbered (codes "local") i
-reg_text (reg.Temp i) = numbered (codes "temp") i
+reg_text (reg.Local i) = numbered_text (codes "local") i
+reg_text (reg.Temp i) = numbered_text (codes "temp") i
 
 abbrev pub keeping_text : Bool → List ℕ
 keeping_text true = codes "volatile"
@@ -54,8 +54,8 @@ start_lines class i [] = []
 start_lines class i (start ∷ rest) = start_line class i start ⧺ start_lines class (i + 1) rest
 
 -- the indices of some instructions: the first one, and that after the last one
-abbrev pub span_text : ℕ → ℕ → List ℕ
-span_text first end = decimal first ⧺ codes ".." ⧺ decimal end
+abbrev pub indices_text : ℕ → ℕ → List ℕ
+indices_text first end = decimal first ⧺ codes ".." ⧺ decimal end
 
 abbrev pub event_head : ℕ → List ℕ
 event_head i = codes "event " ⧺ decimal i ⧺ codes " condition "
@@ -63,8 +63,8 @@ event_head i = codes "event " ⧺ decimal i ⧺ codes " condition "
 -- an event with its number, the first of whose instructions has this index
 abbrev pub event_line : ℕ → ℕ → Event → List ℕ
 event_line i index event =
-    event_head i ⧺ span_text index (index + event.condition) ⧺ codes " body "
-    ⧺ span_text (index + event.condition) (index + event.condition + event.body) ⧺ codes "\n"
+    event_head i ⧺ indices_text index (index + event.condition) ⧺ codes " body "
+    ⧺ indices_text (index + event.condition) (index + event.condition + event.body) ⧺ codes "\n"
 
 abbrev pub event_lines : ℕ → ℕ → List Event → List ℕ
 event_lines i index [] = []

@@ -1,7 +1,7 @@
 //! The listing of a code: a line for each report field, control variable, event and instruction.
 ghost use Rattle.std.specs.Prelude.{◌≡◌, ◌++◌, OnOk, IfOk, ◌^◌, ◌<◌, decimal};
-ghost use Rattle.reg_code.specs.ListingText.{op_text, implicit_text, numbered, reg_text, keeping_text, start_line};
-ghost use Rattle.reg_code.specs.ListingText.{start_lines, span_text, event_head, event_line, event_lines, operand_text};
+ghost use Rattle.reg_code.specs.ListingText.{op_text, implicit_text, numbered_text, reg_text, keeping_text, start_line};
+ghost use Rattle.reg_code.specs.ListingText.{start_lines, indices_text, event_head, event_line, event_lines, operand_text};
 ghost use Rattle.reg_code.specs.ListingText.{instr_head, instr_line, instr_lines, listing_text};
 
 use crate::code::{Code, Event, Implicit, Instr, Op, Reg, Start};
@@ -96,7 +96,7 @@ fn put_event_head(alloc: Global, text: &mut Bytes, i: usize) -> Result<(), NoMem
 }
 
 fn put_span(alloc: Global, text: &mut Bytes, first: u128, end: u128) -> Result<(), NoMemory>
-    ensures { OnOk result (text.new ≡ text.old ++ span_text first end) }
+    ensures { OnOk result (text.new ≡ text.old ++ indices_text first end) }
 {
     put_decimal(alloc, text, first)?;
     text.extend(b"..")?;
@@ -169,7 +169,7 @@ fn put_operand(alloc: Global, text: &mut Bytes, operand: Reg) -> Result<(), NoMe
 }
 
 fn put_numbered(alloc: Global, text: &mut Bytes, name: &str, n: u64) -> Result<(), NoMemory>
-    ensures { OnOk result (text.new ≡ text.old ++ numbered name.now n) }
+    ensures { OnOk result (text.new ≡ text.old ++ numbered_text name.now n) }
 {
     let numbered = format!(in alloc; "{name}{n}")?;
     text.extend(numbered.as_bytes())?;

@@ -14,15 +14,15 @@ use Rattle.reg_code.specs.declared.rule.Part.TheVariants.{Condition, Body}
 use Rattle.reg_code.specs.declared.rule.Rule.{Rule}
 use Rattle.reg_code.specs.declared.rule.Rule.TheVariants as rule
 use Rattle.reg_code.specs.declared.rule.Sizes.{Sizes}
-use Rattle.reg_code.specs.CodeStep.{condition_of, body_of}
+use Rattle.reg_code.specs.CodeStep.{condition_of, event_body}
 use Rattle.reg_code.specs.AcceptedCode.{refusal_where, Marks, no_marks, marks_after, part_refusal, event_refusal, instrs_refusal, events_refusal, counts_refusal, sizes_of, IsAccepted}
 use Rattle.reg_code.specs.SoundLaws.{none-first, none-next}
 use Rattle.reg_compiler.specs.declared.line.Line.{Line}
 use Rattle.reg_compiler.specs.Known.{known_value}
 use Rattle.reg_compiler.specs.Needs.{deep_term, deep_body, deep_parts, deep_form}
 use Rattle.reg_compiler.specs.Counts.{form_count}
-use Rattle.reg_compiler.specs.Simulation.{start_of}
-use Rattle.reg_compiler.specs.CompiledCode.{line_of, direct, operand, free_after, unless_direct, unless_known, into, body_lines, condition_lines, lines_of, event_of, instr_of, code_of}
+use Rattle.reg_compiler.specs.Simulation.{register_start}
+use Rattle.reg_compiler.specs.CompiledCode.{code_line, direct, operand, free_after, unless_direct, unless_known, into, body_lines, condition_lines, lines_of, event_of, instr_of, code_of}
 use Rattle.reg_compiler.proofs.Sizes.{length-lines, lean-count}
 use Rattle.reg_compiler.proofs.AllowedLines.{after, or_else-none, condition-none, body-none}
 use Rattle.reg_compiler.proofs.AllowedInstrs.{IsTarget-flag}
@@ -45,7 +45,7 @@ drop-lines (line ∷ rest) next = drop-lines rest next
 
 -- one event
 
-event-none : (sizes : Sizes) (event : Event) (index : ℕ) (instrs condition body : List Instr) → condition_of event instrs ≡ condition → body_of event instrs ≡ body
+event-none : (sizes : Sizes) (event : Event) (index : ℕ) (instrs condition body : List Instr) → condition_of event instrs ≡ condition → event_body event instrs ≡ body
     → part_refusal sizes Condition index no_marks condition ≡ None
     → part_refusal sizes Body (index + event.condition) (marks_after condition no_marks) body ≡ None
     → event_refusal sizes event index instrs ≡ None
@@ -57,8 +57,8 @@ event-none sizes event index instrs condition body is_condition is_body conditio
 -- a block begins without locals
 IsScope-block : (form : Form) (marks : Marks) → IsScope (known_of form) (sizes_of (code_of form)) marks
 IsScope-block form marks = record {
-  fields = sym (length-map form.fields start_of);
-  controls = sym (length-map form.controls start_of);
+  fields = sym (length-map form.fields register_start);
+  controls = sym (length-map form.controls register_start);
   few = omega arith;
   locals = λ i below. absurd (omega (arith, below));
 }
@@ -103,7 +103,7 @@ into-some (name v) to free = omega arith
 into-some (pair o place left right) to free =
     let first = unless_direct (direct left) (into (reg.Temp free) left free) in
     let second = unless_direct (direct right) (into (reg.Temp (free_after left free)) right (free_after left free)) in
-    let last : List Line = line_of (op.Pair o) to (operand left free) (operand right (free_after left free)) place ∷ [] in
+    let last : List Line = code_line (op.Pair o) to (operand left free) (operand right (free_after left free)) place ∷ [] in
     unless_known-some (known_value (pair o place left right)) to (first ++ (second ++ last)) (omega (arith, length-append first (second ++ last), length-append second last))
 
 events-none : (parts : List Part) (index : ℕ) → events_refusal (map event_of parts) index (length (lines_of parts)) ≡ None
@@ -151,8 +151,8 @@ counts-none : (form : Form) → Few form → form_count form ≤ 256 → counts_
 counts-none form few within =
     let code = code_of form in
     or_else-none _ _ (or_else-none _ _ (or_else-none _ _
-    (refusal_where-none _ rule.Counts 0 (le-ltb 64 (length code.reports) (omega (arith, few.fields, length-map form.fields start_of))))
-    (refusal_where-none _ rule.Counts 1 (le-ltb 64 (length code.controls) (omega (arith, few.controls, length-map form.controls start_of)))))
+    (refusal_where-none _ rule.Counts 0 (le-ltb 64 (length code.reports) (omega (arith, few.fields, length-map form.fields register_start))))
+    (refusal_where-none _ rule.Counts 1 (le-ltb 64 (length code.controls) (omega (arith, few.controls, length-map form.controls register_start)))))
     (refusal_where-none _ rule.Counts 2 (le-ltb 64 (length code.events) (omega (arith, few.blocks, length-map form.blocks event_of)))))
     (refusal_where-none _ rule.Counts 3 (le-ltb 256 (length code.instrs) (omega (arith, within, length-lines form, lean-count form, length-map (lines_of form.blocks) instr_of))))
 

@@ -5,7 +5,7 @@ use Rattle.ccp_base.specs.declared.place.Place.{Place}
 use Rattle.portus_core.specs.declared.program.Var.{Var}
 use Rattle.portus_core.specs.declared.program.Var.TheVariants as var
 use Rattle.portus_core.specs.Programs.{Term, number, truth, name, pair, Action, set, set_if, set_unless, ewma, zero_micros, report, fall}
-use Rattle.portus_core.specs.ValidPrograms.{Known, is_known, is_truth, is_writable, term_is_truth, is_term, is_condition, fits_target, is_target, is_next_local, is_action, with_local, known_after, is_body}
+use Rattle.portus_core.specs.ValidPrograms.{KnownNames, is_known, is_truth, is_writable, term_is_truth, is_term, is_condition, fits_target, is_target, is_next_local, is_action, with_known_local, known_after, is_body}
 use Rattle.reg_code.specs.declared.code.Op.{Op}
 use Rattle.reg_code.specs.declared.code.Op.TheVariants as op
 use Rattle.reg_code.specs.declared.code.Reg.{Reg}
@@ -16,7 +16,7 @@ use Rattle.reg_code.specs.declared.rule.Sizes.{Sizes}
 use Rattle.reg_code.specs.AcceptedCode.{Marks, is_there, unwritten, is_bind, is_ewma, rule_failed}
 use Rattle.reg_code.specs.SoundLaws.{none-first, none-next}
 use Rattle.reg_compiler.specs.Needs.{beside, need_of, action_need, deep_at, deep_term, deep_action, deep_body}
-use Rattle.reg_compiler.specs.CompiledCode.{reg_of, operand, free_after, into, both_into, action_lines, body_lines}
+use Rattle.reg_compiler.specs.CompiledCode.{variable_reg, operand, free_after, into, both_into, action_lines, body_lines}
 use Rattle.reg_compiler.proofs.AllowedLines.{after, AreAllowed, AreAllowed-append, Grows, after-grows, none-mark}
 use Rattle.reg_compiler.proofs.AllowedInstrs.{IsOperand, IsOperand-grows, IsTarget, IsTarget-temp, conditional-none, ewma-none}
 use Rattle.reg_compiler.proofs.AllowedExpressions.{IsScope, IsScope-grows, IsOperand-name, into-written, operand_lines, free_after-le, operand_lines-allowed, joined-allowed, into-allowed}
@@ -47,7 +47,7 @@ action-fits fall none = omega arith
 
 -- targets
 
-IsTarget-there : (v : Var) (sizes : Sizes) → is_there sizes (reg_of v) ≡ true → is_writable v ≡ true → IsTarget sizes Body false (reg_of v)
+IsTarget-there : (v : Var) (sizes : Sizes) → is_there sizes (variable_reg v) ≡ true → is_writable v ≡ true → IsTarget sizes Body false (variable_reg v)
 IsTarget-there (var.Field i) sizes there writable = record { there = there; free = refl; timeless = refl; in_condition = refl; in_body = refl; at_end = refl }
 IsTarget-there (var.Control i) sizes there writable = record { there = there; free = refl; timeless = refl; in_condition = refl; in_body = refl; at_end = refl }
 IsTarget-there (var.Local i) sizes there writable = record { there = there; free = refl; timeless = refl; in_condition = refl; in_body = refl; at_end = refl }
@@ -56,12 +56,12 @@ IsTarget-there var.Rate sizes there writable = record { there = there; free = re
 IsTarget-there var.Micros sizes there writable = absurd (cc)
 IsTarget-there (var.Prim n) sizes there writable = absurd (cc)
 
-IsTarget-name : (v : Var) (known : Known) (sizes : Sizes) (marks : Marks) → IsScope known sizes marks → is_target known v ≡ true → IsTarget sizes Body false (reg_of v)
+IsTarget-name : (v : Var) (known : KnownNames) (sizes : Sizes) (marks : Marks) → IsScope known sizes marks → is_target known v ≡ true → IsTarget sizes Body false (variable_reg v)
 IsTarget-name v known sizes marks scope is =
     let parts = and_parts (is_known known v) (is_writable v) is in
     IsTarget-there v sizes (IsOperand-name v known sizes marks scope parts.0).there parts.1
 
-IsTarget-next : (v : Var) (known : Known) (sizes : Sizes) → is_next_local known v ≡ true → IsTarget sizes Body false (reg_of v)
+IsTarget-next : (v : Var) (known : KnownNames) (sizes : Sizes) → is_next_local known v ≡ true → IsTarget sizes Body false (variable_reg v)
 IsTarget-next (var.Local i) known sizes is = IsTarget-there (var.Local i) sizes (and_parts (i == length known.locals) (nat_lt i 8) is).1 refl
 IsTarget-next (var.Field i) known sizes is = absurd (cc)
 IsTarget-next (var.Control i) known sizes is = absurd (cc)
@@ -72,7 +72,7 @@ IsTarget-next var.Micros known sizes is = absurd (cc)
 
 -- commands
 
-IsTarget-set : (v : Var) (term : Term) (known : Known) (sizes : Sizes) (marks : Marks) → IsScope known sizes marks → is_action known (set v term) ≡ true → IsTarget sizes Body false (reg_of v) × (is_term known term ≡ true)
+IsTarget-set : (v : Var) (term : Term) (known : KnownNames) (sizes : Sizes) (marks : Marks) → IsScope known sizes marks → is_action known (set v term) ≡ true → IsTarget sizes Body false (variable_reg v) × (is_term known term ≡ true)
 IsTarget-set v term known sizes marks scope is = elim (or_cases (is_target known v && fits_target known v term) (is_next_local known v && is_term known term) is) [
   | inl known_before ↦
       let parts = and_parts (is_target known v) (fits_target known v term) known_before in
@@ -82,7 +82,7 @@ IsTarget-set v term known sizes marks scope is = elim (or_cases (is_target known
       (IsTarget-next v known sizes parts.0, parts.1)
 ]
 
-both-allowed : (o : Op) (to : Reg) (place : Place) (left right : Term) (known : Known) (sizes : Sizes) (marks : Marks)
+both-allowed : (o : Op) (to : Reg) (place : Place) (left right : Term) (known : KnownNames) (sizes : Sizes) (marks : Marks)
     → IsScope known sizes marks → is_term known left ≡ true → is_term known right ≡ true → need_of left ≤ 8 → need_of right + beside left ≤ 8
     → ((later : Marks) → Grows marks later → IsOperand sizes later (operand left 0) → IsOperand sizes later (operand right (free_after left 0))
     → rule_failed sizes Body false later (record { op = o; to = to; left = operand left 0; right = operand right (free_after left 0) }) ≡ None)
@@ -98,33 +98,33 @@ both-allowed o to place left right known sizes marks scope is_left is_right left
     none
 
 -- `if` and `notif`
-where-allowed : (o : Op) (place : Place) (v : Var) (condition term : Term) (known : Known) (sizes : Sizes) (marks : Marks) → is_bind o ≡ false → is_ewma o ≡ false → IsScope known sizes marks → is_target known v && is_condition known condition && fits_target known v term ≡ true
-    → max (need_of condition) (need_of term + beside condition) ≤ 8 → AreAllowed sizes Body false marks (both_into o (reg_of v) place condition term)
+where-allowed : (o : Op) (place : Place) (v : Var) (condition term : Term) (known : KnownNames) (sizes : Sizes) (marks : Marks) → is_bind o ≡ false → is_ewma o ≡ false → IsScope known sizes marks → is_target known v && is_condition known condition && fits_target known v term ≡ true
+    → max (need_of condition) (need_of term + beside condition) ≤ 8 → AreAllowed sizes Body false marks (both_into o (variable_reg v) place condition term)
 where-allowed o place v condition term known sizes marks unbound no_ewma scope is fits =
     let value = and_parts (is_target known v && is_condition known condition) (fits_target known v term) is in
     let target = and_parts (is_target known v) (is_condition known condition) value.0 in
-    both-allowed o (reg_of v) place condition term known sizes marks scope
+    both-allowed o (variable_reg v) place condition term known sizes marks scope
     (and_parts (is_term known condition) (term_is_truth known condition) target.1).0
     (and_parts (is_term known term) _ value.1).0
     (omega (arith, fits)) (omega (arith, fits))
-    (λ later grows first second. conditional-none o (reg_of v) (operand condition 0) (operand term (free_after condition 0)) sizes later unbound no_ewma (IsTarget-name v known sizes marks scope target.0) first second)
+    (λ later grows first second. conditional-none o (variable_reg v) (operand condition 0) (operand term (free_after condition 0)) sizes later unbound no_ewma (IsTarget-name v known sizes marks scope target.0) first second)
 
-ewma-allowed : (place : Place) (v : Var) (weight : ℕ) (term : Term) (known : Known) (sizes : Sizes) (marks : Marks) → IsScope known sizes marks → is_action known (ewma place v weight term) ≡ true → need_of term ≤ 8
-    → AreAllowed sizes Body false marks (both_into op.Ewma (reg_of v) place (number weight) term)
+ewma-allowed : (place : Place) (v : Var) (weight : ℕ) (term : Term) (known : KnownNames) (sizes : Sizes) (marks : Marks) → IsScope known sizes marks → is_action known (ewma place v weight term) ≡ true → need_of term ≤ 8
+    → AreAllowed sizes Body false marks (both_into op.Ewma (variable_reg v) place (number weight) term)
 ewma-allowed place v weight term known sizes marks scope is fits =
     let value = and_parts (is_target known v && not (is_truth known v) && nat_le weight 10) (is_term known term) is in
     let few = and_parts (is_target known v && not (is_truth known v)) (nat_le weight 10) value.0 in
     let target = (and_parts (is_target known v) (not (is_truth known v)) few.0).0 in
     let old = IsOperand-name v known sizes marks scope (and_parts (is_known known v) (is_writable v) target).0 in
-    both-allowed op.Ewma (reg_of v) place (number weight) term known sizes marks scope
+    both-allowed op.Ewma (variable_reg v) place (number weight) term known sizes marks scope
     (lt-ltb weight (2 ^ 64) (omega (arith, leb-true weight 10 few.1)))
     value.1 (omega arith) (omega (arith, fits))
-    (λ later grows first second. ewma-none (reg_of v) (operand term 0) weight sizes later few.1 (IsTarget-name v known sizes marks scope target) (IsOperand-grows sizes marks later (reg_of v) grows old) second)
+    (λ later grows first second. ewma-none (variable_reg v) (operand term 0) weight sizes later few.1 (IsTarget-name v known sizes marks scope target) (IsOperand-grows sizes marks later (variable_reg v) grows old) second)
 
-action-allowed : (action : Action) (known : Known) (sizes : Sizes) (marks : Marks) → IsScope known sizes marks → is_action known action ≡ true → action_need action ≤ 8 → AreAllowed sizes Body false marks (action_lines action)
+action-allowed : (action : Action) (known : KnownNames) (sizes : Sizes) (marks : Marks) → IsScope known sizes marks → is_action known action ≡ true → action_need action ≤ 8 → AreAllowed sizes Body false marks (action_lines action)
 action-allowed (set v term) known sizes marks scope is fits =
     let both = IsTarget-set v term known sizes marks scope is in
-    into-allowed term (reg_of v) 0 known sizes Body false marks scope both.1 (omega (arith, fits)) both.0
+    into-allowed term (variable_reg v) 0 known sizes Body false marks scope both.1 (omega (arith, fits)) both.0
 action-allowed (set_if place v condition term) known sizes marks scope is fits = where-allowed op.If place v condition term known sizes marks refl refl scope is fits
 action-allowed (set_unless place v condition term) known sizes marks scope is fits = where-allowed op.NotIf place v condition term known sizes marks refl refl scope is fits
 action-allowed (ewma place v weight term) known sizes marks scope is fits = ewma-allowed place v weight term known sizes marks scope is fits
@@ -134,7 +134,7 @@ action-allowed fall known sizes marks scope is fits = (refl, tt)
 
 -- the names after a command have a value
 
-IsScope-with_local : (next told : Bool) (known : Known) (sizes : Sizes) (marks : Marks) → IsScope known sizes marks → (next ≡ true → (length known.locals < 8) × (marks.locals (length known.locals) ≡ true)) → IsScope (with_local known next told) sizes marks
+IsScope-with_local : (next told : Bool) (known : KnownNames) (sizes : Sizes) (marks : Marks) → IsScope known sizes marks → (next ≡ true → (length known.locals < 8) × (marks.locals (length known.locals) ≡ true)) → IsScope (with_known_local known next told) sizes marks
 IsScope-with_local true told known sizes marks scope room = record {
   fields = scope.fields;
   controls = scope.controls;
@@ -148,7 +148,7 @@ IsScope-with_local true told known sizes marks scope room = record {
 }
 IsScope-with_local false told known sizes marks scope room = scope
 
-next-written : (v : Var) (known : Known) (marks : Marks) → unwritten marks (reg_of v) ≡ None → is_next_local known v ≡ true → (length known.locals < 8) × (marks.locals (length known.locals) ≡ true)
+next-written : (v : Var) (known : KnownNames) (marks : Marks) → unwritten marks (variable_reg v) ≡ None → is_next_local known v ≡ true → (length known.locals < 8) × (marks.locals (length known.locals) ≡ true)
 next-written (var.Local i) known marks written is =
     let parts = and_parts (i == length known.locals) (nat_lt i 8) is in
     let last = eqb-true i (length known.locals) parts.0 in
@@ -160,12 +160,12 @@ next-written var.Cwnd known marks written is = absurd (cc)
 next-written var.Rate known marks written is = absurd (cc)
 next-written var.Micros known marks written is = absurd (cc)
 
-IsScope-after : (action : Action) (known : Known) (sizes : Sizes) (marks : Marks) → IsScope known sizes marks → IsScope (known_after known action) sizes (after (action_lines action) marks)
+IsScope-after : (action : Action) (known : KnownNames) (sizes : Sizes) (marks : Marks) → IsScope known sizes marks → IsScope (known_after known action) sizes (after (action_lines action) marks)
 IsScope-after (set v term) known sizes marks scope =
-    let later = after (into (reg_of v) term 0) marks in
+    let later = after (into (variable_reg v) term 0) marks in
     IsScope-with_local (is_next_local known v) (term_is_truth known term) known sizes later
-    (IsScope-grows known sizes marks later (after-grows (into (reg_of v) term 0) marks) scope)
-    (next-written v known later (into-written term (reg_of v) 0 marks))
+    (IsScope-grows known sizes marks later (after-grows (into (variable_reg v) term 0) marks) scope)
+    (next-written v known later (into-written term (variable_reg v) 0 marks))
 IsScope-after (set_if place v condition term) known sizes marks scope = IsScope-grows known sizes marks _ (after-grows (action_lines (set_if place v condition term)) marks) scope
 IsScope-after (set_unless place v condition term) known sizes marks scope = IsScope-grows known sizes marks _ (after-grows (action_lines (set_unless place v condition term)) marks) scope
 IsScope-after (ewma place v weight term) known sizes marks scope = IsScope-grows known sizes marks _ (after-grows (action_lines (ewma place v weight term)) marks) scope
@@ -173,7 +173,7 @@ IsScope-after zero_micros known sizes marks scope = IsScope-grows known sizes ma
 IsScope-after report known sizes marks scope = IsScope-grows known sizes marks _ (after-grows (action_lines report) marks) scope
 IsScope-after fall known sizes marks scope = IsScope-grows known sizes marks _ (after-grows (action_lines fall) marks) scope
 
-pub body-allowed : (body : List Action) (known : Known) (locals : ℕ) (sizes : Sizes) (marks : Marks) → IsScope known sizes marks → is_body known locals body ≡ true → deep_body body ≡ None → AreAllowed sizes Body false marks (body_lines body)
+pub body-allowed : (body : List Action) (known : KnownNames) (locals : ℕ) (sizes : Sizes) (marks : Marks) → IsScope known sizes marks → is_body known locals body ≡ true → deep_body body ≡ None → AreAllowed sizes Body false marks (body_lines body)
 body-allowed [] known locals sizes marks scope is none = tt
 body-allowed (action ∷ rest) known locals sizes marks scope is none =
     let parts = and_parts (is_action known action) (is_body (known_after known action) locals rest) is in

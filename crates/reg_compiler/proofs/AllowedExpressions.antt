@@ -2,11 +2,11 @@
 use Rattle.std.proofs.Common.{◌≡◌, refl, ap, sym, ◌∙◌, ℕ, ◌+◌, ◌<◌, ◌≤◌, Bool, true, false, nat_lt, Option, Some, None, option_map, unwrap_or, List, [], ◌∷◌, ◌++◌, length, arith, ltb-true, lt-ltb}
 use Rattle.std.proofs.lemmas.Bool.{and_right, and_parts}
 use Rattle.ccp_base.specs.declared.place.Place.{Place}
-use Rattle.ccp_base.specs.Acknowledgement.{number_of}
+use Rattle.ccp_base.specs.Acknowledgement.{bool_number}
 use Rattle.portus_core.specs.declared.program.Var.{Var}
 use Rattle.portus_core.specs.declared.program.Var.TheVariants as var
 use Rattle.portus_core.specs.Programs.{Term, number, truth, name, pair}
-use Rattle.portus_core.specs.ValidPrograms.{Known, is_known, is_term}
+use Rattle.portus_core.specs.ValidPrograms.{KnownNames, is_known, is_term}
 use Rattle.reg_code.specs.declared.code.Op.{Op}
 use Rattle.reg_code.specs.declared.code.Op.TheVariants as op
 use Rattle.reg_code.specs.declared.code.Reg.{Reg}
@@ -18,18 +18,18 @@ use Rattle.reg_code.specs.AcceptedCode.{Marks, unwritten, rule_failed}
 use Rattle.reg_compiler.specs.declared.line.Line.{Line}
 use Rattle.reg_compiler.specs.Known.{known_value}
 use Rattle.reg_compiler.specs.Needs.{beside, need_of}
-use Rattle.reg_compiler.specs.CompiledCode.{reg_of, line_of, bind_line, direct, operand, next_free, free_after, unless_direct, joined, unless_known, into}
+use Rattle.reg_compiler.specs.CompiledCode.{variable_reg, code_line, bind_line, direct, operand, next_free, free_after, unless_direct, joined, unless_known, into}
 use Rattle.reg_compiler.proofs.AllowedLines.{after, AreAllowed, after-append, is_end-append, AreAllowed-append, Grows, Grows-trans, after-grows, mark-none, with_target-written, last-written}
 use Rattle.reg_compiler.proofs.AllowedInstrs.{IsOperand, IsOperand-grows, IsOperand-imm, IsTarget, IsTarget-temp, bind-none, pair-none}
 
 -- each name that may be read is a register, and has a value
-pub record IsScope (known : Known) (sizes : Sizes) (marks : Marks) : Type 0 where
+pub record IsScope (known : KnownNames) (sizes : Sizes) (marks : Marks) : Type 0 where
   pub fields : length known.fields ≡ sizes.reports
   pub controls : length known.controls ≡ sizes.controls
   pub few : length known.locals ≤ 8
   pub locals : (i : ℕ) → i < length known.locals → marks.locals i ≡ true
 
-pub IsScope-grows : (known : Known) (sizes : Sizes) (before later : Marks) → Grows before later → IsScope known sizes before → IsScope known sizes later
+pub IsScope-grows : (known : KnownNames) (sizes : Sizes) (before later : Marks) → Grows before later → IsScope known sizes before → IsScope known sizes later
 IsScope-grows known sizes before later grows scope = record {
   fields = scope.fields;
   controls = scope.controls;
@@ -37,7 +37,7 @@ IsScope-grows known sizes before later grows scope = record {
   locals = λ i below. grows.locals i (scope.locals i below);
 }
 
-pub IsOperand-name : (v : Var) (known : Known) (sizes : Sizes) (marks : Marks) → IsScope known sizes marks → is_known known v ≡ true → IsOperand sizes marks (reg_of v)
+pub IsOperand-name : (v : Var) (known : KnownNames) (sizes : Sizes) (marks : Marks) → IsScope known sizes marks → is_known known v ≡ true → IsOperand sizes marks (variable_reg v)
 IsOperand-name (var.Field i) known sizes marks scope is = record { there = ap (nat_lt i) (sym scope.fields) ∙ is; readable = refl; written = refl }
 IsOperand-name (var.Control i) known sizes marks scope is = record { there = ap (nat_lt i) (sym scope.controls) ∙ is; readable = refl; written = refl }
 IsOperand-name (var.Local i) known sizes marks scope is =
@@ -61,7 +61,7 @@ into-written (name v) to free marks = with_target-written to marks
 into-written (pair o place left right) to free marks =
     let first = unless_direct (direct left) (into (reg.Temp free) left free) in
     let second = unless_direct (direct right) (into (reg.Temp (free_after left free)) right (free_after left free)) in
-    let line : Line = line_of (op.Pair o) to (operand left free) (operand right (free_after left free)) place in
+    let line : Line = code_line (op.Pair o) to (operand left free) (operand right (free_after left free)) place in
     unless_known-written (known_value (pair o place left right)) to (first ++ (second ++ line ∷ [])) marks
     (ap (λ marks. unwritten marks to) (after-append first (second ++ line ∷ []) marks) ∙ last-written second line (after first marks) refl)
 
@@ -98,9 +98,9 @@ IsOperand-pair (Some value) sizes marks lines free below written = IsOperand-imm
 IsOperand-pair None sizes marks lines free below written = record { there = lt-ltb free 8 below; readable = refl; written = written }
 
 -- an operand may be read after its lines
-pub IsOperand-operand : (term : Term) (known : Known) (sizes : Sizes) (marks : Marks) (free : ℕ) → IsScope known sizes marks → is_term known term ≡ true → need_of term + free ≤ 8 → IsOperand sizes (after (operand_lines term free) marks) (operand term free)
+pub IsOperand-operand : (term : Term) (known : KnownNames) (sizes : Sizes) (marks : Marks) (free : ℕ) → IsScope known sizes marks → is_term known term ≡ true → need_of term + free ≤ 8 → IsOperand sizes (after (operand_lines term free) marks) (operand term free)
 IsOperand-operand (number n) known sizes marks free scope is fits = IsOperand-imm sizes marks n
-IsOperand-operand (truth b) known sizes marks free scope is fits = IsOperand-imm sizes marks (number_of b)
+IsOperand-operand (truth b) known sizes marks free scope is fits = IsOperand-imm sizes marks (bool_number b)
 IsOperand-operand (name v) known sizes marks free scope is fits = IsOperand-name v known sizes marks scope is
 IsOperand-operand (pair o place left right) known sizes marks free scope is fits =
     IsOperand-pair (known_value (pair o place left right)) sizes marks (into (reg.Temp free) (pair o place left right) free) free (omega (arith, fits)) (into-written (pair o place left right) (reg.Temp free) free marks)
@@ -111,7 +111,7 @@ pub line-allowed : (line : Line) (sizes : Sizes) (part : Part) (ends : Bool) (ma
 line-allowed line sizes part true marks none = (none, tt)
 line-allowed line sizes part false marks none = (none, tt)
 
-pub joined-allowed : (o : Op) (to : Reg) (place : Place) (left right : Term) (known : Known) (sizes : Sizes) (part : Part) (ends : Bool) (marks : Marks) (free : ℕ)
+pub joined-allowed : (o : Op) (to : Reg) (place : Place) (left right : Term) (known : KnownNames) (sizes : Sizes) (part : Part) (ends : Bool) (marks : Marks) (free : ℕ)
     → IsScope known sizes marks → is_term known left ≡ true → is_term known right ≡ true → need_of left + free ≤ 8 → need_of right + free_after left free ≤ 8
     → AreAllowed sizes part false marks (operand_lines left free)
     → AreAllowed sizes part false (after (operand_lines left free) marks) (operand_lines right (free_after left free))
@@ -120,7 +120,7 @@ pub joined-allowed : (o : Op) (to : Reg) (place : Place) (left right : Term) (kn
     → AreAllowed sizes part ends marks (joined o to place left (into (reg.Temp free) left free) right (into (reg.Temp (free_after left free)) right (free_after left free)) free)
 joined-allowed o to place left right known sizes part ends marks free scope is_left is_right left_fits right_fits left_allowed right_allowed none =
     let next = free_after left free in
-    let line : Line = line_of o to (operand left free) (operand right next) place in
+    let line : Line = code_line o to (operand left free) (operand right next) place in
     let first = operand_lines left free in
     let second = operand_lines right next in
     let between = after first marks in
@@ -141,13 +141,13 @@ unless_known-allowed (Some value) to sizes part ends marks lines target allowed 
     line-allowed (bind_line to (reg.Imm value)) sizes part ends marks (bind-none to (reg.Imm value) sizes part ends marks target (IsOperand-imm sizes marks value))
 unless_known-allowed None to sizes part ends marks lines target allowed = allowed
 
-pub into-allowed : (term : Term) (to : Reg) (free : ℕ) (known : Known) (sizes : Sizes) (part : Part) (ends : Bool) (marks : Marks) → IsScope known sizes marks → is_term known term ≡ true → need_of term + free ≤ 8 → IsTarget sizes part ends to → AreAllowed sizes part ends marks (into to term free)
+pub into-allowed : (term : Term) (to : Reg) (free : ℕ) (known : KnownNames) (sizes : Sizes) (part : Part) (ends : Bool) (marks : Marks) → IsScope known sizes marks → is_term known term ≡ true → need_of term + free ≤ 8 → IsTarget sizes part ends to → AreAllowed sizes part ends marks (into to term free)
 into-allowed (number n) to free known sizes part ends marks scope is fits target =
     line-allowed (bind_line to (reg.Imm n)) sizes part ends marks (bind-none to (reg.Imm n) sizes part ends marks target (IsOperand-imm sizes marks n))
 into-allowed (truth b) to free known sizes part ends marks scope is fits target =
-    line-allowed (bind_line to (reg.Imm (number_of b))) sizes part ends marks (bind-none to (reg.Imm (number_of b)) sizes part ends marks target (IsOperand-imm sizes marks (number_of b)))
+    line-allowed (bind_line to (reg.Imm (bool_number b))) sizes part ends marks (bind-none to (reg.Imm (bool_number b)) sizes part ends marks target (IsOperand-imm sizes marks (bool_number b)))
 into-allowed (name v) to free known sizes part ends marks scope is fits target =
-    line-allowed (bind_line to (reg_of v)) sizes part ends marks (bind-none to (reg_of v) sizes part ends marks target (IsOperand-name v known sizes marks scope is))
+    line-allowed (bind_line to (variable_reg v)) sizes part ends marks (bind-none to (variable_reg v) sizes part ends marks target (IsOperand-name v known sizes marks scope is))
 into-allowed (pair o place left right) to free known sizes part ends marks scope is fits target =
     let parts = and_parts (is_term known left) (is_term known right) is in
     let next = free_after left free in

@@ -13,7 +13,7 @@ use Rattle.reg_code.specs.declared.rule.Part.TheVariants.{Condition, Body}
 use Rattle.reg_code.specs.declared.rule.Rule.{Rule}
 use Rattle.reg_code.specs.declared.rule.Rule.TheVariants as rule
 use Rattle.reg_code.specs.declared.rule.Sizes.{Sizes}
-use Rattle.reg_code.specs.AcceptedCode.{rule_where, Marks, writes, is_there, is_readable, unwritten, is_bind, is_ewma, is_zero, is_weight, is_fixed, is_micros, is_flag, is_temp, is_in_condition, rule_failed}
+use Rattle.reg_code.specs.AcceptedCode.{rule_where, Marks, writes, is_there, is_readable, unwritten, is_bind, is_ewma, is_zero, is_weight, is_fixed, is_micros, is_flag_reg, is_temp, is_in_condition, rule_failed}
 use Rattle.reg_code.specs.SoundLaws.{IsAllowed}
 use Rattle.reg_compiler.proofs.AllowedLines.{Grows, or_else-none, written-grows}
 
@@ -55,9 +55,9 @@ pub record IsTarget (sizes : Sizes) (part : Part) (ends : Bool) (r : Reg) : Type
   pub there : is_there sizes r ≡ true
   pub free : is_fixed r ≡ false
   pub timeless : is_micros r ≡ false
-  pub in_condition : (is_in_condition part && not (is_temp r || is_flag r)) ≡ false
-  pub in_body : (not (is_in_condition part) && is_flag r) ≡ false
-  pub at_end : (is_in_condition part && ends && not (is_flag r)) ≡ false
+  pub in_condition : (is_in_condition part && not (is_temp r || is_flag_reg r)) ≡ false
+  pub in_body : (not (is_in_condition part) && is_flag_reg r) ≡ false
+  pub at_end : (is_in_condition part && ends && not (is_flag_reg r)) ≡ false
 
 pub IsTarget-temp : (sizes : Sizes) (part : Part) (i : ℕ) → i < 8 → IsTarget sizes part false (reg.Temp i)
 IsTarget-temp sizes Condition i below = record { there = lt-ltb i 8 below; free = refl; timeless = refl; in_condition = refl; in_body = refl; at_end = refl }
@@ -99,7 +99,7 @@ plain-none o to left right sizes part ends marks plain bound target first second
           (and_left (is_micros to) _ target.timeless))
           target.in_condition)
           target.in_body)
-          (at_end-writes (writes o) (is_in_condition part) ends (is_flag to) plain.writes target.at_end))
+          (at_end-writes (writes o) (is_in_condition part) ends (is_flag_reg to) plain.writes target.at_end))
           (and_left (is_ewma o) (not (is_readable to)) plain.no_ewma);
     })
 

@@ -12,23 +12,23 @@ use Rattle.ccp_base.specs.Chaining.{then_do}
 use Rattle.ccp_base.specs.Truth.{is_true}
 use Rattle.portus_core.specs.Value.{at_place, read_of}
 use Rattle.ccp_base.specs.Blending.{blended}
-use Rattle.portus_core.specs.Command.{Going, with_local, written, written_where, value_in, command_of, body_of}
-use Rattle.portus_core.specs.ValidPrograms.{Known, is_next_local, term_is_truth, known_after}
+use Rattle.portus_core.specs.Command.{Going, with_local, written, written_where, value_in, command_of, run_commands}
+use Rattle.portus_core.specs.ValidPrograms.{KnownNames, is_next_local, term_is_truth, known_after}
 use Rattle.portus_core.specs.ValidPrograms as names
 
-pub record Sized (known : Known) (env : Env) : Type 0 where
+pub record Sized (known : KnownNames) (env : Env) : Type 0 where
   pub fields : length env.fields ≡ length known.fields
   pub controls : length env.controls ≡ length known.controls
 
-pub record Fits (known : Known) (going : Going) : Type 0 where
+pub record Fits (known : KnownNames) (going : Going) : Type 0 where
   pub sized : Sized known going.env
   pub locals : (i : ℕ) → i < length known.locals → going.locals i ≡ Some (unwrap_or (going.locals i) 0)
 
-local-written : (known : Known) (going : Going) (i value : ℕ) → Fits known going → (j : ℕ) → j < length known.locals → with_local going.locals i value j ≡ Some (unwrap_or (with_local going.locals i value j) 0)
+local-written : (known : KnownNames) (going : Going) (i value : ℕ) → Fits known going → (j : ℕ) → j < length known.locals → with_local going.locals i value j ≡ Some (unwrap_or (with_local going.locals i value j) 0)
 local-written known going i value fits j below =
     elim (j == i) as (λ b. cond b (Some value) (going.locals j) ≡ Some (unwrap_or (cond b (Some value) (going.locals j)) 0)) [ true ↦ refl | false ↦ fits.locals j below ]
 
-Fits-written : (known : Known) (v : Var) (value : ℕ) (going : Going) → Fits known going → Fits known (written v value going)
+Fits-written : (known : KnownNames) (v : Var) (value : ℕ) (going : Going) → Fits known going → Fits known (written v value going)
 Fits-written known (var.Field i) value going fits = record {
   sized = record { fields = length-set going.env.fields i value ∙ fits.sized.fields; controls = fits.sized.controls };
   locals = fits.locals;
@@ -43,17 +43,17 @@ Fits-written known var.Rate value going fits = record { sized = record { fields 
 Fits-written known var.Micros value going fits = fits
 Fits-written known (var.Prim n) value going fits = fits
 
-Fits-written_where : (known : Known) (holds : Bool) (v : Var) (value : ℕ) (going : Going) → Fits known going → Fits known (written_where holds v value going)
+Fits-written_where : (known : KnownNames) (holds : Bool) (v : Var) (value : ℕ) (going : Going) → Fits known going → Fits known (written_where holds v value going)
 Fits-written_where known true v value going fits = Fits-written known v value going fits
 Fits-written_where known false v value going fits = fits
 
 -- one more local
-next-written : (known : Known) (told is : Bool) (going : Going) (i value j : ℕ) → i ≡ length known.locals → Fits known going → (j == i) ≡ is → j < length (known.locals ++ told ∷ []) → cond is (Some value) (going.locals j) ≡ Some (unwrap_or (cond is (Some value) (going.locals j)) 0)
+next-written : (known : KnownNames) (told is : Bool) (going : Going) (i value j : ℕ) → i ≡ length known.locals → Fits known going → (j == i) ≡ is → j < length (known.locals ++ told ∷ []) → cond is (Some value) (going.locals j) ≡ Some (unwrap_or (cond is (Some value) (going.locals j)) 0)
 next-written known told true going i value j next fits is below = refl
 next-written known told false going i value j next fits is below =
     fits.locals j (omega (arith, below, length-append known.locals (told ∷ []), next, eqb-false j i is))
 
-Fits-next : (known : Known) (v : Var) (told : Bool) (value : ℕ) (going : Going) → is_next_local known v ≡ true → Fits known going → Fits (names.with_local known true told) (written v value going)
+Fits-next : (known : KnownNames) (v : Var) (told : Bool) (value : ℕ) (going : Going) → is_next_local known v ≡ true → Fits known going → Fits (names.with_known_local known true told) (written v value going)
 Fits-next known (var.Local i) told value going is fits = record {
   sized = record { fields = fits.sized.fields; controls = fits.sized.controls };
   locals = λ j below. next-written known told (j == i) going i value j (eqb-true i (length known.locals) (and_parts (i == length known.locals) (nat_lt i 8) is).0) fits refl below;
@@ -65,7 +65,7 @@ Fits-next known var.Cwnd told value going is fits = absurd (cc)
 Fits-next known var.Rate told value going is fits = absurd (cc)
 Fits-next known var.Micros told value going is fits = absurd (cc)
 
-Fits-set : (known : Known) (v : Var) (is told : Bool) (value : ℕ) (going : Going) → is_next_local known v ≡ is → Fits known going → Fits (names.with_local known is told) (written v value going)
+Fits-set : (known : KnownNames) (v : Var) (is told : Bool) (value : ℕ) (going : Going) → is_next_local known v ≡ is → Fits known going → Fits (names.with_known_local known is told) (written v value going)
 Fits-set known v true told value going is fits = Fits-next known v told value going is fits
 Fits-set known v false told value going is fits = Fits-written known v value going fits
 
@@ -73,7 +73,7 @@ IfOk-then_do : {A B F : Type 0} (result : Result A F) (next : A → Result B F) 
 IfOk-then_do (Ok a) next P keeps = keeps a
 IfOk-then_do (Err fault) next P keeps = tt
 
-pub Fits-command : (known : Known) (action : Action) (ack : Ack) (going : Going) → Fits known going → IfOk (command_of action ack going) (Fits (known_after known action))
+pub Fits-command : (known : KnownNames) (action : Action) (ack : Ack) (going : Going) → Fits known going → IfOk (command_of action ack going) (Fits (known_after known action))
 Fits-command known (set v term) ack going fits =
     IfOk-then_do (value_in term ack going) (λ value. Ok (written v value going)) (Fits (known_after known (set v term)))
     (λ value. Fits-set known v (is_next_local known v) (term_is_truth known term) value going refl fits)
@@ -94,11 +94,11 @@ Fits-command known report ack going fits = record { sized = fits.sized; locals =
 Fits-command known fall ack going fits = record { sized = fits.sized; locals = fits.locals }
 
 -- a command adds a local at most
-Sized-without : (known : Known) (is told : Bool) (env : Env) → Sized (names.with_local known is told) env → Sized known env
+Sized-without : (known : KnownNames) (is told : Bool) (env : Env) → Sized (names.with_known_local known is told) env → Sized known env
 Sized-without known true told env sized = record { fields = sized.fields; controls = sized.controls }
 Sized-without known false told env sized = sized
 
-Sized-before : (known : Known) (action : Action) (env : Env) → Sized (known_after known action) env → Sized known env
+Sized-before : (known : KnownNames) (action : Action) (env : Env) → Sized (known_after known action) env → Sized known env
 Sized-before known (set v term) env sized = Sized-without known (is_next_local known v) (term_is_truth known term) env sized
 Sized-before known (set_if place v condition term) env sized = sized
 Sized-before known (set_unless place v condition term) env sized = sized
@@ -115,10 +115,10 @@ IfOk-weaker : {A F : Type 0} (result : Result A F) (Q P : A → Type 0) → ((a 
 IfOk-weaker (Ok a) Q P weaker holds = weaker a holds
 IfOk-weaker (Err fault) Q P weaker holds = tt
 
-pub Sized-body : (known : Known) (actions : List Action) (ack : Ack) (going : Going) → Fits known going → IfOk (body_of actions ack going) (λ after. Sized known after.env)
+pub Sized-body : (known : KnownNames) (actions : List Action) (ack : Ack) (going : Going) → Fits known going → IfOk (run_commands actions ack going) (λ after. Sized known after.env)
 Sized-body known [] ack going fits = fits.sized
 Sized-body known (action ∷ rest) ack going fits =
-    IfOk-in_turn (command_of action ack going) (body_of rest ack) (Fits (known_after known action)) (λ after. Sized known after.env)
+    IfOk-in_turn (command_of action ack going) (run_commands rest ack) (Fits (known_after known action)) (λ after. Sized known after.env)
     (Fits-command known action ack going fits)
-    (λ after fits_after. IfOk-weaker (body_of rest ack after) (λ last. Sized (known_after known action) last.env) (λ last. Sized known last.env)
+    (λ after fits_after. IfOk-weaker (run_commands rest ack after) (λ last. Sized (known_after known action) last.env) (λ last. Sized known last.env)
     (λ last. Sized-before known action last.env) (Sized-body (known_after known action) rest ack after fits_after))

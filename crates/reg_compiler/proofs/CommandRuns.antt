@@ -6,7 +6,7 @@ use Rattle.std.specs.Prelude.{IfOk}
 use Rattle.ccp_base.specs.declared.ack.Ack.{Ack}
 use Rattle.ccp_base.specs.Limits.{primitive_count}
 use Rattle.ccp_base.specs.declared.place.Place.{Place}
-use Rattle.ccp_base.specs.Acknowledgement.{number_of, primitives}
+use Rattle.ccp_base.specs.Acknowledgement.{bool_number, primitives}
 use Rattle.ccp_base.specs.Limits.{primitive_count}
 use Rattle.portus_core.specs.declared.program.Var.{Var}
 use Rattle.portus_core.specs.declared.program.Var.TheVariants as var
@@ -15,18 +15,18 @@ use Rattle.ccp_base.specs.Chaining.{then_do as then_value}
 use Rattle.ccp_base.specs.Truth.{is_true}
 use Rattle.portus_core.specs.Value.{Cause, at_place, read_of}
 use Rattle.ccp_base.specs.Blending.{blended}
-use Rattle.portus_core.specs.Command.{Going, written_where, value_in, command_of, body_of}
+use Rattle.portus_core.specs.Command.{Going, written_where, value_in, command_of, run_commands}
 use Rattle.portus_core.specs.Command as source
-use Rattle.portus_core.specs.ValidPrograms.{Known, is_known, is_term, is_truth, is_writable, is_target, is_next_local, is_condition, fits_target, term_is_truth, is_action, known_after, is_body}
+use Rattle.portus_core.specs.ValidPrograms.{KnownNames, is_known, is_term, is_truth, is_writable, is_target, is_next_local, is_condition, fits_target, term_is_truth, is_action, known_after, is_body}
 use Rattle.reg_code.specs.declared.code.Op.{Op}
 use Rattle.reg_code.specs.declared.code.Op.TheVariants as op
 use Rattle.ccp_base.specs.Chaining.{then_do}
-use Rattle.reg_code.specs.CodeStep.{Variables, Regs, read, written, put, with_operand}
+use Rattle.reg_code.specs.CodeStep.{Variables, Regs, register_value, written, put, with_operand}
 use Rattle.ccp_base.specs.Blending.{blended as mixed_as}
 use Rattle.reg_code.specs.CodeStep as code
 use Rattle.reg_compiler.specs.declared.line.Line.{Line}
 use Rattle.reg_compiler.specs.Simulation.{kept_of}
-use Rattle.reg_compiler.specs.CompiledCode.{reg_of, free_after, into, both_into, action_lines, body_lines}
+use Rattle.reg_compiler.specs.CompiledCode.{variable_reg, free_after, into, both_into, action_lines, body_lines}
 use Rattle.reg_compiler.proofs.LineRuns.{Halt, placed, run_lines, halting, Comes, run_lines-append}
 use Rattle.reg_compiler.proofs.OperandRuns.{Reads, operated}
 use Rattle.reg_compiler.proofs.ExpressionRuns.{placed-put, told, Comes-as, Comes-both, Comes-into}
@@ -37,8 +37,8 @@ abbrev pub regs_of : Going → ℕ → Variables → Regs
 regs_of going flag temps = record {
   kept = kept_of going.env;
   flag = flag;
-  fall = number_of going.falls;
-  send = number_of going.asked;
+  fall = bool_number going.falls;
+  send = bool_number going.asked;
   locals = going.locals;
   temps = temps;
 }
@@ -47,7 +47,7 @@ regs_of going flag temps = record {
 abbrev pub went : Result Going Cause → ℕ → Variables → Result Regs Halt
 went result flag temps = halting result (λ going. Ok (regs_of going flag temps))
 
-pub Reads-regs_of : (known : Known) (going : Going) (flag : ℕ) (temps : Variables) (ack : Ack) → Fits known going → Reads known going.env going.locals ack (regs_of going flag temps)
+pub Reads-regs_of : (known : KnownNames) (going : Going) (flag : ℕ) (temps : Variables) (ack : Ack) → Fits known going → Reads known going.env going.locals ack (regs_of going flag temps)
 Reads-regs_of known going flag temps ack fits (var.Field i) is =
     slice_get-get_or going.env.fields i 0 (omega (arith, ltb-true i (length known.fields) is, fits.sized.fields))
 Reads-regs_of known going flag temps ack fits (var.Control i) is =
@@ -58,7 +58,7 @@ Reads-regs_of known going flag temps ack fits var.Cwnd is = refl
 Reads-regs_of known going flag temps ack fits var.Rate is = refl
 Reads-regs_of known going flag temps ack fits var.Micros is = refl
 
-written-regs_of : (v : Var) (value : ℕ) (ack : Ack) (going : Going) (flag : ℕ) (temps : Variables) → is_writable v ≡ true → written (reg_of v) value ack (regs_of going flag temps) ≡ regs_of (source.written v value going) flag temps
+written-regs_of : (v : Var) (value : ℕ) (ack : Ack) (going : Going) (flag : ℕ) (temps : Variables) → is_writable v ≡ true → written (variable_reg v) value ack (regs_of going flag temps) ≡ regs_of (source.written v value going) flag temps
 written-regs_of (var.Field i) value ack going flag temps is = refl
 written-regs_of (var.Control i) value ack going flag temps is = refl
 written-regs_of (var.Local i) value ack going flag temps is = refl
@@ -67,26 +67,26 @@ written-regs_of var.Rate value ack going flag temps is = refl
 written-regs_of var.Micros value ack going flag temps is = cc
 written-regs_of (var.Prim n) value ack going flag temps is = cc
 
-written_where-regs_of : (holds : Bool) (v : Var) (value : ℕ) (ack : Ack) (going : Going) (flag : ℕ) (temps : Variables) → is_writable v ≡ true → code.written_where holds (reg_of v) value ack (regs_of going flag temps) ≡ regs_of (written_where holds v value going) flag temps
+written_where-regs_of : (holds : Bool) (v : Var) (value : ℕ) (ack : Ack) (going : Going) (flag : ℕ) (temps : Variables) → is_writable v ≡ true → code.written_where holds (variable_reg v) value ack (regs_of going flag temps) ≡ regs_of (written_where holds v value going) flag temps
 written_where-regs_of true v value ack going flag temps is = written-regs_of v value ack going flag temps is
 written_where-regs_of false v value ack going flag temps is = refl
 
 -- an assignment
 told-went : (result : Result ℕ Cause) (v : Var) (ack : Ack) (going : Going) (flag : ℕ) (before temps : Variables) → is_writable v ≡ true
-    → told result (reg_of v) ack (regs_of going flag before) temps ≡ went (then_value result (λ value. Ok (source.written v value going))) flag temps
+    → told result (variable_reg v) ack (regs_of going flag before) temps ≡ went (then_value result (λ value. Ok (source.written v value going))) flag temps
 told-went (Ok value) v ack going flag before temps is = ap (λ (r : Regs). Ok r) (written-regs_of v value ack going flag temps is)
 told-went (Err cause) v ack going flag before temps is = refl
 
 -- an assignment where a condition holds
 if-went : (condition result : Result ℕ Cause) (v : Var) (place : Place) (ack : Ack) (going : Going) (flag : ℕ) (before temps : Variables) → is_writable v ≡ true
-    → operated op.If (reg_of v) place condition result ack (regs_of going flag before) temps
+    → operated op.If (variable_reg v) place condition result ack (regs_of going flag before) temps
     ≡ went (then_value condition (λ held. then_value result (λ value. Ok (written_where (is_true held) v value going)))) flag temps
 if-went (Ok held) (Ok value) v place ack going flag before temps is = ap (λ (r : Regs). Ok r) (written_where-regs_of (is_true held) v value ack going flag temps is)
 if-went (Ok held) (Err cause) v place ack going flag before temps is = refl
 if-went (Err cause) result v place ack going flag before temps is = refl
 
 unless-went : (condition result : Result ℕ Cause) (v : Var) (place : Place) (ack : Ack) (going : Going) (flag : ℕ) (before temps : Variables) → is_writable v ≡ true
-    → operated op.NotIf (reg_of v) place condition result ack (regs_of going flag before) temps
+    → operated op.NotIf (variable_reg v) place condition result ack (regs_of going flag before) temps
     ≡ went (then_value condition (λ held. then_value result (λ value. Ok (written_where (not (is_true held)) v value going)))) flag temps
 unless-went (Ok held) (Ok value) v place ack going flag before temps is = ap (λ (r : Regs). Ok r) (written_where-regs_of (not (is_true held)) v value ack going flag temps is)
 unless-went (Ok held) (Err cause) v place ack going flag before temps is = refl
@@ -94,27 +94,27 @@ unless-went (Err cause) result v place ack going flag before temps is = refl
 
 -- a number moved towards a value
 ewma-went : (result : Result ℕ Cause) (weight old : ℕ) (v : Var) (place : Place) (ack : Ack) (going : Going) (flag : ℕ) (before temps : Variables) → is_writable v ≡ true
-    → read (reg_of v) (regs_of going flag temps) ack ≡ Some old
-    → operated op.Ewma (reg_of v) place (Ok weight) result ack (regs_of going flag before) temps
+    → register_value (variable_reg v) (regs_of going flag temps) ack ≡ Some old
+    → operated op.Ewma (variable_reg v) place (Ok weight) result ack (regs_of going flag before) temps
     ≡ went (then_value result (λ value. then_value (at_place place (blended weight old value)) (λ mixed. Ok (source.written v mixed going)))) flag temps
 ewma-went (Ok value) weight old v place ack going flag before temps is reads =
-    ap (λ read. placed place (with_operand read (λ old. put (reg_of v) (mixed_as weight old value) ack (regs_of going flag temps)))) reads
-    ∙ placed-put place (reg_of v) (mixed_as weight old value) ack (regs_of going flag temps)
+    ap (λ register_value. placed place (with_operand register_value (λ old. put (variable_reg v) (mixed_as weight old value) ack (regs_of going flag temps)))) reads
+    ∙ placed-put place (variable_reg v) (mixed_as weight old value) ack (regs_of going flag temps)
     ∙ told-went (at_place place (blended weight old value)) v ack going flag before temps is
 ewma-went (Err cause) weight old v place ack going flag before temps is reads = refl
 
-Comes-operated : (known : Known) (o : Op) (v : Var) (place : Place) (left right : Term) (ack : Ack) (going : Going) (flag : ℕ) (temps : Variables) → Fits known going → is_term known left ≡ true → is_term known right ≡ true
-    → Comes (both_into o (reg_of v) place left right) 0 ack (regs_of going flag temps) (operated o (reg_of v) place (value_in left ack going) (value_in right ack going) ack (regs_of going flag temps))
+Comes-operated : (known : KnownNames) (o : Op) (v : Var) (place : Place) (left right : Term) (ack : Ack) (going : Going) (flag : ℕ) (temps : Variables) → Fits known going → is_term known left ≡ true → is_term known right ≡ true
+    → Comes (both_into o (variable_reg v) place left right) 0 ack (regs_of going flag temps) (operated o (variable_reg v) place (value_in left ack going) (value_in right ack going) ack (regs_of going flag temps))
 Comes-operated known o v place left right ack going flag temps fits is_left is_right =
     let reads = Reads-regs_of known going flag temps ack fits in
-    Comes-both known going.env going.locals o (reg_of v) place left right 0 ack (regs_of going flag temps) reads is_left is_right
+    Comes-both known going.env going.locals o (variable_reg v) place left right 0 ack (regs_of going flag temps) reads is_left is_right
     (Comes-into known going.env going.locals _ left 0 ack (regs_of going flag temps) reads is_left)
     (λ more. Comes-into known going.env going.locals _ right (free_after left 0) ack (regs_of going flag more) (Reads-regs_of known going flag more ack fits) is_right)
 
-target-writable : (known : Known) (v : Var) (rest : Bool) → is_target known v && rest ≡ true → is_writable v ≡ true
+target-writable : (known : KnownNames) (v : Var) (rest : Bool) → is_target known v && rest ≡ true → is_writable v ≡ true
 target-writable known v rest is = (and_parts (is_known known v) (is_writable v) (and_parts (is_target known v) rest is).0).1
 
-next-writable : (known : Known) (v : Var) → is_next_local known v ≡ true → is_writable v ≡ true
+next-writable : (known : KnownNames) (v : Var) → is_next_local known v ≡ true → is_writable v ≡ true
 next-writable known (var.Local i) is = refl
 next-writable known (var.Field i) is = refl
 next-writable known (var.Control i) is = refl
@@ -123,14 +123,14 @@ next-writable known var.Rate is = refl
 next-writable known var.Micros is = cc
 next-writable known (var.Prim n) is = cc
 
-Comes-set : (known : Known) (v : Var) (term : Term) (ack : Ack) (going : Going) (flag : ℕ) (temps : Variables) → Fits known going → is_writable v ≡ true → is_term known term ≡ true
-    → Comes (into (reg_of v) term 0) 0 ack (regs_of going flag temps) (went (command_of (set v term) ack going) flag)
+Comes-set : (known : KnownNames) (v : Var) (term : Term) (ack : Ack) (going : Going) (flag : ℕ) (temps : Variables) → Fits known going → is_writable v ≡ true → is_term known term ≡ true
+    → Comes (into (variable_reg v) term 0) 0 ack (regs_of going flag temps) (went (command_of (set v term) ack going) flag)
 Comes-set known v term ack going flag temps fits writable is =
-    Comes-as (into (reg_of v) term 0) 0 ack (regs_of going flag temps) (told (value_in term ack going) (reg_of v) ack (regs_of going flag temps)) (went (command_of (set v term) ack going) flag)
+    Comes-as (into (variable_reg v) term 0) 0 ack (regs_of going flag temps) (told (value_in term ack going) (variable_reg v) ack (regs_of going flag temps)) (went (command_of (set v term) ack going) flag)
     (λ more. told-went (value_in term ack going) v ack going flag temps more writable)
-    (Comes-into known going.env going.locals (reg_of v) term 0 ack (regs_of going flag temps) (Reads-regs_of known going flag temps ack fits) is)
+    (Comes-into known going.env going.locals (variable_reg v) term 0 ack (regs_of going flag temps) (Reads-regs_of known going flag temps ack fits) is)
 
-pub Comes-command : (known : Known) (action : Action) (ack : Ack) (going : Going) (flag : ℕ) (temps : Variables) → Fits known going → is_action known action ≡ true
+pub Comes-command : (known : KnownNames) (action : Action) (ack : Ack) (going : Going) (flag : ℕ) (temps : Variables) → Fits known going → is_action known action ≡ true
     → Comes (action_lines action) 0 ack (regs_of going flag temps) (went (command_of action ack going) flag)
 Comes-command known (set v term) ack going flag temps fits is = elim (or_cases (is_target known v && fits_target known v term) (is_next_local known v && is_term known term) is) [
   | inl target ↦ Comes-set known v term ack going flag temps fits (target-writable known v (fits_target known v term) target)
@@ -139,8 +139,8 @@ Comes-command known (set v term) ack going flag temps fits is = elim (or_cases (
 ]
 Comes-command known (set_if place v condition term) ack going flag temps fits is =
     let both = (and_parts (is_target known v && is_condition known condition) (fits_target known v term) is).0 in
-    Comes-as (both_into op.If (reg_of v) place condition term) 0 ack (regs_of going flag temps)
-    (operated op.If (reg_of v) place (value_in condition ack going) (value_in term ack going) ack (regs_of going flag temps))
+    Comes-as (both_into op.If (variable_reg v) place condition term) 0 ack (regs_of going flag temps)
+    (operated op.If (variable_reg v) place (value_in condition ack going) (value_in term ack going) ack (regs_of going flag temps))
     (went (command_of (set_if place v condition term) ack going) flag)
     (λ more. if-went (value_in condition ack going) (value_in term ack going) v place ack going flag temps more (target-writable known v (is_condition known condition) both))
     (Comes-operated known op.If v place condition term ack going flag temps fits
@@ -148,8 +148,8 @@ Comes-command known (set_if place v condition term) ack going flag temps fits is
     (and_parts (is_term known term) (not (is_truth known v) || term_is_truth known term) (and_parts (is_target known v && is_condition known condition) (fits_target known v term) is).1).0)
 Comes-command known (set_unless place v condition term) ack going flag temps fits is =
     let both = (and_parts (is_target known v && is_condition known condition) (fits_target known v term) is).0 in
-    Comes-as (both_into op.NotIf (reg_of v) place condition term) 0 ack (regs_of going flag temps)
-    (operated op.NotIf (reg_of v) place (value_in condition ack going) (value_in term ack going) ack (regs_of going flag temps))
+    Comes-as (both_into op.NotIf (variable_reg v) place condition term) 0 ack (regs_of going flag temps)
+    (operated op.NotIf (variable_reg v) place (value_in condition ack going) (value_in term ack going) ack (regs_of going flag temps))
     (went (command_of (set_unless place v condition term) ack going) flag)
     (λ more. unless-went (value_in condition ack going) (value_in term ack going) v place ack going flag temps more (target-writable known v (is_condition known condition) both))
     (Comes-operated known op.NotIf v place condition term ack going flag temps fits
@@ -160,8 +160,8 @@ Comes-command known (ewma place v weight term) ack going flag temps fits is =
     let weighted = (and_parts (number_too && nat_le weight 10) (is_term known term) is).0 in
     let target = (and_parts number_too (nat_le weight 10) weighted).0 in
     let is_known_too = (and_parts (is_known known v) (is_writable v) (and_parts (is_target known v) (not (is_truth known v)) target).0).0 in
-    Comes-as (both_into op.Ewma (reg_of v) place (number weight) term) 0 ack (regs_of going flag temps)
-    (operated op.Ewma (reg_of v) place (Ok weight) (value_in term ack going) ack (regs_of going flag temps))
+    Comes-as (both_into op.Ewma (variable_reg v) place (number weight) term) 0 ack (regs_of going flag temps)
+    (operated op.Ewma (variable_reg v) place (Ok weight) (value_in term ack going) ack (regs_of going flag temps))
     (went (command_of (ewma place v weight term) ack going) flag)
     (λ more. ewma-went (value_in term ack going) weight (read_of v going.env going.locals ack) v place ack going flag temps more
     (target-writable known v (not (is_truth known v)) target) (Reads-regs_of known going flag more ack fits v is_known_too))
@@ -189,11 +189,11 @@ Comes-then lines rest (Err cause) P next flag ack regs holds front back = record
 }
 
 -- the commands of a body in turn
-pub Comes-body : (known : Known) (locals : ℕ) (actions : List Action) (ack : Ack) (going : Going) (flag : ℕ) (temps : Variables) → Fits known going → is_body known locals actions ≡ true
-    → Comes (body_lines actions) 0 ack (regs_of going flag temps) (went (body_of actions ack going) flag)
+pub Comes-body : (known : KnownNames) (locals : ℕ) (actions : List Action) (ack : Ack) (going : Going) (flag : ℕ) (temps : Variables) → Fits known going → is_body known locals actions ≡ true
+    → Comes (body_lines actions) 0 ack (regs_of going flag temps) (went (run_commands actions ack going) flag)
 Comes-body known locals [] ack going flag temps fits is = record { temps = temps; same = λ i below. refl; ran = refl }
 Comes-body known locals (action ∷ rest) ack going flag temps fits is =
-    Comes-then (action_lines action) (body_lines rest) (command_of action ack going) (Fits (known_after known action)) (body_of rest ack) flag ack (regs_of going flag temps)
+    Comes-then (action_lines action) (body_lines rest) (command_of action ack going) (Fits (known_after known action)) (run_commands rest ack) flag ack (regs_of going flag temps)
     (Fits-command known action ack going fits)
     (Comes-command known action ack going flag temps fits (and_parts (is_action known action) (is_body (known_after known action) locals rest) is).0)
     (λ after fits_after more. Comes-body (known_after known action) locals rest ack after flag more fits_after (and_parts (is_action known action) (is_body (known_after known action) locals rest) is).1)

@@ -8,7 +8,7 @@ use Rattle.reg_code.specs.declared.code.Code.{Code}
 use Rattle.reg_compiler.specs.Counts.{form_count, lean}
 use Rattle.reg_compiler.specs.Needs.{deep_form}
 use Rattle.reg_compiler.specs.Simulation.{Simulates}
-use Rattle.reg_compiler.specs.CompiledCode.{lines_of, instr_of, place_of, code_of, places_of}
+use Rattle.reg_compiler.specs.CompiledCode.{lines_of, instr_of, line_place, code_of, places_of}
 use Rattle.reg_compiler.proofs.Accepted.{IsAccepted-compiled}
 use Rattle.reg_compiler.proofs.Means.{MeansAlike-compiled}
 use Rattle.reg_compiler.proofs.Sizes.{length-lines, lean-count}
@@ -16,7 +16,7 @@ use Rattle.reg_compiler.proofs.Sizes.{length-lines, lean-count}
 pub Simulates-compiled : (form : Form) → IsTrue (is_valid form) → deep_form form ≡ None → form_count form ≤ 256 → Simulates form (code_of form) (places_of form)
 Simulates-compiled form valid none few = (
   IsAccepted-compiled form valid none few,
-  length-map (lines_of form.blocks) place_of ∙ sym (length-map (lines_of form.blocks) instr_of),
+  length-map (lines_of form.blocks) line_place ∙ sym (length-map (lines_of form.blocks) instr_of),
   (refl, refl),
   MeansAlike-compiled form valid,
 )

@@ -4,14 +4,14 @@ use Rattle.std.proofs.lemmas.Bool.{and_parts}
 use Rattle.ccp_base.specs.declared.ack.Ack.{Ack}
 use Rattle.ccp_base.specs.declared.arithmetic.FaultKind.{FaultKind}
 use Rattle.ccp_base.specs.declared.place.Place.{Place}
-use Rattle.ccp_base.specs.Acknowledgement.{number_of}
+use Rattle.ccp_base.specs.Acknowledgement.{bool_number}
 use Rattle.portus_core.specs.declared.env.Env.{Env}
 use Rattle.ccp_base.specs.declared.operation.Op2.{Op2}
 use Rattle.portus_core.specs.Programs.{Term, number, truth, name, pair}
 use Rattle.ccp_base.specs.Chaining.{then_do as then_value}
 use Rattle.portus_core.specs.Value.{Cause, Locals, at_place, value_of}
 use Rattle.ccp_base.specs.Operations.{applied}
-use Rattle.portus_core.specs.ValidPrograms.{Known, is_term}
+use Rattle.portus_core.specs.ValidPrograms.{KnownNames, is_term}
 use Rattle.reg_code.specs.declared.code.Reg.{Reg}
 use Rattle.reg_code.specs.declared.code.Reg.TheVariants as reg
 use Rattle.ccp_base.specs.Chaining.{then_do}
@@ -57,12 +57,12 @@ Comes-known (Some value) result to lines free ack regs is comes = record {
 Comes-known None result to lines free ack regs is comes = comes
 
 -- the operand of an expression whose lines put its value into a temporary
-pub Works-operand : (known : Known) (env : Env) (locals : Locals) (term : Term) (free : ℕ) (ack : Ack) (regs : Regs)
+pub Works-operand : (known : KnownNames) (env : Env) (locals : Locals) (term : Term) (free : ℕ) (ack : Ack) (regs : Regs)
     → Reads known env locals ack regs → is_term known term ≡ true
     → Comes (into (reg.Temp free) term free) free ack regs (told (value_of term env locals ack) (reg.Temp free) ack regs)
     → Works (value_of term env locals ack) (unless_direct (direct term) (into (reg.Temp free) term free)) (operand term free) free (free_after term free) ack regs
 Works-operand known env locals (number n) free ack regs reads is comes = Works-direct (reg.Imm n) n free ack regs (λ more. refl)
-Works-operand known env locals (truth b) free ack regs reads is comes = Works-direct (reg.Imm (number_of b)) (number_of b) free ack regs (λ more. refl)
+Works-operand known env locals (truth b) free ack regs reads is comes = Works-direct (reg.Imm (bool_number b)) (bool_number b) free ack regs (λ more. refl)
 Works-operand known env locals (name v) free ack regs reads is comes = Works-name known env locals v free ack regs reads is
 Works-operand known env locals (pair o place left right) free ack regs reads is comes =
     Works-pair (known_value (pair o place left right)) (value_of (pair o place left right) env locals ack) (into (reg.Temp free) (pair o place left right) free) free ack regs
@@ -73,7 +73,7 @@ next_free-grows (Some from) free = omega arith
 next_free-grows None free = omega arith
 
 -- the lines of two expressions, and then an operation on their values
-pub Comes-both : (known : Known) (env : Env) (locals : Locals) (o : Op) (to : Reg) (place : Place) (left right : Term) (free : ℕ) (ack : Ack) (regs : Regs)
+pub Comes-both : (known : KnownNames) (env : Env) (locals : Locals) (o : Op) (to : Reg) (place : Place) (left right : Term) (free : ℕ) (ack : Ack) (regs : Regs)
     → Reads known env locals ack regs → is_term known left ≡ true → is_term known right ≡ true
     → Comes (into (reg.Temp free) left free) free ack regs (told (value_of left env locals ack) (reg.Temp free) ack regs)
     → ((temps : Variables) → Comes (into (reg.Temp (free_after left free)) right (free_after left free)) (free_after left free) ack (with_temps regs temps) (told (value_of right env locals ack) (reg.Temp (free_after left free)) ack (with_temps regs temps)))
@@ -89,7 +89,7 @@ Comes-both known env locals o to place left right free ack regs reads is_left is
     (λ temps. Works-operand known env locals right later ack (with_temps regs temps) (Reads-with_temps known env locals ack regs temps reads) is_right (right_comes temps))
 
 -- whatever the register, where every name is read from its own
-pub Comes-into : (known : Known) (env : Env) (locals : Locals) (to : Reg) (term : Term) (free : ℕ) (ack : Ack) (regs : Regs)
+pub Comes-into : (known : KnownNames) (env : Env) (locals : Locals) (to : Reg) (term : Term) (free : ℕ) (ack : Ack) (regs : Regs)
     → Reads known env locals ack regs → is_term known term ≡ true → Comes (into to term free) free ack regs (told (value_of term env locals ack) to ack regs)
 Comes-into known env locals to (number n) free ack regs reads is = record { temps = regs.temps; same = λ i below. refl; ran = refl }
 Comes-into known env locals to (truth b) free ack regs reads is = record { temps = regs.temps; same = λ i below. refl; ran = refl }

@@ -4,7 +4,7 @@ use Rattle.ccp_base.specs.declared.ack.Ack.{Ack}
 use Rattle.ccp_base.specs.declared.place.Place.{Place}
 use Rattle.portus_core.specs.Value.{Cause}
 use Rattle.ccp_base.specs.Chaining.{then_do}
-use Rattle.reg_code.specs.CodeStep.{Variables, Regs, Undone, fault, unset, step}
+use Rattle.reg_code.specs.CodeStep.{Variables, Regs, Undone, fault, unset, instr_step}
 use Rattle.reg_compiler.specs.declared.line.Line.{Line}
 
 -- why lines come to no registers: a fault with its place, or a register without a value
@@ -19,7 +19,7 @@ placed place (Err unset) = Err lacking
 
 abbrev pub run_lines : List Line → Ack → Regs → Result Regs Halt
 run_lines [] ack regs = Ok regs
-run_lines (line ∷ rest) ack regs = then_do (placed line.place (step line.instr ack regs)) (run_lines rest ack)
+run_lines (line ∷ rest) ack regs = then_do (placed line.place (instr_step line.instr ack regs)) (run_lines rest ack)
 
 -- what comes after a result of the source, unless it is a fault
 abbrev pub halting : {A : Type 0} → Result A Cause → (A → Result Regs Halt) → Result Regs Halt
@@ -50,4 +50,4 @@ then_do-Ok (Err stop) = refl
 pub run_lines-append : (front back : List Line) (ack : Ack) (regs : Regs) → run_lines (front ++ back) ack regs ≡ then_do (run_lines front ack regs) (run_lines back ack)
 run_lines-append [] back ack regs = refl
 run_lines-append (line ∷ front) back ack regs =
-    then_do-in-turn (placed line.place (step line.instr ack regs)) (run_lines (front ++ back) ack) (run_lines front ack) (run_lines back ack) (run_lines-append front back ack)
+    then_do-in-turn (placed line.place (instr_step line.instr ack regs)) (run_lines (front ++ back) ack) (run_lines front ack) (run_lines back ack) (run_lines-append front back ack)

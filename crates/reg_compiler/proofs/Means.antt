@@ -3,7 +3,7 @@ use Rattle.std.proofs.Common.{◌≡◌, refl, sym, ap, ◌∙◌, subst, ℕ, �
 use Rattle.std.proofs.lemmas.Bool.{and_parts}
 use Rattle.std.specs.Prelude.{IsTrue}
 use Rattle.ccp_base.specs.declared.place.Place.{Place}
-use Rattle.ccp_base.specs.Acknowledgement.{number_of}
+use Rattle.ccp_base.specs.Acknowledgement.{bool_number}
 use Rattle.portus_core.specs.declared.env.Env.{Env}
 use Rattle.portus_core.specs.declared.env.Mean.TheVariants.{Fault}
 use Rattle.portus_core.specs.declared.program.Decl.{Decl}
@@ -11,17 +11,17 @@ use Rattle.portus_core.specs.Programs.{Form}
 use Rattle.ccp_base.specs.Truth.{is_true}
 use Rattle.portus_core.specs.Value.{Cause}
 use Rattle.portus_core.specs.Command.{Going}
-use Rattle.portus_core.specs.Blocks.{begun, blocks_of}
+use Rattle.portus_core.specs.Blocks.{before_blocks, blocks_of}
 use Rattle.portus_core.specs.OneAcknowledgement.{reset, reset_of, answered, settled}
 use Rattle.portus_core.specs.ValidPrograms.{are_parts, known_of, is_valid}
 use Rattle.reg_code.specs.CodeStep.{Kept, Made, Regs, Work, done, failed, stuck, events_of}
 use Rattle.reg_code.specs.CodeStep as code
-use Rattle.reg_compiler.specs.Simulation.{kept_of, start_of, seen, MeansAlike}
+use Rattle.reg_compiler.specs.Simulation.{kept_of, register_start, seen, MeansAlike}
 use Rattle.reg_compiler.specs.CompiledCode.{code_of, places_of}
 use Rattle.reg_compiler.proofs.WorkRuns.{WorksAs}
 use Rattle.reg_compiler.proofs.BlockRuns.{WorksAs-blocks}
 
-reset-starts : (decls : List Decl) (values : List ℕ) → code.reset (map start_of decls) values ≡ reset decls values
+reset-starts : (decls : List Decl) (values : List ℕ) → code.reset (map register_start decls) values ≡ reset decls values
 reset-starts (decl ∷ decls) (value ∷ values) = ap (λ rest. cond decl.volatile decl.start value ∷ rest) (reset-starts decls values)
 reset-starts (decl ∷ decls) [] = refl
 reset-starts [] values = refl
@@ -29,7 +29,7 @@ reset-starts [] values = refl
 kept-reset : (form : Form) (env : Env) → code.reset_of (code_of form) (kept_of env) ≡ kept_of (reset_of form env)
 kept-reset form env =
     let with_lists : List ℕ → List ℕ → Kept = λ reports controls. record { reports = reports; controls = controls; cwnd = env.cwnd; rate = env.rate; zero = env.zero } in
-    ap (λ reports. with_lists reports (code.reset (map start_of form.controls) env.controls)) (reset-starts form.fields env.fields)
+    ap (λ reports. with_lists reports (code.reset (map register_start form.controls) env.controls)) (reset-starts form.fields env.fields)
     ∙ ap (with_lists (reset form.fields env.fields)) (reset-starts form.controls env.controls)
 
 -- what an acknowledgement came to, and what is kept
@@ -43,7 +43,7 @@ Alike-answered false room form places env = (refl, refl)
 Alike-answered true false form places env = (refl, refl)
 Alike-answered true true form places env = (refl, kept-reset form env)
 
-truth-number : (b : Bool) → is_true (number_of b) ≡ b
+truth-number : (b : Bool) → is_true (bool_number b) ≡ b
 truth-number true = refl
 truth-number false = refl
 
@@ -62,7 +62,7 @@ Alike-settled (stuck ran) result form places env room works = absurd works
 
 pub MeansAlike-compiled : (form : Form) → IsTrue (is_valid form) → MeansAlike form (code_of form) (places_of form)
 MeansAlike-compiled form valid env ack room is_env =
-    Alike-settled (events_of (code_of form).events 0 (code_of form).instrs ack 0 (code.begun (kept_of env))) (blocks_of form.blocks ack (begun env)) form (places_of form) env room
-    (WorksAs-blocks form form.blocks (places_of form) 0 ack 0 (code.begun (kept_of env)) (begun env)
+    Alike-settled (events_of (code_of form).events 0 (code_of form).instrs ack 0 (code.before_events (kept_of env))) (blocks_of form.blocks ack (before_blocks env)) form (places_of form) env room
+    (WorksAs-blocks form form.blocks (places_of form) 0 ack 0 (code.before_events (kept_of env)) (before_blocks env)
     (and_parts (nat_le (length form.fields) 64 && nat_le (length form.controls) 64 && nat_le (length form.blocks) 64) (are_parts (known_of form) form.blocks) valid).1
     (record { fields = is_env.fields; controls = is_env.controls }) (refl, refl) refl)

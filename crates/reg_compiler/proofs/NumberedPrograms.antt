@@ -6,11 +6,11 @@ use Rattle.portus_core.specs.declared.program.Var.{Var}
 use Rattle.ccp_base.specs.Limits.{primitive_count}
 use Rattle.portus_core.specs.declared.program.Var.TheVariants as var
 use Rattle.portus_core.specs.Programs.{Term, number, truth, name, pair, Action, set, set_if, set_unless, ewma, zero_micros, report, fall, Part, Form}
-use Rattle.portus_core.specs.ValidPrograms.{Known, is_known, is_target, is_next_local, fits_target, is_condition, is_term, is_truth, term_is_truth, is_writable, is_action, with_local, known_after, is_body, are_parts, known_of, is_valid}
+use Rattle.portus_core.specs.ValidPrograms.{KnownNames, is_known, is_target, is_next_local, fits_target, is_condition, is_term, is_truth, term_is_truth, is_writable, is_action, with_known_local, known_after, is_body, are_parts, known_of, is_valid}
 use Rattle.reg_compiler.specs.Numbered.{is_numbered, is_numbered_term, is_numbered_action, is_numbered_body, are_numbered}
 
 -- names within the limits of a program
-record IsSmall (known : Known) : Type 0 where
+record IsSmall (known : KnownNames) : Type 0 where
   pub fields : length known.fields ≤ 64
   pub controls : length known.controls ≤ 64
   pub locals : length known.locals ≤ 8
@@ -34,7 +34,7 @@ either false b one = inr one
 below_256 : (i n : ℕ) → n ≤ 256 → nat_lt i n ≡ true → nat_lt i 256 ≡ true
 below_256 i n few is = lt-ltb i 256 (omega (arith, ltb-true i n is))
 
-numbered-known : (known : Known) (v : Var) → IsSmall known → is_known known v ≡ true → is_numbered v ≡ true
+numbered-known : (known : KnownNames) (v : Var) → IsSmall known → is_known known v ≡ true → is_numbered v ≡ true
 numbered-known known (var.Field i) small is = below_256 i (length known.fields) (omega (arith, small.fields)) is
 numbered-known known (var.Control i) small is = below_256 i (length known.controls) (omega (arith, small.controls)) is
 numbered-known known (var.Local i) small is = below_256 i (length known.locals) (omega (arith, small.locals)) is
@@ -43,7 +43,7 @@ numbered-known known var.Cwnd small is = refl
 numbered-known known var.Rate small is = refl
 numbered-known known var.Micros small is = refl
 
-numbered-next : (known : Known) (v : Var) → is_next_local known v ≡ true → is_numbered v ≡ true
+numbered-next : (known : KnownNames) (v : Var) → is_next_local known v ≡ true → is_numbered v ≡ true
 numbered-next known (var.Local i) is = below_256 i 8 (lit≤ tt) (second (i == length known.locals) (nat_lt i 8) is)
 numbered-next known (var.Field i) is = absurd (cc)
 numbered-next known (var.Control i) is = absurd (cc)
@@ -52,7 +52,7 @@ numbered-next known var.Cwnd is = refl
 numbered-next known var.Rate is = refl
 numbered-next known var.Micros is = refl
 
-numbered-term : (known : Known) (term : Term) → IsSmall known → is_term known term ≡ true → is_numbered_term term ≡ true
+numbered-term : (known : KnownNames) (term : Term) → IsSmall known → is_term known term ≡ true → is_numbered_term term ≡ true
 numbered-term known (number n) small is = refl
 numbered-term known (truth b) small is = refl
 numbered-term known (name v) small is = numbered-known known v small is
@@ -61,16 +61,16 @@ numbered-term known (pair op place left right) small is =
     (numbered-term known left small (first (is_term known left) (is_term known right) is))
     (numbered-term known right small (second (is_term known left) (is_term known right) is))
 
-numbered-target : (known : Known) (v : Var) → IsSmall known → is_target known v ≡ true → is_numbered v ≡ true
+numbered-target : (known : KnownNames) (v : Var) → IsSmall known → is_target known v ≡ true → is_numbered v ≡ true
 numbered-target known v small is = numbered-known known v small (first (is_known known v) (is_writable v) is)
 
-numbered-condition : (known : Known) (term : Term) → IsSmall known → is_condition known term ≡ true → is_numbered_term term ≡ true
+numbered-condition : (known : KnownNames) (term : Term) → IsSmall known → is_condition known term ≡ true → is_numbered_term term ≡ true
 numbered-condition known term small is = numbered-term known term small (first (is_term known term) (term_is_truth known term) is)
 
-numbered-value : (known : Known) (v : Var) (term : Term) → IsSmall known → fits_target known v term ≡ true → is_numbered_term term ≡ true
+numbered-value : (known : KnownNames) (v : Var) (term : Term) → IsSmall known → fits_target known v term ≡ true → is_numbered_term term ≡ true
 numbered-value known v term small is = numbered-term known term small (first (is_term known term) _ is)
 
-numbered-set : (known : Known) (v : Var) (term : Term) → IsSmall known → is_action known (set v term) ≡ true → is_numbered_action (set v term) ≡ true
+numbered-set : (known : KnownNames) (v : Var) (term : Term) → IsSmall known → is_action known (set v term) ≡ true → is_numbered_action (set v term) ≡ true
 numbered-set known v term small is = elim (either (is_target known v && fits_target known v term) (is_next_local known v && is_term known term) is) [
   | inl old ↦
       both (is_numbered v) (is_numbered_term term)
@@ -82,7 +82,7 @@ numbered-set known v term small is = elim (either (is_target known v && fits_tar
       (numbered-term known term small (second (is_next_local known v) (is_term known term) next))
 ]
 
-numbered-choice : (known : Known) (v : Var) (condition term : Term) → IsSmall known → is_target known v && is_condition known condition && fits_target known v term ≡ true → is_numbered v && (is_numbered_term condition && is_numbered_term term) ≡ true
+numbered-choice : (known : KnownNames) (v : Var) (condition term : Term) → IsSmall known → is_target known v && is_condition known condition && fits_target known v term ≡ true → is_numbered v && (is_numbered_term condition && is_numbered_term term) ≡ true
 numbered-choice known v condition term small is =
     let target = is_target known v in
     let held = is_condition known condition in
@@ -94,7 +94,7 @@ numbered-choice known v condition term small is =
     (numbered-condition known condition small (second target held front))
     (numbered-value known v term small (second (target && held) fits is)))
 
-numbered-action : (known : Known) (action : Action) → IsSmall known → is_action known action ≡ true → is_numbered_action action ≡ true
+numbered-action : (known : KnownNames) (action : Action) → IsSmall known → is_action known action ≡ true → is_numbered_action action ≡ true
 numbered-action known (set v term) small is = numbered-set known v term small is
 numbered-action known (set_if place v condition term) small is = numbered-choice known v condition term small is
 numbered-action known (set_unless place v condition term) small is = numbered-choice known v condition term small is
@@ -109,11 +109,11 @@ numbered-action known zero_micros small is = refl
 numbered-action known report small is = refl
 numbered-action known fall small is = refl
 
-small-with_local : (known : Known) (next told : Bool) → IsSmall known → (next ≡ true → length known.locals < 8) → IsSmall (with_local known next told)
+small-with_local : (known : KnownNames) (next told : Bool) → IsSmall known → (next ≡ true → length known.locals < 8) → IsSmall (with_known_local known next told)
 small-with_local known true told small room = record { fields = small.fields; controls = small.controls; locals = omega (arith, length-append known.locals (told ∷ []), room refl) }
 small-with_local known false told small room = small
 
-room-next : (known : Known) (v : Var) → is_next_local known v ≡ true → length known.locals < 8
+room-next : (known : KnownNames) (v : Var) → is_next_local known v ≡ true → length known.locals < 8
 room-next known (var.Local i) is = omega (arith, ltb-true i 8 (second (i == length known.locals) (nat_lt i 8) is), eqb-true i (length known.locals) (first (i == length known.locals) (nat_lt i 8) is))
 room-next known (var.Field i) is = absurd (cc)
 room-next known (var.Control i) is = absurd (cc)
@@ -122,7 +122,7 @@ room-next known var.Cwnd is = absurd (cc)
 room-next known var.Rate is = absurd (cc)
 room-next known var.Micros is = absurd (cc)
 
-small-after : (known : Known) (action : Action) → IsSmall known → IsSmall (known_after known action)
+small-after : (known : KnownNames) (action : Action) → IsSmall known → IsSmall (known_after known action)
 small-after known (set v term) small = small-with_local known (is_next_local known v) (term_is_truth known term) small (room-next known v)
 small-after known (set_if place v condition term) small = small
 small-after known (set_unless place v condition term) small = small
@@ -131,7 +131,7 @@ small-after known zero_micros small = small
 small-after known report small = small
 small-after known fall small = small
 
-numbered-body : (known : Known) (locals : ℕ) (actions : List Action) → IsSmall known → is_body known locals actions ≡ true → is_numbered_body actions ≡ true
+numbered-body : (known : KnownNames) (locals : ℕ) (actions : List Action) → IsSmall known → is_body known locals actions ≡ true → is_numbered_body actions ≡ true
 numbered-body known locals [] small is = refl
 numbered-body known locals (action ∷ rest) small is =
     let after = is_body (known_after known action) locals rest in
@@ -139,7 +139,7 @@ numbered-body known locals (action ∷ rest) small is =
     (numbered-action known action small (first (is_action known action) after is))
     (numbered-body (known_after known action) locals rest (small-after known action small) (second (is_action known action) after is))
 
-numbered-parts : (known : Known) (parts : List Part) → IsSmall known → are_parts known parts ≡ true → are_numbered parts ≡ true
+numbered-parts : (known : KnownNames) (parts : List Part) → IsSmall known → are_parts known parts ≡ true → are_numbered parts ≡ true
 numbered-parts known [] small is = refl
 numbered-parts known (part ∷ rest) small is =
     let held = is_condition known part.condition in

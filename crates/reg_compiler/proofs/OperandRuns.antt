@@ -7,21 +7,21 @@ use Rattle.portus_core.specs.declared.env.Env.{Env}
 use Rattle.portus_core.specs.declared.program.Var.{Var}
 use Rattle.portus_core.specs.declared.program.Var.TheVariants as var
 use Rattle.portus_core.specs.Value.{Cause, Locals, read_of}
-use Rattle.portus_core.specs.ValidPrograms.{Known, is_known}
+use Rattle.portus_core.specs.ValidPrograms.{KnownNames, is_known}
 use Rattle.reg_code.specs.declared.code.Op.{Op}
 use Rattle.reg_code.specs.declared.code.Reg.{Reg}
 use Rattle.reg_code.specs.declared.code.Reg.TheVariants as reg
 use Rattle.ccp_base.specs.Chaining.{then_do}
-use Rattle.reg_code.specs.CodeStep.{Variables, with_value_at, Regs, read, written, with_operand, effect}
+use Rattle.reg_code.specs.CodeStep.{Variables, with_value_at, Regs, register_value, written, with_operand, effect}
 use Rattle.reg_compiler.specs.declared.line.Line.{Line}
-use Rattle.reg_compiler.specs.CompiledCode.{reg_of, line_of, next_free, unless_direct}
+use Rattle.reg_compiler.specs.CompiledCode.{variable_reg, code_line, next_free, unless_direct}
 use Rattle.reg_compiler.proofs.LineRuns.{Halt, placed, run_lines, halting, with_temps, SameBelow, Comes, then_do-Ok, run_lines-append}
 
--- every name that the program knows is read from its register
-abbrev pub Reads : Known → Env → Locals → Ack → Regs → Type 0
-Reads known env locals ack regs = (v : Var) → is_known known v ≡ true → read (reg_of v) regs ack ≡ Some (read_of v env locals ack)
+-- every name that the program knows is register_value from its register
+abbrev pub Reads : KnownNames → Env → Locals → Ack → Regs → Type 0
+Reads known env locals ack regs = (v : Var) → is_known known v ≡ true → register_value (variable_reg v) regs ack ≡ Some (read_of v env locals ack)
 
-read-with_temps : (v : Var) (regs : Regs) (temps : Variables) (ack : Ack) → read (reg_of v) (with_temps regs temps) ack ≡ read (reg_of v) regs ack
+read-with_temps : (v : Var) (regs : Regs) (temps : Variables) (ack : Ack) → register_value (variable_reg v) (with_temps regs temps) ack ≡ register_value (variable_reg v) regs ack
 read-with_temps (var.Field i) regs temps ack = refl
 read-with_temps (var.Control i) regs temps ack = refl
 read-with_temps (var.Local i) regs temps ack = refl
@@ -30,7 +30,7 @@ read-with_temps var.Rate regs temps ack = refl
 read-with_temps var.Micros regs temps ack = refl
 read-with_temps (var.Prim n) regs temps ack = refl
 
-pub Reads-with_temps : (known : Known) (env : Env) (locals : Locals) (ack : Ack) (regs : Regs) (temps : Variables) → Reads known env locals ack regs → Reads known env locals ack (with_temps regs temps)
+pub Reads-with_temps : (known : KnownNames) (env : Env) (locals : Locals) (ack : Ack) (regs : Regs) (temps : Variables) → Reads known env locals ack regs → Reads known env locals ack (with_temps regs temps)
 Reads-with_temps known env locals ack regs temps reads v is = read-with_temps v regs temps ack ∙ reads v is
 
 -- lines after which a register has the result of an operand, for as long as the temporaries below a number stay
@@ -38,13 +38,13 @@ pub record Works (result : Result ℕ Cause) (lines : List Line) (from : Reg) (f
   pub temps : Variables
   pub same : SameBelow free regs.temps temps
   pub ran : run_lines lines ack regs ≡ halting result (λ value. Ok (with_temps regs temps))
-  pub reads : (value : ℕ) → result ≡ Ok value → (more : Variables) → SameBelow later temps more → read from (with_temps regs more) ack ≡ Some value
+  pub reads : (value : ℕ) → result ≡ Ok value → (more : Variables) → SameBelow later temps more → register_value from (with_temps regs more) ack ≡ Some value
 
 same_value : (a b : ℕ) → ◌≡◌ {A = Result ℕ Cause} (Ok a) (Ok b) → ◌≡◌ {A = Option ℕ} (Some a) (Some b)
 same_value a b is = cc
 
 -- a register that has the value without lines
-pub Works-direct : (from : Reg) (value free : ℕ) (ack : Ack) (regs : Regs) → ((more : Variables) → read from (with_temps regs more) ack ≡ Some value) → Works (Ok value) [] from free free ack regs
+pub Works-direct : (from : Reg) (value free : ℕ) (ack : Ack) (regs : Regs) → ((more : Variables) → register_value from (with_temps regs more) ack ≡ Some value) → Works (Ok value) [] from free free ack regs
 Works-direct from value free ack regs has = record {
   temps = regs.temps;
   same = λ i below. refl;
@@ -52,9 +52,9 @@ Works-direct from value free ack regs has = record {
   reads = λ other is more same. has more ∙ same_value value other is;
 }
 
-pub Works-name : (known : Known) (env : Env) (locals : Locals) (v : Var) (free : ℕ) (ack : Ack) (regs : Regs) → Reads known env locals ack regs → is_known known v ≡ true → Works (Ok (read_of v env locals ack)) [] (reg_of v) free free ack regs
+pub Works-name : (known : KnownNames) (env : Env) (locals : Locals) (v : Var) (free : ℕ) (ack : Ack) (regs : Regs) → Reads known env locals ack regs → is_known known v ≡ true → Works (Ok (read_of v env locals ack)) [] (variable_reg v) free free ack regs
 Works-name known env locals v free ack regs reads is =
-    Works-direct (reg_of v) (read_of v env locals ack) free ack regs (λ more. Reads-with_temps known env locals ack regs more reads v is)
+    Works-direct (variable_reg v) (read_of v env locals ack) free ack regs (λ more. Reads-with_temps known env locals ack regs more reads v is)
 
 kept-below : (temps : Variables) (free value i : ℕ) → i < free → with_value_at temps free value i ≡ temps i
 kept-below temps free value i below = ap (λ b. cond b (Some value) (temps i)) (ne_eqb i free (λ is. omega (arith, is)))
@@ -104,15 +104,15 @@ operated o to place left right ack regs temps = halting left (λ a. halting righ
 pub Comes-joined : (o : Op) (to : Reg) (place : Place) (left right : Result ℕ Cause) (left_lines right_lines : List Line) (from also : Reg) (free later last : ℕ) (ack : Ack) (regs : Regs)
     → free ≤ later → Works left left_lines from free later ack regs
     → ((temps : Variables) → Works right right_lines also later last ack (with_temps regs temps))
-    → Comes (left_lines ++ (right_lines ++ (line_of o to from also place ∷ []))) free ack regs (operated o to place left right ack regs)
+    → Comes (left_lines ++ (right_lines ++ (code_line o to from also place ∷ []))) free ack regs (operated o to place left right ack regs)
 Comes-joined o to place (Err cause) right left_lines right_lines from also free later last ack regs grows first second =
-    let line = line_of o to from also place in record {
+    let line = code_line o to from also place in record {
       temps = regs.temps;
       same = λ i below. refl;
       ran = run_lines-append left_lines (right_lines ++ (line ∷ [])) ack regs ∙ ap (λ result. then_do result (run_lines (right_lines ++ (line ∷ [])) ack)) first.ran;
     }
 Comes-joined o to place (Ok a) (Err cause) left_lines right_lines from also free later last ack regs grows first second =
-    let line = line_of o to from also place in
+    let line = code_line o to from also place in
     let next = second first.temps in record {
       temps = first.temps;
       same = first.same;
@@ -123,7 +123,7 @@ Comes-joined o to place (Ok a) (Err cause) left_lines right_lines from also free
           ∙ ap (λ result. then_do result (run_lines (line ∷ []) ack)) next.ran;
     }
 Comes-joined o to place (Ok a) (Ok b) left_lines right_lines from also free later last ack regs grows first second =
-    let line = line_of o to from also place in
+    let line = code_line o to from also place in
     let next = second first.temps in
     let regs_then = with_temps regs next.temps in record {
       temps = next.temps;
@@ -133,7 +133,7 @@ Comes-joined o to place (Ok a) (Ok b) left_lines right_lines from also free late
           ∙ ap (λ result. then_do result (run_lines (right_lines ++ (line ∷ [])) ack)) first.ran
           ∙ run_lines-append right_lines (line ∷ []) ack (with_temps regs first.temps)
           ∙ ap (λ result. then_do result (run_lines (line ∷ []) ack)) next.ran
-          ∙ then_do-Ok (placed place (with_operand (read from regs_then ack) (λ a. with_operand (read also regs_then ack) (λ b. effect o to a b ack regs_then))))
-          ∙ ap (placed place) (line-reads (read from regs_then ack) (read also regs_then ack) a b o to ack regs_then
+          ∙ then_do-Ok (placed place (with_operand (register_value from regs_then ack) (λ a. with_operand (register_value also regs_then ack) (λ b. effect o to a b ack regs_then))))
+          ∙ ap (placed place) (line-reads (register_value from regs_then ack) (register_value also regs_then ack) a b o to ack regs_then
           (first.reads a refl next.temps next.same) (next.reads b refl next.temps (λ i below. refl)));
     }

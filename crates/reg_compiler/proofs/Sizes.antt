@@ -10,7 +10,7 @@ use Rattle.reg_code.specs.declared.code.Reg.TheVariants as reg
 use Rattle.reg_compiler.specs.declared.line.Line.{Line}
 use Rattle.reg_compiler.specs.Known.{known_value}
 use Rattle.reg_compiler.specs.Counts.{count_of, action_count, body_count, parts_count, form_count, lean_where, lean_of, action_lean, body_lean, parts_lean, lean}
-use Rattle.reg_compiler.specs.CompiledCode.{reg_of, line_of, direct, operand, free_after, unless_direct, joined, unless_known, into, both_into, action_lines, body_lines, condition_lines, lines_of}
+use Rattle.reg_compiler.specs.CompiledCode.{variable_reg, code_line, direct, operand, free_after, unless_direct, joined, unless_known, into, both_into, action_lines, body_lines, condition_lines, lines_of}
 
 unless_known-length : (known : Option ℕ) (to : Reg) (lines : List Line) (few : ℕ) → length lines ≤ few → length (unless_known known to lines) ≤ max 1 (lean_where known few)
 unless_known-length (Some value) to lines few within = omega arith
@@ -31,7 +31,7 @@ joined-length : (o : Op) (to : Reg) (place : Place) (left : Term) (left_lines : 
 joined-length o to place left left_lines right right_lines free left_few right_few =
     let first = unless_direct (direct left) left_lines in
     let second = unless_direct (direct right) right_lines in
-    let last : List Line = line_of o to (operand left free) (operand right (free_after left free)) place ∷ [] in
+    let last : List Line = code_line o to (operand left free) (operand right (free_after left free)) place ∷ [] in
     omega (arith, length-append first (second ++ last), length-append second last, operand-length left left_lines left_few, operand-length right right_lines right_few)
 
 into-length : (term : Term) (to : Reg) (free : ℕ) → length (into to term free) ≤ max 1 (lean_of term)
@@ -47,10 +47,10 @@ both_into-length o to place left right =
     joined-length o to place left (into (reg.Temp 0) left 0) right (into (reg.Temp (free_after left 0)) right (free_after left 0)) 0 (into-length left (reg.Temp 0) 0) (into-length right (reg.Temp (free_after left 0)) (free_after left 0))
 
 action-length : (action : Action) → length (action_lines action) ≤ action_lean action
-action-length (set v term) = into-length term (reg_of v) 0
-action-length (set_if place v condition term) = both_into-length op.If (reg_of v) place condition term
-action-length (set_unless place v condition term) = both_into-length op.NotIf (reg_of v) place condition term
-action-length (ewma place v weight term) = omega (arith, both_into-length op.Ewma (reg_of v) place (number weight) term)
+action-length (set v term) = into-length term (variable_reg v) 0
+action-length (set_if place v condition term) = both_into-length op.If (variable_reg v) place condition term
+action-length (set_unless place v condition term) = both_into-length op.NotIf (variable_reg v) place condition term
+action-length (ewma place v weight term) = omega (arith, both_into-length op.Ewma (variable_reg v) place (number weight) term)
 action-length zero_micros = omega arith
 action-length report = omega arith
 action-length fall = omega arith

@@ -8,12 +8,12 @@ use Rattle.ccp_base.specs.Chaining.{then_do as then_value}
 use Rattle.portus_core.specs.Value.{Cause}
 use Rattle.portus_core.specs.Command.{Going}
 use Rattle.ccp_base.specs.Chaining.{then_do}
-use Rattle.reg_code.specs.CodeStep.{Regs, Undone, fault, unset, step, Work, done, failed, stuck, then_run, after_step, run}
+use Rattle.reg_code.specs.CodeStep.{Regs, Undone, fault, unset, instr_step, Work, done, failed, stuck, then_run, after_step, run}
 use Rattle.reg_compiler.specs.declared.line.Line.{Line}
-use Rattle.reg_compiler.specs.CompiledCode.{instr_of, place_of}
+use Rattle.reg_compiler.specs.CompiledCode.{instr_of, line_place}
 use Rattle.reg_compiler.specs.Simulation.{kept_of}
 use Rattle.reg_compiler.proofs.LineRuns.{Halt, halted, lacking, placed, run_lines, halting}
-use Rattle.ccp_base.specs.Acknowledgement.{number_of}
+use Rattle.ccp_base.specs.Acknowledgement.{bool_number}
 
 -- the work on some instructions comes to the same as their lines, a fault with its place
 abbrev pub RunsAs : List Place → Work → Result Regs Halt → Type 0
@@ -28,7 +28,7 @@ RunsAs places (stuck ran) (Err lacking) = Unit {0}
 
 -- what stays from one block to the next
 abbrev pub Between : Regs → Going → Type 0
-Between regs going = (regs.kept ≡ kept_of going.env) × (regs.send ≡ number_of going.asked)
+Between regs going = (regs.kept ≡ kept_of going.env) × (regs.send ≡ bool_number going.asked)
 
 -- the work on some events comes to the same as the blocks, a fault with its place
 abbrev pub WorksAs : List Place → Work → Result Going Cause → Type 0
@@ -51,10 +51,10 @@ drop-next (other ∷ places) rest zero place is = cc
 drop-next (other ∷ places) rest (suc index) place is = drop-next places rest index place is
 
 -- the places after some lines
-pub drop-lines : (places rest : List Place) (index : ℕ) (lines : List Line) → drop index places ≡ map place_of lines ++ rest → drop (index + length lines) places ≡ rest
+pub drop-lines : (places rest : List Place) (index : ℕ) (lines : List Line) → drop index places ≡ map line_place lines ++ rest → drop (index + length lines) places ≡ rest
 drop-lines places rest index [] is = ap (λ n. drop n places) (omega arith) ∙ is
 drop-lines places rest index (line ∷ lines) is =
-    ap (λ n. drop n places) (omega arith) ∙ drop-lines places rest (suc index) lines (drop-next places (map place_of lines ++ rest) index line.place is)
+    ap (λ n. drop n places) (omega arith) ∙ drop-lines places rest (suc index) lines (drop-next places (map line_place lines ++ rest) index line.place is)
 
 RunsAs-step : (result : Result Regs Undone) (place : Place) (places : List Place) (index ran : ℕ) (rest : ℕ → Regs → Work) (lines : Regs → Result Regs Halt)
     → slice_get places index ≡ Some place → ((ran : ℕ) (regs : Regs) → RunsAs places (rest ran regs) (lines regs))
@@ -63,12 +63,12 @@ RunsAs-step (Ok regs) place places index ran rest lines here next = next (ran + 
 RunsAs-step (Err (fault kind)) place places index ran rest lines here next = (refl, here)
 RunsAs-step (Err unset) place places index ran rest lines here next = tt
 
-pub RunsAs-run : (lines : List Line) (places rest : List Place) (index : ℕ) (ack : Ack) (ran : ℕ) (regs : Regs) → drop index places ≡ map place_of lines ++ rest → RunsAs places (run (map instr_of lines) index ack ran regs) (run_lines lines ack regs)
+pub RunsAs-run : (lines : List Line) (places rest : List Place) (index : ℕ) (ack : Ack) (ran : ℕ) (regs : Regs) → drop index places ≡ map line_place lines ++ rest → RunsAs places (run (map instr_of lines) index ack ran regs) (run_lines lines ack regs)
 RunsAs-run [] places rest index ack ran regs is = refl
 RunsAs-run (line ∷ lines) places rest index ack ran regs is =
-    RunsAs-step (step line.instr ack regs) line.place places index ran (run (map instr_of lines) (index + 1) ack) (run_lines lines ack)
-    (drop-here places (map place_of lines ++ rest) index line.place is)
-    (λ more after. RunsAs-run lines places rest (index + 1) ack more after (ap (λ n. drop n places) (add-one index) ∙ drop-next places (map place_of lines ++ rest) index line.place is))
+    RunsAs-step (instr_step line.instr ack regs) line.place places index ran (run (map instr_of lines) (index + 1) ack) (run_lines lines ack)
+    (drop-here places (map line_place lines ++ rest) index line.place is)
+    (λ more after. RunsAs-run lines places rest (index + 1) ack more after (ap (λ n. drop n places) (add-one index) ∙ drop-next places (map line_place lines ++ rest) index line.place is))
 
 work-as : {A : Type 0} (work : Work) (result : Result A Cause) (P : A → Type 0) (registers : A → Regs) (next : ℕ → Regs → Work) (then : A → Result Going Cause) (places : List Place)
     → RunsAs places work (halting result (λ a. Ok (registers a))) → IfOk result P
@@ -84,7 +84,7 @@ work-as (stuck ran) (Err cause) P registers next then places runs holds follows 
 
 -- instructions whose lines come to what the source's part comes to, and then the rest of both
 pub WorksAs-then : {A : Type 0} (lines : List Line) (rest : List Place) (result : Result A Cause) (P : A → Type 0) (registers : A → Regs) (next : ℕ → Regs → Work) (then : A → Result Going Cause) (places : List Place) (index : ℕ) (ack : Ack) (ran : ℕ) (regs : Regs)
-    → drop index places ≡ map place_of lines ++ rest
+    → drop index places ≡ map line_place lines ++ rest
     → run_lines lines ack regs ≡ halting result (λ a. Ok (registers a)) → IfOk result P
     → ((ran : ℕ) (a : A) → P a → WorksAs places (next ran (registers a)) (then a))
     → WorksAs places (then_run (run (map instr_of lines) index ack ran regs) next) (then_value result then)

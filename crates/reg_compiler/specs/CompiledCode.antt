@@ -1,7 +1,7 @@
 -- The code that is made of a program.
 use Rattle.std.specs.Prelude.{ℕ, ◌+◌, Option, Some, None, option_map, unwrap_or, List, [], ◌∷◌, ◌++◌, length, map}
 use Rattle.ccp_base.specs.declared.place.Place.{Place}
-use Rattle.ccp_base.specs.Acknowledgement.{number_of}
+use Rattle.ccp_base.specs.Acknowledgement.{bool_number}
 use Rattle.portus_core.specs.declared.program.Var.{Var}
 use Rattle.portus_core.specs.declared.program.Var.TheVariants as var
 use Rattle.portus_core.specs.Programs.{Term, number, truth, name, pair, Action, set, set_if, set_unless, ewma, zero_micros, report, fall, Part, Form}
@@ -15,34 +15,34 @@ use Rattle.reg_code.specs.declared.code.Reg.{Reg}
 use Rattle.reg_code.specs.declared.code.Reg.TheVariants as reg
 use Rattle.reg_compiler.specs.declared.line.Line.{Line}
 use Rattle.reg_compiler.specs.Known.{known_value}
-use Rattle.reg_compiler.specs.Simulation.{start_of}
+use Rattle.reg_compiler.specs.Simulation.{register_start}
 
 -- the register of a name
-abbrev pub reg_of : Var → Reg
-reg_of (var.Field i) = reg.Report i
-reg_of (var.Control i) = reg.Control i
-reg_of (var.Local i) = reg.Local i
-reg_of var.Cwnd = reg.Implicit Cwnd
-reg_of var.Rate = reg.Implicit Rate
-reg_of var.Micros = reg.Implicit Micros
-reg_of (var.Prim n) = reg.Prim n
+abbrev pub variable_reg : Var → Reg
+variable_reg (var.Field i) = reg.Report i
+variable_reg (var.Control i) = reg.Control i
+variable_reg (var.Local i) = reg.Local i
+variable_reg var.Cwnd = reg.Implicit Cwnd
+variable_reg var.Rate = reg.Implicit Rate
+variable_reg var.Micros = reg.Implicit Micros
+variable_reg (var.Prim n) = reg.Prim n
 
 -- the place of an instruction that can't fault
 abbrev pub no_place : Place
 no_place = record { line = 1; column = 1 }
 
-abbrev pub line_of : Op → Reg → Reg → Reg → Place → Line
-line_of o to left right place = record { instr = record { op = o; to = to; left = left; right = right }; place = place }
+abbrev pub code_line : Op → Reg → Reg → Reg → Place → Line
+code_line o to left right place = record { instr = record { op = o; to = to; left = left; right = right }; place = place }
 
 -- a register is given another one's value
 abbrev pub bind_line : Reg → Reg → Line
-bind_line to from = line_of op.Bind to from (reg.Imm 0) no_place
+bind_line to from = code_line op.Bind to from (reg.Imm 0) no_place
 
 -- the operand of an expression that needs no instruction: a name, or a number that is known
 abbrev pub direct : Term → Option Reg
 direct (number n) = Some (reg.Imm n)
-direct (truth b) = Some (reg.Imm (number_of b))
-direct (name v) = Some (reg_of v)
+direct (truth b) = Some (reg.Imm (bool_number b))
+direct (name v) = Some (variable_reg v)
 direct (pair o place left right) = option_map reg.Imm (known_value (pair o place left right))
 
 -- the operand of an expression: without an instruction, or else the first free temporary
@@ -67,7 +67,7 @@ abbrev pub joined : Op → Reg → Place → Term → List Line → Term → Lis
 joined o to place left left_lines right right_lines free =
     unless_direct (direct left) left_lines
     ++ (unless_direct (direct right) right_lines
-    ++ (line_of o to (operand left free) (operand right (free_after left free)) place ∷ []))
+    ++ (code_line o to (operand left free) (operand right (free_after left free)) place ∷ []))
 
 -- a known value is bound; else these are the lines
 abbrev pub unless_known : Option ℕ → Reg → List Line → List Line
@@ -77,8 +77,8 @@ unless_known None to lines = lines
 -- the lines that put an expression's value into a register; the last one writes it
 abbrev pub into : Reg → Term → ℕ → List Line
 into to (number n) free = bind_line to (reg.Imm n) ∷ []
-into to (truth b) free = bind_line to (reg.Imm (number_of b)) ∷ []
-into to (name v) free = bind_line to (reg_of v) ∷ []
+into to (truth b) free = bind_line to (reg.Imm (bool_number b)) ∷ []
+into to (name v) free = bind_line to (variable_reg v) ∷ []
 into to (pair o place left right) free =
     unless_known (known_value (pair o place left right)) to
     (joined (op.Pair o) to place left (into (reg.Temp free) left free) right (into (reg.Temp (free_after left free)) right (free_after left free)) free)
@@ -92,17 +92,17 @@ abbrev pub both_from : Op → Reg → Place → Term → Term → ℕ → List L
 both_from o to place left right free =
     operand_lines left free
     ++ (operand_lines right (free_after left free)
-    ++ (line_of o to (operand left free) (operand right (free_after left free)) place ∷ []))
+    ++ (code_line o to (operand left free) (operand right (free_after left free)) place ∷ []))
 
 -- the same with all temporaries
 abbrev pub both_into : Op → Reg → Place → Term → Term → List Line
 both_into o to place left right = both_from o to place left right 0
 
 abbrev pub action_lines : Action → List Line
-action_lines (set v term) = into (reg_of v) term 0
-action_lines (set_if place v condition term) = both_into op.If (reg_of v) place condition term
-action_lines (set_unless place v condition term) = both_into op.NotIf (reg_of v) place condition term
-action_lines (ewma place v weight term) = both_into op.Ewma (reg_of v) place (number weight) term
+action_lines (set v term) = into (variable_reg v) term 0
+action_lines (set_if place v condition term) = both_into op.If (variable_reg v) place condition term
+action_lines (set_unless place v condition term) = both_into op.NotIf (variable_reg v) place condition term
+action_lines (ewma place v weight term) = both_into op.Ewma (variable_reg v) place (number weight) term
 action_lines zero_micros = bind_line (reg.Implicit Micros) (reg.Imm 0) ∷ []
 action_lines report = bind_line (reg.Implicit Send) (reg.Imm 1) ∷ []
 action_lines fall = bind_line (reg.Implicit Fall) (reg.Imm 1) ∷ []
@@ -132,18 +132,18 @@ event_of part = record { condition = length (condition_lines part.condition); bo
 abbrev pub instr_of : Line → Instr
 instr_of line = line.instr
 
-abbrev pub place_of : Line → Place
-place_of line = line.place
+abbrev pub line_place : Line → Place
+line_place line = line.place
 
 -- the code of a program
 abbrev pub code_of : Form → Code
 code_of form = record {
-  reports = map start_of form.fields;
-  controls = map start_of form.controls;
+  reports = map register_start form.fields;
+  controls = map register_start form.controls;
   events = map event_of form.blocks;
   instrs = map instr_of (lines_of form.blocks);
 }
 
 -- the place of each instruction of that code
 abbrev pub places_of : Form → List Place
-places_of form = map place_of (lines_of form.blocks)
+places_of form = map line_place (lines_of form.blocks)

@@ -1,7 +1,7 @@
 -- Expressions whose value is the same for every state and every acknowledgement.
 use Rattle.std.specs.Prelude.{◌≡◌, ◌↔◌, ℕ, Bool, true, false, ◌&&◌, Option, Some, None, Result, Ok, Err}
 use Rattle.ccp_base.specs.declared.arithmetic.FaultKind.{FaultKind}
-use Rattle.ccp_base.specs.Acknowledgement.{number_of}
+use Rattle.ccp_base.specs.Acknowledgement.{bool_number}
 use Rattle.ccp_base.specs.declared.ack.Ack.{Ack}
 use Rattle.portus_core.specs.declared.env.Env.{Env}
 use Rattle.ccp_base.specs.declared.operation.Op2.{Op2}
@@ -21,7 +21,7 @@ known_pair op None b = None
 -- the value of an expression that has no name and doesn't fault
 abbrev pub known_value : Term → Option ℕ
 known_value (number n) = Some n
-known_value (truth b) = Some (number_of b)
+known_value (truth b) = Some (bool_number b)
 known_value (name v) = None
 known_value (pair op place left right) = known_pair op (known_value left) (known_value right)
 

@@ -18,8 +18,8 @@ abbrev pub kept_of : Env → Kept
 kept_of env = record { reports = env.fields; controls = env.controls; cwnd = env.cwnd; rate = env.rate; zero = env.zero }
 
 -- how the register of a declaration starts
-abbrev pub start_of : Decl → Start
-start_of decl = record { volatile = decl.volatile; value = decl.start }
+abbrev pub register_start : Decl → Start
+register_start decl = record { volatile = decl.volatile; value = decl.start }
 
 -- what an outcome of the code means; `places` has the place of each instruction
 abbrev pub seen : List Place → CodeOutcome → Option Mean
@@ -31,7 +31,7 @@ seen places lost = None
 
 -- declared values and volatile flags agree
 abbrev pub StartsAlike : Form → Code → Type 0
-StartsAlike form code = (code.reports ≡ map start_of form.fields) × (code.controls ≡ map start_of form.controls)
+StartsAlike form code = (code.reports ≡ map register_start form.fields) × (code.controls ≡ map register_start form.controls)
 
 -- an acknowledgement has the same result by the code as by the program: the outcome with its fields, or the fault with
 -- its place, and the env afterwards

@@ -1,6 +1,6 @@
 //! An instruction on its way into code, with the place in the source of its fault.
 ghost use Rattle.std.specs.Prelude.{◌≡◌};
-ghost use Rattle.reg_compiler.specs.CompiledCode.{no_place, line_of, bind_line};
+ghost use Rattle.reg_compiler.specs.CompiledCode.{no_place, code_line, bind_line};
 
 use ccp_base::{Place, Sequence};
 use reg_code::{Instr, Op, Reg};
@@ -20,7 +20,7 @@ const NO_PLACE: Place = Place { line: 1, column: 1 };
 
 /// An operation on two registers, with its place.
 pub fn operation_line(op: Op, to: Reg, left: Reg, right: Reg, place: Place) -> Line
-    ensures { result ≡ line_of op to left right place }
+    ensures { result ≡ code_line op to left right place }
 {
     Line {
         instr: Instr {

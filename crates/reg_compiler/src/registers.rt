@@ -1,6 +1,6 @@
 //! The register of each name of a program.
 ghost use Rattle.std.specs.Prelude.{◌≡◌, IsTrue};
-ghost use Rattle.reg_compiler.specs.CompiledCode.{reg_of};
+ghost use Rattle.reg_compiler.specs.CompiledCode.{variable_reg};
 ghost use Rattle.reg_compiler.specs.Numbered.{is_numbered};
 
 use portus_core::Var;
@@ -9,7 +9,7 @@ use reg_code::{Implicit, Reg};
 /// The register of a name.
 pub fn reg_of(var: Var) -> Reg
     requires { IsTrue (is_numbered var) }
-    ensures { result ≡ reg_of var }
+    ensures { result ≡ variable_reg var }
 {
     match var {
         Var::Field(i) => Reg::Report(i as u8),

@@ -25,7 +25,7 @@ use Rattle.std.specs.Prelude.{ℕ, ◌-◌, ◌*◌, ◌/◌, ◌^◌, ◌≤◌
 use Rattle.ccp_base.specs.Limits.{most_segment_bytes, most_flight}
 use Rattle.ccp_base.specs.Saturating.{◌+ˢ◌, ◌*ˢ◌, muldiv, clamped}
 use Rattle.ccp_base.specs.Measurement.{measurement_of}
-use Rattle.ccp_base.specs.Course.{epoch_of, first_course, role_of, course_after, change_to, initial_segments}
+use Rattle.ccp_base.specs.Course.{told_epoch, first_course, role_of, course_after, change_to, initial_segments}
 use Rattle.ccp_base.specs.declared.look.Role.{Role}
 use Rattle.ccp_base.specs.declared.measurement.Measurement.{Measurement}
 use Rattle.ccp_base.specs.declared.course.Course.{Course}
@@ -73,13 +73,13 @@ abbrev pub clamped_window : ℕ → ℕ → ℕ
 clamped_window mss window = clamped mss (most_flight *ˢ mss) window
 
 -- half of the flight before the losses were noticed, at least 2 segments (RFC 5681, equation 4) and at most 4,096
-abbrev pub cut_of : ℕ → Measurement → ℕ
-cut_of mss r = min (max ((r.inflight +ˢ r.loss *ˢ mss) / 2) (2 *ˢ mss)) (most_flight *ˢ mss)
+abbrev pub halved_flight : ℕ → Measurement → ℕ
+halved_flight mss r = min (max ((r.inflight +ˢ r.loss *ˢ mss) / 2) (2 *ˢ mss)) (most_flight *ˢ mss)
 
 -- the retransmission timer ran out: the window is one segment (RFC 5681, section 3.1)
 abbrev pub after_timeout : Measurement → RenoState → Turn
 after_timeout r s =
-    let cut = cut_of s.mss r in (
+    let cut = halved_flight s.mss r in (
       record s { course = course_after SlowStart s.course; window = s.mss; ssthresh = cut; calm = 0 },
       change_to SlowStart s.course s.mss cut,
     )
@@ -87,7 +87,7 @@ after_timeout r s =
 -- packets were lost or marked: the window is the threshold, once in a round-trip time (RFC 5681, section 3.2)
 abbrev pub after_loss : Measurement → RenoState → Turn
 after_loss r s =
-    let cut = cut_of s.mss r in
+    let cut = halved_flight s.mss r in
     if nat_lt r.now s.calm then (s, Nothing) else (
       record s { course = course_after Avoidance s.course; window = cut; ssthresh = cut; calm = r.now +ˢ r.rtt },
       change_to Avoidance s.course cut cut,
@@ -138,4 +138,4 @@ after_told (Fault notice) s = after_fault s
 
 -- Reno: a report or notice of another epoch is ignored
 abbrev pub reno : RenoState → Told → Turn
-reno s told = if epoch_of told == s.course.epoch then after_told told s else (s, Nothing)
+reno s told = if told_epoch told == s.course.epoch then after_told told s else (s, Nothing)

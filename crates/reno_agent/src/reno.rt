@@ -39,7 +39,7 @@ impl Model for Reno {
 }
 
 impl Reno {
-    ghost use Rattle.reno_agent.specs.Reno.{reno, first_reno, clamped_window, cut_of, window_told, after_timeout, after_loss, in_slow_start, in_avoidance, after_measurement, after_fault};
+    ghost use Rattle.reno_agent.specs.Reno.{reno, first_reno, clamped_window, halved_flight, window_told, after_timeout, after_loss, in_slow_start, in_avoidance, after_measurement, after_fault};
     ghost use Rattle.ccp_base.specs.Course.{opening_of};
     ghost use Rattle.ccp_base.specs.Measurement.{measurement_of};
 
@@ -135,7 +135,7 @@ impl Reno {
     /// The threshold after a loss, in bytes: half of the flight before the losses were noticed, within bounds
     /// (RFC 5681, equation 4).
     fn cut(&self, measurement: Measurement) -> u64
-        ensures { result ≡ cut_of self.now.mss measurement }
+        ensures { result ≡ halved_flight self.now.mss measurement }
     {
         let mss = u64::from(self.mss);
         let flight = measurement

@@ -2,7 +2,7 @@
 use Rattle.std.proofs.Common.{◌≡◌, ℕ, zero, suc, ◌≤◌, Bool, true, false, eqb, List, [], ◌∷◌, ◌++◌, length, take, refl, ap, arith}
 use Rattle.ccp_base.specs.declared.arithmetic.FaultKind.{FaultKind}
 use Rattle.ccp_base.specs.declared.arithmetic.FaultKind.TheVariants.{Overflow, Underflow, ZeroDivisor}
-use Rattle.ccp_base.specs.Acknowledgement.{number_of, primitives, flag_number, ack_of}
+use Rattle.ccp_base.specs.Acknowledgement.{bool_number, primitives, flag_number, ack_of}
 use Rattle.ccp_base.specs.Truth.{is_true}
 use Rattle.reply_frames.specs.Frames as body
 use Rattle.reply_frames.specs.Bodies.{fault_number, fault_kind_of, ack_body}
@@ -19,21 +19,21 @@ fault-again (suc (suc zero)) le = refl
 fault-again (suc (suc (suc n))) le = absurd (omega arith)
 
 -- a Bool as a byte
-pub truth-back : (b : Bool) → eqb (number_of b) 1 ≡ b
+pub truth-back : (b : Bool) → eqb (bool_number b) 1 ≡ b
 truth-back true = refl
 truth-back false = refl
 
-pub truth-again : (n : ℕ) → n ≤ 1 → number_of (eqb n 1) ≡ n
+pub truth-again : (n : ℕ) → n ≤ 1 → bool_number (eqb n 1) ≡ n
 truth-again zero le = refl
 truth-again (suc zero) le = refl
 truth-again (suc (suc n)) le = absurd (omega arith)
 
 -- a Bool as a primitive
-pub true-back : (b : Bool) → is_true (number_of b) ≡ b
+pub true-back : (b : Bool) → is_true (bool_number b) ≡ b
 true-back true = refl
 true-back false = refl
 
-true-again : (n : ℕ) → n ≤ 1 → number_of (is_true n) ≡ n
+true-again : (n : ℕ) → n ≤ 1 → bool_number (is_true n) ≡ n
 true-again zero le = refl
 true-again (suc zero) le = refl
 true-again (suc (suc n)) le = absurd (omega arith)

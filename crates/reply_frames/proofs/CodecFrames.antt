@@ -15,16 +15,16 @@ use Rattle.reply_frames.specs.declared.outline.Version.TheVariants.{One, Two}
 use Rattle.reply_frames.specs.declared.outline.Counts.{Counts}
 use Rattle.reply_frames.specs.declared.outline.Outline.{Outline}
 use Rattle.reply_frames.specs.Parts.{Read, ◌>>=◌, byte_at, number_at, limited_at, exactly_at, repeated_at}
-use Rattle.reply_frames.specs.Kinds.{number_of, kind_of, version_number, version_of, most_n1, most_n2, most_n3, most_n4, size_of}
-use Rattle.reply_frames.specs.Frames.{counts_at, outline_at, target_at, Start, start_at, Event, event_at, Register, register_number_at, register_at, Instruction, instruction_at, value_at, values_at, Body, Create, Measure, Install, Update, Change, Fault, Ack, Refused, create_at, count_at, measure_at, install_at, update_at, change_at, fault_at, ack_at, refused_at, body_at, Frame, frame_at}
-use Rattle.reply_frames.specs.ValueBytes.{IsTarget, target_bytes, value_bytes, values_bytes, IsSendable}
-use Rattle.reply_frames.specs.FrameBytes.{counts_bytes, outline_bytes, start_bytes, event_bytes, register_bytes, instruction_bytes, count_bytes, numbers_bytes, body_bytes, kind_of_body, counts, counts_of, outline_of, spelled, IsStart, IsEvent, most_number, IsRegister, IsInstruction, IsNumber, IsCount, AreCounts, HasRanges, IsSpellable}
+use Rattle.reply_frames.specs.Kinds.{kind_number, kind_numbered, version_number, version_of, most_n1, most_n2, most_n3, most_n4, size_of}
+use Rattle.reply_frames.specs.Frames.{counts_at, outline_at, target_at, Start, start_at, Event, event_at, Register, register_number_at, register_at, Instruction, instruction_at, value_at, values_at, Body, Create, Measure, Install, Update, Change, Fault, Ack, Refused, create_at, count_at, measure_at, install_at, update_at, change_at, fault_body_at, ack_body_at, refused_at, body_at, Frame, frame_at}
+use Rattle.reply_frames.specs.ValueBytes.{FieldFits, target_bytes, value_bytes, values_bytes, IsSendable}
+use Rattle.reply_frames.specs.FrameBytes.{counts_bytes, outline_bytes, start_bytes, event_bytes, register_bytes, instruction_bytes, count_bytes, numbers_bytes, body_bytes, kind_of_body, counts, body_counts, outline_of, spelled, StartFits, IsEvent, most_number, IsRegister, IsInstruction, IsNumber, IsCount, AreCounts, HasRanges, IsSpellable}
 use Rattle.ccp_base.specs.declared.fields.FieldReg.{FieldReg}
 use Rattle.ccp_base.specs.declared.fields.FieldReg.TheVariants.{Cwnd, Rate, Control}
 use Rattle.reply_frames.proofs.ExactParts.{bind_ok}
 use Rattle.reply_frames.proofs.Codec.{AllBytes, IsSpelled, spelled-then, pair, ok-pair, byte-again, byte-is, number32-again, number64-again, number32-is, number64-is, low_digits, le_bytes-digits, exactly-is, Writes, writes-then, writes-last, IsReadBy, read-then, read-last, read-by, byte-reads, byte-writes, number16-reads, number16-writes, limited-writes, limited-reads, repeated-writes, repeated-reads, AreSo}
 
-target-again : (reg : FieldReg) (rest : List ℕ) → IsTarget reg → target_at (target_bytes reg ++ rest) ≡ Ok (reg, rest)
+target-again : (reg : FieldReg) (rest : List ℕ) → FieldFits reg → target_at (target_bytes reg ++ rest) ≡ Ok (reg, rest)
 unfolding target_at
 target-again (Control number) rest lt = ap (λ (read : Read ℕ). read >>= λ number. Ok (Control number.0, number.1)) (byte-again bad.Index 0 63 number rest (omega arith) (omega arith))
 target-again Cwnd rest lt = refl
@@ -37,7 +37,7 @@ value-again value rest fits =
     ∙ ap (λ (read : Read FieldReg). read >>= λ target. number_at w64 target.1 >>= λ number. Ok ((target.0, number.0), number.1)) (target-again value.0 (to_le_bytes w64 value.1 ++ rest) fits.0)
     ∙ ap (λ (read : Read ℕ). read >>= λ number. Ok ((value.0, number.0), number.1)) (number64-again value.1 rest fits.1)
 
-target-is : (bytes : List ℕ) (x : FieldReg × List ℕ) → AllBytes bytes → target_at bytes ≡ Ok x → IsSpelled bytes (target_bytes x.0) x.1 × IsTarget x.0
+target-is : (bytes : List ℕ) (x : FieldReg × List ℕ) → AllBytes bytes → target_at bytes ≡ Ok x → IsSpelled bytes (target_bytes x.0) x.1 × FieldFits x.0
 unfolding target_at
 target-is bytes x fits e =
     let a = bind_ok (byte_at bad.Class 3 4 bytes) (λ class. cond (eqb class.0 3) (byte_at bad.Index 0 63 class.1 >>= λ number. Ok (Control number.0, number.1)) (byte_at bad.Index 4 5 class.1 >>= λ number. Ok (cond (eqb number.0 4) Cwnd Rate, number.1))) x e in
@@ -47,18 +47,18 @@ target-is bytes x fits e =
     target-pair : (bytes : List ℕ) (class : ℕ) (rest : List ℕ) (number : ℕ) (after : List ℕ) (reg : FieldReg) → target_bytes reg ≡ class ∷ number ∷ [] → IsSpelled bytes (class ∷ []) rest → IsSpelled rest (number ∷ []) after → IsSpelled bytes (target_bytes reg) after
     target-pair bytes class rest number after reg is first second = subst (λ text. IsSpelled bytes text after) (sym is) (spelled-then bytes (class ∷ []) rest (number ∷ []) after first second)
 
-    reg_of : (number : ℕ) (b : Bool) → eqb number 4 ≡ b → 4 ≤ number → number ≤ 5 → (target_bytes (cond b Cwnd Rate) ≡ 4 ∷ number ∷ []) × IsTarget (cond b Cwnd Rate)
+    reg_of : (number : ℕ) (b : Bool) → eqb number 4 ≡ b → 4 ≤ number → number ≤ 5 → (target_bytes (cond b Cwnd Rate) ≡ 4 ∷ number ∷ []) × FieldFits (cond b Cwnd Rate)
     reg_of number true e low high = (ap (λ n. 4 ∷ n ∷ []) (sym (eqb-true number 4 e)), tt)
     reg_of number false e low high = (ap (λ n. 4 ∷ n ∷ []) (let five : 5 ≡ number = omega (arith, eqb-false number 4 e) in five), tt)
 
     target_from : (bytes : List ℕ) (class : ℕ × List ℕ) (x : FieldReg × List ℕ) (b : Bool) → eqb class.0 3 ≡ b → IsSpelled bytes (class.0 ∷ []) class.1 → 3 ≤ class.0 → class.0 ≤ 4
         → cond b (byte_at bad.Index 0 63 class.1 >>= λ number. Ok (Control number.0, number.1)) (byte_at bad.Index 4 5 class.1 >>= λ number. Ok (cond (eqb number.0 4) Cwnd Rate, number.1)) ≡ Ok x
-        → IsSpelled bytes (target_bytes x.0) x.1 × IsTarget x.0
+        → IsSpelled bytes (target_bytes x.0) x.1 × FieldFits x.0
     target_from bytes class x true is first low high e =
         let b = bind_ok (byte_at bad.Index 0 63 class.1) (λ number. Ok (Control number.0, number.1)) x e in
         let number = byte-is bad.Index 0 63 class.1 b.0 first.rest_fits b.1 in
         let three : class.0 ≡ 3 = eqb-true class.0 3 is in
-        subst (λ (x : FieldReg × List ℕ). IsSpelled bytes (target_bytes x.0) x.1 × IsTarget x.0) (ok-pair (pair (Control b.0.0) b.0.1) x b.2)
+        subst (λ (x : FieldReg × List ℕ). IsSpelled bytes (target_bytes x.0) x.1 × FieldFits x.0) (ok-pair (pair (Control b.0.0) b.0.1) x b.2)
         (target-pair bytes class.0 class.1 b.0.0 b.0.1 (Control b.0.0) (ap (λ n. n ∷ b.0.0 ∷ []) (sym three)) first number.0, omega (arith, number.2))
     target_from bytes class x false is first low high e =
         let b = bind_ok (byte_at bad.Index 4 5 class.1) (λ number. Ok (cond (eqb number.0 4) Cwnd Rate, number.1)) x e in
@@ -66,7 +66,7 @@ target-is bytes x fits e =
         let four : 4 ≡ class.0 = omega (arith, eqb-false class.0 3 is) in
         let reg : FieldReg = cond (eqb b.0.0 4) Cwnd Rate in
         let r = reg_of b.0.0 (eqb b.0.0 4) refl number.1 number.2 in
-        subst (λ (x : FieldReg × List ℕ). IsSpelled bytes (target_bytes x.0) x.1 × IsTarget x.0) (ok-pair (pair reg b.0.1) x b.2)
+        subst (λ (x : FieldReg × List ℕ). IsSpelled bytes (target_bytes x.0) x.1 × FieldFits x.0) (ok-pair (pair reg b.0.1) x b.2)
         (target-pair bytes class.0 class.1 b.0.0 b.0.1 reg (r.0 ∙ ap (λ n. n ∷ b.0.0 ∷ []) four) first number.0, r.1)
 
 pub value-is : (bytes : List ℕ) (x : Pair × List ℕ) → AllBytes bytes → value_at bytes ≡ Ok x → IsSpelled bytes (value_bytes x.0) x.1 × IsSendable x.0
@@ -84,7 +84,7 @@ pub version_of-number : (version : Version) → version_of (version_number versi
 version_of-number One = refl
 version_of-number Two = refl
 
-pub number_of-kind : (n : ℕ) → 1 ≤ n → n ≤ 8 → number_of (kind_of n) ≡ n
+pub number_of-kind : (n : ℕ) → 1 ≤ n → n ≤ 8 → kind_number (kind_numbered n) ≡ n
 number_of-kind zero low high = absurd (omega arith)
 number_of-kind (suc zero) low high = refl
 number_of-kind (suc (suc zero)) low high = refl
@@ -137,15 +137,15 @@ limited8-reads field most bytes x fits e =
 
 -- ---- the parts of bodies
 
-start-writes : (start : Start) → IsStart start → Writes start_at start (start_bytes start)
+start-writes : (start : Start) → StartFits start → Writes start_at start (start_bytes start)
 unfolding start_at
 start-writes start ok =
     writes-then (byte_at bad.Flag 0 1) _ start.volatile start (start.volatile ∷ []) (to_le_bytes w64 start.value) (byte-writes bad.Flag 0 1 start.volatile (omega arith) ok.0)
     (writes-last (number_at w64) (λ value. record { volatile = start.volatile; value = value }) start.value (to_le_bytes w64 start.value) (number64-writes start.value ok.1))
 
-start-reads : IsReadBy start_at start_bytes IsStart
+start-reads : IsReadBy start_at start_bytes StartFits
 unfolding start_at
-start-reads = read-by start_at start_bytes IsStart
+start-reads = read-by start_at start_bytes StartFits
     (read-then (byte_at bad.Flag 0 1) _ (λ n. n ∷ []) _ _ (byte-reads bad.Flag 0 1)
     (λ volatile low. read-last (number_at w64) (λ value. record { volatile = volatile; value = value }) (to_le_bytes w64) _ _ number64-is
     (λ value fits. (refl, (low.1, fits)))))
@@ -270,7 +270,7 @@ values-read count = repeated-reads value_at value_bytes IsSendable value-is coun
 
 -- these are the kind and the counts of the body's head
 abbrev IsOf : FrameKind → Counts → Body → Type 0
-IsOf kind c body = (kind ≡ kind_of_body body) × (c ≡ counts_of body)
+IsOf kind c body = (kind ≡ kind_of_body body) × (c ≡ body_counts body)
 
 abbrev IsBody : FrameKind → Version → Counts → Body → Type 0
 IsBody kind version c body = HasRanges version body × IsOf kind c body
@@ -340,8 +340,8 @@ unfolding install_at
 install-writes version program reports controls events instructions ok =
     writes-as (install_at (counts (length reports) (length controls) (length events) (length instructions))) _ _ _ (group5 (to_le_bytes w32 program) (flat_map start_bytes reports) (flat_map start_bytes controls) (flat_map event_bytes events) (flat_map instruction_bytes instructions))
     (writes-then (number_at w32) _ program _ _ _ (number32-writes program ok.0)
-    (writes-then (repeated_at start_at (length reports)) _ reports _ _ _ (repeated-writes start_at start_bytes IsStart start-writes reports ok.1)
-    (writes-then (repeated_at start_at (length controls)) _ controls _ _ _ (repeated-writes start_at start_bytes IsStart start-writes controls ok.2)
+    (writes-then (repeated_at start_at (length reports)) _ reports _ _ _ (repeated-writes start_at start_bytes StartFits start-writes reports ok.1)
+    (writes-then (repeated_at start_at (length controls)) _ controls _ _ _ (repeated-writes start_at start_bytes StartFits start-writes controls ok.2)
     (writes-then (repeated_at event_at (length events)) _ events _ _ _ (repeated-writes event_at event_bytes IsEvent event-writes events ok.3)
     (writes-last (repeated_at instruction_at (length instructions)) (λ instructions. Install program reports controls events instructions) instructions _ (repeated-writes instruction_at instruction_bytes IsInstruction instruction-writes instructions ok.4))))))
 
@@ -349,8 +349,8 @@ install-reads : (version : Version) (c : Counts) → IsReadBy (install_at c) (bo
 unfolding install_at
 install-reads version c = read-by (install_at c) (body_bytes version) (IsBody kinds.Install version c)
     (read-then (number_at w32) _ (to_le_bytes w32) _ _ number32-is
-    (λ program p. read-then (repeated_at start_at c.n1) _ (flat_map start_bytes) _ _ (repeated-reads start_at start_bytes IsStart start-reads c.n1)
-    (λ reports r. read-then (repeated_at start_at c.n2) _ (flat_map start_bytes) _ _ (repeated-reads start_at start_bytes IsStart start-reads c.n2)
+    (λ program p. read-then (repeated_at start_at c.n1) _ (flat_map start_bytes) _ _ (repeated-reads start_at start_bytes StartFits start-reads c.n1)
+    (λ reports r. read-then (repeated_at start_at c.n2) _ (flat_map start_bytes) _ _ (repeated-reads start_at start_bytes StartFits start-reads c.n2)
     (λ controls s. read-then (repeated_at event_at c.n3) _ (flat_map event_bytes) _ _ (repeated-reads event_at event_bytes IsEvent event-reads c.n3)
     (λ events t. read-last (repeated_at instruction_at c.n4) (λ instructions. Install program reports controls events instructions) (flat_map instruction_bytes) _ _ (repeated-reads instruction_at instruction_bytes IsInstruction instruction-reads c.n4)
     (λ instructions u. (
@@ -382,10 +382,10 @@ change-reads version c few = read-by (change_at c.n1) (body_bytes version) (IsBo
     (λ values v. (refl, ((p, v.1), (refl, one-counted version c kinds.Change (length values) few refl refl refl v.0))))))
 
 fault-writes : (version : Version) (program epoch place kind index now cwnd : ℕ) → HasRanges version (Fault program epoch place kind index now cwnd)
-    → Writes (fault_at version) (Fault program epoch place kind index now cwnd) (body_bytes version (Fault program epoch place kind index now cwnd))
-unfolding fault_at
+    → Writes (fault_body_at version) (Fault program epoch place kind index now cwnd) (body_bytes version (Fault program epoch place kind index now cwnd))
+unfolding fault_body_at
 fault-writes version program epoch place kind index now cwnd ok =
-    writes-as (fault_at version) _ _ _ (group6 (to_le_bytes w32 program) (to_le_bytes w32 epoch) (count_bytes version place) (kind ∷ to_le_bytes w16 index) (to_le_bytes w64 now) (to_le_bytes w64 cwnd))
+    writes-as (fault_body_at version) _ _ _ (group6 (to_le_bytes w32 program) (to_le_bytes w32 epoch) (count_bytes version place) (kind ∷ to_le_bytes w16 index) (to_le_bytes w64 now) (to_le_bytes w64 cwnd))
     (writes-then (number_at w32) _ program _ _ _ (number32-writes program ok.0)
     (writes-then (number_at w32) _ epoch _ _ _ (number32-writes epoch ok.1)
     (writes-then (count_at version) _ place _ _ _ (count-writes version place ok.2)
@@ -394,9 +394,9 @@ fault-writes version program epoch place kind index now cwnd ok =
     (writes-then (number_at w64) _ now _ _ _ (number64-writes now ok.5)
     (writes-last (number_at w64) (λ cwnd. Fault program epoch place kind index now cwnd) cwnd _ (number64-writes cwnd ok.6))))))))
 
-fault-reads : (version : Version) (c : Counts) → AreCounts kinds.Fault version c → IsReadBy (fault_at version) (body_bytes version) (IsBody kinds.Fault version c)
-unfolding fault_at
-fault-reads version c few = read-by (fault_at version) (body_bytes version) (IsBody kinds.Fault version c)
+fault-reads : (version : Version) (c : Counts) → AreCounts kinds.Fault version c → IsReadBy (fault_body_at version) (body_bytes version) (IsBody kinds.Fault version c)
+unfolding fault_body_at
+fault-reads version c few = read-by (fault_body_at version) (body_bytes version) (IsBody kinds.Fault version c)
     (read-then (number_at w32) _ (to_le_bytes w32) _ _ number32-is
     (λ program p. read-then (number_at w32) _ (to_le_bytes w32) _ _ number32-is
     (λ epoch e. read-then (count_at version) _ (count_bytes version) _ _ (count-reads version)
@@ -409,16 +409,16 @@ fault-reads version c few = read-by (fault_at version) (body_bytes version) (IsB
       ((p, e, a, k.1, i, n, w), (refl, none-counted version c kinds.Fault few refl refl refl refl)),
     )))))))))
 
-ack-writes : (version : Version) (primitives : List ℕ) (was_timeout : ℕ) → HasRanges version (Ack primitives was_timeout) → Writes ack_at (Ack primitives was_timeout) (body_bytes version (Ack primitives was_timeout))
-unfolding ack_at
+ack-writes : (version : Version) (primitives : List ℕ) (was_timeout : ℕ) → HasRanges version (Ack primitives was_timeout) → Writes ack_body_at (Ack primitives was_timeout) (body_bytes version (Ack primitives was_timeout))
+unfolding ack_body_at
 ack-writes version primitives was_timeout ok =
     let all : Writes (repeated_at (number_at w64) flag_number) primitives (numbers_bytes primitives) = subst (λ n. Writes (repeated_at (number_at w64) n) primitives (numbers_bytes primitives)) ok.0 (numbers-writes primitives ok.1) in
     writes-then (repeated_at (number_at w64) flag_number) _ primitives _ _ _ all
     (writes-last (limited_at bad.Flag 8 1) (λ was_timeout. Ack primitives was_timeout) was_timeout _ (limited8-writes bad.Flag 1 was_timeout (omega arith) ok.2))
 
-ack-reads : (version : Version) (c : Counts) → AreCounts kinds.Ack version c → IsReadBy ack_at (body_bytes version) (IsBody kinds.Ack version c)
-unfolding ack_at
-ack-reads version c few = read-by ack_at (body_bytes version) (IsBody kinds.Ack version c)
+ack-reads : (version : Version) (c : Counts) → AreCounts kinds.Ack version c → IsReadBy ack_body_at (body_bytes version) (IsBody kinds.Ack version c)
+unfolding ack_body_at
+ack-reads version c few = read-by ack_body_at (body_bytes version) (IsBody kinds.Ack version c)
     (read-then (repeated_at (number_at w64) flag_number) _ numbers_bytes _ _ (numbers-read flag_number)
     (λ primitives p. read-last (limited_at bad.Flag 8 1) (λ was_timeout. Ack primitives was_timeout) (to_le_bytes w64) _ _ (limited8-reads bad.Flag 1)
     (λ was_timeout w. (refl, ((p.0, p.1, w), (refl, none-counted version c kinds.Ack few refl refl refl refl))))))
@@ -436,7 +436,7 @@ refused-reads version c few = read-by refused_at (body_bytes version) (IsBody ki
     (λ reason r. read-last (number_at w32) (λ index. Refused reason index) (to_le_bytes w32) _ _ number32-is
     (λ index i. (refl, ((r.0, r.1, i), (refl, none-counted version c kinds.Refused few refl refl refl refl))))))
 
-body-writes : (version : Version) (body : Body) → HasRanges version body → Writes (body_at (kind_of_body body) version (counts_of body)) body (body_bytes version body)
+body-writes : (version : Version) (body : Body) → HasRanges version body → Writes (body_at (kind_of_body body) version (body_counts body)) body (body_bytes version body)
 body-writes version (Create cwnd mss) ok = create-writes version cwnd mss ok
 body-writes version (Measure program epoch first last now cwnd rate fields) ok = measure-writes version program epoch first last now cwnd rate fields ok
 body-writes version (Install program reports controls events instructions) ok = install-writes version program reports controls events instructions ok
@@ -501,7 +501,7 @@ exactly-writes field (suc width) n =
 exactly-reads : (field : BadKind) (n : ℕ) → IsReadBy (exactly_at field 4 n) (λ value. to_le_bytes w32 n) (λ value. Unit {0})
 exactly-reads field n bytes x fits e = (subst (λ text. IsSpelled bytes text x.1) (sym (le_bytes-digits n)) (exactly-is field 4 n bytes x fits e), tt)
 
-pub number-of : (kind : FrameKind) → (1 ≤ number_of kind) × (number_of kind ≤ 8) × (kind_of (number_of kind) ≡ kind)
+pub number-of : (kind : FrameKind) → (1 ≤ kind_number kind) × (kind_number kind ≤ 8) × (kind_numbered (kind_number kind) ≡ kind)
 number-of kinds.Create = (omega arith, omega arith, refl)
 number-of kinds.Measure = (omega arith, omega arith, refl)
 number-of kinds.Install = (omega arith, omega arith, refl)
@@ -536,10 +536,10 @@ unfolding outline_at
 outline-writes head few fits =
     let n = number-of head.kind in
     let v = version-in head.version in
-    let both : Writes (headed_at (kind_of (number_of head.kind)) (version_of (version_number head.version))) head (counts_bytes head.counts ++ (to_le_bytes w32 head.flow ++ to_le_bytes w32 (size_of head.kind head.version head.counts))) =
+    let both : Writes (headed_at (kind_numbered (kind_number head.kind)) (version_of (version_number head.version))) head (counts_bytes head.counts ++ (to_le_bytes w32 head.flow ++ to_le_bytes w32 (size_of head.kind head.version head.counts))) =
     subst (λ kind. Writes (headed_at kind (version_of (version_number head.version))) head (counts_bytes head.counts ++ (to_le_bytes w32 head.flow ++ to_le_bytes w32 (size_of head.kind head.version head.counts)))) (sym n.2)
     (subst (λ version. Writes (headed_at head.kind version) head (counts_bytes head.counts ++ (to_le_bytes w32 head.flow ++ to_le_bytes w32 (size_of head.kind head.version head.counts)))) (sym (version_of-number head.version)) (headed-writes head few fits)) in
-    writes-then (byte_at bad.Kind 1 8) _ (number_of head.kind) _ (number_of head.kind ∷ []) _ (byte-writes bad.Kind 1 8 (number_of head.kind) n.0 n.1)
+    writes-then (byte_at bad.Kind 1 8) _ (kind_number head.kind) _ (kind_number head.kind ∷ []) _ (byte-writes bad.Kind 1 8 (kind_number head.kind) n.0 n.1)
     (writes-then (byte_at bad.Version 1 2) _ (version_number head.version) _ (version_number head.version ∷ []) _ (byte-writes bad.Version 1 2 (version_number head.version) v.0 v.1) both)
 
 outline-reads : IsReadBy outline_at outline_bytes IsHead
@@ -547,13 +547,13 @@ unfolding outline_at
 outline-reads = read-by outline_at outline_bytes IsHead
     (read-then (byte_at bad.Kind 1 8) _ (λ n. n ∷ []) _ _ (byte-reads bad.Kind 1 8)
     (λ kind k. read-then (byte_at bad.Version 1 2) _ (λ n. n ∷ []) _ _ (byte-reads bad.Version 1 2)
-    (λ version v. read-then (counts_at (kind_of kind) (version_of version)) _ counts_bytes _ _ (counts-reads (kind_of kind) (version_of version))
+    (λ version v. read-then (counts_at (kind_numbered kind) (version_of version)) _ counts_bytes _ _ (counts-reads (kind_numbered kind) (version_of version))
     (λ c few. read-then (number_at w32) _ (to_le_bytes w32) _ _ number32-is
-    (λ flow f. read-last (exactly_at bad.Length 4 (size_of (kind_of kind) (version_of version) c)) (λ size. record { kind = kind_of kind; version = version_of version; counts = c; flow = flow })
-    (λ size. to_le_bytes w32 (size_of (kind_of kind) (version_of version) c)) _ _ (exactly-reads bad.Length (size_of (kind_of kind) (version_of version) c))
+    (λ flow f. read-last (exactly_at bad.Length 4 (size_of (kind_numbered kind) (version_of version) c)) (λ size. record { kind = kind_numbered kind; version = version_of version; counts = c; flow = flow })
+    (λ size. to_le_bytes w32 (size_of (kind_numbered kind) (version_of version) c)) _ _ (exactly-reads bad.Length (size_of (kind_numbered kind) (version_of version) c))
     (λ size u.
-    let tail : List ℕ = counts_bytes c ++ (to_le_bytes w32 flow ++ to_le_bytes w32 (size_of (kind_of kind) (version_of version) c)) in
-    (ap (λ n. n ∷ version ∷ tail) (sym (number_of-kind kind k.0 k.1)) ∙ ap (λ n. number_of (kind_of kind) ∷ n ∷ tail) (sym (number_of-version version v.0 v.1)), (few, f))))))))
+    let tail : List ℕ = counts_bytes c ++ (to_le_bytes w32 flow ++ to_le_bytes w32 (size_of (kind_numbered kind) (version_of version) c)) in
+    (ap (λ n. n ∷ version ∷ tail) (sym (number_of-kind kind k.0 k.1)) ∙ ap (λ n. kind_number (kind_numbered kind) ∷ n ∷ tail) (sym (number_of-version version v.0 v.1)), (few, f))))))))
 
 -- ---- frames
 
@@ -564,12 +564,12 @@ pub frame-writes : (version : Version) (flow : ℕ) (body : Body) → IsSpellabl
 unfolding frame_at
 frame-writes version flow body ok =
     writes-then outline_at _ (outline_of version flow body) _ _ _ (outline-writes (outline_of version flow body) ok.1 ok.0)
-    (writes-last (body_at (kind_of_body body) version (counts_of body)) (λ body'. record { outline = outline_of version flow body; body = body' }) body _ (body-writes version body ok.2))
+    (writes-last (body_at (kind_of_body body) version (body_counts body)) (λ body'. record { outline = outline_of version flow body; body = body' }) body _ (body-writes version body ok.2))
 
 frame-made : (head : Outline) (body : Body) → IsHead head → IsBody head.kind head.version head.counts body → IsFrameRead (record { outline = head; body = body })
 frame-made head body h b =
     let is : head ≡ outline_of head.version head.flow body = ap (λ kind. record { kind = kind; version = head.version; counts = head.counts; flow = head.flow }) b.1.0 ∙ ap (λ c. record { kind = kind_of_body body; version = head.version; counts = c; flow = head.flow }) b.1.1 in
-    let few : AreCounts (kind_of_body body) head.version (counts_of body) = subst (λ (o : Outline). AreCounts o.kind o.version o.counts) is h.0 in
+    let few : AreCounts (kind_of_body body) head.version (body_counts body) = subst (λ (o : Outline). AreCounts o.kind o.version o.counts) is h.0 in
     ((h.1, few, b.0), is)
 
 pub frame-reads : IsReadBy frame_at (λ frame. spelled frame.outline.version frame.outline.flow frame.body) IsFrameRead

@@ -12,8 +12,8 @@ use Rattle.reply_frames.specs.declared.outline.Version.{Version}
 use Rattle.reply_frames.specs.declared.outline.Version.TheVariants.{One, Two}
 use Rattle.reply_frames.specs.declared.outline.Counts.{Counts}
 use Rattle.reply_frames.specs.Parts.{◌>>=◌, byte_at, number_at, limited_at, exactly_at, repeated_at}
-use Rattle.reply_frames.specs.Kinds.{kind_of, version_of, most_n1, most_n2, most_n3, most_n4, size_of}
-use Rattle.reply_frames.specs.Frames.{counts_at, outline_at, start_at, event_at, register_number_at, register_at, instruction_at, target_at, value_at, values_at, Create, Measure, Install, Update, Change, Fault, Ack, Refused, create_at, count_at, measure_at, install_at, update_at, change_at, fault_at, ack_at, refused_at, body_at, frame_at}
+use Rattle.reply_frames.specs.Kinds.{kind_numbered, version_of, most_n1, most_n2, most_n3, most_n4, size_of}
+use Rattle.reply_frames.specs.Frames.{counts_at, outline_at, start_at, event_at, register_number_at, register_at, instruction_at, target_at, value_at, values_at, Create, Measure, Install, Update, Change, Fault, Ack, Refused, create_at, count_at, measure_at, install_at, update_at, change_at, fault_body_at, ack_body_at, refused_at, body_at, frame_at}
 use Rattle.reply_frames.proofs.Exact.{IsExact}
 use Rattle.reply_frames.proofs.ExactParts.{exact-then, exact-ok, exact-if, exact-byte, exact-number, exact-limited, exact-exactly, exact-repeated}
 
@@ -31,10 +31,10 @@ unfolding outline_at
 exact-outline =
     exact-then (byte_at bad.Kind 1 8) _ (exact-byte bad.Kind 1 8 (omega arith) (omega arith))
     (λ kind. exact-then (byte_at bad.Version 1 2) _ (exact-byte bad.Version 1 2 (omega arith) (omega arith))
-    (λ version. exact-then (counts_at (kind_of kind) (version_of version)) _ (exact-counts (kind_of kind) (version_of version))
+    (λ version. exact-then (counts_at (kind_numbered kind) (version_of version)) _ (exact-counts (kind_numbered kind) (version_of version))
     (λ counts. exact-then (number_at w32) _ (exact-number w32)
-    (λ flow. exact-then (exactly_at bad.Length 4 (size_of (kind_of kind) (version_of version) counts)) _ (exact-exactly bad.Length 4 (size_of (kind_of kind) (version_of version) counts))
-    (λ size. exact-ok (record { kind = kind_of kind; version = version_of version; counts = counts; flow = flow }))))))
+    (λ flow. exact-then (exactly_at bad.Length 4 (size_of (kind_numbered kind) (version_of version) counts)) _ (exact-exactly bad.Length 4 (size_of (kind_numbered kind) (version_of version) counts))
+    (λ size. exact-ok (record { kind = kind_numbered kind; version = version_of version; counts = counts; flow = flow }))))))
 
 exact-start : IsExact start_at
 unfolding start_at
@@ -132,8 +132,8 @@ exact-change count =
     exact-then (number_at w32) _ (exact-number w32)
     (λ program. exact-then (values_at count) _ (exact-values count) (λ values. exact-ok (Change program values)))
 
-exact-fault : (version : Version) → IsExact (fault_at version)
-unfolding fault_at
+exact-fault : (version : Version) → IsExact (fault_body_at version)
+unfolding fault_body_at
 exact-fault version =
     exact-then (number_at w32) _ (exact-number w32)
     (λ program. exact-then (number_at w32) _ (exact-number w32)
@@ -144,8 +144,8 @@ exact-fault version =
     (λ now. exact-then (number_at w64) _ (exact-number w64)
     (λ cwnd. exact-ok (Fault program epoch place kind index now cwnd))))))))
 
-exact-ack : IsExact ack_at
-unfolding ack_at
+exact-ack : IsExact ack_body_at
+unfolding ack_body_at
 exact-ack =
     exact-then (repeated_at (number_at w64) flag_number) _ (exact-repeated (number_at w64) (exact-number w64) flag_number)
     (λ primitives. exact-then (limited_at bad.Flag 8 1) _ (exact-limited bad.Flag 8 1)

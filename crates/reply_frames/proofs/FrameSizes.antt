@@ -13,11 +13,11 @@ use Rattle.reply_frames.specs.declared.outline.FrameKind.TheVariants as kinds
 use Rattle.reply_frames.specs.declared.outline.Version.{Version}
 use Rattle.reply_frames.specs.declared.outline.Version.TheVariants.{One, Two}
 use Rattle.reply_frames.specs.declared.outline.Outline.{Outline}
-use Rattle.reply_frames.specs.Kinds.{number_of, version_number, most_n1, most_n2, size_of}
+use Rattle.reply_frames.specs.Kinds.{kind_number, version_number, most_n1, most_n2, size_of}
 use Rattle.reply_frames.specs.Frames.{Start, Event, Register, Instruction, Body, Create, Measure, Install, Update, Change, Fault, Ack, Refused}
-use Rattle.reply_frames.specs.ValueBytes.{IsTarget, target_bytes, value_bytes, values_bytes, IsSendable}
+use Rattle.reply_frames.specs.ValueBytes.{FieldFits, target_bytes, value_bytes, values_bytes, IsSendable}
 use Rattle.reply_frames.specs.Whole.{AreBytes}
-use Rattle.reply_frames.specs.FrameBytes.{counts_bytes, outline_bytes, start_bytes, event_bytes, register_bytes, instruction_bytes, count_width, count_bytes, numbers_bytes, body_bytes, kind_of_body, counts_of, outline_of, spelled, IsStart, IsEvent, IsRegister, IsInstruction, IsNumber, AreCounts, HasRanges, IsSpellable}
+use Rattle.reply_frames.specs.FrameBytes.{counts_bytes, outline_bytes, start_bytes, event_bytes, register_bytes, instruction_bytes, count_width, count_bytes, numbers_bytes, body_bytes, kind_of_body, body_counts, outline_of, spelled, StartFits, IsEvent, IsRegister, IsInstruction, IsNumber, AreCounts, HasRanges, IsSpellable}
 use Rattle.reply_frames.proofs.ExactParts.{AreBytes-append}
 use Rattle.reply_frames.proofs.Codec.{low_digits, le_bytes-digits}
 use Rattle.reply_frames.proofs.CodecFrames.{le_bytes-digits8, number-of, version-in}
@@ -54,7 +54,7 @@ text-all : {A : Type 0} (text : A → List ℕ) (Valid : A → Type 0) → ((x :
 text-all text Valid one [] valid = record { bytes = tt }
 text-all text Valid one (x ∷ xs) valid = subst IsText (sym (flat_map-cons text x xs)) (text-then (text x) (flat_map text xs) (one x valid.0) (text-all text Valid one xs valid.1))
 
-text-target : (reg : FieldReg) → IsTarget reg → IsText (target_bytes reg)
+text-target : (reg : FieldReg) → FieldFits reg → IsText (target_bytes reg)
 text-target (Control number) lt = record { bytes = (omega arith, (omega arith, tt)) }
 text-target Cwnd lt = record { bytes = (omega arith, (omega arith, tt)) }
 text-target Rate lt = record { bytes = (omega arith, (omega arith, tt)) }
@@ -65,7 +65,7 @@ text-values values ok = text-all value_bytes IsSendable (λ value fits. text-the
 text-numbers : (numbers : List ℕ) → AllByRecursion IsNumber numbers → IsText (numbers_bytes numbers)
 text-numbers numbers ok = text-all (to_le_bytes w64) IsNumber (λ n fits. text64 n) numbers ok
 
-text-start : (start : Start) → IsStart start → IsText (start_bytes start)
+text-start : (start : Start) → StartFits start → IsText (start_bytes start)
 text-start start ok = text-cons start.volatile (to_le_bytes w64 start.value) (omega (arith, ok.0)) (text64 start.value)
 
 text-event : (event : Event) → IsEvent event → IsText (event_bytes event)
@@ -86,7 +86,7 @@ text-body version (Measure program epoch first last now cwnd rate fields) ok =
     (text-then (to_le_bytes w32 program) (to_le_bytes w32 epoch) (text32 program) (text32 epoch)) (text-count version first)) (text-count version last)) (text64 now)) (text64 cwnd)) (text64 rate)) (text-numbers fields ok.7)
 text-body version (Install program reports controls events instructions) ok =
     text-then _ (flat_map instruction_bytes instructions) (text-then _ (flat_map event_bytes events) (text-then _ (flat_map start_bytes controls) (text-then (to_le_bytes w32 program) (flat_map start_bytes reports)
-    (text32 program) (text-all start_bytes IsStart text-start reports ok.1)) (text-all start_bytes IsStart text-start controls ok.2)) (text-all event_bytes IsEvent text-event events ok.3)) (text-all instruction_bytes IsInstruction text-instruction instructions ok.4)
+    (text32 program) (text-all start_bytes StartFits text-start reports ok.1)) (text-all start_bytes StartFits text-start controls ok.2)) (text-all event_bytes IsEvent text-event events ok.3)) (text-all instruction_bytes IsInstruction text-instruction instructions ok.4)
 text-body version (Update values) ok = text-values values ok
 text-body version (Change program values) ok = text-then (to_le_bytes w32 program) (values_bytes values) (text32 program) (text-values values ok.1)
 text-body version (Fault program epoch place kind index now cwnd) ok =
@@ -116,7 +116,7 @@ text-outline head few =
     let wide = text-then (to_le_bytes w16 head.counts.n3) (to_le_bytes w16 head.counts.n4) (text16 head.counts.n3) (text16 head.counts.n4) in
     let tail = text-then (to_le_bytes w32 head.flow) (to_le_bytes w32 size) (text32 head.flow) (text32 size) in
     let of_counts : IsText (counts_bytes head.counts) = text-cons head.counts.n1 _ (omega (arith, few.0, small.0)) (text-cons head.counts.n2 _ (omega (arith, few.1, small.1)) wide) in
-    text-cons (number_of head.kind) _ (omega (arith, k.1)) (text-cons (version_number head.version) _ (omega (arith, v.1)) (text-then (counts_bytes head.counts) (to_le_bytes w32 head.flow ++ to_le_bytes w32 size) of_counts tail))
+    text-cons (kind_number head.kind) _ (omega (arith, k.1)) (text-cons (version_number head.version) _ (omega (arith, v.1)) (text-then (counts_bytes head.counts) (to_le_bytes w32 head.flow ++ to_le_bytes w32 size) of_counts tail))
 
 pub frame-bytes : (version : Version) (flow : ℕ) (body : Body) → IsSpellable version flow body → AreBytes (spelled version flow body)
 frame-bytes version flow body ok =
@@ -176,7 +176,7 @@ long-body version (Fault program epoch place kind index now cwnd) =
 long-body version (Ack primitives was_timeout) = long-then (numbers_bytes primitives) (to_le_bytes w64 was_timeout) _ 8 (long-all (to_le_bytes w64) 8 (λ n. refl) primitives) (record { long = refl })
 long-body version (Refused reason index) = record { long = refl }
 
-size-of : (version : Version) (body : Body) → HasPrimitives body → 16 + body_size version body ≡ size_of (kind_of_body body) version (counts_of body)
+size-of : (version : Version) (body : Body) → HasPrimitives body → 16 + body_size version body ≡ size_of (kind_of_body body) version (body_counts body)
 size-of version (Create cwnd mss) is = refl
 size-of One (Measure program epoch first last now cwnd rate fields) is = omega arith
 size-of Two (Measure program epoch first last now cwnd rate fields) is = omega arith
@@ -188,7 +188,7 @@ size-of Two (Fault program epoch place kind index now cwnd) is = refl
 size-of version (Ack primitives was_timeout) is = omega (arith, is)
 size-of version (Refused reason index) is = refl
 
-pub length-spelled : (version : Version) (flow : ℕ) (body : Body) → HasPrimitives body → length (spelled version flow body) ≡ size_of (kind_of_body body) version (counts_of body)
+pub length-spelled : (version : Version) (flow : ℕ) (body : Body) → HasPrimitives body → length (spelled version flow body) ≡ size_of (kind_of_body body) version (body_counts body)
 length-spelled version flow body is =
     let whole = long-then (outline_bytes (outline_of version flow body)) (body_bytes version body) 16 (body_size version body) (record { long = refl }) (long-body version body) in
     whole.long ∙ size-of version body is
@@ -203,5 +203,5 @@ ranges-primitives version (Fault program epoch place kind index now cwnd) ok = t
 ranges-primitives version (Ack primitives was_timeout) ok = ok.0
 ranges-primitives version (Refused reason index) ok = tt
 
-pub frame-size : (version : Version) (flow : ℕ) (body : Body) → IsSpellable version flow body → length (spelled version flow body) ≡ size_of (kind_of_body body) version (counts_of body)
+pub frame-size : (version : Version) (flow : ℕ) (body : Body) → IsSpellable version flow body → length (spelled version flow body) ≡ size_of (kind_of_body body) version (body_counts body)
 frame-size version flow body ok = length-spelled version flow body (ranges-primitives version body ok.2)

@@ -12,7 +12,7 @@ use Rattle.reply_frames.specs.declared.outline.Counts.{Counts}
 use Rattle.reply_frames.specs.Frames.{Body}
 use Rattle.reply_frames.specs.Kinds.{size_of}
 use Rattle.reply_frames.specs.Decoding.{needed_of}
-use Rattle.reply_frames.specs.FrameBytes.{AreCounts, IsSpellable, spelled, kind_of_body, counts_of}
+use Rattle.reply_frames.specs.FrameBytes.{AreCounts, IsSpellable, spelled, kind_of_body, body_counts}
 use Rattle.reply_frames.proofs.CodecFrames.{frame-reads}
 use Rattle.reply_frames.proofs.FrameSizes.{frame-size}
 use Rattle.reply_frames.specs.Whole.{AreBytes}
@@ -40,7 +40,7 @@ size-small kinds.Refused version c few = omega arith
 -- the length in a frame's head
 said-size : (version : Version) (flow : ℕ) (body : Body) → IsSpellable version flow body → from_le_bytes w32 (take 4 (drop 12 (spelled version flow body))) ≡ length (spelled version flow body)
 said-size version flow body ok =
-    from_le_bytes-to_le_bytes_4 (size_of (kind_of_body body) version (counts_of body)) (size-small (kind_of_body body) version (counts_of body) ok.1) ∙ sym (frame-size version flow body ok)
+    from_le_bytes-to_le_bytes_4 (size_of (kind_of_body body) version (body_counts body)) (size-small (kind_of_body body) version (body_counts body) ok.1) ∙ sym (frame-size version flow body ok)
 
 front-size : (bytes more : List ℕ) → 16 ≤ length bytes → take 4 (drop 12 (bytes ++ more)) ≡ take 4 (drop 12 bytes)
 front-size bytes more long =
@@ -77,4 +77,4 @@ longest bytes are frame =
     let body = frame.frame.body in
     let r = frame-reads bytes (frame.frame, []) (all-bytes bytes are) frame.whole in
     let is : bytes ≡ spelled version flow body = r.0.parts ∙ append-nil (spelled version flow body) in
-    omega (arith, ap length is, frame-size version flow body r.1.0, size-most (kind_of_body body) version (counts_of body) r.1.0.1)
+    omega (arith, ap length is, frame-size version flow body r.1.0, size-most (kind_of_body body) version (body_counts body) r.1.0.1)

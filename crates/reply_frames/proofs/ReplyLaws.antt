@@ -15,12 +15,12 @@ use Rattle.reply_frames.specs.declared.decode.ReplyHead.{ReplyHead}
 use Rattle.reply_frames.specs.Parts.{Read}
 use Rattle.reply_frames.specs.Frames.{Body, Create, Measure, Install, Update, Change, Fault, Ack, Refused, Frame, frame_at}
 use Rattle.reply_frames.specs.Replies.{update_bytes, change_bytes, reply_bytes, reply_head, IsReply}
-use Rattle.reply_frames.specs.ValueBytes.{AreTargets, IsValue, IsSendable}
+use Rattle.reply_frames.specs.ValueBytes.{AreTargets, ValueFits, IsSendable}
 use Rattle.reply_frames.specs.Writing.{over}
 use Rattle.reply_frames.specs.Decoding.{head_of, answer_of, decoded_from, decoded_of, IsOther}
 use Rattle.reply_frames.specs.FrameBytes.{kind_of_body, outline_of, spelled, IsSpellable}
 use Rattle.reply_frames.proofs.Codec.{AllBytes}
-use Rattle.reply_frames.specs.Kinds.{number_of}
+use Rattle.reply_frames.specs.Kinds.{kind_number}
 use Rattle.reply_frames.proofs.CodecFrames.{frame-writes, frame-reads}
 use Rattle.reply_frames.proofs.FrameLaws.{answer-err, read_begins, begins_read}
 
@@ -92,11 +92,11 @@ told_reply bytes (Err fault) values fits found = tt
 
 -- ---- what is written is read back
 
-sendable : (values : List Pair) → AreTargets values → AllByRecursion IsValue values → AllByRecursion IsSendable values
+sendable : (values : List Pair) → AreTargets values → AllByRecursion ValueFits values → AllByRecursion IsSendable values
 sendable [] targets numbers = tt
 sendable (value ∷ values) targets numbers = ((targets.0, numbers.0), sendable values targets.1 numbers.1)
 
-pub written-update : (flow : ℕ) (values : List Pair) (old out : List ℕ) → flow < 2 ^ 32 → length values ≤ 66 → AreTargets values → AllByRecursion IsValue values → out ≡ over (update_bytes One flow values) old → IsReply out (reply_head flow None values) values
+pub written-update : (flow : ℕ) (values : List Pair) (old out : List ℕ) → flow < 2 ^ 32 → length values ≤ 66 → AreTargets values → AllByRecursion ValueFits values → out ≡ over (update_bytes One flow values) old → IsReply out (reply_head flow None values) values
 written-update flow values old out low few targets numbers is = record {
   rest = drop (length (update_bytes One flow values)) old;
   parts = is;
@@ -107,7 +107,7 @@ written-update flow values old out low few targets numbers is = record {
   values_fit = sendable values targets numbers;
 }
 
-pub written-change : (flow program : ℕ) (values : List Pair) (old out : List ℕ) → flow < 2 ^ 32 → program < 2 ^ 32 → length values ≤ 66 → AreTargets values → AllByRecursion IsValue values → out ≡ over (change_bytes One flow program values) old → IsReply out (reply_head flow (Some program) values) values
+pub written-change : (flow program : ℕ) (values : List Pair) (old out : List ℕ) → flow < 2 ^ 32 → program < 2 ^ 32 → length values ≤ 66 → AreTargets values → AllByRecursion ValueFits values → out ≡ over (change_bytes One flow program values) old → IsReply out (reply_head flow (Some program) values) values
 written-change flow program values old out low known few targets numbers is = record {
   rest = drop (length (change_bytes One flow program values)) old;
   parts = is;
@@ -144,8 +144,8 @@ other-frame bytes (Ok (frame, rest)) n fits e d =
     let kind : kind_of_body frame.body ≡ frame.outline.kind = sym (ap (λ (o : Outline). o.kind) r.1.1) in
     let same : answer_of (kind_of_body frame.body) frame.outline frame.body used ≡ Err (Other n) = ap (λ (k : FrameKind). answer_of k frame.outline frame.body used) kind ∙ d in
     let p = other-body frame.outline frame.body used n same in
-    let number : Other n ≡ Other (number_of frame.outline.kind) = answer-err frame.outline.kind frame.outline frame.body used (Other n) d in
-    let number_is : n ≡ number_of frame.outline.kind = cc in
+    let number : Other n ≡ Other (kind_number frame.outline.kind) = answer-err frame.outline.kind frame.outline frame.body used (Other n) d in
+    let number_is : n ≡ kind_number frame.outline.kind = cc in
     record {
       frame = frame;
       begins = read_begins bytes frame rest e;
@@ -154,7 +154,7 @@ other-frame bytes (Ok (frame, rest)) n fits e d =
       number_is = number_is;
     }
 
-answer-other : (kind : FrameKind) (outline : Outline) (body : Body) (used : ℕ) → kind ≢ kinds.Update → kind ≢ kinds.Change → answer_of kind outline body used ≡ Err (Other (number_of kind))
+answer-other : (kind : FrameKind) (outline : Outline) (body : Body) (used : ℕ) → kind ≢ kinds.Update → kind ≢ kinds.Change → answer_of kind outline body used ≡ Err (Other (kind_number kind))
 answer-other kinds.Create outline body used no_update no_change = refl
 answer-other kinds.Measure outline body used no_update no_change = refl
 answer-other kinds.Install outline body used no_update no_change = refl

@@ -5,7 +5,7 @@ use Rattle.ccp_base.specs.declared.arithmetic.FaultKind.{FaultKind}
 use Rattle.ccp_base.specs.declared.arithmetic.FaultKind.TheVariants.{Overflow, Underflow, ZeroDivisor}
 use Rattle.ccp_base.specs.declared.exchange.Report.{Report}
 use Rattle.ccp_base.specs.declared.exchange.Notice.{Notice}
-use Rattle.ccp_base.specs.Acknowledgement.{number_of, primitives, flag_number}
+use Rattle.ccp_base.specs.Acknowledgement.{bool_number, primitives, flag_number}
 use Rattle.reply_frames.specs.Frames.{Body}
 use Rattle.reply_frames.specs.Frames as body
 
@@ -28,4 +28,4 @@ notice_body n = body.Fault n.program n.epoch n.at (fault_number n.kind) n.index 
 
 -- what an Ack says of an acknowledgement
 abbrev pub ack_body : Ack → Body
-ack_body ack = body.Ack (take flag_number (primitives ack)) (number_of ack.was_timeout)
+ack_body ack = body.Ack (take flag_number (primitives ack)) (bool_number ack.was_timeout)

@@ -10,7 +10,7 @@ use Rattle.reply_frames.specs.declared.outline.Version.{Version}
 use Rattle.reply_frames.specs.declared.outline.Version.TheVariants.{One, Two}
 use Rattle.reply_frames.specs.declared.outline.Counts.{Counts}
 use Rattle.reply_frames.specs.declared.outline.Outline.{Outline}
-use Rattle.reply_frames.specs.Kinds.{number_of, version_number, most_n1, most_n2, most_n3, most_n4, size_of}
+use Rattle.reply_frames.specs.Kinds.{kind_number, version_number, most_n1, most_n2, most_n3, most_n4, size_of}
 use Rattle.reply_frames.specs.ValueBytes.{values_bytes, IsSendable}
 use Rattle.reply_frames.specs.Frames.{Start, Event, Register, Instruction, Body, Create, Measure, Install, Update, Change, Fault, Ack, Refused}
 
@@ -21,7 +21,7 @@ counts_bytes counts = counts.n1 ∷ counts.n2 ∷ to_le_bytes w16 counts.n3 ++ t
 -- a head: kind, version, counts, flow, and the length of the whole frame
 abbrev pub outline_bytes : Outline → List ℕ
 outline_bytes head =
-    number_of head.kind ∷ version_number head.version ∷
+    kind_number head.kind ∷ version_number head.version ∷
     counts_bytes head.counts ++ (to_le_bytes w32 head.flow ++ to_le_bytes w32 (size_of head.kind head.version head.counts))
 
 -- ---- the parts of bodies
@@ -82,20 +82,20 @@ abbrev pub counts : ℕ → ℕ → ℕ → ℕ → Counts
 counts n1 n2 n3 n4 = record { n1 = n1; n2 = n2; n3 = n3; n4 = n4 }
 
 -- the counts of the head before a body
-abbrev pub counts_of : Body → Counts
-counts_of (Create cwnd mss) = counts 0 0 0 0
-counts_of (Measure program epoch first last now cwnd rate fields) = counts (length fields) 0 0 0
-counts_of (Install program reports controls events instructions) =
+abbrev pub body_counts : Body → Counts
+body_counts (Create cwnd mss) = counts 0 0 0 0
+body_counts (Measure program epoch first last now cwnd rate fields) = counts (length fields) 0 0 0
+body_counts (Install program reports controls events instructions) =
     counts (length reports) (length controls) (length events) (length instructions)
-counts_of (Update values) = counts (length values) 0 0 0
-counts_of (Change program values) = counts (length values) 0 0 0
-counts_of (Fault program epoch place kind index now cwnd) = counts 0 0 0 0
-counts_of (Ack primitives was_timeout) = counts 0 0 0 0
-counts_of (Refused reason index) = counts 0 0 0 0
+body_counts (Update values) = counts (length values) 0 0 0
+body_counts (Change program values) = counts (length values) 0 0 0
+body_counts (Fault program epoch place kind index now cwnd) = counts 0 0 0 0
+body_counts (Ack primitives was_timeout) = counts 0 0 0 0
+body_counts (Refused reason index) = counts 0 0 0 0
 
 -- the head before a body
 abbrev pub outline_of : Version → ℕ → Body → Outline
-outline_of version flow body = record { kind = kind_of_body body; version = version; counts = counts_of body; flow = flow }
+outline_of version flow body = record { kind = kind_of_body body; version = version; counts = body_counts body; flow = flow }
 
 -- the frame of a flow with this body
 abbrev pub spelled : Version → ℕ → Body → List ℕ
@@ -103,8 +103,8 @@ spelled version flow body = outline_bytes (outline_of version flow body) ++ body
 
 -- ---- what has a place in a frame
 
-abbrev pub IsStart : Start → Type 0
-IsStart start = (start.volatile ≤ 1) × (start.value < 2 ^ 64)
+abbrev pub StartFits : Start → Type 0
+StartFits start = (start.volatile ≤ 1) × (start.value < 2 ^ 64)
 
 abbrev pub IsEvent : Event → Type 0
 IsEvent event = (event.condition < 2 ^ 16) × (event.block < 2 ^ 16)
@@ -137,7 +137,7 @@ HasRanges version (Measure program epoch first last now cwnd rate fields) =
     (program < 2 ^ 32) × (epoch < 2 ^ 32) × IsCount version first × IsCount version last
     × (now < 2 ^ 64) × (cwnd < 2 ^ 64) × (rate < 2 ^ 64) × AllByRecursion IsNumber fields
 HasRanges version (Install program reports controls events instructions) =
-    (program < 2 ^ 32) × AllByRecursion IsStart reports × AllByRecursion IsStart controls
+    (program < 2 ^ 32) × AllByRecursion StartFits reports × AllByRecursion StartFits controls
     × AllByRecursion IsEvent events × AllByRecursion IsInstruction instructions
 HasRanges version (Update values) = AllByRecursion IsSendable values
 HasRanges version (Change program values) = (program < 2 ^ 32) × AllByRecursion IsSendable values
@@ -151,4 +151,4 @@ HasRanges version (Refused reason index) = (1 ≤ reason) × (reason ≤ most_re
 -- a body that a frame of this version and flow can have
 abbrev pub IsSpellable : Version → ℕ → Body → Type 0
 IsSpellable version flow body =
-    (flow < 2 ^ 32) × AreCounts (kind_of_body body) version (counts_of body) × HasRanges version body
+    (flow < 2 ^ 32) × AreCounts (kind_of_body body) version (body_counts body) × HasRanges version body

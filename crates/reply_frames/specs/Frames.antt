@@ -16,7 +16,7 @@ use Rattle.reply_frames.specs.declared.outline.Outline.{Outline}
 pub use Rattle.reply_frames.specs.declared.outline.Register.{Register}
 pub use Rattle.reply_frames.specs.declared.outline.Instruction.{Instruction}
 use Rattle.reply_frames.specs.Parts.{Read, ◌>>=◌, byte_at, number_at, limited_at, exactly_at, repeated_at}
-use Rattle.reply_frames.specs.Kinds.{kind_of, version_of, most_n1, most_n2, most_n3, most_n4, size_of}
+use Rattle.reply_frames.specs.Kinds.{kind_numbered, version_of, most_n1, most_n2, most_n3, most_n4, size_of}
 
 -- the counts of a head
 unfoldable pub counts_at : FrameKind → Version → List ℕ → Read Counts
@@ -32,10 +32,10 @@ unfoldable pub outline_at : List ℕ → Read Outline
 outline_at bytes = do
   kind ← byte_at bad.Kind 1 8 bytes
   version ← byte_at bad.Version 1 2 kind.1
-  counts ← counts_at (kind_of kind.0) (version_of version.0) version.1
+  counts ← counts_at (kind_numbered kind.0) (version_of version.0) version.1
   flow ← number_at w32 counts.1
-  size ← exactly_at bad.Length 4 (size_of (kind_of kind.0) (version_of version.0) counts.0) flow.1
-  Ok (record { kind = kind_of kind.0; version = version_of version.0; counts = counts.0; flow = flow.0 }, size.1)
+  size ← exactly_at bad.Length 4 (size_of (kind_numbered kind.0) (version_of version.0) counts.0) flow.1
+  Ok (record { kind = kind_numbered kind.0; version = version_of version.0; counts = counts.0; flow = flow.0 }, size.1)
 
 -- ---- the parts of bodies
 
@@ -161,8 +161,8 @@ change_at count bytes = do
   values ← values_at count program.1
   Ok (Change program.0 values.0, values.1)
 
-unfoldable pub fault_at : Version → List ℕ → Read Body
-fault_at version bytes = do
+unfoldable pub fault_body_at : Version → List ℕ → Read Body
+fault_body_at version bytes = do
   program ← number_at w32 bytes
   epoch ← number_at w32 program.1
   place ← count_at version epoch.1
@@ -173,8 +173,8 @@ fault_at version bytes = do
   Ok (Fault program.0 epoch.0 place.0 kind.0 index.0 now.0 cwnd.0, cwnd.1)
 
 -- the plain numbers, and whether there was a timeout
-unfoldable pub ack_at : List ℕ → Read Body
-ack_at bytes = do
+unfoldable pub ack_body_at : List ℕ → Read Body
+ack_body_at bytes = do
   primitives ← repeated_at (number_at w64) flag_number bytes
   was_timeout ← limited_at bad.Flag 8 1 primitives.1
   Ok (Ack primitives.0 was_timeout.0, was_timeout.1)
@@ -191,8 +191,8 @@ body_at kinds.Measure version counts bytes = measure_at version counts.n1 bytes
 body_at kinds.Install version counts bytes = install_at counts bytes
 body_at kinds.Update version counts bytes = update_at counts.n1 bytes
 body_at kinds.Change version counts bytes = change_at counts.n1 bytes
-body_at kinds.Fault version counts bytes = fault_at version bytes
-body_at kinds.Ack version counts bytes = ack_at bytes
+body_at kinds.Fault version counts bytes = fault_body_at version bytes
+body_at kinds.Ack version counts bytes = ack_body_at bytes
 body_at kinds.Refused version counts bytes = refused_at bytes
 
 -- a frame: its head and its body

@@ -8,19 +8,19 @@ use Rattle.reply_frames.specs.declared.outline.Version.TheVariants.{One, Two}
 use Rattle.reply_frames.specs.declared.outline.Counts.{Counts}
 
 -- the number of a kind, in a frame's first byte
-abbrev pub number_of : FrameKind → ℕ
-number_of Create = 1
-number_of Measure = 2
-number_of Install = 3
-number_of Update = 4
-number_of Change = 5
-number_of Fault = 6
-number_of Ack = 7
-number_of Refused = 8
+abbrev pub kind_number : FrameKind → ℕ
+kind_number Create = 1
+kind_number Measure = 2
+kind_number Install = 3
+kind_number Update = 4
+kind_number Change = 5
+kind_number Fault = 6
+kind_number Ack = 7
+kind_number Refused = 8
 
 -- the kind of a number from 1 to 8
-abbrev pub kind_of : ℕ → FrameKind
-kind_of n =
+abbrev pub kind_numbered : ℕ → FrameKind
+kind_numbered n =
     if n == 1 then Create else
     if n == 2 then Measure else
     if n == 3 then Install else

@@ -20,19 +20,19 @@ abbrev pub values_bytes : List Pair → List ℕ
 values_bytes values = flat_map value_bytes values
 
 -- the number of a control variable fits a frame
-abbrev pub IsTarget : FieldReg → Type 0
-IsTarget (Control number) = number < most_controls
-IsTarget Cwnd = Unit {0}
-IsTarget Rate = Unit {0}
+abbrev pub FieldFits : FieldReg → Type 0
+FieldFits (Control number) = number < most_controls
+FieldFits Cwnd = Unit {0}
+FieldFits Rate = Unit {0}
 
 -- each control variable among these has such a number
 abbrev pub AreTargets : List Pair → Type 0
-AreTargets values = AllByRecursion (λ value. IsTarget value.0) values
+AreTargets values = AllByRecursion (λ value. FieldFits value.0) values
 
 -- the number of a value fits a frame
-abbrev pub IsValue : Pair → Type 0
-IsValue value = value.1 < 2 ^ 64
+abbrev pub ValueFits : Pair → Type 0
+ValueFits value = value.1 < 2 ^ 64
 
 -- a value that has a place in a frame
 abbrev pub IsSendable : Pair → Type 0
-IsSendable value = IsTarget value.0 × IsValue value
+IsSendable value = FieldFits value.0 × ValueFits value

@@ -14,7 +14,7 @@ pub record IsFrame (bytes : List ℕ) : Type 0 where
   pub whole : frame_at bytes ≡ Ok (frame, [])
 
 -- they are a proper prefix of a frame
-pub record IsCut (bytes : List ℕ) : Type 0 where
+pub record IsFrameFront (bytes : List ℕ) : Type 0 where
   pub more : List ℕ
   pub are_bytes : AreBytes more
   pub some : more ≢ []
@@ -23,7 +23,7 @@ pub record IsCut (bytes : List ℕ) : Type 0 where
 -- the bytes before this place are a proper prefix of a frame, and no frame begins with one byte more
 pub record IsBadFrom (bytes : List ℕ) (place : ℕ) : Type 0 where
   pub within : place < length bytes
-  pub cut : IsCut (take place bytes)
+  pub cut : IsFrameFront (take place bytes)
   pub none : (more : List ℕ) → ¬ IsFrame (take (place + 1) bytes ++ more)
 
 -- the same, and the byte at this place belongs to this field
@@ -31,7 +31,7 @@ abbrev pub IsBadIn : List ℕ → BadKind → ℕ → Type 0
 IsBadIn bytes field place = IsBadFrom bytes place × (frame_at bytes ≡ Err (Bad field (length bytes - place)))
 
 -- the bytes begin with this whole frame
-pub record BeginsWith (bytes : List ℕ) (frame : Frame) : Type 0 where
+pub record BeginsWithFrame (bytes : List ℕ) (frame : Frame) : Type 0 where
   pub front : List ℕ
   pub rest : List ℕ
   pub parts : bytes ≡ front ++ rest

@@ -7,7 +7,7 @@ ghost use Rattle.ccp_base.specs.Limits.{most_fields};
 ghost use Rattle.reply_frames.specs.Kinds.{most_n1};
 ghost use Rattle.reply_frames.specs.Parts.{Gives, passed, number_at, repeated_at};
 ghost use Rattle.reply_frames.specs.Frames.{Create, Refused, count_at, create_at, measure_at};
-ghost use Rattle.reply_frames.specs.Frames.{fault_at, ack_at, refused_at, body_at};
+ghost use Rattle.reply_frames.specs.Frames.{fault_body_at, ack_body_at, refused_at, body_at};
 ghost use Rattle.reply_frames.specs.Frames as body;
 ghost use Rattle.reply_frames.specs.Bodies.{report_body, notice_body, ack_body};
 
@@ -96,7 +96,7 @@ pub fn measure(
 /// The notice of a Fault on a flow.
 #[tactic(auto, unfolding(crate::specs::Frames::fault_at))]
 pub fn fault(bytes: &[u8], version: Version, flow: u32) -> Result<(Notice, &[u8]), Stop>
-    ensures read { Gives (λ x. (notice_body x.0, x.1.now)) result (fault_at version bytes.now) }
+    ensures read { Gives (λ x. (notice_body x.0, x.1.now)) result (fault_body_at version bytes.now) }
     ensures flow { IfOk result (λ x. x.0.flow ≡ flow) }
 {
     let (program, rest) = number32(bytes)?;
@@ -134,7 +134,7 @@ fn acknowledged(numbers: &Values, was_timeout: u64) -> Ack
 /// The acknowledgement of an Ack.
 #[tactic(auto, unfolding(crate::specs::Frames::ack_at))]
 pub fn ack(bytes: &[u8]) -> Result<(Ack, &[u8]), Stop>
-    ensures { Gives (λ x. (ack_body x.0, x.1.now)) result (ack_at bytes.now) }
+    ensures { Gives (λ x. (ack_body x.0, x.1.now)) result (ack_body_at bytes.now) }
 {
     let mut plain = Values::new();
     let rest = numbers(bytes, PRIMITIVES as u8 - 1, &mut plain)?;

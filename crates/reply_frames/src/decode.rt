@@ -5,8 +5,8 @@ ghost use Rattle.ccp_base.specs.FieldReg.{Pair};
 ghost use Rattle.reply_frames.specs.Replies.{IsReply};
 ghost use Rattle.reply_frames.specs.declared.decode.ReplyHead.{ReplyHead};
 ghost use Rattle.reply_frames.specs.Frames.{Frame};
-ghost use Rattle.reply_frames.specs.Whole.{IsCut, IsBadIn, BeginsWith};
-ghost use Rattle.reply_frames.specs.Decoding.{needed_of, fault_of, head_of, decoded_of, IsOther, IsBad};
+ghost use Rattle.reply_frames.specs.Whole.{IsFrameFront, IsBadIn, BeginsWithFrame};
+ghost use Rattle.reply_frames.specs.Decoding.{needed_of, frame_fault, head_of, decoded_of, IsOther, IsBad};
 
 use crate::bodies::passed;
 use crate::fault::{FrameFault, Stop};
@@ -43,7 +43,7 @@ pub fn needed(bytes: &[u8]) -> usize
 
 /// Why bytes are no whole frame, from where reading stopped.
 fn stopped(bytes: &[u8], stop: Stop) -> FrameFault
-    ensures { result ≡ fault_of bytes.now stop }
+    ensures { result ≡ frame_fault bytes.now stop }
 {
     match stop {
         Stop::Cut => FrameFault::More(needed(bytes)),
@@ -101,8 +101,8 @@ pub fn decode_fields(bytes: &[u8], values: &mut Fields) -> Result<ReplyHead, Fra
         → (result ≡ Ok head) × (values.new ≡ pairs) }
 
     // The answer is More exactly if the bytes are a proper prefix of a frame.
-    ensures more { (n : ℕ) → result ≡ Err (FrameFault.More n) → IsCut bytes.now × (n ≡ needed_of bytes.now) }
-    ensures cut { IsCut bytes.now → result ≡ Err (FrameFault.More (needed_of bytes.now)) }
+    ensures more { (n : ℕ) → result ≡ Err (FrameFault.More n) → IsFrameFront bytes.now × (n ≡ needed_of bytes.now) }
+    ensures cut { IsFrameFront bytes.now → result ≡ Err (FrameFault.More (needed_of bytes.now)) }
 
     // It is Other exactly if they begin with a whole frame of another kind.
     ensures other { (n : ℕ) → result ≡ Err (FrameFault.Other n) → IsOther bytes.now n }
@@ -112,7 +112,7 @@ pub fn decode_fields(bytes: &[u8], values: &mut Fields) -> Result<ReplyHead, Fra
     // the answer if the bytes are no prefix of a frame and begin with none.
     ensures bad { (field : BadKind) (place : ℕ) → result ≡ Err (FrameFault.Bad field place)
         → IsBadIn bytes.now field place }
-    ensures refused { ((frame : Frame) → ¬ BeginsWith bytes.now frame) → ¬ IsCut bytes.now → IsBad result }
+    ensures refused { ((frame : Frame) → ¬ BeginsWithFrame bytes.now frame) → ¬ IsFrameFront bytes.now → IsBad result }
     ensures unchanged { OnErr result (values.new ≡ values.old) }
 {
     let (head, fields) = found(bytes)?;

@@ -4,7 +4,7 @@ ghost use Rattle.std.specs.Prelude.{◌≡◌, ◌+◌, ◌*◌, ◌<◌, ◌≤
 ghost use Rattle.ccp_base.specs.FieldReg.{pair_of};
 ghost use Rattle.reply_frames.specs.declared.outline.Version.TheVariants.{One};
 ghost use Rattle.reply_frames.specs.Replies.{update_bytes, change_bytes, reply_head, IsReply};
-ghost use Rattle.reply_frames.specs.ValueBytes.{target_bytes, value_bytes, values_bytes, AreTargets, IsValue};
+ghost use Rattle.reply_frames.specs.ValueBytes.{target_bytes, value_bytes, values_bytes, AreTargets, ValueFits};
 ghost use Rattle.std.specs.List.{AllByRecursion};
 ghost use Rattle.reply_frames.specs.FrameBytes.{outline_bytes};
 ghost use Rattle.reply_frames.specs.Writing.{placed, over, WroteFront};
@@ -64,7 +64,7 @@ pub fn put_outline(out: &mut [u8], head: Outline)
 fn put_value(out: &mut [u8], at: usize, reg: FieldReg, value: u64)
     requires { at + 10 ≤ length out.old }
     ensures placed { out.new ≡ placed at (value_bytes (pair_of reg value)) out.old }
-    ensures typed { IsValue (pair_of reg value) }
+    ensures typed { ValueFits (pair_of reg value) }
 {
     put(out, at, &target(reg));
     put(out, at + 2, &value.to_le_bytes());
@@ -74,7 +74,7 @@ fn put_value(out: &mut [u8], at: usize, reg: FieldReg, value: u64)
 pub fn put_values(out: &mut [u8], at: usize, values: &Fields)
     requires { at + 10 * length values.now ≤ length out.old }
     ensures placed { out.new ≡ placed at (values_bytes values.now) out.old }
-    ensures typed { AllByRecursion IsValue values.now }
+    ensures typed { AllByRecursion ValueFits values.now }
 {
     let mut end = at;
     for (reg, value) in values.as_slice() {

@@ -1,7 +1,7 @@
 //! The parts of an Install's body, read from the front of bytes.
 
 ghost use Rattle.std.specs.Prelude.{◌≡◌, ◌<◌, ℕ, IfOk};
-ghost use Rattle.ccp_base.specs.Acknowledgement.{number_of};
+ghost use Rattle.ccp_base.specs.Acknowledgement.{bool_number};
 ghost use Rattle.reply_frames.specs.declared.fault.BadKind.TheVariants.{Flag};
 ghost use Rattle.reply_frames.specs.Parts.{Gives, passed, byte_at, repeated_at};
 ghost use Rattle.reply_frames.specs.Frames.{start_at, event_at, register_number_at, IsSmall};
@@ -16,7 +16,7 @@ pub const MOST_OPERATION: u8 = 14;
 
 /// A Bool in one byte, and the bytes after it.
 fn flag(bytes: &[u8]) -> Result<(bool, &[u8]), Stop>
-    ensures { Gives (λ x. (number_of x.0, x.1.now)) result (byte_at Flag 0 1 bytes.now) }
+    ensures { Gives (λ x. (bool_number x.0, x.1.now)) result (byte_at Flag 0 1 bytes.now) }
 {
     let (number, rest) = byte(bytes, BadKind::Flag, 0, 1)?;
     Ok((number == 1, rest))
@@ -25,7 +25,7 @@ fn flag(bytes: &[u8]) -> Result<(bool, &[u8]), Stop>
 /// Whether a declared register is volatile and the value that it starts with, and the bytes after them.
 #[tactic(auto, unfolding(crate::specs::Frames::start_at))]
 pub fn start(bytes: &[u8]) -> Result<((bool, u64), &[u8]), Stop>
-    ensures { Gives (λ x. (record { volatile = number_of x.0.0; value = x.0.1 }, x.1.now)) result (start_at bytes.now) }
+    ensures { Gives (λ x. (record { volatile = bool_number x.0.0; value = x.0.1 }, x.1.now)) result (start_at bytes.now) }
 {
     let (volatile, rest) = flag(bytes)?;
     let (value, rest) = number64(rest)?;

@@ -2,7 +2,7 @@
 
 ghost use Rattle.std.specs.Prelude.{◌≡◌, ℕ, ◌+◌, ◌*◌, ◌<◌, ◌≤◌};
 ghost use Rattle.reply_frames.specs.FrameBytes.{counts};
-ghost use Rattle.reply_frames.specs.Kinds.{number_of, kind_of, version_number, version_of, most_n1};
+ghost use Rattle.reply_frames.specs.Kinds.{kind_number, kind_numbered, version_number, version_of, most_n1};
 ghost use Rattle.reply_frames.specs.Kinds.{most_n2, most_n3, most_n4, size_of};
 
 use ccp_base::PRIMITIVES;
@@ -95,7 +95,7 @@ pub struct Instruction {
 
 /// The number of a kind, from 1 to 8.
 pub(crate) fn kind_number(kind: FrameKind) -> u8
-    ensures { result ≡ number_of kind }
+    ensures { result ≡ kind_number kind }
 {
     match kind {
         FrameKind::Create => 1,
@@ -121,7 +121,7 @@ pub(crate) fn version_number(version: Version) -> u8
 
 /// The kind of a number from 1 to 8.
 pub(crate) fn numbered_kind(number: u8) -> FrameKind
-    ensures { result ≡ kind_of number }
+    ensures { result ≡ kind_numbered number }
 {
     match number {
         1 => FrameKind::Create,

@@ -2,30 +2,30 @@
 use Rattle.std.proofs.Common.{◌≡◌, ℕ, Bool, true, false, ◌==◌, Some, None, List, [], ◌∷◌, ◌++◌, refl, ap, ◌∙◌, cond}
 use Rattle.std.proofs.lemmas.Bool.{eqb-true, eq-eqb}
 use Rattle.std.specs.Option.{option_and_then}
-use Rattle.run_audit.specs.Fronts.{after}
+use Rattle.run_audit.specs.Fronts.{text_after}
 
 -- what follows a front is there
-pub after-front : (front rest : List ℕ) → after front (front ++ rest) ≡ Some rest
+pub after-front : (front rest : List ℕ) → text_after front (front ++ rest) ≡ Some rest
 after-front [] rest = refl
-after-front (byte ∷ front) rest = ap (λ b. cond b (after front (front ++ rest)) None) (eq-eqb byte byte refl) ∙ after-front front rest
+after-front (byte ∷ front) rest = ap (λ b. cond b (text_after front (front ++ rest)) None) (eq-eqb byte byte refl) ∙ after-front front rest
 
 -- a text is its front and what follows
-pub after-is : (front text rest : List ℕ) → after front text ≡ Some rest → text ≡ front ++ rest
+pub after-is : (front text rest : List ℕ) → text_after front text ≡ Some rest → text ≡ front ++ rest
 after-is [] text rest is = let e : text ≡ rest = cc in e
 after-is (byte ∷ front) [] rest is = absurd (cc)
 after-is (byte ∷ front) (other ∷ text) rest is = go (after-is front text rest) (other == byte) refl is
   where
-    go : (after front text ≡ Some rest → text ≡ front ++ rest) → (b : Bool) → other == byte ≡ b → cond b (after front text) None ≡ Some rest → other ∷ text ≡ byte ∷ (front ++ rest)
+    go : (text_after front text ≡ Some rest → text ≡ front ++ rest) → (b : Bool) → other == byte ≡ b → cond b (text_after front text) None ≡ Some rest → other ∷ text ≡ byte ∷ (front ++ rest)
     go again true same is = let e : other ≡ byte = eqb-true other byte same in λ i. e i ∷ again is i
     go again false same is = absurd (cc)
 
 -- a front of two parts
-pub after-both : (first second text : List ℕ) → after (first ++ second) text ≡ option_and_then (after second) (after first text)
+pub after-both : (first second text : List ℕ) → text_after (first ++ second) text ≡ option_and_then (text_after second) (text_after first text)
 after-both [] second text = refl
 after-both (byte ∷ first) second [] = refl
 after-both (byte ∷ first) second (other ∷ text) = go (other == byte) (after-both first second text)
   where
-    go : (b : Bool) → after (first ++ second) text ≡ option_and_then (after second) (after first text)
-        → cond b (after (first ++ second) text) None ≡ option_and_then (after second) (cond b (after first text) None)
+    go : (b : Bool) → text_after (first ++ second) text ≡ option_and_then (text_after second) (text_after first text)
+        → cond b (text_after (first ++ second) text) None ≡ option_and_then (text_after second) (cond b (text_after first text) None)
     go true again = again
     go false again = refl

@@ -19,9 +19,9 @@ use Rattle.report_lines.specs.FaultLine.{kind_text, fault_head}
 use Rattle.flow_core.specs.declared.book.EpochLine.{EpochLine}
 use Rattle.flow_core.specs.declared.book.TicketLine.{TicketLine}
 use Rattle.flow_core.specs.World.{Failure}
-use Rattle.flow_core.specs.LiveText.{Sources, fields_at, Account, epoch_lines, fault_lines, reply_text, answer_text, told_text, ticket_lines, ticket_text, end_line}
+use Rattle.flow_core.specs.LiveText.{Sources, fields_at, Account, epoch_lines, fault_lines, reply_text, answer_text, told_text, ticket_lines, ticket_text, account_end_line}
 use Rattle.run_audit.specs.PartLeft.{body_text}
-use Rattle.run_audit.specs.Marks.{marks_at, ticket_marks, past, first_number, number_at, number_by, marks_if, marks_in, marks_of, text_marks}
+use Rattle.run_audit.specs.Marks.{marks_at, ticket_marks, past, first_number, marked_number, number_by, marks_if, marks_in, marks_of_lines, text_marks}
 use Rattle.run_audit.proofs.ForcedLemmas.{AreWithin}
 use Rattle.run_audit.proofs.NumeralLemmas.{numeral_of-decimal}
 use Rattle.run_audit.proofs.Pieces.{joined, joined-append, IsPlain, plain-append, ended-part, decimal-plain, IsQuiet, quiet-append, quiet-decimal, ArePlain, AreQuiet, quiet-plain, first_line, taken-past, answered-past}
@@ -30,7 +30,7 @@ use Rattle.run_audit.proofs.Pieces.{joined, joined-append, IsPlain, plain-append
 line-marks : (pieces : List (List ℕ)) (rest : List ℕ) → ArePlain pieces → starts_with nat_eq (joined pieces []) (codes "end ") ≡ false
     → text_marks (joined pieces (codes "\n" ++ rest)) ≡ marks_in (joined pieces []) ++ text_marks rest
 line-marks pieces rest are other =
-    ap marks_of (first_line pieces rest are)
+    ap marks_of_lines (first_line pieces rest are)
     ∙ ap (λ b. cond b [] (marks_in (joined pieces []) ++ text_marks rest)) other
 
 -- a line of quiet pieces shows no letter
@@ -38,7 +38,7 @@ quiet_line : (pieces : List (List ℕ)) (rest : List ℕ) → AreQuiet pieces �
     → text_marks (joined pieces (codes "\n" ++ rest)) ≡ text_marks rest
 quiet_line pieces rest are other =
     line-marks pieces rest (quiet-plain pieces are) other
-    ∙ ap (λ (o : Option (List ℕ)). marks_if (number_at o) (number_by (codes "answered=") (joined pieces [])) ++ text_marks rest) (taken-past pieces [] are)
+    ∙ ap (λ (o : Option (List ℕ)). marks_if (marked_number o) (number_by (codes "answered=") (joined pieces [])) ++ text_marks rest) (taken-past pieces [] are)
 
 -- ---- epochs and faults
 
@@ -251,19 +251,19 @@ plain-back sources (Fault notice) named = tt
 -- ---- the counts of an answer
 
 -- the number before a blank is read
-number-front : (n : ℕ) (more : List ℕ) → n < 2 ^ 64 → number_at (Some (decimal n ++ 32 ∷ more)) ≡ Some n
+number-front : (n : ℕ) (more : List ℕ) → n < 2 ^ 64 → marked_number (Some (decimal n ++ 32 ∷ more)) ≡ Some n
 number-front n more fits = ap first_number (ended-part Blank (decimal n) 32 more (decimal-plain Blank n) refl) ∙ numeral_of-decimal n fits
 
 taken-read : (ticket : TicketLine) (back : List ℕ) → ticket.taken < 2 ^ 64 → number_by (codes "taken=") (answer_text ticket ++ back) ≡ Some ticket.taken
 taken-read ticket back fits =
-    ap (λ text. number_at (Some text)) (append_assoc (decimal ticket.taken) (after_taken ticket) back)
+    ap (λ text. marked_number (Some text)) (append_assoc (decimal ticket.taken) (after_taken ticket) back)
     ∙ number-front ticket.taken (codes "answered=" ++ ((decimal ticket.answered ++ after_answered ticket) ++ back)) fits
 
 answered-read : (ticket : TicketLine) (back : List ℕ) → ticket.answered < 2 ^ 64 → number_by (codes "answered=") (answer_text ticket ++ back) ≡ Some ticket.answered
 answered-read ticket back fits =
-    ap (λ text. number_at (past (codes "answered=") text)) (append_assoc (decimal ticket.taken) (after_taken ticket) back)
-    ∙ ap number_at ((quiet-decimal ticket.taken).answered (after_taken ticket ++ back))
-    ∙ ap (λ text. number_at (Some text)) (append_assoc (decimal ticket.answered) (after_answered ticket) back)
+    ap (λ text. marked_number (past (codes "answered=") text)) (append_assoc (decimal ticket.taken) (after_taken ticket) back)
+    ∙ ap marked_number ((quiet-decimal ticket.taken).answered (after_taken ticket ++ back))
+    ∙ ap (λ text. marked_number (Some text)) (append_assoc (decimal ticket.answered) (after_answered ticket) back)
     ∙ number-front ticket.answered (codes "reply=" ++ (reply_text ticket.reply ++ back)) fits
 
 -- ---- the line of a ticket
@@ -301,9 +301,9 @@ ticket-marks sources number ticket taken answered =
     let back = joined (told_back sources ticket.told) [] in
     let front = quiet-ticket_front number ticket.told in
     let t : number_by (codes "taken=") (joined (ticket_pieces sources number ticket) []) ≡ Some ticket.taken =
-    ap number_at (taken-past (ticket_front number ticket.told) (answer_text ticket ++ back) front) ∙ taken-read ticket back taken in
+    ap marked_number (taken-past (ticket_front number ticket.told) (answer_text ticket ++ back) front) ∙ taken-read ticket back taken in
     let a : number_by (codes "answered=") (joined (ticket_pieces sources number ticket) []) ≡ Some ticket.answered =
-    ap number_at (answered-past (ticket_front number ticket.told) (answer_text ticket ++ back) front) ∙ answered-read ticket back answered in
+    ap marked_number (answered-past (ticket_front number ticket.told) (answer_text ticket ++ back) front) ∙ answered-read ticket back answered in
     λ i. marks_if (t i) (a i)
 
 pub tickets-marks : (sources : Sources) → HasPlainNames sources → (most : ℕ) → most < 2 ^ 64 → (number : ℕ) (tickets : List TicketLine) (more : List ℕ) → AreWithin most (ticket_marks tickets)
@@ -331,7 +331,7 @@ tickets-marks sources named most fits number (ticket ∷ rest) more within =
 pub end-marks : (after : List ℕ) → text_marks (codes "end " ++ after) ≡ []
 end-marks after = go (parts_of LineFeed after)
   where
-    go : (parts : List (List ℕ)) → marks_of (with_first 101 (with_first 110 (with_first 100 (with_first 32 parts)))) ≡ []
+    go : (parts : List (List ℕ)) → marks_of_lines (with_first 101 (with_first 110 (with_first 100 (with_first 32 parts)))) ≡ []
     go [] = refl
     go (part ∷ rest) = refl
 
@@ -344,7 +344,7 @@ account-marks sources named most fits account more within =
     let e = epoch_lines 0 account.epochs in
     let f = fault_lines account.faults in
     let t = ticket_lines sources 0 account.tickets in
-    let d = end_line sources account in
+    let d = account_end_line sources account in
     ap text_marks (append_assoc e (f ++ (t ++ d)) more)
     ∙ epochs-marks 0 account.epochs ((f ++ (t ++ d)) ++ more)
     ∙ ap text_marks (append_assoc f (t ++ d) more)

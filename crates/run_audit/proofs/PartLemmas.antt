@@ -1,12 +1,12 @@
--- What is left after a part is so exactly where the text begins with the part of a legal and complete word.
+-- What is left text_after a flow_part is so exactly where the text begins with the flow_part of a legal and complete word.
 use Rattle.std.proofs.Common.{◌≡◌, ℕ, ◌^◌, ◌<◌, Bool, true, false, ◌&&◌, Option, Some, None, List, ◌++◌, refl, ap, sym, ◌∙◌, arith, cond, append_assoc}
 use Rattle.flow_core.specs.declared.case.Case.{Case}
 use Rattle.flow_core.specs.declared.letter.Letter.{Letter}
 use Rattle.flow_core.specs.Words.{world, legal, is_complete}
-use Rattle.flow_core.specs.LiveText.{Sources, Account, account_of, flow_from, flow_line, part}
+use Rattle.flow_core.specs.LiveText.{Sources, Account, account_of, flow_from, flow_line, flow_part}
 use Rattle.source_flow.specs.SourceAccounts.{account_after}
 use Rattle.run_audit.specs.Audit.{IsWordOf}
-use Rattle.run_audit.specs.Fronts.{after}
+use Rattle.run_audit.specs.Fronts.{text_after}
 use Rattle.run_audit.specs.Marks.{text_marks}
 use Rattle.run_audit.specs.ForcedWord.{forced_word}
 use Rattle.run_audit.specs.PartLeft.{body_text, account_left, word_left, body_left, part_left}
@@ -18,9 +18,9 @@ some_same : {X : Type 0} {a b : X} → Some a ≡ Some b → a ≡ b
 some_same e = cc
 
 module _ (sources : Sources) (case : Case) where
-  -- a case's part for a word
+  -- a case's flow_part for a word
   abbrev pub part_of_word : List Letter → List ℕ
-  part_of_word word = part sources case (world (flow_from sources case) case.link word)
+  part_of_word word = flow_part sources case (world (flow_from sources case) case.link word)
 
   abbrev account_of_word : List Letter → Account
   account_of_word word = account_of (flow_from sources case) (world (flow_from sources case) case.link word)
@@ -31,7 +31,7 @@ module _ (sources : Sources) (case : Case) where
   abbrev line : List ℕ
   line = flow_line case.flow case.name case.agent
 
-  -- the text is the part of a legal and complete word, and this
+  -- the text is the flow_part of a legal and complete word, and this
   pub record HasPart (text rest : List ℕ) : Type 0 where
     pub word : List Letter
     pub is : IsWordOf sources case word
@@ -87,9 +87,9 @@ module _ (sources : Sources) (case : Case) where
   part-of_word text body rest whole None is = absurd (cc)
   part-of_word text body rest whole (Some word) is = part-of_account text body rest word whole (account_after (flow_from sources case) case.link word) refl is
 
-  part-of_body : (text rest : List ℕ) (o : Option (List ℕ)) → after line text ≡ o → body_left sources case o ≡ Some rest → HasPart text rest
+  part-of_body : (text rest : List ℕ) (o : Option (List ℕ)) → text_after line text ≡ o → body_left sources case o ≡ Some rest → HasPart text rest
   part-of_body text rest None found is = absurd (cc)
   part-of_body text rest (Some body) found is = part-of_word text body rest (after-is line text body found) (forced_word case.acks (text_marks body)) is
 
   pub part-of_left : (text rest : List ℕ) → part_left sources case text ≡ Some rest → HasPart text rest
-  part-of_left text rest is = part-of_body text rest (after line text) refl is
+  part-of_left text rest is = part-of_body text rest (text_after line text) refl is

@@ -5,7 +5,7 @@ use Rattle.flow_core.specs.declared.letter.Letter.{Letter}
 use Rattle.flow_core.specs.LiveText.{Sources, live_text}
 use Rattle.run_audit.specs.declared.verdict.Verdict.{Verdict}
 use Rattle.run_audit.specs.declared.verdict.Verdict.TheVariants.{Yes, No}
-use Rattle.run_audit.specs.Audit.{AreWordsOf, with_words, IsLiveText, BeginsWith, IsNot, IsVerdict}
+use Rattle.run_audit.specs.Audit.{AreWordsOf, with_words, IsLiveText, BeginsWithLiveText, IsNot, IsVerdict}
 use Rattle.run_audit.specs.PartLeft.{part_left, judged}
 use Rattle.run_audit.proofs.LineReadings.{HasPlainNames}
 use Rattle.run_audit.proofs.PartLemmas.{HasPart, part_of_word, left-of_part, part-of_left}
@@ -43,11 +43,11 @@ module _ (sources : Sources) (named : HasPlainNames sources) where
         record { words = words; are = are.1; whole = refl },
       )
 
-  front_part : (case : Case) (cases : List Case) (text : List ℕ) → BeginsWith sources (case ∷ cases) text → (rest : List ℕ) × HasPart sources case text rest × BeginsWith sources cases rest
+  front_part : (case : Case) (cases : List Case) (text : List ℕ) → BeginsWithLiveText sources (case ∷ cases) text → (rest : List ℕ) × HasPart sources case text rest × BeginsWithLiveText sources cases rest
   front_part case cases text begins = go begins.words begins.are begins.whole
     where
       go : (words : List (List Letter)) → AreWordsOf sources (case ∷ cases) words → text ≡ live_text sources (with_words (case ∷ cases) words) ++ begins.rest
-          → (rest : List ℕ) × HasPart sources case text rest × BeginsWith sources cases rest
+          → (rest : List ℕ) × HasPart sources case text rest × BeginsWithLiveText sources cases rest
       go [] are whole = absurd are
       go (word ∷ words) are whole = (
         live_text sources (with_words cases words) ++ begins.rest,
@@ -57,7 +57,7 @@ module _ (sources : Sources) (named : HasPlainNames sources) where
 
   -- ---- the verdict
 
-  no_front : (text : List ℕ) → BeginsWith sources [] text
+  no_front : (text : List ℕ) → BeginsWithLiveText sources [] text
   no_front text = record { words = []; are = tt; rest = text; whole = refl }
 
   -- the first part isn't there
@@ -69,7 +69,7 @@ module _ (sources : Sources) (named : HasPlainNames sources) where
     greatest = none;
   }
     where
-      none : (more : ℕ) → more ≤ length (case ∷ cases) → BeginsWith sources (take more (case ∷ cases)) text → more ≤ 0
+      none : (more : ℕ) → more ≤ length (case ∷ cases) → BeginsWithLiveText sources (take more (case ∷ cases)) text → more ≤ 0
       none zero within begins = omega arith
       none (suc more) within begins = let (rest, has, later) = front_part case (take more cases) text begins in absurd (none_left case text rest is has)
 
@@ -92,11 +92,11 @@ module _ (sources : Sources) (named : HasPlainNames sources) where
       first : HasPart sources case text left
       first = part-of_left sources case text left is
 
-      most : (more : ℕ) → more ≤ length (case ∷ cases) → BeginsWith sources (take more (case ∷ cases)) text → more ≤ suc count
+      most : (more : ℕ) → more ≤ length (case ∷ cases) → BeginsWithLiveText sources (take more (case ∷ cases)) text → more ≤ suc count
       most zero within begins = omega arith
       most (suc more) within begins =
           let (rest, has, later) = front_part case (take more cases) text begins in
-          let again : more ≤ count = not.greatest more (omega (arith, within)) (subst (λ (t : List ℕ). BeginsWith sources (take more cases) t) (sym (left_first case text left rest is has)) later) in
+          let again : more ≤ count = not.greatest more (omega (arith, within)) (subst (λ (t : List ℕ). BeginsWithLiveText sources (take more cases) t) (sym (left_first case text left rest is has)) later) in
           omega (arith, again)
 
   first_live : (case : Case) (cases : List Case) (text left : List ℕ) → part_left sources case text ≡ Some left → IsLiveText sources cases left → IsLiveText sources (case ∷ cases) text

@@ -7,7 +7,7 @@ use Rattle.flow_core.specs.LiveText.{Sources, flow_from, flow_line, account_of, 
 use Rattle.run_audit.specs.declared.verdict.Verdict.{Verdict}
 use Rattle.run_audit.specs.declared.verdict.Verdict.TheVariants.{Yes, No}
 use Rattle.run_audit.specs.Audit.{IsWordOf, AreWordsOf, with_words, IsLiveText, IsNot, IsVerdict}
-use Rattle.run_audit.specs.Fronts.{after}
+use Rattle.run_audit.specs.Fronts.{text_after}
 use Rattle.run_audit.specs.ForcedWord.{forced_word}
 use Rattle.run_audit.specs.Marks.{text_marks}
 use Rattle.run_audit.specs.PartLeft.{body_text}
@@ -20,7 +20,7 @@ some_same e = cc
 
 -- one text follows a front
 same_rest : (front rest other : List ℕ) → front ++ rest ≡ front ++ other → rest ≡ other
-same_rest front rest other is = some_same (sym (after-front front rest) ∙ ap (after front) is ∙ after-front front other)
+same_rest front rest other is = some_same (sym (after-front front rest) ∙ ap (text_after front) is ∙ after-front front other)
 
 module _ (sources : Sources) (named : HasPlainNames sources) where
   abbrev body : Case → List Letter → List ℕ

@@ -28,36 +28,36 @@ with_words (case ∷ cases) [] = []
 with_words (case ∷ cases) (word ∷ words) = (case, word) ∷ with_words cases words
 
 -- the live text of the cases for these words
-abbrev pub text_of : Sources → List Case → List (List Letter) → List ℕ
-text_of sources cases words = live_text sources (with_words cases words)
+abbrev pub text_for_words : Sources → List Case → List (List Letter) → List ℕ
+text_for_words sources cases words = live_text sources (with_words cases words)
 
 -- a text is the live text of one history of each flow at most, whatever follows it
 abbrev pub HaveOneHistory : Sources → List Case → Type 0
 HaveOneHistory sources cases =
     (words others : List (List Letter)) (rest more : List ℕ)
     → AreWordsOf sources cases words → AreWordsOf sources cases others
-    → text_of sources cases words ⧺ rest ≡ text_of sources cases others ⧺ more → words ≡ others
+    → text_for_words sources cases words ⧺ rest ≡ text_for_words sources cases others ⧺ more → words ≡ others
 
 -- the text is the live text of the cases for some legal and complete words
 pub record IsLiveText (sources : Sources) (cases : List Case) (text : List ℕ) : Type 0 where
   pub words : List (List Letter)
   pub are : AreWordsOf sources cases words
-  pub whole : text ≡ text_of sources cases words
+  pub whole : text ≡ text_for_words sources cases words
 
 -- the text begins with the live text of the cases for some legal and complete words
-pub record BeginsWith (sources : Sources) (cases : List Case) (text : List ℕ) : Type 0 where
+pub record BeginsWithLiveText (sources : Sources) (cases : List Case) (text : List ℕ) : Type 0 where
   pub words : List (List Letter)
   pub are : AreWordsOf sources cases words
   pub rest : List ℕ
-  pub whole : text ≡ text_of sources cases words ⧺ rest
+  pub whole : text ≡ text_for_words sources cases words ⧺ rest
 
 -- the text isn't the live text of the cases, and this is the greatest number of them, from the first one on, with whose
 -- parts it begins
 pub record IsNot (sources : Sources) (cases : List Case) (text : List ℕ) (count : ℕ) : Type 0 where
   pub other : IsLiveText sources cases text → ⊥
   pub within : count ≤ length cases
-  pub begins : BeginsWith sources (take count cases) text
-  pub greatest : (more : ℕ) → more ≤ length cases → BeginsWith sources (take more cases) text → more ≤ count
+  pub begins : BeginsWithLiveText sources (take count cases) text
+  pub greatest : (more : ℕ) → more ≤ length cases → BeginsWithLiveText sources (take more cases) text → more ≤ count
 
 -- the verdict is true of a text as the live text of cases
 abbrev pub IsVerdict : Sources → List Case → List ℕ → Verdict → Type 0
@@ -65,5 +65,5 @@ IsVerdict sources cases text Yes = IsLiveText sources cases text
 IsVerdict sources cases text (No flow) = IsNot sources cases text flow
 
 -- the verdict, if there is memory for one, is this
-abbrev pub Says : Result Verdict NoMemory → Verdict → Type 0
-Says answer verdict = IfOk answer (λ said. said ≡ verdict)
+abbrev pub IsVerdictOf : Result Verdict NoMemory → Verdict → Type 0
+IsVerdictOf answer verdict = IfOk answer (λ said. said ≡ verdict)

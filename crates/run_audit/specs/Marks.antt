@@ -31,13 +31,13 @@ first_number [] = None
 first_number (word ∷ rest) = numeral_of word
 
 -- the number that the first word of a text is
-abbrev pub number_at : Option (List ℕ) → Option ℕ
-number_at None = None
-number_at (Some text) = first_number (parts_of Blank text)
+abbrev pub marked_number : Option (List ℕ) → Option ℕ
+marked_number None = None
+marked_number (Some text) = first_number (parts_of Blank text)
 
 -- the number that a line has by this name
 abbrev pub number_by : List ℕ → List ℕ → Option ℕ
-number_by name line = number_at (past name line)
+number_by name line = marked_number (past name line)
 
 abbrev pub marks_if : Option ℕ → Option ℕ → List Mark
 marks_if (Some taken) (Some answered) = marks_at taken answered
@@ -49,9 +49,9 @@ abbrev pub marks_in : List ℕ → List Mark
 marks_in line = marks_if (number_by (codes "taken=") line) (number_by (codes "answered=") line)
 
 -- those of all lines before the first one that begins with `end `
-abbrev pub marks_of : List (List ℕ) → List Mark
-marks_of [] = []
-marks_of (line ∷ rest) = if starts_with nat_eq line (codes "end ") then [] else marks_in line ++ marks_of rest
+abbrev pub marks_of_lines : List (List ℕ) → List Mark
+marks_of_lines [] = []
+marks_of_lines (line ∷ rest) = if starts_with nat_eq line (codes "end ") then [] else marks_in line ++ marks_of_lines rest
 
 abbrev pub text_marks : List ℕ → List Mark
-text_marks text = marks_of (parts_of LineFeed text)
+text_marks text = marks_of_lines (parts_of LineFeed text)

@@ -1,6 +1,6 @@
 //! An account's lines of each kind are taken off the front of a text, if the text begins with them.
 ghost use Rattle.std.specs.Prelude.{IfOk, map};
-ghost use Rattle.flow_core.specs.LiveText.{end_line, epoch_lines, epoch_text, failure_line, fault_lines, flow_line};
+ghost use Rattle.flow_core.specs.LiveText.{account_end_line, epoch_lines, epoch_text, failure_line, fault_lines, flow_line};
 ghost use Rattle.flow_core.specs.LiveText.{sources_of, ticket_lines, ticket_text};
 ghost use Rattle.source_flow.specs.SourceAccounts.{account_in, failure_of};
 ghost use Rattle.run_audit.specs.Fronts.{IsLeftAfter};
@@ -151,7 +151,7 @@ pub fn strip_end<'a>(
     programs: &[(u32, Built)],
     account: &FlowAccount,
 ) -> Result<Option<&'a [u8]>, NoMemory>
-    ensures { IfOk result (IsLeftAfter (end_line (sources_of programs.now) (account_in account.now)) text.now) }
+    ensures { IfOk result (IsLeftAfter (account_end_line (sources_of programs.now) (account_in account.now)) text.now) }
 {
     let mut line = Bytes::new(alloc);
     let counts = Counts {

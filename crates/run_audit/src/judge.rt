@@ -6,7 +6,7 @@ ghost use Rattle.scenario_json.specs.ScenePrograms.{forms_of};
 ghost use Rattle.flow_core.specs.LiveText.{sources_of};
 ghost use Rattle.source_flow.specs.Sourced.{IsSourced};
 ghost use Rattle.run_audit.specs.declared.verdict.Verdict.TheVariants.{Yes, No};
-ghost use Rattle.run_audit.specs.Audit.{IsLiveText, IsNot, IsVerdict, Says};
+ghost use Rattle.run_audit.specs.Audit.{IsLiveText, IsNot, IsVerdict, IsVerdictOf};
 ghost use Rattle.run_audit.specs.PartLeft.{judged};
 
 use crate::part::part_left;
@@ -27,9 +27,9 @@ pub fn audit(alloc: Global, scene: &Scenario, text: &[u8]) -> Result<Verdict, No
     ensures is { IfOk result (IsVerdict (forms_of scene.now.programs) scene.now.cases text.now) }
 
     // A live text gets Yes, and every other text gets No with its number.
-    ensures yes { IsLiveText (forms_of scene.now.programs) scene.now.cases text.now → Says result Yes }
+    ensures yes { IsLiveText (forms_of scene.now.programs) scene.now.cases text.now → IsVerdictOf result Yes }
     ensures no { (count : ℕ) → IsNot (forms_of scene.now.programs) scene.now.cases text.now count
-        → Says result (No count) }
+        → IsVerdictOf result (No count) }
 {
     judge(alloc, &scene.programs, scene.cases.as_slice(), text)
 }

@@ -1,7 +1,7 @@
 //! The letters of a flow's tickets are read off the lines of a live text.
 ghost use Rattle.std.specs.Prelude.{◌≡◌, ◌++◌, IfOk, OnOk, Some};
 ghost use Rattle.run_audit.specs.Fronts.{bytes_found};
-ghost use Rattle.run_audit.specs.Marks.{marks_in, number_at, number_by, past, text_marks};
+ghost use Rattle.run_audit.specs.Marks.{marks_in, marked_number, number_by, past, text_marks};
 
 use crate::mark::{Mark, Marks};
 use ccp_base::{NoMemory, Separator, first_part, numeral};
@@ -55,7 +55,7 @@ fn number_by(line: &[u8], name: &[u8]) -> Option<u64>
 
 /// The first word of a text as a number.
 fn first_number(text: &[u8]) -> Option<u64>
-    ensures { result ≡ number_at (Some text.now) }
+    ensures { result ≡ marked_number (Some text.now) }
 {
     if text.is_empty() {
         return None;

@@ -10,8 +10,8 @@ use Rattle.portus_core.specs.declared.program.Decl.{Decl}
 use Rattle.portus_core.specs.Programs.{Form}
 use Rattle.reg_code.specs.declared.code.Code.{Code}
 use Rattle.reg_compiler.specs.declared.built.Built.{Built}
-use Rattle.reg_compiler.specs.Simulation.{start_of, Simulates}
-use Rattle.portus_build.specs.Looks.{has_name, number_of, look_of}
+use Rattle.reg_compiler.specs.Simulation.{register_start, Simulates}
+use Rattle.portus_build.specs.Looks.{has_name, declaration_number, look_of}
 use Rattle.flow_core.specs.declared.case.Coded.{Coded}
 use Rattle.flow_core.specs.Cases.{KeepsWithin, AreOne}
 use Rattle.scenario_json.specs.Cases.{coded_at}
@@ -19,7 +19,7 @@ use Rattle.scenario_json.specs.Cases.{coded_at}
 below_where : (n m limit x : ℕ) → m ≤ limit → cond (nat_lt n m) (Some n) None ≡ Some x → x < limit
 below_where n m limit x short found = grind (arith, nat_tests)
 
-within : (name : List ℕ) (decls : List Decl) (count : ℕ) → count ≡ length decls → ForSome (number_of name decls) (λ n. n < count)
+within : (name : List ℕ) (decls : List Decl) (count : ℕ) → count ≡ length decls → ForSome (declaration_number name decls) (λ n. n < count)
 within name decls count is = λ x found.
     below_where (position_or_len (has_name name) (take most_fields decls)) (length (take most_fields decls)) count x
     (omega (arith, is, length-take most_fields decls)) found
@@ -27,8 +27,8 @@ within name decls count is = λ x found.
 -- what a program declares, the code that simulates it has as registers
 pub looks_within : (form : Form) (code : Code) (places : List Place) → Simulates form code places → KeepsWithin (look_of form) code
 looks_within form code places h =
-    let fields : length code.reports ≡ length form.fields = ap length h.2.0 ∙ length-map form.fields start_of in
-    let controls : length code.controls ≡ length form.controls = ap length h.2.1 ∙ length-map form.controls start_of in (
+    let fields : length code.reports ≡ length form.fields = ap length h.2.0 ∙ length-map form.fields register_start in
+    let controls : length code.controls ≡ length form.controls = ap length h.2.1 ∙ length-map form.controls register_start in (
       within (codes "acked") form.fields (length code.reports) fields,
       within (codes "loss") form.fields (length code.reports) fields,
       within (codes "timeout") form.fields (length code.reports) fields,

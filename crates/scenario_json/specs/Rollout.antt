@@ -2,10 +2,10 @@
 use Rattle.std.specs.Prelude.{ℕ, Result, List}
 use Rattle.ccp_base.specs.Chaining.{then_do}
 use Rattle.scene_members.specs.Rollout.{OpenPlan, open_plans_in}
-use Rattle.scene_members.specs.Whole.{value_in}
+use Rattle.scene_members.specs.Whole.{value_of_bytes}
 use Rattle.scenario_json.specs.declared.fault.SceneFault.{SceneFault}
 use Rattle.scenario_json.specs.MemberFaults.{in_scene}
 
 -- the scene of a text
 abbrev pub rollout_of : List ℕ → Result (List OpenPlan) SceneFault
-rollout_of text = then_do (in_scene (value_in text)) (λ whole. in_scene (open_plans_in whole))
+rollout_of text = then_do (in_scene (value_of_bytes text)) (λ whole. in_scene (open_plans_in whole))

@@ -8,7 +8,7 @@ use Rattle.scene_members.specs.declared.plan.Plan.{Plan}
 use Rattle.scene_members.specs.CaseWalk.{Table}
 use Rattle.scene_members.specs.Traces.{traces_in}
 use Rattle.scene_members.specs.Values.{member_of}
-use Rattle.scene_members.specs.Whole.{value_in, opening_in, cases_in}
+use Rattle.scene_members.specs.Whole.{value_of_bytes, opening_in, cases_in}
 use Rattle.scenario_json.specs.declared.fault.SceneFault.{SceneFault}
 use Rattle.scenario_json.specs.MemberFaults.{in_scene}
 use Rattle.scenario_json.specs.ScenePrograms.{Forms, all_programs}
@@ -41,5 +41,5 @@ parts_in mode whole =
 -- the scene of a text
 abbrev pub scene_of : SceneMode → List ℕ → Result Scene SceneFault
 scene_of mode text =
-    then_do (in_scene (value_in text)) (λ whole.
+    then_do (in_scene (value_of_bytes text)) (λ whole.
     then_do (parts_in mode whole) (λ parts. Ok (scene_with parts.programs parts.cases)))

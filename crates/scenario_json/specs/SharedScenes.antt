@@ -7,7 +7,7 @@ use Rattle.scene_members.specs.declared.mode.SceneMode.TheVariants.{Live}
 use Rattle.scene_members.specs.declared.plan.Plan.{Plan}
 use Rattle.scene_members.specs.declared.shared.Shares.{Shares}
 use Rattle.scene_members.specs.SharedMembers.{shares_in}
-use Rattle.scene_members.specs.Whole.{value_in}
+use Rattle.scene_members.specs.Whole.{value_of_bytes}
 use Rattle.scenario_json.specs.declared.fault.SceneFault.{SceneFault}
 use Rattle.scenario_json.specs.MemberFaults.{in_scene}
 use Rattle.scenario_json.specs.Scene.{Scene, Parts, scene_with, parts_in}
@@ -51,6 +51,6 @@ shared_of parts shares =
 -- the refusals of a live run's scenario come first, then those of the link
 abbrev pub shared_scene_of : List ℕ → Result SharedParts SceneFault
 shared_scene_of text =
-    then_do (in_scene (value_in text)) (λ whole.
+    then_do (in_scene (value_of_bytes text)) (λ whole.
     then_do (parts_in Live whole) (λ parts.
     then_do (in_scene (shares_in parts.traces whole)) (λ shares. Ok (shared_of parts shares))))

@@ -143,12 +143,12 @@ case_members names traces i whole =
       programs = programs;
     }))))))))
 
-abbrev pub case_in : List (List ℕ) → Table → ℕ → Data → Result Plan MemberFault
-case_in names traces i whole =
+abbrev pub plan_in : List (List ℕ) → Table → ℕ → Data → Result Plan MemberFault
+plan_in names traces i whole =
     then_do (object_in (Case i) whole) (λ members. case_members names traces i whole)
 
 -- the cases, after those that are done
 abbrev pub cases_from : List (List ℕ) → Table → List Plan → Items → Result (List Plan) MemberFault
 cases_from names traces done no_items = Ok done
 cases_from names traces done (item value rest) =
-    then_do (case_in names traces (length done) value) (λ plan. cases_from names traces (done ++ plan ∷ []) rest)
+    then_do (plan_in names traces (length done) value) (λ plan. cases_from names traces (done ++ plan ∷ []) rest)

@@ -4,30 +4,30 @@ use Rattle.ccp_base.specs.Limits.{most_acks, most_slots, most_lag, most_segment_
 use Rattle.scene_members.specs.declared.key.Key.{Key}
 use Rattle.scene_members.specs.declared.key.Key.TheVariants.{Version, Programs, Traces, Cases, Shared, Name, Agent, Trace, Mss, Queue, DelayUs, TimeoutUs, Acks, Slots, Lag, Losses, Mark, Ss, Ca, Cwnd, Steps, QuantumUs, Rounds}
 
-abbrev pub word_of : Key → List ℕ
-word_of Version = codes "version"
-word_of Programs = codes "programs"
-word_of Traces = codes "traces"
-word_of Cases = codes "cases"
-word_of Shared = codes "shared"
-word_of Name = codes "name"
-word_of Agent = codes "agent"
-word_of Trace = codes "trace"
-word_of Mss = codes "mss"
-word_of Queue = codes "queue"
-word_of DelayUs = codes "delay_us"
-word_of TimeoutUs = codes "timeout_us"
-word_of Acks = codes "acks"
-word_of Slots = codes "slots"
-word_of Lag = codes "lag"
-word_of Losses = codes "losses"
-word_of Mark = codes "mark"
-word_of Ss = codes "ss"
-word_of Ca = codes "ca"
-word_of Cwnd = codes "cwnd"
-word_of Steps = codes "steps"
-word_of QuantumUs = codes "quantum_us"
-word_of Rounds = codes "rounds"
+abbrev pub key_word : Key → List ℕ
+key_word Version = codes "version"
+key_word Programs = codes "programs"
+key_word Traces = codes "traces"
+key_word Cases = codes "cases"
+key_word Shared = codes "shared"
+key_word Name = codes "name"
+key_word Agent = codes "agent"
+key_word Trace = codes "trace"
+key_word Mss = codes "mss"
+key_word Queue = codes "queue"
+key_word DelayUs = codes "delay_us"
+key_word TimeoutUs = codes "timeout_us"
+key_word Acks = codes "acks"
+key_word Slots = codes "slots"
+key_word Lag = codes "lag"
+key_word Losses = codes "losses"
+key_word Mark = codes "mark"
+key_word Ss = codes "ss"
+key_word Ca = codes "ca"
+key_word Cwnd = codes "cwnd"
+key_word Steps = codes "steps"
+key_word QuantumUs = codes "quantum_us"
+key_word Rounds = codes "rounds"
 
 -- the least value of a member that is a number
 abbrev pub least_of : Key → ℕ
@@ -42,18 +42,18 @@ least_of Rounds = 1
 least_of _ = 0
 
 -- the greatest value of a member that is a number, or of an item of one that is a list of numbers
-abbrev pub most_of : Key → ℕ
-most_of Version = 1
-most_of Mss = most_segment_bytes
-most_of Queue = most_queue
-most_of DelayUs = most_delay_us
-most_of TimeoutUs = most_timeout_us
-most_of Acks = most_acks
-most_of Slots = most_slots
-most_of Lag = most_lag
-most_of Losses = 2 ^ 32 - 1
-most_of Mark = most_mark
-most_of Cwnd = most_first_window
-most_of QuantumUs = most_quantum_us
-most_of Rounds = most_rounds
-most_of _ = 0
+abbrev pub greatest_value : Key → ℕ
+greatest_value Version = 1
+greatest_value Mss = most_segment_bytes
+greatest_value Queue = most_queue
+greatest_value DelayUs = most_delay_us
+greatest_value TimeoutUs = most_timeout_us
+greatest_value Acks = most_acks
+greatest_value Slots = most_slots
+greatest_value Lag = most_lag
+greatest_value Losses = 2 ^ 32 - 1
+greatest_value Mark = most_mark
+greatest_value Cwnd = most_first_window
+greatest_value QuantumUs = most_quantum_us
+greatest_value Rounds = most_rounds
+greatest_value _ = 0

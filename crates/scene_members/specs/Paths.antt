@@ -4,16 +4,16 @@ use Rattle.ccp_base.specs.Text.{◌⧺◌}
 use Rattle.scene_members.specs.declared.key.Key.{Key}
 use Rattle.scene_members.specs.declared.json_place.JsonPlace.{JsonPlace}
 use Rattle.scene_members.specs.declared.json_place.JsonPlace.TheVariants.{Whole, Top, Case, In, Item, Shared}
-use Rattle.scene_members.specs.Keys.{word_of}
+use Rattle.scene_members.specs.Keys.{key_word}
 
 -- the path of a place; the whole has the empty one
 abbrev pub path_of : JsonPlace → List ℕ
 path_of Whole = []
-path_of (Top key) = word_of key
+path_of (Top key) = key_word key
 path_of (Case i) = codes "cases[" ⧺ decimal i ⧺ codes "]"
-path_of (In i key) = codes "cases[" ⧺ decimal i ⧺ codes "]." ⧺ word_of key
-path_of (Item i key j) = codes "cases[" ⧺ decimal i ⧺ codes "]." ⧺ word_of key ⧺ codes "[" ⧺ decimal j ⧺ codes "]"
-path_of (Shared key) = codes "shared." ⧺ word_of key
+path_of (In i key) = codes "cases[" ⧺ decimal i ⧺ codes "]." ⧺ key_word key
+path_of (Item i key j) = codes "cases[" ⧺ decimal i ⧺ codes "]." ⧺ key_word key ⧺ codes "[" ⧺ decimal j ⧺ codes "]"
+path_of (Shared key) = codes "shared." ⧺ key_word key
 
 -- a byte of a name as paths show it: `?` for each one that isn't printable ASCII
 abbrev pub shown : ℕ → ℕ
@@ -25,4 +25,4 @@ printable (byte ∷ rest) = shown byte ∷ printable rest
 
 -- the path of a member that a scenario names by itself, as a program or a trace
 abbrev pub named_path : Key → List ℕ → List ℕ
-named_path key name = word_of key ⧺ codes "." ⧺ printable name
+named_path key name = key_word key ⧺ codes "." ⧺ printable name

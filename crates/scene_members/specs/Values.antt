@@ -7,12 +7,12 @@ use Rattle.scene_members.specs.declared.fault.MemberFault.{MemberFault}
 use Rattle.scene_members.specs.declared.fault.MemberFault.TheVariants.{Missing, Wrong, Range}
 use Rattle.scene_members.specs.declared.key.Key.{Key}
 use Rattle.scene_members.specs.declared.json_place.JsonPlace.{JsonPlace}
-use Rattle.scene_members.specs.Keys.{word_of, least_of, most_of}
+use Rattle.scene_members.specs.Keys.{key_word, least_of, greatest_value}
 use Rattle.scene_members.specs.Paths.{path_of}
 
 -- the member of an object with this key
 abbrev pub member_of : Key → Data → Option Data
-member_of key whole = get (word_of key) whole
+member_of key whole = get (key_word key) whole
 
 -- a member that must be there
 abbrev pub needed : {A : Type 0} → JsonPlace → Option A → Result A MemberFault
@@ -26,7 +26,7 @@ of_kind place None = Err (Wrong (path_of place))
 
 abbrev pub in_range : JsonPlace → Key → ℕ → Result ℕ MemberFault
 in_range place key number =
-    if nat_le (least_of key) number && nat_le number (most_of key) then Ok number else Err (Range (path_of place))
+    if nat_le (least_of key) number && nat_le number (greatest_value key) then Ok number else Err (Range (path_of place))
 
 -- a whole number is one that the value has as a natural number or else as an integer; a negative one is out of range
 abbrev pub whole_number : JsonPlace → Key → Option ℕ → Option ℤ → Result ℕ MemberFault

@@ -24,8 +24,8 @@ or_json None = Err Json
 or_json (Some value) = Ok value
 
 -- the value that a text is; bytes that are no text have none
-abbrev pub value_in : List ℕ → Result Data MemberFault
-value_in text = or_json (if is_utf8 text then read text else None)
+abbrev pub value_of_bytes : List ℕ → Result Data MemberFault
+value_of_bytes text = or_json (if is_utf8 text then read text else None)
 
 -- what comes before the programs: the whole is an object, of version 1
 abbrev pub opening_in : Data → Result ℕ MemberFault
@@ -43,13 +43,13 @@ few_items mode items =
     if nat_le (items_len items) (most_cases_of mode) then Ok items else Err (Range (path_of (Top key.Cases)))
 
 -- the acknowledgements of all cases
-abbrev pub acks_of : List Plan → ℕ
-acks_of [] = 0
-acks_of (plan ∷ rest) = plan.link_numbers.acks + acks_of rest
+abbrev pub total_acks : List Plan → ℕ
+total_acks [] = 0
+total_acks (plan ∷ rest) = plan.link_numbers.acks + total_acks rest
 
 abbrev pub within_total : SceneMode → List Plan → Result (List Plan) MemberFault
 within_total Campaign cases = Ok cases
-within_total Live cases = if nat_le (acks_of cases) most_acks_in_all then Ok cases else Err Totals
+within_total Live cases = if nat_le (total_acks cases) most_acks_in_all then Ok cases else Err Totals
 
 -- the cases of a scenario whose programs have these names, and whose traces are these
 abbrev pub cases_in : SceneMode → List (List ℕ) → Table → Data → Result (List Plan) MemberFault

@@ -5,7 +5,7 @@ ghost use Rattle.serde_json.specs.View.{view};
 ghost use Rattle.ccp_base.specs.Limits.{most_named_programs};
 ghost use Rattle.agent_core.specs.Kinds.{built_in_count};
 ghost use Rattle.scene_members.specs.CaseWalk.{case_name, case_kind, trace_in, case_trace, case_members};
-ghost use Rattle.scene_members.specs.CaseWalk.{case_in};
+ghost use Rattle.scene_members.specs.CaseWalk.{plan_in};
 ghost use Rattle.scene_members.specs.CaseLists.{plans_in};
 ghost use Rattle.scene_members.specs.Traces.{table_of};
 ghost use Rattle.scene_members.specs.Plans.{IsPlan};
@@ -122,10 +122,10 @@ fn case_in(
     whole: &Value,
 ) -> Result<Plan, MemberFault>
     requires { length names.now ≤ most_named_programs }
-    ensures ok { IfOk result (λ p. case_in names.now (table_of traces.now.entries) i (view whole.now) ≡ Ok p) }
+    ensures ok { IfOk result (λ p. plan_in names.now (table_of traces.now.entries) i (view whole.now) ≡ Ok p) }
     ensures within { IfOk result (λ p. IsPlan (length names.now + built_in_count) p) }
     ensures err { IfErr result (λ e. e ≢ fault.NoMemory
-        → case_in names.now (table_of traces.now.entries) i (view whole.now) ≡ Err e) }
+        → plan_in names.now (table_of traces.now.entries) i (view whole.now) ≡ Err e) }
 {
     object(alloc, JsonPlace::Case(i), whole)?;
     members(alloc, names, traces, i, whole)

@@ -1,7 +1,7 @@
 //! How a case's numbers are read, with the defaults for slots and lag.
 ghost use Rattle.std.specs.Prelude.{◌≡◌, ◌≢◌, ◌≤◌, IfOk, IfErr, Ok, Err};
 ghost use Rattle.serde_json.specs.View.{view};
-ghost use Rattle.scene_members.specs.Keys.{least_of, most_of};
+ghost use Rattle.scene_members.specs.Keys.{least_of, greatest_value};
 ghost use Rattle.scene_members.specs.Plans.{AreLinkNumbers, AreAgentNumbers};
 ghost use Rattle.scene_members.specs.CaseWalk.{case_number, case_link_numbers, case_agent_numbers};
 ghost use Rattle.scene_members.specs.declared.fault.MemberFault.TheVariants as fault;
@@ -26,7 +26,7 @@ pub(crate) fn case_number(
 ) -> Result<u64, MemberFault>
     ensures ok { IfOk result (λ n. case_number i key (view whole.now) ≡ Ok n) }
     ensures least { IfOk result (λ n. least_of key ≤ n) }
-    ensures most { IfOk result (λ n. n ≤ most_of key) }
+    ensures most { IfOk result (λ n. n ≤ greatest_value key) }
     ensures err { IfErr result (λ e. e ≢ fault.NoMemory → case_number i key (view whole.now) ≡ Err e) }
 {
     needed_number(alloc, JsonPlace::In(i, key), whole, key)

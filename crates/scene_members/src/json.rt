@@ -2,7 +2,7 @@
 ghost use Rattle.std.specs.Prelude.{◌≡◌, ◌≢◌, Some, None, Ok, Err, IfOk, IfErr};
 ghost use Rattle.serde_json.specs.View.{view};
 ghost use Rattle.serde_json.specs.Read.{read};
-ghost use Rattle.scene_members.specs.Whole.{value_in};
+ghost use Rattle.scene_members.specs.Whole.{value_of_bytes};
 ghost use Rattle.scene_members.specs.declared.fault.MemberFault.TheVariants as fault;
 
 use crate::fault::MemberFault;
@@ -27,8 +27,8 @@ fn json_value(alloc: Global, text: &str) -> Result<Value, MemberFault>
 /// The value that a text is; bytes that are no text have none.
 #[tactic(auto, using(crate::proofs::TextLemmas::value_read, crate::proofs::TextLemmas::value_unread, crate::proofs::TextLemmas::value_of_no_text))]
 pub fn value_in(alloc: Global, text: &[u8]) -> Result<Value, MemberFault>
-    ensures ok { IfOk result (λ v. value_in text.now ≡ Ok (view v)) }
-    ensures err { IfErr result (λ e. e ≢ fault.NoMemory → value_in text.now ≡ Err e) }
+    ensures ok { IfOk result (λ v. value_of_bytes text.now ≡ Ok (view v)) }
+    ensures err { IfErr result (λ e. e ≢ fault.NoMemory → value_of_bytes text.now ≡ Err e) }
 {
     match from_utf8(text) {
         Ok(text) => json_value(alloc, text),

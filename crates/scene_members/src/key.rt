@@ -1,6 +1,6 @@
 //! The members of a scenario's objects: their spelling, and the ranges of those that are numbers.
 ghost use Rattle.std.specs.Prelude.{◌≡◌};
-ghost use Rattle.scene_members.specs.Keys.{word_of, least_of, most_of};
+ghost use Rattle.scene_members.specs.Keys.{key_word, least_of, greatest_value};
 
 /// A member of a scenario's objects.
 #[derive(Clone, Copy)]
@@ -33,7 +33,7 @@ pub enum Key {
 impl Key {
     /// How the member is spelled.
     pub fn word(self) -> &'static str
-        ensures { result.now ≡ word_of self }
+        ensures { result.now ≡ key_word self }
     {
         match self {
             Key::Version => "version",
@@ -75,7 +75,7 @@ impl Key {
 
     /// The greatest value of a member that is a number, or of an item of one that is a list of numbers.
     pub fn most(self) -> u64
-        ensures { result ≡ most_of self }
+        ensures { result ≡ greatest_value self }
     {
         match self {
             Key::Version => 1,

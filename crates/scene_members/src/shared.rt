@@ -2,7 +2,7 @@
 ghost use Rattle.std.specs.Prelude.{◌≡◌, ◌≢◌, ◌≤◌, IfOk, IfErr, Ok, Err};
 ghost use Rattle.serde_json.specs.View.{view};
 ghost use Rattle.ccp_base.specs.Limits.{most_queue, most_quantum_us, most_rounds};
-ghost use Rattle.scene_members.specs.Keys.{least_of, most_of};
+ghost use Rattle.scene_members.specs.Keys.{least_of, greatest_value};
 ghost use Rattle.scene_members.specs.Traces.{table_of};
 ghost use Rattle.scene_members.specs.SharedMembers.{shared_trace, shared_number, shared_members, shares_in};
 ghost use Rattle.scene_members.specs.declared.fault.MemberFault.TheVariants as fault;
@@ -39,7 +39,7 @@ fn shared_trace(alloc: Global, traces: &Traces, value: &Value) -> Result<Trace, 
 fn shared_number(alloc: Global, key: Key, value: &Value) -> Result<u64, MemberFault>
     ensures ok { IfOk result (λ n. shared_number key (view value.now) ≡ Ok n) }
     ensures least { IfOk result (λ n. least_of key ≤ n) }
-    ensures most { IfOk result (λ n. n ≤ most_of key) }
+    ensures most { IfOk result (λ n. n ≤ greatest_value key) }
     ensures err { IfErr result (λ e. e ≢ fault.NoMemory → shared_number key (view value.now) ≡ Err e) }
 {
     needed_number(alloc, JsonPlace::Shared(key), value, key)

@@ -1,7 +1,7 @@
 //! The readers of JSON members: numbers within a key's range, texts, lists and objects.
 ghost use Rattle.std.specs.Prelude.{◌≡◌, ◌≢◌, ◌≤◌, IfOk, IfErr, Ok, Err, option_map};
 ghost use Rattle.serde_json.specs.View.{view, items_view, members_view};
-ghost use Rattle.scene_members.specs.Keys.{least_of, most_of};
+ghost use Rattle.scene_members.specs.Keys.{least_of, greatest_value};
 ghost use Rattle.scene_members.specs.Values.{member_of, needed, in_range, number_in, text_in, list_in, object_in};
 ghost use Rattle.scene_members.specs.Values.{needed_number, number_or};
 ghost use Rattle.scene_members.specs.declared.fault.MemberFault.TheVariants as fault;
@@ -38,7 +38,7 @@ pub(crate) fn needed(
 fn in_range(alloc: Global, place: JsonPlace, key: Key, number: u64) -> Result<u64, MemberFault>
     ensures ok { IfOk result (λ n. in_range place key number ≡ Ok n) }
     ensures least { IfOk result (λ n. least_of key ≤ n) }
-    ensures most { IfOk result (λ n. n ≤ most_of key) }
+    ensures most { IfOk result (λ n. n ≤ greatest_value key) }
     ensures err { IfErr result (λ e. e ≢ fault.NoMemory → in_range place key number ≡ Err e) }
 {
     if key.least() <= number && number <= key.most() {
@@ -57,7 +57,7 @@ pub(crate) fn number(
 ) -> Result<u64, MemberFault>
     ensures ok { IfOk result (λ n. number_in place key (view value.now) ≡ Ok n) }
     ensures least { IfOk result (λ n. least_of key ≤ n) }
-    ensures most { IfOk result (λ n. n ≤ most_of key) }
+    ensures most { IfOk result (λ n. n ≤ greatest_value key) }
     ensures err { IfErr result (λ e. e ≢ fault.NoMemory → number_in place key (view value.now) ≡ Err e) }
 {
     match (value.as_u64(), value.as_i64()) {
@@ -114,7 +114,7 @@ pub(crate) fn needed_number(
 ) -> Result<u64, MemberFault>
     ensures ok { IfOk result (λ n. needed_number place key (view whole.now) ≡ Ok n) }
     ensures least { IfOk result (λ n. least_of key ≤ n) }
-    ensures most { IfOk result (λ n. n ≤ most_of key) }
+    ensures most { IfOk result (λ n. n ≤ greatest_value key) }
     ensures err { IfErr result (λ e. e ≢ fault.NoMemory → needed_number place key (view whole.now) ≡ Err e) }
 {
     let value = needed(alloc, place, whole, key)?;
@@ -130,10 +130,10 @@ pub(crate) fn number_or(
     default: u64,
 ) -> Result<u64, MemberFault>
     requires least { least_of key ≤ default }
-    requires most { default ≤ most_of key }
+    requires most { default ≤ greatest_value key }
     ensures ok { IfOk result (λ n. number_or place key default (member_of key (view whole.now)) ≡ Ok n) }
     ensures least { IfOk result (λ n. least_of key ≤ n) }
-    ensures most { IfOk result (λ n. n ≤ most_of key) }
+    ensures most { IfOk result (λ n. n ≤ greatest_value key) }
     ensures err { IfErr result (λ e. e ≢ fault.NoMemory
         → number_or place key default (member_of key (view whole.now)) ≡ Err e) }
 {

@@ -6,7 +6,7 @@ ghost use Rattle.ccp_base.specs.Limits.{most_named_programs};
 ghost use Rattle.agent_core.specs.Kinds.{built_in_count};
 ghost use Rattle.scene_members.specs.Plans.{IsPlan};
 ghost use Rattle.scene_members.specs.Traces.{table_of};
-ghost use Rattle.scene_members.specs.Whole.{most_cases_of, few_items, cases_in, acks_of, within_total, opening_in};
+ghost use Rattle.scene_members.specs.Whole.{most_cases_of, few_items, cases_in, total_acks, within_total, opening_in};
 ghost use Rattle.scene_members.specs.declared.fault.MemberFault.TheVariants as fault;
 
 use crate::case::cases_from;
@@ -50,7 +50,7 @@ pub(crate) fn few_items(alloc: Global, mode: SceneMode, items: &[Value]) -> Resu
 /// The acknowledgements of all cases.
 fn acks_of(plans: &[Plan]) -> u64
     requires { length plans.now ≤ 1024 }
-    ensures { result ≡ acks_of plans.now }
+    ensures { result ≡ total_acks plans.now }
 {
     let mut total = 0;
     let mut rest = plans;

@@ -15,7 +15,7 @@ use Rattle.portus_core.specs.Words.{variable_of, is_name_shaped, is_heading, is_
 use Rattle.ccp_base.specs.Operations.{operator_of}
 use Rattle.scope_types.specs.Scope.{Scope, known_in, with_local}
 use Rattle.scope_types.specs.Names.{decl_from, local_from, variable_or, meaning_of}
-use Rattle.scope_types.specs.Cuts.{place_of}
+use Rattle.scope_types.specs.Cuts.{node_place}
 use Rattle.scope_types.specs.WalkResults.{and_then}
 use Rattle.scope_types.specs.ExpressionWalk.{expression_walk}
 use Rattle.scope_types.specs.CommandWalk as walk
@@ -97,7 +97,7 @@ plain_given scope at v value action p h =
     let g = expression_given scope value h.term h.truth p h.is_value in
     value_plain scope (Meant at v) value h.term h.truth h.is_value
     ∙ then_given (expression_walk scope value) _ h.term _ g.gives
-    (then_given (walk.kind_walk scope (truth_of scope v) (place_of value) h.term) _ h.term _ (kind_given scope (truth_of scope v) (place_of value) h.term h.truth g.kind h.fits)
+    (then_given (walk.kind_walk scope (truth_of scope v) (node_place value) h.term) _ h.term _ (kind_given scope (truth_of scope v) (node_place value) h.term h.truth g.kind h.fits)
     (ap (λ a. Ok (a, scope)) (sym h.command)))
 
 choice_given : (scope : Scope) (at : Place) (v : Var) (when_so : Bool) (value_at head : Place) (condition value : Node) (action : Action) → IsProper scope → IsChoice scope (truth_of scope v) (λ c e. walk.choice_action when_so head v c e) condition value action → walk.choice_walk scope (Meant at v) when_so value_at head (more condition (more value none)) ≡ Ok (action, scope)
@@ -106,8 +106,8 @@ choice_given scope at v when_so value_at head condition value action p h =
     let g = expression_given scope value h.term h.truth p h.is_value in
     then_given (expression_walk scope condition) _ h.condition_term _ c.gives
     (then_given (expression_walk scope value) _ h.term _ g.gives
-    (then_given (walk.kind_walk scope true (place_of condition) h.condition_term) _ h.condition_term _ (kind_given scope true (place_of condition) h.condition_term true c.kind (λ k. k))
-    (then_given (walk.kind_walk scope (truth_of scope v) (place_of value) h.term) _ h.term _ (kind_given scope (truth_of scope v) (place_of value) h.term h.truth g.kind h.fits)
+    (then_given (walk.kind_walk scope true (node_place condition) h.condition_term) _ h.condition_term _ (kind_given scope true (node_place condition) h.condition_term true c.kind (λ k. k))
+    (then_given (walk.kind_walk scope (truth_of scope v) (node_place value) h.term) _ h.term _ (kind_given scope (truth_of scope v) (node_place value) h.term h.truth g.kind h.fits)
     (ap (λ a. Ok (a, scope)) (sym h.command)))))
 
 within_test : (a b : ℕ) → a ≤ b → nat_le a b ≡ true

@@ -16,7 +16,7 @@ use Rattle.scope_types.proofs.ScopedExpressions.{spelt, spells, decl_found}
 use Rattle.scope_types.proofs.ProperScopes.{nowhere}
 use Rattle.scope_types.proofs.GivenCommands.{then_given, if_false, if_true}
 
-start_given : (value : Node) (n : ℕ) (truth : Bool) → IsStart value n truth → walk.start_of value ≡ Some (record { value = n; truth = truth })
+start_given : (value : Node) (n : ℕ) (truth : Bool) → IsStart value n truth → walk.declared_start value ≡ Some (record { value = n; truth = truth })
 start_given (number at m) n truth h =
     ap (λ k. let start : Option Start = Some (record { value = k; truth = false }) in start) (sym h.0)
     ∙ ap (λ b. let start : Option Start = Some (record { value = n; truth = b }) in start) (sym h.1)
@@ -37,7 +37,7 @@ record IsDeclarationGiven (node : Node) (decl : Decl) : Type 0 where
   at : Place
   gives : walk.declaration_walk node ≡ Ok (record { at = at; decl = decl })
 
-declares_given : (at : Place) (volatile : Bool) (word_at : Place) (w : List ℕ) (value : Node) (decl : Decl) → IsDeclarationOf volatile w value decl → walk.declares at volatile word_at w (walk.start_of value) ≡ Ok (record { at = word_at; decl = decl })
+declares_given : (at : Place) (volatile : Bool) (word_at : Place) (w : List ℕ) (value : Node) (decl : Decl) → IsDeclarationOf volatile w value decl → walk.declares at volatile word_at w (walk.declared_start value) ≡ Ok (record { at = word_at; decl = decl })
 declares_given at volatile word_at w value decl h =
     ap (walk.declares at volatile word_at w) (start_given value decl.start decl.truth h.start)
     ∙ ap (λ n. let d : Result Declaration ScopeFault = Ok (record { at = word_at; decl = record { name = n; volatile = volatile; start = decl.start; truth = decl.truth } }) in d) (sym h.named)

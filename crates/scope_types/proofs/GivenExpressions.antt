@@ -19,7 +19,7 @@ use Rattle.scope_types.specs.ValueWords.{constant_of, constant_truth}
 use Rattle.scope_types.specs.Scope.{Scope, known_in}
 use Rattle.scope_types.specs.Names.{decl_from, local_from, variable_or, meaning_of}
 use Rattle.scope_types.specs.ExpressionWalk.{or_refused, name_walk, variable_walk, word_walk, pair_walk, expression_walk}
-use Rattle.scope_types.specs.ExpressionRules.{IsDeclared, IsField, IsLocal, IsPrimitive, Means, NamesVariable, IsWord, IsTerm}
+use Rattle.scope_types.specs.ExpressionRules.{IsDeclaredName, IsField, IsLocal, IsPrimitive, Means, NamesVariable, IsWord, IsTerm}
 use Rattle.scope_types.proofs.ScopedExpressions.{truth_of, slice_get-map, IsControl, IsOwnLocal, IsProper, primitive_word, variable_kind, constant_kind}
 
 -- the look-up of a word gives this variable, of this kind
@@ -39,7 +39,7 @@ field_given scope i w truth p f = record {
   kind = f.declared.kind ∙ sym (ap declares_truth f.declared.there);
 }
 
-control_given : (scope : Scope) (i : ℕ) (w : List ℕ) (truth : Bool) → IsProper scope → IsDeclared scope.controls i w truth → IsMeaning scope w (var.Control i) truth
+control_given : (scope : Scope) (i : ℕ) (w : List ℕ) (truth : Bool) → IsProper scope → IsDeclaredName scope.controls i w truth → IsMeaning scope w (var.Control i) truth
 control_given scope i w truth p f =
     let c = subst (IsControl scope i) f.named (p.controls i f.decl f.there) in
     record {

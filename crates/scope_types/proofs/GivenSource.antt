@@ -7,7 +7,7 @@ use Rattle.portus_core.specs.Programs.{Term, Part, Form}
 use Rattle.portus_core.specs.Trees.{Node, Nodes, none, more, word, list}
 use Rattle.scope_types.specs.declared.fault.ScopeFault.{ScopeFault}
 use Rattle.scope_types.specs.Scope.{Scope}
-use Rattle.scope_types.specs.Cuts.{place_of}
+use Rattle.scope_types.specs.Cuts.{node_place}
 use Rattle.scope_types.specs.ExpressionWalk.{expression_walk}
 use Rattle.scope_types.specs.DeclarationWalk.{Declaring, parts_walk}
 use Rattle.scope_types.specs.CommandWalk.{body_walk}
@@ -25,7 +25,7 @@ use Rattle.scope_types.proofs.ValidSource as valid
 condition_given : (names : Scope) (node : Node) (t : Term) → IsProper names → IsTerm names node t true → condition_walk names node ≡ Ok t
 condition_given names node t p h =
     let g = expression_given names node t true p h in
-    then_given (expression_walk names node) _ t _ g.gives (kind_given names true (place_of node) t true g.kind (λ k. k))
+    then_given (expression_walk names node) _ t _ g.gives (kind_given names true (node_place node) t true g.kind (λ k. k))
 
 inner_given : (names : Scope) (condition : Node) (commands : Nodes) (part : Part) → IsProper names → (b : IsBlock names condition commands part) → inner_walk names condition commands ≡ Ok (part, b.after)
 inner_given names condition commands part p b =

@@ -15,7 +15,7 @@ use Rattle.scope_types.specs.declared.target.Target.{Target}
 use Rattle.scope_types.specs.declared.target.Target.TheVariants.{Known, Fresh}
 use Rattle.scope_types.specs.Names.{meaning_of, decl_from}
 use Rattle.scope_types.specs.Scope.{Scope}
-use Rattle.scope_types.specs.Cuts.{place_of}
+use Rattle.scope_types.specs.Cuts.{node_place}
 use Rattle.scope_types.specs.WalkResults.{and_then}
 use Rattle.portus_core.specs.Words.{variable_of, is_reserved, is_field_use, is_primitive_use, is_field_name, is_control_name}
 use Rattle.ccp_base.specs.Operations.{operator_of}
@@ -107,8 +107,8 @@ choice_rule names target when_true value_at head (more condition (more value non
     then_rule (cmd.known_walk target) _ (known_rule target) (λ v.
     then_rule (expression_walk names condition) _ (expression_rule names condition) (λ c.
     then_rule (expression_walk names value) _ (expression_rule names value) (λ e.
-    then_rule (cmd.kind_walk names true (place_of condition) c) _ (kind_rule names true (place_of condition) c) (λ c2.
-    then_rule (cmd.kind_walk names (cmd.wants_bool names v) (place_of value) e) _ (kind_rule names (cmd.wants_bool names v) (place_of value) e) (λ e2. tt)))))
+    then_rule (cmd.kind_walk names true (node_place condition) c) _ (kind_rule names true (node_place condition) c) (λ c2.
+    then_rule (cmd.kind_walk names (cmd.wants_bool names v) (node_place value) e) _ (kind_rule names (cmd.wants_bool names v) (node_place value) e) (λ e2. tt)))))
 choice_rule names target when_true value_at head parts = tt
 
 weight_rule : (node : Node) → ByRule (cmd.weight_walk node)
@@ -134,7 +134,7 @@ set_rule names (Fresh at w) value_at t = if_rule (nat_le 8 (length names.locals)
 
 plain_rule : (names : Scope) (target : Target) (node : Node) → ByRule (cmd.plain_walk names target node)
 plain_rule names target node =
-    then_rule (expression_walk names node) _ (expression_rule names node) (λ t. set_rule names target (place_of node) t)
+    then_rule (expression_walk names node) _ (expression_rule names node) (λ t. set_rule names target (node_place node) t)
 
 value_rule : (names : Scope) (target : Target) (node : Node) → ByRule (cmd.value_walk names target node)
 value_rule names target (list value_at (more (word head w) parts)) =
@@ -171,9 +171,9 @@ declares_rule at volatile word_at w None = tt
 declares_rule at volatile word_at w (Some start) = tt
 
 declaration_rule : (node : Node) → ByRule (decl.declaration_walk node)
-declaration_rule (list at (more (word word_at w) (more value none))) = declares_rule at false word_at w (decl.start_of value)
+declaration_rule (list at (more (word word_at w) (more value none))) = declares_rule at false word_at w (decl.declared_start value)
 declaration_rule (list at (more (word head v) (more (word word_at w) (more value none)))) =
-    if_rule (bytes_eq v (codes "volatile")) _ _ (declares_rule at true word_at w (decl.start_of value)) tt
+    if_rule (bytes_eq v (codes "volatile")) _ _ (declares_rule at true word_at w (decl.declared_start value)) tt
 declaration_rule node = tt
 
 field_rule : (names : Scope) (d : Declaration) → ByRule (decl.field_walk names d)
@@ -219,7 +219,7 @@ parts_rule declared (more node rest) =
 
 condition_rule : (names : Scope) (node : Node) → ByRule (program.condition_walk names node)
 condition_rule names node =
-    then_rule (expression_walk names node) _ (expression_rule names node) (λ t. kind_rule names true (place_of node) t)
+    then_rule (expression_walk names node) _ (expression_rule names node) (λ t. kind_rule names true (node_place node) t)
 
 inner_rule : (names : Scope) (condition : Node) (commands : Nodes) → ByRule (program.inner_walk names condition commands)
 inner_rule names condition commands =

@@ -14,7 +14,7 @@ use Rattle.scope_types.proofs.Results.{if_ok, then_ok, ok_map}
 use Rattle.scope_types.proofs.ScopedExpressions.{some_case, spelt, IsProper}
 use Rattle.scope_types.proofs.ProperScopes.{proper_with_field, proper_with_control}
 
-start_scoped : (node : Node) → IfSome (walk.start_of node) (λ s. IsStart node s.value s.truth)
+start_scoped : (node : Node) → IfSome (walk.declared_start node) (λ s. IsStart node s.value s.truth)
 start_scoped (number at n) = (refl, refl)
 start_scoped (list at parts) = tt
 start_scoped (word at w) =
@@ -27,10 +27,10 @@ declares_scoped at volatile word_at w value (Some s) h = record { named = refl; 
 declares_scoped at volatile word_at w value None h = tt
 
 declaration_scoped : (node : Node) → IfOk (walk.declaration_walk node) (λ d. Declares node d.decl)
-declaration_scoped (list at (more (word word_at w) (more value none))) = declares_scoped at false word_at w value (walk.start_of value) (start_scoped value)
+declaration_scoped (list at (more (word word_at w) (more value none))) = declares_scoped at false word_at w value (walk.declared_start value) (start_scoped value)
 declaration_scoped (list at (more (word head v) (more (word word_at w) (more value none)))) =
     if_ok (bytes_eq v (codes "volatile")) _ _ _
-    (λ h. ok_map (walk.declares at true word_at w (walk.start_of value)) _ _ (declares_scoped at true word_at w value (walk.start_of value) (start_scoped value)) (λ d k. (spelt v (codes "volatile") h, k)))
+    (λ h. ok_map (walk.declares at true word_at w (walk.declared_start value)) _ _ (declares_scoped at true word_at w value (walk.declared_start value) (start_scoped value)) (λ d k. (spelt v (codes "volatile") h, k)))
     (λ _. tt)
 declaration_scoped node = tt
 

@@ -24,7 +24,7 @@ use Rattle.scope_types.specs.ValueWords.{constant_of, constant_truth}
 use Rattle.scope_types.specs.Scope.{Scope, known_in}
 use Rattle.scope_types.specs.Names.{decl_from, local_from, variable_or, meaning_of}
 use Rattle.scope_types.specs.ExpressionWalk.{or_refused, name_walk, variable_walk, word_walk, pair_walk, expression_walk}
-use Rattle.scope_types.specs.ExpressionRules.{IsDeclared, IsField, IsLocal, IsPrimitive, Means, NamesVariable, IsName, IsWord, IsPair, IsTerm}
+use Rattle.scope_types.specs.ExpressionRules.{IsDeclaredName, IsField, IsLocal, IsPrimitive, Means, NamesVariable, IsName, IsWord, IsPair, IsTerm}
 use Rattle.scope_types.proofs.Results.{if_ok, ok_map}
 
 -- a test of two texts tells whether they are one
@@ -91,7 +91,7 @@ local_found i (l ∷ ls) w =
 abbrev pub truth_of : Scope → Var → Bool
 truth_of scope v = is_truth (known_in scope) v
 
-pub declared_of : (ds : List Decl) (w : List ℕ) (n : ℕ) → IsFound 0 ds w n → IsDeclared ds n w (declares_truth (slice_get ds n))
+pub declared_of : (ds : List Decl) (w : List ℕ) (n : ℕ) → IsFound 0 ds w n → IsDeclaredName ds n w (declares_truth (slice_get ds n))
 declared_of ds w n f =
     let e : n ≡ f.k = let at = f.at in omega arith in
     let there : slice_get ds n ≡ Some f.decl = ap (slice_get ds) e ∙ f.there in

@@ -9,7 +9,7 @@ use Rattle.scope_types.specs.Names.{decl_from}
 use Rattle.scope_types.specs.ExpressionWalk.{expression_walk}
 use Rattle.scope_types.specs.DeclarationWalk.{Declaring, parts_walk}
 use Rattle.scope_types.specs.CommandWalk.{kind_walk, body_walk}
-use Rattle.scope_types.specs.ProgramWalk.{nothing_declared, without_locals, part_of, condition_walk, inner_walk, form_walk, blocks_walk, def_walk, form_of, source_walk}
+use Rattle.scope_types.specs.ProgramWalk.{nothing_declared, without_locals, walked_part, condition_walk, inner_walk, form_walk, blocks_walk, def_walk, walked_form, source_walk}
 use Rattle.scope_types.specs.ExpressionRules.{IsTerm}
 use Rattle.scope_types.specs.CommandRules.{IsBody}
 use Rattle.scope_types.specs.DeclarationRules.{AreParts, AreDistinct}
@@ -62,7 +62,7 @@ condition_scoped names node =
     then_ok (expression_walk names node) _ _ _ (expression_scoped names node) (λ t h.
     ok_map (kind_walk names true _ t) _ _ (kind_scoped names true _ t) (λ e k. kind_true names node t e h k))
 
-block_of : (names : Scope) (condition : Node) (commands : Nodes) (c : Term) (body : List Action × Scope) → IsTerm names condition c true → IsRestScoped names [] commands body → IsBlock names condition commands (part_of c body)
+block_of : (names : Scope) (condition : Node) (commands : Nodes) (c : Term) (body : List Action × Scope) → IsTerm names condition c true → IsRestScoped names [] commands body → IsBlock names condition commands (walked_part c body)
 block_of names condition commands c body h r = record {
   is_condition = h;
   after = body.1;
@@ -121,7 +121,7 @@ distinct_of : (decls : List Decl) → ((i : ℕ) (d : Decl) → slice_get decls 
 distinct_of decls found i j d e h k same =
     let f : Some i ≡ Some j = sym (found i d h) ∙ ap (decl_from 0 decls) same ∙ found j e k in cc
 
-program_of : (parts forms : Nodes) (names : Scope) (blocks : List Part × Scope) → IsDef parts names → valid.IsWithin names → AddsBlocks names [] forms blocks → valid.AreBlocks names blocks → IsProgram parts forms (form_of blocks)
+program_of : (parts forms : Nodes) (names : Scope) (blocks : List Part × Scope) → IsDef parts names → valid.IsWithin names → AddsBlocks names [] forms blocks → valid.AreBlocks names blocks → IsProgram parts forms (walked_form blocks)
 program_of parts forms names blocks d w b v = record {
   declared =
       subst (λ ds. AreParts parts false ds blocks.1.controls) (sym v.fields)
@@ -137,7 +137,7 @@ program_of parts forms names blocks d w b v = record {
 pub proper_start : (names : Scope) → names.locals ≡ [] → IsProper names → IsProper (without_locals names)
 proper_start names e p = subst IsProper (ap (λ (ls : List Local). let scope : Scope = record { fields = names.fields; controls = names.controls; locals = ls } in scope) e) p
 
-scoped_of : (first : Node) (forms : Nodes) (names : Scope) (blocks : List Part × Scope) → Defines first names → valid.IsWithin names → AddsBlocks names [] forms blocks → valid.AreBlocks names blocks → IsScoped (more first forms) (form_of blocks)
+scoped_of : (first : Node) (forms : Nodes) (names : Scope) (blocks : List Part × Scope) → Defines first names → valid.IsWithin names → AddsBlocks names [] forms blocks → valid.AreBlocks names blocks → IsScoped (more first forms) (walked_form blocks)
 scoped_of (list at (more (word head w) parts)) forms names blocks d k b v = (d.0, program_of parts forms names blocks d.1 k b v)
 scoped_of (list at none) forms names blocks d k b v = absurd d
 scoped_of (list at (more (number a n) parts)) forms names blocks d k b v = absurd d

@@ -7,10 +7,10 @@ use Rattle.portus_core.specs.declared.program.Var.{Var}
 use Rattle.portus_core.specs.declared.program.Var.TheVariants as var
 use Rattle.portus_core.specs.Programs.{Term, Action, set, set_if, set_unless, ewma, zero_micros, report, fall}
 use Rattle.portus_core.specs.Trees.{Node, Nodes, none, more, number, word, list}
-use Rattle.portus_core.specs.ValidPrograms.{Known, is_known, is_term, is_truth, is_target, term_is_truth, is_condition, fits_target, is_next_local, is_action, with_local, known_after, is_body}
+use Rattle.portus_core.specs.ValidPrograms.{KnownNames, is_known, is_term, is_truth, is_target, term_is_truth, is_condition, fits_target, is_next_local, is_action, with_known_local, known_after, is_body}
 use Rattle.scope_types.specs.declared.names.Local.{Local}
 use Rattle.scope_types.specs.declared.target.Target.{Target}
-use Rattle.scope_types.specs.declared.target.Target.TheVariants.{Known as Meant, Fresh}
+use Rattle.scope_types.specs.declared.target.Target.TheVariants.{KnownNames as Meant, Fresh}
 use Rattle.portus_core.specs.Words.{variable_of, is_reserved, is_field_use, is_primitive_use}
 use Rattle.scope_types.specs.Names.{meaning_of}
 use Rattle.scope_types.specs.Scope.{Scope, known_in}
@@ -121,7 +121,7 @@ not_next : (i n : ℕ) → nat_lt i n ≡ true → ((i == n) && nat_lt i 8) ≡ 
 not_next i n h = grind (arith, nat_tests)
 
 -- a name that is known isn't the next local
-known_not_next : (known : Known) (v : Var) → IsTrue (is_known known v) → is_next_local known v ≡ false
+known_not_next : (known : KnownNames) (v : Var) → IsTrue (is_known known v) → is_next_local known v ≡ false
 known_not_next known (var.Local i) h = not_next i (length known.locals) h
 known_not_next known (var.Field i) h = refl
 known_not_next known (var.Control i) h = refl
@@ -133,7 +133,7 @@ known_not_next known var.Micros h = refl
 set_known : (names : Scope) (v : Var) (term : Term) → IsTrue (is_target (known_in names) v) → IsTrue (fits_target (known_in names) v term) → IsStep names (set v term, names)
 set_known names v term t f = (
   or_left _ _ (both_true _ _ t f),
-  ap (λ b. with_local (known_in names) b (term_is_truth (known_in names) term)) (sym (known_not_next (known_in names) v (and_left _ _ t))),
+  ap (λ b. with_known_local (known_in names) b (term_is_truth (known_in names) term)) (sym (known_not_next (known_in names) v (and_left _ _ t))),
 )
 
 next_test : (n m : ℕ) → m ≡ n → nat_le 8 n ≡ false → ((n == m) && nat_lt n 8) ≡ true
@@ -143,8 +143,8 @@ set_fresh : (names : Scope) (w : List ℕ) (term : Term) → nat_le 8 (length na
 set_fresh names w term room t =
     let next : is_next_local (known_in names) (var.Local (length names.locals)) ≡ true = next_test (length names.locals) _ (length-map names.locals (λ (l : Local). l.truth)) room in (
       or_right _ _ (both_true _ _ next t),
-      ap (λ ls. let known : Known = record { fields = names.fields; controls = names.controls; locals = ls } in known) (map-append (λ (l : Local). l.truth) names.locals _)
-          ∙ ap (λ b. with_local (known_in names) b (walk.is_bool names term)) (sym next),
+      ap (λ ls. let known : KnownNames = record { fields = names.fields; controls = names.controls; locals = ls } in known) (map-append (λ (l : Local). l.truth) names.locals _)
+          ∙ ap (λ b. with_known_local (known_in names) b (walk.is_bool names term)) (sym next),
     )
 
 set_valid : (names : Scope) (target : Target) (value_at : Place) (term : Term) → IsOther names target → IsTrue (is_term (known_in names) term) → IfOk (walk.set_walk names target value_at term) (IsStep names)
@@ -198,15 +198,15 @@ command_valid names (list at (more (word head w) (more target (more value none))
     if_ok (bytes_eq w (codes ":=") || bytes_eq w (codes "bind")) _ _ _ (λ _. assignment_valid names target value) (λ _. tt)
 command_valid names node = tt
 
-with_local_fields : (known : Known) (more_ truth : Bool) → (with_local known more_ truth).fields ≡ known.fields
+with_local_fields : (known : KnownNames) (more_ truth : Bool) → (with_known_local known more_ truth).fields ≡ known.fields
 with_local_fields known true truth = refl
 with_local_fields known false truth = refl
 
-with_local_controls : (known : Known) (more_ truth : Bool) → (with_local known more_ truth).controls ≡ known.controls
+with_local_controls : (known : KnownNames) (more_ truth : Bool) → (with_known_local known more_ truth).controls ≡ known.controls
 with_local_controls known true truth = refl
 with_local_controls known false truth = refl
 
-after_fields : (known : Known) (action : Action) → (known_after known action).fields ≡ known.fields
+after_fields : (known : KnownNames) (action : Action) → (known_after known action).fields ≡ known.fields
 after_fields known (set v term) = with_local_fields known (is_next_local known v) (term_is_truth known term)
 after_fields known (set_if place v condition term) = refl
 after_fields known (set_unless place v condition term) = refl
@@ -215,7 +215,7 @@ after_fields known zero_micros = refl
 after_fields known report = refl
 after_fields known fall = refl
 
-after_controls : (known : Known) (action : Action) → (known_after known action).controls ≡ known.controls
+after_controls : (known : KnownNames) (action : Action) → (known_after known action).controls ≡ known.controls
 after_controls known (set v term) = with_local_controls known (is_next_local known v) (term_is_truth known term)
 after_controls known (set_if place v condition term) = refl
 after_controls known (set_unless place v condition term) = refl
@@ -246,8 +246,8 @@ one_more names done step body s r = record {
   rest = step.0 ∷ r.rest;
   whole = r.whole ∙ append_assoc done (step.0 ∷ []) r.rest;
   valid = both_true _ _ s.0 (ap (λ known. is_body known (length body.1.locals) r.rest) (sym s.1) ∙ r.valid);
-  fields = r.fields ∙ ap (λ (known : Known). known.fields) s.1 ∙ after_fields (known_in names) step.0;
-  controls = r.controls ∙ ap (λ (known : Known). known.controls) s.1 ∙ after_controls (known_in names) step.0;
+  fields = r.fields ∙ ap (λ (known : KnownNames). known.fields) s.1 ∙ after_fields (known_in names) step.0;
+  controls = r.controls ∙ ap (λ (known : KnownNames). known.controls) s.1 ∙ after_controls (known_in names) step.0;
 }
 
 -- what a body's walk gives is right

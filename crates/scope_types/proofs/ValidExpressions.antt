@@ -9,7 +9,7 @@ use Rattle.portus_core.specs.declared.program.Var.{Var}
 use Rattle.portus_core.specs.declared.program.Var.TheVariants as var
 use Rattle.portus_core.specs.Programs.{Term}
 use Rattle.portus_core.specs.Trees.{Node, none, more, number, word, list}
-use Rattle.portus_core.specs.ValidPrograms.{Known, is_known, is_term}
+use Rattle.portus_core.specs.ValidPrograms.{KnownNames, is_known, is_term}
 use Rattle.scope_types.specs.declared.names.Local.{Local}
 use Rattle.scope_types.specs.declared.fault.ScopeFault.{ScopeFault}
 use Rattle.scope_types.specs.declared.fault.ScopeFault.TheVariants.{Unknown}
@@ -76,10 +76,10 @@ meaning_known names w =
     (variable_or_known P var.Local (local_from 0 names.locals w) None (local_known names w) tt)))
 
 -- and so is a variable of the language
-pub variable_known : (known : Known) (w : List ℕ) → IfSome (variable_of w) (λ v. IsTrue (is_known known v))
+pub variable_known : (known : KnownNames) (w : List ℕ) → IfSome (variable_of w) (λ v. IsTrue (is_known known v))
 variable_known known w = grind (arith, nat_tests)
 
-constant_valid : (known : Known) (w : List ℕ) → IfSome (constant_of w) (λ t. IsTrue (is_term known t))
+constant_valid : (known : KnownNames) (w : List ℕ) → IfSome (constant_of w) (λ t. IsTrue (is_term known t))
 constant_valid known w = grind (arith, nat_tests)
 
 refused_known : (names : Scope) (v : Option Var) (fault : ScopeFault) → IfSome v (λ v. IsTrue (is_known (known_in names) v)) → IfOk (or_refused v fault) (λ v. IsTrue (is_known (known_in names) v))
@@ -98,7 +98,7 @@ word_valid : (names : Scope) (at : Place) (w : List ℕ) (t : Option Term) → I
 word_valid names at w (Some t) h = h
 word_valid names at w None h = name_valid names (variable_walk names at w (variable_of w)) (variable_walk_known names at w (variable_of w) (variable_known (known_in names) w))
 
-pair_valid : (known : Known) (at head : Place) (op : Option Op2) (l r : Result Term ScopeFault) → IfOk l (λ t. IsTrue (is_term known t)) → IfOk r (λ t. IsTrue (is_term known t)) → IfOk (pair_walk at head op l r) (λ t. IsTrue (is_term known t))
+pair_valid : (known : KnownNames) (at head : Place) (op : Option Op2) (l r : Result Term ScopeFault) → IfOk l (λ t. IsTrue (is_term known t)) → IfOk r (λ t. IsTrue (is_term known t)) → IfOk (pair_walk at head op l r) (λ t. IsTrue (is_term known t))
 pair_valid known at head None l r p q = tt
 pair_valid known at head (Some op) (Err e) r p q = tt
 pair_valid known at head (Some op) (Ok l) (Err e) p q = tt

@@ -5,7 +5,7 @@ use Rattle.ccp_base.specs.declared.place.Place.{Place}
 use Rattle.portus_core.specs.declared.program.Decl.{Decl}
 use Rattle.portus_core.specs.Programs.{Term, Action, Part}
 use Rattle.portus_core.specs.Trees.{Node, Nodes, none, more, number, word, list}
-use Rattle.portus_core.specs.ValidPrograms.{Known, is_condition, is_body, is_part, are_parts, is_start, is_named_in, are_declared, is_declared, is_valid}
+use Rattle.portus_core.specs.ValidPrograms.{KnownNames, is_condition, is_body, is_part, are_parts, is_start, is_named_in, are_declared, is_declared, is_valid}
 use Rattle.scope_types.specs.declared.declaration.Start.{Start}
 use Rattle.scope_types.specs.declared.declaration.Declaration.{Declaration}
 use Rattle.scope_types.specs.declared.fault.ScopeFault.{ScopeFault}
@@ -15,7 +15,7 @@ use Rattle.scope_types.specs.Scope.{Scope, known_in}
 use Rattle.scope_types.specs.ExpressionWalk.{expression_walk}
 use Rattle.scope_types.specs.DeclarationWalk as walk
 use Rattle.scope_types.specs.CommandWalk.{body_walk}
-use Rattle.scope_types.specs.ProgramWalk.{nothing_declared, without_locals, part_of, condition_walk, inner_walk, block_walk, form_walk, blocks_walk, def_walk, form_of}
+use Rattle.scope_types.specs.ProgramWalk.{nothing_declared, without_locals, walked_part, condition_walk, inner_walk, block_walk, form_walk, blocks_walk, def_walk, walked_form}
 use Rattle.scope_types.proofs.Results.{if_ok, then_ok, both_true, ok_map}
 use Rattle.scope_types.proofs.ScopedExpressions.{some_case}
 use Rattle.scope_types.proofs.ValidExpressions.{expression_valid}
@@ -94,7 +94,7 @@ word_start w =
     some_case (bytes_eq w (codes "false")) _ _ _ (λ _. refl) (λ _.
     some_case (bytes_eq w (codes "+infinity")) _ _ _ (λ _. refl) (λ _. tt)))
 
-right_start : (node : Node) → IfSome (walk.start_of node) (λ s. is_right s ≡ true)
+right_start : (node : Node) → IfSome (walk.declared_start node) (λ s. is_right s ≡ true)
 right_start (number at n) = refl
 right_start (list at parts) = tt
 right_start (word at w) = word_start w
@@ -104,9 +104,9 @@ declares_start at volatile word_at w (Some s) h = h
 declares_start at volatile word_at w None h = tt
 
 declaration_start : (node : Node) → IfOk (walk.declaration_walk node) (λ d. is_start d.decl ≡ true)
-declaration_start (list at (more (word word_at w) (more value none))) = declares_start at false word_at w (walk.start_of value) (right_start value)
+declaration_start (list at (more (word word_at w) (more value none))) = declares_start at false word_at w (walk.declared_start value) (right_start value)
 declaration_start (list at (more (word head v) (more (word word_at w) (more value none)))) =
-    if_ok (bytes_eq v (codes "volatile")) _ _ _ (λ _. declares_start at true word_at w (walk.start_of value) (right_start value)) (λ _. tt)
+    if_ok (bytes_eq v (codes "volatile")) _ _ _ (λ _. declares_start at true word_at w (walk.declared_start value) (right_start value)) (λ _. tt)
 declaration_start node = tt
 
 room : (n : ℕ) → nat_le 64 n ≡ false → n + 1 ≤ 64
@@ -178,7 +178,7 @@ def_within (list at (more (word head w) parts)) =
 def_within node = tt
 
 -- the names that each block begins with
-abbrev pub block_names : Scope → Known
+abbrev pub block_names : Scope → KnownNames
 block_names names = record { fields = names.fields; controls = names.controls; locals = [] }
 
 condition_valid : (names : Scope) (node : Node) → IfOk (condition_walk names node) (λ t. IsTrue (is_condition (known_in names) t))
@@ -191,7 +191,7 @@ pub record IsBlock (names : Scope) (block : Part × Scope) : Type 0 where
   pub fields : block.1.fields ≡ names.fields
   pub controls : block.1.controls ≡ names.controls
 
-part_valid : (names : Scope) (condition : Term) (body : List Action × Scope) → IsTrue (is_condition (block_names names) condition) → IsRest (without_locals names) [] body → IsBlock names (part_of condition body, body.1)
+part_valid : (names : Scope) (condition : Term) (body : List Action × Scope) → IsTrue (is_condition (block_names names) condition) → IsRest (without_locals names) [] body → IsBlock names (walked_part condition body, body.1)
 part_valid names condition body c r = record {
   valid = both_true _ _ c (ap (is_body (block_names names) (length body.1.locals)) r.whole ∙ r.valid);
   fields = r.fields;
@@ -220,7 +220,7 @@ form_valid names count (list at (more (word head w) parts)) =
     ok_map (block_walk names at parts) _ _ (block_valid names at parts) (λ block right. record { right = right; few = few })))
 form_valid names count node = tt
 
-are_parts-append : (known : Known) (done : List Part) (part : Part) → IsTrue (are_parts known done) → IsTrue (is_part known part) → IsTrue (are_parts known (done ++ part ∷ []))
+are_parts-append : (known : KnownNames) (done : List Part) (part : Part) → IsTrue (are_parts known done) → IsTrue (is_part known part) → IsTrue (are_parts known (done ++ part ∷ []))
 are_parts-append known [] part d p = both_true _ _ p refl
 are_parts-append known (first ∷ rest) part d p =
     both_true _ _ (and_left _ _ d) (are_parts-append known rest part (and_right _ _ d) p)
@@ -234,8 +234,8 @@ pub record AreBlocks (names : Scope) (blocks : List Part × Scope) : Type 0 wher
 
 same_names : (names after : Scope) → after.fields ≡ names.fields → after.controls ≡ names.controls → block_names names ≡ block_names after
 same_names names after e f =
-    ap (λ (ds : List Decl). let known : Known = record { fields = ds; controls = names.controls; locals = [] } in known) (sym e)
-    ∙ ap (λ (ds : List Decl). let known : Known = record { fields = after.fields; controls = ds; locals = [] } in known) (sym f)
+    ap (λ (ds : List Decl). let known : KnownNames = record { fields = ds; controls = names.controls; locals = [] } in known) (sym e)
+    ∙ ap (λ (ds : List Decl). let known : KnownNames = record { fields = after.fields; controls = ds; locals = [] } in known) (sym f)
 
 after_block : (names : Scope) (block : Part × Scope) (blocks : List Part × Scope) → IsBlock names block → AreBlocks block.1 blocks → AreBlocks names blocks
 after_block names block blocks b r = record {
@@ -259,7 +259,7 @@ blocks_valid names done (more node rest) d n =
 within_test : (n : ℕ) → n ≤ 64 → nat_le n 64 ≡ true
 within_test n h = grind (arith, nat_tests)
 
-form_of_valid : (names : Scope) (blocks : List Part × Scope) → IsWithin names → AreBlocks names blocks → IsTrue (is_valid (form_of blocks))
+form_of_valid : (names : Scope) (blocks : List Part × Scope) → IsWithin names → AreBlocks names blocks → IsTrue (is_valid (walked_form blocks))
 form_of_valid names blocks w b =
     both_true _ _
     (both_true _ _
@@ -267,19 +267,19 @@ form_of_valid names blocks w b =
     (within_test _ b.few))
     (ap (λ known. are_parts known blocks.0) (sym (same_names names blocks.1 b.fields b.controls)) ∙ b.valid)
 
-form_of_declared : (names : Scope) (blocks : List Part × Scope) → IsWithin names → AreBlocks names blocks → IsTrue (is_declared (form_of blocks))
+form_of_declared : (names : Scope) (blocks : List Part × Scope) → IsWithin names → AreBlocks names blocks → IsTrue (is_declared (walked_form blocks))
 form_of_declared names blocks w b =
     both_true _ _
     (subst (λ (ds : List Decl). IsTrue (are_declared is_field_name ds)) (sym b.fields) w.right_fields)
     (subst (λ (ds : List Decl). IsTrue (are_declared is_control_name ds)) (sym b.controls) w.right_controls)
 
 -- the same of its two parts
-pub parts_valid : (first : Node) (rest : Nodes) (names : Scope) (blocks : List Part × Scope) → def_walk first ≡ Ok names → blocks_walk names [] rest ≡ Ok blocks → IsTrue (is_valid (form_of blocks))
+pub parts_valid : (first : Node) (rest : Nodes) (names : Scope) (blocks : List Part × Scope) → def_walk first ≡ Ok names → blocks_walk names [] rest ≡ Ok blocks → IsTrue (is_valid (walked_form blocks))
 parts_valid first rest names blocks e f =
     form_of_valid names blocks (subst (λ (r : Result Scope ScopeFault). IfOk r IsWithin) e (def_within first))
     (subst (λ (r : Result (List Part × Scope) ScopeFault). IfOk r (AreBlocks names)) f (blocks_valid names [] rest refl (lit≤ tt)))
 
-pub parts_declared : (first : Node) (rest : Nodes) (names : Scope) (blocks : List Part × Scope) → def_walk first ≡ Ok names → blocks_walk names [] rest ≡ Ok blocks → IsTrue (is_declared (form_of blocks))
+pub parts_declared : (first : Node) (rest : Nodes) (names : Scope) (blocks : List Part × Scope) → def_walk first ≡ Ok names → blocks_walk names [] rest ≡ Ok blocks → IsTrue (is_declared (walked_form blocks))
 parts_declared first rest names blocks e f =
     form_of_declared names blocks (subst (λ (r : Result Scope ScopeFault). IfOk r IsWithin) e (def_within first))
     (subst (λ (r : Result (List Part × Scope) ScopeFault). IfOk r (AreBlocks names)) f (blocks_valid names [] rest refl (lit≤ tt)))

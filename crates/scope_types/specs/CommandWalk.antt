@@ -15,7 +15,7 @@ use Rattle.scope_types.specs.declared.target.Target.TheVariants.{Known, Fresh}
 use Rattle.portus_core.specs.Words.{variable_of, is_reserved, is_field_use, is_primitive_use}
 use Rattle.scope_types.specs.Names.{meaning_of}
 use Rattle.scope_types.specs.Scope.{Scope, known_in, with_local}
-use Rattle.scope_types.specs.Cuts.{place_of}
+use Rattle.scope_types.specs.Cuts.{node_place}
 use Rattle.scope_types.specs.WalkResults.{and_then}
 use Rattle.scope_types.specs.ExpressionWalk.{expression_walk}
 
@@ -70,8 +70,8 @@ choice_walk names target when_true value_at head (more condition (more value non
     and_then (known_walk target) (λ v.
     and_then (expression_walk names condition) (λ c.
     and_then (expression_walk names value) (λ e.
-    and_then (kind_walk names true (place_of condition) c) (λ c'.
-    and_then (kind_walk names (wants_bool names v) (place_of value) e) (λ e'.
+    and_then (kind_walk names true (node_place condition) c) (λ c'.
+    and_then (kind_walk names (wants_bool names v) (node_place value) e) (λ e'.
     Ok (choice_action when_true head v c' e', names))))))
 choice_walk names target when_true value_at head parts = Err (fault.Misplaced value_at)
 
@@ -103,7 +103,7 @@ set_walk names (Fresh at w) value_at term =
     else Ok (set (var.Local (length names.locals)) term, with_local names w (is_bool names term))
 
 abbrev pub plain_walk : Scope → Target → Node → Result Step ScopeFault
-plain_walk names target node = and_then (expression_walk names node) (λ term. set_walk names target (place_of node) term)
+plain_walk names target node = and_then (expression_walk names node) (λ term. set_walk names target (node_place node) term)
 
 -- what is assigned: `if`, `!if`, `ewma` or an expression
 abbrev pub value_walk : Scope → Target → Node → Result Step ScopeFault
@@ -132,7 +132,7 @@ command_walk names (list at (more (word head w) none)) =
 command_walk names (list at (more (word head w) (more target (more value none)))) =
     if bytes_eq w (codes ":=") || bytes_eq w (codes "bind") then assignment_walk names target value
     else Err (fault.Misplaced at)
-command_walk names node = Err (fault.Misplaced (place_of node))
+command_walk names node = Err (fault.Misplaced (node_place node))
 
 -- the commands of a body, after those that are done
 abbrev pub body_walk : Scope → List Action → Nodes → Result (List Action × Scope) ScopeFault

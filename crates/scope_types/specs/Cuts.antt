@@ -6,10 +6,10 @@ use Rattle.scope_types.specs.declared.cut.Cut.{Cut}
 use Rattle.scope_types.specs.declared.cut.Cut.TheVariants.{Nothing, First}
 
 -- the place of a part
-abbrev pub place_of : Node → Place
-place_of (number at n) = at
-place_of (word at w) = at
-place_of (list at parts) = at
+abbrev pub node_place : Node → Place
+node_place (number at n) = at
+node_place (word at w) = at
+node_place (list at parts) = at
 
 -- a list is its first part and the parts after it
 abbrev pub CutsInto : Nodes → Cut → Type 0

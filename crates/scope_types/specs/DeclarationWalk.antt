@@ -13,7 +13,7 @@ use Rattle.scope_types.specs.declared.declaration.Declared.{Declared}
 use Rattle.portus_core.specs.Words.{is_field_name, is_control_name}
 use Rattle.scope_types.specs.Names.{decl_from}
 use Rattle.scope_types.specs.Scope.{Scope, scope_of}
-use Rattle.scope_types.specs.Cuts.{place_of}
+use Rattle.scope_types.specs.Cuts.{node_place}
 use Rattle.scope_types.specs.WalkResults.{and_then}
 
 -- what the parts of `def` so far declare, and whether a group of fields was among them
@@ -36,10 +36,10 @@ start_word w =
     else if bytes_eq w (codes "+infinity") then Some (record { value = 2 ^ 64 - 1; truth = false })
     else None
 
-abbrev pub start_of : Node → Option Start
-start_of (number at n) = Some (record { value = n; truth = false })
-start_of (word at w) = start_word w
-start_of (list at parts) = None
+abbrev pub declared_start : Node → Option Start
+declared_start (number at n) = Some (record { value = n; truth = false })
+declared_start (word at w) = start_word w
+declared_start (list at parts) = None
 
 abbrev pub declares : Place → Bool → Place → List ℕ → Option Start → Result Declaration ScopeFault
 declares at volatile word_at w None = Err (Misplaced at)
@@ -48,10 +48,10 @@ declares at volatile word_at w (Some start) =
 
 -- a word and a value, or `volatile`, a word and a value
 abbrev pub declaration_walk : Node → Result Declaration ScopeFault
-declaration_walk (list at (more (word word_at w) (more value none))) = declares at false word_at w (start_of value)
+declaration_walk (list at (more (word word_at w) (more value none))) = declares at false word_at w (declared_start value)
 declaration_walk (list at (more (word head v) (more (word word_at w) (more value none)))) =
-    if bytes_eq v (codes "volatile") then declares at true word_at w (start_of value) else Err (Misplaced at)
-declaration_walk node = Err (Misplaced (place_of node))
+    if bytes_eq v (codes "volatile") then declares at true word_at w (declared_start value) else Err (Misplaced at)
+declaration_walk node = Err (Misplaced (node_place node))
 
 abbrev pub with_field : Scope → Decl → Scope
 with_field names decl = record names { fields = names.fields ++ decl ∷ [] }

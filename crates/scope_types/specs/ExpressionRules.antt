@@ -18,7 +18,7 @@ use Rattle.ccp_base.specs.PrimitiveNames.{primitive_named}
 use Rattle.scope_types.specs.ValueWords.{constant_of, constant_truth}
 
 -- the declaration of this number has this name
-pub record IsDeclared (decls : List Decl) (i : ℕ) (w : List ℕ) (truth : Bool) : Type 0 where
+pub record IsDeclaredName (decls : List Decl) (i : ℕ) (w : List ℕ) (truth : Bool) : Type 0 where
   pub decl : Decl
   pub there : slice_get decls i ≡ Some decl
   pub named : decl.name ≡ w
@@ -28,7 +28,7 @@ pub record IsDeclared (decls : List Decl) (i : ℕ) (w : List ℕ) (truth : Bool
 pub record IsField (decls : List Decl) (i : ℕ) (w : List ℕ) (truth : Bool) : Type 0 where
   pub rest : List ℕ
   pub spelt : w ≡ codes "Report." ++ rest
-  pub declared : IsDeclared decls i rest truth
+  pub declared : IsDeclaredName decls i rest truth
 
 -- the local of this number has this name
 pub record IsLocal (locals : List Local) (i : ℕ) (w : List ℕ) (truth : Bool) : Type 0 where
@@ -44,7 +44,7 @@ pub record IsPrimitive (n : ℕ) (w : List ℕ) (truth : Bool) : Type 0 where
 -- a word that a declaration, an assignment or the acknowledgement gives a meaning, and whether it is a Bool
 abbrev pub Means : Scope → List ℕ → Var → Bool → Type 0
 Means scope w (var.Field i) truth = IsField scope.fields i w truth
-Means scope w (var.Control i) truth = IsDeclared scope.controls i w truth
+Means scope w (var.Control i) truth = IsDeclaredName scope.controls i w truth
 Means scope w (var.Local i) truth = IsLocal scope.locals i w truth
 Means scope w (var.Prim n) truth = IsPrimitive n w truth
 Means scope w var.Cwnd truth = ⊥

@@ -1,7 +1,7 @@
 -- The names in scope.
 use Rattle.std.specs.Prelude.{ℕ, Bool, List, [], ◌∷◌, ◌++◌, map}
 use Rattle.portus_core.specs.declared.program.Decl.{Decl}
-use Rattle.portus_core.specs.ValidPrograms.{Known}
+use Rattle.portus_core.specs.ValidPrograms.{KnownNames}
 use Rattle.scope_types.specs.declared.names.Local.{Local}
 use Rattle.scope_types.specs.declared.names.Names.{Names}
 
@@ -15,7 +15,7 @@ abbrev pub scope_of : Names → Scope
 scope_of names = record { fields = names.fields; controls = names.controls; locals = names.locals }
 
 -- the names without their texts
-abbrev pub known_in : Scope → Known
+abbrev pub known_in : Scope → KnownNames
 known_in names = record { fields = names.fields; controls = names.controls; locals = map (λ (l : Local). l.truth) names.locals }
 
 -- the names with one more local

@@ -4,7 +4,7 @@ ghost use Rattle.portus_core.specs.Trees.{node_of, nodes_of};
 ghost use Rattle.portus_core.specs.Programs.{action_of, term_of};
 ghost use Rattle.scope_types.specs.CommandWalk.{kind_walk, choice_action, choice_walk, weight_walk, ewma_walk};
 ghost use Rattle.scope_types.specs.CommandWalk.{set_walk, plain_walk, value_walk, assignment_walk};
-ghost use Rattle.scope_types.specs.Cuts.{place_of};
+ghost use Rattle.scope_types.specs.Cuts.{node_place};
 ghost use Rattle.scope_types.specs.Scope.{scope_of};
 ghost use Rattle.scope_types.specs.WalkResults.{EndsWalk, GivesCommand, GivesSet};
 

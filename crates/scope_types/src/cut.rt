@@ -1,7 +1,7 @@
 //! A list's first part apart from the rest, and the place of a part.
 ghost use Rattle.std.specs.Prelude.{◌≡◌};
 ghost use Rattle.portus_core.specs.Trees.{node_of, nodes_of};
-ghost use Rattle.scope_types.specs.Cuts.{place_of, CutsInto};
+ghost use Rattle.scope_types.specs.Cuts.{node_place, CutsInto};
 
 use ccp_base::Place;
 use portus_core::Tree;
@@ -25,7 +25,7 @@ pub(crate) fn cut_first(parts: &[Tree]) -> Cut<'_>
 
 /// The place of a part of a text.
 pub(crate) fn place_of(tree: &Tree) -> Place
-    ensures { result ≡ place_of (node_of tree.now) }
+    ensures { result ≡ node_place (node_of tree.now) }
 {
     match tree {
         Tree::Num(at, _) => *at,

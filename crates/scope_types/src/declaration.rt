@@ -3,7 +3,7 @@ ghost use Rattle.std.specs.Prelude.{◌≡◌, ◌≢◌, ◌++◌, ◌∷◌, [
 ghost use Rattle.portus_core.specs.Trees.{node_of, nodes_of};
 ghost use Rattle.portus_core.specs.Words.{has_dot, is_field_name, is_control_name};
 ghost use Rattle.scope_types.specs.DeclarationWalk.{declaring_of, GivesDeclared};
-ghost use Rattle.scope_types.specs.DeclarationWalk.{start_word, start_of, declaration_walk};
+ghost use Rattle.scope_types.specs.DeclarationWalk.{start_word, declared_start, declaration_walk};
 ghost use Rattle.scope_types.specs.DeclarationWalk.{field_walk, control_walk, fields_walk, group_walk};
 ghost use Rattle.scope_types.specs.DeclarationWalk.{control_part_walk, part_walk, parts_walk};
 ghost use Rattle.scope_types.specs.Scope.{scope_of};
@@ -69,7 +69,7 @@ fn start_word(w: &[u8]) -> Option<Start>
 
 /// The value of a part in a declaration.
 fn start_of(tree: &Tree) -> Option<Start>
-    ensures { result ≡ start_of (node_of tree.now) }
+    ensures { result ≡ declared_start (node_of tree.now) }
 {
     match tree {
         Tree::Num(_, value) => Some(Start {

@@ -3,7 +3,7 @@ use Rattle.std.proofs.Common.{◌≡◌, ℕ, suc, ◌+◌, ◌<◌, ◌≤◌, 
 use Rattle.std.proofs.lemmas.Bool.Decides.{nat_tests}
 use Rattle.link_model.specs.Traces.{IsTrace}
 use Rattle.link_model.specs.Chances.{chance_time}
-use Rattle.link_model.specs.Link.{Packet, Fate, Lost, Served, GivenAck, Numbered, packet_and_lost_below, all_below, chance_past, left_by, lost_by, in_flight, acked_of, Next, arrives, all_lost, next_of}
+use Rattle.link_model.specs.Link.{Packet, Fate, Lost, Served, GivenAck, Numbered, packet_and_lost_below, all_below, chance_past, left_by, lost_by, in_flight, acked_of, Next, arrives, all_lost, next_arrival}
 use Rattle.link_model.specs.Link as link
 use Rattle.link_model.specs.Standing.{packets_of}
 use Rattle.link_model.specs.Flights.{IsServedWithin, AllServedWithin, RisesFrom, AllBelow}
@@ -101,10 +101,10 @@ module _ (times : List ℕ) (trace : IsTrace times) (delay : ℕ) where
   next_where_of end from number sent_at (Served own marked) later later_next same none =
       earlier_by (ltb (chance_time times own + delay) end) end own number sent_at marked later refl none
 
-  pub next_before_of : (end from : ℕ) (flight : List Numbered) → ArriveFrom times delay from (packets_of flight) → next_before times delay end flight ≡ earlier times delay end (next_of flight)
+  pub next_before_of : (end from : ℕ) (flight : List Numbered) → ArriveFrom times delay from (packets_of flight) → next_before times delay end flight ≡ earlier times delay end (next_arrival flight)
   next_before_of end from [] before = refl
   next_before_of end from (sent ∷ rest) before =
-      next_where_of end from sent.number sent.packet.sent_at sent.packet.fate (next_before times delay end rest) (next_of rest)
+      next_where_of end from sent.number sent.packet.sent_at sent.packet.fate (next_before times delay end rest) (next_arrival rest)
       (next_before_of end (after_arrival times delay from sent.packet.fate) rest before.1)
       (λ order. none_before end (after_arrival times delay from sent.packet.fate) rest order before.1)
 
@@ -174,7 +174,7 @@ module _ (times : List ℕ) (trace : IsTrace times) (link : FlowLink) (past : �
   flight_now : List Numbered
   flight_now = in_flight packets givens
 
-  pub matches : MatchNext (in_flight packets givens) 0 0 (next_of (in_flight packets givens))
+  pub matches : MatchNext (in_flight packets givens) 0 0 (next_arrival (in_flight packets givens))
   matches = match_next (in_flight packets givens) 0 0 settled.rises
 
   pub flow_settled-arrived : (number sent_at chance : ℕ) (marked : Bool) → MatchNext (in_flight packets givens) 0 0 (arrives number sent_at chance marked) → number < length packets

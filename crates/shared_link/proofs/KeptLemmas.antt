@@ -5,7 +5,7 @@ use Rattle.ccp_base.specs.declared.ack.Ack.{Ack}
 use Rattle.link_model.specs.declared.arrival.Arrival.{Arrival}
 use Rattle.link_model.specs.Traces.{IsTrace}
 use Rattle.link_model.specs.Chances.{chance_time}
-use Rattle.link_model.specs.Link.{Packet, Fate, Lost, Served, GivenAck, Numbered, packet_and_lost_below, all_below, is_lost, left_by, lost_by, in_flight, time_of, past_in, past_of, acked_of, arrival_ack_of, timeout_ack_of, Next, arrives, all_lost, next_of}
+use Rattle.link_model.specs.Link.{Packet, Fate, Lost, Served, GivenAck, Numbered, packet_and_lost_below, all_below, is_lost, left_by, lost_by, in_flight, time_of, past_in, past_of, acked_of, arrival_ack_of, timeout_ack_of, Next, arrives, all_lost, next_arrival}
 use Rattle.link_model.specs.Link as model
 use Rattle.link_model.specs.Counts.{lost_of}
 use Rattle.link_model.specs.Standing.{packets_of}
@@ -14,10 +14,10 @@ use Rattle.link_model.proofs.Whole.{Landing, Arrived, AllLost, landing, landing_
 use Rattle.link_model.proofs.HorizonLemmas.{count-lost, count-push}
 use Rattle.link_model.proofs.FlightLemmas.{MatchNext, IsNextBelow, next_below, left_by-all_below, length-packets_of}
 use Rattle.shared_link.specs.declared.shared_case.FlowLink.{FlowLink}
-use Rattle.shared_link.specs.SharedRounds.{arrival_given, are_lost, timeout_at, timeout_given, timeouts, answers, answers_after, with_givens, acks_in}
+use Rattle.shared_link.specs.SharedRounds.{arrival_given, are_lost, timeout_at, timeout_given, timeouts, answers, answers_after, with_givens, acks_of_givens}
 use Rattle.shared_link.specs.SharedStanding.{Flight, FlowStanding, no_flight, with_fate, with_packets, flow_standing}
 use Rattle.shared_link.specs.Reached.{FlowSettled}
-use Rattle.shared_link.specs.Kept.{Answered, with_one, with_arrival, with_timeout, timeout_now, timed_out, answered_by, answered_all}
+use Rattle.shared_link.specs.Kept.{AnsweredFlow, with_one, with_arrival, with_timeout, timeout_now, timed_out, answered_by, answered_all}
 use Rattle.shared_link.proofs.FlowLemmas.{earlier, next_before_of, flight_sent, matches, flow_settled-arrived}
 
 -- ---- a flight
@@ -139,9 +139,9 @@ are_lost_by : (number sent_at : ℕ) (fate : Fate) (b : Bool) (next : Next) → 
 are_lost_by number sent_at Lost b next same = same
 are_lost_by number sent_at (Served chance marked) b next same = refl
 
-are_lost_as : (flight : List Numbered) → are_lost flight ≡ is_none (next_of flight)
+are_lost_as : (flight : List Numbered) → are_lost flight ≡ is_none (next_arrival flight)
 are_lost_as [] = refl
-are_lost_as (sent ∷ rest) = are_lost_by sent.number sent.packet.sent_at sent.packet.fate (are_lost rest) (next_of rest) (are_lost_as rest)
+are_lost_as (sent ∷ rest) = are_lost_by sent.number sent.packet.sent_at sent.packet.fate (are_lost rest) (next_arrival rest) (are_lost_as rest)
 
 -- ---- acknowledgements
 
@@ -150,15 +150,15 @@ append_none [] = refl
 append_none (ack ∷ rest) = ap (λ xs. ack ∷ xs) (append_none rest)
 
 module _ (times : List ℕ) (trace : IsTrace times) (link : FlowLink) (end past : ℕ) (packets : List Packet) where
-  abbrev pub state : List Ack → List GivenAck → Answered
+  abbrev pub state : List Ack → List GivenAck → AnsweredFlow
   state acks givens = record { acks = acks; standing = flow_standing times link packets givens }
 
   -- the acknowledgements that these givens add
-  abbrev Adds : List Ack → List GivenAck → Answered → List GivenAck → Type 0
-  Adds acks givens after more = after ≡ record { acks = acks ++ acks_in more; standing = flow_standing times link packets (with_givens more givens) }
+  abbrev Adds : List Ack → List GivenAck → AnsweredFlow → List GivenAck → Type 0
+  Adds acks givens after more = after ≡ record { acks = acks ++ acks_of_givens more; standing = flow_standing times link packets (with_givens more givens) }
 
   -- a flow right after this acknowledgement
-  abbrev parts : List Ack → ℕ → Ack → Flight → ℕ → ℕ → Answered
+  abbrev parts : List Ack → ℕ → Ack → Flight → ℕ → ℕ → AnsweredFlow
   parts acks time ack flight acked gone = record {
     acks = acks ++ ack ∷ [];
     standing = record { time = time; past = past_in ack; flight = flight; sent = length packets; acked = acked; gone = gone };
@@ -180,7 +180,7 @@ module _ (times : List ℕ) (trace : IsTrace times) (link : FlowLink) (end past 
         let stays = packets_of (left_by (packet_and_lost_below number) flight) in
         let rest = with_packets times link.delay_us (staying (packets_of flight)) no_flight in
         let ack : ℕ → ℕ → Ack = λ lost stay. arrival_ack_of link.mss sent_at at marked (past_of givens) lost stay (acked_of givens + 1) (length packets) in
-        let with_stay : ℕ → Flight → ℕ → ℕ → Answered = λ stay left acked gone. parts acks at (ack n stay) left acked gone in
+        let with_stay : ℕ → Flight → ℕ → ℕ → AnsweredFlow = λ stay left acked gone. parts acks at (ack n stay) left acked gone in
         let count : count_of rest.arrivals rest.lost ≡ length (left_by (packet_and_lost_below number) flight) =
         ap (λ ps. count_of (with_packets times link.delay_us ps no_flight).arrivals (with_packets times link.delay_us ps no_flight).lost) (sym same.1)
         ∙ (let c : count_of (with_packets times link.delay_us stays no_flight).arrivals (with_packets times link.delay_us stays no_flight).lost ≡ 0 + length stays = count-packets times link.delay_us stays no_flight in
@@ -206,8 +206,8 @@ module _ (times : List ℕ) (trace : IsTrace times) (link : FlowLink) (end past 
         ∙ ap (λ acked. parts acks now (ack (length flight) (length (left_by (all_below (length packets)) flight))) (with_packets times link.delay_us (packets_of (left_by (all_below (length packets)) flight)) no_flight) acked (length flight + lost_of givens)) (let e : acked_of givens ≡ 0 + acked_of givens = omega arith in e)
 
     -- what these givens come to
-    abbrev come_to : List GivenAck → Answered
-    come_to more = record { acks = acks ++ acks_in more; standing = flow_standing times link packets (with_givens more givens) }
+    abbrev come_to : List GivenAck → AnsweredFlow
+    come_to more = record { acks = acks ++ acks_of_givens more; standing = flow_standing times link packets (with_givens more givens) }
 
     nothing_more : state acks givens ≡ come_to []
     nothing_more = ap (λ xs. record { acks = xs; standing = flow_standing times link packets givens }) (sym (append_none acks))
@@ -258,11 +258,11 @@ module _ (times : List ℕ) (trace : IsTrace times) (link : FlowLink) (end past 
       → Adds acks (given ∷ givens) (answered_all link end left (state acks (given ∷ givens))) (answers times link end packets left (given ∷ givens))
 
   kept-arrives : (b : Bool) (left : ℕ) (acks : List Ack) (givens : List GivenAck) (settled : FlowSettled times link.delay_us past packets givens) → GoesOn left givens
-      → (number sent_at chance : ℕ) (marked : Bool) → next_of (in_flight packets givens) ≡ arrives number sent_at chance marked
+      → (number sent_at chance : ℕ) (marked : Bool) → next_arrival (in_flight packets givens) ≡ arrives number sent_at chance marked
       → MatchNext (in_flight packets givens) 0 0 (arrives number sent_at chance marked) → number < length packets
       → cond b (answered_all link end left (with_arrival link (record { lost = 0 + lost_by (packet_and_lost_below number) (in_flight packets givens); sent_at = sent_at; at = chance_time times chance + link.delay_us; marked = marked }) (state acks givens))) (state acks givens)
       ≡ record {
-        acks = acks ++ acks_in (answers_after times link end packets givens (in_flight packets givens) (cond b (arrives number sent_at chance marked) all_lost) (λ given. given ∷ answers times link end packets left (given ∷ givens)));
+        acks = acks ++ acks_of_givens (answers_after times link end packets givens (in_flight packets givens) (cond b (arrives number sent_at chance marked) all_lost) (λ given. given ∷ answers times link end packets left (given ∷ givens)));
         standing = flow_standing times link packets (with_givens (answers_after times link end packets givens (in_flight packets givens) (cond b (arrives number sent_at chance marked) all_lost) (λ given. given ∷ answers times link end packets left (given ∷ givens))) givens);
       }
   kept-arrives true left acks givens settled go_on number sent_at chance marked is same below =
@@ -273,14 +273,14 @@ module _ (times : List ℕ) (trace : IsTrace times) (link : FlowLink) (end past 
       (arrived acks givens settled number sent_at chance marked same (0 + lost_by (packet_and_lost_below number) flight) (let e : 0 + lost_by (packet_and_lost_below number) flight ≡ lost_by (packet_and_lost_below number) flight = omega arith in e)
       (lands times link.delay_us (packets_of flight) (Arrived sent_at chance marked (0 + lost_by (packet_and_lost_below number) flight)) same.0))
       ∙ go_on (acks ++ given.ack ∷ []) given (flow_settled-arrived times trace link past packets givens settled number sent_at chance marked same below)
-      ∙ ap (λ xs. record { acks = xs; standing = flow_standing times link packets (with_givens more (given ∷ givens)) }) (append_assoc acks (given.ack ∷ []) (acks_in more))
+      ∙ ap (λ xs. record { acks = xs; standing = flow_standing times link packets (with_givens more (given ∷ givens)) }) (append_assoc acks (given.ack ∷ []) (acks_of_givens more))
   kept-arrives false left acks givens settled go_on number sent_at chance marked is same below =
       let flight = in_flight packets givens in
       nothing_more acks givens settled
       ∙ ap (come_to acks givens settled) (sym (no_timeout acks givens settled flight (are_lost_as flight ∙ ap is_none is)))
 
   kept-next : (left : ℕ) (acks : List Ack) (givens : List GivenAck) (settled : FlowSettled times link.delay_us past packets givens) → GoesOn left givens
-      → (next : Next) → next_of (in_flight packets givens) ≡ next → MatchNext (in_flight packets givens) 0 0 next → IsNextBelow (length packets) next
+      → (next : Next) → next_arrival (in_flight packets givens) ≡ next → MatchNext (in_flight packets givens) 0 0 next → IsNextBelow (length packets) next
       → answered_by link end (state acks givens) (slice_get (flight_kept acks givens settled).arrivals 0) (answered_all link end left)
       ≡ come_to acks givens settled (answers_after times link end packets givens (in_flight packets givens) (earlier times link.delay_us end next) (λ given. given ∷ answers times link end packets left (given ∷ givens)))
   kept-next left acks givens settled go_on (arrives number sent_at chance marked) is same below =
@@ -297,11 +297,11 @@ module _ (times : List ℕ) (trace : IsTrace times) (link : FlowLink) (end past 
   -- what is kept of the flow answers as the definition does
   pub kept-answers : (left : ℕ) (acks : List Ack) (givens : List GivenAck) → FlowSettled times link.delay_us past packets givens
       → answered_all link end left (state acks givens)
-      ≡ record { acks = acks ++ acks_in (answers times link end packets left givens); standing = flow_standing times link packets (with_givens (answers times link end packets left givens) givens) }
+      ≡ record { acks = acks ++ acks_of_givens (answers times link end packets left givens); standing = flow_standing times link packets (with_givens (answers times link end packets left givens) givens) }
   kept-answers zero acks givens settled = nothing_more acks givens settled
   kept-answers (suc left) acks givens settled =
       let flight = in_flight packets givens in
       let go : GivenAck → List GivenAck = λ given. given ∷ answers times link end packets left (given ∷ givens) in
-      kept-next left acks givens settled (λ more given after. kept-answers left more (given ∷ givens) after) (next_of flight) refl
+      kept-next left acks givens settled (λ more given after. kept-answers left more (given ∷ givens) after) (next_arrival flight) refl
       (matches times trace link past packets givens settled) (next_below (length packets) flight settled.below)
       ∙ ap (λ n. come_to acks givens settled (answers_after times link end packets givens flight n go)) (sym (next_before_of times trace link.delay_us end 0 flight settled.arriving))

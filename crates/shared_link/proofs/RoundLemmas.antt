@@ -4,7 +4,7 @@ use Rattle.std.proofs.lemmas.Bool.Decides.{nat_tests}
 use Rattle.ccp_base.specs.Limits.{most_flight}
 use Rattle.link_model.specs.Traces.{IsTrace}
 use Rattle.link_model.specs.Chances.{chance_time, first_chance}
-use Rattle.link_model.specs.Link.{Packet, Lost, Served, GivenAck, Numbered, chance_past, chances_past, waiting, is_listed, is_marked, in_flight, Next, arrives, all_lost, next_of}
+use Rattle.link_model.specs.Link.{Packet, Lost, Served, GivenAck, Numbered, chance_past, chances_past, waiting, is_listed, is_marked, in_flight, Next, arrives, all_lost, next_arrival}
 use Rattle.link_model.proofs.ChanceLemmas.{first_chance_from, first_chance_at, first_chance_max}
 use Rattle.link_model.proofs.FlightLemmas.{MatchNext, IsNextBelow, next_below}
 use Rattle.link_model.proofs.CountLemmas.{rise_below-none, rise_below-sent}
@@ -13,7 +13,7 @@ use Rattle.shared_link.specs.declared.shared_case.FlowLink.{FlowLink}
 use Rattle.shared_link.specs.declared.shared_case.SharedCase.{SharedCase}
 use Rattle.shared_link.specs.declared.round.Ask.{Ask}
 use Rattle.shared_link.specs.Reached.{FlowSettled, Settled}
-use Rattle.shared_link.specs.SharedRounds.{Sent, SharedRun, flow_at, ask_at, every_packet, own_packets, allowed, with_packet, lacks, some_lacks, turn_of, turns_of, round_time, sent_by, arrival_given, are_lost, timeout_at, timeout_given, timeouts, answers, answers_after, with_givens, with_round, shared_run_from, shared_run_of, first_run}
+use Rattle.shared_link.specs.SharedRounds.{Sent, SharedLinkRun, flow_link_at, ask_at, every_packet, own_packets, allowed, with_packet, lacks, some_lacks, sending_turn, turns_of, round_time, sent_by, arrival_given, are_lost, timeout_at, timeout_given, timeouts, answers, answers_after, with_givens, with_round, shared_run_from, shared_run_of, first_run}
 use Rattle.shared_link.proofs.FlowLemmas.{earlier, next_before_of, flow_settled-first, flow_settled-more, flow_settled-sent, flow_settled-arrived, flow_settled-timed_out, matches}
 
 -- ---- a flow's acknowledgements in a round
@@ -56,7 +56,7 @@ module _ (times : List ℕ) (trace : IsTrace times) (link : FlowLink) (end past 
       let flight = in_flight packets givens in
       subst (λ (n : Next). Holds (with_givens (answers_after times link end packets givens flight n (λ given. given ∷ answers times link end packets left (given ∷ givens))) givens))
       (sym (next_before_of times trace link.delay_us end 0 flight holds.arriving))
-      (settled-after givens (next_of flight) (λ given. given ∷ answers times link end packets left (given ∷ givens)) holds
+      (settled-after givens (next_arrival flight) (λ given. given ∷ answers times link end packets left (given ∷ givens)) holds
       (matches times trace link past packets givens holds) (next_below (length packets) flight holds.below)
       (λ given after. settled-answers left (given ∷ givens) after))
 
@@ -72,13 +72,13 @@ past_grows false marked own past = omega arith
 module _ (case : SharedCase) (trace : IsTrace case.trace) (now : ℕ) (givens : ℕ → List GivenAck) where
   -- one more packet, as each flow sees it
   flow_sees : (e b marked : Bool) (own flow sender : ℕ) (sent : List Sent) → eqb sender flow ≡ e → chances_past (every_packet sent) ≤ own → now ≤ chance_time case.trace own
-      → FlowSettled case.trace (flow_at case flow).delay_us (chances_past (every_packet sent)) (own_packets flow sent) (givens flow)
-      → FlowSettled case.trace (flow_at case flow).delay_us (chance_past (cond b Lost (Served own marked)) (chances_past (every_packet sent)))
+      → FlowSettled case.trace (flow_link_at case flow).delay_us (chances_past (every_packet sent)) (own_packets flow sent) (givens flow)
+      → FlowSettled case.trace (flow_link_at case flow).delay_us (chance_past (cond b Lost (Served own marked)) (chances_past (every_packet sent)))
       (cond e (record { sent_at = now; fate = cond b Lost (Served own marked) } ∷ own_packets flow sent) (own_packets flow sent)) (givens flow)
   flow_sees true b marked own flow sender sent same order late settled =
-      flow_settled-sent case.trace trace (flow_at case flow).delay_us (chances_past (every_packet sent)) (own_packets flow sent) (givens flow) settled b marked now own order late
+      flow_settled-sent case.trace trace (flow_link_at case flow).delay_us (chances_past (every_packet sent)) (own_packets flow sent) (givens flow) settled b marked now own order late
   flow_sees false b marked own flow sender sent same order late settled =
-      flow_settled-more case.trace (flow_at case flow).delay_us (chances_past (every_packet sent)) (chance_past (cond b Lost (Served own marked)) (chances_past (every_packet sent))) (own_packets flow sent) (givens flow)
+      flow_settled-more case.trace (flow_link_at case flow).delay_us (chances_past (every_packet sent)) (chance_past (cond b Lost (Served own marked)) (chances_past (every_packet sent))) (own_packets flow sent) (givens flow)
       (past_grows b marked own (chances_past (every_packet sent))) settled
 
   pub settled-packet : (flow : ℕ) (sent : List Sent) → Settled case now sent givens → Settled case now (with_packet case now flow sent) givens
@@ -86,7 +86,7 @@ module _ (case : SharedCase) (trace : IsTrace case.trace) (now : ℕ) (givens : 
       let packets = every_packet sent in
       let past = chances_past packets in
       let queue = waiting case.trace now packets in
-      let link = flow_at case sender in
+      let link = flow_link_at case sender in
       let b = is_listed (length (own_packets sender sent)) link.losses || leb case.queue queue in
       let marked = is_marked link.mark queue in
       let own = first_chance case.trace now past in
@@ -102,10 +102,10 @@ module _ (case : SharedCase) (trace : IsTrace case.trace) (now : ℕ) (givens : 
   settled-turn_if true flow sent settled = settled-packet flow sent settled
   settled-turn_if false flow sent settled = settled
 
-  pub settled-turn : (may : ℕ → ℕ) (flows : ℕ) (sent : List Sent) → Settled case now sent givens → Settled case now (turn_of case now may givens flows sent) givens
+  pub settled-turn : (may : ℕ → ℕ) (flows : ℕ) (sent : List Sent) → Settled case now sent givens → Settled case now (sending_turn case now may givens flows sent) givens
   settled-turn may zero sent settled = settled
   settled-turn may (suc flow) sent settled =
-      settled-turn_if (lacks may givens flow (turn_of case now may givens flow sent)) flow (turn_of case now may givens flow sent) (settled-turn may flow sent settled)
+      settled-turn_if (lacks may givens flow (sending_turn case now may givens flow sent)) flow (sending_turn case now may givens flow sent) (settled-turn may flow sent settled)
 
   settled-turns_if : (b : Bool) (more sent : List Sent) → Settled case now more givens → Settled case now sent givens → Settled case now (cond b more sent) givens
   settled-turns_if true more sent after before = after
@@ -114,8 +114,8 @@ module _ (case : SharedCase) (trace : IsTrace case.trace) (now : ℕ) (givens : 
   pub settled-turns : (may : ℕ → ℕ) (turns : ℕ) (sent : List Sent) → Settled case now sent givens → Settled case now (turns_of case now may givens turns sent) givens
   settled-turns may zero sent settled = settled
   settled-turns may (suc turns) sent settled =
-      settled-turns_if (some_lacks may givens (length case.flows) sent) (turns_of case now may givens turns (turn_of case now may givens (length case.flows) sent)) sent
-      (settled-turns may turns (turn_of case now may givens (length case.flows) sent) (settled-turn may (length case.flows) sent settled)) settled
+      settled-turns_if (some_lacks may givens (length case.flows) sent) (turns_of case now may givens turns (sending_turn case now may givens (length case.flows) sent)) sent
+      (settled-turns may turns (sending_turn case now may givens (length case.flows) sent) (settled-turn may (length case.flows) sent settled)) settled
 
 pub settled-later : (case : SharedCase) (now then_ : ℕ) (sent : List Sent) (givens : ℕ → List GivenAck) → now ≤ then_ → Settled case now sent givens → Settled case then_ sent givens
 settled-later case now then_ sent givens order settled = record {
@@ -125,16 +125,16 @@ settled-later case now then_ sent givens order settled = record {
 }
 
 module _ (case : SharedCase) (trace : IsTrace case.trace) where
-  abbrev pub IsSettled : SharedRun → Type 0
+  abbrev pub IsSettled : SharedLinkRun → Type 0
   IsSettled run = Settled case (round_time case run.rounds) run.sent run.givens
 
-  pub settled-sent : (asks : List Ask) (run : SharedRun) → IsSettled run → Settled case (round_time case run.rounds) (sent_by case asks run) run.givens
+  pub settled-sent : (asks : List Ask) (run : SharedLinkRun) → IsSettled run → Settled case (round_time case run.rounds) (sent_by case asks run) run.givens
   settled-sent asks run settled = settled-turns case trace (round_time case run.rounds) run.givens (allowed case asks) most_flight run.sent settled
 
   next_round : (rounds : ℕ) → round_time case rounds ≤ round_time case (rounds + 1)
   next_round rounds = omega arith
 
-  pub settled-round : (asks : List Ask) (run : SharedRun) → IsSettled run → IsSettled (with_round case asks run)
+  pub settled-round : (asks : List Ask) (run : SharedLinkRun) → IsSettled run → IsSettled (with_round case asks run)
   settled-round asks run settled =
       let sent = sent_by case asks run in
       let after = settled-sent asks run settled in
@@ -142,7 +142,7 @@ module _ (case : SharedCase) (trace : IsTrace case.trace) where
       (record {
         queued = after.queued;
         once = after.once;
-        flows = λ flow. settled-answers case.trace trace (flow_at case flow) (round_time case (run.rounds + 1)) (chances_past (every_packet sent)) (own_packets flow sent)
+        flows = λ flow. settled-answers case.trace trace (flow_link_at case flow) (round_time case (run.rounds + 1)) (chances_past (every_packet sent)) (own_packets flow sent)
             (ask_at asks flow).left (run.givens flow) (after.flows flow);
       })
 
@@ -150,10 +150,10 @@ module _ (case : SharedCase) (trace : IsTrace case.trace) where
   settled-first = record {
     queued = λ at after. omega arith;
     once = rise_below-none 0;
-    flows = λ flow. flow_settled-first case.trace (flow_at case flow).delay_us 0;
+    flows = λ flow. flow_settled-first case.trace (flow_link_at case flow).delay_us 0;
   }
 
-  settled-from : (rounds : List (List Ask)) (run : SharedRun) → IsSettled run → IsSettled (shared_run_from case run rounds)
+  settled-from : (rounds : List (List Ask)) (run : SharedLinkRun) → IsSettled run → IsSettled (shared_run_from case run rounds)
   settled-from [] run settled = settled
   settled-from (asks ∷ later) run settled = settled-from later (with_round case asks run) (settled-round asks run settled)
 

@@ -10,7 +10,7 @@ use Rattle.shared_link.specs.declared.shared_case.SharedCase.{SharedCase}
 use Rattle.shared_link.specs.declared.round.Ask.{Ask}
 use Rattle.shared_link.specs.Reached.{Settled}
 use Rattle.shared_link.specs.SharedLaws.{NoneLacks}
-use Rattle.shared_link.specs.SharedRounds.{Sent, flow_at, ask_at, own_packets, own_flight, packet_after, with_packet, allowed, lacks, some_lacks, turn_of, turns_of, round_time, shared_run_of}
+use Rattle.shared_link.specs.SharedRounds.{Sent, flow_link_at, ask_at, own_packets, own_flight, packet_after, with_packet, allowed, lacks, some_lacks, sending_turn, turns_of, round_time, shared_run_of}
 use Rattle.shared_link.proofs.RoundLemmas.{settled-turn, settled-run}
 
 -- ---- how many packets a flow may have
@@ -24,8 +24,8 @@ allowance_within mss window = omega arith
 
 pub allowed_within : (case : SharedCase) (asks : List Ask) (flow : ℕ) → allowed case asks flow ≤ most_flight
 allowed_within case asks flow =
-    let allowance = allowance_of (flow_at case flow).mss (ask_at asks flow).window in
-    allowed_if (eqb (ask_at asks flow).left 0) allowance (allowance_within (flow_at case flow).mss (ask_at asks flow).window)
+    let allowance = allowance_of (flow_link_at case flow).mss (ask_at asks flow).window in
+    allowed_if (eqb (ask_at asks flow).left 0) allowance (allowance_within (flow_link_at case flow).mss (ask_at asks flow).window)
 
 -- ---- one packet, a turn, and all turns
 
@@ -74,10 +74,10 @@ module _ (case : SharedCase) (trace : IsTrace case.trace) (now : ℕ) (givens : 
   grows_if true sender flow sent settled = count_grows sender flow sent settled
   grows_if false sender flow sent settled = omega arith
 
-  turn_grows : (flows flow : ℕ) (sent : List Sent) → Settled case now sent givens → count flow sent ≤ count flow (turn_of case now may givens flows sent)
+  turn_grows : (flows flow : ℕ) (sent : List Sent) → Settled case now sent givens → count flow sent ≤ count flow (sending_turn case now may givens flows sent)
   turn_grows zero flow sent settled = omega arith
   turn_grows (suc sender) flow sent settled =
-      let so_far = turn_of case now may givens sender sent in
+      let so_far = sending_turn case now may givens sender sent in
       let before = turn_grows sender flow sent settled in
       let after = grows_if (lacks may givens sender so_far) sender flow so_far (settled-turn case trace now givens may sender sent settled) in
       omega (arith, before, after)
@@ -89,13 +89,13 @@ module _ (case : SharedCase) (trace : IsTrace case.trace) (now : ℕ) (givens : 
 
   -- a turn leaves each flow that has fewer packets than it may have one nearer
   turn_nearer : (flows flow left : ℕ) (sent : List Sent) → Settled case now sent givens → flow < flows → may flow ≤ count flow sent + suc left
-      → may flow ≤ count flow (turn_of case now may givens flows sent) + left
+      → may flow ≤ count flow (sending_turn case now may givens flows sent) + left
   turn_nearer zero flow left sent settled within near = absurd (omega (arith, within))
   turn_nearer (suc sender) flow left sent settled within near =
-      let so_far = turn_of case now may givens sender sent in
+      let so_far = sending_turn case now may givens sender sent in
       let settled_so_far = settled-turn case trace now givens may sender sent settled in
       let grown = turn_grows sender flow sent settled in
-      elim (cases_lt flow sender) as (λ _. may flow ≤ count flow (turn_of case now may givens (suc sender) sent) + left) [
+      elim (cases_lt flow sender) as (λ _. may flow ≤ count flow (sending_turn case now may givens (suc sender) sent) + left) [
         | inl before ↦
             (let nearer = turn_nearer sender flow left sent settled before near in
             let after = grows_if (lacks may givens sender so_far) sender flow so_far settled_so_far in
@@ -103,7 +103,7 @@ module _ (case : SharedCase) (trace : IsTrace case.trace) (now : ℕ) (givens : 
         | inr not_before ↦
             (let same : flow ≡ sender = omega (arith, within) in
             let near_now : may flow ≤ count flow so_far + suc left = omega (arith, near, grown) in
-            subst (λ (f : ℕ). may f ≤ count f (turn_of case now may givens (suc sender) sent) + left) (sym same)
+            subst (λ (f : ℕ). may f ≤ count f (sending_turn case now may givens (suc sender) sent) + left) (sym same)
             (one_nearer (lacks may givens sender so_far) sender left so_far settled_so_far refl
             (subst (λ (f : ℕ). may f ≤ count f so_far + suc left) same near_now)))
       ]
@@ -123,7 +123,7 @@ module _ (case : SharedCase) (trace : IsTrace case.trace) (now : ℕ) (givens : 
       → some_lacks may givens (length case.flows) (turns_of case now may givens turns sent) ≡ false
   none_lacks-turns zero sent settled near = none_lacks (length case.flows) sent (λ flow within. omega (arith, near flow within))
   none_lacks-turns (suc turns) sent settled near =
-      let after = turn_of case now may givens (length case.flows) sent in
+      let after = sending_turn case now may givens (length case.flows) sent in
       none_lacks_if (some_lacks may givens (length case.flows) sent) (length case.flows) (turns_of case now may givens turns after) sent refl
       (none_lacks-turns turns after (settled-turn case trace now givens may (length case.flows) sent settled)
       (λ flow within. turn_nearer (length case.flows) flow turns sent settled within (near flow within)))

@@ -5,7 +5,7 @@ use Rattle.ccp_base.specs.Limits.{most_queue}
 use Rattle.link_model.specs.declared.arrival.Arrival.{Arrival}
 use Rattle.link_model.specs.declared.chance.Chance.{Chance}
 use Rattle.link_model.specs.Traces.{longest_period, period, IsTrace}
-use Rattle.link_model.specs.Chances.{number_of, chance_time, first_chance}
+use Rattle.link_model.specs.Chances.{chance_number, chance_time, first_chance}
 use Rattle.link_model.specs.LinkMoves.{count_of}
 use Rattle.link_model.proofs.ChanceLemmas.{chance_time_rises, chance_time-suc, first_chance_soon, le_first_chance, turn_below}
 use Rattle.link_model.proofs.SendingLemmas.{one_more, no_more}
@@ -30,10 +30,10 @@ module _ (times : List ℕ) (trace : IsTrace times) where
 
   module _ (sending : Sending) (is : IsSending times sending) (waits : sending.queue.waiting < most_queue) where
     -- the chance that is given next
-    pub own_soon : chance_time times (number_of times sending.queue.next) ≤ sending.now + most_queue * longest_period + 1
+    pub own_soon : chance_time times (chance_number times sending.queue.next) ≤ sending.now + most_queue * longest_period + 1
     own_soon =
-        let next = number_of times sending.next in
-        let own = number_of times sending.queue.next in
+        let next = chance_number times sending.next in
+        let own = chance_number times sending.queue.next in
         let due = first_chance times sending.now 0 in
         let later = first_chance times (sending.now + 1) 0 in
         elim (cases_lt next due) as (λ _. chance_time times own ≤ sending.now + most_queue * longest_period + 1) [
@@ -47,12 +47,12 @@ module _ (times : List ℕ) (trace : IsTrace times) where
               omega (arith, rises, chance_time-more (most_queue - 1) later, due_soon (sending.now + 1)))
         ]
 
-    pub own_not_before : sending.now ≤ chance_time times (number_of times sending.queue.next)
-    own_not_before = le_first_chance times trace sending.now (number_of times sending.queue.next) (omega (arith, is.next))
+    pub own_not_before : sending.now ≤ chance_time times (chance_number times sending.queue.next)
+    own_not_before = le_first_chance times trace sending.now (chance_number times sending.queue.next) (omega (arith, is.next))
 
-    pub next_late : (k : ℕ) → k ≡ number_of times sending.queue.next + 1 → chance_time times k ≤ sending.now + span
+    pub next_late : (k : ℕ) → k ≡ chance_number times sending.queue.next + 1 → chance_time times k ≤ sending.now + span
     next_late k same =
-        let own = number_of times sending.queue.next in
+        let own = chance_number times sending.queue.next in
         let again : chance_time times k ≡ chance_time times (own + 1) = ap (chance_time times) same in
         omega (arith, again, own_soon, chance_time-suc times trace own, hour)
 
@@ -62,20 +62,20 @@ module _ (times : List ℕ) (trace : IsTrace times) where
         omega (arith, turn_below times trace next.turn next.place is.place, own_soon, is.now)
 
     -- after the chance is given
-    pub after_next : (next : Chance) → number_of times next ≡ number_of times sending.queue.next + 1 → number_of times next ≡ max (number_of times next) (first_chance times sending.now 0)
+    pub after_next : (next : Chance) → chance_number times next ≡ chance_number times sending.queue.next + 1 → chance_number times next ≡ max (chance_number times next) (first_chance times sending.now 0)
     after_next next same = omega (arith, same, is.next)
 
-    pub one_waits : (next : Chance) → number_of times next ≡ number_of times sending.queue.next + 1 → sending.now < chance_time times (number_of times sending.queue.next)
-        → sending.queue.waiting + 1 ≡ number_of times next - first_chance times (sending.now + 1) 0
+    pub one_waits : (next : Chance) → chance_number times next ≡ chance_number times sending.queue.next + 1 → sending.now < chance_time times (chance_number times sending.queue.next)
+        → sending.queue.waiting + 1 ≡ chance_number times next - first_chance times (sending.now + 1) 0
     one_waits next same late =
-        let past = number_of times sending.next in
+        let past = chance_number times sending.next in
         let late_now = subst (λ k. sending.now < chance_time times k) is.next late in
         omega (arith, one_more times trace sending.now past late_now, is.waiting, is.next, same)
 
-    pub none_waits : (next : Chance) → number_of times next ≡ number_of times sending.queue.next + 1 → chance_time times (number_of times sending.queue.next) ≤ sending.now
-        → sending.queue.waiting ≡ number_of times next - first_chance times (sending.now + 1) 0
+    pub none_waits : (next : Chance) → chance_number times next ≡ chance_number times sending.queue.next + 1 → chance_time times (chance_number times sending.queue.next) ≤ sending.now
+        → sending.queue.waiting ≡ chance_number times next - first_chance times (sending.now + 1) 0
     none_waits next same early =
-        let past = number_of times sending.next in
+        let past = chance_number times sending.next in
         let early_now = subst (λ k. chance_time times k ≤ sending.now) is.next early in
         omega (arith, no_more times trace sending.now past early_now, is.waiting, is.next, same)
 

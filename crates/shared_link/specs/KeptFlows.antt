@@ -9,9 +9,9 @@ use Rattle.shared_link.specs.declared.round.Counts.{Counts}
 use Rattle.shared_link.specs.declared.flow_traffic.FlowTraffic.{FlowTraffic}
 use Rattle.shared_link.specs.declared.flows.Flows.{Flows}
 use Rattle.shared_link.specs.declared.sending.Sending.{Sending}
-use Rattle.shared_link.specs.SharedRounds.{Sent, flow_at, ask_at, allowed, lacks, some_lacks, with_packet, turn_of, turns_of, counts_in}
+use Rattle.shared_link.specs.SharedRounds.{Sent, flow_link_at, ask_at, allowed, lacks, some_lacks, with_packet, sending_turn, turns_of, counts_in}
 use Rattle.shared_link.specs.Reached.{Settled}
-use Rattle.shared_link.specs.Kept.{flow_in, answered_all, IsFlowReady, most_answers, AnsweredTo, FlowsFollow, Follows}
+use Rattle.shared_link.specs.Kept.{flow_under_way, answered_all, IsFlowReady, most_answers, AnsweredTo, FlowsFollow, Follows}
 
 -- ---- who sends next
 
@@ -51,7 +51,7 @@ SendsOne case asks flow old from new to =
 -- all flows take a turn
 abbrev pub SendsTurn : SharedCase → List Ask → Flows → Sending → Flows → Sending → Type 0
 SendsTurn case asks old from new to =
-    SendsOn case old from new to (λ givens sent. turn_of case from.now (allowed case asks) givens (length case.flows) sent)
+    SendsOn case old from new to (λ givens sent. sending_turn case from.now (allowed case asks) givens (length case.flows) sent)
 
 -- all flows take all turns of a round
 abbrev pub SendsAll : SharedCase → List Ask → Flows → Sending → Flows → Sending → Type 0
@@ -63,7 +63,7 @@ SendsAll case asks old from new to =
 -- the flow's traffic is ready after `rounds` rounds
 abbrev pub IsReadyAt : SharedCase → ℕ → Flows → ℕ → Type 0
 IsReadyAt case rounds flows flow =
-    (other : FlowTraffic) → IsFlowReady (flow_at case flow) rounds (get_or flows.traffic.items flow other)
+    (other : FlowTraffic) → IsFlowReady (flow_link_at case flow) rounds (get_or flows.traffic.items flow other)
 
 -- there is room for the flow's acknowledgements of a round
 abbrev pub HasRoomAt : SharedCase → List Ask → Flows → ℕ → Type 0
@@ -79,9 +79,9 @@ AreOthersKept flow old new =
 -- these are the flow's acknowledgements before a time
 abbrev pub AnswersAt : SharedCase → List Ask → ℕ → ℕ → Flows → Flows → List Ack → Type 0
 AnswersAt case asks end flow old new acks =
-    (other : FlowTraffic) → record { acks = acks; standing = flow_in (get_or new.traffic.items flow other) }
-    ≡ answered_all (flow_at case flow) end (ask_at asks flow).left
-    (record { acks = []; standing = flow_in (get_or old.traffic.items flow other) })
+    (other : FlowTraffic) → record { acks = acks; standing = flow_under_way (get_or new.traffic.items flow other) }
+    ≡ answered_all (flow_link_at case flow) end (ask_at asks flow).left
+    (record { acks = []; standing = flow_under_way (get_or old.traffic.items flow other) })
 
 -- these are all flows' acknowledgements before a time, whatever was sent and acknowledged before
 abbrev pub AnswersAll : SharedCase → List Ask → ℕ → Flows → Flows → List (List Ack) → Type 0

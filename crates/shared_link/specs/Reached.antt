@@ -6,7 +6,7 @@ use Rattle.link_model.specs.Counts.{served_chances, lost_of}
 use Rattle.link_model.specs.Standing.{packets_of}
 use Rattle.link_model.specs.Flights.{AllServedWithin, RisesFrom, AllBelow, AllTakeBelow, RiseBelow, IsQueued}
 use Rattle.shared_link.specs.declared.shared_case.SharedCase.{SharedCase}
-use Rattle.shared_link.specs.SharedRounds.{Sent, flow_at, every_packet, own_packets}
+use Rattle.shared_link.specs.SharedRounds.{Sent, flow_link_at, every_packet, own_packets}
 
 -- a packet arrives at this time or later, if it isn't lost
 abbrev pub ArrivesFrom : List ℕ → ℕ → ℕ → Fate → Type 0
@@ -41,5 +41,5 @@ pub record Settled (case : SharedCase) (now : ℕ) (sent : List Sent) (givens : 
   pub queued : IsQueued case.trace now (every_packet sent)
   pub once : RiseBelow (chances_past (every_packet sent)) (served_chances (every_packet sent))
   pub flows : (flow : ℕ)
-      → FlowSettled case.trace (flow_at case flow).delay_us (chances_past (every_packet sent)) (own_packets flow sent)
+      → FlowSettled case.trace (flow_link_at case flow).delay_us (chances_past (every_packet sent)) (own_packets flow sent)
       (givens flow)

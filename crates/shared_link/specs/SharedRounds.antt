@@ -17,7 +17,7 @@ pub record Sent : Type 0 where
 
 -- a run of the link: every packet ever sent, and of each flow every acknowledgement given, the latest first; and how
 -- many rounds there were
-pub record SharedRun : Type 0 where
+pub record SharedLinkRun : Type 0 where
   pub sent : List Sent
   pub givens : ℕ → List GivenAck
   pub rounds : ℕ
@@ -25,8 +25,8 @@ pub record SharedRun : Type 0 where
 abbrev pub no_flow : FlowLink
 no_flow = record { mss = 1; delay_us = 0; timeout_us = 1; losses = []; mark = None }
 
-abbrev pub flow_at : SharedCase → ℕ → FlowLink
-flow_at case flow = unwrap_or (slice_get case.flows flow) no_flow
+abbrev pub flow_link_at : SharedCase → ℕ → FlowLink
+flow_link_at case flow = unwrap_or (slice_get case.flows flow) no_flow
 
 abbrev pub no_ask : Ask
 no_ask = record { window = 0; left = 0 }
@@ -54,7 +54,7 @@ own_flight flow sent givens = in_flight (own_packets flow sent) givens
 -- how many packets a flow may have in flight: none if it has no acknowledgement left
 abbrev pub allowed : SharedCase → List Ask → ℕ → ℕ
 allowed case asks flow =
-    if (ask_at asks flow).left == 0 then 0 else allowance_of (flow_at case flow).mss (ask_at asks flow).window
+    if (ask_at asks flow).left == 0 then 0 else allowance_of (flow_link_at case flow).mss (ask_at asks flow).window
 
 -- the packet that a flow sends at the time `now` after these. It is lost if its number in its flow is listed, or if as
 -- many packets of all flows wait as the queue holds. Otherwise it gets the first chance that isn't before now and is
@@ -62,7 +62,7 @@ allowed case asks flow =
 abbrev pub packet_after : SharedCase → ℕ → ℕ → List Sent → Packet
 packet_after case now flow sent = record {
   sent_at = now;
-  fate = fate_of (flow_at case flow).losses case.queue (flow_at case flow).mark (length (own_packets flow sent))
+  fate = fate_of (flow_link_at case flow).losses case.queue (flow_link_at case flow).mark (length (own_packets flow sent))
       (waiting case.trace now (every_packet sent)) (first_chance case.trace now (chances_past (every_packet sent)));
 }
 
@@ -79,19 +79,19 @@ some_lacks may givens zero sent = false
 some_lacks may givens (suc flow) sent = lacks may givens flow sent || some_lacks may givens flow sent
 
 -- each of the first flows in turn sends a packet if it has fewer packets in flight than it may have
-abbrev pub turn_of : SharedCase → ℕ → (ℕ → ℕ) → (ℕ → List GivenAck) → ℕ → List Sent → List Sent
-turn_of case now may givens zero sent = sent
-turn_of case now may givens (suc flow) sent =
-    if lacks may givens flow (turn_of case now may givens flow sent)
-    then with_packet case now flow (turn_of case now may givens flow sent)
-    else turn_of case now may givens flow sent
+abbrev pub sending_turn : SharedCase → ℕ → (ℕ → ℕ) → (ℕ → List GivenAck) → ℕ → List Sent → List Sent
+sending_turn case now may givens zero sent = sent
+sending_turn case now may givens (suc flow) sent =
+    if lacks may givens flow (sending_turn case now may givens flow sent)
+    then with_packet case now flow (sending_turn case now may givens flow sent)
+    else sending_turn case now may givens flow sent
 
 -- turn after turn until no flow has fewer packets in flight than it may have, at most `turns` turns
 abbrev pub turns_of : SharedCase → ℕ → (ℕ → ℕ) → (ℕ → List GivenAck) → ℕ → List Sent → List Sent
 turns_of case now may givens zero sent = sent
 turns_of case now may givens (suc turns) sent =
     if some_lacks may givens (length case.flows) sent
-    then turns_of case now may givens turns (turn_of case now may givens (length case.flows) sent)
+    then turns_of case now may givens turns (sending_turn case now may givens (length case.flows) sent)
     else sent
 
 -- the time of a round
@@ -100,7 +100,7 @@ round_time case rounds = rounds * case.quantum_us
 
 -- the packets after the sending of one more round: the 4,096 turns are always enough, since afterwards no flow has fewer
 -- packets in flight than it may have, by the law `SharedCase::sending_law`
-abbrev pub sent_by : SharedCase → List Ask → SharedRun → List Sent
+abbrev pub sent_by : SharedCase → List Ask → SharedLinkRun → List Sent
 sent_by case asks run = turns_of case (round_time case run.rounds) (allowed case asks) run.givens most_flight run.sent
 
 -- ---- acknowledgements
@@ -172,9 +172,9 @@ answers times link end packets (suc left) givens =
     (λ given. given ∷ answers times link end packets left (given ∷ givens))
 
 -- the acknowledgements of a flow in one more round, after these packets were sent
-abbrev pub round_givens : SharedCase → List Ask → SharedRun → List Sent → ℕ → List GivenAck
+abbrev pub round_givens : SharedCase → List Ask → SharedLinkRun → List Sent → ℕ → List GivenAck
 round_givens case asks run sent flow =
-    answers case.trace (flow_at case flow) (round_time case (run.rounds + 1)) (own_packets flow sent)
+    answers case.trace (flow_link_at case flow) (round_time case (run.rounds + 1)) (own_packets flow sent)
     (ask_at asks flow).left (run.givens flow)
 
 -- ---- rounds
@@ -185,27 +185,27 @@ with_givens [] givens = givens
 with_givens (given ∷ later) givens = with_givens later (given ∷ givens)
 
 -- one more round
-abbrev pub with_round : SharedCase → List Ask → SharedRun → SharedRun
+abbrev pub with_round : SharedCase → List Ask → SharedLinkRun → SharedLinkRun
 with_round case asks run = record {
   sent = sent_by case asks run;
   givens = λ flow. with_givens (round_givens case asks run (sent_by case asks run) flow) (run.givens flow);
   rounds = run.rounds + 1;
 }
 
-abbrev pub shared_run_from : SharedCase → SharedRun → List (List Ask) → SharedRun
+abbrev pub shared_run_from : SharedCase → SharedLinkRun → List (List Ask) → SharedLinkRun
 shared_run_from case run [] = run
 shared_run_from case run (asks ∷ later) = shared_run_from case (with_round case asks run) later
 
-abbrev pub first_run : SharedRun
+abbrev pub first_run : SharedLinkRun
 first_run = record { sent = []; givens = λ flow. []; rounds = 0 }
 
 -- the run of a list of rounds, each given by what its flows ask for
-abbrev pub shared_run_of : SharedCase → List (List Ask) → SharedRun
+abbrev pub shared_run_of : SharedCase → List (List Ask) → SharedLinkRun
 shared_run_of case rounds = shared_run_from case first_run rounds
 
-abbrev pub acks_in : List GivenAck → List Ack
-acks_in [] = []
-acks_in (given ∷ later) = given.ack ∷ acks_in later
+abbrev pub acks_of_givens : List GivenAck → List Ack
+acks_of_givens [] = []
+acks_of_givens (given ∷ later) = given.ack ∷ acks_of_givens later
 
 -- the lists of the first flows, in order
 abbrev pub each_flow : ℕ → (ℕ → List Ack) → List (List Ack)
@@ -216,23 +216,23 @@ each_flow (suc flow) acks = each_flow flow acks ++ acks flow ∷ []
 abbrev pub acks_after : SharedCase → List (List Ask) → List Ask → List (List Ack)
 acks_after case rounds asks =
     each_flow (length case.flows)
-    (λ flow. acks_in (round_givens case asks (shared_run_of case rounds) (sent_by case asks (shared_run_of case rounds)) flow))
+    (λ flow. acks_of_givens (round_givens case asks (shared_run_of case rounds) (sent_by case asks (shared_run_of case rounds)) flow))
 
 -- ---- counts
 
 -- the sum of the first flows' numbers
-abbrev pub sum_of : ℕ → (ℕ → ℕ) → ℕ
-sum_of zero number = 0
-sum_of (suc flow) number = sum_of flow number + number flow
+abbrev pub sum_over_flows : ℕ → (ℕ → ℕ) → ℕ
+sum_over_flows zero number = 0
+sum_over_flows (suc flow) number = sum_over_flows flow number + number flow
 
 -- the packets of all flows after a run: sent, acknowledged, left as lost and in flight
-abbrev pub counts_in : SharedCase → SharedRun → Counts
+abbrev pub counts_in : SharedCase → SharedLinkRun → Counts
 counts_in case run = record {
   rounds = run.rounds;
-  sent = sum_of (length case.flows) (λ flow. length (own_packets flow run.sent));
-  acked = sum_of (length case.flows) (λ flow. acked_of (run.givens flow));
-  lost = sum_of (length case.flows) (λ flow. lost_of (run.givens flow));
-  inflight = sum_of (length case.flows) (λ flow. length (own_flight flow run.sent (run.givens flow)));
+  sent = sum_over_flows (length case.flows) (λ flow. length (own_packets flow run.sent));
+  acked = sum_over_flows (length case.flows) (λ flow. acked_of (run.givens flow));
+  lost = sum_over_flows (length case.flows) (λ flow. lost_of (run.givens flow));
+  inflight = sum_over_flows (length case.flows) (λ flow. length (own_flight flow run.sent (run.givens flow)));
 }
 
 abbrev pub counts_of : SharedCase → List (List Ask) → Counts

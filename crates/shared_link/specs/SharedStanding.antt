@@ -9,7 +9,7 @@ use Rattle.link_model.specs.Counts.{lost_of}
 use Rattle.shared_link.specs.declared.shared_case.FlowLink.{FlowLink}
 use Rattle.shared_link.specs.declared.shared_case.SharedCase.{SharedCase}
 use Rattle.shared_link.specs.declared.round.Ask.{Ask}
-use Rattle.shared_link.specs.SharedRounds.{SharedRun, flow_at, every_packet, own_packets, shared_run_of}
+use Rattle.shared_link.specs.SharedRounds.{SharedLinkRun, flow_link_at, every_packet, own_packets, shared_run_of}
 
 -- what is kept of a flow's packets in flight: those that aren't lost, each with how many lost ones lie right before
 -- it; how many lost ones lie after them, and when the first of these was sent, 0 if there are none
@@ -74,12 +74,12 @@ pub record SharedState : Type 0 where
   pub flows : List FlowStanding
 
 -- the link stands as after a run
-pub record StandsAt (link : SharedState) (run : SharedRun) : Type 0 where
+pub record StandsAt (link : SharedState) (run : SharedLinkRun) : Type 0 where
   pub rounds : link.rounds ≡ run.rounds
   pub chance : link.chance ≡ chances_past (every_packet run.sent)
   pub flows : (flow : ℕ) (other : FlowStanding) → flow < length link.case.flows
       → get_or link.flows flow other
-      ≡ flow_standing link.case.trace (flow_at link.case flow) (own_packets flow run.sent) (run.givens flow)
+      ≡ flow_standing link.case.trace (flow_link_at link.case flow) (own_packets flow run.sent) (run.givens flow)
 
 -- the link stands for a list of rounds
 abbrev pub Stands : SharedState → List (List Ask) → Type 0

@@ -3,7 +3,7 @@ ghost use Rattle.std.specs.Prelude.{◌≡◌, ℕ, ◌+◌, ◌-◌, ◌*◌, �
 ghost use Rattle.ccp_base.specs.Limits.{most_flight, most_rounds, most_quantum_us};
 ghost use Rattle.link_model.specs.Counts.{most_packets};
 ghost use Rattle.shared_link.specs.SharedLimits.{IsFlowWithin};
-ghost use Rattle.shared_link.specs.Kept.{flow_in, answered_in, IsFlowKept, with_arrival, timed_out, answered_all};
+ghost use Rattle.shared_link.specs.Kept.{flow_under_way, answered_in, IsFlowKept, with_arrival, timed_out, answered_all};
 
 use crate::flow_traffic::FlowTraffic;
 use crate::shared_case::FlowLink;
@@ -24,7 +24,7 @@ impl FlowTraffic {
         requires kept { IsFlowKept link.now self.old }
         requires acks { self.old.acks.items ≡ [] }
         ensures kept { IsFlowKept link.now self.new }
-        ensures standing { flow_in self.new ≡ flow_in self.old }
+        ensures standing { flow_under_way self.new ≡ flow_under_way self.old }
         ensures in_flight { self.new.in_flight ≡ self.old.in_flight }
         ensures sent { self.new.sent ≡ self.old.sent }
         ensures acks { self.new.acks.items ≡ [] }
@@ -43,7 +43,7 @@ impl FlowTraffic {
     pub(crate) fn keep_list(&mut self, link: &FlowLink, list: Acks)
         requires kept { IsFlowKept link.now self.old }
         ensures kept { IsFlowKept link.now self.new }
-        ensures standing { flow_in self.new ≡ flow_in self.old }
+        ensures standing { flow_under_way self.new ≡ flow_under_way self.old }
         ensures in_flight { self.new.in_flight ≡ self.old.in_flight }
         ensures sent { self.new.sent ≡ self.old.sent }
         ensures acks { self.new.acks.items ≡ [] }
@@ -58,7 +58,7 @@ impl FlowTraffic {
     pub(crate) fn take_acks(&mut self, alloc: Global, link: &FlowLink) -> Acks
         requires kept { IsFlowKept link.now self.old }
         ensures kept { IsFlowKept link.now self.new }
-        ensures standing { flow_in self.new ≡ flow_in self.old }
+        ensures standing { flow_under_way self.new ≡ flow_under_way self.old }
         ensures in_flight { self.new.in_flight ≡ self.old.in_flight }
         ensures sent { self.new.sent ≡ self.old.sent }
         ensures acks { self.new.acks.items ≡ [] }

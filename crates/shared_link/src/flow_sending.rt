@@ -1,13 +1,13 @@
 //! How a flow sends packets within a round: each is lost, or takes the queue's next chance.
 ghost use Rattle.std.specs.Prelude.{◌≡◌, ℕ, ◌+◌, ◌^◌, ◌<◌, ◌≤◌, List, [], ◌∷◌, ◌++◌, length, if◌then◌else◌, ◌==◌, IfOk};
 ghost use Rattle.ccp_base.specs.Limits.{most_flight, most_queue};
-ghost use Rattle.link_model.specs.Chances.{number_of};
+ghost use Rattle.link_model.specs.Chances.{chance_number};
 ghost use Rattle.link_model.specs.Counts.{most_packets};
 ghost use Rattle.link_model.specs.Link.{Lost};
 ghost use Rattle.shared_link.specs.declared.shared_case.FlowLink.{FlowLink};
 ghost use Rattle.shared_link.specs.SharedLimits.{IsFlowWithin};
 ghost use Rattle.shared_link.specs.SharedStanding.{flow_standing};
-ghost use Rattle.shared_link.specs.Kept.{flow_in, IsFlowKept, with_one, fate_now, IsNextChance, served_now, IsSending};
+ghost use Rattle.shared_link.specs.Kept.{flow_under_way, IsFlowKept, with_one, fate_now, IsNextChance, served_now, IsSending};
 
 use crate::flow_traffic::FlowTraffic;
 use crate::sending::Sending;
@@ -24,7 +24,7 @@ impl FlowTraffic {
     pub(crate) fn new(alloc: Global) -> Result<FlowTraffic, AllocError>
         ensures kept { IfOk result (λ t. (link : FlowLink) → IsFlowKept link t) }
         ensures standing { IfOk result (λ t. (times : List ℕ) (link : FlowLink)
-            → flow_in t ≡ flow_standing times link [] []) }
+            → flow_under_way t ≡ flow_standing times link [] []) }
         ensures sent { IfOk result (λ t. t.sent ≡ 0) }
         ensures acks { IfOk result (λ t. t.acks.items ≡ []) }
     {
@@ -53,8 +53,8 @@ impl FlowTraffic {
         requires room { self.old.in_flight < most_flight }
         requires sent { self.old.sent < most_packets }
         ensures kept { IsFlowKept link.now self.new }
-        ensures standing { flow_in self.new ≡ with_one trace.now link.now.delay_us sending.old.now
-            (fate_now trace.now link.now room self.old.sent sending.old) (flow_in self.old) }
+        ensures standing { flow_under_way self.new ≡ with_one trace.now link.now.delay_us sending.old.now
+            (fate_now trace.now link.now room self.old.sent sending.old) (flow_under_way self.old) }
         ensures in_flight { self.new.in_flight ≡ self.old.in_flight + 1 }
         ensures sent { self.new.sent ≡ self.old.sent + 1 }
         ensures acks { self.new.acks ≡ self.old.acks }
@@ -79,7 +79,7 @@ impl FlowTraffic {
         requires sent { self.old.sent < most_packets }
         requires now { now ≤ 2 ^ 34 }
         ensures kept { IsFlowKept link.now self.new }
-        ensures standing { flow_in self.new ≡ with_one [] 0 now Lost (flow_in self.old) }
+        ensures standing { flow_under_way self.new ≡ with_one [] 0 now Lost (flow_under_way self.old) }
         ensures in_flight { self.new.in_flight ≡ self.old.in_flight + 1 }
         ensures sent { self.new.sent ≡ self.old.sent + 1 }
         ensures acks { self.new.acks ≡ self.old.acks }
@@ -101,15 +101,15 @@ impl FlowTraffic {
         requires room { self.old.in_flight < most_flight }
         requires sent { self.old.sent < most_packets }
         ensures kept { IsFlowKept link.now self.new }
-        ensures standing { flow_in self.new ≡ with_one trace.now link.now.delay_us sending.old.now
-            (served_now trace.now link.now sending.old) (flow_in self.old) }
+        ensures standing { flow_under_way self.new ≡ with_one trace.now link.now.delay_us sending.old.now
+            (served_now trace.now link.now sending.old) (flow_under_way self.old) }
         ensures in_flight { self.new.in_flight ≡ self.old.in_flight + 1 }
         ensures sent { self.new.sent ≡ self.old.sent + 1 }
         ensures acks { self.new.acks ≡ self.old.acks }
         ensures sending { IsSending trace.now sending.new }
         ensures rounds { sending.new.rounds ≡ sending.old.rounds }
         ensures now { sending.new.now ≡ sending.old.now }
-        ensures chance { number_of trace.now sending.new.next ≡ number_of trace.now sending.old.queue.next + 1 }
+        ensures chance { chance_number trace.now sending.new.next ≡ chance_number trace.now sending.old.queue.next + 1 }
     {
         let own = trace.time_of(sending.queue.next);
         let arrival = Arrival {

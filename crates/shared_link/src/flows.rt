@@ -3,8 +3,8 @@ ghost use Rattle.std.specs.Prelude.{◌≡◌, ◌+◌, ◌*◌, ◌<◌, ◌≤
 ghost use Rattle.ccp_base.specs.Limits.{most_flight, most_rounds, most_quantum_us};
 ghost use Rattle.link_model.specs.Traces.{IsTrace};
 ghost use Rattle.shared_link.specs.SharedLimits.{IsWithin};
-ghost use Rattle.shared_link.specs.SharedRounds.{flow_at, ask_at, allowed};
-ghost use Rattle.shared_link.specs.Kept.{flow_in, IsSending, FlowsFollow, AreReady, HaveRoom};
+ghost use Rattle.shared_link.specs.SharedRounds.{flow_link_at, ask_at, allowed};
+ghost use Rattle.shared_link.specs.Kept.{flow_under_way, IsSending, FlowsFollow, AreReady, HaveRoom};
 ghost use Rattle.shared_link.specs.KeptFlows.{TellsLack, TellsSomeLack, TellsCounts, SendsOne, SendsTurn, SendsAll};
 ghost use Rattle.shared_link.specs.KeptFlows.{IsReadyAt, HasRoomAt, AreOthersKept, AnswersAt, AnswersAll};
 
@@ -20,7 +20,7 @@ use std::alloc::Global;
 /// What a flow has of its own.
 pub(crate) fn link_of(case: &SharedCase, flow: usize) -> &FlowLink
     requires { flow < length case.now.flows }
-    ensures { result.now ≡ flow_at case.now flow }
+    ensures { result.now ≡ flow_link_at case.now flow }
 {
     &case.flows.as_slice()[flow]
 }
@@ -182,7 +182,7 @@ impl Flows {
         requires asks { length asks.now ≡ length case.now.flows }
         ensures ready { AreReady case.now rounds self.new.traffic.items }
         ensures room { OnOk result (HaveRoom case.now asks.now (length self.new.traffic.items) self.new.traffic.items) }
-        ensures same { map flow_in self.new.traffic.items ≡ map flow_in self.old.traffic.items }
+        ensures same { map flow_under_way self.new.traffic.items ≡ map flow_under_way self.old.traffic.items }
     {
         // for the contract alone: what holds of the flows depends on the rounds so far
         let _ = rounds;
@@ -201,7 +201,7 @@ impl Flows {
         requires ready { AreReady case.now rounds self.old.traffic.items }
         requires flow { flow < length self.old.traffic.items }
         ensures ready { AreReady case.now rounds self.new.traffic.items }
-        ensures same { map flow_in self.new.traffic.items ≡ map flow_in self.old.traffic.items }
+        ensures same { map flow_under_way self.new.traffic.items ≡ map flow_under_way self.old.traffic.items }
     {
         let _ = rounds;
         self.traffic[flow].keep_list(link_of(case, flow), list);

@@ -2,7 +2,7 @@
 ghost use Rattle.std.specs.Prelude.{◌≡◌, ◌+◌, ◌*◌, ◌<◌, ◌≤◌, length};
 ghost use Rattle.ccp_base.specs.Limits.{most_queue, most_rounds, most_quantum_us};
 ghost use Rattle.link_model.specs.Traces.{IsTrace};
-ghost use Rattle.link_model.specs.Chances.{number_of, chance_time};
+ghost use Rattle.link_model.specs.Chances.{chance_number, chance_time};
 ghost use Rattle.shared_link.specs.Kept.{span, IsSending};
 
 use link_model::{Chance, Queue, Trace};
@@ -28,7 +28,7 @@ impl Sending {
         requires rounds { rounds < most_rounds }
         requires now { now ≤ most_rounds * most_quantum_us }
         requires place { next.place < length trace.now }
-        requires late { chance_time trace.now (number_of trace.now next) ≤ now + span }
+        requires late { chance_time trace.now (chance_number trace.now next) ≤ now + span }
         ensures sending { IsSending trace.now result }
         ensures rounds { result.rounds ≡ rounds }
         ensures now { result.now ≡ now }
@@ -47,11 +47,11 @@ impl Sending {
     pub(crate) fn serve(&mut self, trace: &Trace, own: u64)
         requires sending { IsSending trace.now self.old }
         requires waiting { self.old.queue.waiting < most_queue }
-        requires own { own ≡ chance_time trace.now (number_of trace.now self.old.queue.next) }
+        requires own { own ≡ chance_time trace.now (chance_number trace.now self.old.queue.next) }
         ensures sending { IsSending trace.now self.new }
         ensures rounds { self.new.rounds ≡ self.old.rounds }
         ensures now { self.new.now ≡ self.old.now }
-        ensures chance { number_of trace.now self.new.next ≡ number_of trace.now self.old.queue.next + 1 }
+        ensures chance { chance_number trace.now self.new.next ≡ chance_number trace.now self.old.queue.next + 1 }
     {
         self.next = trace.after(self.queue.next);
         self.queue.next = self.next;

@@ -33,11 +33,11 @@ pub struct SharedLink {
 
 impl Model for SharedLink {
     ghost use Rattle.shared_link.specs.SharedStanding.{SharedState};
-    ghost use Rattle.shared_link.specs.Kept.{state_of, IsLinkKept};
+    ghost use Rattle.shared_link.specs.Kept.{link_state, IsLinkKept};
 
     ghost Value = { SharedState };
 
-    ghost view = { λ l. state_of l.case l.rounds l.next l.flows.traffic.items };
+    ghost view = { λ l. link_state l.case l.rounds l.next l.flows.traffic.items };
 
     ghost invariant = { λ l. IsLinkKept l.case l.rounds l.next l.flows.traffic.items };
 }

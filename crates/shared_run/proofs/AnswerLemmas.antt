@@ -8,7 +8,7 @@ use Rattle.shared_link.specs.declared.round.Ask.{Ask}
 use Rattle.shared_link.specs.declared.shared_case.FlowLink.{FlowLink}
 use Rattle.shared_link.specs.declared.shared_case.SharedCase.{SharedCase}
 use Rattle.shared_link.specs.SharedLimits.{IsFlowWithin, IsWithin}
-use Rattle.shared_link.specs.SharedRounds.{Sent, SharedRun, flow_at, no_flow, ask_at, own_packets, allowed, packet_after, lacks, some_lacks, turn_of, turns_of, round_time, sent_by, next_before, arrival_given, are_lost, timeout_given, timeout_at, timeouts, answers_after, answers, round_givens, with_round, shared_run_from, shared_run_of, acks_in, each_flow, acks_after}
+use Rattle.shared_link.specs.SharedRounds.{Sent, SharedLinkRun, flow_link_at, no_flow, ask_at, own_packets, allowed, packet_after, lacks, some_lacks, sending_turn, turns_of, round_time, sent_by, next_before, arrival_given, are_lost, timeout_given, timeout_at, timeouts, answers_after, answers, round_givens, with_round, shared_run_from, shared_run_of, acks_of_givens, each_flow, acks_after}
 
 -- ---- how many
 
@@ -16,7 +16,7 @@ length-one : (b : Bool) (given : GivenAck) → length (if b then given ∷ [] el
 length-one true given = omega arith
 length-one false given = omega arith
 
-acks-length : (list : List GivenAck) → length (acks_in list) ≡ length list
+acks-length : (list : List GivenAck) → length (acks_of_givens list) ≡ length list
 acks-length [] = refl
 acks-length (given ∷ rest) = ap suc (acks-length rest)
 
@@ -80,11 +80,11 @@ module _ (times : List ℕ) (link : FlowLink) (end : ℕ) (packets : List Packet
       (λ given. let fewer = answers-few left (given ∷ givens) in omega (arith, fewer))
 
   module _ (most : ℕ) (size : link.mss ≤ 65535) (few : length packets ≤ most) where
-    one-small : (b : Bool) (given : GivenAck) → IsSmall most given.ack → AreSmall most (acks_in (if b then given ∷ [] else []))
+    one-small : (b : Bool) (given : GivenAck) → IsSmall most given.ack → AreSmall most (acks_of_givens (if b then given ∷ [] else []))
     one-small true given small = (small, tt)
     one-small false given small = tt
 
-    timeouts-small : (givens : List GivenAck) (flight : List Numbered) → length flight ≤ most → AreSmall most (acks_in (timeouts link end packets givens flight))
+    timeouts-small : (givens : List GivenAck) (flight : List Numbered) → length flight ≤ most → AreSmall most (acks_of_givens (timeouts link end packets givens flight))
     timeouts-small givens [] within = tt
     timeouts-small givens (first ∷ rest) within =
         one-small (are_lost (first ∷ rest) && nat_lt (timeout_at link givens first.packet) end)
@@ -92,14 +92,14 @@ module _ (times : List ℕ) (link : FlowLink) (end : ℕ) (packets : List Packet
         (within, omega arith)
 
     after-small : (givens : List GivenAck) (flight : List Numbered) (next : Next) (rest : GivenAck → List GivenAck) → length flight ≤ most
-        → ((given : GivenAck) → IsSmall most given.ack → AreSmall most (acks_in (rest given)))
-        → AreSmall most (acks_in (answers_after times link end packets givens flight next rest))
+        → ((given : GivenAck) → IsSmall most given.ack → AreSmall most (acks_of_givens (rest given)))
+        → AreSmall most (acks_of_givens (answers_after times link end packets givens flight next rest))
     after-small givens flight (arrives number sent_at chance marked) rest within small =
         small (arrival_given times link packets givens flight number sent_at chance marked)
         (let lost = lost-most (packet_and_lost_below number) flight in omega (arith, lost, within), size)
     after-small givens flight all_lost rest within small = timeouts-small givens flight within
 
-    pub answers-small : (left : ℕ) (givens : List GivenAck) → AreSmall most (acks_in (answers times link end packets left givens))
+    pub answers-small : (left : ℕ) (givens : List GivenAck) → AreSmall most (acks_of_givens (answers times link end packets left givens))
     answers-small zero givens = tt
     answers-small (suc left) givens =
         let flight = flight-most packets givens in
@@ -123,10 +123,10 @@ sent-where true one sent = omega arith
 sent-where false one sent = omega arith
 
 module _ (case : SharedCase) (now : ℕ) (may : ℕ → ℕ) (givens : ℕ → List GivenAck) where
-  turn-few : (n : ℕ) (sent : List Sent) → length (turn_of case now may givens n sent) ≤ length sent + n
+  turn-few : (n : ℕ) (sent : List Sent) → length (sending_turn case now may givens n sent) ≤ length sent + n
   turn-few zero sent = omega arith
   turn-few (suc flow) sent =
-      let before = turn_of case now may givens flow sent in
+      let before = sending_turn case now may givens flow sent in
       let one : Sent = record { flow = flow; packet = packet_after case now flow before } in
       omega (arith, turn-few flow sent, sent-where (lacks may givens flow before) one before)
 
@@ -139,18 +139,18 @@ module _ (case : SharedCase) (now : ℕ) (may : ℕ → ℕ) (givens : ℕ → L
   turns-few flows zero sent = omega arith
   turns-few flows (suc turns) sent =
       let turn = turn-few (length case.flows) sent in
-      let rest = turns-few flows turns (turn_of case now may givens (length case.flows) sent) in
+      let rest = turns-few flows turns (sending_turn case now may givens (length case.flows) sent) in
       turns-where (some_lacks may givens (length case.flows) sent)
-      (turns_of case now may givens turns (turn_of case now may givens (length case.flows) sent)) sent (suc turns * 64)
+      (turns_of case now may givens turns (sending_turn case now may givens (length case.flows) sent)) sent (suc turns * 64)
       (omega (arith, turn, rest, flows))
 
 module _ (case : SharedCase) (within : IsWithin case) where
-  sent-few : (asks : List Ask) (run : SharedRun) → length (sent_by case asks run) ≤ length run.sent + 262144
+  sent-few : (asks : List Ask) (run : SharedLinkRun) → length (sent_by case asks run) ≤ length run.sent + 262144
   sent-few asks run =
       let turns = turns-few case (round_time case run.rounds) (allowed case asks) run.givens within.few 4096 run.sent in
       omega (arith, turns)
 
-  run-few : (rounds : List (List Ask)) (run : SharedRun) → length (shared_run_from case run rounds).sent ≤ length run.sent + length rounds * 262144
+  run-few : (rounds : List (List Ask)) (run : SharedLinkRun) → length (shared_run_from case run rounds).sent ≤ length run.sent + length rounds * 262144
   run-few [] run = omega arith
   run-few (asks ∷ later) run =
       let here = sent-few asks run in
@@ -165,21 +165,21 @@ module _ (case : SharedCase) (within : IsWithin case) where
   size-at (flow ∷ rest) all (suc i) = size-at rest (λ k d h. all (suc k) d (omega (arith, h))) i
 
   pub round-small : (rounds : List (List Ask)) (asks : List Ask) → length rounds < 10000 → (flow : ℕ)
-      → AreSmall 2621440000 (acks_in (round_givens case asks (shared_run_of case rounds) (sent_by case asks (shared_run_of case rounds)) flow))
+      → AreSmall 2621440000 (acks_of_givens (round_givens case asks (shared_run_of case rounds) (sent_by case asks (shared_run_of case rounds)) flow))
   round-small rounds asks fewer flow =
       let run = shared_run_of case rounds in
       let sent = sent_by case asks run in
       let own = own-few flow sent in
       let now = sent-few asks run in
       let before = run-few rounds (record { sent = []; givens = λ f. []; rounds = 0 }) in
-      answers-small case.trace (flow_at case flow) (round_time case (run.rounds + 1)) (own_packets flow sent) 2621440000
+      answers-small case.trace (flow_link_at case flow) (round_time case (run.rounds + 1)) (own_packets flow sent) 2621440000
       (size-at case.flows within.flows flow) (omega (arith, own, now, before, fewer)) (ask_at asks flow).left (run.givens flow)
 
 -- no flow has more than it asks for
-pub round-few : (case : SharedCase) (asks : List Ask) (run : SharedRun) (sent : List Sent) (flow : ℕ)
-    → length (acks_in (round_givens case asks run sent flow)) ≤ (ask_at asks flow).left
+pub round-few : (case : SharedCase) (asks : List Ask) (run : SharedLinkRun) (sent : List Sent) (flow : ℕ)
+    → length (acks_of_givens (round_givens case asks run sent flow)) ≤ (ask_at asks flow).left
 round-few case asks run sent flow =
-    let few = answers-few case.trace (flow_at case flow) (round_time case (run.rounds + 1)) (own_packets flow sent) (ask_at asks flow).left (run.givens flow) in
+    let few = answers-few case.trace (flow_link_at case flow) (round_time case (run.rounds + 1)) (own_packets flow sent) (ask_at asks flow).left (run.givens flow) in
     omega (arith, few, acks-length (round_givens case asks run sent flow))
 
 -- ---- the lists of flows

@@ -6,7 +6,7 @@ use Rattle.flow_core.specs.Readings.{over_codes}
 use Rattle.flow_core.specs.Cores.{CoreState}
 use Rattle.shared_link.specs.declared.round.Ask.{Ask}
 use Rattle.shared_link.specs.declared.shared_case.SharedCase.{SharedCase}
-use Rattle.shared_link.specs.SharedRounds.{ask_at, sent_by, round_givens, shared_run_of, acks_in, acks_after}
+use Rattle.shared_link.specs.SharedRounds.{ask_at, sent_by, round_givens, shared_run_of, acks_of_givens, acks_after}
 use Rattle.shared_run.specs.SharedHistory.{asks_of}
 use Rattle.shared_run.proofs.AnswerLemmas.{round-few, each-length, each-get}
 
@@ -64,7 +64,7 @@ within-after case rounds flows keep =
     let sent = sent_by case asks run in
     within-from (acks_after case rounds asks) flows
     (λ i acks core at there.
-    let same = ap (λ (xs : List Ack). length xs) (each-get (length case.flows) (λ flow. acks_in (round_givens case asks run sent flow)) i acks at) in
+    let same = ap (λ (xs : List Ack). length xs) (each-get (length case.flows) (λ flow. acks_of_givens (round_givens case asks run sent flow)) i acks at) in
     let few = round-few case asks run sent i in
     let left = ask-left flows i core there in
     let most = keeps-at flows keep i core there in
@@ -73,4 +73,4 @@ within-after case rounds flows keep =
 -- the lists of a round are one a flow
 pub lists-length : (case : SharedCase) (rounds : List (List Ask)) (asks : List Ask) → length (acks_after case rounds asks) ≡ length case.flows
 lists-length case rounds asks =
-    each-length (length case.flows) (λ flow. acks_in (round_givens case asks (shared_run_of case rounds) (sent_by case asks (shared_run_of case rounds)) flow))
+    each-length (length case.flows) (λ flow. acks_of_givens (round_givens case asks (shared_run_of case rounds) (sent_by case asks (shared_run_of case rounds)) flow))

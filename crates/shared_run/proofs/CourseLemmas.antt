@@ -12,9 +12,9 @@ use Rattle.flow_core.specs.Cores.{CoreState}
 use Rattle.shared_link.specs.declared.round.Ask.{Ask}
 use Rattle.shared_link.specs.declared.shared_case.SharedCase.{SharedCase}
 use Rattle.shared_link.specs.SharedStanding.{SharedState, Stands}
-use Rattle.shared_run.specs.RoundLetters.{opened, part}
-use Rattle.shared_run.specs.SharedHistory.{ask_of, asks_of, parts, have_all, rounds_from, most_of}
-use Rattle.shared_run.specs.Courses.{run_after, flows_after, asks_in, acks_in, none_left, StandsAfter, Ends}
+use Rattle.shared_run.specs.RoundLetters.{opened, round_part}
+use Rattle.shared_run.specs.SharedHistory.{ask_of, asks_of, parts, have_all, rounds_from, round_limit}
+use Rattle.shared_run.specs.Courses.{run_after, flows_after, asks_in, acks_in_round, none_left, StandsAfter, EndsInTime}
 use Rattle.shared_run.proofs.CountLemmas.{KeepCounts, Within, within-after, no-some, same-some, lists-length}
 use Rattle.shared_run.proofs.RoomyLemmas.{round-keeps, opened-keep}
 
@@ -61,10 +61,10 @@ pub dropped_on : {A : Type 0} (all : List A) (n : ℕ) (one : A) (rest : List A)
 dropped_on all n one rest is = drop_rest all n one rest is ∙ sym (ap (λ (k : ℕ). drop k all) (add-one n))
 
 parts-at : (lists : List (List Ack)) (flows : List CoreState) (i : ℕ) (acks : List Ack) (core : CoreState) → slice_get lists i ≡ Some acks → slice_get flows i ≡ Some core
-    → slice_get (parts over_codes lists flows) i ≡ Some (part over_codes acks core)
+    → slice_get (parts over_codes lists flows) i ≡ Some (round_part over_codes acks core)
 parts-at [] flows i acks core at there = absurd (no-some acks at)
 parts-at (list ∷ lists) [] i acks core at there = absurd (no-some core there)
-parts-at (list ∷ lists) (flow ∷ flows) zero acks core at there = λ j. Some (part over_codes (same-some list acks at j) (same-some flow core there j))
+parts-at (list ∷ lists) (flow ∷ flows) zero acks core at there = λ j. Some (round_part over_codes (same-some list acks at j) (same-some flow core there j))
 parts-at (list ∷ lists) (flow ∷ flows) (suc i) acks core at there = parts-at lists flows i acks core at there
 
 within-at : (lists : List (List Ack)) (flows : List CoreState) (i : ℕ) (acks : List Ack) (core : CoreState) → Within lists flows → slice_get lists i ≡ Some acks → slice_get flows i ≡ Some core
@@ -108,12 +108,12 @@ module _ (link : SharedCase) (cases : List Case) where
 
   pub flows_count : (rounds : ℕ) → length (flows_after link cases rounds) ≡ length cases
   flows_count zero = length-map cases opened
-  flows_count (suc rounds) = parts-length (acks_in link cases rounds) (flows_after link cases rounds) ∙ flows_count rounds
+  flows_count (suc rounds) = parts-length (acks_in_round link cases rounds) (flows_after link cases rounds) ∙ flows_count rounds
 
   pub asks-count : (rounds : ℕ) → length (asks_in link cases rounds) ≡ length cases
   asks-count rounds = length-map (flows_after link cases rounds) (ask_of over_codes) ∙ flows_count rounds
 
-  pub acks-count : (rounds : ℕ) → length (acks_in link cases rounds) ≡ length link.flows
+  pub acks-count : (rounds : ℕ) → length (acks_in_round link cases rounds) ≡ length link.flows
   acks-count rounds = lists-length link (run_after link over_codes cases rounds).history (asks_in link cases rounds)
 
   -- a flow before the first round
@@ -123,19 +123,19 @@ module _ (link : SharedCase) (cases : List Case) where
       slice_get-map opened cases number ∙ ap (option_map opened) (drop_get cases number case rest is) ∙ ap (λ (c : CoreState). Some c) (sym made)
 
   -- a flow has as many acknowledgements left as it is given
-  pub flow_fits : (rounds number : ℕ) (acks : List Ack) (core : CoreState) → slice_get (acks_in link cases rounds) number ≡ Some acks
+  pub flow_fits : (rounds number : ℕ) (acks : List Ack) (core : CoreState) → slice_get (acks_in_round link cases rounds) number ≡ Some acks
       → slice_get (flows_after link cases rounds) number ≡ Some core → length core.acks + length acks ≤ core.case.acks
   flow_fits rounds number acks core at there =
-      within-at (acks_in link cases rounds) (flows_after link cases rounds) number acks core
+      within-at (acks_in_round link cases rounds) (flows_after link cases rounds) number acks core
       (within-after link (run_after link over_codes cases rounds).history (flows_after link cases rounds) (keeps-after rounds)) at there
 
   -- a flow after one more round
-  pub flow_next : (rounds number : ℕ) (acks : List Ack) (core next : CoreState) → slice_get (acks_in link cases rounds) number ≡ Some acks
-      → slice_get (flows_after link cases rounds) number ≡ Some core → next ≡ part over_codes acks core
+  pub flow_next : (rounds number : ℕ) (acks : List Ack) (core next : CoreState) → slice_get (acks_in_round link cases rounds) number ≡ Some acks
+      → slice_get (flows_after link cases rounds) number ≡ Some core → next ≡ round_part over_codes acks core
       → slice_get (flows_after link cases (rounds + 1)) number ≡ Some next
   flow_next rounds number acks core next at there is =
       ap (λ (n : ℕ). slice_get (flows_after link cases n) number) (add-one rounds)
-      ∙ parts-at (acks_in link cases rounds) (flows_after link cases rounds) number acks core at there
+      ∙ parts-at (acks_in_round link cases rounds) (flows_after link cases rounds) number acks core at there
       ∙ ap (λ (c : CoreState). Some c) (sym is)
 
   -- what a flow asks for
@@ -266,9 +266,9 @@ module _ (link : SharedCase) (cases : List Case) where
   )
   ends-from (suc more) done = ends-where (have_all (flows_after link cases (suc done))) more done refl (ends-from more (suc done))
 
-  pub ends : (most : ℕ) → Ends link cases most
+  pub ends : (most : ℕ) → EndsInTime link cases most
   ends most =
-      let end = ends-from (most_of cases most) 0 in
+      let end = ends-from (round_limit cases most) 0 in
       let few = end.1.few in (
         end.0,
         record {

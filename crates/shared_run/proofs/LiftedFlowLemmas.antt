@@ -19,7 +19,7 @@ use Rattle.flow_core.proofs.LiftLemmas.{lift}
 use Rattle.campaign_gate.specs.CampaignWord.{is_due}
 use Rattle.campaign_gate.specs.CampaignRow.{window_of, row_over}
 use Rattle.campaign_gate.proofs.SourceReadings.{late-placed, some-placed, none-placed, can-placed, track-placed, row-placed}
-use Rattle.shared_run.specs.LiftedFlow.{IsLifted}
+use Rattle.shared_run.specs.LiftedFlow.{FlowHoldsForSources}
 use Rattle.shared_run.proofs.LikeFlows.{AreLike, alike}
 
 -- ---- what an instruction's place doesn't change
@@ -91,7 +91,7 @@ module _ (case : Case) (ss ca : Form) (ss_places ca_places : List Place)
     row = rows-lift;
   }
 
-pub lifted : (case : Case) → IsLifted case
+pub lifted : (case : Case) → FlowHoldsForSources case
 lifted case sources ss ca ss_places ca_places is ss_simulates ca_simulates acks word =
     alike over_codes sources case
     (subst (λ (flow : Flow Place). AreLike case.lag (over_codes case) flow) (sym is)

@@ -9,21 +9,21 @@ use Rattle.flow_core.specs.Cores.{CoreState}
 use Rattle.shared_link.specs.declared.round.Ask.{Ask}
 use Rattle.shared_link.specs.declared.shared_case.SharedCase.{SharedCase}
 use Rattle.shared_link.specs.SharedRounds.{acks_after}
-use Rattle.shared_run.specs.RoundLetters.{Read, opened, part, closed}
+use Rattle.shared_run.specs.RoundLetters.{CaseReading, opened, round_part, closed_flow}
 use Rattle.shared_run.specs.FlowRow.{flow_row}
-use Rattle.shared_run.specs.LiftedFlow.{AreAlike}
+use Rattle.shared_run.specs.LiftedFlow.{ReadAlike}
 use Rattle.shared_run.proofs.TurnLemmas.{part-case, settled-case}
 use Rattle.shared_run.proofs.LiftedFlowLemmas.{lifted as flow-lifted}
-use Rattle.shared_run.specs.SharedHistory.{Progress, progress, asks_of, parts, after_asks, after_round, have_all, ends_or, rounds_from, most_of, run_of, flows_of}
-use Rattle.shared_run.specs.LiftedRun.{AreSimulated, HaveOneRun, IsLifted}
+use Rattle.shared_run.specs.SharedHistory.{Progress, progress, asks_of, parts, after_asks, after_round, have_all, ends_or, rounds_from, round_limit, whole_run, flows_at_end}
+use Rattle.shared_run.specs.LiftedRun.{AreSimulated, HaveOneRun, RunHoldsForSources}
 
-module _ (sources : Read Place) (link : SharedCase) where
+module _ (sources : CaseReading Place) (link : SharedCase) where
   -- each flow's codes simulate its programs
   abbrev AreFit : List CoreState → Type 0
   AreFit [] = Unit {0}
   AreFit (core ∷ rest) = AreSimulated sources core.case × AreFit rest
 
-  alike-of : (core : CoreState) → AreSimulated sources core.case → AreAlike over_codes sources core
+  alike-of : (core : CoreState) → AreSimulated sources core.case → ReadAlike over_codes sources core
   alike-of core sim =
       flow-lifted core.case sources sim.ss sim.ca sim.ss_places sim.ca_places sim.read sim.ss_simulates sim.ca_simulates core.acks core.word
 
@@ -46,7 +46,7 @@ module _ (sources : Read Place) (link : SharedCase) where
   fit-parts [] flows fit = fit
   fit-parts (acks ∷ others) [] fit = fit
   fit-parts (acks ∷ others) (core ∷ rest) fit =
-      (fit-at (part sources acks core) core (part-case sources acks core) fit.0, fit-parts others rest fit.1)
+      (fit-at (round_part sources acks core) core (part-case sources acks core) fit.0, fit-parts others rest fit.1)
 
   round-lifts : (run : Progress) → AreFit run.flows → after_round link over_codes run ≡ after_round link sources run
   round-lifts run fit =
@@ -80,13 +80,13 @@ module _ (sources : Read Place) (link : SharedCase) where
 
   -- ---- the end
 
-  closes-lift : (flows : List CoreState) → AreFit flows → map (closed over_codes) flows ≡ map (closed sources) flows
+  closes-lift : (flows : List CoreState) → AreFit flows → map (closed_flow over_codes) flows ≡ map (closed_flow sources) flows
   closes-lift [] fit = refl
   closes-lift (core ∷ rest) fit = λ i. (alike-of core fit.0).closed i ∷ closes-lift rest fit.1 i
 
-  fit-closes : (flows : List CoreState) → AreFit flows → AreFit (map (closed sources) flows)
+  fit-closes : (flows : List CoreState) → AreFit flows → AreFit (map (closed_flow sources) flows)
   fit-closes [] fit = fit
-  fit-closes (core ∷ rest) fit = (fit-at (closed sources core) core (settled-case sources true core) fit.0, fit-closes rest fit.1)
+  fit-closes (core ∷ rest) fit = (fit-at (closed_flow sources core) core (settled-case sources true core) fit.0, fit-closes rest fit.1)
 
   rows-lift : (flows : List CoreState) → AreFit flows → map (flow_row over_codes) flows ≡ map (flow_row sources) flows
   rows-lift [] fit = refl
@@ -98,16 +98,16 @@ module _ (sources : Read Place) (link : SharedCase) where
   fit-opened (case ∷ rest) all = (all 0 case refl, fit-opened rest (λ k one is. all (suc k) one is))
 
   module _ (cases : List Case) (all : (k : ℕ) (case : Case) → slice_get cases k ≡ Some case → AreSimulated sources case) (rounds : ℕ) where
-    run-lifts : run_of link over_codes cases rounds ≡ run_of link sources cases rounds
-    run-lifts = rounds-lift (most_of cases rounds) (progress [] (map opened cases)) (fit-opened cases all)
+    run-lifts : whole_run link over_codes cases rounds ≡ whole_run link sources cases rounds
+    run-lifts = rounds-lift (round_limit cases rounds) (progress [] (map opened cases)) (fit-opened cases all)
 
-    fit-run : AreFit (run_of link sources cases rounds).flows
-    fit-run = fit-rounds (most_of cases rounds) (progress [] (map opened cases)) (fit-opened cases all)
+    fit-run : AreFit (whole_run link sources cases rounds).flows
+    fit-run = fit-rounds (round_limit cases rounds) (progress [] (map opened cases)) (fit-opened cases all)
 
-    flows-lift : flows_of link over_codes cases rounds ≡ flows_of link sources cases rounds
+    flows-lift : flows_at_end link over_codes cases rounds ≡ flows_at_end link sources cases rounds
     flows-lift =
-        ap (λ (run : Progress). map (closed over_codes) run.flows) run-lifts
-        ∙ closes-lift (run_of link sources cases rounds).flows fit-run
+        ap (λ (run : Progress). map (closed_flow over_codes) run.flows) run-lifts
+        ∙ closes-lift (whole_run link sources cases rounds).flows fit-run
 
     one-run : HaveOneRun sources link cases rounds
     one-run = record {
@@ -115,8 +115,8 @@ module _ (sources : Read Place) (link : SharedCase) where
       flows = flows-lift;
       rows =
           ap (λ (flows : List CoreState). map (flow_row over_codes) flows) flows-lift
-          ∙ rows-lift (flows_of link sources cases rounds) (fit-closes (run_of link sources cases rounds).flows fit-run);
+          ∙ rows-lift (flows_at_end link sources cases rounds) (fit-closes (whole_run link sources cases rounds).flows fit-run);
     }
 
-pub lifted : (link : SharedCase) (cases : List Case) (rounds : ℕ) → IsLifted link cases rounds
+pub lifted : (link : SharedCase) (cases : List Case) (rounds : ℕ) → RunHoldsForSources link cases rounds
 lifted link cases rounds sources all = one-run sources link cases all rounds

@@ -1,4 +1,4 @@
--- Two readings of a case with like states have one word, one part of a round and one row.
+-- Two readings of a case with like states have one word, one round_part of a round and one row.
 use Rattle.std.specs.Prelude.{◌≡◌, ℕ, zero, suc, max, Bool, true, false, Option, Some, None, List, [], ◌∷◌, ◌++◌, refl}
 use Rattle.std.proofs.Common.{ap, sym, ◌∙◌, subst}
 use Rattle.ccp_base.specs.declared.ack.Ack.{Ack}
@@ -13,9 +13,9 @@ use Rattle.flow_core.specs.Cores.{CoreState}
 use Rattle.campaign_gate.specs.CampaignWord.{is_due, first_letter}
 use Rattle.campaign_gate.specs.CampaignRow.{window_of, peak_from, row_over}
 use Rattle.flow_core.specs.LettersLeft.{letters_left}
-use Rattle.shared_run.specs.RoundLetters.{Read, with_ack, next_letter, with_next, settled_in, settled, heard, part}
+use Rattle.shared_run.specs.RoundLetters.{CaseReading, with_ack, settling_letter, with_next, settled_in, after_settling, with_settled_ack, round_part}
 use Rattle.shared_run.specs.FlowRow.{peak_of}
-use Rattle.shared_run.specs.LiftedFlow.{AreAlike}
+use Rattle.shared_run.specs.LiftedFlow.{ReadAlike}
 use Rattle.shared_run.proofs.TurnLemmas.{settled-case}
 
 -- after each word, with whatever acknowledgements, both have one window, the same letters are due, may be taken and are
@@ -28,12 +28,12 @@ pub record AreLike {X Y : Type 0} (lag : ℕ) (flow : Flow X) (other : Flow Y) :
   pub left : (acks : List Ack) (word : List Letter) → letters_left flow (world_over flow acks word) ≡ letters_left other (world_over other acks word)
   pub row : (acks : List Ack) (word : List Letter) (peak : ℕ) → row_over flow (world_over flow acks word) peak ≡ row_over other (world_over other acks word) peak
 
-module _ {X Y : Type 0} (read : Read X) (other : Read Y) (case : Case) (like : AreLike case.lag (read case) (other case)) where
+module _ {X Y : Type 0} (read : CaseReading X) (other : CaseReading Y) (case : Case) (like : AreLike case.lag (read case) (other case)) where
   abbrev at : List Ack → List Letter → CoreState
   at acks word = record { case = case; acks = acks; word = word }
 
   next-alike : (at_end : Bool) (acks : List Ack) (word : List Letter)
-      → next_letter at_end read (at acks word) ≡ next_letter at_end other (at acks word)
+      → settling_letter at_end read (at acks word) ≡ settling_letter at_end other (at acks word)
   next-alike false acks word = λ i. first_letter (like.due acks word i) (like.takes acks word i) false
   next-alike true acks word = λ i. first_letter (like.answers acks word i) (like.takes acks word i) false
 
@@ -48,10 +48,10 @@ module _ {X Y : Type 0} (read : Read X) (other : Read Y) (case : Case) (like : A
   settled_in-alike at_end zero acks word = refl
   settled_in-alike at_end (suc m) acks word =
       ap (λ (next : Option Letter). with_next next (settled_in at_end read m) (at acks word)) (next-alike at_end acks word)
-      ∙ alike-where at_end m acks word (next_letter at_end other (at acks word)) (λ longer. settled_in-alike at_end m acks longer)
+      ∙ alike-where at_end m acks word (settling_letter at_end other (at acks word)) (λ longer. settled_in-alike at_end m acks longer)
 
   settled-alike : (at_end : Bool) (acks : List Ack) (word : List Letter)
-      → settled at_end read (at acks word) ≡ settled at_end other (at acks word)
+      → after_settling at_end read (at acks word) ≡ after_settling at_end other (at acks word)
   settled-alike at_end acks word =
       ap (λ (n : ℕ). settled_in at_end read n (at acks word)) (like.left acks word)
       ∙ settled_in-alike at_end (letters_left (other case) (world_over (other case) acks word)) acks word
@@ -59,15 +59,15 @@ module _ {X Y : Type 0} (read : Read X) (other : Read Y) (case : Case) (like : A
   as-at : (core : CoreState) → core.case ≡ case → core ≡ at core.acks core.word
   as-at core is = λ i. record { case = is i; acks = core.acks; word = core.word }
 
-  settled-of : (at_end : Bool) (core : CoreState) → core.case ≡ case → settled at_end read core ≡ settled at_end other core
+  settled-of : (at_end : Bool) (core : CoreState) → core.case ≡ case → after_settling at_end read core ≡ after_settling at_end other core
   settled-of at_end core is =
-      subst (λ (c : CoreState). settled at_end read c ≡ settled at_end other c) (sym (as-at core is)) (settled-alike at_end core.acks core.word)
+      subst (λ (c : CoreState). after_settling at_end read c ≡ after_settling at_end other c) (sym (as-at core is)) (settled-alike at_end core.acks core.word)
 
-  part-alike : (acks : List Ack) (core : CoreState) → core.case ≡ case → part read acks core ≡ part other acks core
+  part-alike : (acks : List Ack) (core : CoreState) → core.case ≡ case → round_part read acks core ≡ round_part other acks core
   part-alike [] core is = refl
   part-alike (ack ∷ rest) core is =
-      ap (λ (c : CoreState). part read rest c) (settled-of false (with_ack ack core) is)
-      ∙ part-alike rest (heard other ack core) (settled-case other false (with_ack ack core) ∙ is)
+      ap (λ (c : CoreState). round_part read rest c) (settled-of false (with_ack ack core) is)
+      ∙ part-alike rest (with_settled_ack other ack core) (settled-case other false (with_ack ack core) ∙ is)
 
   peak-alike : (acks : List Ack) (rest front : List Letter)
       → peak_from (read case) (from_list acks) (world_over (read case) acks front) rest
@@ -79,7 +79,7 @@ module _ {X Y : Type 0} (read : Read X) (other : Read Y) (case : Case) (like : A
       ∙ ap (λ (w : World Y). peak_from (other case) (from_list acks) w rest) (world_over-append (other case) acks front letter) in
       λ i. max (like.window acks front i) (step i)
 
-  pub alike : (acks : List Ack) (word : List Letter) → AreAlike read other (at acks word)
+  pub alike : (acks : List Ack) (word : List Letter) → ReadAlike read other (at acks word)
   alike acks word = record {
     window = like.window acks word;
     part = λ more. part-alike more (at acks word) refl;

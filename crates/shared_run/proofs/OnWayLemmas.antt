@@ -19,7 +19,7 @@ use Rattle.flow_core.specs.Cores.{CoreState}
 use Rattle.flow_core.proofs.WordLemmas.{world_over-A, acks-of-world_over}
 use Rattle.campaign_gate.specs.CampaignRow.{window_of}
 use Rattle.campaign_gate.proofs.DueLemmas.{due-ended, due-open}
-use Rattle.shared_run.specs.RoundLetters.{state_of, opened, with_ack, with_letter, is_answered}
+use Rattle.shared_run.specs.RoundLetters.{world_of_core, opened, with_ack, with_letter, is_answered}
 use Rattle.shared_run.specs.OnWay.{IsOnWay}
 use Rattle.shared_run.proofs.PeakLemmas.{peak-append, peak-more}
 
@@ -65,27 +65,27 @@ module _ (core : CoreState) (count greatest : ℕ) (on : IsOnWay core count grea
   flow = over_codes core.case
 
   abbrev before : World ℕ
-  before = state_of over_codes core
+  before = world_of_core over_codes core
 
-  pub on-ack : (ack : Ack) (peak : ℕ) → length core.acks < core.case.acks → peak ≡ max greatest (window_of flow (state_of over_codes (with_ack ack core)))
+  pub on-ack : (ack : Ack) (peak : ℕ) → length core.acks < core.case.acks → peak ≡ max greatest (window_of flow (world_of_core over_codes (with_ack ack core)))
       → IsOnWay (with_ack ack core) count peak
   on-ack ack peak more is =
       let heard = with_ack ack core in
-      let world : state_of over_codes heard ≡ after_ack flow ack before = world_over-A flow core.acks ack core.word on.all in
+      let world : world_of_core over_codes heard ≡ after_ack flow ack before = world_over-A flow core.acks ack core.word on.all in
       record {
         all = acks_in-A core.word ∙ ap (λ (n : ℕ). n + 1) on.all ∙ sym (length-append core.acks (ack ∷ []));
         within = omega (arith, more, length-append core.acks (ack ∷ []));
         taken = subst (TakenAt count) (sym world) on.taken;
         peak =
-            is ∙ ap (λ (n : ℕ). max n (window_of flow (state_of over_codes heard)))
+            is ∙ ap (λ (n : ℕ). max n (window_of flow (world_of_core over_codes heard)))
             (on.peak ∙ sym (peak-more flow core.acks (ack ∷ []) core.word (omega (arith, on.all))))
             ∙ sym (peak-append flow (from_list heard.acks) core.word A (opening flow));
       }
 
-  pub on-take : (peak : ℕ) → is_legal flow before T ≡ true → peak ≡ max greatest (window_of flow (state_of over_codes (with_letter T core)))
+  pub on-take : (peak : ℕ) → is_legal flow before T ≡ true → peak ≡ max greatest (window_of flow (world_of_core over_codes (with_letter T core)))
       → IsOnWay (with_letter T core) (length before.acks) peak
   on-take peak may is =
-      let world : state_of over_codes (with_letter T core) ≡ after_take before = world_over-append flow core.acks core.word T in
+      let world : world_of_core over_codes (with_letter T core) ≡ after_take before = world_over-append flow core.acks core.word T in
       record {
         all = acks_in-T core.word ∙ on.all;
         within = on.within;
@@ -93,14 +93,14 @@ module _ (core : CoreState) (count greatest : ℕ) (on : IsOnWay core count grea
             subst (TakenAt (length before.acks)) (sym world)
             (taken-takes (taking before.waiting before.untold) before (can-take before.out (can_take before) may));
         peak =
-            is ∙ ap (λ (n : ℕ). max n (window_of flow (state_of over_codes (with_letter T core)))) on.peak
+            is ∙ ap (λ (n : ℕ). max n (window_of flow (world_of_core over_codes (with_letter T core)))) on.peak
             ∙ sym (peak-append flow (from_list core.acks) core.word T (opening flow));
       }
 
-  pub on-answer : (peak : ℕ) → is_legal flow before C ≡ true → peak ≡ max greatest (window_of flow (state_of over_codes (with_letter C core)))
+  pub on-answer : (peak : ℕ) → is_legal flow before C ≡ true → peak ≡ max greatest (window_of flow (world_of_core over_codes (with_letter C core)))
       → IsOnWay (with_letter C core) count peak
   on-answer peak may is =
-      let world : state_of over_codes (with_letter C core) ≡ after_answer flow before = world_over-append flow core.acks core.word C in
+      let world : world_of_core over_codes (with_letter C core) ≡ after_answer flow before = world_over-append flow core.acks core.word C in
       record {
         all = acks_in-C core.word ∙ on.all;
         within = on.within;
@@ -108,7 +108,7 @@ module _ (core : CoreState) (count greatest : ℕ) (on : IsOnWay core count grea
             subst (TakenAt count) (sym world)
             (nothing-out (after_answer flow before).out (λ (ticket : Taken ℕ). ticket.taken ≡ count) (applied-out flow before.out before may));
         peak =
-            is ∙ ap (λ (n : ℕ). max n (window_of flow (state_of over_codes (with_letter C core)))) on.peak
+            is ∙ ap (λ (n : ℕ). max n (window_of flow (world_of_core over_codes (with_letter C core)))) on.peak
             ∙ sym (peak-append flow (from_list core.acks) core.word C (opening flow));
       }
 

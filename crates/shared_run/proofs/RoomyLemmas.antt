@@ -13,7 +13,7 @@ use Rattle.shared_link.specs.SharedRounds.{acks_after}
 use Rattle.shared_run.specs.RoundLetters.{opened}
 use Rattle.shared_run.specs.FlowRow.{AreRoomy}
 use Rattle.shared_run.proofs.TurnLemmas.{part-case, part-acks}
-use Rattle.shared_run.specs.SharedHistory.{Progress, progress, asks_of, parts, after_round, have_all, rounds_from, most_of, run_of}
+use Rattle.shared_run.specs.SharedHistory.{Progress, progress, asks_of, parts, after_round, have_all, rounds_from, round_limit, whole_run}
 use Rattle.shared_run.proofs.AnswerLemmas.{AreSmall, AreAllSmall, after-all-small}
 use Rattle.shared_run.proofs.CountLemmas.{KeepCounts, Within, within-after}
 
@@ -112,17 +112,17 @@ all-roomy [] small keep k d less = absurd (omega (arith, less))
 all-roomy (core ∷ rest) small keep zero d less = roomy-of core small.0 keep.0
 all-roomy (core ∷ rest) small keep (suc k) d less = all-roomy rest small.1 keep.1 k d (omega (arith, less))
 
-most-few : (cases : List Case) (rounds : ℕ) → rounds ≤ 10000 → most_of cases rounds ≤ 10000
+most-few : (cases : List Case) (rounds : ℕ) → rounds ≤ 10000 → round_limit cases rounds ≤ 10000
 most-few [] rounds few = omega arith
 most-few (case ∷ rest) rounds few = few
 
 -- the flows of a run
 pub run-roomy : (link : SharedCase) → IsWithin link → (cases : List Case) (rounds : ℕ) → rounds ≤ 10000
-    → All (λ (core : CoreState). AreRoomy core.acks) (run_of link over_codes cases rounds).flows
+    → All (λ (core : CoreState). AreRoomy core.acks) (whole_run link over_codes cases rounds).flows
 run-roomy link within cases rounds few =
-    let most = most_of cases rounds in
+    let most = round_limit cases rounds in
     let begun = progress [] (map opened cases) in
     let bound = most-few cases rounds few in
-    all-roomy (run_of link over_codes cases rounds).flows
+    all-roomy (whole_run link over_codes cases rounds).flows
     (rounds-small link within most begun (omega (arith, bound)) (opened-small cases))
     (rounds-keep link within most begun (opened-keep cases))

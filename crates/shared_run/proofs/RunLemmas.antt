@@ -14,9 +14,9 @@ use Rattle.shared_link.specs.declared.shared_case.SharedCase.{SharedCase}
 use Rattle.shared_link.specs.SharedRounds.{counts_of}
 use Rattle.shared_link.specs.SharedStanding.{SharedState, Stands}
 use Rattle.shared_link.specs.SharedLimits.{IsWithin}
-use Rattle.shared_run.specs.RoundLetters.{closed}
+use Rattle.shared_run.specs.RoundLetters.{closed_flow}
 use Rattle.shared_run.specs.FlowRow.{AreRoomy}
-use Rattle.shared_run.specs.SharedHistory.{Progress, most_of, run_of, flows_of, shared_counts}
+use Rattle.shared_run.specs.SharedHistory.{Progress, round_limit, whole_run, flows_at_end, shared_counts}
 use Rattle.shared_run.specs.Courses.{run_after, flows_after, HasEnded}
 use Rattle.shared_run.proofs.RoomyLemmas.{run-roomy}
 
@@ -24,17 +24,17 @@ use Rattle.shared_run.proofs.RoomyLemmas.{run-roomy}
 pub as-many : (link : SharedCase) (cases : List Case) → link.flows ≡ map flow_link_of (map plan_of cases) → length link.flows ≡ length cases
 as-many link cases links = ap (λ xs. length xs) links ∙ length-map (map plan_of cases) flow_link_of ∙ length-map cases plan_of
 
-module _ (link : SharedCase) (cases : List Case) (most rounds : ℕ) (state : SharedState) (ended : HasEnded link cases (most_of cases most) rounds state) where
-  whole : run_after link over_codes cases rounds ≡ run_of link over_codes cases most
+module _ (link : SharedCase) (cases : List Case) (most rounds : ℕ) (state : SharedState) (ended : HasEnded link cases (round_limit cases most) rounds state) where
+  whole : run_after link over_codes cases rounds ≡ whole_run link over_codes cases most
   whole = ended.whole
 
   pub all-roomy-now : IsWithin link → most ≤ 10000 → All (λ (core : CoreState). AreRoomy core.acks) (flows_after link cases rounds)
   all-roomy-now within few =
       subst (λ (run : Progress). All (λ (core : CoreState). AreRoomy core.acks) run.flows) (sym whole) (run-roomy link within cases most few)
 
-  -- the flows, closed, and the counts
-  pub flows-are : map (closed over_codes) (flows_after link cases rounds) ≡ flows_of link over_codes cases most
-  flows-are = ap (λ (run : Progress). map (closed over_codes) run.flows) whole
+  -- the flows, closed_flow, and the counts
+  pub flows-are : map (closed_flow over_codes) (flows_after link cases rounds) ≡ flows_at_end link over_codes cases most
+  flows-are = ap (λ (run : Progress). map (closed_flow over_codes) run.flows) whole
 
   pub counts-are : (counts : Counts) → ((history : List (List Ask)) → Stands state history → counts ≡ counts_of state.case history)
       → counts ≡ shared_counts link over_codes cases most

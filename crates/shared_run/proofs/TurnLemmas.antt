@@ -11,7 +11,7 @@ use Rattle.flow_core.specs.Cores.{CoreState}
 use Rattle.campaign_gate.specs.CampaignWord.{is_late, first_letter}
 use Rattle.flow_core.specs.LettersLeft.{letters_left}
 use Rattle.flow_core.proofs.LeftLemmas.{left-letter}
-use Rattle.shared_run.specs.RoundLetters.{Read, state_of, with_ack, with_letter, is_answered, next_letter, with_next, settled_in, settled, heard, part}
+use Rattle.shared_run.specs.RoundLetters.{CaseReading, world_of_core, with_ack, with_letter, is_answered, settling_letter, with_next, settled_in, after_settling, with_settled_ack, round_part}
 
 -- ---- which letter is next
 
@@ -44,48 +44,48 @@ still : {X : Type 0} (out : Option (Taken X)) (can : Bool) → is_some out ≡ f
 still None can out both = ap not both
 still (Some ticket) can out both = absurd (let wrong : true ≡ false = out in (cc))
 
-module _ {X : Type 0} (read : Read X) where
+module _ {X : Type 0} (read : CaseReading X) where
   abbrev left_of : CoreState → ℕ
-  left_of core = letters_left (read core.case) (state_of read core)
+  left_of core = letters_left (read core.case) (world_of_core read core)
 
-  answered-out : (at_end : Bool) (core : CoreState) → is_answered at_end read core ≡ true → is_some (state_of read core).out ≡ true
+  answered-out : (at_end : Bool) (core : CoreState) → is_answered at_end read core ≡ true → is_some (world_of_core read core).out ≡ true
   answered-out false core due =
-      let w = state_of read core in
+      let w = world_of_core read core in
       due-out core.case.lag (length w.acks) (is_legal (read core.case) w A) w.out due
   answered-out true core due = due
 
   module _ (at_end : Bool) where
-    next-made : (core : CoreState) (next : Option Letter) → next_letter at_end read core ≡ next
-        → IsMade (is_answered at_end read core) (is_legal (read core.case) (state_of read core) T) next
+    next-made : (core : CoreState) (next : Option Letter) → settling_letter at_end read core ≡ next
+        → IsMade (is_answered at_end read core) (is_legal (read core.case) (world_of_core read core) T) next
     next-made core next is =
-        subst (λ (n : Option Letter). IsMade (is_answered at_end read core) (is_legal (read core.case) (state_of read core) T) n) is
-        (made (is_answered at_end read core) (is_legal (read core.case) (state_of read core) T))
+        subst (λ (n : Option Letter). IsMade (is_answered at_end read core) (is_legal (read core.case) (world_of_core read core) T) n) is
+        (made (is_answered at_end read core) (is_legal (read core.case) (world_of_core read core) T))
 
-    pub next-C : (core : CoreState) → is_answered at_end read core ≡ true → next_letter at_end read core ≡ Some C
-    next-C core due = ap (λ (b : Bool). first_letter b (is_legal (read core.case) (state_of read core) T) false) due
+    pub next-C : (core : CoreState) → is_answered at_end read core ≡ true → settling_letter at_end read core ≡ Some C
+    next-C core due = ap (λ (b : Bool). first_letter b (is_legal (read core.case) (world_of_core read core) T) false) due
 
-    pub next-T : (core : CoreState) → is_answered at_end read core ≡ false → is_legal (read core.case) (state_of read core) T ≡ true
-        → next_letter at_end read core ≡ Some T
+    pub next-T : (core : CoreState) → is_answered at_end read core ≡ false → is_legal (read core.case) (world_of_core read core) T ≡ true
+        → settling_letter at_end read core ≡ Some T
     next-T core due may = λ i. first_letter (due i) (may i) false
 
-    pub next-none : (core : CoreState) → is_answered at_end read core ≡ false → is_legal (read core.case) (state_of read core) T ≡ false
-        → next_letter at_end read core ≡ None
+    pub next-none : (core : CoreState) → is_answered at_end read core ≡ false → is_legal (read core.case) (world_of_core read core) T ≡ false
+        → settling_letter at_end read core ≡ None
     next-none core due may = λ i. first_letter (due i) (may i) false
 
     -- an answer is legal where it comes next
     pub answer-legal : (core : CoreState) → is_answered at_end read core ≡ true
-        → is_legal (read core.case) (state_of read core) C ≡ true
+        → is_legal (read core.case) (world_of_core read core) C ≡ true
     answer-legal core due = answered-out at_end core due
 
     -- ---- fewer are left
 
-    fewer-by : (core : CoreState) (letter : Letter) → MadeBy (is_answered at_end read core) (is_legal (read core.case) (state_of read core) T) letter
-        → letters_left (read core.case) (after_letter (read core.case) (from_list core.acks) (state_of read core) letter) < left_of core
+    fewer-by : (core : CoreState) (letter : Letter) → MadeBy (is_answered at_end read core) (is_legal (read core.case) (world_of_core read core) T) letter
+        → letters_left (read core.case) (after_letter (read core.case) (from_list core.acks) (world_of_core read core) letter) < left_of core
     fewer-by core A is = absurd is
-    fewer-by core T is = left-letter (read core.case) core.case.link T (state_of read core) is.1
-    fewer-by core C is = left-letter (read core.case) core.case.link C (state_of read core) (answered-out at_end core is)
+    fewer-by core T is = left-letter (read core.case) core.case.link T (world_of_core read core) is.1
+    fewer-by core C is = left-letter (read core.case) core.case.link C (world_of_core read core) (answered-out at_end core is)
 
-    pub fewer : (core : CoreState) (letter : Letter) → next_letter at_end read core ≡ Some letter
+    pub fewer : (core : CoreState) (letter : Letter) → settling_letter at_end read core ≡ Some letter
         → left_of (with_letter letter core) < left_of core
     fewer core letter is =
         subst (λ (w : World X). letters_left (read core.case) w < left_of core)
@@ -94,7 +94,7 @@ module _ {X : Type 0} (read : Read X) where
 
     -- ---- how many letters are enough
 
-    same-where : (n m : ℕ) (core : CoreState) (next : Option Letter) → next_letter at_end read core ≡ next
+    same-where : (n m : ℕ) (core : CoreState) (next : Option Letter) → settling_letter at_end read core ≡ next
         → left_of core ≤ suc n → left_of core ≤ suc m
         → ((after : CoreState) → left_of after ≤ n → left_of after ≤ m → settled_in at_end read n after ≡ settled_in at_end read m after)
         → with_next next (settled_in at_end read n) core ≡ with_next next (settled_in at_end read m) core
@@ -103,7 +103,7 @@ module _ {X : Type 0} (read : Read X) where
         let less = fewer core letter is in
         rest (with_letter letter core) (omega (arith, less, enough)) (omega (arith, less, also))
 
-    none-left : (m : ℕ) (core : CoreState) (next : Option Letter) → next_letter at_end read core ≡ next → left_of core ≤ 0
+    none-left : (m : ℕ) (core : CoreState) (next : Option Letter) → settling_letter at_end read core ≡ next → left_of core ≤ 0
         → core ≡ with_next next (settled_in at_end read m) core
     none-left m core None is enough = refl
     none-left m core (Some letter) is enough =
@@ -112,17 +112,17 @@ module _ {X : Type 0} (read : Read X) where
     same-settled : (n m : ℕ) (core : CoreState) → left_of core ≤ n → left_of core ≤ m
         → settled_in at_end read n core ≡ settled_in at_end read m core
     same-settled zero zero core enough also = refl
-    same-settled zero (suc m) core enough also = none-left m core (next_letter at_end read core) refl enough
-    same-settled (suc n) zero core enough also = sym (none-left n core (next_letter at_end read core) refl also)
+    same-settled zero (suc m) core enough also = none-left m core (settling_letter at_end read core) refl enough
+    same-settled (suc n) zero core enough also = sym (none-left n core (settling_letter at_end read core) refl also)
     same-settled (suc n) (suc m) core enough also =
-        same-where n m core (next_letter at_end read core) refl enough also
+        same-where n m core (settling_letter at_end read core) refl enough also
         (λ after first second. same-settled n m after first second)
 
     -- ---- a turn
 
     -- after the next letter the rest is the same
-    pub settled-turn : (core : CoreState) (letter : Letter) → next_letter at_end read core ≡ Some letter
-        → settled at_end read (with_letter letter core) ≡ settled at_end read core
+    pub settled-turn : (core : CoreState) (letter : Letter) → settling_letter at_end read core ≡ Some letter
+        → after_settling at_end read (with_letter letter core) ≡ after_settling at_end read core
     settled-turn core letter is =
         let after = with_letter letter core in
         let less = fewer core letter is in
@@ -130,31 +130,31 @@ module _ {X : Type 0} (read : Read X) where
         ∙ ap (λ (next : Option Letter). with_next next (settled_in at_end read (left_of core)) core) (sym is)
         ∙ same-settled (suc (left_of core)) (left_of core) core (omega arith) (omega arith)
 
-    pub settled-none : (core : CoreState) → next_letter at_end read core ≡ None → settled at_end read core ≡ core
+    pub settled-none : (core : CoreState) → settling_letter at_end read core ≡ None → after_settling at_end read core ≡ core
     settled-none core is =
         same-settled (left_of core) (suc (left_of core)) core (omega arith) (omega arith)
         ∙ ap (λ (next : Option Letter). with_next next (settled_in at_end read (left_of core)) core) is
 
     -- ---- nothing is left
 
-    zero-ends : (core : CoreState) (next : Option Letter) → next_letter at_end read core ≡ next → left_of core ≤ 0 → next ≡ None
+    zero-ends : (core : CoreState) (next : Option Letter) → settling_letter at_end read core ≡ next → left_of core ≤ 0 → next ≡ None
     zero-ends core None is enough = refl
     zero-ends core (Some letter) is enough = absurd (let less = fewer core letter is in omega (arith, less, enough))
 
-    ends-where : (m : ℕ) (core : CoreState) (next : Option Letter) → next_letter at_end read core ≡ next → left_of core ≤ suc m
-        → ((after : CoreState) → left_of after ≤ m → next_letter at_end read (settled_in at_end read m after) ≡ None)
-        → next_letter at_end read (with_next next (settled_in at_end read m) core) ≡ None
+    ends-where : (m : ℕ) (core : CoreState) (next : Option Letter) → settling_letter at_end read core ≡ next → left_of core ≤ suc m
+        → ((after : CoreState) → left_of after ≤ m → settling_letter at_end read (settled_in at_end read m after) ≡ None)
+        → settling_letter at_end read (with_next next (settled_in at_end read m) core) ≡ None
     ends-where m core None is enough rest = is
     ends-where m core (Some letter) is enough rest =
         let less = fewer core letter is in
         rest (with_letter letter core) (omega (arith, less, enough))
 
-    none-settled : (m : ℕ) (core : CoreState) → left_of core ≤ m → next_letter at_end read (settled_in at_end read m core) ≡ None
-    none-settled zero core enough = zero-ends core (next_letter at_end read core) refl enough
+    none-settled : (m : ℕ) (core : CoreState) → left_of core ≤ m → settling_letter at_end read (settled_in at_end read m core) ≡ None
+    none-settled zero core enough = zero-ends core (settling_letter at_end read core) refl enough
     none-settled (suc m) core enough =
-        ends-where m core (next_letter at_end read core) refl enough (λ after less. none-settled m after less)
+        ends-where m core (settling_letter at_end read core) refl enough (λ after less. none-settled m after less)
 
-    pub settled-ends : (core : CoreState) → next_letter at_end read (settled at_end read core) ≡ None
+    pub settled-ends : (core : CoreState) → settling_letter at_end read (after_settling at_end read core) ≡ None
     settled-ends core = none-settled (left_of core) core (omega arith)
 
   -- the acknowledgements and the case stay
@@ -167,7 +167,7 @@ module _ {X : Type 0} (read : Read X) where
   settled_in-acks : (at_end : Bool) (m : ℕ) (core : CoreState) → (settled_in at_end read m core).acks ≡ core.acks
   settled_in-acks at_end zero core = refl
   settled_in-acks at_end (suc m) core =
-      acks-where at_end m core (next_letter at_end read core) (λ after. settled_in-acks at_end m after)
+      acks-where at_end m core (settling_letter at_end read core) (λ after. settled_in-acks at_end m after)
 
   case-where : (at_end : Bool) (m : ℕ) (core : CoreState) (next : Option Letter)
       → ((after : CoreState) → (settled_in at_end read m after).case ≡ after.case)
@@ -178,32 +178,32 @@ module _ {X : Type 0} (read : Read X) where
   settled_in-case : (at_end : Bool) (m : ℕ) (core : CoreState) → (settled_in at_end read m core).case ≡ core.case
   settled_in-case at_end zero core = refl
   settled_in-case at_end (suc m) core =
-      case-where at_end m core (next_letter at_end read core) (λ after. settled_in-case at_end m after)
+      case-where at_end m core (settling_letter at_end read core) (λ after. settled_in-case at_end m after)
 
-  pub settled-acks : (at_end : Bool) (core : CoreState) → (settled at_end read core).acks ≡ core.acks
+  pub settled-acks : (at_end : Bool) (core : CoreState) → (after_settling at_end read core).acks ≡ core.acks
   settled-acks at_end core = settled_in-acks at_end (left_of core) core
 
-  pub settled-case : (at_end : Bool) (core : CoreState) → (settled at_end read core).case ≡ core.case
+  pub settled-case : (at_end : Bool) (core : CoreState) → (after_settling at_end read core).case ≡ core.case
   settled-case at_end core = settled_in-case at_end (left_of core) core
 
   -- where no letter comes at the end, nothing is out and nothing can be taken
-  pub still-ended : (core : CoreState) → next_letter true read core ≡ None → is_still (state_of read core) ≡ true
+  pub still-ended : (core : CoreState) → settling_letter true read core ≡ None → is_still (world_of_core read core) ≡ true
   still-ended core is =
-      let w = state_of read core in
+      let w = world_of_core read core in
       let none = next-made true core None is in
       still w.out (can_take w) none.0 none.1
 
-  pub closed-still : (core : CoreState) → is_still (state_of read (settled true read core)) ≡ true
-  closed-still core = still-ended (settled true read core) (settled-ends true core)
+  pub closed-still : (core : CoreState) → is_still (world_of_core read (after_settling true read core)) ≡ true
+  closed-still core = still-ended (after_settling true read core) (settled-ends true core)
 
-  -- a part of a round leaves the case, and adds the acknowledgements
-  pub part-case : (acks : List Ack) (core : CoreState) → (part read acks core).case ≡ core.case
+  -- a round_part of a round leaves the case, and adds the acknowledgements
+  pub part-case : (acks : List Ack) (core : CoreState) → (round_part read acks core).case ≡ core.case
   part-case [] core = refl
-  part-case (ack ∷ rest) core = part-case rest (heard read ack core) ∙ settled-case false (with_ack ack core)
+  part-case (ack ∷ rest) core = part-case rest (with_settled_ack read ack core) ∙ settled-case false (with_ack ack core)
 
-  pub part-acks : (acks : List Ack) (core : CoreState) → (part read acks core).acks ≡ core.acks ++ acks
+  pub part-acks : (acks : List Ack) (core : CoreState) → (round_part read acks core).acks ≡ core.acks ++ acks
   part-acks [] core = sym (append-nil core.acks)
   part-acks (ack ∷ rest) core =
-      part-acks rest (heard read ack core)
+      part-acks rest (with_settled_ack read ack core)
       ∙ ap (λ (xs : List Ack). xs ++ rest) (settled-acks false (with_ack ack core))
       ∙ append_assoc core.acks (ack ∷ []) rest

@@ -8,11 +8,11 @@ use Rattle.shared_link.specs.declared.round.Ask.{Ask}
 use Rattle.shared_link.specs.declared.shared_case.SharedCase.{SharedCase}
 use Rattle.shared_link.specs.SharedRounds.{acks_after}
 use Rattle.shared_link.specs.SharedStanding.{SharedState, Stands}
-use Rattle.shared_run.specs.RoundLetters.{Read, opened}
-use Rattle.shared_run.specs.SharedHistory.{Progress, progress, asks_of, after_round, have_all, rounds_from, most_of, run_of}
+use Rattle.shared_run.specs.RoundLetters.{CaseReading, opened}
+use Rattle.shared_run.specs.SharedHistory.{Progress, progress, asks_of, after_round, have_all, rounds_from, round_limit, whole_run}
 
 -- the run after this many rounds
-abbrev pub run_after : {X : Type 0} → SharedCase → Read X → List Case → ℕ → Progress
+abbrev pub run_after : {X : Type 0} → SharedCase → CaseReading X → List Case → ℕ → Progress
 run_after link read cases zero = progress [] (map opened cases)
 run_after link read cases (suc rounds) = after_round link read (run_after link read cases rounds)
 
@@ -25,8 +25,8 @@ abbrev pub asks_in : SharedCase → List Case → ℕ → List Ask
 asks_in link cases rounds = asks_of over_codes (flows_after link cases rounds)
 
 -- and each flow's acknowledgements in it
-abbrev pub acks_in : SharedCase → List Case → ℕ → List (List Ack)
-acks_in link cases rounds = acks_after link (run_after link over_codes cases rounds).history (asks_in link cases rounds)
+abbrev pub acks_in_round : SharedCase → List Case → ℕ → List (List Ack)
+acks_in_round link cases rounds = acks_after link (run_after link over_codes cases rounds).history (asks_in link cases rounds)
 
 -- no flow asks for an acknowledgement
 abbrev pub none_left : List Ask → Bool
@@ -49,10 +49,10 @@ pub record HasEnded (link : SharedCase) (cases : List Case) (most rounds : ℕ) 
 -- the run of at most `most` rounds is that after `rounds`: after the first round in which all flows have all
 -- acknowledgements, or else after the last one that may come
 pub record EndsAfter (link : SharedCase) (cases : List Case) (most rounds : ℕ) : Type 0 where
-  pub run : run_of link over_codes cases most ≡ run_after link over_codes cases rounds
-  pub few : rounds ≤ most_of cases most
+  pub run : whole_run link over_codes cases most ≡ run_after link over_codes cases rounds
+  pub few : rounds ≤ round_limit cases most
   pub first : (earlier : ℕ) → 0 < earlier → earlier < rounds → have_all (flows_after link cases earlier) ≡ false
-  pub last : rounds < most_of cases most → (0 < rounds) × (have_all (flows_after link cases rounds) ≡ true)
+  pub last : rounds < round_limit cases most → (0 < rounds) × (have_all (flows_after link cases rounds) ≡ true)
 
-abbrev pub Ends : SharedCase → List Case → ℕ → Type 0
-Ends link cases most = (rounds : ℕ) × EndsAfter link cases most rounds
+abbrev pub EndsInTime : SharedCase → List Case → ℕ → Type 0
+EndsInTime link cases most = (rounds : ℕ) × EndsAfter link cases most rounds

@@ -6,15 +6,15 @@ use Rattle.flow_core.specs.Words.{from_list}
 use Rattle.flow_core.specs.Cores.{CoreState}
 use Rattle.campaign_gate.specs.declared.row.Row.{Row}
 use Rattle.campaign_gate.specs.CampaignRow.{lost_in, acked_in, peak_from, row_over}
-use Rattle.shared_run.specs.RoundLetters.{Read, state_of}
+use Rattle.shared_run.specs.RoundLetters.{CaseReading, world_of_core}
 
 -- the greatest `Cwnd` of a flow at its opening or after a letter
-abbrev pub peak_of : {X : Type 0} → Read X → CoreState → ℕ
+abbrev pub peak_of : {X : Type 0} → CaseReading X → CoreState → ℕ
 peak_of read core = peak_from (read core.case) (from_list core.acks) (opening (read core.case)) core.word
 
 -- the row of a flow with its acknowledgements and its word
-abbrev pub flow_row : {X : Type 0} → Read X → CoreState → Row
-flow_row read core = row_over (read core.case) (state_of read core) (peak_of read core)
+abbrev pub flow_row : {X : Type 0} → CaseReading X → CoreState → Row
+flow_row read core = row_over (read core.case) (world_of_core read core) (peak_of read core)
 
 -- what a row sums over acknowledgements are numbers of 64 bits
 pub record AreRoomy (acks : List Ack) : Type 0 where

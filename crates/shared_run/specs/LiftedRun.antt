@@ -6,11 +6,11 @@ use Rattle.reg_compiler.specs.Simulation.{Simulates}
 use Rattle.flow_core.specs.declared.case.Case.{Case}
 use Rattle.flow_core.specs.Readings.{over_codes, over_sources}
 use Rattle.shared_link.specs.declared.shared_case.SharedCase.{SharedCase}
-use Rattle.shared_run.specs.RoundLetters.{Read}
-use Rattle.shared_run.specs.SharedHistory.{run_of, flows_of, shared_rows}
+use Rattle.shared_run.specs.RoundLetters.{CaseReading}
+use Rattle.shared_run.specs.SharedHistory.{whole_run, flows_at_end, shared_rows}
 
 -- a case's codes simulate the two programs that a reading has for it
-pub record AreSimulated (sources : Read Place) (case : Case) : Type 0 where
+pub record AreSimulated (sources : CaseReading Place) (case : Case) : Type 0 where
   pub ss : Form
   pub ca : Form
   pub ss_places : List Place
@@ -20,12 +20,12 @@ pub record AreSimulated (sources : Read Place) (case : Case) : Type 0 where
   pub ca_simulates : Simulates ca case.ca.code.code ca_places
 
 -- both readings of the cases have one run, one end of it, and the same rows
-pub record HaveOneRun (sources : Read Place) (link : SharedCase) (cases : List Case) (rounds : ℕ) : Type 0 where
-  pub run : run_of link over_codes cases rounds ≡ run_of link sources cases rounds
-  pub flows : flows_of link over_codes cases rounds ≡ flows_of link sources cases rounds
+pub record HaveOneRun (sources : CaseReading Place) (link : SharedCase) (cases : List Case) (rounds : ℕ) : Type 0 where
+  pub run : whole_run link over_codes cases rounds ≡ whole_run link sources cases rounds
+  pub flows : flows_at_end link over_codes cases rounds ≡ flows_at_end link sources cases rounds
   pub rows : shared_rows link over_codes cases rounds ≡ shared_rows link sources cases rounds
 
-abbrev pub IsLifted : SharedCase → List Case → ℕ → Type 0
-IsLifted link cases rounds =
-    (sources : Read Place) → ((k : ℕ) (case : Case) → slice_get cases k ≡ Some case → AreSimulated sources case)
+abbrev pub RunHoldsForSources : SharedCase → List Case → ℕ → Type 0
+RunHoldsForSources link cases rounds =
+    (sources : CaseReading Place) → ((k : ℕ) (case : Case) → slice_get cases k ≡ Some case → AreSimulated sources case)
     → HaveOneRun sources link cases rounds

@@ -1,4 +1,4 @@
--- The letters of a flow's part of a round: its acknowledgements, each with what is taken and answered after it.
+-- The letters of a flow's round_part of a round: its acknowledgements, each with what is taken and answered after it.
 use Rattle.std.specs.Prelude.{◌≡◌, ℕ, zero, suc, Bool, true, false, Option, Some, None, List, [], ◌∷◌, ◌++◌}
 use Rattle.ccp_base.specs.declared.ack.Ack.{Ack}
 use Rattle.flow_core.specs.declared.case.Case.{Case}
@@ -12,12 +12,12 @@ use Rattle.campaign_gate.specs.CampaignWord.{is_due, first_letter}
 use Rattle.flow_core.specs.LettersLeft.{letters_left}
 
 -- a reading of cases: over their codes, or over the sources of programs
-abbrev pub Read : Type 0 → Type 0
-Read X = Case → Flow X
+abbrev pub CaseReading : Type 0 → Type 0
+CaseReading X = Case → Flow X
 
 -- the state of a flow after its word, over its own acknowledgements
-abbrev pub state_of : {X : Type 0} → Read X → CoreState → World X
-state_of read core = world_over (read core.case) core.acks core.word
+abbrev pub world_of_core : {X : Type 0} → CaseReading X → CoreState → World X
+world_of_core read core = world_over (read core.case) core.acks core.word
 
 -- a flow without a letter
 abbrev pub opened : Case → CoreState
@@ -35,44 +35,44 @@ with_letter letter core = record { case = core.case; acks = core.acks; word = co
 
 -- whether an answer comes next: on the way where it is due, as in the campaign word, and at the run's end where a ticket
 -- is out
-abbrev pub is_answered : {X : Type 0} → Bool → Read X → CoreState → Bool
-is_answered false read core = is_due (read core.case) core.case.lag (state_of read core)
-is_answered true read core = is_legal (read core.case) (state_of read core) C
+abbrev pub is_answered : {X : Type 0} → Bool → CaseReading X → CoreState → Bool
+is_answered false read core = is_due (read core.case) core.case.lag (world_of_core read core)
+is_answered true read core = is_legal (read core.case) (world_of_core read core) C
 
 -- the next letter without an acknowledgement: C where an answer comes next, else T where it is legal
-abbrev pub next_letter : {X : Type 0} → Bool → Read X → CoreState → Option Letter
-next_letter at_end read core =
-    first_letter (is_answered at_end read core) (is_legal (read core.case) (state_of read core) T) false
+abbrev pub settling_letter : {X : Type 0} → Bool → CaseReading X → CoreState → Option Letter
+settling_letter at_end read core =
+    first_letter (is_answered at_end read core) (is_legal (read core.case) (world_of_core read core) T) false
 
 abbrev pub with_next : Option Letter → (CoreState → CoreState) → CoreState → CoreState
 with_next None rest core = core
 with_next (Some letter) rest core = rest (with_letter letter core)
 
 -- such letters again and again, at most so many
-abbrev pub settled_in : {X : Type 0} → Bool → Read X → ℕ → CoreState → CoreState
+abbrev pub settled_in : {X : Type 0} → Bool → CaseReading X → ℕ → CoreState → CoreState
 settled_in at_end read zero core = core
 settled_in at_end read (suc more) core =
-    with_next (next_letter at_end read core) (settled_in at_end read more) core
+    with_next (settling_letter at_end read core) (settled_in at_end read more) core
 
 -- such letters until none comes: as many as the flow's word can have yet, which `SettlingEnds` says is enough
-abbrev pub settled : {X : Type 0} → Bool → Read X → CoreState → CoreState
-settled at_end read core = settled_in at_end read (letters_left (read core.case) (state_of read core)) core
+abbrev pub after_settling : {X : Type 0} → Bool → CaseReading X → CoreState → CoreState
+after_settling at_end read core = settled_in at_end read (letters_left (read core.case) (world_of_core read core)) core
 
 -- after them no such letter comes, on the way and at the run's end
-abbrev pub SettlingEnds : {X : Type 0} → Read X → Type 0
-SettlingEnds read = (at_end : Bool) (core : CoreState) → next_letter at_end read (settled at_end read core) ≡ None
+abbrev pub SettlingEnds : {X : Type 0} → CaseReading X → Type 0
+SettlingEnds read = (at_end : Bool) (core : CoreState) → settling_letter at_end read (after_settling at_end read core) ≡ None
 
--- ---- a part
+-- ---- a round_part
 
 -- an acknowledgement, and what is taken and answered after it
-abbrev pub heard : {X : Type 0} → Read X → Ack → CoreState → CoreState
-heard read ack core = settled false read (with_ack ack core)
+abbrev pub with_settled_ack : {X : Type 0} → CaseReading X → Ack → CoreState → CoreState
+with_settled_ack read ack core = after_settling false read (with_ack ack core)
 
--- a flow's part of a round, in which it has these acknowledgements
-abbrev pub part : {X : Type 0} → Read X → List Ack → CoreState → CoreState
-part read [] core = core
-part read (ack ∷ rest) core = part read rest (heard read ack core)
+-- a flow's round_part of a round, in which it has these acknowledgements
+abbrev pub round_part : {X : Type 0} → CaseReading X → List Ack → CoreState → CoreState
+round_part read [] core = core
+round_part read (ack ∷ rest) core = round_part read rest (with_settled_ack read ack core)
 
 -- the run's end: nothing is out, and nothing is left to take
-abbrev pub closed : {X : Type 0} → Read X → CoreState → CoreState
-closed read core = settled true read core
+abbrev pub closed_flow : {X : Type 0} → CaseReading X → CoreState → CoreState
+closed_flow read core = after_settling true read core

@@ -5,7 +5,7 @@ use Rattle.flow_core.specs.Readings.{over_codes}
 use Rattle.flow_core.specs.Words.{legal_over, is_still}
 use Rattle.flow_core.specs.Books.{IsBookOf}
 use Rattle.flow_core.specs.Cores.{CoreState}
-use Rattle.shared_run.specs.RoundLetters.{state_of}
+use Rattle.shared_run.specs.RoundLetters.{world_of_core}
 
 -- the book of a flow: its case, its acknowledgements, and its word, which is legal and leaves nothing to take or to
 -- answer; and what these came to
@@ -14,8 +14,8 @@ pub record IsGivenOf (core : CoreState) (given : Given) : Type 0 where
   pub acks : given.acks ≡ core.acks
   pub word : given.book.word ≡ core.word
   pub legal : legal_over (over_codes core.case) core.acks core.word ≡ true
-  pub still : is_still (state_of over_codes core) ≡ true
-  pub book : IsBookOf (over_codes core.case) (state_of over_codes core) given.book
+  pub still : is_still (world_of_core over_codes core) ≡ true
+  pub book : IsBookOf (over_codes core.case) (world_of_core over_codes core) given.book
 
 -- one a flow, in order
 abbrev pub AreGivensOf : List CoreState → List Given → Type 0

@@ -5,7 +5,7 @@ use Rattle.flow_core.specs.declared.case.Case.{Case}
 use Rattle.flow_core.specs.Cores.{CoreState}
 use Rattle.campaign_gate.specs.declared.row.Row.{Row}
 use Rattle.campaign_gate.specs.CampaignRow.{window_of}
-use Rattle.shared_run.specs.RoundLetters.{Read, state_of, opened, part, closed}
+use Rattle.shared_run.specs.RoundLetters.{CaseReading, world_of_core, opened, round_part, closed_flow}
 use Rattle.shared_run.specs.FlowRow.{flow_row}
 use Rattle.shared_link.specs.declared.round.Ask.{Ask}
 use Rattle.shared_link.specs.declared.round.Counts.{Counts}
@@ -23,27 +23,27 @@ progress history flows = record { history = history; flows = flows }
 -- ---- a round
 
 -- what a flow asks the link for: its window, and for how many acknowledgements
-abbrev pub ask_of : {X : Type 0} → Read X → CoreState → Ask
+abbrev pub ask_of : {X : Type 0} → CaseReading X → CoreState → Ask
 ask_of read core = record {
-  window = window_of (read core.case) (state_of read core);
+  window = window_of (read core.case) (world_of_core read core);
   left = core.case.acks - length core.acks;
 }
 
-abbrev pub asks_of : {X : Type 0} → Read X → List CoreState → List Ask
+abbrev pub asks_of : {X : Type 0} → CaseReading X → List CoreState → List Ask
 asks_of read flows = map (ask_of read) flows
 
--- each flow's part of a round, in which the flows have these acknowledgements
-abbrev pub parts : {X : Type 0} → Read X → List (List Ack) → List CoreState → List CoreState
+-- each flow's round_part of a round, in which the flows have these acknowledgements
+abbrev pub parts : {X : Type 0} → CaseReading X → List (List Ack) → List CoreState → List CoreState
 parts read [] flows = flows
 parts read (acks ∷ others) [] = []
-parts read (acks ∷ others) (core ∷ rest) = part read acks core ∷ parts read others rest
+parts read (acks ∷ others) (core ∷ rest) = round_part read acks core ∷ parts read others rest
 
 -- the run after one more round with these asks
-abbrev pub after_asks : {X : Type 0} → SharedCase → Read X → List Ask → Progress → Progress
+abbrev pub after_asks : {X : Type 0} → SharedCase → CaseReading X → List Ask → Progress → Progress
 after_asks link read asks run =
     progress (run.history ++ asks ∷ []) (parts read (acks_after link run.history asks) run.flows)
 
-abbrev pub after_round : {X : Type 0} → SharedCase → Read X → Progress → Progress
+abbrev pub after_round : {X : Type 0} → SharedCase → CaseReading X → Progress → Progress
 after_round link read run = after_asks link read (asks_of read run.flows) run
 
 -- ---- the run
@@ -58,29 +58,29 @@ abbrev pub ends_or : (Progress → Progress) → Progress → Progress
 ends_or rest run = if have_all run.flows then run else rest run
 
 -- rounds until all flows have all acknowledgements, at most so many
-abbrev pub rounds_from : {X : Type 0} → SharedCase → Read X → ℕ → Progress → Progress
+abbrev pub rounds_from : {X : Type 0} → SharedCase → CaseReading X → ℕ → Progress → Progress
 rounds_from link read zero run = run
 rounds_from link read (suc more) run = ends_or (rounds_from link read more) (after_round link read run)
 
 -- where there are no flows no round is run
-abbrev pub most_of : List Case → ℕ → ℕ
-most_of [] rounds = 0
-most_of (case ∷ rest) rounds = rounds
+abbrev pub round_limit : List Case → ℕ → ℕ
+round_limit [] rounds = 0
+round_limit (case ∷ rest) rounds = rounds
 
 -- the run of cases over a link, of at most so many rounds
-abbrev pub run_of : {X : Type 0} → SharedCase → Read X → List Case → ℕ → Progress
-run_of link read cases rounds = rounds_from link read (most_of cases rounds) (progress [] (map opened cases))
+abbrev pub whole_run : {X : Type 0} → SharedCase → CaseReading X → List Case → ℕ → Progress
+whole_run link read cases rounds = rounds_from link read (round_limit cases rounds) (progress [] (map opened cases))
 
 -- ---- what comes of it
 
 -- the flows at the end, with their acknowledgements and words
-abbrev pub flows_of : {X : Type 0} → SharedCase → Read X → List Case → ℕ → List CoreState
-flows_of link read cases rounds = map (closed read) (run_of link read cases rounds).flows
+abbrev pub flows_at_end : {X : Type 0} → SharedCase → CaseReading X → List Case → ℕ → List CoreState
+flows_at_end link read cases rounds = map (closed_flow read) (whole_run link read cases rounds).flows
 
 -- the rows of the flows, in their order
-abbrev pub shared_rows : {X : Type 0} → SharedCase → Read X → List Case → ℕ → List Row
-shared_rows link read cases rounds = map (flow_row read) (flows_of link read cases rounds)
+abbrev pub shared_rows : {X : Type 0} → SharedCase → CaseReading X → List Case → ℕ → List Row
+shared_rows link read cases rounds = map (flow_row read) (flows_at_end link read cases rounds)
 
 -- the link's packets
-abbrev pub shared_counts : {X : Type 0} → SharedCase → Read X → List Case → ℕ → Counts
-shared_counts link read cases rounds = counts_of link (run_of link read cases rounds).history
+abbrev pub shared_counts : {X : Type 0} → SharedCase → CaseReading X → List Case → ℕ → Counts
+shared_counts link read cases rounds = counts_of link (whole_run link read cases rounds).history

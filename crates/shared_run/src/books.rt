@@ -4,7 +4,7 @@ ghost use Rattle.std.specs.List.{All};
 ghost use Rattle.flow_core.specs.Readings.{over_codes};
 ghost use Rattle.flow_core.specs.Cores.{CoreState};
 ghost use Rattle.shared_run.specs.FlowRow.{flow_row, AreRoomy};
-ghost use Rattle.shared_run.specs.RoundLetters.{closed};
+ghost use Rattle.shared_run.specs.RoundLetters.{closed_flow};
 ghost use Rattle.shared_run.specs.SharedBooks.{IsGivenOf, AreGivensOf};
 
 use crate::flow::SharedFlow;
@@ -29,8 +29,8 @@ pub struct SharedRun {
 /// The books and rows of the flows, each of which takes and answers until nothing is left.
 pub(crate) fn close_flows(alloc: Global, flows: Vec<SharedFlow>) -> Result<(Givens, Rows), NoMemory>
     requires { All (λ (core : CoreState). AreRoomy core.acks) flows.items }
-    ensures givens { IfOk result (λ made. AreGivensOf (map (closed over_codes) flows.items) made.0) }
-    ensures rows { IfOk result (λ made. made.1 ≡ map (flow_row over_codes) (map (closed over_codes) flows.items)) }
+    ensures givens { IfOk result (λ made. AreGivensOf (map (closed_flow over_codes) flows.items) made.0) }
+    ensures rows { IfOk result (λ made. made.1 ≡ map (flow_row over_codes) (map (closed_flow over_codes) flows.items)) }
 {
     let mut givens = Givens::new(alloc);
     let mut rows = Rows::new(alloc);
@@ -48,8 +48,8 @@ fn close_into(
     requires roomy { All (λ (core : CoreState). AreRoomy core.acks) flows.items }
     requires no_givens { givens.old ≡ [] }
     requires no_rows { rows.old ≡ [] }
-    ensures givens { OnOk result (AreGivensOf (map (closed over_codes) flows.items) givens.new) }
-    ensures rows { OnOk result (rows.new ≡ map (flow_row over_codes) (map (closed over_codes) flows.items)) }
+    ensures givens { OnOk result (AreGivensOf (map (closed_flow over_codes) flows.items) givens.new) }
+    ensures rows { OnOk result (rows.new ≡ map (flow_row over_codes) (map (closed_flow over_codes) flows.items)) }
 {
     for flow in flows {
         let (given, row) = close_flow(alloc, flow)?;
@@ -62,8 +62,8 @@ fn close_into(
 /// The book and row of a flow, which takes and answers until nothing is left.
 fn close_flow(alloc: Global, flow: SharedFlow) -> Result<(Given, Row), NoMemory>
     requires { AreRoomy flow.acks }
-    ensures given { IfOk result (λ made. IsGivenOf (closed over_codes flow) made.0) }
-    ensures row { IfOk result (λ made. made.1 ≡ flow_row over_codes (closed over_codes flow)) }
+    ensures given { IfOk result (λ made. IsGivenOf (closed_flow over_codes flow) made.0) }
+    ensures row { IfOk result (λ made. made.1 ≡ flow_row over_codes (closed_flow over_codes flow)) }
 {
     let mut flow = flow;
     flow.close(alloc)?;

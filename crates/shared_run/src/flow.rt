@@ -4,10 +4,10 @@ ghost use Rattle.flow_core.specs.Readings.{over_codes};
 ghost use Rattle.flow_core.specs.Words.{is_still, is_legal, legal_over};
 ghost use Rattle.flow_core.specs.Books.{IsBookOf};
 ghost use Rattle.campaign_gate.specs.CampaignRow.{window_of};
-ghost use Rattle.shared_run.specs.RoundLetters.{state_of, opened, with_ack, with_letter, is_answered, settled, part, closed};
+ghost use Rattle.shared_run.specs.RoundLetters.{world_of_core, opened, with_ack, with_letter, is_answered, after_settling, round_part, closed_flow};
 ghost use Rattle.shared_run.specs.FlowRow.{flow_row, AreRoomy};
-ghost use Rattle.shared_run.specs.LiftedFlow.{IsLifted};
-ghost use Rattle.shared_run.specs.OnWay.{Turned, Took};
+ghost use Rattle.shared_run.specs.LiftedFlow.{FlowHoldsForSources};
+ghost use Rattle.shared_run.specs.OnWay.{MakesNext, Took};
 
 use agent_core::calls::answer;
 use campaign_gate::{Row, Sums};
@@ -64,7 +64,7 @@ impl SharedFlow {
 
     /// The present congestion window, in bytes.
     pub(crate) fn window(&self) -> u64
-        ensures { result ≡ window_of (over_codes self.now.case) (state_of over_codes self.now) }
+        ensures { result ≡ window_of (over_codes self.now.case) (world_of_core over_codes self.now) }
     {
         self.core.cwnd()
     }
@@ -88,7 +88,7 @@ impl SharedFlow {
     /// out, only the first of its letters are made; without an acknowledgement it can't run out.
     pub(crate) fn part(&mut self, alloc: Global, acks: &[Ack]) -> Result<(), NoMemory>
         requires { length self.old.acks + length acks.now ≤ self.old.case.acks }
-        ensures part { OnOk result (self.new ≡ part over_codes acks.now self.old) }
+        ensures part { OnOk result (self.new ≡ round_part over_codes acks.now self.old) }
         ensures nothing { length acks.now ≡ 0 → IsOk result }
     {
         self.hear_all::<Brand>(alloc, acks, Blank::new(1))
@@ -105,7 +105,7 @@ impl SharedFlow {
         requires parts { blank.parts ≡ L.parts }
         requires some { 0 < blank.parts }
         requires left { length self.old.acks + length acks.now ≤ self.old.case.acks }
-        ensures part { OnOk result (self.new ≡ part over_codes acks.now self.old) }
+        ensures part { OnOk result (self.new ≡ round_part over_codes acks.now self.old) }
         ensures nothing { length acks.now ≡ 0 → IsOk result }
     {
         let mut steps = Steps::<L>::new(blank);
@@ -120,15 +120,15 @@ impl SharedFlow {
 
     /// The run's end: takes and answers until nothing is out and nothing is left to take.
     pub(crate) fn close(&mut self, alloc: Global) -> Result<(), NoMemory>
-        ensures closed { OnOk result (self.new ≡ closed over_codes self.old) }
-        ensures still { OnOk result (is_still (state_of over_codes self.new) ≡ true) }
+        ensures closed { OnOk result (self.new ≡ closed_flow over_codes self.old) }
+        ensures still { OnOk result (is_still (world_of_core over_codes self.new) ≡ true) }
     {
         self.settle_all(alloc, true)
     }
 
     /// Takes and answers until nothing comes next.
     fn settle_all(&mut self, alloc: Global, at_end: bool) -> Result<(), NoMemory>
-        ensures { OnOk result (self.new ≡ settled at_end over_codes self.old) }
+        ensures { OnOk result (self.new ≡ after_settling at_end over_codes self.old) }
     {
         while self.turn(alloc, at_end)? {}
         Ok(())
@@ -136,7 +136,7 @@ impl SharedFlow {
 
     /// Makes the next letter that takes no acknowledgement, and says whether there is one.
     fn turn(&mut self, alloc: Global, at_end: bool) -> Result<bool, NoMemory>
-        ensures { IfOk result (λ made. Turned at_end made self.old self.new) }
+        ensures { IfOk result (λ made. MakesNext at_end made self.old self.new) }
     {
         if self.is_answered(at_end) {
             self.settle();
@@ -170,7 +170,7 @@ impl SharedFlow {
 
     /// Applies the answer to the ticket that is out.
     fn settle(&mut self)
-        requires { is_legal (over_codes self.old.case) (state_of over_codes self.old) Letter.C ≡ true }
+        requires { is_legal (over_codes self.old.case) (world_of_core over_codes self.old) Letter.C ≡ true }
         ensures { self.new ≡ with_letter Letter.C self.old }
     {
         let Some(ticket) = self.core.out() else {
@@ -201,15 +201,15 @@ impl SharedFlow {
     /// What the flow's history came to, and its row. No ticket may be out, and nothing may be left to take. For all programs
     /// that the case's codes simulate, the flow does the same over these sources.
     pub(crate) fn finish(self) -> (Given, Row)
-        requires still { is_still (state_of over_codes self) ≡ true }
+        requires still { is_still (world_of_core over_codes self) ≡ true }
         requires roomy { AreRoomy self.acks }
         ensures case { result.0.book.case ≡ self.case }
         ensures acks { result.0.acks ≡ self.acks }
         ensures word { result.0.book.word ≡ self.word }
         ensures legal { legal_over (over_codes self.case) self.acks self.word ≡ true }
-        ensures book { IsBookOf (over_codes self.case) (state_of over_codes self) result.0.book }
+        ensures book { IsBookOf (over_codes self.case) (world_of_core over_codes self) result.0.book }
         ensures row { result.1 ≡ flow_row over_codes self }
-        ensures lifted { IsLifted self.case }
+        ensures lifted { FlowHoldsForSources self.case }
     {
         let sums = Sums::of(self.core.given());
         let row = Row::of(self.core.bare(), sums, self.peak);

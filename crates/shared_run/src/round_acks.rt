@@ -1,7 +1,7 @@
 //! What a flow of a run is given in a round.
 ghost use Rattle.std.specs.Prelude.{◌≡◌, ◌<◌, Some, slice_get};
 ghost use Rattle.ccp_base.specs.Limits.{most_rounds};
-ghost use Rattle.shared_run.specs.Courses.{acks_in};
+ghost use Rattle.shared_run.specs.Courses.{acks_in_round};
 
 use crate::course::Course;
 use ccp_base::Acks;
@@ -15,14 +15,14 @@ pub(crate) struct RoundAcks<C: Course> {
     pub(crate) number: u32,
     pub(crate) round: u32,
     of: PhantomData<C>,
-    ghost are: { slice_get (acks_in C.link C.cases round) number ≡ Some acks },
+    ghost are: { slice_get (acks_in_round C.link C.cases round) number ≡ Some acks },
     ghost few: { round < most_rounds },
 }
 
 impl<C: Course> RoundAcks<C> {
     /// A flow's acknowledgements in a round of the run.
     pub(crate) fn new(acks: Acks, number: u32, round: u32) -> Self
-        requires are { slice_get (acks_in C.link C.cases round) number ≡ Some acks }
+        requires are { slice_get (acks_in_round C.link C.cases round) number ≡ Some acks }
         requires few { round < most_rounds }
         ensures acks { result.acks ≡ acks }
         ensures number { result.number ≡ number }

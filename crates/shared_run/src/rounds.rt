@@ -1,7 +1,7 @@
 //! The rounds of a shared run: flows ask, the link answers, and workers do the flows' parts.
 ghost use Rattle.std.specs.Prelude.{◌≡◌, ◌+◌, ◌<◌, ◌≤◌, length, IfOk, OnOk};
 ghost use Rattle.ccp_base.specs.Limits.{most_flows, most_rounds, most_workers};
-ghost use Rattle.shared_run.specs.Courses.{asks_in, acks_in, StandsAfter, HasEnded};
+ghost use Rattle.shared_run.specs.Courses.{asks_in, acks_in_round, StandsAfter, HasEnded};
 ghost use Rattle.shared_run.specs.Orders.{AreDealt, IsDealtBefore, DealsOne};
 
 use crate::course::Course;
@@ -36,7 +36,7 @@ fn deal<C: Course, R: Wait>(
     workers: u32,
 ) -> Result<Vec<Order<C>>, NoMemory>
     requires workers { 1 ≤ workers }
-    requires lists { lists ≡ acks_in C.link C.cases round }
+    requires lists { lists ≡ acks_in_round C.link C.cases round }
     requires few { length lists ≤ most_flows }
     requires round { round < most_rounds }
     ensures link { link.new ≡ link.old }

@@ -4,10 +4,10 @@ ghost use Rattle.ccp_base.specs.Limits.{most_flows, most_rounds};
 ghost use Rattle.scenario_json.specs.Cases.{plan_of, AreFlowsFrom};
 ghost use Rattle.scenario_json.specs.SharedScenes.{flow_link_of};
 ghost use Rattle.shared_link.specs.SharedLimits.{IsWithin};
-ghost use Rattle.shared_run.specs.SharedHistory.{most_of};
-ghost use Rattle.shared_run.specs.Courses.{Ends};
+ghost use Rattle.shared_run.specs.SharedHistory.{round_limit};
+ghost use Rattle.shared_run.specs.Courses.{EndsInTime};
 ghost use Rattle.shared_run.specs.WholeRun.{IsRunOf};
-ghost use Rattle.shared_run.specs.LiftedRun.{IsLifted};
+ghost use Rattle.shared_run.specs.LiftedRun.{RunHoldsForSources};
 
 use crate::books::{SharedRun, close_flows};
 use crate::course::Course;
@@ -45,9 +45,9 @@ pub fn shared<R: Threads + Wait + Sync, G: Gate + Sync>(
     requires rounds { scene.rounds ≤ most_rounds }
     ensures run { IfOk result (IsRunOf scene.link scene.scene.cases scene.rounds) }
     // It ends after the first round in which all flows have all acknowledgements, or else after the last one.
-    ensures ends { Ends scene.link scene.scene.cases scene.rounds }
+    ensures ends { EndsInTime scene.link scene.scene.cases scene.rounds }
     // For all programs that the cases' codes simulate, the run is that of these sources.
-    ensures lifted { IsLifted scene.link scene.scene.cases scene.rounds }
+    ensures lifted { RunHoldsForSources scene.link scene.scene.cases scene.rounds }
 {
     run(rt, alloc, scene, workers, gate)
 }
@@ -128,7 +128,7 @@ fn make_bells(alloc: Global, workers: Workers) -> Result<Vec<Parker>, NoMemory>
 
 /// How many rounds these cases are run for at most.
 fn most_of(cases: &[Case], rounds: u32) -> u32
-    ensures { result ≡ most_of cases.now rounds }
+    ensures { result ≡ round_limit cases.now rounds }
 {
     if cases.is_empty() { 0 } else { rounds }
 }

@@ -7,7 +7,7 @@ use Rattle.std.proofs.lemmas.List.{drop-set-add, drop-set-lt, take-set-le, drop-
 use Rattle.std.proofs.lemmas.Slice.{take-put_mid_below, drop-put_mid}
 use borrow.Rule.Slice.PartMut.{put_mid}
 use Rattle.slot_pool.specs.Pool.{with_run}
-use Rattle.slot_pool.specs.Region.{words_in}
+use Rattle.slot_pool.specs.Region.{slot_words_in}
 
 -- a slot ends before each later one begins
 pub slots_in_order : (words a b : ℕ) → a < b → a * words + words ≤ b * words
@@ -17,20 +17,20 @@ slots_in_order words a b h = omega (arith, mul-le-mul_right words (suc_le a b h)
     suc_le a b h = omega arith
 
 -- the first word of a slot
-pub first_word : (region : List ℕ) (words slot : ℕ) → 0 < words → get_or (words_in region words slot) 0 0 ≡ get_or region (slot * words) 0
+pub first_word : (region : List ℕ) (words slot : ℕ) → 0 < words → get_or (slot_words_in region words slot) 0 0 ≡ get_or region (slot * words) 0
 first_word region words slot h =
     get_or-take words (drop (slot * words) region) 0 0 h ∙ get_or-drop (slot * words) region 0 0 ∙ ap (λ i. get_or region i 0) (omega arith)
 
 -- a slot has so many words
-pub length-words_in : (region : List ℕ) (words slot : ℕ) → slot * words + words ≤ length region → length (words_in region words slot) ≡ words
+pub length-words_in : (region : List ℕ) (words slot : ℕ) → slot * words + words ≤ length region → length (slot_words_in region words slot) ≡ words
 length-words_in region words slot room = simp (length-take, length-drop) (omega arith)
 
 -- after a write within a slot
-pub words_in-set : (region : List ℕ) (words slot at word : ℕ) → at < words → words_in (set region (slot * words + at) word) words slot ≡ set (words_in region words slot) at word
+pub words_in-set : (region : List ℕ) (words slot at word : ℕ) → at < words → slot_words_in (set region (slot * words + at) word) words slot ≡ set (slot_words_in region words slot) at word
 words_in-set region words slot at word h =
     ap (take words) (drop-set-add (slot * words) region at word) ∙ take-set-lt words (drop (slot * words) region) at word h
 
-pub words_in-set_other : (region : List ℕ) (words slot at word other : ℕ) → at < words → other ≢ slot → words_in (set region (slot * words + at) word) words other ≡ words_in region words other
+pub words_in-set_other : (region : List ℕ) (words slot at word other : ℕ) → at < words → other ≢ slot → slot_words_in (set region (slot * words + at) word) words other ≡ slot_words_in region words other
 words_in-set_other region words slot at word other h apart =
     elim (cases_order other slot) [
       | inl e ↦ absurd (apart e)
@@ -45,12 +45,12 @@ words_in-set_other region words slot at word other h apart =
     ]
 
 -- after the words of a slot are written as a whole
-pub words_in-put : (region : List ℕ) (words slot : ℕ) (written : List ℕ) → slot * words + words ≤ length region → length written ≡ words → words_in (put_mid (slot * words) words region written) words slot ≡ written
+pub words_in-put : (region : List ℕ) (words slot : ℕ) (written : List ℕ) → slot * words + words ≤ length region → length written ≡ words → slot_words_in (put_mid (slot * words) words region written) words slot ≡ written
 words_in-put region words slot written room len =
     ap (take words) (drop_at (take (slot * words) region) _ (slot * words) (length-take-le (slot * words) region (omega arith)))
     ∙ take_at written _ words len
 
-pub words_in-put_other : (region : List ℕ) (words slot : ℕ) (written : List ℕ) (other : ℕ) → slot * words + words ≤ length region → length written ≡ words → other ≢ slot → words_in (put_mid (slot * words) words region written) words other ≡ words_in region words other
+pub words_in-put_other : (region : List ℕ) (words slot : ℕ) (written : List ℕ) (other : ℕ) → slot * words + words ≤ length region → length written ≡ words → other ≢ slot → slot_words_in (put_mid (slot * words) words region written) words other ≡ slot_words_in region words other
 words_in-put_other region words slot written other room len apart =
     elim (cases_order other slot) [
       | inl e ↦ absurd (apart e)
@@ -65,11 +65,11 @@ words_in-put_other region words slot written other room len apart =
     ]
 
 -- after some words of a slot are written
-pub words_in-run : (region : List ℕ) (words slot at : ℕ) (run : List ℕ) → slot * words + words ≤ length region → at + length run ≤ words → words_in (put_mid (slot * words + at) (length run) region run) words slot ≡ with_run (words_in region words slot) at run
+pub words_in-run : (region : List ℕ) (words slot at : ℕ) (run : List ℕ) → slot * words + words ≤ length region → at + length run ≤ words → slot_words_in (put_mid (slot * words + at) (length run) region run) words slot ≡ with_run (slot_words_in region words slot) at run
 words_in-run region words slot at run room fits =
     same_lists _ _ (search (rules, places)) (λ k d h. grind (arith, places))
 
-pub words_in-run_other : (region : List ℕ) (words slot at : ℕ) (run : List ℕ) (other : ℕ) → slot * words + words ≤ length region → at + length run ≤ words → other ≢ slot → words_in (put_mid (slot * words + at) (length run) region run) words other ≡ words_in region words other
+pub words_in-run_other : (region : List ℕ) (words slot at : ℕ) (run : List ℕ) (other : ℕ) → slot * words + words ≤ length region → at + length run ≤ words → other ≢ slot → slot_words_in (put_mid (slot * words + at) (length run) region run) words other ≡ slot_words_in region words other
 words_in-run_other region words slot at run other room fits apart =
     elim (cases_order other slot) [
       | inl e ↦ absurd (apart e)

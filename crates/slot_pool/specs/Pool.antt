@@ -48,12 +48,12 @@ abbrev pub with_run : List ℕ → ℕ → List ℕ → List ℕ
 with_run words at run = take at words ++ (run ++ drop (at + length run) words)
 
 -- the words of a slot, with a run written
-abbrev pub with_words : PoolState → ℕ → ℕ → List ℕ → Option (List ℕ)
-with_words p slot at run = option_map (λ words. with_run words at run) (words_at p slot)
+abbrev pub words_with_run : PoolState → ℕ → ℕ → List ℕ → Option (List ℕ)
+words_with_run p slot at run = option_map (λ words. with_run words at run) (words_at p slot)
 
 -- the words of a slot, with one written
-abbrev pub with_word : PoolState → ℕ → ℕ → ℕ → Option (List ℕ)
-with_word p slot at word = option_map (λ words. slice_set words at word) (words_at p slot)
+abbrev pub words_with_one : PoolState → ℕ → ℕ → ℕ → Option (List ℕ)
+words_with_one p slot at word = option_map (λ words. slice_set words at word) (words_at p slot)
 
 -- a slot is out now, and its words are all 0
 abbrev pub TakesZeros : PoolState → PoolState → ℕ → Type 0
@@ -61,4 +61,4 @@ TakesZeros old new slot = ChangesSlot old new slot (Some (replicate old.words 0)
 
 -- one word of a slot is written, at a place
 abbrev pub WritesWord : PoolState → PoolState → ℕ → ℕ → ℕ → Type 0
-WritesWord old new slot at word = ChangesSlot old new slot (with_word old slot at word)
+WritesWord old new slot at word = ChangesSlot old new slot (words_with_one old slot at word)

@@ -3,11 +3,11 @@ use Rattle.std.specs.Prelude.{◌≡◌, ◌≢◌, ℕ, ◌*◌, List, take, dr
 use Rattle.slot_pool.specs.declared.region.Region.{Region}
 
 -- the words of a slot, in a region of slots of `words` words each
-abbrev pub words_in : List ℕ → ℕ → ℕ → List ℕ
-words_in items words slot = take words (drop (slot * words) items)
+abbrev pub slot_words_in : List ℕ → ℕ → ℕ → List ℕ
+slot_words_in items words slot = take words (drop (slot * words) items)
 
 abbrev pub words_of : Region → ℕ → List ℕ
-words_of region slot = words_in region.items.items region.words slot
+words_of region slot = slot_words_in region.items.items region.words slot
 
 -- the new region has these words at the slot, and all other slots are the old ones
 pub record ChangesWords (old new : Region) (slot : ℕ) (written : List ℕ) : Type 0 where

@@ -3,7 +3,7 @@ use Rattle.std.proofs.Common.{◌≡◌, ◌≢◌, ℕ, ◌-◌, List, Option, 
 use Rattle.std.proofs.lemmas.Bool.{cases_eq, true≢false}
 use Rattle.std.specs.Cmp.{nat_cmp_total}
 use Rattle.std.specs.FinMap as map
-use Rattle.slot_pool.specs.Pool.{PoolState, words_at, IsOut, free_of, with_word, ChangesSlot}
+use Rattle.slot_pool.specs.Pool.{PoolState, words_at, IsOut, free_of, words_with_one, ChangesSlot}
 use Rattle.slot_pool.specs.PoolLaws.{get-remove_same, get-remove_other, same_out, some_len}
 
 -- the pool without a slot that is out
@@ -17,7 +17,7 @@ module _ (p : PoolState) (own : ℕ) where
   pub words_at-without : (slot : ℕ) → slot ≢ own → words_at (without p own) slot ≡ words_at p slot
   words_at-without slot apart = get-remove_other p.out own slot apart
 
-  pub with_word-without : (slot at word : ℕ) → slot ≢ own → with_word (without p own) slot at word ≡ with_word p slot at word
+  pub with_word-without : (slot at word : ℕ) → slot ≢ own → words_with_one (without p own) slot at word ≡ words_with_one p slot at word
   with_word-without slot at word apart = ap (option_map (λ words. slice_set words at word)) (words_at-without slot apart)
 
   -- what is out there is another slot, and is out in the pool

@@ -1,7 +1,7 @@
 //! The pool of slots: a slot is taken, written, read and given back, and free ones are counted.
 ghost use Rattle.std.specs.Prelude.{◌≡◌, ℕ, ◌+◌, ◌-◌, ◌*◌, ◌^◌, ◌<◌, ◌≤◌, ◌↔◌, [], length, None, Some, IsErr, IfOk, OnOk, OnErr};
 ghost use Rattle.std.specs.FinMap as map;
-ghost use Rattle.slot_pool.specs.Pool.{words_at, IsOut, free_of, unused, ChangesSlot, TakesZeros, WritesWord, with_words};
+ghost use Rattle.slot_pool.specs.Pool.{words_at, IsOut, free_of, unused, ChangesSlot, TakesZeros, WritesWord, words_with_run};
 
 use crate::region::Region;
 use crate::slot::{Full, Slot};
@@ -109,7 +109,7 @@ impl Pool {
     pub fn write_run(&mut self, slot: &Slot, at: u32, run: &[u64])
         requires out { IsOut self.old slot.now }
         requires within { at + length run.now ≤ self.old.words }
-        ensures written { ChangesSlot self.old self.new slot.now (with_words self.old slot.now at run.now) }
+        ensures written { ChangesSlot self.old self.new slot.now (words_with_run self.old slot.now at run.now) }
         ensures out { IsOut self.new slot.now }
         ensures counted { free_of self.new ≡ free_of self.old }
     {

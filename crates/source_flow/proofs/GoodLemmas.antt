@@ -1,12 +1,12 @@
 -- What an agent's reply writes names control variables that the program has.
 use Rattle.std.specs.Prelude.{◌≡◌, ℕ, ◌==◌, Bool, true, false, if◌then◌else◌, None, length}
 use Rattle.std.proofs.Common.{ap, ◌∙◌}
-use Rattle.ccp_base.specs.FieldReg.{first_bad}
+use Rattle.ccp_base.specs.FieldReg.{first_bad_pair}
 use Rattle.ccp_base.specs.declared.exchange.Reply.{Reply}
 use Rattle.ccp_base.specs.declared.exchange.Reply.TheVariants.{Nothing, Update, Change}
 use Rattle.portus_core.specs.ProgramForm.{form_of}
 use Rattle.agent_core.specs.declared.agent.Agent.{Agent}
-use Rattle.agent_core.specs.Agents.{begun, course_of, values_of}
+use Rattle.agent_core.specs.Agents.{opening_change, course_of, values_of}
 use Rattle.agent_core.specs.RoleLaws.{AreRoles}
 use Rattle.flow_core.proofs.ValueLemmas.{good-values}
 use Rattle.flow_core.specs.Readings.{code_at}
@@ -32,11 +32,11 @@ pub good-reply : (source : SourceCase) (agent : Agent) (reply : Reply) → AreMa
 good-reply source agent Nothing matched roles = tt
 good-reply source agent (Update cwnd) matched roles = tt
 good-reply source agent (Change program cwnd cap_value) matched roles =
-    ap (λ (n : ℕ). first_bad n (values_of agent (Change program cwnd cap_value))) (controls-at source program matched)
+    ap (λ (n : ℕ). first_bad_pair n (values_of agent (Change program cwnd cap_value))) (controls-at source program matched)
     ∙ good-values source.case.now agent roles program (Change program cwnd cap_value)
 
 pub good-opening : (source : SourceCase) → AreMatched source
-    → first_bad (length (form_at source (course_of source.case.now.agent).ss.number).controls) (values_of source.case.now.agent (begun source.case.now.agent)) ≡ None
+    → first_bad_pair (length (form_at source (course_of source.case.now.agent).ss.number).controls) (values_of source.case.now.agent (opening_change source.case.now.agent)) ≡ None
 good-opening source matched =
     let case = source.case.now in
-    good-reply source case.agent (begun case.agent) matched (record { ss_same = case.ss_role; ca_same = case.ca_role })
+    good-reply source case.agent (opening_change case.agent) matched (record { ss_same = case.ss_role; ca_same = case.ca_role })

@@ -17,8 +17,8 @@ use Rattle.source_flow.specs.declared.source_case.SourceCase.{SourceCase}
 use Rattle.source_flow.specs.declared.state.Present.{Present}
 use Rattle.source_flow.specs.declared.state.State.{State}
 use Rattle.source_flow.specs.SourceAccounts.{failure_of}
-use Rattle.source_flow.specs.SourceStates.{form_at, flow_of, Kept, seen, kept_of, IsAt}
-use Rattle.source_flow.specs.SourceSteps.{track_in, failures_in, untold_by, PutDown}
+use Rattle.source_flow.specs.SourceStates.{form_at, flow_over_sources, KeptFlow, seen, kept_of, IsAt}
+use Rattle.source_flow.specs.SourceSteps.{present_track, failures_in, untold_by, PutDown}
 use Rattle.source_flow.proofs.StateLemmas.{epoch_lines-last, time-append}
 
 -- ---- what an outcome comes to depends on where the span begins and on the count alone
@@ -52,22 +52,22 @@ reports-same stopped epoch ack env one other first count = refl
 
 -- the notice that is untold after an acknowledgement
 untold-same : (source : SourceCase) (failures : List (Failure Place)) (untold : Option (Failure Place))
-    → untold_by source.case.now.flow failures (option_map (notice_of (flow_of source)) untold)
-    ≡ option_map (notice_of (flow_of source)) (untold_after failures untold)
+    → untold_by source.case.now.flow failures (option_map (notice_of (flow_over_sources source)) untold)
+    ≡ option_map (notice_of (flow_over_sources source)) (untold_after failures untold)
 untold-same source [] untold = refl
 untold-same source (failure ∷ rest) untold = refl
 
 -- ---- the state after it
 
-module _ (source : SourceCase) (s : State) (w : World Place) (at : IsAt (flow_of source) s w) where
+module _ (source : SourceCase) (s : State) (w : World Place) (at : IsAt (flow_over_sources source) s w) where
   abbrev flow : Flow Place
-  flow = flow_of source
+  flow = flow_over_sources source
 
   -- what the source makes of an acknowledgement is what the state makes of it
   met-same : (room : Bool) (ack : Ack) → room ≡ nat_lt (length s.waiting.items) source.case.now.slots
       → heard (by_source (form_at source s.present.program)) s.present.is_stopped s.present.env ack room ≡ met_in flow w ack
   met-same room ack is_room =
-      let at_room : room ≡ has_room flow w = is_room ∙ ap (λ (k : Kept). nat_lt (length k.waiting) source.case.now.slots) at.kept in
+      let at_room : room ≡ has_room flow w = is_room ∙ ap (λ (k : KeptFlow). nat_lt (length k.waiting) source.case.now.slots) at.kept in
       λ i. heard (by_source (form_at source (at.kept i).program)) (at.kept i).is_stopped (at.kept i).env ack (at_room i)
 
   module _ (link : LinkState) (room : Bool) (ack : Ack) (outcome : Outcome Cause) (env : Env) (put : State)
@@ -94,10 +94,10 @@ module _ (source : SourceCase) (s : State) (w : World Place) (at : IsAt (flow_of
       final = record put { acks = put.acks + 1; time = ack.now }
 
       count-same : s.acks ≡ (track_of flow w).count
-      count-same = ap (λ (k : Kept). k.acks) at.kept ∙ sym at.count
+      count-same = ap (λ (k : KeptFlow). k.acks) at.kept ∙ sym at.count
 
       first-old : s.present.first ≡ (track_of flow w).first
-      first-old = ap (λ (k : Kept). k.first) at.kept
+      first-old = ap (λ (k : KeptFlow). k.first) at.kept
 
       failures-same : failures_in between ack outcome ≡ failures_met w.present.program (length w.past) (track_of flow w).count ack (outcome, env)
       failures-same = λ i. failures_met (at.kept i).program (at.kept i).epoch (count-same i) ack (outcome, env)
@@ -105,15 +105,15 @@ module _ (source : SourceCase) (s : State) (w : World Place) (at : IsAt (flow_of
       kept-first : put.present.first ≡ (track_of flow next).first
       kept-first =
           ap (λ (p : Present). p.first) down.present
-          ∙ first-same outcome (track_in between) (track_of flow w) first-old count-same
+          ∙ first-same outcome (present_track between) (track_of flow w) first-old count-same
           ∙ sym (ap (λ (t : Track). t.first) track-next)
 
       kept-waiting : put.waiting.items ≡ next.waiting
       kept-waiting =
           down.waiting
-          ∙ (λ i. (at.kept i).waiting ++ reports_met (record { flow = source.case.now.flow; program = (at.kept i).program; number = (at.kept i).epoch }) (track_in between) ack outcome env)
+          ∙ (λ i. (at.kept i).waiting ++ reports_met (record { flow = source.case.now.flow; program = (at.kept i).program; number = (at.kept i).epoch }) (present_track between) ack outcome env)
           ∙ ap (λ (rs : List Report). w.waiting ++ rs)
-          (reports-same outcome (record { flow = source.case.now.flow; program = w.present.program; number = length w.past }) ack env (track_in between) (track_of flow w) first-old count-same)
+          (reports-same outcome (record { flow = source.case.now.flow; program = w.present.program; number = length w.past }) ack env (present_track between) (track_of flow w) first-old count-same)
 
       kept-untold : put.untold ≡ option_map (notice_of flow) next.untold
       kept-untold =
@@ -125,12 +125,12 @@ module _ (source : SourceCase) (s : State) (w : World Place) (at : IsAt (flow_of
       kept-faults = down.faults ∙ (λ i. (at.kept i).faults ++ failures-same i)
 
       acks-same : put.acks + 1 ≡ length next.acks
-      acks-same = ap (λ (p : State). p.acks + 1) down.frame ∙ ap (λ (k : Kept). k.acks + 1) at.kept ∙ sym (length-append w.acks (ack ∷ []))
+      acks-same = ap (λ (p : State). p.acks + 1) down.frame ∙ ap (λ (k : KeptFlow). k.acks + 1) at.kept ∙ sym (length-append w.acks (ack ∷ []))
 
       kept-heard : seen final ≡ kept_of flow next
       kept-heard = λ i. record {
-        program = (ap (λ (p : Present). p.program) down.present ∙ ap (λ (k : Kept). k.program) at.kept) i;
-        epoch = (ap (λ (p : Present). p.number) down.present ∙ ap (λ (k : Kept). k.epoch) at.kept) i;
+        program = (ap (λ (p : Present). p.program) down.present ∙ ap (λ (k : KeptFlow). k.program) at.kept) i;
+        epoch = (ap (λ (p : Present). p.number) down.present ∙ ap (λ (k : KeptFlow). k.epoch) at.kept) i;
         env = (ap (λ (p : Present). p.env) down.present ∙ sym (ap (λ (t : Track). t.env) track-next)) i;
         is_stopped = (ap (λ (p : Present). p.is_stopped) down.present ∙ sym (ap (λ (t : Track). t.is_stopped) track-next)) i;
         first = kept-first i;
@@ -138,12 +138,12 @@ module _ (source : SourceCase) (s : State) (w : World Place) (at : IsAt (flow_of
         time = sym (time-append w.acks ack) i;
         waiting = kept-waiting i;
         untold = kept-untold i;
-        agent = (ap (λ (p : State). p.agent) down.frame ∙ ap (λ (k : Kept). k.agent) at.kept) i;
-        out = (ap (λ (p : State). p.out) down.frame ∙ ap (λ (k : Kept). k.out) at.kept) i;
-        tickets = (ap (λ (p : State). p.tickets) down.frame ∙ ap (λ (k : Kept). k.tickets) at.kept) i;
-        epochs = (ap (λ (p : State). p.epochs) down.frame ∙ ap (λ (k : Kept). k.epochs) at.kept ∙ epoch_lines-last w.past w.present next.present refl) i;
+        agent = (ap (λ (p : State). p.agent) down.frame ∙ ap (λ (k : KeptFlow). k.agent) at.kept) i;
+        out = (ap (λ (p : State). p.out) down.frame ∙ ap (λ (k : KeptFlow). k.out) at.kept) i;
+        tickets = (ap (λ (p : State). p.tickets) down.frame ∙ ap (λ (k : KeptFlow). k.tickets) at.kept) i;
+        epochs = (ap (λ (p : State). p.epochs) down.frame ∙ ap (λ (k : KeptFlow). k.epochs) at.kept ∙ epoch_lines-last w.past w.present next.present refl) i;
         faults = kept-faults i;
-        held = (down.held ∙ ap (λ (k : Kept). k.held + held_met outcome) at.kept) i;
+        held = (down.held ∙ ap (λ (k : KeptFlow). k.held + held_met outcome) at.kept) i;
       }
 
       pub at-heard : Stands link (w.windows ++ (track_of flow w).env.cwnd ∷ []) → IsAt flow final (after_ack flow ack w)

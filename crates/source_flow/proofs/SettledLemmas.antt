@@ -21,15 +21,15 @@ use Rattle.source_flow.specs.declared.source_case.SourceCase.{SourceCase}
 use Rattle.source_flow.specs.declared.state.Issued.{Issued}
 use Rattle.source_flow.specs.declared.state.Present.{Present}
 use Rattle.source_flow.specs.declared.state.State.{State}
-use Rattle.source_flow.specs.SourceStates.{form_at, flow_of, Kept, seen, kept_of, issued_as, IsAt, IsSound}
+use Rattle.source_flow.specs.SourceStates.{form_at, flow_over_sources, KeptFlow, seen, kept_of, issued_as, IsAt, IsSourceSound}
 use Rattle.source_flow.specs.SourceSteps.{Changed, Obeyed}
 use Rattle.source_flow.proofs.StateLemmas.{epoch_lines-last, epoch_lines-more}
 
 -- ---- a reply is obeyed
 
-module _ (source : SourceCase) (s : State) (w : World Place) (at : IsAt (flow_of source) s w) where
+module _ (source : SourceCase) (s : State) (w : World Place) (at : IsAt (flow_over_sources source) s w) where
   abbrev flow : Flow Place
-  flow = flow_of source
+  flow = flow_over_sources source
 
   at-updated : (cwnd : ℕ) (agent : Agent) (new : State)
       → new ≡ record s { present = record s.present { env = record s.present.env { cwnd = cwnd } } }
@@ -66,23 +66,23 @@ module _ (source : SourceCase) (s : State) (w : World Place) (at : IsAt (flow_of
       let epochs : new.epochs ≡ map epoch_line (next.past ++ next.present ∷ []) =
       changed.epochs ∙ (λ i. (at.kept i).epochs ++ line i ∷ []) ∙ sym (epoch_lines-more w.past w.present next.present) in
       let number : s.present.number + 1 ≡ length next.past =
-      ap (λ (k : Kept). k.epoch + 1) at.kept ∙ sym (more w.past) in
+      ap (λ (k : KeptFlow). k.epoch + 1) at.kept ∙ sym (more w.past) in
       let kept : seen new ≡ kept_of flow next = λ i. record {
         program = (ap (λ (p : Present). p.program) changed.present) i;
         epoch = (ap (λ (p : Present). p.number) changed.present ∙ number) i;
         env = first i;
         is_stopped = (ap (λ (p : Present). p.is_stopped) changed.present) i;
-        first = (ap (λ (p : Present). p.first) changed.present ∙ ap (λ (k : Kept). k.acks) at.kept) i;
-        acks = (ap (λ (p : State). p.acks) changed.frame ∙ ap (λ (k : Kept). k.acks) at.kept) i;
-        time = (ap (λ (p : State). p.time) changed.frame ∙ ap (λ (k : Kept). k.time) at.kept) i;
-        waiting = (ap (λ (p : State). p.waiting.items) changed.frame ∙ ap (λ (k : Kept). k.waiting) at.kept) i;
+        first = (ap (λ (p : Present). p.first) changed.present ∙ ap (λ (k : KeptFlow). k.acks) at.kept) i;
+        acks = (ap (λ (p : State). p.acks) changed.frame ∙ ap (λ (k : KeptFlow). k.acks) at.kept) i;
+        time = (ap (λ (p : State). p.time) changed.frame ∙ ap (λ (k : KeptFlow). k.time) at.kept) i;
+        waiting = (ap (λ (p : State). p.waiting.items) changed.frame ∙ ap (λ (k : KeptFlow). k.waiting) at.kept) i;
         untold = (ap (λ (p : State). p.untold) changed.frame) i;
-        agent = (ap (λ (p : State). p.agent) changed.frame ∙ ap (λ (k : Kept). k.agent) at.kept) i;
-        out = (ap (λ (p : State). p.out) changed.frame ∙ ap (λ (k : Kept). k.out) at.kept) i;
-        tickets = (ap (λ (p : State). p.tickets) changed.frame ∙ ap (λ (k : Kept). k.tickets) at.kept) i;
+        agent = (ap (λ (p : State). p.agent) changed.frame ∙ ap (λ (k : KeptFlow). k.agent) at.kept) i;
+        out = (ap (λ (p : State). p.out) changed.frame ∙ ap (λ (k : KeptFlow). k.out) at.kept) i;
+        tickets = (ap (λ (p : State). p.tickets) changed.frame ∙ ap (λ (k : KeptFlow). k.tickets) at.kept) i;
         epochs = epochs i;
-        faults = (ap (λ (p : State). (seen p).faults) changed.frame ∙ ap (λ (k : Kept). k.faults) at.kept) i;
-        held = (ap (λ (p : State). p.held) changed.frame ∙ ap (λ (k : Kept). k.held) at.kept) i;
+        faults = (ap (λ (p : State). (seen p).faults) changed.frame ∙ ap (λ (k : KeptFlow). k.faults) at.kept) i;
+        held = (ap (λ (p : State). p.held) changed.frame ∙ ap (λ (k : KeptFlow). k.held) at.kept) i;
       } in
       record {
         kept = kept;
@@ -100,14 +100,14 @@ module _ (source : SourceCase) (s : State) (w : World Place) (at : IsAt (flow_of
 
 -- ---- the ticket is closed
 
-module _ (source : SourceCase) (s : State) (w : World Place) (at : IsAt (flow_of source) s w)
+module _ (source : SourceCase) (s : State) (w : World Place) (at : IsAt (flow_over_sources source) s w)
     (issued : Issued) (agent : Agent) (reply : Reply) (closed : State)
     (out : s.out ≡ Some issued)
     (turned : (agent, reply) ≡ replied s.agent issued.told)
     (tickets : closed.tickets ≡ s.tickets ++ record { told = issued.told; taken = issued.taken; answered = s.acks; reply = reply } ∷ [])
     (framed : closed ≡ record s { agent = agent; out = None; tickets = closed.tickets }) where
   abbrev flow' : Flow Place
-  flow' = flow_of source
+  flow' = flow_over_sources source
 
   module _ (t : Taken Place) (w_out : w.out ≡ Some t) (is_out : issued_as flow' t ≡ issued) where
     abbrev turn : Agent × Reply
@@ -149,17 +149,17 @@ module _ (source : SourceCase) (s : State) (w : World Place) (at : IsAt (flow_of
     at-answered new obeyed =
         let at_turn : Obeyed source w.agent turn.1 closed new =
         subst (λ (r : Reply). Obeyed source w.agent r closed new) (ap (λ (pair : Agent × Reply). pair.1) turn-same)
-        (subst (λ (a : Agent). Obeyed source a reply closed new) (ap (λ (k : Kept). k.agent) at.kept) obeyed) in
+        (subst (λ (a : Agent). Obeyed source a reply closed new) (ap (λ (k : KeptFlow). k.agent) at.kept) obeyed) in
         subst (λ (o : Option (Taken Place)). IsAt flow' new (answer_applied flow' o w)) (sym w_out)
         (at-obeyed source closed between at-closed turn.1 w.agent new at_turn)
 
   at-by_out : (new : State) → Obeyed source s.agent reply closed new
       → (w_out : Option (Taken Place)) → w.out ≡ w_out → IsAt flow' new (after_answer flow' w)
   at-by_out new obeyed None none =
-      absurd (none-some issued (sym (ap (option_map (issued_as flow')) none) ∙ sym (ap (λ (k : Kept). k.out) at.kept) ∙ out))
+      absurd (none-some issued (sym (ap (option_map (issued_as flow')) none) ∙ sym (ap (λ (k : KeptFlow). k.out) at.kept) ∙ out))
   at-by_out new obeyed (Some t) some =
       let same : Some (issued_as flow' t) ≡ Some issued =
-      sym (ap (option_map (issued_as flow')) some) ∙ sym (ap (λ (k : Kept). k.out) at.kept) ∙ out in
+      sym (ap (option_map (issued_as flow')) some) ∙ sym (ap (λ (k : KeptFlow). k.out) at.kept) ∙ out in
       at-answered t some (ap (λ (o : Option Issued). unwrap_or o (issued_as flow' t)) same) new obeyed
 
   pub at-settled : (new : State) → Obeyed source s.agent reply closed new → IsAt flow' new (after_answer flow' w)
@@ -167,7 +167,7 @@ module _ (source : SourceCase) (s : State) (w : World Place) (at : IsAt (flow_of
 
 -- ---- what holds whatever the history
 
-module _ (source : SourceCase) (s : State) (sound : IsSound source s) (issued : Issued) (agent : Agent) (reply : Reply) (closed : State)
+module _ (source : SourceCase) (s : State) (sound : IsSourceSound source s) (issued : Issued) (agent : Agent) (reply : Reply) (closed : State)
     (out : s.out ≡ Some issued)
     (turned : (agent, reply) ≡ replied s.agent issued.told)
     (tickets : closed.tickets ≡ s.tickets ++ record { told = issued.told; taken = issued.taken; answered = s.acks; reply = reply } ∷ [])
@@ -190,10 +190,10 @@ module _ (source : SourceCase) (s : State) (sound : IsSound source s) (issued : 
   abbrev done : State
   done = record s { agent = agent; out = None; tickets = closed.tickets }
 
-  sound-obeyed : (r : Reply) (before : Agent) (new : State) → Obeyed source before r done new → IsSound source new
+  sound-obeyed : (r : Reply) (before : Agent) (new : State) → Obeyed source before r done new → IsSourceSound source new
   sound-obeyed Nothing before new obeyed =
       let more = tickets-more in
-      let whole : IsSound source done = record {
+      let whole : IsSourceSound source done = record {
         matched = sound.matched;
         shape = sound.shape;
         roles = roles-after;
@@ -204,11 +204,11 @@ module _ (source : SourceCase) (s : State) (sound : IsSound source s) (issued : 
         epochs = omega (arith, sound.epochs, more);
         held = sound.held;
       } in
-      subst (λ (p : State). IsSound source p) (sym obeyed) whole
+      subst (λ (p : State). IsSourceSound source p) (sym obeyed) whole
   sound-obeyed (Update cwnd) before new obeyed =
       let more = tickets-more in
       let literal : State = record done { present = record s.present { env = record s.present.env { cwnd = cwnd } } } in
-      let whole : IsSound source literal = record {
+      let whole : IsSourceSound source literal = record {
         matched = sound.matched;
         shape = record { fields = sound.shape.fields; controls = sound.shape.controls };
         roles = roles-after;
@@ -219,7 +219,7 @@ module _ (source : SourceCase) (s : State) (sound : IsSound source s) (issued : 
         epochs = omega (arith, sound.epochs, more);
         held = sound.held;
       } in
-      subst (λ (p : State). IsSound source p) (sym obeyed) whole
+      subst (λ (p : State). IsSourceSound source p) (sym obeyed) whole
   sound-obeyed (Change program cwnd cap_value) before new changed =
       let more = tickets-more in
       let few = tickets-few in
@@ -230,7 +230,7 @@ module _ (source : SourceCase) (s : State) (sound : IsSound source s) (issued : 
       } in
       let framed_new : new ≡ literal =
       changed.frame ∙ (λ i. record done { present = changed.present i; untold = None; epochs = new.epochs }) in
-      let whole : IsSound source literal = record {
+      let whole : IsSourceSound source literal = record {
         matched = sound.matched;
         shape = changed.shape;
         roles = roles-after;
@@ -241,8 +241,8 @@ module _ (source : SourceCase) (s : State) (sound : IsSound source s) (issued : 
         epochs = omega (arith, sound.epochs, more);
         held = sound.held;
       } in
-      subst (λ (p : State). IsSound source p) (sym framed_new) whole
+      subst (λ (p : State). IsSourceSound source p) (sym framed_new) whole
 
-  pub sound-settled : (before : Agent) (new : State) → Obeyed source before reply closed new → IsSound source new
+  pub sound-settled : (before : Agent) (new : State) → Obeyed source before reply closed new → IsSourceSound source new
   sound-settled before new obeyed =
       sound-obeyed reply before new (subst (λ (p : State). Obeyed source before reply p new) framed obeyed)

@@ -31,8 +31,8 @@ abbrev pub form_at : SourceCase → ℕ → Form
 form_at source = by_number source.case.now (form_of source.ss.now) (form_of source.ca.now)
 
 -- the flow of a case, read over the sources of its programs
-abbrev pub flow_of : SourceCase → Flow Place
-flow_of source = over_sources source.case.now (form_of source.ss.now) (form_of source.ca.now)
+abbrev pub flow_over_sources : SourceCase → Flow Place
+flow_over_sources source = over_sources source.case.now (form_of source.ss.now) (form_of source.ca.now)
 
 -- what an acknowledgement came to: nothing where its epoch was stopped
 abbrev pub outcome_met : Option Mean → Outcome Cause
@@ -42,7 +42,7 @@ outcome_met (Some mean) = outcome_of mean
 -- ---- what is kept
 
 -- what is kept of a flow's state, but for the link
-pub record Kept : Type 0 where
+pub record KeptFlow : Type 0 where
   pub program : ℕ
   pub epoch : ℕ
   pub env : Env
@@ -59,7 +59,7 @@ pub record Kept : Type 0 where
   pub faults : List (Failure Place)
   pub held : ℕ
 
-abbrev pub seen : State → Kept
+abbrev pub seen : State → KeptFlow
 seen s = record {
   program = s.present.program;
   epoch = s.present.number;
@@ -81,7 +81,7 @@ seen s = record {
 abbrev pub issued_as : {X : Type 0} → Flow X → Taken X → Issued
 issued_as flow ticket = record { told = told_as flow ticket.told; taken = ticket.taken }
 
-abbrev pub kept_of : Flow Place → World Place → Kept
+abbrev pub kept_of : Flow Place → World Place → KeptFlow
 kept_of flow w = record {
   program = w.present.program;
   epoch = length w.past;
@@ -117,7 +117,7 @@ pub record AreMatched (source : SourceCase) : Type 0 where
 
 -- the env is one of the present program, the agent has the case's roles, the link is the case's, and the counts are in
 -- range: each acknowledgement makes one report or fault at most, and each change is the answer to one
-pub record IsSound (source : SourceCase) (s : State) : Type 0 where
+pub record IsSourceSound (source : SourceCase) (s : State) : Type 0 where
   pub matched : AreMatched source
   pub shape : IsEnvOf (form_at source s.present.program) s.present.env
   pub roles : AreRoles source.case.now.ss.role source.case.now.ca.role (course_of s.agent)

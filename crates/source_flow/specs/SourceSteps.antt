@@ -5,7 +5,7 @@ use Rattle.ccp_base.specs.declared.ack.Ack.{Ack}
 use Rattle.ccp_base.specs.declared.exchange.Notice.{Notice}
 use Rattle.ccp_base.specs.declared.exchange.Reply.{Reply}
 use Rattle.ccp_base.specs.declared.exchange.Reply.TheVariants.{Nothing, Update, Change}
-use Rattle.ccp_base.specs.FieldReg.{Pair, first_bad}
+use Rattle.ccp_base.specs.FieldReg.{Pair, first_bad_pair}
 use Rattle.ccp_base.specs.declared.exchange.Report.{Report}
 use Rattle.ccp_base.specs.declared.place.Place.{Place}
 use Rattle.portus_core.specs.declared.env.Env.{Env}
@@ -31,8 +31,8 @@ abbrev pub reporter : ℕ → State → Epoch
 reporter flow s = record { flow = flow; program = s.present.program; number = s.present.number }
 
 -- how the present epoch stands
-abbrev pub track_in : State → Track
-track_in s = record { env = s.present.env; is_stopped = s.present.is_stopped; first = s.present.first; count = s.acks }
+abbrev pub present_track : State → Track
+present_track s = record { env = s.present.env; is_stopped = s.present.is_stopped; first = s.present.first; count = s.acks }
 
 -- the fault that an outcome tells of, or none
 abbrev pub failures_in : State → Ack → Outcome Cause → List (Failure Place)
@@ -77,10 +77,10 @@ pub record PutDown (flow : ℕ) (old new : State) (ack : Ack) (outcome : Outcome
     faults = new.faults;
     held = new.held;
   }
-  pub present : new.present ≡ record old.present { first = next_first outcome (track_in old) }
+  pub present : new.present ≡ record old.present { first = next_first outcome (present_track old) }
   pub waiting :
       new.waiting.items
-      ≡ old.waiting.items ++ reports_met (reporter flow old) (track_in old) ack outcome old.present.env
+      ≡ old.waiting.items ++ reports_met (reporter flow old) (present_track old) ack outcome old.present.env
   pub untold : new.untold ≡ untold_by flow (failures_in old ack outcome) old.untold
   pub faults : map failure_of new.faults ≡ map failure_of old.faults ++ failures_in old ack outcome
   pub held : new.held ≡ old.held + held_met outcome
@@ -93,12 +93,12 @@ untold_left [] untold = None
 -- ---- a ticket is answered, and the reply obeyed
 
 -- the line of a ticket that is answered so at this many acknowledgements
-abbrev pub line_of : Issued → ℕ → Reply → TicketLine
-line_of issued acks reply = record { told = issued.told; taken = issued.taken; answered = acks; reply = reply }
+abbrev pub answered_line : Issued → ℕ → Reply → TicketLine
+answered_line issued acks reply = record { told = issued.told; taken = issued.taken; answered = acks; reply = reply }
 
 -- the ticket that is out was answered so
 pub record Closed (issued : Issued) (reply : Reply) (old new : State) : Type 0 where
-  pub tickets : new.tickets ≡ old.tickets ++ line_of issued old.acks reply ∷ []
+  pub tickets : new.tickets ≡ old.tickets ++ answered_line issued old.acks reply ∷ []
   pub frame : new ≡ record old { out = None; tickets = new.tickets }
 
 -- the program of a change has each control variable that the agent's values name
@@ -106,7 +106,7 @@ abbrev pub AreGood : SourceCase → Agent → Reply → Type 0
 AreGood source agent Nothing = Unit {0}
 AreGood source agent (Update cwnd) = Unit {0}
 AreGood source agent (Change program cwnd cap) =
-    first_bad (length (form_at source program).controls) (values_of agent (Change program cwnd cap)) ≡ None
+    first_bad_pair (length (form_at source program).controls) (values_of agent (Change program cwnd cap)) ≡ None
 
 -- the env that a program starts with, by these values: the window and rate stay, and time zero is now
 abbrev pub env_at_start : SourceCase → ℕ → List Pair → State → Env

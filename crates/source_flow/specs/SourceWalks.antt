@@ -4,13 +4,13 @@ use Rattle.ccp_base.specs.FieldReg.{Pair}
 use Rattle.flow_core.specs.declared.letter.Letter.{Letter}
 use Rattle.flow_core.specs.declared.letter.Letter.TheVariants.{A, T, C}
 use Rattle.flow_core.specs.Words.{world, legal}
-use Rattle.agent_core.specs.Agents.{begun, course_of, values_of}
+use Rattle.agent_core.specs.Agents.{opening_change, course_of, values_of}
 use Rattle.portus_core.specs.Epoch.{with_values, declared_env}
 use Rattle.portus_core.specs.OneAcknowledgement.{IsEnvOf}
 use Rattle.source_flow.specs.declared.source_case.SourceCase.{SourceCase}
 use Rattle.source_flow.specs.declared.state.Present.{Present}
 use Rattle.source_flow.specs.declared.state.State.{State}
-use Rattle.source_flow.specs.SourceStates.{form_at, flow_of, IsAt, IsSound}
+use Rattle.source_flow.specs.SourceStates.{form_at, flow_over_sources, IsAt, IsSourceSound}
 
 -- the letter's step may be made: an acknowledgement is left, or no ticket is out
 abbrev pub IsPermitted : SourceCase → Letter → State → Type 0
@@ -20,7 +20,7 @@ IsPermitted source C s = Unit {0}
 
 -- the values of the agent's opening change
 abbrev pub first_values : SourceCase → List Pair
-first_values source = values_of source.case.now.agent (begun source.case.now.agent)
+first_values source = values_of source.case.now.agent (opening_change source.case.now.agent)
 
 -- the epoch that this change starts
 pub record IsOpening (source : SourceCase) (present : Present) : Type 0 where
@@ -32,12 +32,12 @@ pub record IsOpening (source : SourceCase) (present : Present) : Type 0 where
   pub first : present.first ≡ 0
 
 -- the state after a legal word
-pub record IsAfter (source : SourceCase) (word : List Letter) (s : State) : Type 0 where
-  pub legal : legal (flow_of source) source.case.now.link word ≡ true
-  pub sound : IsSound source s
-  pub at : IsAt (flow_of source) s (world (flow_of source) source.case.now.link word)
+pub record StandsAfterWord (source : SourceCase) (word : List Letter) (s : State) : Type 0 where
+  pub legal : legal (flow_over_sources source) source.case.now.link word ≡ true
+  pub sound : IsSourceSound source s
+  pub at : IsAt (flow_over_sources source) s (world (flow_over_sources source) source.case.now.link word)
 
 -- the state after the word, or that some letter isn't legal at its point
 abbrev pub IsWalked : SourceCase → List Letter → Option State → Type 0
-IsWalked source word None = legal (flow_of source) source.case.now.link word ≡ false
-IsWalked source word (Some s) = IsAfter source word s
+IsWalked source word None = legal (flow_over_sources source) source.case.now.link word ≡ false
+IsWalked source word (Some s) = StandsAfterWord source word s

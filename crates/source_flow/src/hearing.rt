@@ -4,7 +4,7 @@ ghost use Rattle.portus_core.specs.Epoch.{stops, outcome_of};
 ghost use Rattle.portus_core.specs.OneAcknowledgement.{IsEnvOf};
 ghost use Rattle.portus_core.specs.ProgramForm.{form_of};
 ghost use Rattle.flow_core.specs.declared.letter.Letter.TheVariants.{A};
-ghost use Rattle.source_flow.specs.SourceStates.{outcome_met, IsSound};
+ghost use Rattle.source_flow.specs.SourceStates.{outcome_met, IsSourceSound};
 ghost use Rattle.source_flow.specs.SourceMoves.{Makes};
 ghost use Rattle.source_flow.specs.SourceAccounts.{failure_of};
 ghost use Rattle.source_flow.specs.SourceSteps.{notice_by, CanPut, HasRun, PutDown};
@@ -52,9 +52,9 @@ impl Present {
 impl State {
     /// Takes the link's next acknowledgement.
     pub(crate) fn hear(&mut self, alloc: Global, source: &SourceCase<'_>) -> Result<(), NoMemory>
-        requires sound { IsSound source.now self.old }
+        requires sound { IsSourceSound source.now self.old }
         requires left { self.old.acks < source.now.case.now.acks }
-        ensures sound { OnOk result (IsSound source.now self.new) }
+        ensures sound { OnOk result (IsSourceSound source.now self.new) }
         ensures at { OnOk result (Makes source.now A self.old self.new) }
     {
         let ack = self.link.next(self.present.env.cwnd);

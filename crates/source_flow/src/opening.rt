@@ -1,7 +1,7 @@
 //! A flow before its first letter.
 ghost use Rattle.std.specs.Prelude.{IfOk};
 ghost use Rattle.flow_core.specs.World.{opening};
-ghost use Rattle.source_flow.specs.SourceStates.{flow_of, AreMatched, IsAt, IsSound};
+ghost use Rattle.source_flow.specs.SourceStates.{flow_over_sources, AreMatched, IsAt, IsSourceSound};
 ghost use Rattle.source_flow.specs.SourceWalks.{IsOpening};
 
 use crate::settling::started;
@@ -35,8 +35,8 @@ impl State {
     /// The state of a flow that has no letter yet.
     pub(crate) fn open(alloc: Global, source: &SourceCase<'_>) -> Result<State, NoMemory>
         requires { AreMatched source.now }
-        ensures sound { IfOk result (λ state. IsSound source.now state) }
-        ensures at { IfOk result (λ state. IsAt (flow_of source.now) state (opening (flow_of source.now))) }
+        ensures sound { IfOk result (λ state. IsSourceSound source.now state) }
+        ensures at { IfOk result (λ state. IsAt (flow_over_sources source.now) state (opening (flow_over_sources source.now))) }
     {
         let present = opening_epoch(alloc, source)?;
         let link = Link::new(alloc, source.case.link.copy(alloc)?)?;

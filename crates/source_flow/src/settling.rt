@@ -1,12 +1,12 @@
 //! The answer to the ticket that is out is applied.
 ghost use Rattle.std.specs.Prelude.{◌≡◌, ◌+◌, ◌<◌, Some, None, IfOk, OnOk, length};
 ghost use Rattle.ccp_base.specs.Limits.{most_acks};
-ghost use Rattle.ccp_base.specs.FieldReg.{first_bad};
+ghost use Rattle.ccp_base.specs.FieldReg.{first_bad_pair};
 ghost use Rattle.portus_core.specs.Epoch.{with_values, declared_env};
 ghost use Rattle.portus_core.specs.OneAcknowledgement.{IsEnvOf};
 ghost use Rattle.portus_core.specs.ProgramForm.{form_of};
 ghost use Rattle.flow_core.specs.declared.letter.Letter.TheVariants.{C};
-ghost use Rattle.source_flow.specs.SourceStates.{form_at, IsSound};
+ghost use Rattle.source_flow.specs.SourceStates.{form_at, IsSourceSound};
 ghost use Rattle.source_flow.specs.SourceMoves.{Makes};
 ghost use Rattle.source_flow.specs.SourceSteps.{AreGood, Changed, Closed, Obeyed};
 
@@ -27,7 +27,7 @@ pub(crate) fn started(
     rate: u64,
     now: u64,
 ) -> Result<Env, NoMemory>
-    requires good { first_bad (length (form_of program.now).controls) values.now ≡ None }
+    requires good { first_bad_pair (length (form_of program.now).controls) values.now ≡ None }
     ensures env { IfOk result (λ env. env ≡ with_values values.now (declared_env (form_of program.now) cwnd rate now)) }
     ensures shape { IfOk result (λ env. IsEnvOf (form_of program.now) env) }
 {
@@ -41,8 +41,8 @@ pub(crate) fn started(
 impl State {
     /// Applies the agent's answer to the ticket that is out.
     pub(crate) fn answer(&mut self, alloc: Global, source: &SourceCase<'_>) -> Result<(), NoMemory>
-        requires sound { IsSound source.now self.old }
-        ensures sound { OnOk result (IsSound source.now self.new) }
+        requires sound { IsSourceSound source.now self.old }
+        ensures sound { OnOk result (IsSourceSound source.now self.new) }
         ensures at { OnOk result (Makes source.now C self.old self.new) }
     {
         match self.out {
@@ -58,9 +58,9 @@ impl State {
         source: &SourceCase<'_>,
         issued: &Issued,
     ) -> Result<(), NoMemory>
-        requires sound { IsSound source.now self.old }
+        requires sound { IsSourceSound source.now self.old }
         requires out { self.old.out ≡ Some issued.now }
-        ensures sound { OnOk result (IsSound source.now self.new) }
+        ensures sound { OnOk result (IsSourceSound source.now self.new) }
         ensures at { OnOk result (Makes source.now C self.old self.new) }
     {
         let before = self.agent;
@@ -116,7 +116,7 @@ impl State {
         program: u32,
         values: &Fields,
     ) -> Result<(), NoMemory>
-        requires good { first_bad (length (form_at source.now program).controls) values.now ≡ None }
+        requires good { first_bad_pair (length (form_at source.now program).controls) values.now ≡ None }
         requires number { self.old.present.number < most_acks }
         ensures { OnOk result (Changed source.now program values.now self.old self.new) }
     {

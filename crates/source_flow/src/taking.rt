@@ -4,7 +4,7 @@ ghost use Rattle.std.specs.Bool.{OnTrue};
 ghost use Rattle.flow_core.specs.declared.letter.Letter.TheVariants.{T};
 ghost use Rattle.flow_core.specs.Outbox.{next_told};
 ghost use Rattle.flow_core.specs.Words.{can_take, is_legal, is_complete};
-ghost use Rattle.source_flow.specs.SourceStates.{flow_of, IsSound};
+ghost use Rattle.source_flow.specs.SourceStates.{flow_over_sources, IsSourceSound};
 ghost use Rattle.source_flow.specs.SourceMoves.{Makes, Shows};
 ghost use Rattle.source_flow.specs.SourceWalks.{IsPermitted};
 ghost use Rattle.source_flow.specs.SourceSteps.{untold_left};
@@ -24,7 +24,7 @@ impl State {
 
     /// Whether a letter is legal now.
     pub(crate) fn may(&self, source: &SourceCase<'_>, letter: Letter) -> bool
-        ensures legal { Shows source.now self.now (λ w. is_legal (flow_of source.now) w letter) result }
+        ensures legal { Shows source.now self.now (λ w. is_legal (flow_over_sources source.now) w letter) result }
         ensures permitted { OnTrue result (IsPermitted source.now letter self.now) }
     {
         match letter {
@@ -36,7 +36,7 @@ impl State {
 
     /// Whether all acknowledgements are in, nothing can be taken and no ticket is out.
     pub(crate) fn is_complete(&self, source: &SourceCase<'_>) -> bool
-        ensures { Shows source.now self.now (is_complete (flow_of source.now)) result }
+        ensures { Shows source.now self.now (is_complete (flow_over_sources source.now)) result }
     {
         self.acks >= source.case.acks && self.out.is_none() && !self.can_take()
     }
@@ -57,9 +57,9 @@ impl State {
 
     /// Takes the oldest report, or else the notice, as a ticket. No ticket may be out.
     pub(crate) fn take(&mut self, source: &SourceCase<'_>)
-        requires sound { IsSound source.now self.old }
+        requires sound { IsSourceSound source.now self.old }
         requires none_out { self.old.out ≡ None }
-        ensures sound { IsSound source.now self.new }
+        ensures sound { IsSourceSound source.now self.new }
         ensures at { Makes source.now T self.old self.new }
     {
         let taken = self.acks;

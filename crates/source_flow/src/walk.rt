@@ -2,7 +2,7 @@
 ghost use Rattle.std.specs.Prelude.{IfOk, OnOk};
 ghost use Rattle.flow_core.specs.LiveText.{account_of};
 ghost use Rattle.source_flow.specs.SourceAccounts.{account_in, IsAccountAfter};
-ghost use Rattle.source_flow.specs.SourceStates.{flow_of, AreMatched, IsSound};
+ghost use Rattle.source_flow.specs.SourceStates.{flow_over_sources, AreMatched, IsSourceSound};
 ghost use Rattle.source_flow.specs.SourceMoves.{Makes, Shows};
 ghost use Rattle.source_flow.specs.SourceWalks.{IsPermitted, IsWalked};
 
@@ -22,9 +22,9 @@ impl State {
         source: &SourceCase<'_>,
         letter: Letter,
     ) -> Result<(), NoMemory>
-        requires sound { IsSound source.now self.old }
+        requires sound { IsSourceSound source.now self.old }
         requires legal { IsPermitted source.now letter self.old }
-        ensures sound { OnOk result (IsSound source.now self.new) }
+        ensures sound { OnOk result (IsSourceSound source.now self.new) }
         ensures at { OnOk result (Makes source.now letter self.old self.new) }
     {
         match letter {
@@ -39,8 +39,8 @@ impl State {
 
     /// What the flow comes to.
     fn into_account(self, source: &SourceCase<'_>) -> FlowAccount
-        requires { IsSound source.now self }
-        ensures { Shows source.now self (account_of (flow_of source.now)) (account_in result) }
+        requires { IsSourceSound source.now self }
+        ensures { Shows source.now self (account_of (flow_over_sources source.now)) (account_in result) }
     {
         let end = End {
             acks: u64::from(self.acks),
@@ -83,7 +83,7 @@ pub(crate) fn account_over(
     word: &[Letter],
 ) -> Result<Option<FlowAccount>, NoMemory>
     requires { AreMatched source.now }
-    ensures { IfOk result (IsAccountAfter (flow_of source.now) source.now.case.now.link word.now) }
+    ensures { IfOk result (IsAccountAfter (flow_over_sources source.now) source.now.case.now.link word.now) }
 {
     let Some(state) = walk(alloc, source, word)? else {
         return Ok(None);

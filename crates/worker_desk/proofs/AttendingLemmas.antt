@@ -3,17 +3,17 @@ use Rattle.std.proofs.Common.{◌≡◌, ℕ, ◌<◌, ◌≤◌, Bool, true, fa
 use Rattle.agent_core.specs.declared.ticket.Ticket.{Ticket}
 use Rattle.worker_desk.specs.declared.event.Event.TheVariants.{Passed, Locked, Unlocked, Received, Settled}
 use Rattle.ccp_base.specs.declared.gate.Point.TheVariants.{AfterTake, AfterSettle}
-use Rattle.worker_desk.specs.Logs.{Known, Logs}
+use Rattle.worker_desk.specs.Logs.{KnownLog, Logs}
 use Rattle.worker_desk.specs.Attending.{Errand, errand, taking, settling, tending, attended, Tends, Attends}
 use Rattle.std.proofs.lemmas.Bool.Decides.{nat_tests}
 use Rattle.worker_desk.proofs.ServingLemmas.{Logs-append}
 
 -- no more numbers come
-pub no-more : (worker flows : ℕ) (old new : Known) → Logs old new (Received None ∷ []) → Attends worker flows old new
+pub no-more : (worker flows : ℕ) (old new : KnownLog) → Logs old new (Received None ∷ []) → Attends worker flows old new
 no-more worker flows old new logs = record { errands = []; logs = logs }
 
 -- an errand, and then the others
-errand-then : (worker flows : ℕ) (e : Errand) (old middle end : Known)
+errand-then : (worker flows : ℕ) (e : Errand) (old middle end : KnownLog)
     → Logs old middle (errand worker flows e) → Attends worker flows middle end → Attends worker flows old end
 errand-then worker flows e old middle end logs then =
     record {
@@ -22,7 +22,7 @@ errand-then worker flows e old middle end logs then =
     }
 
 -- a flow's number comes and the flow is tended, and then the others
-pub flow-then : (worker flows flow : ℕ) (old heard middle end : Known) → flow < flows
+pub flow-then : (worker flows flow : ℕ) (old heard middle end : KnownLog) → flow < flows
     → Logs old heard (Received (Some flow) ∷ []) → Tends worker flow heard middle
     → Attends worker flows middle end → Attends worker flows old end
 flow-then worker flows flow old heard middle end below first tends then =
@@ -33,7 +33,7 @@ flow-then worker flows flow old heard middle end below first tends then =
     (Logs-append old heard middle (Received (Some flow) ∷ []) (tending worker flow tends.taken) first tends.logs)) then
 
 -- a number that is no flow's comes, and then the others
-pub other-then : (worker flows flow : ℕ) (old heard end : Known) → flows ≤ flow
+pub other-then : (worker flows flow : ℕ) (old heard end : KnownLog) → flows ≤ flow
     → Logs old heard (Received (Some flow) ∷ []) → Attends worker flows heard end → Attends worker flows old end
 other-then worker flows flow old heard end above first then =
     let is : nat_lt flow flows ≡ false = grind (arith, nat_tests) in
@@ -42,7 +42,7 @@ other-then worker flows flow old heard end above first then =
     (subst (λ (b : Bool). Logs old heard (Received (Some flow) ∷ cond b (tending worker flow None) [])) (sym is) first) then
 
 -- a ticket is taken and its answer settled
-pub answered-then : (worker flow : ℕ) (ticket answer : Ticket) (old taken passed settled new : Known) → answer ≡ ticket
+pub answered-then : (worker flow : ℕ) (ticket answer : Ticket) (old taken passed settled new : KnownLog) → answer ≡ ticket
     → Logs old taken (taking flow (Some ticket)) → Logs taken passed (Passed worker AfterTake flow ∷ [])
     → Logs passed settled (settling flow answer) → Logs settled new (Passed worker AfterSettle flow ∷ [])
     → Tends worker flow old new
@@ -56,7 +56,7 @@ answered-then worker flow ticket answer old taken passed settled new same first 
     }
 
 -- an answer is settled under the lock
-pub settled-then : (flow : ℕ) (ticket : Ticket) (old locked settled new : Known) → Logs old locked (Locked flow ∷ [])
+pub settled-then : (flow : ℕ) (ticket : Ticket) (old locked settled new : KnownLog) → Logs old locked (Locked flow ∷ [])
     → Logs locked settled (Settled flow ticket ∷ []) → Logs settled new (Unlocked flow ∷ []) → Logs old new (settling flow ticket)
 settled-then flow ticket old locked settled new first next last =
     Logs-append old locked new (Locked flow ∷ []) (Settled flow ticket ∷ Unlocked flow ∷ []) first

@@ -6,7 +6,7 @@ use Rattle.worker_desk.specs.declared.event.Heard.TheVariants.{Quiet, Reported, 
 use Rattle.worker_desk.specs.declared.event.Event.{Event}
 use Rattle.worker_desk.specs.Serving.{turn, again, served}
 use Rattle.worker_desk.specs.Attending.{tending, attended}
-use Rattle.worker_desk.specs.Equipping.{Outcome, unbuilt, late, installed, changed, equipping, equipped}
+use Rattle.worker_desk.specs.Equipping.{StepOutcome, unbuilt, late, installed, changed, equipping, equipped}
 use Rattle.worker_desk.specs.LocksLaw.{keeps_locks, ServingKeepsLocks, AttendingKeepsLocks, EquippingKeepsLocks}
 use Rattle.worker_desk.proofs.ServingLawLemmas.{same-number}
 
@@ -24,7 +24,7 @@ module _ (worker flow : ℕ) (rest : List Event) where
       ap (λ (own : Bool). own && (own && (own && (own && keeps_locks None rest)))) (same-number flow)
   keeps-tending taken false = refl
 
-  keeps-equipping : (step : ℕ) (outcome : Outcome) → keeps_locks None (equipping worker flow step outcome ++ rest) ≡ keeps_locks None rest
+  keeps-equipping : (step : ℕ) (outcome : StepOutcome) → keeps_locks None (equipping worker flow step outcome ++ rest) ≡ keeps_locks None rest
   keeps-equipping step unbuilt = refl
   keeps-equipping step late = ap (λ (own : Bool). own && (own && keeps_locks None rest)) (same-number flow)
   keeps-equipping step installed =

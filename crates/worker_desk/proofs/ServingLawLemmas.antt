@@ -4,8 +4,8 @@ use Rattle.std.proofs.lemmas.Bool.Decides.{nat_tests}
 use Rattle.worker_desk.specs.declared.event.Heard.{Heard}
 use Rattle.worker_desk.specs.declared.event.Heard.TheVariants.{Quiet, Reported, Faulted, Ended}
 use Rattle.worker_desk.specs.declared.event.Event.{Event}
-use Rattle.worker_desk.specs.Serving.{turn, again, served, left, flows_of}
-use Rattle.worker_desk.specs.ServingLaw.{Ask, asks, answers_of, has_ended, is_empty, ends_once, nudges_well, is_of, ServingLaw}
+use Rattle.worker_desk.specs.Serving.{turn, again, served, left, flows_of_worker}
+use Rattle.worker_desk.specs.ServingLaw.{Ask, asks, answers_to_flow, has_ended, is_empty, ends_once, nudges_well, is_of, ServingLaw}
 
 -- ---- the asks of a row of flows
 
@@ -77,11 +77,11 @@ own-head : (answer : Heard) (own : Bool) (others : ℕ) (rest : List Heard) → 
 own-head answer true others rest none then = absurd (omega (arith, none))
 own-head answer false others rest none then = then (omega (arith, none, again-other answer))
 
-own-row : (flow : ℕ) (row : List ℕ) (answers : List Heard) → times flow row ≡ 0 → answers_of flow (walk row answers) ≡ []
+own-row : (flow : ℕ) (row : List ℕ) (answers : List Heard) → times flow row ≡ 0 → answers_to_flow flow (walk row answers) ≡ []
 own-row flow row [] none = refl
 own-row flow [] (answer ∷ answers) none = refl
 own-row flow (head ∷ row) (answer ∷ answers) none =
-    own-head answer (head == flow) (times flow row) (answers_of flow (walk (row ++ again head answer) answers)) none
+    own-head answer (head == flow) (times flow row) (answers_to_flow flow (walk (row ++ again head answer) answers)) none
     (λ after. own-row flow (row ++ again head answer) answers (times-after flow head row answer ∙ after))
 
 -- ---- a flow that stands there is asked until it answered Ended
@@ -96,11 +96,11 @@ each-head Ended true others rest once then none = ap is_empty (none (omega (arit
 each-head answer false others rest once then none = then (omega (arith, once, again-other answer))
 
 each-row : (flow : ℕ) (row : List ℕ) (answers : List Heard) → times flow row ≡ 1 → left row answers ≡ []
-    → ends_once (answers_of flow (walk row answers)) ≡ true
+    → ends_once (answers_to_flow flow (walk row answers)) ≡ true
 each-row flow row [] once ended = absurd (omega (arith, once, ap (times flow) ended))
 each-row flow [] (answer ∷ answers) once ended = absurd (omega (arith, once))
 each-row flow (head ∷ row) (answer ∷ answers) once ended =
-    each-head answer (head == flow) (times flow row) (answers_of flow (walk (row ++ again head answer) answers)) once
+    each-head answer (head == flow) (times flow row) (answers_to_flow flow (walk (row ++ again head answer) answers)) once
     (λ after. each-row flow (row ++ again head answer) answers (times-after flow head row answer ∙ after) ended)
     (λ after. own-row flow (row ++ again head answer) answers (times-after flow head row answer ∙ after))
 
@@ -174,7 +174,7 @@ wait-head answer false false flows rest later there own_rest other_rest once mos
     omega (arith, few, ap one (same refl refl))
 
 wait-row : (flow other : ℕ) (row : List ℕ) (answers : List Heard) (middle after : List Ask) → times other row ≡ 1 → times flow row ≤ 1
-    → walk row answers ≡ middle ++ after → answers_of other middle ≡ [] → length (answers_of flow middle) ≤ one (before flow other row)
+    → walk row answers ≡ middle ++ after → answers_to_flow other middle ≡ [] → length (answers_to_flow flow middle) ≤ one (before flow other row)
 wait-row flow other row answers [] after once most is quiet = omega arith
 wait-row flow other row [] (ask ∷ middle) after once most is quiet = absurd (no-cons ask (middle ++ after) is)
 wait-row flow other [] (answer ∷ answers) (ask ∷ middle) after once most is quiet = absurd (no-cons ask (middle ++ after) is)
@@ -183,10 +183,10 @@ wait-row flow other (head ∷ row) (answer ∷ answers) (ask ∷ middle) after o
     let row' : List ℕ = row ++ again head answer in
     let same : here ≡ ask = cons-head here ask (walk row' answers) (middle ++ after) is in
     let rest : walk row' answers ≡ middle ++ after = cons-tail here ask (walk row' answers) (middle ++ after) is in
-    let quiet' : answers_of other (here ∷ middle) ≡ [] = ap (λ (x : Ask). answers_of other (x ∷ middle)) same ∙ quiet in
-    subst (λ (x : Ask). length (answers_of flow (x ∷ middle)) ≤ one (before flow other (head ∷ row))) same
+    let quiet' : answers_to_flow other (here ∷ middle) ≡ [] = ap (λ (x : Ask). answers_to_flow other (x ∷ middle)) same ∙ quiet in
+    subst (λ (x : Ask). length (answers_to_flow flow (x ∷ middle)) ≤ one (before flow other (head ∷ row))) same
     (wait-head answer (head == flow) (head == other) (times flow row) (times other row) (before flow other row') (before flow other row)
-    (answers_of flow middle) (answers_of other middle) once most quiet'
+    (answers_to_flow flow middle) (answers_to_flow other middle) once most quiet'
     (before-same flow other head row answer) (before-none flow other row (again head answer))
     (λ once' most' quiet''. wait-row flow other row' answers middle after (times-after other head row answer ∙ once')
     (omega (arith, times-after flow head row answer, most')) rest quiet''))
@@ -200,8 +200,8 @@ goes-on Ended true others rest once going = absurd (let wrong : true ≡ false =
 goes-on answer false others rest once going = (omega (arith, once, again-other answer), going)
 
 turns-row : (flow other : ℕ) (row : List ℕ) (answers : List Heard) (first middle after : List Ask) → times other row ≡ 1 → times flow row ≤ 1
-    → walk row answers ≡ first ++ (middle ++ after) → has_ended (answers_of other first) ≡ false → answers_of other middle ≡ []
-    → length (answers_of flow middle) ≤ 1
+    → walk row answers ≡ first ++ (middle ++ after) → has_ended (answers_to_flow other first) ≡ false → answers_to_flow other middle ≡ []
+    → length (answers_to_flow flow middle) ≤ 1
 turns-row flow other row answers [] middle after once most is going quiet =
     omega (arith, wait-row flow other row answers middle after once most is quiet, most-one (before flow other row))
 turns-row flow other row [] (ask ∷ first) middle after once most is going quiet = absurd (no-cons ask (first ++ (middle ++ after)) is)
@@ -213,9 +213,9 @@ turns-row flow other (head ∷ row) (answer ∷ answers) (ask ∷ first) middle 
     let all : List Ask = first ++ (middle ++ after) in
     let same : here ≡ ask = cons-head here ask (walk row' answers) all is in
     let rest : walk row' answers ≡ all = cons-tail here ask (walk row' answers) all is in
-    let going' : has_ended (answers_of other (here ∷ first)) ≡ false =
-    ap (λ (x : Ask). has_ended (answers_of other (x ∷ first))) same ∙ going in
-    let on = goes-on answer (head == other) (times other row) (answers_of other first) once going' in
+    let going' : has_ended (answers_to_flow other (here ∷ first)) ≡ false =
+    ap (λ (x : Ask). has_ended (answers_to_flow other (x ∷ first))) same ∙ going in
+    let on = goes-on answer (head == other) (times other row) (answers_to_flow other first) once going' in
     turns-row flow other row' answers first middle after (times-after other head row answer ∙ on.0)
     (omega (arith, times-after flow head row answer, most, again-most answer (head == flow))) rest on.1 quiet
 
@@ -270,12 +270,12 @@ one-more worker datapaths number flow false is =
     after-other (nat_lt flow number) ((flow % datapaths) == worker) ((number % datapaths) == worker) (number == flow) is
     ∙ ap (λ (below : Bool). one (below && ((flow % datapaths) == worker))) (sym (below-other flow number (nat_lt flow number) refl is))
 
-times-flows : (worker datapaths flows flow : ℕ) → times flow (flows_of worker datapaths flows) ≡ one (is_of worker datapaths flows flow)
+times-flows : (worker datapaths flows flow : ℕ) → times flow (flows_of_worker worker datapaths flows) ≡ one (is_of worker datapaths flows flow)
 times-flows worker datapaths zero flow =
     let none : nat_lt flow 0 ≡ false = grind (arith, nat_tests) in
     ap (λ (below : Bool). one (below && ((flow % datapaths) == worker))) (sym none)
 times-flows worker datapaths (suc number) flow =
-    let front : List ℕ = flows_of worker datapaths number in
+    let front : List ℕ = flows_of_worker worker datapaths number in
     let here : Bool = (number % datapaths) == worker in
     times-append flow front (cond here (number ∷ []) [])
     ∙ ap (λ (n : ℕ). n + times flow (cond here (number ∷ []) [])) (times-flows worker datapaths number flow)
@@ -286,14 +286,14 @@ times-flows worker datapaths (suc number) flow =
 
 pub serving-law : ServingLaw
 serving-law worker datapaths flows answers ended =
-    let row : List ℕ = flows_of worker datapaths flows in
+    let row : List ℕ = flows_of_worker worker datapaths flows in
     let same : asks (served worker row answers) ≡ walk row answers = asks-served worker row answers in
     record {
       each = λ flow is.
-          ap (λ (all : List Ask). ends_once (answers_of flow all)) same
+          ap (λ (all : List Ask). ends_once (answers_to_flow flow all)) same
           ∙ each-row flow row answers (times-flows worker datapaths flows flow ∙ ap one is) ended;
       own = λ flow is.
-          ap (λ (all : List Ask). answers_of flow all) same
+          ap (λ (all : List Ask). answers_to_flow flow all) same
           ∙ own-row flow row answers (times-flows worker datapaths flows flow ∙ ap one is);
       in_turn = λ flow other first middle after is split going quiet.
           turns-row flow other row answers first middle after (times-flows worker datapaths flows other ∙ ap one is)

@@ -2,17 +2,17 @@
 use Rattle.std.proofs.Common.{◌≡◌, ℕ, suc, ◌+◌, ◌-◌, ◌<◌, Some, None, option_map, List, ◌∷◌, ◌++◌, length, take, drop, slice_index, sym, ap, ◌∙◌, subst, append_assoc, drop-cons, add-one, arith}
 use Rattle.worker_desk.specs.declared.event.Event.{Event}
 use Rattle.worker_desk.specs.declared.event.Heard.{Heard}
-use Rattle.worker_desk.specs.Logs.{Known, Logs}
+use Rattle.worker_desk.specs.Logs.{KnownLog, Logs}
 use Rattle.worker_desk.specs.Serving.{turn, again, served, Serves}
 
 -- what is put at the end in turn is put there at once
-pub Logs-append : (old middle new : Known) (first next : List Event) → Logs old middle first → Logs middle new next → Logs old new (first ++ next)
+pub Logs-append : (old middle new : KnownLog) (first next : List Event) → Logs old middle first → Logs middle new next → Logs old new (first ++ next)
 Logs-append None middle new first next before after = cc
 Logs-append (Some done) middle new first next before after =
     after ∙ ap (option_map (λ events. events ++ next)) before ∙ ap Some (append_assoc done first next)
 
 -- the turn of the first flow, and then those of the others and of itself
-pub turn-then : (worker flow : ℕ) (row : List ℕ) (answer : Heard) (old middle end : Known)
+pub turn-then : (worker flow : ℕ) (row : List ℕ) (answer : Heard) (old middle end : KnownLog)
     → Logs old middle (turn worker flow answer) → Serves worker (row ++ again flow answer) middle end
     → Serves worker (flow ∷ row) old end
 turn-then worker flow row answer old middle end logs then =
@@ -32,7 +32,7 @@ from-place row count place before within =
     ∙ ap (λ n. slice_index row place ∷ take (count - (place + 1)) (drop n row)) (sym (add-one place))
 
 -- the turn of the flow at a place, and then what is left of the round
-pub place-then : (worker count place kept kept' : ℕ) (row row' : List ℕ) (answer : Heard) (old middle end : Known)
+pub place-then : (worker count place kept kept' : ℕ) (row row' : List ℕ) (answer : Heard) (old middle end : KnownLog)
     → place < count → place < length row
     → take kept' row' ≡ take kept row ++ again (slice_index row place) answer
     → drop (place + 1) row' ≡ drop (place + 1) row

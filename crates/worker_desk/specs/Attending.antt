@@ -4,7 +4,7 @@ use Rattle.ccp_base.specs.declared.gate.Point.TheVariants.{AfterTake, AfterSettl
 use Rattle.agent_core.specs.declared.ticket.Ticket.{Ticket}
 use Rattle.worker_desk.specs.declared.event.Event.{Event}
 use Rattle.worker_desk.specs.declared.event.Event.TheVariants.{Passed, Locked, Unlocked, Received, Took, Settled}
-use Rattle.worker_desk.specs.Logs.{Known, Logs}
+use Rattle.worker_desk.specs.Logs.{KnownLog, Logs}
 
 -- a flow's ticket is taken under its lock, where there is one
 abbrev pub taking : ℕ → Option Ticket → List Event
@@ -38,11 +38,11 @@ attended worker flows [] = Received None ∷ []
 attended worker flows (e ∷ errands) = errand worker flows e ++ attended worker flows errands
 
 -- a worker tended a flow
-pub record Tends (worker flow : ℕ) (old new : Known) : Type 0 where
+pub record Tends (worker flow : ℕ) (old new : KnownLog) : Type 0 where
   pub taken : Option Ticket
   pub logs : Logs old new (tending worker flow taken)
 
 -- a worker did errands until no more numbers came
-pub record Attends (worker flows : ℕ) (old new : Known) : Type 0 where
+pub record Attends (worker flows : ℕ) (old new : KnownLog) : Type 0 where
   pub errands : List Errand
   pub logs : Logs old new (attended worker flows errands)

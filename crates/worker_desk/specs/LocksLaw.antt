@@ -7,7 +7,7 @@ use Rattle.worker_desk.specs.declared.event.Event.{Event}
 use Rattle.worker_desk.specs.declared.event.Event.TheVariants as event
 use Rattle.worker_desk.specs.Serving.{served}
 use Rattle.worker_desk.specs.Attending.{Errand, attended}
-use Rattle.worker_desk.specs.Equipping.{Outcome, Task, equipped}
+use Rattle.worker_desk.specs.Equipping.{StepOutcome, StepTask, equipped}
 
 -- no lock is held
 abbrev pub is_free : Option ℕ → Bool
@@ -53,4 +53,4 @@ abbrev pub AttendingKeepsLocks : Type 0
 AttendingKeepsLocks = (worker flows : ℕ) (errands : List Errand) → keeps_locks None (attended worker flows errands) ≡ true
 
 abbrev pub EquippingKeepsLocks : Type 0
-EquippingKeepsLocks = (worker : ℕ) (tasks : List Task) (outcomes : List Outcome) → keeps_locks None (equipped worker tasks outcomes) ≡ true
+EquippingKeepsLocks = (worker : ℕ) (tasks : List StepTask) (outcomes : List StepOutcome) → keeps_locks None (equipped worker tasks outcomes) ≡ true

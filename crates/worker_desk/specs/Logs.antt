@@ -3,9 +3,9 @@ use Rattle.std.specs.Prelude.{◌≡◌, Option, option_map, List, ◌++◌}
 use Rattle.worker_desk.specs.declared.event.Event.{Event}
 
 -- what was done at a desk, where it keeps that
-abbrev pub Known : Type 0
-Known = Option (List Event)
+abbrev pub KnownLog : Type 0
+KnownLog = Option (List Event)
 
 -- these events were put at the end of what was done
-abbrev pub Logs : Known → Known → List Event → Type 0
+abbrev pub Logs : KnownLog → KnownLog → List Event → Type 0
 Logs old new events = new ≡ option_map (λ done. done ++ events) old

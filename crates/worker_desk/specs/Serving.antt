@@ -5,21 +5,21 @@ use Rattle.worker_desk.specs.declared.event.Heard.{Heard}
 use Rattle.worker_desk.specs.declared.event.Heard.TheVariants.{Quiet, Reported, Faulted, Ended}
 use Rattle.worker_desk.specs.declared.event.Event.{Event}
 use Rattle.worker_desk.specs.declared.event.Event.TheVariants.{Passed, Locked, Unlocked, Acked, Nudged}
-use Rattle.worker_desk.specs.Logs.{Known, Logs}
+use Rattle.worker_desk.specs.Logs.{KnownLog, Logs}
 
 -- the flows below a number that are a worker's: those that leave its number when they are divided by the number of
 -- datapath workers
-abbrev pub flows_of : ℕ → ℕ → ℕ → List ℕ
-flows_of worker datapaths zero = []
-flows_of worker datapaths (suc flow) =
-    flows_of worker datapaths flow ++ cond ((flow % datapaths) == worker) (flow ∷ []) []
+abbrev pub flows_of_worker : ℕ → ℕ → ℕ → List ℕ
+flows_of_worker worker datapaths zero = []
+flows_of_worker worker datapaths (suc flow) =
+    flows_of_worker worker datapaths flow ++ cond ((flow % datapaths) == worker) (flow ∷ []) []
 
 -- how many acknowledgements an answer was
-abbrev pub heard : Heard → ℕ
-heard Quiet = 1
-heard Reported = 1
-heard Faulted = 1
-heard Ended = 0
+abbrev pub heard_count : Heard → ℕ
+heard_count Quiet = 1
+heard_count Reported = 1
+heard_count Faulted = 1
+heard_count Ended = 0
 
 -- the nudge after an answer
 abbrev pub nudge : ℕ → Heard → List Event
@@ -29,14 +29,14 @@ nudge flow Faulted = Nudged flow ∷ []
 nudge flow Ended = []
 
 -- an acknowledgement of a flow under its lock, with its answer
-abbrev pub hearing : ℕ → ℕ → Heard → List Event
-hearing worker flow answer =
+abbrev pub hearing_events : ℕ → ℕ → Heard → List Event
+hearing_events worker flow answer =
     Locked flow ∷ Acked worker flow answer ∷ Passed worker InAck flow ∷ Unlocked flow ∷ []
 
 -- one turn of a flow, with its answer
 abbrev pub turn : ℕ → ℕ → Heard → List Event
 turn worker flow answer =
-    Passed worker BeforeAck flow ∷ hearing worker flow answer ++ nudge flow answer ++ Passed worker AfterAck flow ∷ []
+    Passed worker BeforeAck flow ∷ hearing_events worker flow answer ++ nudge flow answer ++ Passed worker AfterAck flow ∷ []
 
 -- the flow comes again after its answer, at the end of the row
 abbrev pub again : ℕ → Heard → List ℕ
@@ -59,7 +59,7 @@ left [] (answer ∷ answers) = []
 left (flow ∷ row) (answer ∷ answers) = left (row ++ again flow answer) answers
 
 -- a worker did the turns of the flows in the row, one answer each, until none stood there
-pub record Serves (worker : ℕ) (row : List ℕ) (old new : Known) : Type 0 where
+pub record Serves (worker : ℕ) (row : List ℕ) (old new : KnownLog) : Type 0 where
   pub answers : List Heard
   pub logs : Logs old new (served worker row answers)
   pub ends : left row answers ≡ []

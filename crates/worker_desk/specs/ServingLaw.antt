@@ -4,7 +4,7 @@ use Rattle.worker_desk.specs.declared.event.Heard.{Heard}
 use Rattle.worker_desk.specs.declared.event.Heard.TheVariants.{Quiet, Reported, Faulted, Ended}
 use Rattle.worker_desk.specs.declared.event.Event.{Event}
 use Rattle.worker_desk.specs.declared.event.Event.TheVariants as event
-use Rattle.worker_desk.specs.Serving.{flows_of, served, left}
+use Rattle.worker_desk.specs.Serving.{flows_of_worker, served, left}
 
 -- ---- which flows are asked
 
@@ -29,13 +29,13 @@ asks (event.Installed flow step installed ∷ events) = asks events
 asks (event.Changed flow changed ∷ events) = asks events
 
 -- an answer, where it is the flow's
-abbrev pub answer_of : ℕ → Ask → List Heard
-answer_of flow ask = cond (ask.flow == flow) (ask.answer ∷ []) []
+abbrev pub answer_to_flow : ℕ → Ask → List Heard
+answer_to_flow flow ask = cond (ask.flow == flow) (ask.answer ∷ []) []
 
 -- a flow's answers, in order
-abbrev pub answers_of : ℕ → List Ask → List Heard
-answers_of flow [] = []
-answers_of flow (ask ∷ rest) = answer_of flow ask ++ answers_of flow rest
+abbrev pub answers_to_flow : ℕ → List Ask → List Heard
+answers_to_flow flow [] = []
+answers_to_flow flow (ask ∷ rest) = answer_to_flow flow ask ++ answers_to_flow flow rest
 
 abbrev pub is_ended : Heard → Bool
 is_ended Quiet = false
@@ -98,17 +98,17 @@ is_of worker datapaths flows flow = nat_lt flow flows && ((flow % datapaths) == 
 
 pub record IsServed (worker datapaths flows : ℕ) (events : List Event) : Type 0 where
   -- each flow of the worker is asked until it answered Ended, and not again
-  pub each : (flow : ℕ) → is_of worker datapaths flows flow ≡ true → ends_once (answers_of flow (asks events)) ≡ true
+  pub each : (flow : ℕ) → is_of worker datapaths flows flow ≡ true → ends_once (answers_to_flow flow (asks events)) ≡ true
   -- no other flow is asked
-  pub own : (flow : ℕ) → is_of worker datapaths flows flow ≡ false → answers_of flow (asks events) ≡ []
+  pub own : (flow : ℕ) → is_of worker datapaths flows flow ≡ false → answers_to_flow flow (asks events) ≡ []
   -- while a flow of the worker that hasn't ended isn't asked, no flow is asked twice
   pub in_turn : (flow other : ℕ) (before middle after : List Ask) → is_of worker datapaths flows other ≡ true
-      → asks events ≡ before ++ (middle ++ after) → has_ended (answers_of other before) ≡ false
-      → answers_of other middle ≡ [] → length (answers_of flow middle) ≤ 1
+      → asks events ≡ before ++ (middle ++ after) → has_ended (answers_to_flow other before) ≡ false
+      → answers_to_flow other middle ≡ [] → length (answers_to_flow flow middle) ≤ 1
   -- a nudge comes after each report and each fault, before the next ask, and no other nudge
   pub nudges : nudges_well None events ≡ true
 
 -- what a worker did that went round its flows until none was left, whatever the answers were
 abbrev pub ServingLaw : Type 0
-ServingLaw = (worker datapaths flows : ℕ) (answers : List Heard) → left (flows_of worker datapaths flows) answers ≡ []
-    → IsServed worker datapaths flows (served worker (flows_of worker datapaths flows) answers)
+ServingLaw = (worker datapaths flows : ℕ) (answers : List Heard) → left (flows_of_worker worker datapaths flows) answers ≡ []
+    → IsServed worker datapaths flows (served worker (flows_of_worker worker datapaths flows) answers)

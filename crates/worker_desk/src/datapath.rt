@@ -1,7 +1,7 @@
 //! What datapath workers do: acknowledgements of their flows, one of each in turn, under the flow's lock.
 ghost use Rattle.std.specs.Prelude.{◌≡◌, ℕ, ◌+◌, ◌-◌, ◌*◌, ◌<◌, ◌≤◌, [], ◌∷◌, ◌++◌, if◌then◌else◌, take, drop, slice_index, None, length};
-ghost use Rattle.worker_desk.specs.Logs.{Logs, Known};
-ghost use Rattle.worker_desk.specs.Serving.{hearing, flows_of, turn, again, heard, Serves};
+ghost use Rattle.worker_desk.specs.Logs.{Logs, KnownLog};
+ghost use Rattle.worker_desk.specs.Serving.{hearing_events, flows_of_worker, turn, again, heard_count, Serves};
 
 use crate::desk::Desk;
 use crate::event::Heard;
@@ -13,10 +13,10 @@ use ccp_base::Point;
 fn hear<D: Desk>(desk: &mut D, worker: u32, flow: u32) -> Heard
     requires flow { flow < D.flows desk.old }
     requires free { D.held desk.old ≡ None }
-    ensures log { Logs (D.log desk.old) (D.log desk.new) (hearing worker flow result) }
+    ensures log { Logs (D.log desk.old) (D.log desk.new) (hearing_events worker flow result) }
     ensures free { D.held desk.new ≡ None }
     ensures flows { D.flows desk.new ≡ D.flows desk.old }
-    ensures coming { D.coming desk.new + heard result ≤ D.coming desk.old }
+    ensures coming { D.coming desk.new + heard_count result ≤ D.coming desk.old }
 {
     desk.lock(flow);
     let answer = desk.ack(worker, flow);
@@ -32,7 +32,7 @@ fn acknowledge<D: Desk>(desk: &mut D, worker: u32, flow: u32) -> Heard
     ensures log { Logs (D.log desk.old) (D.log desk.new) (turn worker flow result) }
     ensures free { D.held desk.new ≡ None }
     ensures flows { D.flows desk.new ≡ D.flows desk.old }
-    ensures coming { D.coming desk.new + heard result ≤ D.coming desk.old }
+    ensures coming { D.coming desk.new + heard_count result ≤ D.coming desk.old }
 {
     desk.pass(worker, Point::BeforeAck, flow);
     let answer = hear(desk, worker, flow);
@@ -54,7 +54,7 @@ fn round<D: Desk>(desk: &mut D, worker: u32, row: &mut [u32; 64], count: usize) 
     ensures flows { (k : ℕ) → k < count → slice_index row.new k < D.flows desk.new }
     ensures same { D.flows desk.new ≡ D.flows desk.old }
     ensures coming { D.coming desk.new + result ≤ D.coming desk.old }
-    ensures rest { (end : Known)
+    ensures rest { (end : KnownLog)
         → Serves worker (take result row.new) (D.log desk.new) end
         → Serves worker (take count row.old) (D.log desk.old) end }
 {
@@ -69,7 +69,7 @@ fn round<D: Desk>(desk: &mut D, worker: u32, row: &mut [u32; 64], count: usize) 
 
 /// Whether a flow comes again after its answer.
 fn comes_again(answer: Heard) -> bool
-    ensures heard { heard answer ≡ if result then 1 else 0 }
+    ensures heard { heard_count answer ≡ if result then 1 else 0 }
     ensures again { (flow : ℕ) → again flow answer ≡ if result then flow ∷ [] else [] }
 {
     !matches!(answer, Heard::Ended)
@@ -78,7 +78,7 @@ fn comes_again(answer: Heard) -> bool
 /// Puts a flow that comes again at the end of those at the front of a row, and answers how many these are then.
 fn keep(row: &mut [u32; 64], count: usize, flow: u32, answer: Heard) -> usize
     requires { count < 64 }
-    ensures count { result ≡ count + heard answer }
+    ensures count { result ≡ count + heard_count answer }
     ensures most { result ≤ count + 1 }
     ensures front { take result row.new ≡ take count row.old ++ again flow answer }
     ensures later { (n : ℕ) → count < n → drop n row.new ≡ drop n row.old }
@@ -98,7 +98,7 @@ pub fn run_datapath_worker<D: Desk>(desk: &mut D, worker: u32, datapaths: u32) -
     requires datapaths { 1 ≤ datapaths }
     requires free { D.held desk.old ≡ None }
     ensures served { result ≡ record { worker = worker; first = worker; workers = datapaths; flows = D.flows desk.old } }
-    ensures serves { Serves worker (flows_of worker datapaths (D.flows desk.old)) (D.log desk.old) (D.log desk.new) }
+    ensures serves { Serves worker (flows_of_worker worker datapaths (D.flows desk.old)) (D.log desk.old) (D.log desk.new) }
 {
     let flows = desk.flow_count();
     let (mut row, mut count) = row_of(flows, worker, datapaths);

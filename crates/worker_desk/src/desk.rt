@@ -1,7 +1,7 @@
 //! The trait for a datapath worker's desk: the flows' locks, acknowledgements, nudges and the gate.
 ghost use Rattle.std.specs.Prelude.{◌≡◌, ℕ, ◌+◌, ◌<◌, ◌≤◌, Option, Some, None, List, [], ◌∷◌};
 ghost use Rattle.worker_desk.specs.Logs.{Logs};
-ghost use Rattle.worker_desk.specs.Serving.{heard};
+ghost use Rattle.worker_desk.specs.Serving.{heard_count};
 ghost use Rattle.worker_desk.specs.declared.event.Event.{Event};
 ghost use Rattle.worker_desk.specs.declared.event.Event.TheVariants.{Passed, Locked, Unlocked, Acked, Nudged};
 
@@ -50,7 +50,7 @@ pub trait Desk {
         ensures log { Logs (log self.old) (log self.new) (Acked worker flow result ∷ []) }
         ensures held { held self.new ≡ held self.old }
         ensures flows { flows self.new ≡ flows self.old }
-        ensures coming { coming self.new + heard result ≤ coming self.old };
+        ensures coming { coming self.new + heard_count result ≤ coming self.old };
 
     /// Passes a point of the gate. The number is the flow's.
     fn pass(&mut self, worker: u32, point: Point, flow: u32)

@@ -2,8 +2,8 @@
 ghost use Rattle.std.specs.Prelude.{◌≡◌, ℕ, ◌<◌, ◌≤◌, None, [], ◌∷◌, slice_index, length};
 ghost use Rattle.ccp_base.specs.Limits.{most_steps};
 ghost use Rattle.worker_desk.specs.Logs.{Logs};
-ghost use Rattle.worker_desk.specs.Serving.{flows_of};
-ghost use Rattle.worker_desk.specs.Equipping.{installing, changing, Task, tasks, tasks_at, Equips};
+ghost use Rattle.worker_desk.specs.Serving.{flows_of_worker};
+ghost use Rattle.worker_desk.specs.Equipping.{installing, changing, StepTask, tasks, tasks_at, Equips};
 
 use crate::install_desk::InstallDesk;
 use crate::receipt::{Duty, Equipped};
@@ -24,7 +24,7 @@ pub fn run_installer<D: InstallDesk>(
     requires workers { 1 ≤ workers }
     requires free { D.held desk.old ≡ None }
     ensures equipped { result ≡ record { worker = worker; first = first; workers = workers; flows = D.flows desk.old } }
-    ensures equips { Equips worker (tasks (flows_of first workers (D.flows desk.old)) most_steps) (D.log desk.old) (D.log desk.new) }
+    ensures equips { Equips worker (tasks (flows_of_worker first workers (D.flows desk.old)) most_steps) (D.log desk.old) (D.log desk.new) }
 {
     let flows = desk.flow_count();
     let (row, count) = row_of(flows, first, workers);

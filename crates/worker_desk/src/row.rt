@@ -1,7 +1,7 @@
 //! The flows of a worker, at the front of a row.
 
 ghost use Rattle.std.specs.Prelude.{◌≡◌, ℕ, ◌+◌, ◌<◌, ◌≤◌, [], ◌∷◌, ◌++◌, take, drop, slice_index};
-ghost use Rattle.worker_desk.specs.Serving.{flows_of};
+ghost use Rattle.worker_desk.specs.Serving.{flows_of_worker};
 
 /// Puts a flow at the end of those at the front of a row, and answers how many these are then.
 pub(crate) fn put(row: &mut [u32; 64], count: usize, flow: u32) -> usize
@@ -22,7 +22,7 @@ pub(crate) fn row_of(flows: u32, first: u32, workers: u32) -> ([u32; 64], usize)
     requires flows { flows ≤ 64 }
     requires workers { 1 ≤ workers }
     ensures count { result.1 ≤ flows }
-    ensures row { take result.1 result.0 ≡ flows_of first workers flows }
+    ensures row { take result.1 result.0 ≡ flows_of_worker first workers flows }
     ensures flows { (k : ℕ) → k < result.1 → slice_index result.0 k < flows }
 {
     let mut row = [0; 64];

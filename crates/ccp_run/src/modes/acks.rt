@@ -4,7 +4,7 @@ ghost use Rattle.std.specs.List.{All};
 ghost use Rattle.ccp_base.specs.Limits.{most_flows};
 ghost use Rattle.scenario_json.specs.Cases.{case_names, IsCoded, AreNumberedFrom};
 ghost use Rattle.ccp_run.specs.AcksRuns.{acks_written};
-ghost use Rattle.ccp_run.specs.Attempts.{IsAnswer, IsAttempt};
+ghost use Rattle.ccp_run.specs.Attempts.{IsOutputOrRefusal, IsAttempt};
 ghost use Rattle.ccp_run.specs.Streams.{over};
 ghost use Rattle.ccp_run.specs.Modes.{Task};
 
@@ -46,7 +46,7 @@ fn acks_output<R: Threads + Wait + Sync, G: Gate + Sync>(
     bytes: &[u8],
     gate: &G,
 ) -> Result<ModeOutput, Stop>
-    ensures { IsAnswer Task.Acks bytes.now result }
+    ensures { IsOutputOrRefusal Task.Acks bytes.now result }
 {
     let scene = scene(alloc, bytes, SceneMode::Live)?;
     Ok(run_acks(rt, alloc, workers, scene, gate)?)

@@ -5,7 +5,7 @@ ghost use Rattle.ccp_base.specs.Limits.{most_flows};
 ghost use Rattle.scenario_json.specs.Cases.{IsCoded, AreNumberedFrom};
 ghost use Rattle.scenario_json.specs.ScenePrograms.{forms_of};
 ghost use Rattle.run_audit.specs.Audit.{IsVerdict};
-ghost use Rattle.ccp_run.specs.Attempts.{IsAnswer};
+ghost use Rattle.ccp_run.specs.Attempts.{IsOutputOrRefusal};
 ghost use Rattle.ccp_run.specs.AuditRuns.{verdict_text};
 ghost use Rattle.ccp_run.specs.Modes.{Task};
 
@@ -25,7 +25,7 @@ use std::alloc::Global;
 /// What is said of the text below the separator as the live text of the scenario above it, or the first refusal: of the
 /// separator, of the length before it, of the scenario.
 pub fn audit_output(alloc: Global, bytes: &[u8]) -> Result<ModeOutput, Stop>
-    ensures { IsAnswer (Task.Alone Alone.Audit) bytes.now result }
+    ensures { IsOutputOrRefusal (Task.Alone Alone.Audit) bytes.now result }
 {
     let Some(cut) = separate(bytes) else {
         return Err(Stop::Refused(Refusal::NoSeparator));

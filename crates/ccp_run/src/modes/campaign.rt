@@ -2,7 +2,7 @@
 ghost use Rattle.std.specs.Prelude.{◌≡◌, ◌≤◌, ◌++◌, [], IfOk, map, length};
 ghost use Rattle.ccp_base.specs.Limits.{most_cases};
 ghost use Rattle.flow_core.specs.declared.case.Case.{Case};
-ghost use Rattle.ccp_run.specs.Attempts.{IsAnswer, IsAttempt};
+ghost use Rattle.ccp_run.specs.Attempts.{IsOutputOrRefusal, IsAttempt};
 ghost use Rattle.std.specs.List.{All};
 ghost use Rattle.campaign_report.specs.TableText.{table_text};
 ghost use Rattle.scenario_json.specs.Cases.{case_names, IsCoded, AreNumberedFrom};
@@ -52,7 +52,7 @@ fn campaign_output<R: Threads + Wait + Sync, G: Gate + Sync>(
     bytes: &[u8],
     gate: &G,
 ) -> Result<ModeOutput, Stop>
-    ensures { IsAnswer (Task.Campaign wire) bytes.now result }
+    ensures { IsOutputOrRefusal (Task.Campaign wire) bytes.now result }
 {
     let scene = scene(alloc, bytes, SceneMode::Campaign)?;
     Ok(run_campaign(rt, alloc, workers, wire, scene, gate)?)

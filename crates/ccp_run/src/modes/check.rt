@@ -1,6 +1,6 @@
 //! The mode `check`: the summary and the listing of a program, or its refusal.
 ghost use Rattle.std.specs.Prelude.{◌≡◌};
-ghost use Rattle.ccp_run.specs.Attempts.{IsAnswer};
+ghost use Rattle.ccp_run.specs.Attempts.{IsOutputOrRefusal};
 ghost use Rattle.ccp_run.specs.Modes.{Task};
 
 use crate::outcome::ModeOutput;
@@ -13,7 +13,7 @@ use std::alloc::Global;
 
 /// The summary and the listing of the program that the bytes stand for, or its refusal.
 pub fn check_output(alloc: Global, bytes: &[u8]) -> Result<ModeOutput, Stop>
-    ensures { IsAnswer (Task.Alone Alone.Check) bytes.now result }
+    ensures { IsOutputOrRefusal (Task.Alone Alone.Check) bytes.now result }
 {
     let built = program(alloc, bytes)?;
     let text = check_text(alloc, &built)?;

@@ -3,7 +3,7 @@ ghost use Rattle.std.specs.Prelude.{◌≡◌, ◌≤◌, ◌∷◌, [], IfOk, l
 ghost use Rattle.ccp_base.specs.Limits.{most_acks};
 ghost use Rattle.portus_core.specs.ProgramForm.{form_of};
 ghost use Rattle.fold_run.specs.Ran.{ran_of};
-ghost use Rattle.ccp_run.specs.Attempts.{IsAnswer};
+ghost use Rattle.ccp_run.specs.Attempts.{IsOutputOrRefusal};
 ghost use Rattle.ccp_run.specs.Fold.{folded_text};
 ghost use Rattle.ccp_run.specs.Modes.{Task};
 
@@ -22,7 +22,7 @@ use std::alloc::Global;
 
 /// The fold that the bytes ask for, or the first refusal: of the separator, the program, the lines.
 pub fn fold_output(alloc: Global, bytes: &[u8]) -> Result<ModeOutput, Stop>
-    ensures { IsAnswer (Task.Alone Alone.Fold) bytes.now result }
+    ensures { IsOutputOrRefusal (Task.Alone Alone.Fold) bytes.now result }
 {
     let Some(cut) = separate(bytes) else {
         return Err(Stop::Refused(Refusal::NoSeparator));

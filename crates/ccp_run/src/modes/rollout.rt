@@ -2,7 +2,7 @@
 ghost use Rattle.std.specs.Prelude.{◌≤◌, IfOk, IfErr, length};
 ghost use Rattle.ccp_base.specs.Limits.{most_flows};
 ghost use Rattle.scene_members.specs.OpenCases.{AreOpenFlowsFrom};
-ghost use Rattle.ccp_run.specs.Attempts.{IsAnswer, IsAttempt};
+ghost use Rattle.ccp_run.specs.Attempts.{IsOutputOrRefusal, IsAttempt};
 ghost use Rattle.ccp_run.specs.Rollout.{IsRolloutScenario, StopsRollout, TellsRollout};
 ghost use Rattle.ccp_run.specs.Streams.{over};
 ghost use Rattle.ccp_run.specs.Modes.{Task};
@@ -47,7 +47,7 @@ fn rollout_output<R: Threads + Wait + Sync, G: Gate + Sync>(
     bytes: &[u8],
     gate: &G,
 ) -> Result<ModeOutput, Stop>
-    ensures { IsAnswer Task.Rollout bytes.now result }
+    ensures { IsOutputOrRefusal Task.Rollout bytes.now result }
 {
     let cases = open_cases(alloc, bytes)?;
     Ok(run_rollout(rt, alloc, cases, datapaths, agents, gate)?)

@@ -6,7 +6,7 @@ ghost use Rattle.campaign_report.specs.TableText.{table_text};
 ghost use Rattle.scenario_json.specs.Cases.{plan_of, case_names, IsCoded, AreFlowsFrom, AreNumberedFrom};
 ghost use Rattle.scenario_json.specs.SharedScenes.{flow_link_of};
 ghost use Rattle.shared_link.specs.SharedLimits.{IsWithin};
-ghost use Rattle.ccp_run.specs.Attempts.{IsAnswer, IsAttempt};
+ghost use Rattle.ccp_run.specs.Attempts.{IsOutputOrRefusal, IsAttempt};
 ghost use Rattle.ccp_run.specs.Shared.{IsSharedScenario, StopsShared, link_line, text_of_scene};
 ghost use Rattle.ccp_run.specs.Streams.{over};
 ghost use Rattle.ccp_run.specs.Modes.{Task};
@@ -51,7 +51,7 @@ fn shared_output<R: Threads + Wait + Sync, G: Gate + Sync>(
     bytes: &[u8],
     gate: &G,
 ) -> Result<ModeOutput, Stop>
-    ensures { IsAnswer Task.Shared bytes.now result }
+    ensures { IsOutputOrRefusal Task.Shared bytes.now result }
 {
     let scene = read_shared_scene(alloc, bytes)?;
     Ok(run_together(rt, alloc, workers, scene, gate)?)

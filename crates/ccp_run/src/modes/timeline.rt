@@ -5,7 +5,7 @@ ghost use Rattle.ccp_base.specs.Limits.{most_flows};
 ghost use Rattle.campaign_report.specs.BooksRead.{flows_of};
 ghost use Rattle.scenario_json.specs.Cases.{IsCoded, AreNumberedFrom};
 ghost use Rattle.scenario_json.specs.ScenePrograms.{forms_of};
-ghost use Rattle.ccp_run.specs.Attempts.{IsAnswer, IsAttempt};
+ghost use Rattle.ccp_run.specs.Attempts.{IsOutputOrRefusal, IsAttempt};
 ghost use Rattle.ccp_run.specs.Live.{IsRightBook};
 ghost use Rattle.ccp_run.specs.Streams.{over};
 ghost use Rattle.ccp_run.specs.Timeline.{planned_by, timeline_text};
@@ -49,7 +49,7 @@ fn timeline_output<R: Threads + Wait + Sync, G: Gate + Sync>(
     bytes: &[u8],
     gate: &G,
 ) -> Result<ModeOutput, Stop>
-    ensures { IsAnswer (Task.Timeline wire) bytes.now result }
+    ensures { IsOutputOrRefusal (Task.Timeline wire) bytes.now result }
 {
     let scene = scene(alloc, bytes, SceneMode::Live)?;
     Ok(run_timeline(rt, alloc, workers, wire, scene, gate)?)

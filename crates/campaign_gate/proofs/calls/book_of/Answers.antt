@@ -1,7 +1,7 @@
 use Rattle.std.proofs.Common.{◌≡◌, sym, ap, ◌∙◌, subst}
 use Rattle.flow_core.specs.Words.{legal}
 use Rattle.flow_core.specs.Books.{IsBookOf}
-use Rattle.flow_core.specs.Cells.{CellState, flow_at, world_at, IsComplete, IsLifted}
+use Rattle.flow_core.specs.Cells.{CellState, flow_at, world_at, IsComplete, StateHoldsForSources}
 use Rattle.campaign_gate.specs.CampaignWord.{plan}
 use Rattle.campaign_gate.specs.CampaignBooks.{planned}
 use Rattle.campaign_gate.proofs.PlanLemmas.{plan-is-complete}
@@ -25,5 +25,5 @@ returns-clause-book c =
       legal = (λ i. legal (flow_at (same i)) (same i).case.link (told.word i)) ∙ told.legal;
       complete = plan-is-complete book.case;
       told = subst (λ (c : CellState). IsBookOf (flow_at c) (world_at c) book) (sym same) told.book;
-      lifted = subst IsLifted (sym same) told.lifted;
+      lifted = subst StateHoldsForSources (sym same) told.lifted;
     }

@@ -1,9 +1,9 @@
 use Rattle.std.proofs.Common.{◌≡◌, ℕ, ◌<◌, zero, suc, List, [], ◌∷◌, length, slice_index, refl, ap, arith}
-use Rattle.ccp_base.specs.Acknowledgement.{number_of, primitives, ack_of}
+use Rattle.ccp_base.specs.Acknowledgement.{bool_number, primitives, ack_of}
 use Rattle.ccp_base.specs.Truth.{is_true}
 use Rattle.ccp_base.proofs.ack.ack_of.Goals as goal
 
-flag-again : (n : ℕ) → n < 2 → number_of (is_true n) ≡ n
+flag-again : (n : ℕ) → n < 2 → bool_number (is_true n) ≡ n
 flag-again zero below = refl
 flag-again (suc zero) below = refl
 flag-again (suc (suc n)) below = absurd (omega arith)

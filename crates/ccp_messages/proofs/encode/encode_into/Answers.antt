@@ -5,7 +5,7 @@ use Rattle.reply_frames.specs.Kinds.{size_of}
 use Rattle.reply_frames.specs.FrameBytes.{outline_of, outline_bytes, body_bytes}
 use Rattle.reply_frames.specs.Writing.{over}
 use Rattle.reply_frames.proofs.Placing.{over-wrote}
-use Rattle.ccp_messages.specs.Messages.{flow_of, body_of, frame_bytes}
+use Rattle.ccp_messages.specs.Messages.{message_flow, message_body, frame_bytes}
 use Rattle.ccp_messages.proofs.Encoding.{length-frame}
 use Rattle.ccp_messages.proofs.DecodeLaws.{one_frame}
 use Rattle.ccp_messages.proofs.encode.encode_into.Goals as goal
@@ -27,8 +27,8 @@ pub returns-clause-frame : goal.returns-clause-frame
 returns-clause-frame c =
     let message = c.args.message.now in
     let old = c.args.out.now in
-    let front = outline_bytes (outline_of c.args.version (flow_of message) (body_of message)) in
+    let front = outline_bytes (outline_of c.args.version (message_flow message) (message_body message)) in
     let text = frame_bytes c.args.version message in
     let head : c.put_outline.new.out ≡ over front old = c.put_outline.ensures ∙ ap (λ head. over (outline_bytes head) old) c.head_of-head.ensures.head in
-    let both = over-wrote front (body_bytes c.args.version (body_of message)) old c.put_outline.new.out c.put_body.new.out 16 c.put_body.result refl head c.put_body.ensures.wrote in
+    let both = over-wrote front (body_bytes c.args.version (message_body message)) old c.put_outline.new.out c.put_body.new.out 16 c.put_body.result refl head c.put_body.ensures.wrote in
     (c.requires, ap (λ n. take n c.put_body.new.out) both.0 ∙ ap (take (length text)) both.1 ∙ take_at text (drop (length text) old) (length text) refl)

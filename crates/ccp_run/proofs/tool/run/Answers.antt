@@ -1,7 +1,7 @@
 use Rattle.std.proofs.Common.{◌≡◌, ◌∙◌, true, Some, List, ℕ, ap, is_some, refl, rules, sym, subst, map, string_bytes}
 use Rattle.ccp_words.specs.declared.words.Asked.{Asked}
 use Rattle.ccp_words.specs.Words.{are_accepted, asked_in}
-use Rattle.ccp_run.specs.Complete.{IsComplete}
+use Rattle.ccp_run.specs.Complete.{AnswersOrRefuses}
 use Rattle.ccp_run.specs.Modes.{task_of}
 use Rattle.ccp_run.specs.Run.{IsRun}
 use Rattle.ccp_run.specs.Streams.{Stream, over}
@@ -32,7 +32,7 @@ returns-in-Ok g c =
           subst (λ (a : Asked). IsRun (task_of a) source sink errors (g.K.Sink.is_finished c.asked_run.new.sink) c.asked_run.result)
           (one_some c.in-Ok.asked asked (sym found ∙ is)) run;
       complete = λ asked _ is.
-          subst (λ (a : Asked). IsComplete (task_of a) source sink c.asked_run.result) (one_some c.in-Ok.asked asked (sym found ∙ is))
+          subst (λ (a : Asked). AnswersOrRefuses (task_of a) source sink c.asked_run.result) (one_some c.in-Ok.asked asked (sym found ∙ is))
           (complete (task_of c.in-Ok.asked) source sink errors (g.K.Sink.is_finished c.asked_run.new.sink) c.asked_run.result run);
     }
 

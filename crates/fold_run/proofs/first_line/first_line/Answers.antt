@@ -3,7 +3,7 @@ use Rattle.std.proofs.Math.Seq.{drop-length}
 use Rattle.std.proofs.lemmas.List.{take_rest}
 use Rattle.ccp_base.specs.declared.parts.Separator.TheVariants.{LineFeed}
 use Rattle.ccp_base.specs.Parts.{parts_of}
-use Rattle.fold_run.specs.FirstPart.{after_of}
+use Rattle.fold_run.specs.FirstPart.{after_separator}
 use Rattle.fold_run.proofs.FirstLine.{parts-first, no-line-feed, at-line-feed}
 use Rattle.fold_run.proofs.first_line.first_line.Goals as goal
 
@@ -17,7 +17,7 @@ returns-in-None-clause-after c =
 pub returns-in-None-clause-parts : goal.returns-in-None-clause-parts
 returns-in-None-clause-parts c =
     parts-first LineFeed c.args.text.now c.requires
-    ∙ ap (λ line. line ∷ parts_of LineFeed (after_of LineFeed c.args.text.now)) (sym (returns-in-None-clause-line c))
+    ∙ ap (λ line. line ∷ parts_of LineFeed (after_separator LineFeed c.args.text.now)) (sym (returns-in-None-clause-line c))
     ∙ ap (λ rest. c.args.text.now ∷ parts_of LineFeed rest) (sym (returns-in-None-clause-after c))
 
 pub returns-in-Some-clause-line : goal.returns-in-Some-clause-line
@@ -33,5 +33,5 @@ returns-in-Some-clause-after c =
 pub returns-in-Some-clause-parts : goal.returns-in-Some-clause-parts
 returns-in-Some-clause-parts c =
     parts-first LineFeed c.args.text.now c.requires
-    ∙ ap (λ line. line ∷ parts_of LineFeed (after_of LineFeed c.args.text.now)) (sym (returns-in-Some-clause-line c))
+    ∙ ap (λ line. line ∷ parts_of LineFeed (after_separator LineFeed c.args.text.now)) (sym (returns-in-Some-clause-line c))
     ∙ ap (λ rest. take c.in-Some.at c.args.text.now ∷ parts_of LineFeed rest) (sym (returns-in-Some-clause-after c))

@@ -2,7 +2,7 @@ use Rattle.std.proofs.Common.{◌∷◌, ◌≡◌, ◌∙◌, ◌+◌, ap, sym,
 use Rattle.std.specs.List.{position_or_len}
 use Rattle.ccp_base.specs.declared.parts.Separator.TheVariants.{LineFeed}
 use Rattle.ccp_base.specs.Parts.{parts_of}
-use Rattle.fold_run.specs.FirstPart.{after_of}
+use Rattle.fold_run.specs.FirstPart.{after_separator}
 use Rattle.fold_run.specs.Separated.{is_separator}
 use Rattle.fold_run.proofs.SeparatedLemmas.{after_lines-next, past-line, at-line, cut-found}
 use Rattle.fold_run.proofs.separated.separate.Goals as goal
@@ -30,7 +30,7 @@ loop-left-preserved c =
     let front = ap (position_or_len is_separator) parts ∙ past in
     let count = ap length parts in
     record {
-      left = c.first_line.ensures.after ∙ ap (after_of LineFeed) so_far.left ∙ sym (after_lines-next c.loop-left.before text);
+      left = c.first_line.ensures.after ∙ ap (after_separator LineFeed) so_far.left ∙ sym (after_lines-next c.loop-left.before text);
       first = omega (arith, so_far.first, front);
       lines = omega (arith, so_far.lines, count);
       room = omega arith;

@@ -1,5 +1,5 @@
 use Rattle.std.proofs.Common.{◌<◌, ◌≤◌, ◌+◌, length, ap, arith}
-use Rattle.link_model.specs.Chances.{number_of, chance_time}
+use Rattle.link_model.specs.Chances.{chance_number, chance_time}
 use Rattle.link_model.proofs.ChanceLemmas.{chance_time_rises}
 use Rattle.link_model.proofs.LineLemmas.{turn_far_below, inside_number, inside_time, wrapped_number, wrapped_time}
 use Rattle.link_model.proofs.chance.coming_after.Goals as goal
@@ -21,7 +21,7 @@ returns-then-place-times-clause-coming c =
 pub overflow_add-result-2 : goal.overflow_add-result-2
 overflow_add-result-2 c =
     let coming = c.args.coming in
-    omega (arith, turn_far_below c.args.times.now c.requires.valid coming.chance.turn coming.chance.place c.requires.coming.place, chance_time_rises c.args.times.now c.requires.valid (number_of c.args.times.now coming.chance) (number_of c.args.times.now coming.chance + 1) (omega arith), c.requires.fits)
+    omega (arith, turn_far_below c.args.times.now c.requires.valid coming.chance.turn coming.chance.place c.requires.coming.place, chance_time_rises c.args.times.now c.requires.valid (chance_number c.args.times.now coming.chance) (chance_number c.args.times.now coming.chance + 1) (omega arith), c.requires.fits)
 
 pub overflow_add-result-3 : goal.overflow_add-result-3
 overflow_add-result-3 c =

@@ -1,6 +1,6 @@
 use Rattle.std.proofs.Common.{◌≡◌, ◌≤◌, ◌<◌, length, get_or, ap, subst, ◌∙◌, arith}
 use Rattle.ccp_base.specs.FieldReg.{blank}
-use Rattle.reply_frames.specs.ValueBytes.{value_bytes, IsValue}
+use Rattle.reply_frames.specs.ValueBytes.{value_bytes, ValueFits}
 use Rattle.reply_frames.specs.Writing.{placed}
 use Rattle.reply_frames.proofs.Placing.{placed-values}
 use Rattle.reply_frames.proofs.Taken.{all-more, all-taken}
@@ -19,8 +19,8 @@ loop-reg-preserved c =
           ∙ ap (λ xs. placed c.loop-reg.end (value_bytes (get_or xs c.loop-reg.reg-index blank)) c.loop-reg.out) items
           ∙ ap (placed c.loop-reg.end (value_bytes (get_or c.args.values.now c.loop-reg.reg-index blank))) c.loop-reg.invariant.written
           ∙ placed-values c.args.at c.loop-reg.end c.loop-reg.reg-index c.args.values.now blank c.args.out.now c.loop-reg.invariant.end lt within;
-      typed = all-more IsValue c.args.values.now c.loop-reg.reg-index blank lt c.loop-reg.invariant.typed (subst (λ xs. IsValue (get_or xs c.loop-reg.reg-index blank)) items c.put_value.ensures.typed);
+      typed = all-more ValueFits c.args.values.now c.loop-reg.reg-index blank lt c.loop-reg.invariant.typed (subst (λ xs. ValueFits (get_or xs c.loop-reg.reg-index blank)) items c.put_value.ensures.typed);
     }
 
 pub returns-clause-typed : goal.returns-clause-typed
-returns-clause-typed c = all-taken IsValue c.args.values.now c.loop-reg.reg-index (omega (arith, ap length c.as_slice-reg-items.ensures.items, c.loop-reg-test.false)) c.loop-reg.invariant.typed
+returns-clause-typed c = all-taken ValueFits c.args.values.now c.loop-reg.reg-index (omega (arith, ap length c.as_slice-reg-items.ensures.items, c.loop-reg-test.false)) c.loop-reg.invariant.typed

@@ -2,7 +2,7 @@ use Rattle.std.proofs.Common.{◌≡◌, ◌+◌, ◌≤◌, List, [], ◌∷◌
 use Rattle.std.proofs.lemmas.List.{length-take-le}
 use Rattle.std.specs.Vec.Iter.{into_iter_items}
 use Rattle.ccp_base.specs.declared.ack.Ack.{Ack}
-use Rattle.shared_run.specs.Courses.{acks_in}
+use Rattle.shared_run.specs.Courses.{acks_in_round}
 use Rattle.shared_run.specs.Orders.{AreDealt}
 use Rattle.shared_run.proofs.CourseLemmas.{drop_get, dropped_on, taken_on}
 use Rattle.shared_run.proofs.rounds.deal.Goals as goal
@@ -12,12 +12,12 @@ new-part-requires-clause-are g c =
     let l = c.loop-acks in
     let rest = into_iter_items c.next.new.self in
     let is : into_iter_items l.acks-iterator ≡ c.in-Some.acks ∷ rest = c.in-Some.ensures.steps.0 in
-    drop_get (acks_in g.C.Course.link g.C.Course.cases c.args.round) l.number c.in-Some.acks rest (sym is ∙ l.invariant.0)
+    drop_get (acks_in_round g.C.Course.link g.C.Course.cases c.args.round) l.number c.in-Some.acks rest (sym is ∙ l.invariant.0)
 
 pub deal_part-requires-clause-before : goal.deal_part-requires-clause-before
 deal_part-requires-clause-before g c =
     let l = c.loop-acks in
-    let all = acks_in g.C.Course.link g.C.Course.cases c.args.round in
+    let all = acks_in_round g.C.Course.link g.C.Course.cases c.args.round in
     let is : into_iter_items l.acks-iterator ≡ c.in-Some.acks ∷ into_iter_items c.next.new.self = c.in-Some.ensures.steps.0 in
     let shorter = ap (λ (xs : List (List Ack)). length xs) is in
     let within : l.number ≤ length all = omega (arith, shorter, l.invariant.1) in
@@ -26,7 +26,7 @@ deal_part-requires-clause-before g c =
 pub loop-acks-preserved : goal.loop-acks-preserved
 loop-acks-preserved g c =
     let l = c.loop-acks in
-    let all = acks_in g.C.Course.link g.C.Course.cases c.args.round in
+    let all = acks_in_round g.C.Course.link g.C.Course.cases c.args.round in
     let rest = into_iter_items c.next.new.self in
     let is : into_iter_items l.acks-iterator ≡ c.in-Some.acks ∷ rest = c.in-Some.ensures.steps.0 in
     let shorter = ap (λ (xs : List (List Ack)). length xs) is in

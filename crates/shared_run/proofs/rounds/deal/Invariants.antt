@@ -1,13 +1,13 @@
 use Rattle.std.proofs.Common.{◌≡◌, ◌+◌, take, drop, length}
 use Rattle.std.specs.Vec.Iter.{into_iter_items, into_iter_len}
-use Rattle.shared_run.specs.Courses.{acks_in}
+use Rattle.shared_run.specs.Courses.{acks_in_round}
 use Rattle.shared_run.specs.Orders.{AreDealt}
 use Rattle.shared_run.proofs.rounds.deal.Given as goal
 
 abbrev pub invariant-loop-acks : goal.invariant-loop-acks
 invariant-loop-acks g l =
-    (into_iter_items l.acks-iterator ≡ drop l.number (acks_in g.C.Course.link g.C.Course.cases l.round))
-    × (l.number + length (into_iter_items l.acks-iterator) ≡ length (acks_in g.C.Course.link g.C.Course.cases l.round))
+    (into_iter_items l.acks-iterator ≡ drop l.number (acks_in_round g.C.Course.link g.C.Course.cases l.round))
+    × (l.number + length (into_iter_items l.acks-iterator) ≡ length (acks_in_round g.C.Course.link g.C.Course.cases l.round))
     × (into_iter_len l.acks-iterator ≡ length (into_iter_items l.acks-iterator))
-    × AreDealt l.workers (take l.number (acks_in g.C.Course.link g.C.Course.cases l.round)) l.orders.items
+    × AreDealt l.workers (take l.number (acks_in_round g.C.Course.link g.C.Course.cases l.round)) l.orders.items
     × (l.link ≡ l.fn.link)

@@ -5,7 +5,7 @@ use Rattle.shared_link.specs.declared.shared_case.SharedCase.{SharedCase}
 use Rattle.shared_link.specs.SharedRounds.{acks_after}
 use Rattle.flow_core.specs.Readings.{over_codes}
 use Rattle.shared_link.specs.SharedStanding.{SharedState}
-use Rattle.shared_run.specs.Courses.{run_after, acks_in, StandsAfter}
+use Rattle.shared_run.specs.Courses.{run_after, acks_in_round, StandsAfter}
 use Rattle.shared_run.proofs.CourseLemmas.{on-ok, asks-count, acks-count, stands-next}
 use Rattle.shared_run.proofs.rounds.run_round.Goals as goal
 
@@ -29,7 +29,7 @@ deal-requires-clause-few g c =
     let link = g.C.Course.link in
     let cases = g.C.Course.cases in
     let history = (run_after link over_codes cases c.args.done).history in
-    let lists : c.in_ok-lists.lists ≡ acks_in link cases c.args.done =
+    let lists : c.in_ok-lists.lists ≡ acks_in_round link cases c.args.done =
     c.in_ok-lists.ensures.acks history c.requires.stands.stands
     ∙ (λ i. acks_after (c.requires.stands.case i) history (c.requires.asks i)) in
     let many = ap (λ (xs : List (List Ack)). length xs) lists in

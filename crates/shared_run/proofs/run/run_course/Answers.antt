@@ -3,9 +3,9 @@ use Rattle.std.specs.List.{All}
 use Rattle.flow_core.specs.declared.case.Case.{Case}
 use Rattle.flow_core.specs.Readings.{over_codes}
 use Rattle.flow_core.specs.Cores.{CoreState}
-use Rattle.shared_run.specs.RoundLetters.{closed}
+use Rattle.shared_run.specs.RoundLetters.{closed_flow}
 use Rattle.shared_run.specs.FlowRow.{flow_row, AreRoomy}
-use Rattle.shared_run.specs.SharedHistory.{flows_of, most_of}
+use Rattle.shared_run.specs.SharedHistory.{flows_at_end, round_limit}
 use Rattle.shared_run.specs.SharedBooks.{AreGivensOf}
 use Rattle.shared_run.specs.Courses.{HasEnded}
 use Rattle.shared_run.proofs.CourseLemmas.{flows_count}
@@ -20,9 +20,9 @@ close_flows-requires g c =
     let link = g.C.Course.link in
     let cases = g.C.Course.cases in
     let end = c.in_ok-end.end in
-    let most : c.most_of-most.result ≡ most_of cases c.args.most =
-    c.most_of-most.ensures ∙ ap (λ (list : List Case). most_of list c.args.most) (c.as_slice.ensures ∙ c.requires.cases) in
-    let ended : HasEnded link cases (most_of cases c.args.most) end.rounds end.link =
+    let most : c.most_of-most.result ≡ round_limit cases c.args.most =
+    c.most_of-most.ensures ∙ ap (λ (list : List Case). round_limit list c.args.most) (c.as_slice.ensures ∙ c.requires.cases) in
+    let ended : HasEnded link cases (round_limit cases c.args.most) end.rounds end.link =
     subst (λ (n : ℕ). HasEnded link cases n end.rounds end.link) most c.in_ok-end.ensures in
     subst (λ (cores : List CoreState). All (λ (core : CoreState). AreRoomy core.acks) cores) (sym c.in_ok-taken.ensures)
     (all-roomy-now link cases c.args.most end.rounds end.link ended c.requires.within c.requires.rounds)
@@ -32,12 +32,12 @@ returns g c =
     let link = g.C.Course.link in
     let cases = g.C.Course.cases in
     let end = c.in_ok-end.end in
-    let most : c.most_of-most.result ≡ most_of cases c.args.most =
-    c.most_of-most.ensures ∙ ap (λ (list : List Case). most_of list c.args.most) (c.as_slice.ensures ∙ c.requires.cases) in
-    let ended : HasEnded link cases (most_of cases c.args.most) end.rounds end.link =
+    let most : c.most_of-most.result ≡ round_limit cases c.args.most =
+    c.most_of-most.ensures ∙ ap (λ (list : List Case). round_limit list c.args.most) (c.as_slice.ensures ∙ c.requires.cases) in
+    let ended : HasEnded link cases (round_limit cases c.args.most) end.rounds end.link =
     subst (λ (n : ℕ). HasEnded link cases n end.rounds end.link) most c.in_ok-end.ensures in
-    let ends : map (closed over_codes) c.in_ok-taken.taken.items ≡ flows_of link over_codes cases c.args.most =
-    ap (λ (cores : List CoreState). map (closed over_codes) cores) c.in_ok-taken.ensures
+    let ends : map (closed_flow over_codes) c.in_ok-taken.taken.items ≡ flows_at_end link over_codes cases c.args.most =
+    ap (λ (cores : List CoreState). map (closed_flow over_codes) cores) c.in_ok-taken.ensures
     ∙ flows-are link cases c.args.most end.rounds end.link ended in
     record {
       givens = subst (λ (cores : List CoreState). AreGivensOf cores c.in_ok-givens.givens) ends c.in_ok-givens.ensures.givens;

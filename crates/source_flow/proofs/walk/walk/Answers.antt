@@ -3,14 +3,14 @@ use Rattle.ccp_base.specs.declared.place.Place.{Place}
 use Rattle.flow_core.specs.declared.letter.Letter.TheVariants.{A}
 use Rattle.flow_core.specs.World.{World}
 use Rattle.flow_core.specs.Words.{world, legal}
-use Rattle.source_flow.specs.SourceStates.{flow_of, IsAt}
+use Rattle.source_flow.specs.SourceStates.{flow_over_sources, IsAt}
 use Rattle.source_flow.proofs.WalkedLemmas.{world-next, legal-next, illegal-front}
 use Rattle.source_flow.proofs.walk.walk.Goals as goal
 
 pub returns-then-not-may : goal.returns-then-not-may
 returns-then-not-may c =
     let source = c.args.source.now in
-    let flow = flow_of source in
+    let flow = flow_over_sources source in
     let link = source.case.now.link in
     let word = c.args.word.now in
     let i = c.loop-letter.letter-index in
@@ -24,7 +24,7 @@ returns-then-not-may c =
 pub loop-letter-preserved : goal.loop-letter-preserved
 loop-letter-preserved c =
     let source = c.args.source.now in
-    let flow = flow_of source in
+    let flow = flow_over_sources source in
     let link = source.case.now.link in
     let word = c.args.word.now in
     let i = c.loop-letter.letter-index in

@@ -1,5 +1,5 @@
 use Rattle.std.proofs.Common.{◌≡◌, None}
-use Rattle.worker_desk.specs.Logs.{Known}
+use Rattle.worker_desk.specs.Logs.{KnownLog}
 use Rattle.worker_desk.specs.Attending.{Attends}
 use Rattle.worker_desk.proofs.agent.run_agent_worker.Given as goal
 
@@ -7,7 +7,7 @@ abbrev pub invariant-loop-flow : goal.invariant-loop-flow
 invariant-loop-flow g l = record {
   free : g.D.AgentDesk.held l.desk ≡ None;
   same : g.D.AgentDesk.flows l.desk ≡ g.D.AgentDesk.flows l.initial.desk;
-  rest : (end : Known)
+  rest : (end : KnownLog)
       → Attends l.worker (g.D.AgentDesk.flows l.initial.desk) (g.D.AgentDesk.log l.desk) end
       → Attends l.worker (g.D.AgentDesk.flows l.initial.desk) (g.D.AgentDesk.log l.initial.desk) end;
 }

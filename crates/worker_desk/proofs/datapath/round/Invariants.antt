@@ -1,5 +1,5 @@
 use Rattle.std.proofs.Common.{None, ◌≡◌, ℕ, ◌+◌, ◌-◌, ◌<◌, ◌≤◌, ◌++◌, take, drop, slice_index}
-use Rattle.worker_desk.specs.Logs.{Known}
+use Rattle.worker_desk.specs.Logs.{KnownLog}
 use Rattle.worker_desk.specs.Serving.{Serves}
 use Rattle.worker_desk.proofs.datapath.round.Given as goal
 
@@ -10,7 +10,7 @@ invariant-loop-place g l = record {
   flows : (k : ℕ) → k < l.count → slice_index l.row k < g.D.Desk.flows l.desk;
   same : g.D.Desk.flows l.desk ≡ g.D.Desk.flows l.initial.desk;
   coming : g.D.Desk.coming l.desk + l.kept ≤ g.D.Desk.coming l.initial.desk;
-  rest : (end : Known)
+  rest : (end : KnownLog)
       → Serves l.worker (take (l.count - l.place) (drop l.place l.row) ++ take l.kept l.row) (g.D.Desk.log l.desk) end
       → Serves l.worker (take l.count l.initial.row) (g.D.Desk.log l.initial.desk) end;
 }

@@ -1,5 +1,5 @@
 use Rattle.std.proofs.Common.{◌≡◌, None, ℕ, ◌+◌, ◌<◌, ◌≤◌, take, slice_index}
-use Rattle.worker_desk.specs.Logs.{Known}
+use Rattle.worker_desk.specs.Logs.{KnownLog}
 use Rattle.worker_desk.specs.Serving.{Serves}
 use Rattle.worker_desk.proofs.datapath.run_datapath_worker.Given as goal
 
@@ -8,7 +8,7 @@ invariant-loop-count g l = record {
   few : l.count ≤ 64;
   free : g.D.Desk.held l.desk ≡ None;
   flows : (k : ℕ) → k < l.count → slice_index l.row k < g.D.Desk.flows l.desk;
-  rest : (end : Known)
+  rest : (end : KnownLog)
       → Serves l.worker (take l.count l.row) (g.D.Desk.log l.desk) end
       → Serves l.worker (take l.initial.count l.initial.row) (g.D.Desk.log l.initial.desk) end;
 }

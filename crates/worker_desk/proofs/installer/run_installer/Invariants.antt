@@ -1,5 +1,5 @@
 use Rattle.std.proofs.Common.{◌≡◌, None}
-use Rattle.worker_desk.specs.Serving.{flows_of}
+use Rattle.worker_desk.specs.Serving.{flows_of_worker}
 use Rattle.worker_desk.specs.Equipping.{tasks, Equips}
 use Rattle.worker_desk.proofs.installer.run_installer.Given as goal
 
@@ -7,5 +7,5 @@ abbrev pub invariant-loop-step : goal.invariant-loop-step
 invariant-loop-step g l = record {
   free : g.D.InstallDesk.held l.desk ≡ None;
   same : g.D.InstallDesk.flows l.desk ≡ g.D.InstallDesk.flows l.initial.desk;
-  equips : Equips l.worker (tasks (flows_of l.first l.workers l.flows) l.step) (g.D.InstallDesk.log l.initial.desk) (g.D.InstallDesk.log l.desk);
+  equips : Equips l.worker (tasks (flows_of_worker l.first l.workers l.flows) l.step) (g.D.InstallDesk.log l.initial.desk) (g.D.InstallDesk.log l.desk);
 }

@@ -1,5 +1,5 @@
 use Rattle.std.proofs.Common.{◌≡◌, ◌∙◌, ◌<◌, Some, None, option_map, length, ap, sym, refl, arith, rules}
-use Rattle.feed_core.specs.Feed.{code_of, in_version}
+use Rattle.feed_core.specs.Feed.{running_code, in_version}
 use Rattle.feed_core.specs.FeedHolds.{codes_in}
 use Rattle.feed_core.proofs.FeedLemmas.{ack-absent, ack-counted, ack-heard}
 use Rattle.feed_core.proofs.tables.Tables.ack.Goals as goal
@@ -20,8 +20,8 @@ returns-in_default-code_of c =
     let feed = c.args.self.now in
     let lt : c.args.n < length feed.flows.items = omega (arith, c.requires.is_feed.flows_full) in
     let none : c.code_of.result ≡ None = search rules in
-    let runs : code_of c.in-Some.flow.epoch (codes_in feed.programs.items) ≡ None =
-    ap (λ ps. code_of c.in-Some.flow.epoch (codes_in ps)) (sym c.as_slice.ensures.value) ∙ sym c.code_of.ensures ∙ ap (option_map _) none in
+    let runs : running_code c.in-Some.flow.epoch (codes_in feed.programs.items) ≡ None =
+    ap (λ ps. running_code c.in-Some.flow.epoch (codes_in ps)) (sym c.as_slice.ensures.value) ∙ sym c.code_of.ensures ∙ ap (option_map _) none in
     record {
       messages = refl;
       handled = ack-counted feed.flows.items (codes_in feed.programs.items) feed.messages c.args.n c.args.version c.index_mut.result.now lt c.index_mut.ensures.value
@@ -34,8 +34,8 @@ returns c =
     let lt : c.args.n < length feed.flows.items = omega (arith, c.requires.is_feed.flows_full) in
     let epoch = c.in-Some-code_of.epoch in
     let code = c.in-Some-code_of.code.now.code in
-    let runs : code_of c.in-Some.flow.epoch (codes_in feed.programs.items) ≡ Some (epoch, code) =
-    ap (λ ps. code_of c.in-Some.flow.epoch (codes_in ps)) (sym c.as_slice.ensures.value) ∙ sym c.code_of.ensures ∙ ap (option_map _) c.in-Some-code_of.is in
+    let runs : running_code c.in-Some.flow.epoch (codes_in feed.programs.items) ≡ Some (epoch, code) =
+    ap (λ ps. running_code c.in-Some.flow.epoch (codes_in ps)) (sym c.as_slice.ensures.value) ∙ sym c.code_of.ensures ∙ ap (option_map _) c.in-Some-code_of.is in
     record {
       messages = refl;
       handled = ack-heard feed.flows.items (codes_in feed.programs.items) feed.messages c.args.n c.args.version c.index_mut.result.now lt c.index_mut.ensures.value

@@ -1,17 +1,17 @@
 use Rattle.std.proofs.Common.{ℕ, ◌+◌, sym, subst}
-use Rattle.feed_core.specs.Feed.{Answered}
-use Rattle.feed_core.specs.FeedHolds.{state_of, codes_in, AreFeedParts}
+use Rattle.feed_core.specs.Feed.{MessageAnswer}
+use Rattle.feed_core.specs.FeedHolds.{feed_state, codes_in, AreFeedParts}
 use Rattle.feed_core.proofs.FeedKept.{IsKept, handled-kept}
 use Rattle.feed_core.proofs.tables.Tables.frame.Goals as goal
 
 pub returns-clause-is_feed : goal.returns-clause-is_feed
 returns-clause-is_feed c =
-    let old = state_of c.args.self.now in
-    let kept = subst (λ (a : Answered). IsKept (old.messages + 1) a) (sym c.in_ok-answer.ensures.handled) (handled-kept old c.requires.is_feed c.args.message c.args.version c.requires.few) in
+    let old = feed_state c.args.self.now in
+    let kept = subst (λ (a : MessageAnswer). IsKept (old.messages + 1) a) (sym c.in_ok-answer.ensures.handled) (handled-kept old c.requires.is_feed c.args.message c.args.version c.requires.few) in
     subst (λ (m : ℕ). AreFeedParts c.handle.new.self.flows.items (codes_in c.handle.new.self.programs.items) (m + 1)) (sym c.handle.ensures.messages) kept.0
 
 pub returns-clause-frame : goal.returns-clause-frame
 returns-clause-frame c =
-    let old = state_of c.args.self.now in
-    let kept = subst (λ (a : Answered). IsKept (old.messages + 1) a) (sym c.in_ok-answer.ensures.handled) (handled-kept old c.requires.is_feed c.args.message c.args.version c.requires.few) in
+    let old = feed_state c.args.self.now in
+    let kept = subst (λ (a : MessageAnswer). IsKept (old.messages + 1) a) (sym c.in_ok-answer.ensures.handled) (handled-kept old c.requires.is_feed c.args.message c.args.version c.requires.few) in
     kept.1

@@ -1,5 +1,5 @@
 use Rattle.std.proofs.Common.{◌≡◌, ◌∙◌, ◌<◌, Some, None, option_map, length, ap, sym, refl, arith, rules}
-use Rattle.feed_core.specs.Feed.{code_of}
+use Rattle.feed_core.specs.Feed.{running_code}
 use Rattle.feed_core.specs.FeedHolds.{codes_in}
 use Rattle.feed_core.proofs.FeedLemmas.{update-absent, update-idle, update-bad, update-written}
 use Rattle.feed_core.proofs.tables.Tables.update.Goals as goal
@@ -20,8 +20,8 @@ returns-in_default-code_of c =
     let feed = c.args.self.now in
     let lt : c.args.n < length feed.flows.items = omega (arith, c.requires.is_feed.flows_full) in
     let none : c.code_of.result ≡ None = search rules in
-    let runs : code_of c.in-Some.flow.epoch (codes_in feed.programs.items) ≡ None =
-    ap (λ ps. code_of c.in-Some.flow.epoch (codes_in ps)) (sym c.as_slice.ensures.value) ∙ sym c.code_of.ensures ∙ ap (option_map _) none in
+    let runs : running_code c.in-Some.flow.epoch (codes_in feed.programs.items) ≡ None =
+    ap (λ ps. running_code c.in-Some.flow.epoch (codes_in ps)) (sym c.as_slice.ensures.value) ∙ sym c.code_of.ensures ∙ ap (option_map _) none in
     record {
       messages = refl;
       handled = update-idle feed.flows.items (codes_in feed.programs.items) feed.messages c.args.n c.args.version c.index_mut.result.now lt c.index_mut.ensures.value
@@ -34,8 +34,8 @@ returns-in-Ok c =
     let lt : c.args.n < length feed.flows.items = omega (arith, c.requires.is_feed.flows_full) in
     let epoch = c.in-Some-code_of.field-0-0 in
     let code = c.in-Some-code_of.code.now.code in
-    let runs : code_of c.in-Some.flow.epoch (codes_in feed.programs.items) ≡ Some (epoch, code) =
-    ap (λ ps. code_of c.in-Some.flow.epoch (codes_in ps)) (sym c.as_slice.ensures.value) ∙ sym c.code_of.ensures ∙ ap (option_map _) c.in-Some-code_of.is in
+    let runs : running_code c.in-Some.flow.epoch (codes_in feed.programs.items) ≡ Some (epoch, code) =
+    ap (λ ps. running_code c.in-Some.flow.epoch (codes_in ps)) (sym c.as_slice.ensures.value) ∙ sym c.code_of.ensures ∙ ap (option_map _) c.in-Some-code_of.is in
     record {
       messages = refl;
       handled = update-written feed.flows.items (codes_in feed.programs.items) feed.messages c.args.n c.args.version c.index_mut.result.now lt c.index_mut.ensures.value
@@ -48,8 +48,8 @@ returns-in-Err c =
     let lt : c.args.n < length feed.flows.items = omega (arith, c.requires.is_feed.flows_full) in
     let epoch = c.in-Some-code_of.field-0-0 in
     let code = c.in-Some-code_of.code.now.code in
-    let runs : code_of c.in-Some.flow.epoch (codes_in feed.programs.items) ≡ Some (epoch, code) =
-    ap (λ ps. code_of c.in-Some.flow.epoch (codes_in ps)) (sym c.as_slice.ensures.value) ∙ sym c.code_of.ensures ∙ ap (option_map _) c.in-Some-code_of.is in
+    let runs : running_code c.in-Some.flow.epoch (codes_in feed.programs.items) ≡ Some (epoch, code) =
+    ap (λ ps. running_code c.in-Some.flow.epoch (codes_in ps)) (sym c.as_slice.ensures.value) ∙ sym c.code_of.ensures ∙ ap (option_map _) c.in-Some-code_of.is in
     record {
       messages = refl;
       handled = update-bad feed.flows.items (codes_in feed.programs.items) feed.messages c.args.n c.args.version c.index_mut.result.now lt c.index_mut.ensures.value

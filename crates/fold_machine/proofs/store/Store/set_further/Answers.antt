@@ -1,5 +1,5 @@
 use Rattle.std.proofs.Common.{sym, ap, ◌∙◌, subst}
-use Rattle.slot_pool.specs.Pool.{IsOut, free_of, ChangesSlot, with_word}
+use Rattle.slot_pool.specs.Pool.{IsOut, free_of, ChangesSlot, words_with_one}
 use Rattle.fold_machine.specs.Store.{StoreState, further_of, IsOwned}
 use Rattle.fold_machine.proofs.StoreLemmas.{IsApart, further_apart, further_out, IsOut-further, with_word-further, free_of-further, further-changes, IsOwned-kept, own-kept}
 use Rattle.fold_machine.proofs.store.Store.set_further.Goals as goal
@@ -13,7 +13,7 @@ apart c =
 owned : (c : goal.After-write) → IsOwned c.write.new.self c.self.inside.registers c.self.inside.report
 owned c =
     let inside = c.self.inside in
-    IsOwned-kept inside.pool c.write.new.self inside.registers inside.report c.args.slot.now (with_word inside.pool c.args.slot.now c.args.at c.args.word) c.self.invariant (apart c) c.write.ensures.written
+    IsOwned-kept inside.pool c.write.new.self inside.registers inside.report c.args.slot.now (words_with_one inside.pool c.args.slot.now c.args.at c.args.word) c.self.invariant (apart c) c.write.ensures.written
 
 pub write-requires-clause-out : goal.write-requires-clause-out
 write-requires-clause-out c =
@@ -27,8 +27,8 @@ returns-clause-written c =
     let slot = c.args.slot.now in
     let now = further_of c.write.new.self inside.registers inside.report in
     let held = with_word-further inside.pool inside.registers inside.report slot c.args.at c.args.word (apart c) in
-    let changes = further-changes inside.pool c.write.new.self inside.registers inside.report slot (with_word inside.pool slot c.args.at c.args.word) (apart c) c.write.ensures.written in
-    subst (λ (s : StoreState). ChangesSlot s.further now slot (with_word s.further slot c.args.at c.args.word)) c.self.view_is
+    let changes = further-changes inside.pool c.write.new.self inside.registers inside.report slot (words_with_one inside.pool slot c.args.at c.args.word) (apart c) c.write.ensures.written in
+    subst (λ (s : StoreState). ChangesSlot s.further now slot (words_with_one s.further slot c.args.at c.args.word)) c.self.view_is
     (subst (ChangesSlot (further_of inside.pool inside.registers inside.report) now slot) (sym held) changes)
 
 pub returns-clause-out : goal.returns-clause-out
@@ -47,4 +47,4 @@ returns-clause-counted c =
 pub returns-clause-own : goal.returns-clause-own
 returns-clause-own c =
     let inside = c.self.inside in
-    own-kept inside.pool c.write.new.self inside.registers inside.report c.args.slot.now (with_word inside.pool c.args.slot.now c.args.at c.args.word) c.args.self.now c.self.view_is (apart c) c.write.ensures.written
+    own-kept inside.pool c.write.new.self inside.registers inside.report c.args.slot.now (words_with_one inside.pool c.args.slot.now c.args.at c.args.word) c.args.self.now c.self.view_is (apart c) c.write.ensures.written

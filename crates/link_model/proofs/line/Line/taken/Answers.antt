@@ -1,5 +1,5 @@
 use Rattle.std.proofs.Common.{arith}
-use Rattle.link_model.specs.Chances.{number_of}
+use Rattle.link_model.specs.Chances.{chance_number}
 use Rattle.link_model.proofs.ChanceLemmas.{chance_time_rises}
 use Rattle.link_model.proofs.LineLemmas.{after_soon, coming_rises}
 use Rattle.link_model.proofs.line.Line.taken.Goals as goal
@@ -7,7 +7,7 @@ use Rattle.link_model.proofs.line.Line.taken.Goals as goal
 pub coming_after-next-requires-clause-fits : goal.coming_after-next-requires-clause-fits
 coming_after-next-requires-clause-fits c =
     let times = c.args.trace.now in
-    omega (arith, after_soon times c.requires.valid (number_of times c.args.self.next.chance), c.requires.line.next.at, c.requires.time)
+    omega (arith, after_soon times c.requires.valid (chance_number times c.args.self.next.chance), c.requires.line.next.at, c.requires.time)
 
 pub returns-then-self-now-clause-order : goal.returns-then-self-now-clause-order
 returns-then-self-now-clause-order c =
@@ -21,7 +21,7 @@ returns-clause-line c =
       later = c.coming_after-next.ensures.coming;
       waiting = omega arith;
       gone = λ j under.
-          omega (arith, chance_time_rises times c.requires.valid j (number_of times c.args.self.next.chance) (omega (arith, under, c.coming_after-next.ensures.number)), c.requires.line.next.at, c.if-self-now.false);
+          omega (arith, chance_time_rises times c.requires.valid j (chance_number times c.args.self.next.chance) (omega (arith, under, c.coming_after-next.ensures.number)), c.requires.line.next.at, c.if-self-now.false);
     }
 
 pub returns-clause-order : goal.returns-clause-order

@@ -1,6 +1,6 @@
 use Rattle.std.proofs.Common.{◌≡◌, ◌≤◌, ◌+◌, ◌-◌, ℕ, List, Option, Some, slice_get, drop, ap, subst, sym, ◌∙◌, arith}
 use Rattle.link_model.specs.declared.arrival.Arrival.{Arrival}
-use Rattle.link_model.specs.Standing.{ack_at}
+use Rattle.link_model.specs.Standing.{packet_ack}
 use Rattle.link_model.specs.LinkMoves.{count_of, standing_in, ack_by}
 use Rattle.link_model.specs.Horizon.{horizon, ArriveWithin, ArriveInOrder}
 use Rattle.link_model.proofs.HorizonLemmas.{ArriveWithin-more}
@@ -49,5 +49,5 @@ returns-clause-ack c =
     let count = ap (λ xs. count_of xs old.lost) (first_of old.flight.items first is) in
     let stay : old.in_flight - (first.lost + 1) ≡ count_of (drop 1 old.flight.items) old.lost = omega (arith, c.requires.kept.count, count) in
     c.arrival_ack-ack.ensures
-    ∙ ap (λ (n : ℕ). ack_at case first old.past n (old.acked + 1) old.sent) stay
+    ∙ ap (λ (n : ℕ). packet_ack case first old.past n (old.acked + 1) old.sent) stay
     ∙ sym (ap (λ (next : Option Arrival). ack_by case (standing_in case.trace old) next) is)

@@ -3,7 +3,7 @@ use Rattle.std.proofs.lemmas.Bool.{cases_lt}
 use Rattle.std.proofs.Common.{length-append}
 use Rattle.ccp_base.specs.declared.ack.Ack.{Ack}
 use Rattle.shared_link.specs.declared.flow_traffic.FlowTraffic.{FlowTraffic}
-use Rattle.shared_link.specs.SharedRounds.{flow_at}
+use Rattle.shared_link.specs.SharedRounds.{flow_link_at}
 use Rattle.shared_link.specs.Kept.{IsFlowReady, AnsweredTo}
 use Rattle.shared_link.proofs.FlowsLemmas.{answered-more}
 use Rattle.shared_link.proofs.flows.Flows.answer_all.Goals as goal
@@ -22,13 +22,13 @@ loop-flow-preserved c =
       ap length c.push_reserved.ensures.items ∙ length-append c.loop-flow.answers.items (c.answer_one-acks.result ∷ []) ∙ ap (λ n. n + 1) inv.2,
       c.push_reserved.ensures.capacity ∙ inv.3,
       λ flow other below.
-          elim (cases_lt flow f) as (λ _. IsFlowReady (flow_at case flow) (c.args.rounds + 1) (get_or after flow other)) [
+          elim (cases_lt flow f) as (λ _. IsFlowReady (flow_link_at case flow) (c.args.rounds + 1) (get_or after flow other)) [
             | inl before ↦
                 (let apart : flow ≢ f = omega arith in
-                subst (λ (t : FlowTraffic). IsFlowReady (flow_at case flow) (c.args.rounds + 1) t) (sym (given.others flow other apart)) (inv.4 flow other before))
+                subst (λ (t : FlowTraffic). IsFlowReady (flow_link_at case flow) (c.args.rounds + 1) t) (sym (given.others flow other apart)) (inv.4 flow other before))
             | inr not_before ↦
                 (let same : f ≡ flow = omega arith in
-                subst (λ (k : ℕ). IsFlowReady (flow_at case k) (c.args.rounds + 1) (get_or after k other)) same (given.ready other))
+                subst (λ (k : ℕ). IsFlowReady (flow_link_at case k) (c.args.rounds + 1) (get_or after k other)) same (given.ready other))
           ],
       λ flow other above inside. (let apart : flow ≢ f = omega arith in given.others flow other apart ∙ inv.5 flow other (omega arith) (omega (arith, inside, given.count))),
       λ now sent givens settled follows.

@@ -3,8 +3,8 @@ use Rattle.link_model.specs.Link.{acked_of}
 use Rattle.link_model.specs.Counts.{most_packets, lost_of}
 use Rattle.link_model.specs.LinkMoves.{count_of}
 use Rattle.shared_link.specs.declared.flow_traffic.FlowTraffic.{FlowTraffic}
-use Rattle.shared_link.specs.SharedRounds.{flow_at, own_packets, own_flight, sum_of}
-use Rattle.shared_link.specs.Kept.{flow_in, IsFlowReady}
+use Rattle.shared_link.specs.SharedRounds.{flow_link_at, own_packets, own_flight, sum_over_flows}
+use Rattle.shared_link.specs.Kept.{flow_under_way, IsFlowReady}
 use Rattle.shared_link.proofs.KeptLemmas.{kept-count}
 use Rattle.shared_link.proofs.FlowsLemmas.{sum_more, counts_same}
 use Rattle.shared_link.proofs.flows.Flows.counts.Goals as goal
@@ -17,7 +17,7 @@ loop-flow-preserved c =
     let t = c.index-traffic.result.now in
     let inv = c.loop-flow.invariant in
     let within : f < length flows = omega (arith, c.loop-flow-test.true, c.len.ensures) in
-    let ready = subst (λ (x : FlowTraffic). IsFlowReady (flow_at case f) c.args.rounds x) (sym c.index-traffic.ensures) (c.requires.ready.each f t within) in
+    let ready = subst (λ (x : FlowTraffic). IsFlowReady (flow_link_at case f) c.args.rounds x) (sym c.index-traffic.ensures) (c.requires.ready.each f t within) in
     let sent_few : t.sent ≤ most_packets = omega (arith, ready.sent, ready.kept.few, c.requires.rounds) in
     let sum = ready.kept.sum in (
       omega (arith, within),
@@ -26,15 +26,15 @@ loop-flow-preserved c =
       omega (arith, inv.3, sent_few, sum),
       omega (arith, inv.4, sent_few, sum),
       λ sent givens follows. sum_more f c.loop-flow.sent t.sent (λ flow. length (own_packets flow sent)) (inv.5 sent givens follows)
-          (ap (λ s. s.sent) (ap flow_in c.index-traffic.ensures ∙ follows f t within)),
+          (ap (λ s. s.sent) (ap flow_under_way c.index-traffic.ensures ∙ follows f t within)),
       λ sent givens follows. sum_more f c.loop-flow.acked t.acked (λ flow. acked_of (givens flow)) (inv.6 sent givens follows)
-          (ap (λ s. s.acked) (ap flow_in c.index-traffic.ensures ∙ follows f t within)),
+          (ap (λ s. s.acked) (ap flow_under_way c.index-traffic.ensures ∙ follows f t within)),
       λ sent givens follows. sum_more f c.loop-flow.lost t.gone (λ flow. lost_of (givens flow)) (inv.7 sent givens follows)
-          (ap (λ s. s.gone) (ap flow_in c.index-traffic.ensures ∙ follows f t within)),
+          (ap (λ s. s.gone) (ap flow_under_way c.index-traffic.ensures ∙ follows f t within)),
       λ sent givens follows. sum_more f c.loop-flow.inflight t.in_flight (λ flow. length (own_flight flow sent (givens flow))) (inv.8 sent givens follows)
           (ready.kept.count
-          ∙ ap (λ s. count_of s.flight.arrivals s.flight.lost) (ap flow_in c.index-traffic.ensures ∙ follows f t within)
-          ∙ kept-count case.trace (flow_at case f) (own_packets f sent) (givens f)),
+          ∙ ap (λ s. count_of s.flight.arrivals s.flight.lost) (ap flow_under_way c.index-traffic.ensures ∙ follows f t within)
+          ∙ kept-count case.trace (flow_link_at case f) (own_packets f sent) (givens f)),
     )
 
 pub returns : goal.returns
@@ -43,7 +43,7 @@ returns c = λ sent givens follows.
     let inv = c.loop-flow.invariant in
     let all : c.loop-flow.flow ≡ length case.flows = omega (arith, c.loop-flow-test.false, c.len.ensures, inv.0, c.requires.ready.count) in
     counts_same _ _ _ _ _ _ _ _ _ _ c.from.ensures
-    (inv.5 sent givens follows ∙ ap (λ k. sum_of k (λ flow. length (own_packets flow sent))) all)
-    (inv.6 sent givens follows ∙ ap (λ k. sum_of k (λ flow. acked_of (givens flow))) all)
-    (inv.7 sent givens follows ∙ ap (λ k. sum_of k (λ flow. lost_of (givens flow))) all)
-    (inv.8 sent givens follows ∙ ap (λ k. sum_of k (λ flow. length (own_flight flow sent (givens flow)))) all)
+    (inv.5 sent givens follows ∙ ap (λ k. sum_over_flows k (λ flow. length (own_packets flow sent))) all)
+    (inv.6 sent givens follows ∙ ap (λ k. sum_over_flows k (λ flow. acked_of (givens flow))) all)
+    (inv.7 sent givens follows ∙ ap (λ k. sum_over_flows k (λ flow. lost_of (givens flow))) all)
+    (inv.8 sent givens follows ∙ ap (λ k. sum_over_flows k (λ flow. length (own_flight flow sent (givens flow)))) all)

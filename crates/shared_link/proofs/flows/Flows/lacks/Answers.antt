@@ -1,8 +1,8 @@
 use Rattle.std.proofs.Common.{◌≡◌, ◌<◌, ltb, length, subst, ap, sym, ◌∙◌, arith, ltb-true, rules}
 use Rattle.link_model.specs.LinkMoves.{count_of}
 use Rattle.shared_link.specs.declared.flow_traffic.FlowTraffic.{FlowTraffic}
-use Rattle.shared_link.specs.SharedRounds.{flow_at, own_packets, own_flight}
-use Rattle.shared_link.specs.Kept.{flow_in, IsFlowReady}
+use Rattle.shared_link.specs.SharedRounds.{flow_link_at, own_packets, own_flight}
+use Rattle.shared_link.specs.Kept.{flow_under_way, IsFlowReady}
 use Rattle.shared_link.proofs.KeptLemmas.{kept-count}
 use Rattle.shared_link.proofs.FlowsLemmas.{same_there}
 use Rattle.shared_link.proofs.flows.Flows.lacks.Goals as goal
@@ -29,10 +29,10 @@ returns-clause-lacks c = λ sent givens follows.
     let case = c.args.case.now in
     let flows = c.args.self.now.traffic.items in
     let t = c.index.result.now in
-    let ready = subst (λ (x : FlowTraffic). IsFlowReady (flow_at case f) c.args.sending.now.rounds x) (sym c.index.ensures) (c.requires.ready.each f t c.requires.flow) in
-    let standing = ap flow_in c.index.ensures ∙ follows f t c.requires.flow in
+    let ready = subst (λ (x : FlowTraffic). IsFlowReady (flow_link_at case f) c.args.sending.now.rounds x) (sym c.index.ensures) (c.requires.ready.each f t c.requires.flow) in
+    let standing = ap flow_under_way c.index.ensures ∙ follows f t c.requires.flow in
     let count : t.in_flight ≡ length (own_flight f sent (givens f)) =
     ready.kept.count
     ∙ ap (λ s. count_of s.flight.arrivals s.flight.lost) standing
-    ∙ kept-count case.trace (flow_at case f) (own_packets f sent) (givens f) in
+    ∙ kept-count case.trace (flow_link_at case f) (own_packets f sent) (givens f) in
     ap (λ n. ltb n c.allowance_of-may.result) count ∙ ap (ltb (length (own_flight f sent (givens f)))) c.allowance_of-may.ensures.value

@@ -4,15 +4,15 @@ use Rattle.std.proofs.lemmas.List.{length-set}
 use Rattle.shared_link.specs.declared.flow_traffic.FlowTraffic.{FlowTraffic}
 use Rattle.shared_link.specs.declared.shared_case.FlowLink.{FlowLink}
 use Rattle.shared_link.specs.declared.round.Ask.{Ask}
-use Rattle.shared_link.specs.SharedRounds.{flow_at, ask_at, allowed}
-use Rattle.shared_link.specs.Kept.{flow_in, IsFlowKept, IsFlowReady}
+use Rattle.shared_link.specs.SharedRounds.{flow_link_at, ask_at, allowed}
+use Rattle.shared_link.specs.Kept.{flow_under_way, IsFlowKept, IsFlowReady}
 use Rattle.shared_link.proofs.FlowsLemmas.{ready-set, room-set}
 use Rattle.shared_link.proofs.flows.Flows.make_rooms.Goals as goal
 
 pub returns-in_err-make_room-clause-same : goal.returns-in_err-make_room-clause-same
 returns-in_err-make_room-clause-same c =
-    map-set_same flow_in c.loop-flow.self.traffic.items c.loop-flow.flow c.make_room.new.self c.index_mut.result.now
-    (c.make_room.ensures.standing ∙ ap flow_in c.index_mut.ensures.value)
+    map-set_same flow_under_way c.loop-flow.self.traffic.items c.loop-flow.flow c.make_room.new.self c.index_mut.result.now
+    (c.make_room.ensures.standing ∙ ap flow_under_way c.index_mut.ensures.value)
     ∙ c.loop-flow.invariant.3
 
 pub loop-flow-preserved : goal.loop-flow-preserved
@@ -25,7 +25,7 @@ loop-flow-preserved c =
     let rounds = c.args.rounds in
     let asks = c.args.asks.now in
     let within : f + 1 ≤ length flows = omega (arith, c.loop-flow-test.true, c.len.ensures) in
-    let ready = subst (λ (x : FlowTraffic). IsFlowReady (flow_at case f) rounds x) (sym c.index_mut.ensures.value) (c.loop-flow.invariant.1.each f old (omega (arith, within))) in
+    let ready = subst (λ (x : FlowTraffic). IsFlowReady (flow_link_at case f) rounds x) (sym c.index_mut.ensures.value) (c.loop-flow.invariant.1.each f old (omega (arith, within))) in
     let room : min c.ask_of-left.result.left (max new.in_flight c.allowance_of-may.result) ≤ vec_capacity new.acks = c.in_ok-make_room.ensures.room in
     let asked : min (ask_at asks f).left (max new.in_flight c.allowance_of-may.result) ≤ vec_capacity new.acks = subst (λ (a : Ask). min a.left (max new.in_flight c.allowance_of-may.result) ≤ vec_capacity new.acks) c.ask_of-left.ensures room in
     let here : min (ask_at asks f).left (max new.in_flight (allowed case asks f)) ≤ vec_capacity new.acks = subst (λ (m : ℕ). min (ask_at asks f).left (max new.in_flight m) ≤ vec_capacity new.acks) c.allowance_of-may.ensures.value asked in (
@@ -37,5 +37,5 @@ loop-flow-preserved c =
             acks = c.make_room.ensures.acks;
           }),
       room-set case asks f (f + 1) flows f new (omega (arith, within)) within c.loop-flow.invariant.2 (λ flow under apart. omega (arith, under, apart)) here,
-      map-set_same flow_in flows f new old (c.make_room.ensures.standing ∙ ap flow_in c.index_mut.ensures.value) ∙ c.loop-flow.invariant.3,
+      map-set_same flow_under_way flows f new old (c.make_room.ensures.standing ∙ ap flow_under_way c.index_mut.ensures.value) ∙ c.loop-flow.invariant.3,
     )

@@ -1,5 +1,5 @@
 use Rattle.std.proofs.Common.{◌≡◌, ◌-◌, ◌≤◌, length, map}
-use Rattle.shared_link.specs.Kept.{flow_in, AreReady, HaveRoom}
+use Rattle.shared_link.specs.Kept.{flow_under_way, AreReady, HaveRoom}
 use Rattle.shared_link.proofs.flows.Flows.make_rooms.Given as goal
 
 abbrev pub invariant-loop-flow : goal.invariant-loop-flow
@@ -7,7 +7,7 @@ invariant-loop-flow l =
     (l.flow ≤ length l.self.traffic.items)
     × AreReady l.case l.rounds l.self.traffic.items
     × HaveRoom l.case l.asks l.flow l.self.traffic.items
-    × (map flow_in l.self.traffic.items ≡ map flow_in l.fn.self.traffic.items)
+    × (map flow_under_way l.self.traffic.items ≡ map flow_under_way l.fn.self.traffic.items)
 
 abbrev pub decreases-loop-flow : goal.decreases-loop-flow
 decreases-loop-flow l = length l.self.traffic.items - l.flow

@@ -1,6 +1,6 @@
 use Rattle.std.proofs.Common.{◌≡◌, ◌-◌, suc, true, false, cond, length, subst, ap, sym, ◌∙◌, arith, rules}
 use Rattle.ccp_base.specs.Limits.{most_flight}
-use Rattle.shared_link.specs.SharedRounds.{allowed, turn_of, turns_of}
+use Rattle.shared_link.specs.SharedRounds.{allowed, sending_turn, turns_of}
 use Rattle.shared_link.specs.Kept.{Follows}
 use Rattle.shared_link.proofs.flows.Flows.send_all.Goals as goal
 
@@ -15,7 +15,7 @@ returns-then-not-some_lacks-clause-follows c = λ sent givens follows.
     let none : c.some_lacks.result ≡ false = search rules in
     let one : suc (left - 1) ≡ left = omega (arith, c.loop-left-test.true) in
     let over : so_far ≡ turns_of case now may givens left so_far =
-    ap (λ b. cond b (turns_of case now may givens (left - 1) (turn_of case now may givens (length case.flows) so_far)) so_far) (sym none ∙ c.some_lacks.ensures so_far givens turned.follows.traffic)
+    ap (λ b. cond b (turns_of case now may givens (left - 1) (sending_turn case now may givens (length case.flows) so_far)) so_far) (sym none ∙ c.some_lacks.ensures so_far givens turned.follows.traffic)
     ∙ ap (λ k. turns_of case now may givens k so_far) one in
     subst (λ s. Follows case c.loop-left.self.traffic.items c.loop-left.sending s givens)
     (over ∙ turned.rest ∙ ap (λ n. turns_of case n may givens most_flight sent) c.loop-left.invariant.4) turned.follows
@@ -36,7 +36,7 @@ loop-left-preserved c =
       λ sent givens follows.
           (let turned = c.loop-left.invariant.5 sent givens follows in
           let so_far = turned.so_far in
-          let more = turn_of case now may givens (length case.flows) so_far in
+          let more = sending_turn case now may givens (length case.flows) so_far in
           let some : c.some_lacks.result ≡ true = search rules in
           record {
             so_far = more;

@@ -1,7 +1,7 @@
 use Rattle.std.proofs.Common.{◌≡◌, ℕ, List, length}
 use Rattle.link_model.specs.Link.{GivenAck}
 use Rattle.shared_link.specs.SharedRounds.{Sent}
-use Rattle.shared_link.specs.Kept.{IsSending, Follows, AreReady, HaveRoom, Turned}
+use Rattle.shared_link.specs.Kept.{IsSending, Follows, AreReady, HaveRoom, TurnsMade}
 use Rattle.shared_link.proofs.flows.Flows.send_all.Given as goal
 
 abbrev pub invariant-loop-left : goal.invariant-loop-left
@@ -12,7 +12,7 @@ invariant-loop-left l =
     × (l.sending.rounds ≡ l.fn.sending.rounds)
     × (l.sending.now ≡ l.fn.sending.now)
     × ((sent : List Sent) (givens : ℕ → List GivenAck) → Follows l.case l.fn.self.traffic.items l.fn.sending sent givens
-    → Turned l.case l.asks l.self.traffic.items l.sending l.left sent givens)
+    → TurnsMade l.case l.asks l.self.traffic.items l.sending l.left sent givens)
 
 abbrev pub decreases-loop-left : goal.decreases-loop-left
 decreases-loop-left l = l.left

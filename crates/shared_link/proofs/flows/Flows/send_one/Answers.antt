@@ -3,9 +3,9 @@ use Rattle.std.proofs.lemmas.List.{length-set}
 use Rattle.shared_link.specs.declared.flow_traffic.FlowTraffic.{FlowTraffic}
 use Rattle.shared_link.specs.declared.shared_case.FlowLink.{FlowLink}
 use Rattle.link_model.specs.Link.{chance_past}
-use Rattle.link_model.specs.Chances.{number_of}
-use Rattle.shared_link.specs.SharedRounds.{flow_at, ask_at, allowed, with_packet}
-use Rattle.shared_link.specs.Kept.{flow_in, with_one, fate_now, IsFlowKept, IsFlowReady, AreReady, most_answers, Follows}
+use Rattle.link_model.specs.Chances.{chance_number}
+use Rattle.shared_link.specs.SharedRounds.{flow_link_at, ask_at, allowed, with_packet}
+use Rattle.shared_link.specs.Kept.{flow_under_way, with_one, fate_now, IsFlowKept, IsFlowReady, AreReady, most_answers, Follows}
 use Rattle.shared_link.proofs.FlowsLemmas.{ready-set, room-set, follows-sent}
 use Rattle.shared_link.proofs.flows.Flows.send_one.Goals as goal
 
@@ -22,7 +22,7 @@ returns-clause-ready c =
     let old = c.index_mut.result.now in
     let new = c.send.new.self in
     let rounds = c.args.sending.now.rounds in
-    let ready = subst (λ (x : FlowTraffic). IsFlowReady (flow_at case f) rounds x) (sym c.index_mut.ensures.value) (c.requires.ready.each f old c.requires.flow) in
+    let ready = subst (λ (x : FlowTraffic). IsFlowReady (flow_link_at case f) rounds x) (sym c.index_mut.ensures.value) (c.requires.ready.each f old c.requires.flow) in
     let flows = c.args.self.now.traffic.items in
     subst (λ n. AreReady case n (set flows f new)) (sym c.send.ensures.rounds)
     (ready-set case rounds flows f new c.requires.flow c.requires.ready
@@ -58,7 +58,7 @@ returns-clause-follows c = λ sent givens follows.
     let after = c.send.new.sending in
     let some : c.lacks.result ≡ true = search rules in
     let link = c.link_of.ensures in
-    let standing = c.send.ensures.standing ∙ ap (λ (l : FlowLink). with_one case.trace l.delay_us before.now (fate_now case.trace l case.queue old.sent before) (flow_in old)) link in
-    let chance = c.send.ensures.chance ∙ ap (λ (l : FlowLink). chance_past (fate_now case.trace l case.queue old.sent before) (number_of case.trace before.next)) link in
+    let standing = c.send.ensures.standing ∙ ap (λ (l : FlowLink). with_one case.trace l.delay_us before.now (fate_now case.trace l case.queue old.sent before) (flow_under_way old)) link in
+    let chance = c.send.ensures.chance ∙ ap (λ (l : FlowLink). chance_past (fate_now case.trace l case.queue old.sent before) (chance_number case.trace before.next)) link in
     subst (λ b. Follows case (set flows f new) after (cond b (with_packet case before.now f sent) sent) givens) (sym some ∙ c.lacks.ensures.lacks sent givens follows.traffic)
     (follows-sent case c.requires.sending.valid flows before sent givens follows c.requires.sending f c.requires.flow old c.index_mut.ensures.value new after c.send.ensures.now standing chance)

@@ -1,5 +1,5 @@
 use Rattle.std.proofs.Common.{◌≡◌, ◌+◌, suc, cond, length, subst, ◌∙◌, arith}
-use Rattle.shared_link.specs.SharedRounds.{allowed, lacks, turn_of, with_packet}
+use Rattle.shared_link.specs.SharedRounds.{allowed, lacks, sending_turn, with_packet}
 use Rattle.shared_link.specs.Kept.{Follows}
 use Rattle.shared_link.proofs.flows.Flows.send_turn.Goals as goal
 
@@ -18,9 +18,9 @@ loop-flow-preserved c =
       c.send_one.ensures.rounds ∙ c.loop-flow.invariant.4,
       c.send_one.ensures.now ∙ c.loop-flow.invariant.5,
       λ sent givens follows.
-          (let so_far = turn_of case now may givens flow sent in
+          (let so_far = sending_turn case now may givens flow sent in
           let sent_now = c.send_one.ensures.follows so_far givens (c.loop-flow.invariant.6 sent givens follows) in
-          subst (λ k. Follows case after.self.traffic.items after.sending (turn_of case now may givens k sent) givens) one
+          subst (λ k. Follows case after.self.traffic.items after.sending (sending_turn case now may givens k sent) givens) one
           (subst (λ n. Follows case after.self.traffic.items after.sending (cond (lacks may givens flow so_far) (with_packet case n flow so_far) so_far) givens) c.loop-flow.invariant.5 sent_now)),
     )
 
@@ -28,5 +28,5 @@ pub returns-clause-follows : goal.returns-clause-follows
 returns-clause-follows c = λ sent givens follows.
     let case = c.args.case.now in
     let all : c.loop-flow.flow ≡ length case.flows = omega (arith, c.loop-flow-test.false, c.len.ensures, c.loop-flow.invariant.0, c.loop-flow.invariant.1.count) in
-    subst (λ k. Follows case c.loop-flow.self.traffic.items c.loop-flow.sending (turn_of case c.args.sending.now.now (allowed case c.args.asks.now) givens k sent) givens) all
+    subst (λ k. Follows case c.loop-flow.self.traffic.items c.loop-flow.sending (sending_turn case c.args.sending.now.now (allowed case c.args.asks.now) givens k sent) givens) all
     (c.loop-flow.invariant.6 sent givens follows)

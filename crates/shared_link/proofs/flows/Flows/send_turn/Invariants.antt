@@ -1,6 +1,6 @@
 use Rattle.std.proofs.Common.{◌≡◌, ℕ, ◌-◌, ◌≤◌, List, length}
 use Rattle.link_model.specs.Link.{GivenAck}
-use Rattle.shared_link.specs.SharedRounds.{Sent, allowed, turn_of}
+use Rattle.shared_link.specs.SharedRounds.{Sent, allowed, sending_turn}
 use Rattle.shared_link.specs.Kept.{IsSending, Follows, AreReady, HaveRoom}
 use Rattle.shared_link.proofs.flows.Flows.send_turn.Given as goal
 
@@ -13,7 +13,7 @@ invariant-loop-flow l =
     × (l.sending.rounds ≡ l.fn.sending.rounds)
     × (l.sending.now ≡ l.fn.sending.now)
     × ((sent : List Sent) (givens : ℕ → List GivenAck) → Follows l.case l.fn.self.traffic.items l.fn.sending sent givens
-    → Follows l.case l.self.traffic.items l.sending (turn_of l.case l.fn.sending.now (allowed l.case l.asks) givens l.flow sent) givens)
+    → Follows l.case l.self.traffic.items l.sending (sending_turn l.case l.fn.sending.now (allowed l.case l.asks) givens l.flow sent) givens)
 
 abbrev pub decreases-loop-flow : goal.decreases-loop-flow
 decreases-loop-flow l = length l.self.traffic.items - l.flow

@@ -4,7 +4,7 @@ use Rattle.flow_core.specs.World.{Taken}
 use Rattle.flow_core.specs.Books.{ticket_of}
 use Rattle.flow_core.specs.Cores.{CoreState}
 use Rattle.campaign_gate.proofs.DueLemmas.{some-mapped}
-use Rattle.shared_run.specs.RoundLetters.{state_of, is_answered}
+use Rattle.shared_run.specs.RoundLetters.{world_of_core, is_answered}
 use Rattle.shared_run.proofs.OnWayLemmas.{answered-ended, answered-all, answered-open}
 use Rattle.shared_run.proofs.flow.SharedFlow.is_answered.Goals.{then-at_end-via-then-at_end, then-at_end-via-else-at_end+then-has_all}
 use Rattle.shared_run.proofs.flow.SharedFlow.is_answered.Goals as goal
@@ -12,7 +12,7 @@ use Rattle.shared_run.proofs.flow.SharedFlow.is_answered.Goals as goal
 pub returns-then-at_end : goal.returns-then-at_end
 returns-then-at_end c =
     let core = c.self.inside.core in
-    let w = state_of over_codes core in
+    let w = world_of_core over_codes core in
     let out : c.is_some-is_out.result ≡ is_some w.out =
     c.is_some-is_out.ensures ∙ ap is_some c.out.ensures ∙ some-mapped (λ (ticket : Taken _). ticket_of (over_codes core.case) w ticket.told) w.out in
     let on = c.self.invariant in
@@ -29,7 +29,7 @@ returns-then-at_end c =
 pub returns-then-is_out : goal.returns-then-is_out
 returns-then-is_out c =
     let core = c.self.inside.core in
-    let w = state_of over_codes core in
+    let w = world_of_core over_codes core in
     let out : c.is_some-is_out.result ≡ is_some w.out =
     c.is_some-is_out.ensures ∙ ap is_some c.out.ensures ∙ some-mapped (λ (ticket : Taken _). ticket_of (over_codes core.case) w ticket.told) w.out in
     let has : nat_le core.case.acks (length core.acks) ≡ false =

@@ -1,7 +1,7 @@
 use Rattle.std.proofs.Common.{◌≡◌, ℕ, ◌+◌, ◌-◌, ◌*◌, ◌≤◌, List, length, replicate, take, drop, refl, sym, ap, ◌∙◌, arith}
 use Rattle.std.proofs.lemmas.List.{with_items_is, length-replicate, length-take, length-drop}
 use borrow.Rule.Slice.PartMut.{put_mid}
-use Rattle.slot_pool.specs.Region.{words_in}
+use Rattle.slot_pool.specs.Region.{slot_words_in}
 use Rattle.slot_pool.proofs.RegionLemmas.{slots_in_order, words_in-put, words_in-put_other, length-put}
 use Rattle.slot_pool.proofs.region.Region.clear.Goals as goal
 
@@ -29,8 +29,8 @@ returns c =
     ap length put ∙ length-put region start words zeros room (length-replicate words 0) ∙ sym c.args.self.now.items.ok.0 in
     let items = with_items_is c.args.self.now.items (put_mid start part c.deref_mut.result.now c.fill.new.self) kept ∙ put in
     record {
-      changed = ap (λ xs. words_in xs words slot) items ∙ words_in-put region words slot zeros room (length-replicate words 0);
-      others = λ other apart. ap (λ xs. words_in xs words other) items ∙ words_in-put_other region words slot zeros other room (length-replicate words 0) apart;
+      changed = ap (λ xs. slot_words_in xs words slot) items ∙ words_in-put region words slot zeros room (length-replicate words 0);
+      others = λ other apart. ap (λ xs. slot_words_in xs words other) items ∙ words_in-put_other region words slot zeros other room (length-replicate words 0) apart;
       slots = refl;
       words = refl;
     }

@@ -1,7 +1,7 @@
 use Rattle.std.proofs.Common.{◌≡◌, ℕ, ◌+◌, ◌-◌, ◌*◌, ◌≤◌, List, length, refl, sym, ap, ◌∙◌, arith}
 use Rattle.std.proofs.lemmas.List.{with_items_is}
 use borrow.Rule.Slice.PartMut.{put_mid}
-use Rattle.slot_pool.specs.Region.{words_in}
+use Rattle.slot_pool.specs.Region.{slot_words_in}
 use Rattle.slot_pool.proofs.RegionLemmas.{slots_in_order, words_in-run, words_in-run_other, length-put}
 use Rattle.slot_pool.proofs.region.Region.write_run.Goals as goal
 
@@ -31,8 +31,8 @@ returns c =
     ap length put ∙ length-put region start (length run) run room refl ∙ sym c.args.self.now.items.ok.0 in
     let items = with_items_is c.args.self.now.items (put_mid start part c.deref_mut.result.now c.copy_from_slice.new.self) kept ∙ put in
     record {
-      changed = ap (λ xs. words_in xs words slot) items ∙ words_in-run region words slot at run slot_fits fits;
-      others = λ other apart. ap (λ xs. words_in xs words other) items ∙ words_in-run_other region words slot at run other slot_fits fits apart;
+      changed = ap (λ xs. slot_words_in xs words slot) items ∙ words_in-run region words slot at run slot_fits fits;
+      others = λ other apart. ap (λ xs. slot_words_in xs words other) items ∙ words_in-run_other region words slot at run other slot_fits fits apart;
       slots = refl;
       words = refl;
     }

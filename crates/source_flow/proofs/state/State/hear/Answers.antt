@@ -5,7 +5,7 @@ use Rattle.link_model.specs.Standing.{Stands}
 use Rattle.portus_core.specs.Epoch.{by_source, heard, stops}
 use Rattle.flow_core.specs.World.{after_ack}
 use Rattle.source_flow.specs.declared.state.Present.{Present}
-use Rattle.source_flow.specs.SourceStates.{flow_of, outcome_met, Kept, IsAt}
+use Rattle.source_flow.specs.SourceStates.{flow_over_sources, outcome_met, KeptFlow, IsAt}
 use Rattle.source_flow.specs.SourceSteps.{PutDown}
 use Rattle.source_flow.proofs.HeardLemmas.{at-heard}
 use Rattle.source_flow.proofs.state.State.hear.Goals as goal
@@ -27,8 +27,8 @@ returns-clause-at c = λ w at.
     c.in_ok-mean.ensures.frame ∙ (λ i. record s.present { env = env; is_stopped = c.in_ok-mean.ensures.stopped i }) in
     let down =
     subst (λ (p : Present). PutDown source.case.now.flow (record s { link = link; present = p }) put ack outcome) present c.in_ok-put_down.ensures in
-    let stands = subst (λ (n : ℕ). Stands link (w.windows ++ n ∷ [])) (ap (λ (k : Kept). k.env.cwnd) at.kept) (c.next-ack.ensures.stands w.windows at.stands) in
+    let stands = subst (λ (n : ℕ). Stands link (w.windows ++ n ∷ [])) (ap (λ (k : KeptFlow). k.env.cwnd) at.kept) (c.next-ack.ensures.stands w.windows at.stands) in
     let is_ack =
     c.next-ack.ensures.ack w.windows at.stands ∙ (λ i. ack_after (c.requires.sound.link i) w.windows (at.kept i).env.cwnd) in
-    subst (λ (a : Ack). IsAt (flow_of source) (record put { acks = put.acks + 1; time = ack.now }) (after_ack (flow_of source) a w)) is_ack
+    subst (λ (a : Ack). IsAt (flow_over_sources source) (record put { acks = put.acks + 1; time = ack.now }) (after_ack (flow_over_sources source) a w)) is_ack
     (at-heard source s w at link room ack outcome env put is_room met down stands)
