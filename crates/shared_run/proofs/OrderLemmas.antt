@@ -2,12 +2,11 @@
 use Rattle.std.specs.Prelude.{◌≡◌, ◌≢◌, ◌<◌, ℕ, ◌+◌, ◌%◌, suc, ◌==◌, Bool, true, false, Some, Result, Ok, Err, OnOk, List, [], ◌∷◌, ◌++◌, length, slice_get, refl}
 use Rattle.std.specs.List.{filter, enumerate_from}
 use Rattle.std.proofs.Common.{arith, ap, sym, ◌∙◌, set, cond, append-nil, inl, inr}
-use Rattle.std.proofs.lemmas.Bool.{cases_lt}
 use Rattle.std.proofs.lemmas.Bool.Decides.{eqb_tells}
 use Rattle.std.proofs.lemmas.List.Elements.{filter-append}
 use Rattle.std.proofs.lemmas.Option.{slice_get_within}
 use Rattle.std.proofs.Math.Nat.{mod-lt}
-use Rattle.circular_buffer.proofs.Places.{slice_get-set_same, slice_get-set_other, slice_get-append_left, slice_get-last}
+use Rattle.circular_buffer.proofs.Places.{slice_get-set_same, slice_get-set_other}
 use Rattle.ccp_base.specs.declared.ack.Ack.{Ack}
 use Rattle.shared_run.proofs.CountLemmas.{same-some}
 use Rattle.shared_run.specs.Orders.{Part, OrderState, with_part, is_done_by, parts_of, order_of, IsDealtBefore, DealsOne}
@@ -101,21 +100,9 @@ deals-part workers number (ack ∷ rest) orders order new at some is there made 
           ∙ ap (λ (o : OrderState). Some o) (order-same workers worker lists (ack ∷ rest) other))
     ]
 
--- ---- orders without a part
-
+-- the first of the orders have no part yet
 abbrev pub AreOpen : ℕ → ℕ → List OrderState → Type 0
 AreOpen workers count orders = (worker : ℕ) → worker < count → slice_get orders worker ≡ Some (order_of workers worker [])
-
-pub open-on : (workers count : ℕ) (orders : List OrderState) (order : OrderState) → length orders ≡ count → AreOpen workers count orders
-    → order ≡ order_of workers count [] → AreOpen workers (count + 1) (orders ++ order ∷ [])
-open-on workers count orders order long open_ is worker less =
-    elim (cases_lt worker count) as (λ _. slice_get (orders ++ order ∷ []) worker ≡ Some (order_of workers worker [])) [
-      | inl below ↦ slice_get-append_left orders (order ∷ []) worker (omega (arith, below, long)) ∙ open_ worker below
-      | inr past ↦
-          (let here : worker ≡ count = omega (arith, past, less) in
-          slice_get-last orders order worker (here ∙ sym long)
-          ∙ ap (λ (o : OrderState). Some o) (is ∙ ap (λ (n : ℕ). order_of workers n []) (sym here)))
-    ]
 
 pub on_ok : {A E P Q : Type 0} (result : Result A E) → (P → Q) → OnOk result P → OnOk result Q
 on_ok (Ok value) follows holds = follows holds
