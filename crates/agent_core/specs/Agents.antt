@@ -30,7 +30,7 @@ as_reno turn = (Reno turn.0, turn.1)
 abbrev pub as_cubic : CubicState × Reply → Agent × Reply
 as_cubic turn = (Cubic turn.0, turn.1)
 
--- the agent after it was told, and its reply
+-- the agent after a report or a fault, and its reply
 abbrev pub replied : Agent → Told → Agent × Reply
 replied (Reno state) told = as_reno (reno state told)
 replied (Cubic state) told = as_cubic (cubic state told)

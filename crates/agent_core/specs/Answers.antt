@@ -8,7 +8,7 @@ use Rattle.agent_core.specs.declared.agent.Agent.{Agent}
 use Rattle.agent_core.specs.declared.ticket.Ticket.{Ticket}
 use Rattle.agent_core.specs.Agents.{replied, values_of}
 
--- the agent after it was told
+-- the agent after the ticket's report or fault
 abbrev pub after_of : Ticket → Agent
 after_of ticket = (replied ticket.before ticket.told).0
 

@@ -64,7 +64,7 @@ impl Answer {
         &self.ticket
     }
 
-    /// The agent after it was told.
+    /// The agent after the ticket's report or fault.
     pub fn after(&self) -> &Agent
         ensures { result.now ≡ after_of self.now }
     {

@@ -1,4 +1,4 @@
-//! Tickets and answers: an agent of either kind is told what a ticket tells, and its answer keeps the ticket.
+//! Tickets and answers: an agent gets a ticket's report or fault, and its answer keeps the ticket.
 #![tactic(auto)]
 
 mod agent;

@@ -8,12 +8,12 @@ use Rattle.flow_core.specs.Readings.{Flow, over_codes}
 use Rattle.flow_core.specs.World.{Taken, World, opening}
 use Rattle.flow_core.specs.Words.{from_link, after_letter, is_legal, most_letters}
 
--- a ticket is out that was taken at least so many acknowledgements before
+-- a ticket is out that was taken at least `lag` acknowledgements before
 abbrev pub is_late : {X : Type 0} → ℕ → ℕ → Option (Taken X) → Bool
 is_late lag acks None = false
 is_late lag acks (Some ticket) = nat_le (ticket.taken + lag) acks
 
--- an answer is due: to a ticket that is so late, and once all acknowledgements are in to any ticket that is out
+-- an answer is due to a ticket that is `lag` acknowledgements old, and once all acknowledgements are in to any ticket that is out
 abbrev pub is_due : {X : Type 0} → Flow X → ℕ → World X → Bool
 is_due flow lag w = if is_legal flow w A then is_late lag (length w.acks) w.out else is_legal flow w C
 
@@ -33,7 +33,7 @@ abbrev pub then_rest : Option Letter → (Letter → List Letter) → List Lette
 then_rest None rest = []
 then_rest (Some letter) rest = letter ∷ rest letter
 
--- the word from a state on, of at most so many letters
+-- the word from a state on, of at most that number of letters
 abbrev pub plan_from : {X : Type 0} → Flow X → LinkCase → ℕ → ℕ → World X → List Letter
 plan_from flow link lag zero w = []
 plan_from flow link lag (suc more) w =

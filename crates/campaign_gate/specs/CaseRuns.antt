@@ -75,7 +75,7 @@ sums_after A cell sums = with_ack (ack_at cell) sums
 sums_after T cell sums = sums
 sums_after C cell sums = sums
 
--- where a ticket is out afterwards, it was taken at so many acknowledgements
+-- if a ticket is out afterwards, it was taken at that number of acknowledgements
 abbrev pub TakenAfter : Letter → CellState → ℕ → ℕ → Type 0
 TakenAfter A cell old new = new ≡ old
 TakenAfter T cell old new = new ≡ length (world_at cell).acks

@@ -37,7 +37,7 @@ IsProgramText bytes = (form : Form) × IsBuiltFrom bytes form
 abbrev pub check_rules : Rules
 check_rules = reads_whole Input IsProgramText IsCheckOutput IsNoCheck
 
--- why a text isn't built, but for want of memory
+-- why a text isn't built; out of memory is left open
 abbrev pub StopsProgram : List ℕ → Stop → Type 0
 StopsProgram text (stop.Refused refusal) = IsNoCheck text refusal
 StopsProgram text stop.ReadFailed = ⊥

@@ -47,7 +47,7 @@ folded_text form acks =
     report_lines form.fields (fold_reports form acks) ⧺ stopping_line (fold_fault form acks)
     ⧺ end_line form.fields (length (fold_reports form acks)) (fold_end form acks)
 
--- the output is the text of the program's meaning, and the program's code runs so many instructions
+-- the output is the text of the program's meaning, and the program's code runs that number of instructions
 pub record IsFoldOutput (bytes : List ℕ) (output : ModeOutput) : Type 0 where
   pub form : Form
   pub acks : List Ack

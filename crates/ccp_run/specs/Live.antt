@@ -31,7 +31,7 @@ book_cases books = map (λ (book : Book). book.case) books
 abbrev pub books_written : Bool → List (ℕ × Built) → List Book → List ℕ
 books_written wire programs books = frames_shown wire programs ⧺ live_text (forms_of programs) (flows_of books)
 
--- there is one book for each of the scenario's cases, in order, which tells of a legal and complete word, and the
+-- there is one book for each of the scenario's cases, in order, which has a legal and complete word, and the
 -- output is the live text of these words. Nothing says which words they are.
 pub record IsLiveOutput (wire : Bool) (bytes : List ℕ) (output : ModeOutput) : Type 0 where
   pub cases : List Case

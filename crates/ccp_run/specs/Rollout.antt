@@ -40,7 +40,7 @@ pub record IsRolloutOutput (bytes : List ℕ) (output : ModeOutput) : Type 0 whe
 abbrev pub HasRolloutFault : List ℕ → SceneFault → Type 0
 HasRolloutFault bytes fault = rollout_of bytes ≡ Err fault
 
--- why there is no such scenario, but for want of memory
+-- why there is no such scenario; out of memory is left open
 abbrev pub StopsRollout : List ℕ → Stop → Type 0
 StopsRollout bytes = StopsFor (HasRolloutFault bytes)
 

@@ -33,7 +33,7 @@ abbrev pub IsOfScene : (SceneFault → Type 0) → Refusal → Type 0
 IsOfScene has (refusal.Scene fault) = has fault
 IsOfScene has _ = ⊥
 
--- why there is no scenario: such a refusal, or want of memory, of which nothing is said
+-- why there is no scenario: such a refusal, or out of memory, which is left open
 abbrev pub StopsFor : (SceneFault → Type 0) → Stop → Type 0
 StopsFor has (stop.Refused refusal) = IsOfScene has refusal
 StopsFor has stop.ReadFailed = ⊥
@@ -52,6 +52,6 @@ HasFault mode bytes fault = scene_of mode bytes ≡ Err fault
 abbrev pub IsNoScenario : SceneMode → List ℕ → Refusal → Type 0
 IsNoScenario mode bytes = IsOfScene (HasFault mode bytes)
 
--- why there is no scenario, but for want of memory
+-- why there is no scenario; out of memory is left open
 abbrev pub StopsScene : SceneMode → List ℕ → Stop → Type 0
 StopsScene mode bytes = StopsFor (HasFault mode bytes)

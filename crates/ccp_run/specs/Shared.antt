@@ -38,7 +38,7 @@ pub record IsSharedScenario (bytes : List ℕ) (programs : List (ℕ × Built)) 
 abbrev pub HasSharedFault : List ℕ → SceneFault → Type 0
 HasSharedFault bytes fault = shared_scene_of bytes ≡ Err fault
 
--- why there is no such scenario, but for want of memory
+-- why there is no such scenario; out of memory is left open
 abbrev pub StopsShared : List ℕ → Stop → Type 0
 StopsShared bytes = StopsFor (HasSharedFault bytes)
 

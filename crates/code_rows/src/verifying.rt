@@ -43,7 +43,7 @@ fn starts(alloc: Global, count: usize) -> Result<Sequence<Start>, AllocError> {
     Ok(Sequence::from_vec(vec![in alloc; start; count]?))
 }
 
-/// A code with so many reports and controls.
+/// A code with these numbers of reports and controls.
 fn code(
     alloc: Global,
     reports: usize,

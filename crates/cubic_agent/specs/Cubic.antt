@@ -14,7 +14,7 @@
 -- - sums and products stop at 2^64-1, windows and W_est at 4,096 segments, the distance from K at 1,000 seconds;
 -- - the threshold is beta of the window, and not of the flight;
 -- - a mark is answered as a loss without lost packets, so it too leaves at least 2 segments;
--- - loss events are told apart by time: what is lost or marked within one round-trip time of the last event belongs
+-- - loss events are distinguished by time: what is lost or marked within one round-trip time of the last event belongs
 --   to it; a timeout ends that time;
 -- - each timeout works the threshold out anew, and none is taken back as spurious;
 -- - the datapath's program moves the window in slow start, up to the cap that a change names, without HyStart;
@@ -207,7 +207,7 @@ after_fault s =
     let mode = s.course.mode in
     (record s { course = course_after mode s.course }, change_to mode s.course (bytes_of s.mss s.window) s.ssthresh)
 
--- what is told of the agent's epoch
+-- a report or fault of the agent's epoch
 abbrev pub after_told : Told → CubicState → Turn
 after_told (Report report) s =
     let r = measurement_of (role_of s.course.mode s.course).look report in

@@ -1,4 +1,4 @@
--- What a flow's history comes to, as its tickets and its book tell it.
+-- The result of a flow's history, as its tickets and its book have it.
 use Rattle.std.specs.Prelude.{◌≡◌, Option, option_map, [], ◌∷◌, ◌++◌, length, map}
 use Rattle.agent_core.specs.declared.ticket.Ticket.{Ticket}
 use Rattle.flow_core.specs.declared.book.Book.{Book}

@@ -48,7 +48,7 @@ acked_as held = acked.Held
 acked_as (failed fault) = acked.Faulted fault.0 fault.1
 acked_as stopped = acked.Stopped
 
--- what an acknowledgement comes to in a state, and the env after it
+-- the outcome of an acknowledgement in a state, and the env after it
 abbrev pub met_in : {X : Type 0} → Flow X → World X → Ack → Outcome (FaultKind × X) × Env
 met_in flow w ack =
     heard (flow.reading w.present.program) (track_of flow w).is_stopped (track_of flow w).env ack (has_room flow w)

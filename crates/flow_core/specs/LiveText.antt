@@ -44,7 +44,7 @@ source_at (source ∷ rest) number = if source.0 == number then source.1 else so
 abbrev pub fields_at : Sources → ℕ → List Decl
 fields_at sources number = (source_at sources number).fields
 
--- ---- what is told of a flow
+-- ---- what the text shows of a flow
 
 -- its epochs, its faults with their places and its tickets, each in order; how many reports were held; the program of
 -- the last epoch, and how it stands at the end

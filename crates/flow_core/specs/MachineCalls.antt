@@ -11,7 +11,7 @@ use Rattle.flow_core.specs.Readings.{by_code, env_of}
 use Rattle.flow_core.specs.Cores.{ran_by}
 use Rattle.flow_core.specs.States.{outcome_by}
 
--- what an acknowledgement comes to on a machine with this code, and the env after it
+-- the outcome of an acknowledgement on a machine with this code, and the env after it
 abbrev pub heard_on : Code → MachineState → Ack → Bool → Outcome (FaultKind × ℕ) × Env
 heard_on code machine ack room = heard (by_code code) machine.is_stopped (env_of machine.kept) ack room
 

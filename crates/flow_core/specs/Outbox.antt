@@ -111,12 +111,12 @@ abbrev pub GivesFirst : PoolState → PoolState → List ℕ → Type 0
 GivesFirst old new [] = new ≡ old
 GivesFirst old new (slot ∷ rest) = ChangesSlot old new slot None
 
--- what is told next: the oldest report, or else the notice
+-- what the next ticket has: the oldest report, or else the notice
 abbrev pub next_told : List Report → Option Notice → Option Told
 next_told [] untold = option_map told.Fault untold
 next_told (report ∷ rest) untold = Some (told.Report report)
 
--- whatever reports wait in the slots, this is told next
+-- whatever reports wait in the slots, the next ticket has this
 abbrev pub IsToldNext : Option Told → Option Notice → PoolState → List ℕ → Type 0
 IsToldNext told untold pool slots = (reports : List Report) → Lies pool slots reports → told ≡ next_told reports untold
 

@@ -79,7 +79,7 @@ step_outcome flow ack met s =
       held = s.held + held_met met.0;
     }
 
--- what an acknowledgement comes to, and the env after it
+-- the outcome of an acknowledgement, and the env after it
 abbrev pub outcome_at : {X : Type 0} → Flow X → Ack → Summary → Outcome (FaultKind × X) × Env
 outcome_at flow ack s = heard (flow.reading s.program) s.track.is_stopped s.track.env ack (nat_lt (length s.waiting) flow.slots)
 

@@ -74,7 +74,7 @@ track_in flow era = after (flow.reading era.program) era.events (track_at era.at
 abbrev pub track_of : {X : Type 0} → Flow X → World X → Track
 track_of flow w = track_in flow w.present
 
--- an epoch that starts at so many acknowledgements with these values, where `Cwnd` and `Rate` are these and the last
+-- an epoch that starts at that number of acknowledgements with these values, where `Cwnd` and `Rate` are these and the last
 -- acknowledgement came at this time
 abbrev pub era_of : {X : Type 0} → Flow X → ℕ → ℕ → List Pair → ℕ → ℕ → ℕ → Era
 era_of flow program at values cwnd rate now = record {
@@ -201,7 +201,7 @@ notice_of flow failure = record {
   cwnd = failure.cwnd;
 }
 
--- what the agent is told; a fault's site decides nothing
+-- what the agent gets; a fault's site decides nothing
 abbrev pub told_as : {X : Type 0} → Flow X → Content X → Told
 told_as flow (of_report report) = told.Report report
 told_as flow (of_failure failure) = told.Fault (notice_of flow failure)

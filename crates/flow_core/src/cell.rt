@@ -88,7 +88,7 @@ impl Cell {
     }
 
     /// Takes the oldest report, or else the untold fault notice, as a ticket. NotYet exactly where no ticket is out and
-    /// nothing can be taken, Out exactly where that ticket is out; nothing has changed then, nor for want of memory.
+    /// nothing can be taken, Out exactly where that ticket is out; nothing has changed then, nor if memory runs out.
     /// What the answer's settling needs is reserved here.
     pub fn take(&mut self, alloc: Global) -> Result<Ticket, TakeFault>
         ensures not_yet { (result ≡ Err TakeFault.NotYet) ↔ (is_still (world_at self.old) ≡ true) }

@@ -49,7 +49,7 @@ pub(crate) fn put_report(machine: &mut Machine, outbox: &mut Outbox, report: &Re
     outbox.push(machine, report);
 }
 
-/// Takes out what is told next.
+/// Takes out what the next ticket has.
 pub(crate) fn pop_told(machine: &mut Machine, outbox: &mut Outbox) -> Option<Told>
     requires words { machine.old.further.words ≡ slot_words }
     requires owned { AreOwned machine.old.further outbox.old.slots }

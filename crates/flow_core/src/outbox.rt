@@ -35,7 +35,7 @@ impl Model for Outbox {
 }
 
 impl Outbox {
-    /// An empty outbox with room for so many reports, 1 to 64.
+    /// An empty outbox with room for `slots` reports, 1 to 64.
     pub fn new(alloc: Global, slots: u32) -> Result<Outbox, NoMemory>
         requires { (1 ≤ slots) × (slots ≤ most_slots) }
         ensures { IfOk result (λ outbox. outbox ≡ empty_outbox slots) }
@@ -98,7 +98,7 @@ impl Outbox {
         self.waiting.push_back(slot);
     }
 
-    /// Takes out the oldest report and gives its slot back, or else the notice, which is told then; None exactly
+    /// Takes out the oldest report and gives its slot back, or else the notice, which is void then; None exactly
     /// where neither is there.
     pub fn pop<P: Slots>(&mut self, slots: &mut P) -> Option<Told>
         requires wide { AreWide (P.pool slots.old) self.old.slots }

@@ -6,7 +6,7 @@ use ccp_base::{NoMemory, Sequence};
 use std::alloc::Global;
 use std::marker::Model;
 
-/// A list with room kept for so many items, so that a later push takes no memory.
+/// A list with reserved memory for its next items, so that pushing them takes none.
 #[derive(Drop)]
 pub struct Roomy<T> {
     items: Vec<T>,
@@ -24,7 +24,7 @@ impl<T> Model for Roomy<T> {
 }
 
 impl<T> Roomy<T> {
-    /// The empty list, with room for so many items at least.
+    /// The empty list, with memory for at least that number of items.
     pub fn with_room(alloc: Global, n: usize) -> Result<Roomy<T>, NoMemory>
         ensures items { IfOk result (λ list. list.items ≡ []) }
         ensures room { IfOk result (λ list. n ≤ list.room) }
@@ -64,7 +64,7 @@ impl<T> Roomy<T> {
 }
 
 impl<T: Drop> Roomy<T> {
-    /// Keeps room for so many items more than the list has.
+    /// Reserves memory for that number of items more than the list has.
     pub fn reserve(&mut self, n: usize) -> Result<(), NoMemory>
         ensures items { self.new.items ≡ self.old.items }
         ensures room { OnOk result (length self.new.items + n ≤ self.new.room) }

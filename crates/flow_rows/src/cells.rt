@@ -9,7 +9,7 @@ use std::alloc::Global;
 use std::process::Abort;
 use std::test::Fail;
 
-/// The four acknowledgements come to one report, and no fifth one is taken.
+/// The four acknowledgements result in one report, and no fifth one is taken.
 fn reports_once(rt: &impl Abort, cell: &mut Cell) {
     hears(rt, cell, Ok(Acked::Quiet));
     hears(rt, cell, Ok(Acked::Quiet));

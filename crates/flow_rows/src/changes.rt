@@ -87,14 +87,14 @@ fn reports_anew(rt: &impl Abort, alloc: Global, cell: &mut Cell) -> Result<(), F
     Ok(())
 }
 
-/// The three reports are told in order, the first two of epoch 0.
+/// Tickets have the three reports in order, the first two of epoch 0.
 fn tells_all(rt: &impl Abort, alloc: Global, cell: &mut Cell) -> Result<(), Fail> {
     changes(rt, alloc, cell)?;
     tells_the_waiting_one(rt, alloc, cell)?;
     reports_anew(rt, alloc, cell)
 }
 
-/// The flow, once the three reports are told.
+/// The flow after the tickets of the three reports.
 fn told(rt: &impl Abort, alloc: Global, mut cell: Cell) -> Result<Cell, Fail> {
     match tells_all(rt, alloc, &mut cell) {
         Ok(()) => Ok(cell),

@@ -13,7 +13,7 @@ use std::process::Abort;
 use std::sync::ledger::{Blank, Ledger};
 use std::test::Fail;
 
-/// What an acknowledgement of 1,448 bytes at time 1 comes to.
+/// The outcome of an acknowledgement of 1,448 bytes at time 1.
 fn next(core: &mut Core) -> Result<Acked, Ended> {
     let ack = Ack {
         now: 1,
@@ -34,7 +34,7 @@ fn counted<L: Ledger>(core: &mut Core, ack: &Ack, blank: Blank) -> Result<Acked,
     core.ack(ack, &mut steps)
 }
 
-/// That acknowledgement comes to this.
+/// Asserts the outcome of that acknowledgement.
 fn hears(rt: &impl Abort, core: &mut Core, want: Result<Acked, Ended>) {
     assert_eq!(rt; next(core), want);
 }
@@ -52,7 +52,7 @@ fn refuses(rt: &impl Abort, alloc: Global, core: &mut Core, want: TakeFault) {
     assert_eq!(rt; refusal(alloc, core), Some(want));
 }
 
-/// The window has so many bytes.
+/// Asserts the window in bytes.
 fn has_window(rt: &impl Abort, core: &Core, bytes: u64) {
     assert_eq!(rt; core.cwnd(), bytes);
 }

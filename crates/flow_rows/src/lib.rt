@@ -1,4 +1,4 @@
-//! Rows of one flow: what an outbox, a core and a cell come to, letter by letter.
+//! Rows of one flow: the states of an outbox, a core and a cell, letter by letter.
 #![tactic(auto)]
 
 #[cfg(test)]

@@ -5,7 +5,7 @@ use flow_core::Roomy;
 use std::process::Abort;
 use std::test::Fail;
 
-/// The list has so many items.
+/// Asserts the number of items.
 fn has(rt: &impl Abort, list: &Roomy<u8>, items: usize) {
     assert_eq!(rt; list.len(), items);
 }

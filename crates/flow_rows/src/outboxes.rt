@@ -47,7 +47,7 @@ fn push(rt: &impl Abort, pool: &mut Pool, outbox: &mut Outbox, first: u32)
     outbox.push(pool, &report(first));
 }
 
-/// This is told next.
+/// The next ticket has this.
 fn tells(rt: &impl Abort, pool: &mut Pool, outbox: &mut Outbox, want: Option<Told>)
     requires words { 80 ≤ pool.old.words }
     requires owned { AreOwned pool.old outbox.old.slots }
@@ -57,7 +57,7 @@ fn tells(rt: &impl Abort, pool: &mut Pool, outbox: &mut Outbox, want: Option<Tol
     assert_eq!(rt; outbox.pop(pool), want);
 }
 
-/// The report of the acknowledgements from here on is told next.
+/// The next ticket has the report of the acknowledgements from here on.
 fn tells_report(rt: &impl Abort, pool: &mut Pool, outbox: &mut Outbox, first: u32)
     requires words { 80 ≤ pool.old.words }
     requires owned { AreOwned pool.old outbox.old.slots }
@@ -72,7 +72,7 @@ fn has_free(rt: &impl Abort, pool: &Pool, slots: u32) {
     assert_eq!(rt; pool.free(), slots);
 }
 
-/// Nothing is told any more, and each of so many slots is free.
+/// No ticket can be taken any more, and each slot is free.
 fn is_emptied(rt: &impl Abort, pool: &mut Pool, outbox: &mut Outbox, slots: u32)
     requires words { 80 ≤ pool.old.words }
     requires owned { AreOwned pool.old outbox.old.slots }
@@ -98,7 +98,7 @@ fn waits(rt: &impl Abort, pool: &mut Pool, outbox: &mut Outbox)
     outbox.note(NOTICE);
 }
 
-/// The report is told, and then the notice.
+/// A ticket has the report, and the next one the notice.
 fn tells_both(rt: &impl Abort, pool: &mut Pool, outbox: &mut Outbox)
     requires words { 80 ≤ pool.old.words }
     requires owned { AreOwned pool.old outbox.old.slots }
@@ -108,7 +108,7 @@ fn tells_both(rt: &impl Abort, pool: &mut Pool, outbox: &mut Outbox)
     is_emptied(rt, pool, outbox, 1);
 }
 
-/// A report is told before the notice that came after it.
+/// A report comes before the notice that came after it.
 fn tells_in_order(rt: &impl Abort, pool: &mut Pool, outbox: &mut Outbox)
     requires words { 80 ≤ pool.old.words }
     requires owned { AreOwned pool.old outbox.old.slots }
@@ -153,7 +153,7 @@ fn makes_room(rt: &impl Abort, pool: &mut Pool, outbox: &mut Outbox)
     push(rt, pool, outbox, 2);
 }
 
-/// Two reports wait and are told, and a notice that is void then isn't.
+/// Two reports wait and are taken, and a notice that is void then isn't.
 fn tells_the_rest(rt: &impl Abort, pool: &mut Pool, outbox: &mut Outbox)
     requires words { 80 ≤ pool.old.words }
     requires owned { AreOwned pool.old outbox.old.slots }
@@ -167,7 +167,7 @@ fn tells_the_rest(rt: &impl Abort, pool: &mut Pool, outbox: &mut Outbox)
     outbox.void();
 }
 
-/// Three reports are told in order by an outbox in which two may wait.
+/// An outbox in which two reports may wait gives three in order.
 fn tells_three(rt: &impl Abort, pool: &mut Pool, outbox: &mut Outbox)
     requires words { 80 ≤ pool.old.words }
     requires owned { AreOwned pool.old outbox.old.slots }

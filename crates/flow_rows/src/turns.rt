@@ -23,7 +23,7 @@ pub(crate) struct Shown {
     pub(crate) value: u64,
 }
 
-/// What the cell's next acknowledgement comes to.
+/// The outcome of the cell's next acknowledgement.
 fn next(cell: &mut Cell) -> Result<Acked, Ended> {
     counted::<Brand>(cell, Blank::new(1))
 }
@@ -38,7 +38,7 @@ fn counted<L: Ledger>(cell: &mut Cell, blank: Blank) -> Result<Acked, Ended>
     cell.ack(&mut steps)
 }
 
-/// The cell's next acknowledgement comes to this.
+/// Asserts the outcome of the cell's next acknowledgement.
 pub(crate) fn hears(rt: &impl Abort, cell: &mut Cell, want: Result<Acked, Ended>) {
     assert_eq!(rt; next(cell), want);
 }

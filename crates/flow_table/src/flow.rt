@@ -44,7 +44,7 @@ pub trait LockedFlow: Drop {
     // the flow has got the letter that the caller makes next
     ghost HasNext: { Self → Self → Type 0 };
 
-    // the book tells of a legal and complete word
+    // the book has a legal and complete word
     ghost IsWhole: { Self.Book → Type 0 };
 
     /// An equal case.

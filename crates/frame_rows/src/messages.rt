@@ -16,7 +16,7 @@ use reg_code::{Code, Event, Implicit, Instr, Op, Reg, Sequence, Start};
 use std::alloc::{AllocError, Global};
 use std::test::*;
 
-/// The fault that `FAULT` tells of.
+/// The fault of the frame `FAULT`.
 fn overflow() -> Message
     ensures { result ≡ Fault (record {
       flow = 0;

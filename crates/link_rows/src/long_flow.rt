@@ -1,4 +1,4 @@
-//! The events of a long flow, which each agent is told.
+//! The events of a long flow, which each agent gets.
 use crate::steps::{Event, Fields, NONE};
 
 /// A flow from slow start over losses, marks, faults and timeouts to its greatest window.

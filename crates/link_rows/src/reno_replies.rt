@@ -6,7 +6,7 @@ use agent_core::Agent;
 use ccp_base::Reply;
 use reno_agent::Reno;
 
-/// A loss, an update, what is told too late, and a timeout.
+/// A loss, an update, a report of an earlier epoch, and a timeout.
 const LOSS: [Event; 5] = [
     Event {
         epoch: 0,

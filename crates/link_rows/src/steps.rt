@@ -1,4 +1,4 @@
-//! What agents are told, event by event, and what they are to reply.
+//! Reports and faults for agents, event by event, and their replies.
 use agent_core::Agent;
 use ccp_base::{FaultKind, Look, Notice, Reply, Report, Role, Told, Values};
 use std::process::Abort;
@@ -24,7 +24,7 @@ pub(crate) const NONE: Fields = Fields {
     ecn: 0,
 };
 
-/// What an agent is told: a report with these fields, or a fault notice if there are none.
+/// What an agent gets: a report with these fields, or a fault notice if there are none.
 #[derive(Clone, Copy)]
 pub(crate) struct Event {
     pub(crate) epoch: u32,

@@ -1,4 +1,4 @@
-//! What programs come to by the plain evaluator.
+//! The meanings of programs by the plain evaluator.
 ghost use Rattle.std.specs.Prelude.{IfOk};
 ghost use Rattle.portus_core.specs.ProgramForm.{form_of};
 ghost use Rattle.portus_core.specs.OneAcknowledgement.{IsEnvOf};

@@ -1,4 +1,4 @@
-//! Worked texts: what the readers and the builder make of them, and what their programs come to.
+//! Worked texts: what the readers and the builder make of them, and what their programs mean.
 #![tactic(auto)]
 
 #[cfg(test)]

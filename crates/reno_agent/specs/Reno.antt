@@ -14,7 +14,7 @@
 -- - sums and products stop at 2^64-1, windows and thresholds at 4,096 segments;
 -- - the flight is what is in flight at the report and what was lost since the one before;
 -- - a mark is answered as a loss without lost packets;
--- - loss events are told apart by time: what is lost or marked within one round-trip time of the last event belongs
+-- - loss events are distinguished by time: what is lost or marked within one round-trip time of the last event belongs
 --   to it; a timeout ends that time;
 -- - the window isn't inflated while packets are retransmitted, nor deflated afterwards (steps 3 to 6 of 3.2);
 -- - each timeout works the threshold out anew, also where the timer had retransmitted the same segment before;
@@ -129,7 +129,7 @@ after_fault s =
     let mode = s.course.mode in
     (record s { course = course_after mode s.course }, change_to mode s.course s.window s.ssthresh)
 
--- what is told of the agent's epoch
+-- a report or fault of the agent's epoch
 abbrev pub after_told : Told → RenoState → Turn
 after_told (Report report) s =
     let r = measurement_of (role_of s.course.mode s.course).look report in

@@ -1,4 +1,4 @@
--- The text that tells why a text is no scenario: a word, and the path, or the name with the refusal of its text.
+-- The text that says why a text is no scenario: a word, and the path, or the name with the refusal of its text.
 use Rattle.std.specs.Prelude.{ℕ, List, codes, decimal}
 use Rattle.ccp_base.specs.Text.{◌⧺◌}
 use Rattle.link_model.specs.declared.trace.TraceFault.{TraceFault}

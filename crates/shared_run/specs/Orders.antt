@@ -7,7 +7,7 @@ use Rattle.ccp_base.specs.declared.ack.Ack.{Ack}
 abbrev pub Part : Type 0
 Part = ℕ × List Ack
 
--- what a worker of so many is to do
+-- what worker `worker` of `workers` is to do
 pub record OrderState : Type 0 where
   pub worker : ℕ
   pub workers : ℕ

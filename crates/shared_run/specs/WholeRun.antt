@@ -7,7 +7,7 @@ use Rattle.shared_run.specs.declared.books.SharedRun.{SharedRun}
 use Rattle.shared_run.specs.SharedHistory.{flows_at_end, shared_rows, shared_counts}
 use Rattle.shared_run.specs.SharedBooks.{AreGivensOf}
 
--- the books, the rows and the packets are those of the run of these cases, of at most so many rounds
+-- the books, the rows and the packets are those of the run of these cases, of at most that number of rounds
 pub record IsRunOf (link : SharedCase) (cases : List Case) (rounds : ℕ) (run : SharedRun) : Type 0 where
   pub givens : AreGivensOf (flows_at_end link over_codes cases rounds) run.givens
   pub rows : run.rows ≡ shared_rows link over_codes cases rounds

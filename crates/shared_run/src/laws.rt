@@ -1,4 +1,4 @@
-//! A law of the definitions: letters that take no acknowledgement come to an end.
+//! A law of the definitions: letters that take no acknowledgement end.
 ghost use Rattle.ccp_base.specs.declared.place.Place.{Place};
 ghost use Rattle.flow_core.specs.Readings.{over_codes};
 ghost use Rattle.shared_run.specs.RoundLetters.{CaseReading, SettlingEnds};

@@ -34,7 +34,7 @@ reporter flow s = record { flow = flow; program = s.present.program; number = s.
 abbrev pub present_track : State → Track
 present_track s = record { env = s.present.env; is_stopped = s.present.is_stopped; first = s.present.first; count = s.acks }
 
--- the fault that an outcome tells of, or none
+-- the fault of an outcome, or none
 abbrev pub failures_in : State → Ack → Outcome Cause → List (Failure Place)
 failures_in s ack outcome = failures_met s.present.program s.present.number s.acks ack (outcome, s.present.env)
 
@@ -61,7 +61,7 @@ pub record CanPut (s : State) : Type 0 where
   pub acks : s.acks < most_acks
   pub held : s.held < most_acks
 
--- what an acknowledgement comes to by the program of an epoch, and the epoch after it
+-- the outcome of an acknowledgement by the program of an epoch, and the epoch after it
 pub record HasRun (form : Form) (ack : Ack) (room : Bool) (old new : Present) (mean : Option Mean) : Type 0 where
   pub met : heard (by_source form) old.is_stopped old.env ack room ≡ (outcome_met mean, new.env)
   pub stopped : new.is_stopped ≡ stops (outcome_met mean)
@@ -85,7 +85,7 @@ pub record PutDown (flow : ℕ) (old new : State) (ack : Ack) (outcome : Outcome
   pub faults : map failure_of new.faults ≡ map failure_of old.faults ++ failures_in old ack outcome
   pub held : new.held ≡ old.held + held_met outcome
 
--- the notice that is left where the oldest report is told, or else the notice
+-- the notice that is left after a ticket with the oldest report, or else the notice
 abbrev pub untold_left : List Report → Option Notice → Option Notice
 untold_left (report ∷ rest) untold = untold
 untold_left [] untold = None

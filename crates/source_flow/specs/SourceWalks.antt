@@ -1,4 +1,4 @@
--- What a walk along a word comes to.
+-- The result of a walk along a word.
 use Rattle.std.specs.Prelude.{◌≡◌, ◌<◌, true, false, Option, Some, None, List}
 use Rattle.ccp_base.specs.FieldReg.{Pair}
 use Rattle.flow_core.specs.declared.letter.Letter.{Letter}

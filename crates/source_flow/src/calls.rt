@@ -11,7 +11,7 @@ use flow_core::{Case, Letter};
 use reg_compiler::Builts;
 use std::alloc::Global;
 
-/// What the flow of a case comes to after a word, by the meaning of the sources of its programs: its account where the
+/// The account of a case's flow after a word, by the meaning of the sources of its programs: its account where the
 /// word is legal and complete, None exactly where it isn't. Each program that the case's roles name must be among
 /// these, and be simulated by the role's code.
 pub fn account(

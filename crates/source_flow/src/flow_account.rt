@@ -19,14 +19,14 @@ pub struct SourceFault {
     pub cwnd: u64,
 }
 
-/// What a flow's history comes to by the meaning of its programs' sources.
+/// The result of a flow's history by the meaning of its programs' sources.
 #[derive(Drop)]
 pub struct FlowAccount {
     /// The epochs in order, the opening one first.
     pub epochs: Sequence<EpochLine>,
     /// The faults in order.
     pub faults: Sequence<SourceFault>,
-    /// The tickets in order. What one tells of a fault has the index 0, since a place has no index.
+    /// The tickets in order. A ticket with a fault has the index 0, since a place has no index.
     pub tickets: Sequence<TicketLine>,
     /// How many reports were asked for while there was no room.
     pub held: u32,

@@ -1,4 +1,4 @@
-//! An acknowledgement: its program's source says what it comes to, and that is put down.
+//! An acknowledgement: its program's source gives its outcome, which is recorded.
 ghost use Rattle.std.specs.Prelude.{◌≡◌, ◌<◌, OnOk, IfOk};
 ghost use Rattle.portus_core.specs.Epoch.{stops, outcome_of};
 ghost use Rattle.portus_core.specs.OneAcknowledgement.{IsEnvOf};
@@ -16,7 +16,7 @@ use ccp_base::{Ack, FaultKind, NoMemory, Notice, Place, Report, Values};
 use portus_core::{Mean, Program};
 use std::alloc::Global;
 
-/// Whether what an acknowledgement comes to stops its epoch.
+/// Whether the outcome of an acknowledgement stops its epoch.
 fn stops(mean: &Mean) -> bool
     ensures { result ≡ stops (outcome_of mean.now) }
 {
@@ -27,7 +27,7 @@ fn stops(mean: &Mean) -> bool
 }
 
 impl Present {
-    /// What an acknowledgement comes to by the epoch's program, None exactly where the epoch was stopped. The env
+    /// The outcome of an acknowledgement by the epoch's program, None exactly where the epoch was stopped. The env
     /// becomes the one after it.
     fn run(
         &mut self,

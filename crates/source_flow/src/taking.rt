@@ -41,7 +41,7 @@ impl State {
         self.acks >= source.case.acks && self.out.is_none() && !self.can_take()
     }
 
-    /// Takes out what is told next.
+    /// Takes out what the next ticket has.
     fn pop(&mut self) -> Option<Told>
         ensures told { result ≡ next_told self.old.waiting.items self.old.untold }
         ensures waiting { self.new.waiting.items ≡ drop 1 self.old.waiting.items }

@@ -37,7 +37,7 @@ impl State {
         }
     }
 
-    /// What the flow comes to.
+    /// The account of the flow.
     fn into_account(self, source: &SourceCase<'_>) -> FlowAccount
         requires { IsSourceSound source.now self }
         ensures { Shows source.now self (account_of (flow_over_sources source.now)) (account_in result) }

@@ -58,7 +58,7 @@ fn campaign_output<R: Threads + Wait + Sync, G: Gate + Sync>(
     Ok(run_campaign(rt, alloc, workers, wire, scene, gate)?)
 }
 
-/// What the cases of a scenario come to.
+/// The rows of a scenario's cases.
 #[tactic(auto, using(crate::proofs::CampaignLemmas::rows_over))]
 fn run_campaign<R: Threads + Wait + Sync, G: Gate + Sync>(
     rt: &R,

@@ -36,7 +36,7 @@ pub fn fold_output(alloc: Global, bytes: &[u8]) -> Result<ModeOutput, Stop>
     }
 }
 
-/// What a program's fold over acknowledgements comes to.
+/// The result of a program's fold over acknowledgements.
 fn run_fold(alloc: Global, built: Built, acks: &[Ack]) -> Result<ModeOutput, NoMemory>
     requires { length acks.now ≤ most_acks }
     ensures text { IfOk result (λ output. output.text ≡ folded_text (form_of built.program) acks.now) }

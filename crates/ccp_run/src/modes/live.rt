@@ -39,7 +39,7 @@ pub fn read_live<R: Threads + Wait + Sync, S: Source, G: Gate + Sync>(
     live_output(rt, alloc, datapaths, agents, wire, bytes.as_slice(), gate)
 }
 
-/// What the flows of the scenario that the bytes stand for come to, or its refusal.
+/// The output for the flows of the scenario that the bytes stand for, or its refusal.
 fn live_output<R: Threads + Wait + Sync, G: Gate + Sync>(
     rt: &R,
     alloc: Global,
@@ -55,7 +55,7 @@ fn live_output<R: Threads + Wait + Sync, G: Gate + Sync>(
     Ok(run_live(rt, alloc, datapaths, agents, wire, scene, gate)?)
 }
 
-/// What the flows of a scenario come to.
+/// The output for the flows of a scenario.
 fn run_live<R: Threads + Wait + Sync, G: Gate + Sync>(
     rt: &R,
     alloc: Global,

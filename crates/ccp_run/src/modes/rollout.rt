@@ -63,7 +63,7 @@ fn open_cases(alloc: Global, bytes: &[u8]) -> Result<OpenCases, Stop>
     Ok(rollout_scene(alloc, bytes)?)
 }
 
-/// What cases come to.
+/// The output for these cases.
 fn run_rollout<R: Threads + Wait + Sync, G: Gate + Sync>(
     rt: &R,
     alloc: Global,

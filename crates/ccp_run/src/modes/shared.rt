@@ -43,7 +43,7 @@ pub fn read_shared<R: Threads + Wait + Sync, S: Source, G: Gate + Sync>(
     shared_output(rt, alloc, workers, bytes.as_slice(), gate)
 }
 
-/// What the flows of the scenario that the bytes stand for come to, or its refusal.
+/// The output for the flows of the scenario that the bytes stand for, or its refusal.
 fn shared_output<R: Threads + Wait + Sync, G: Gate + Sync>(
     rt: &R,
     alloc: Global,
@@ -72,7 +72,7 @@ fn read_shared_scene(alloc: Global, bytes: &[u8]) -> Result<SharedScene, Stop>
     Ok(shared_scene(alloc, bytes)?)
 }
 
-/// What the flows of a scenario come to on their link.
+/// The output for the flows of a scenario on their link.
 fn run_together<R: Threads + Wait + Sync, G: Gate + Sync>(
     rt: &R,
     alloc: Global,

@@ -55,7 +55,7 @@ fn timeline_output<R: Threads + Wait + Sync, G: Gate + Sync>(
     Ok(run_timeline(rt, alloc, workers, wire, scene, gate)?)
 }
 
-/// What the cases of a scenario come to.
+/// The output for the cases of a scenario.
 fn run_timeline<R: Threads + Wait + Sync, G: Gate + Sync>(
     rt: &R,
     alloc: Global,
