@@ -11,8 +11,8 @@ use Rattle.flow_core.specs.Cores.{CoreState}
 use Rattle.shared_run.specs.RoundLetters.{world_of_core, with_letter, settling_letter}
 use Rattle.shared_run.specs.FlowRow.{peak_of}
 
--- the word has all acknowledgements, which are no more than the case's; if a ticket is out, it was taken at that number of
--- them; and this was the greatest window
+-- the word has all acknowledgements, which are no more than the case's; where a ticket is out it was taken at this count
+-- of them; and this was the greatest window
 pub record IsOnWay (core : CoreState) (count greatest : ℕ) : Type 0 where
   pub all : acks_in core.word ≡ length core.acks
   pub within : length core.acks ≤ core.case.acks

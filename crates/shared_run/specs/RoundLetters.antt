@@ -48,7 +48,7 @@ abbrev pub with_next : Option Letter → (CoreState → CoreState) → CoreState
 with_next None rest core = core
 with_next (Some letter) rest core = rest (with_letter letter core)
 
--- such letters again and again, at most that number
+-- such letters again and again, at most this many
 abbrev pub settled_in : {X : Type 0} → Bool → CaseReading X → ℕ → CoreState → CoreState
 settled_in at_end read zero core = core
 settled_in at_end read (suc more) core =

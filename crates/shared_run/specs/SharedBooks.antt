@@ -1,4 +1,4 @@
--- What the flows of a run came to: one book a flow, in order, with the acknowledgements that it was given.
+-- The result of a run's flows: one book a flow, in order, with the acknowledgements that it was given.
 use Rattle.std.specs.Prelude.{◌≡◌, true, List, [], ◌∷◌}
 use Rattle.flow_core.specs.declared.book.Given.{Given}
 use Rattle.flow_core.specs.Readings.{over_codes}
@@ -8,7 +8,7 @@ use Rattle.flow_core.specs.Cores.{CoreState}
 use Rattle.shared_run.specs.RoundLetters.{world_of_core}
 
 -- the book of a flow: its case, its acknowledgements, and its word, which is legal and leaves nothing to take or to
--- answer; and what these came to
+-- answer; and what is read off them
 pub record IsGivenOf (core : CoreState) (given : Given) : Type 0 where
   pub case : given.book.case ≡ core.case
   pub acks : given.acks ≡ core.acks

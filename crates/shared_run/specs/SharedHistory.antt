@@ -57,7 +57,7 @@ have_all (core ∷ rest) = nat_le core.case.acks (length core.acks) && have_all 
 abbrev pub ends_or : (Progress → Progress) → Progress → Progress
 ends_or rest run = if have_all run.flows then run else rest run
 
--- rounds until all flows have all acknowledgements, at most that number
+-- rounds until all flows have all acknowledgements, at most this many
 abbrev pub rounds_from : {X : Type 0} → SharedCase → CaseReading X → ℕ → Progress → Progress
 rounds_from link read zero run = run
 rounds_from link read (suc more) run = ends_or (rounds_from link read more) (after_round link read run)
@@ -67,7 +67,7 @@ abbrev pub round_limit : List Case → ℕ → ℕ
 round_limit [] rounds = 0
 round_limit (case ∷ rest) rounds = rounds
 
--- the run of cases over a link, of at most that number of rounds
+-- the run of cases over a link, of at most `rounds` rounds
 abbrev pub whole_run : {X : Type 0} → SharedCase → CaseReading X → List Case → ℕ → Progress
 whole_run link read cases rounds = rounds_from link read (round_limit cases rounds) (progress [] (map opened cases))
 

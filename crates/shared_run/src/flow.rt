@@ -198,7 +198,7 @@ impl SharedFlow {
         }
     }
 
-    /// What the flow's history came to, and its row. No ticket may be out, and nothing may be left to take. For all programs
+    /// The flow's book with its acknowledgements, and its row. No ticket may be out, and nothing may be left to take. For all programs
     /// that the case's codes simulate, the flow does the same over these sources.
     pub(crate) fn finish(self) -> (Given, Row)
         requires still { is_still (world_of_core over_codes self) ≡ true }
