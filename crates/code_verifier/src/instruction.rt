@@ -1,6 +1,6 @@
 //! The rules of acceptance for an instruction at its place, and the first that it fails.
 ghost use Rattle.std.specs.Prelude.{◌≡◌, ◌&&◌, not, IsTrue, IfNone};
-ghost use Rattle.reg_code.specs.AcceptedCode.{rule_where, is_there, are_there, is_readable, unwritten, unwritten_target, is_bind, is_ewma, is_zero, is_weight, is_fixed, is_micros, is_flag_reg, is_temp, is_in_condition, is_misplaced, rule_failed};
+ghost use Rattle.reg_code.specs.AcceptedCode.{rule_where, is_there, are_there, is_readable, missing_value, missing_target_value, is_bind, is_ewma, is_zero, is_weight, is_fixed, is_micros, is_flag_reg, is_temp, is_in_condition, is_misplaced, rule_failed};
 ghost use Rattle.code_verifier.specs.Marked.{marks_of};
 
 use crate::tables::{Tables, has_mark, writes};
@@ -19,9 +19,9 @@ pub fn rule_failed(
 {
     rule_where(is_outside(sizes, instr), Rule::Range)
         .or(rule_where(reads_unreadable(instr), Rule::Readable))
-        .or(unwritten(tables, instr.left))
-        .or(unwritten(tables, instr.right))
-        .or(unwritten_target(tables, instr))
+        .or(missing_value(tables, instr.left))
+        .or(missing_value(tables, instr.right))
+        .or(missing_target_value(tables, instr))
         .or(rule_where(lacks_weight(instr), Rule::Weight))
         .or(rule_where(binds_by_more(instr), Rule::BindRight))
         .or(rule_where(is_misplaced(part, is_last, instr), Rule::Writable))
@@ -86,8 +86,8 @@ fn is_readable(operand: Reg) -> bool
 }
 
 /// Why a register that is read has no value yet.
-fn unwritten(tables: &Tables, operand: Reg) -> Option<Rule>
-    ensures { result ≡ unwritten (marks_of tables.now) operand }
+fn missing_value(tables: &Tables, operand: Reg) -> Option<Rule>
+    ensures { result ≡ missing_value (marks_of tables.now) operand }
 {
     match operand {
         Reg::Temp(i) => rule_where(!has_mark(&tables.temps, i), Rule::Temporary),
@@ -97,11 +97,11 @@ fn unwritten(tables: &Tables, operand: Reg) -> Option<Rule>
 }
 
 /// The same of the target, which `Ewma` reads too.
-fn unwritten_target(tables: &Tables, instr: &Instr) -> Option<Rule>
-    ensures { result ≡ unwritten_target (marks_of tables.now) instr.now }
+fn missing_target_value(tables: &Tables, instr: &Instr) -> Option<Rule>
+    ensures { result ≡ missing_target_value (marks_of tables.now) instr.now }
 {
     if is_ewma(instr.op) {
-        unwritten(tables, instr.to)
+        missing_value(tables, instr.to)
     } else {
         None
     }

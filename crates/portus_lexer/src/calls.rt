@@ -13,7 +13,7 @@ use crate::token::{LexFault, Tokens};
 use std::alloc::Global;
 
 /// The tokens that one pass over the text finds.
-fn scanned(alloc: Global, text: &[u8]) -> Result<Tokens, LexFault>
+fn scan_tokens(alloc: Global, text: &[u8]) -> Result<Tokens, LexFault>
     requires { length text.now ≤ most_text_bytes }
     ensures found { IfOk result (λ tokens. scan Gap first_place 0 text.now ≡ Ok tokens) }
     ensures refused { IfErr result (EndsScan (scan Gap first_place 0 text.now)) }
@@ -40,5 +40,5 @@ pub fn tokens(alloc: Global, text: &[u8]) -> Result<Tokens, LexFault>
     ensures clean { OnOk result (stray_of text.now ≡ None) }
     ensures refused { IfErr result (HasCause text.now) }
 {
-    scanned(alloc, text)
+    scan_tokens(alloc, text)
 }

@@ -30,7 +30,7 @@ fn lexeme<'a>(text: &'a [u8], token: &Token) -> &'a [u8]
 }
 
 /// The forms of a text that has these tokens.
-fn read(alloc: Global, text: &[u8], tokens: &[Token]) -> Result<Source, ParseFault>
+fn read_forms(alloc: Global, text: &[u8], tokens: &[Token]) -> Result<Source, ParseFault>
     requires { All (IsSpan text.now) tokens.now }
     ensures found { IfOk result (λ source.
         read_lexemes unread (map (lexeme_in text.now) tokens.now) ≡ Ok (map node_of source.forms.items)) }
@@ -57,14 +57,14 @@ fn read(alloc: Global, text: &[u8], tokens: &[Token]) -> Result<Source, ParseFau
 }
 
 /// The forms of a text, or its refusal.
-fn parsed(alloc: Global, text: &[u8]) -> Result<Source, ParseFault>
+fn parse_text(alloc: Global, text: &[u8]) -> Result<Source, ParseFault>
     ensures { IsExact text.now result }
 {
     if text.len() > TEXT_BYTES {
         return Err(ParseFault::SourceTooLong);
     }
     match tokens(alloc, text) {
-        Ok(tokens) => read(alloc, text, tokens.as_slice()),
+        Ok(tokens) => read_forms(alloc, text, tokens.as_slice()),
         Err(fault) => Err(ParseFault::from(fault)),
     }
 }
@@ -82,5 +82,5 @@ pub fn parse(alloc: Global, text: &[u8]) -> Result<Source, ParseFault>
     // A text spells one list of forms or has one first refusal, and not both.
     ensures settled { IsSettled text.now }
 {
-    parsed(alloc, text)
+    parse_text(alloc, text)
 }

@@ -1,4 +1,5 @@
 -- The lemmas of reg_code, a file a topic.
 pub mod DecimalLemmas
 pub mod RanLaws
+pub mod SoundLemmas
 pub mod WorkedCases

@@ -89,10 +89,10 @@ is_readable (reg.Implicit Send) = false
 is_readable _ = true
 
 -- why a register that is read has no value yet
-abbrev pub unwritten : Marks → Reg → Option Rule
-unwritten marks (reg.Temp i) = rule_where (not (marks.temps i)) rule.Temporary
-unwritten marks (reg.Local i) = rule_where (not (marks.locals i)) rule.Local
-unwritten marks _ = None
+abbrev pub missing_value : Marks → Reg → Option Rule
+missing_value marks (reg.Temp i) = rule_where (not (marks.temps i)) rule.Temporary
+missing_value marks (reg.Local i) = rule_where (not (marks.locals i)) rule.Local
+missing_value marks _ = None
 
 abbrev pub is_bind : Op → Bool
 is_bind op.Bind = true
@@ -103,8 +103,8 @@ is_ewma op.Ewma = true
 is_ewma _ = false
 
 -- `ewma` reads its target too
-abbrev pub unwritten_target : Marks → Instr → Option Rule
-unwritten_target marks instr = if is_ewma instr.op then unwritten marks instr.to else None
+abbrev pub missing_target_value : Marks → Instr → Option Rule
+missing_target_value marks instr = if is_ewma instr.op then missing_value marks instr.to else None
 
 abbrev pub is_zero : Reg → Bool
 is_zero (reg.Imm value) = value == 0
@@ -157,9 +157,9 @@ abbrev pub rule_failed : Sizes → Part → Bool → Marks → Instr → Option 
 rule_failed sizes part is_last marks instr =
     rule_where (not (are_there sizes instr)) rule.Range
     or_else rule_where (not (is_readable instr.left && is_readable instr.right)) rule.Readable
-    or_else unwritten marks instr.left
-    or_else unwritten marks instr.right
-    or_else unwritten_target marks instr
+    or_else missing_value marks instr.left
+    or_else missing_value marks instr.right
+    or_else missing_target_value marks instr
     or_else rule_where (is_ewma instr.op && not (is_weight instr.left)) rule.Weight
     or_else rule_where (is_bind instr.op && not (is_zero instr.right)) rule.BindRight
     or_else rule_where (is_misplaced part is_last instr) rule.Writable

@@ -3,9 +3,9 @@
 pub mod CodeStep
 pub mod CodeStart
 pub mod AcceptedCode
+pub mod AcceptedLaws
 pub mod ListingText
 pub mod Sound
-pub mod SoundLaws
 pub mod Places
 pub mod Forms
 pub mod PackedCode

@@ -16,7 +16,7 @@ use Rattle.reg_code.specs.declared.rule.Rule.TheVariants as rule
 use Rattle.reg_code.specs.declared.rule.Sizes.{Sizes}
 use Rattle.reg_code.specs.CodeStep.{condition_of, event_body}
 use Rattle.reg_code.specs.AcceptedCode.{refusal_where, Marks, no_marks, marks_after, part_refusal, event_refusal, instrs_refusal, events_refusal, counts_refusal, sizes_of, IsAccepted}
-use Rattle.reg_code.specs.SoundLaws.{none-first, none-next}
+use Rattle.reg_code.specs.AcceptedLaws.{none-first, none-next}
 use Rattle.reg_compiler.specs.declared.line.Line.{Line}
 use Rattle.reg_compiler.specs.Known.{known_value}
 use Rattle.reg_compiler.specs.Needs.{deep_term, deep_body, deep_parts, deep_form}

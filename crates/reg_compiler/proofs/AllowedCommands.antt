@@ -13,13 +13,13 @@ use Rattle.reg_code.specs.declared.code.Reg.TheVariants as reg
 use Rattle.reg_code.specs.declared.rule.Part.TheVariants.{Body}
 use Rattle.reg_code.specs.declared.rule.Rule.TheVariants as rule
 use Rattle.reg_code.specs.declared.rule.Sizes.{Sizes}
-use Rattle.reg_code.specs.AcceptedCode.{Marks, is_there, unwritten, is_bind, is_ewma, rule_failed}
-use Rattle.reg_code.specs.SoundLaws.{none-first, none-next}
+use Rattle.reg_code.specs.AcceptedCode.{Marks, is_there, missing_value, is_bind, is_ewma, rule_failed}
+use Rattle.reg_code.specs.AcceptedLaws.{none-first, none-next}
 use Rattle.reg_compiler.specs.Needs.{beside, need_of, action_need, deep_at, deep_term, deep_action, deep_body}
 use Rattle.reg_compiler.specs.CompiledCode.{variable_reg, operand, free_after, into, both_into, action_lines, body_lines}
 use Rattle.reg_compiler.proofs.AllowedLines.{after, AreAllowed, AreAllowed-append, Grows, after-grows, none-mark}
 use Rattle.reg_compiler.proofs.AllowedInstrs.{IsOperand, IsOperand-grows, IsTarget, IsTarget-temp, conditional-none, ewma-none}
-use Rattle.reg_compiler.proofs.AllowedExpressions.{IsScope, IsScope-grows, IsOperand-name, into-written, operand_lines, free_after-le, operand_lines-allowed, joined-allowed, into-allowed}
+use Rattle.reg_compiler.proofs.AllowedExpressions.{IsScope, IsScope-grows, IsOperand-name, into-written, operand_lines, free_after-le, operand_lines-allowed, operation_lines-allowed, into-allowed}
 
 -- what isn't too deep fits into the temporaries
 
@@ -92,7 +92,7 @@ both-allowed o to place left right known sizes marks scope is_left is_right left
     let left_fits : need_of left + 0 ≤ 8 = omega (arith, left_need) in
     let right_fits : need_of right + next ≤ 8 = omega (arith, right_need, free_after-le left 0) in
     let between = after (operand_lines left 0) marks in
-    joined-allowed o to place left right known sizes Body false marks 0 scope is_left is_right left_fits right_fits
+    operation_lines-allowed o to place left right known sizes Body false marks 0 scope is_left is_right left_fits right_fits
     (operand_lines-allowed left sizes Body marks 0 left_fits (λ below. into-allowed left (reg.Temp 0) 0 known sizes Body false marks scope is_left left_fits (IsTarget-temp sizes Body 0 below)))
     (operand_lines-allowed right sizes Body between next right_fits (λ below. into-allowed right (reg.Temp next) next known sizes Body false between (IsScope-grows known sizes marks between (after-grows (operand_lines left 0) marks) scope) is_right right_fits (IsTarget-temp sizes Body next below)))
     none
@@ -148,7 +148,7 @@ IsScope-with_local true told known sizes marks scope room = record {
 }
 IsScope-with_local false told known sizes marks scope room = scope
 
-next-written : (v : Var) (known : KnownNames) (marks : Marks) → unwritten marks (variable_reg v) ≡ None → is_next_local known v ≡ true → (length known.locals < 8) × (marks.locals (length known.locals) ≡ true)
+next-written : (v : Var) (known : KnownNames) (marks : Marks) → missing_value marks (variable_reg v) ≡ None → is_next_local known v ≡ true → (length known.locals < 8) × (marks.locals (length known.locals) ≡ true)
 next-written (var.Local i) known marks written is =
     let parts = and_parts (i == length known.locals) (nat_lt i 8) is in
     let last = eqb-true i (length known.locals) parts.0 in

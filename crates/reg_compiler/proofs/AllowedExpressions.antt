@@ -14,11 +14,11 @@ use Rattle.reg_code.specs.declared.code.Reg.TheVariants as reg
 use Rattle.reg_code.specs.declared.rule.Part.{Part}
 use Rattle.reg_code.specs.declared.rule.Rule.TheVariants as rule
 use Rattle.reg_code.specs.declared.rule.Sizes.{Sizes}
-use Rattle.reg_code.specs.AcceptedCode.{Marks, unwritten, rule_failed}
+use Rattle.reg_code.specs.AcceptedCode.{Marks, missing_value, rule_failed}
 use Rattle.reg_compiler.specs.declared.line.Line.{Line}
 use Rattle.reg_compiler.specs.Known.{known_value}
 use Rattle.reg_compiler.specs.Needs.{beside, need_of}
-use Rattle.reg_compiler.specs.CompiledCode.{variable_reg, code_line, bind_line, direct, operand, next_free, free_after, unless_direct, joined, unless_known, into}
+use Rattle.reg_compiler.specs.CompiledCode.{variable_reg, code_line, bind_line, direct, operand, next_free, free_after, unless_direct, operation_lines, unless_known, into}
 use Rattle.reg_compiler.proofs.AllowedLines.{after, AreAllowed, after-append, is_end-append, AreAllowed-append, Grows, Grows-trans, after-grows, mark-none, with_target-written, last-written}
 use Rattle.reg_compiler.proofs.AllowedInstrs.{IsOperand, IsOperand-grows, IsOperand-imm, IsTarget, IsTarget-temp, bind-none, pair-none}
 
@@ -50,11 +50,11 @@ IsOperand-name var.Micros known sizes marks scope is = record { there = refl; re
 
 -- a register that an expression's lines are for is written by them
 
-unless_known-written : (value : Option ℕ) (to : Reg) (lines : List Line) (marks : Marks) → unwritten (after lines marks) to ≡ None → unwritten (after (unless_known value to lines) marks) to ≡ None
+unless_known-written : (value : Option ℕ) (to : Reg) (lines : List Line) (marks : Marks) → missing_value (after lines marks) to ≡ None → missing_value (after (unless_known value to lines) marks) to ≡ None
 unless_known-written (Some value) to lines marks written = with_target-written to marks
 unless_known-written None to lines marks written = written
 
-pub into-written : (term : Term) (to : Reg) (free : ℕ) (marks : Marks) → unwritten (after (into to term free) marks) to ≡ None
+pub into-written : (term : Term) (to : Reg) (free : ℕ) (marks : Marks) → missing_value (after (into to term free) marks) to ≡ None
 into-written (number n) to free marks = with_target-written to marks
 into-written (truth b) to free marks = with_target-written to marks
 into-written (name v) to free marks = with_target-written to marks
@@ -63,7 +63,7 @@ into-written (pair o place left right) to free marks =
     let second = unless_direct (direct right) (into (reg.Temp (free_after left free)) right (free_after left free)) in
     let line : Line = code_line (op.Pair o) to (operand left free) (operand right (free_after left free)) place in
     unless_known-written (known_value (pair o place left right)) to (first ++ (second ++ line ∷ [])) marks
-    (ap (λ marks. unwritten marks to) (after-append first (second ++ line ∷ []) marks) ∙ last-written second line (after first marks) refl)
+    (ap (λ marks. missing_value marks to) (after-append first (second ++ line ∷ []) marks) ∙ last-written second line (after first marks) refl)
 
 -- operands
 
@@ -92,7 +92,7 @@ operand_lines-allowed (name v) sizes part marks free fits allowed = tt
 operand_lines-allowed (pair o place left right) sizes part marks free fits allowed =
     unless_direct-allowed (option_map reg.Imm (known_value (pair o place left right))) sizes part marks (into (reg.Temp free) (pair o place left right) free) (allowed (omega (arith, fits)))
 
-IsOperand-pair : (value : Option ℕ) (sizes : Sizes) (marks : Marks) (lines : List Line) (free : ℕ) → free < 8 → unwritten (after lines marks) (reg.Temp free) ≡ None
+IsOperand-pair : (value : Option ℕ) (sizes : Sizes) (marks : Marks) (lines : List Line) (free : ℕ) → free < 8 → missing_value (after lines marks) (reg.Temp free) ≡ None
     → IsOperand sizes (after (unless_direct (option_map reg.Imm value) lines) marks) (unwrap_or (option_map reg.Imm value) (reg.Temp free))
 IsOperand-pair (Some value) sizes marks lines free below written = IsOperand-imm sizes marks value
 IsOperand-pair None sizes marks lines free below written = record { there = lt-ltb free 8 below; readable = refl; written = written }
@@ -111,14 +111,14 @@ pub line-allowed : (line : Line) (sizes : Sizes) (part : Part) (ends : Bool) (ma
 line-allowed line sizes part true marks none = (none, tt)
 line-allowed line sizes part false marks none = (none, tt)
 
-pub joined-allowed : (o : Op) (to : Reg) (place : Place) (left right : Term) (known : KnownNames) (sizes : Sizes) (part : Part) (ends : Bool) (marks : Marks) (free : ℕ)
+pub operation_lines-allowed : (o : Op) (to : Reg) (place : Place) (left right : Term) (known : KnownNames) (sizes : Sizes) (part : Part) (ends : Bool) (marks : Marks) (free : ℕ)
     → IsScope known sizes marks → is_term known left ≡ true → is_term known right ≡ true → need_of left + free ≤ 8 → need_of right + free_after left free ≤ 8
     → AreAllowed sizes part false marks (operand_lines left free)
     → AreAllowed sizes part false (after (operand_lines left free) marks) (operand_lines right (free_after left free))
     → ((later : Marks) → Grows marks later → IsOperand sizes later (operand left free) → IsOperand sizes later (operand right (free_after left free))
     → rule_failed sizes part ends later (record { op = o; to = to; left = operand left free; right = operand right (free_after left free) }) ≡ None)
-    → AreAllowed sizes part ends marks (joined o to place left (into (reg.Temp free) left free) right (into (reg.Temp (free_after left free)) right (free_after left free)) free)
-joined-allowed o to place left right known sizes part ends marks free scope is_left is_right left_fits right_fits left_allowed right_allowed none =
+    → AreAllowed sizes part ends marks (operation_lines o to place left (into (reg.Temp free) left free) right (into (reg.Temp (free_after left free)) right (free_after left free)) free)
+operation_lines-allowed o to place left right known sizes part ends marks free scope is_left is_right left_fits right_fits left_allowed right_allowed none =
     let next = free_after left free in
     let line : Line = code_line o to (operand left free) (operand right next) place in
     let first = operand_lines left free in
@@ -155,7 +155,7 @@ into-allowed (pair o place left right) to free known sizes part ends marks scope
     let right_fits : need_of right + next ≤ 8 = omega (arith, fits, free_after-le left free) in
     let between = after (operand_lines left free) marks in
     unless_known-allowed (known_value (pair o place left right)) to sizes part ends marks _ target
-    (joined-allowed (op.Pair o) to place left right known sizes part ends marks free scope parts.0 parts.1 left_fits right_fits
+    (operation_lines-allowed (op.Pair o) to place left right known sizes part ends marks free scope parts.0 parts.1 left_fits right_fits
     (operand_lines-allowed left sizes part marks free left_fits (λ below. into-allowed left (reg.Temp free) free known sizes part false marks scope parts.0 left_fits (IsTarget-temp sizes part free below)))
     (operand_lines-allowed right sizes part between next right_fits (λ below. into-allowed right (reg.Temp next) next known sizes part false between (IsScope-grows known sizes marks between (after-grows (operand_lines left free) marks) scope) parts.1 right_fits (IsTarget-temp sizes part next below)))
     (λ later grows first second. pair-none o to (operand left free) (operand right next) sizes part ends later target first second))

@@ -13,8 +13,8 @@ use Rattle.reg_code.specs.declared.rule.Part.TheVariants.{Condition, Body}
 use Rattle.reg_code.specs.declared.rule.Rule.{Rule}
 use Rattle.reg_code.specs.declared.rule.Rule.TheVariants as rule
 use Rattle.reg_code.specs.declared.rule.Sizes.{Sizes}
-use Rattle.reg_code.specs.AcceptedCode.{rule_where, Marks, writes, is_there, is_readable, unwritten, is_bind, is_ewma, is_zero, is_weight, is_fixed, is_micros, is_flag_reg, is_temp, is_in_condition, rule_failed}
-use Rattle.reg_code.specs.SoundLaws.{IsAllowed}
+use Rattle.reg_code.specs.AcceptedCode.{rule_where, Marks, writes, is_there, is_readable, missing_value, is_bind, is_ewma, is_zero, is_weight, is_fixed, is_micros, is_flag_reg, is_temp, is_in_condition, rule_failed}
+use Rattle.reg_code.specs.AcceptedLaws.{IsAllowed}
 use Rattle.reg_compiler.proofs.AllowedLines.{Grows, or_else-none, written-grows}
 
 rule_where-none : (fails : Bool) (which : Rule) → fails ≡ false → rule_where fails which ≡ None
@@ -42,7 +42,7 @@ rule_failed-from_IsAllowed sizes part is_last marks instr allowed =
 pub record IsOperand (sizes : Sizes) (marks : Marks) (r : Reg) : Type 0 where
   pub there : is_there sizes r ≡ true
   pub readable : is_readable r ≡ true
-  pub written : unwritten marks r ≡ None
+  pub written : missing_value marks r ≡ None
 
 pub IsOperand-grows : (sizes : Sizes) (before later : Marks) (r : Reg) → Grows before later → IsOperand sizes before r → IsOperand sizes later r
 IsOperand-grows sizes before later r grows is = record { there = is.there; readable = is.readable; written = written-grows r before later grows is.written }
@@ -90,7 +90,7 @@ plain-none o to left right sizes part ends marks plain bound target first second
       readable = both_true (is_readable left) (is_readable right) first.readable second.readable;
       left_written = first.written;
       right_written = second.written;
-      target_written = no_ewma-none (is_ewma o) (unwritten marks to) plain.no_ewma;
+      target_written = no_ewma-none (is_ewma o) (missing_value marks to) plain.no_ewma;
       weighted = and_left (is_ewma o) (not (is_weight left)) plain.no_ewma;
       bound = bound;
       placed =
@@ -125,7 +125,7 @@ conditional-none o to left right sizes marks unbound no_ewma target first second
       readable = both_true (is_readable left) (is_readable right) first.readable second.readable;
       left_written = first.written;
       right_written = second.written;
-      target_written = no_ewma-none (is_ewma o) (unwritten marks to) no_ewma;
+      target_written = no_ewma-none (is_ewma o) (missing_value marks to) no_ewma;
       weighted = and_left (is_ewma o) (not (is_weight left)) no_ewma;
       bound = and_left (is_bind o) (not (is_zero right)) unbound;
       placed =

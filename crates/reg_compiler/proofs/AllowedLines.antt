@@ -8,7 +8,7 @@ use Rattle.reg_code.specs.declared.rule.Part.TheVariants.{Condition, Body}
 use Rattle.reg_code.specs.declared.rule.Rule.{Rule}
 use Rattle.reg_code.specs.declared.rule.Rule.TheVariants as rule
 use Rattle.reg_code.specs.declared.rule.Sizes.{Sizes}
-use Rattle.reg_code.specs.AcceptedCode.{◌or_else◌, rule_where, at_index, Marks, with_mark, writes, with_target, marked, marks_after, unwritten, rule_failed, is_end, part_refusal}
+use Rattle.reg_code.specs.AcceptedCode.{◌or_else◌, rule_where, at_index, Marks, with_mark, writes, with_target, marked, marks_after, missing_value, rule_failed, is_end, part_refusal}
 use Rattle.reg_compiler.specs.declared.line.Line.{Line}
 use Rattle.reg_compiler.specs.CompiledCode.{instr_of}
 
@@ -85,7 +85,7 @@ pub none-mark : (mark : Bool) (which : Rule) → rule_where (not mark) which ≡
 none-mark true which none = refl
 none-mark false which none = cc
 
-pub written-grows : (r : Reg) (before later : Marks) → Grows before later → unwritten before r ≡ None → unwritten later r ≡ None
+pub written-grows : (r : Reg) (before later : Marks) → Grows before later → missing_value before r ≡ None → missing_value later r ≡ None
 written-grows (reg.Imm n) before later grows none = refl
 written-grows (reg.Prim n) before later grows none = refl
 written-grows (reg.Report i) before later grows none = refl
@@ -99,7 +99,7 @@ written-grows (reg.Temp i) before later grows none = mark-none (later.temps i) r
 own_mark : (marks : ℕ → Bool) (i : ℕ) → with_mark marks i i ≡ true
 own_mark marks i = ap (λ b. cond b true (marks i)) (eq-eqb i i refl)
 
-pub with_target-written : (to : Reg) (marks : Marks) → unwritten (with_target marks to) to ≡ None
+pub with_target-written : (to : Reg) (marks : Marks) → missing_value (with_target marks to) to ≡ None
 with_target-written (reg.Imm n) marks = refl
 with_target-written (reg.Prim n) marks = refl
 with_target-written (reg.Report i) marks = refl
@@ -108,9 +108,9 @@ with_target-written (reg.Implicit which) marks = refl
 with_target-written (reg.Local i) marks = mark-none (with_mark marks.locals i i) rule.Local (own_mark marks.locals i)
 with_target-written (reg.Temp i) marks = mark-none (with_mark marks.temps i i) rule.Temporary (own_mark marks.temps i)
 
-pub last-written : (lines : List Line) (line : Line) (marks : Marks) → writes line.instr.op ≡ true → unwritten (after (lines ++ line ∷ []) marks) line.instr.to ≡ None
+pub last-written : (lines : List Line) (line : Line) (marks : Marks) → writes line.instr.op ≡ true → missing_value (after (lines ++ line ∷ []) marks) line.instr.to ≡ None
 last-written lines line marks writes =
-    ap (λ marks. unwritten marks line.instr.to) (after-append lines (line ∷ []) marks ∙ ap (λ b. cond b (with_target (after lines marks) line.instr.to) (after lines marks)) writes)
+    ap (λ marks. missing_value marks line.instr.to) (after-append lines (line ∷ []) marks ∙ ap (λ b. cond b (with_target (after lines marks) line.instr.to) (after lines marks)) writes)
     ∙ with_target-written line.instr.to (after lines marks)
 
 -- what lines are allowed for: a part with no refusal

@@ -20,9 +20,9 @@ use Rattle.reg_code.specs.declared.code.Op.{Op}
 use Rattle.reg_code.specs.declared.code.Op.TheVariants as op
 use Rattle.reg_compiler.specs.declared.line.Line.{Line}
 use Rattle.reg_compiler.specs.Known.{known_value}
-use Rattle.reg_compiler.specs.CompiledCode.{no_place, direct, operand, next_free, free_after, unless_direct, joined, unless_known, into}
+use Rattle.reg_compiler.specs.CompiledCode.{no_place, direct, operand, next_free, free_after, unless_direct, operation_lines, unless_known, into}
 use Rattle.reg_compiler.proofs.LineRuns.{Halt, placed, run_lines, halting, with_temps, Comes}
-use Rattle.reg_compiler.proofs.OperandRuns.{Reads, Reads-with_temps, Works, Works-direct, Works-name, Works-pair, operated, Comes-joined}
+use Rattle.reg_compiler.proofs.OperandRuns.{Reads, Reads-with_temps, Works, Works-direct, Works-name, Works-pair, operated, Comes-operation_lines}
 use Rattle.reg_compiler.proofs.KnownLaws.{known_value-value}
 
 pub placed-put : (place : Place) (to : Reg) (result : Result ℕ FaultKind) (ack : Ack) (regs : Regs) → placed place (put to result ack regs) ≡ halting (at_place place result) (λ value. Ok (written to value ack regs))
@@ -77,11 +77,11 @@ pub Comes-both : (known : KnownNames) (env : Env) (locals : Locals) (o : Op) (to
     → Reads known env locals ack regs → is_term known left ≡ true → is_term known right ≡ true
     → Comes (into (reg.Temp free) left free) free ack regs (told (value_of left env locals ack) (reg.Temp free) ack regs)
     → ((temps : Variables) → Comes (into (reg.Temp (free_after left free)) right (free_after left free)) (free_after left free) ack (with_temps regs temps) (told (value_of right env locals ack) (reg.Temp (free_after left free)) ack (with_temps regs temps)))
-    → Comes (joined o to place left (into (reg.Temp free) left free) right (into (reg.Temp (free_after left free)) right (free_after left free)) free) free ack regs
+    → Comes (operation_lines o to place left (into (reg.Temp free) left free) right (into (reg.Temp (free_after left free)) right (free_after left free)) free) free ack regs
     (operated o to place (value_of left env locals ack) (value_of right env locals ack) ack regs)
 Comes-both known env locals o to place left right free ack regs reads is_left is_right left_comes right_comes =
     let later = free_after left free in
-    Comes-joined o to place (value_of left env locals ack) (value_of right env locals ack)
+    Comes-operation_lines o to place (value_of left env locals ack) (value_of right env locals ack)
     (unless_direct (direct left) (into (reg.Temp free) left free)) (unless_direct (direct right) (into (reg.Temp later) right later))
     (operand left free) (operand right later) free later (free_after right later) ack regs
     (next_free-grows (direct left) free)
@@ -103,9 +103,9 @@ Comes-into known env locals to (pair o place left right) free ack regs reads is 
     let is_left = (and_parts (is_term known left) (is_term known right) is).0 in
     let is_right = (and_parts (is_term known left) (is_term known right) is).1 in
     Comes-known (known_value (pair o place left right)) (value_of (pair o place left right) env locals ack) to
-    (joined (op.Pair o) to place left (into (reg.Temp free) left free) right (into (reg.Temp later) right later) free) free ack regs
+    (operation_lines (op.Pair o) to place left (into (reg.Temp free) left free) right (into (reg.Temp later) right later) free) free ack regs
     (λ value known. known_value-value (pair o place left right) value env locals ack known)
-    (Comes-as (joined (op.Pair o) to place left (into (reg.Temp free) left free) right (into (reg.Temp later) right later) free) free ack regs
+    (Comes-as (operation_lines (op.Pair o) to place left (into (reg.Temp free) left free) right (into (reg.Temp later) right later) free) free ack regs
     (operated (op.Pair o) to place (value_of left env locals ack) (value_of right env locals ack) ack regs)
     (told (value_of (pair o place left right) env locals ack) to ack regs)
     (operated-told o to place (value_of left env locals ack) (value_of right env locals ack) ack regs)

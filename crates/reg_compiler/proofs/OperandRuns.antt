@@ -101,17 +101,17 @@ line-reads left right a b o to ack regs first second = rw (first, second) refl
 abbrev pub operated : Op → Reg → Place → Result ℕ Cause → Result ℕ Cause → Ack → Regs → Variables → Result Regs Halt
 operated o to place left right ack regs temps = halting left (λ a. halting right (λ b. placed place (effect o to a b ack (with_temps regs temps))))
 
-pub Comes-joined : (o : Op) (to : Reg) (place : Place) (left right : Result ℕ Cause) (left_lines right_lines : List Line) (from also : Reg) (free later last : ℕ) (ack : Ack) (regs : Regs)
+pub Comes-operation_lines : (o : Op) (to : Reg) (place : Place) (left right : Result ℕ Cause) (left_lines right_lines : List Line) (from also : Reg) (free later last : ℕ) (ack : Ack) (regs : Regs)
     → free ≤ later → Works left left_lines from free later ack regs
     → ((temps : Variables) → Works right right_lines also later last ack (with_temps regs temps))
     → Comes (left_lines ++ (right_lines ++ (code_line o to from also place ∷ []))) free ack regs (operated o to place left right ack regs)
-Comes-joined o to place (Err cause) right left_lines right_lines from also free later last ack regs grows first second =
+Comes-operation_lines o to place (Err cause) right left_lines right_lines from also free later last ack regs grows first second =
     let line = code_line o to from also place in record {
       temps = regs.temps;
       same = λ i below. refl;
       ran = run_lines-append left_lines (right_lines ++ (line ∷ [])) ack regs ∙ ap (λ result. then_do result (run_lines (right_lines ++ (line ∷ [])) ack)) first.ran;
     }
-Comes-joined o to place (Ok a) (Err cause) left_lines right_lines from also free later last ack regs grows first second =
+Comes-operation_lines o to place (Ok a) (Err cause) left_lines right_lines from also free later last ack regs grows first second =
     let line = code_line o to from also place in
     let next = second first.temps in record {
       temps = first.temps;
@@ -122,7 +122,7 @@ Comes-joined o to place (Ok a) (Err cause) left_lines right_lines from also free
           ∙ run_lines-append right_lines (line ∷ []) ack (with_temps regs first.temps)
           ∙ ap (λ result. then_do result (run_lines (line ∷ []) ack)) next.ran;
     }
-Comes-joined o to place (Ok a) (Ok b) left_lines right_lines from also free later last ack regs grows first second =
+Comes-operation_lines o to place (Ok a) (Ok b) left_lines right_lines from also free later last ack regs grows first second =
     let line = code_line o to from also place in
     let next = second first.temps in
     let regs_then = with_temps regs next.temps in record {

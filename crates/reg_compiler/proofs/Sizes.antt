@@ -10,7 +10,7 @@ use Rattle.reg_code.specs.declared.code.Reg.TheVariants as reg
 use Rattle.reg_compiler.specs.declared.line.Line.{Line}
 use Rattle.reg_compiler.specs.Known.{known_value}
 use Rattle.reg_compiler.specs.Counts.{count_of, action_count, body_count, parts_count, form_count, lean_where, lean_of, action_lean, body_lean, parts_lean, lean}
-use Rattle.reg_compiler.specs.CompiledCode.{variable_reg, code_line, direct, operand, free_after, unless_direct, joined, unless_known, into, both_into, action_lines, body_lines, condition_lines, lines_of}
+use Rattle.reg_compiler.specs.CompiledCode.{variable_reg, code_line, direct, operand, free_after, unless_direct, operation_lines, unless_known, into, both_into, action_lines, body_lines, condition_lines, lines_of}
 
 unless_known-length : (known : Option ℕ) (to : Reg) (lines : List Line) (few : ℕ) → length lines ≤ few → length (unless_known known to lines) ≤ max 1 (lean_where known few)
 unless_known-length (Some value) to lines few within = omega arith
@@ -27,8 +27,8 @@ operand-length (truth b) lines within = omega arith
 operand-length (name v) lines within = omega arith
 operand-length (pair o place left right) lines within = unless_direct-length (known_value (pair o place left right)) lines (1 + (lean_of left + lean_of right)) (omega arith) within
 
-joined-length : (o : Op) (to : Reg) (place : Place) (left : Term) (left_lines : List Line) (right : Term) (right_lines : List Line) (free : ℕ) → length left_lines ≤ max 1 (lean_of left) → length right_lines ≤ max 1 (lean_of right) → length (joined o to place left left_lines right right_lines free) ≤ 1 + (lean_of left + lean_of right)
-joined-length o to place left left_lines right right_lines free left_few right_few =
+operation_lines-length : (o : Op) (to : Reg) (place : Place) (left : Term) (left_lines : List Line) (right : Term) (right_lines : List Line) (free : ℕ) → length left_lines ≤ max 1 (lean_of left) → length right_lines ≤ max 1 (lean_of right) → length (operation_lines o to place left left_lines right right_lines free) ≤ 1 + (lean_of left + lean_of right)
+operation_lines-length o to place left left_lines right right_lines free left_few right_few =
     let first = unless_direct (direct left) left_lines in
     let second = unless_direct (direct right) right_lines in
     let last : List Line = code_line o to (operand left free) (operand right (free_after left free)) place ∷ [] in
@@ -40,11 +40,11 @@ into-length (truth b) to free = omega arith
 into-length (name v) to free = omega arith
 into-length (pair o place left right) to free =
     unless_known-length (known_value (pair o place left right)) to _ (1 + (lean_of left + lean_of right))
-    (joined-length (op.Pair o) to place left (into (reg.Temp free) left free) right (into (reg.Temp (free_after left free)) right (free_after left free)) free (into-length left (reg.Temp free) free) (into-length right (reg.Temp (free_after left free)) (free_after left free)))
+    (operation_lines-length (op.Pair o) to place left (into (reg.Temp free) left free) right (into (reg.Temp (free_after left free)) right (free_after left free)) free (into-length left (reg.Temp free) free) (into-length right (reg.Temp (free_after left free)) (free_after left free)))
 
 both_into-length : (o : Op) (to : Reg) (place : Place) (left right : Term) → length (both_into o to place left right) ≤ 1 + (lean_of left + lean_of right)
 both_into-length o to place left right =
-    joined-length o to place left (into (reg.Temp 0) left 0) right (into (reg.Temp (free_after left 0)) right (free_after left 0)) 0 (into-length left (reg.Temp 0) 0) (into-length right (reg.Temp (free_after left 0)) (free_after left 0))
+    operation_lines-length o to place left (into (reg.Temp 0) left 0) right (into (reg.Temp (free_after left 0)) right (free_after left 0)) 0 (into-length left (reg.Temp 0) 0) (into-length right (reg.Temp (free_after left 0)) (free_after left 0))
 
 action-length : (action : Action) → length (action_lines action) ≤ action_lean action
 action-length (set v term) = into-length term (variable_reg v) 0

@@ -63,8 +63,8 @@ unless_direct (Some from) lines = []
 unless_direct None lines = lines
 
 -- the lines of two operands, and then the operation on them
-abbrev pub joined : Op → Reg → Place → Term → List Line → Term → List Line → ℕ → List Line
-joined o to place left left_lines right right_lines free =
+abbrev pub operation_lines : Op → Reg → Place → Term → List Line → Term → List Line → ℕ → List Line
+operation_lines o to place left left_lines right right_lines free =
     unless_direct (direct left) left_lines
     ++ (unless_direct (direct right) right_lines
     ++ (code_line o to (operand left free) (operand right (free_after left free)) place ∷ []))
@@ -81,7 +81,7 @@ into to (truth b) free = bind_line to (reg.Imm (bool_number b)) ∷ []
 into to (name v) free = bind_line to (variable_reg v) ∷ []
 into to (pair o place left right) free =
     unless_known (known_value (pair o place left right)) to
-    (joined (op.Pair o) to place left (into (reg.Temp free) left free) right (into (reg.Temp (free_after left free)) right (free_after left free)) free)
+    (operation_lines (op.Pair o) to place left (into (reg.Temp free) left free) right (into (reg.Temp (free_after left free)) right (free_after left free)) free)
 
 -- the lines that put an expression that is no operand yet into a temporary
 abbrev pub operand_lines : Term → ℕ → List Line

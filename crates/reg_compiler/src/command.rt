@@ -7,7 +7,7 @@ ghost use Rattle.reg_compiler.specs.Needs.{action_need, body_need};
 ghost use Rattle.reg_compiler.specs.Numbered.{is_numbered_action, is_numbered_body};
 ghost use Rattle.reg_compiler.specs.CompiledCode.{bind_line, action_lines, body_lines};
 
-use crate::expression::{into, joined, operand};
+use crate::expression::{into, operand, operation_lines};
 use crate::line::{Lines, bind_line, operation_line};
 use crate::registers::reg_of;
 use portus_core::Cmd;
@@ -35,10 +35,10 @@ fn command(cmd: &Cmd, lines: &mut Lines) -> Result<(), AllocError>
     match cmd {
         Cmd::Set(var, expr) => into(expr, reg_of(*var), 0, lines),
         Cmd::SetIf(place, var, condition, expr) => {
-            joined(Op::If, reg_of(*var), *place, condition, expr, 0, lines)
+            operation_lines(Op::If, reg_of(*var), *place, condition, expr, 0, lines)
         }
         Cmd::SetUnless(place, var, condition, expr) => {
-            joined(Op::NotIf, reg_of(*var), *place, condition, expr, 0, lines)
+            operation_lines(Op::NotIf, reg_of(*var), *place, condition, expr, 0, lines)
         }
         Cmd::Ewma(place, var, weight, expr) => {
             let value = operand(expr, 0, lines)?;

@@ -29,14 +29,14 @@ pub fn into(expr: &Expr, to: Reg, free: u8, lines: &mut Lines) -> Result<(), All
         Expr::Var(var) => lines.push(bind_line(to, reg_of(*var))),
         Expr::Pair(op, place, left, right) => match known(expr) {
             Some(value) => lines.push(bind_line(to, Reg::Imm(value))),
-            None => joined(Op::Pair(*op), to, *place, left, right, free, lines),
+            None => operation_lines(Op::Pair(*op), to, *place, left, right, free, lines),
         },
     }
 }
 
 /// Appends the lines of two operands and of the operation on them.
 #[cycle(expression)]
-pub fn joined(
+pub fn operation_lines(
     op: Op,
     to: Reg,
     place: Place,

@@ -115,7 +115,7 @@ fn ewma(
 }
 
 /// The variable that the expression is assigned to; a word without a meaning becomes a local.
-fn settled(
+fn assign_target(
     names: &mut Names,
     target: Target,
     value_at: Place,
@@ -148,7 +148,7 @@ fn plain(alloc: Global, names: &mut Names, target: Target, value: &Tree) -> Resu
     ensures err { IfErr result (EndsWalk (plain_walk (scope_of names.old) target (node_of value.now))) }
 {
     let expr = expression(alloc, names, value)?;
-    let var = settled(names, target, place_of(value), &expr)?;
+    let var = assign_target(names, target, place_of(value), &expr)?;
     Ok(Cmd::Set(var, expr))
 }
 

@@ -9,5 +9,5 @@ decreases-into l = 3 * count_of (term_of l.expr.now)
 abbrev pub decreases-operand : goal.decreases-operand
 decreases-operand l = 3 * count_of (term_of l.expr.now) + 1
 
-abbrev pub decreases-joined : goal.decreases-joined
-decreases-joined l = 3 * (count_of (term_of l.left.now) + count_of (term_of l.right.now)) + 2
+abbrev pub decreases-operation_lines : goal.decreases-operation_lines
+decreases-operation_lines l = 3 * (count_of (term_of l.left.now) + count_of (term_of l.right.now)) + 2

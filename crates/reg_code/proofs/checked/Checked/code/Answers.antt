@@ -1,5 +1,5 @@
 use Rattle.reg_code.proofs.RanLaws.{RunsWithin-every}
-use Rattle.reg_code.specs.SoundLaws.{IsSound-accepted}
+use Rattle.reg_code.proofs.SoundLemmas.{IsSound-accepted}
 use Rattle.reg_code.proofs.checked.Checked.code.Goals as goal
 
 pub returns-clause-sound : goal.returns-clause-sound

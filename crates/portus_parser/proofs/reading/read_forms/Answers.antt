@@ -3,7 +3,7 @@ use Rattle.std.proofs.lemmas.List.{drop_all}
 use Rattle.portus_parser.specs.declared.open_list.OpenList.{OpenList}
 use Rattle.portus_parser.specs.Readings.{read_lexemes, unread, reading_of, lexeme_in}
 use Rattle.portus_parser.proofs.OpenLists.{read-unclosed, EndsReading-at}
-use Rattle.portus_parser.proofs.reading.read.Goals as goal
+use Rattle.portus_parser.proofs.reading.read_forms.Goals as goal
 
 pub returns-in-Err-clause-refused : goal.returns-in-Err-clause-refused
 returns-in-Err-clause-refused c =

@@ -1,6 +1,6 @@
 use Rattle.std.proofs.Common.{◌≡◌, Ok, map, drop}
 use Rattle.portus_parser.specs.Readings.{read_lexemes, unread, lexeme_in, reading_of}
-use Rattle.portus_parser.proofs.reading.read.Given as goal
+use Rattle.portus_parser.proofs.reading.read_forms.Given as goal
 
 abbrev pub invariant-loop-token : goal.invariant-loop-token
 invariant-loop-token l =

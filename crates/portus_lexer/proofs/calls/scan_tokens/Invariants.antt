@@ -2,7 +2,7 @@ use Rattle.std.proofs.Common.{◌≡◌, drop}
 use Rattle.portus_lexer.specs.declared.within.Within.TheVariants.{Gap}
 use Rattle.portus_lexer.specs.Places.{first_place}
 use Rattle.portus_lexer.specs.Scanning.{scan, with_front}
-use Rattle.portus_lexer.proofs.calls.scanned.Given as goal
+use Rattle.portus_lexer.proofs.calls.scan_tokens.Given as goal
 
 abbrev pub invariant-loop-byte : goal.invariant-loop-byte
 invariant-loop-byte l =
