@@ -30,7 +30,14 @@ pub(crate) fn run_workers<R: Threads + Wait + Sync, G: Gate + Sync>(
             ensures { IfOk result (λ crew. HasWorked crew workers.datapaths.count workers.agents.count (length table.entry.now)) }
         {
             let works = installer_threads::begin_all(scope, rt, alloc, table, workers, gate)?;
-            let servings = datapath_threads::begin_all(scope, rt, alloc, table, workers.datapaths, gate)?;
+            let servings = datapath_threads::begin_all(
+                scope,
+                rt,
+                alloc,
+                table,
+                workers.datapaths,
+                gate,
+            )?;
             let equipped = installer_threads::end_all(rt, alloc, works)?;
             let served = end_serving(rt, alloc, servings)?;
             Ok(Crew { served, equipped })
