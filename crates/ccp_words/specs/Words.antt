@@ -11,6 +11,14 @@ use Rattle.ccp_words.specs.declared.words.Asked.{Asked}
 use Rattle.ccp_words.specs.Matches.{written_number, is_flag_text}
 use Rattle.ccp_words.specs.Modes.{mode_named, mode_names}
 
+-- the workers of a kind
+abbrev pub most_of_a_kind : ℕ
+most_of_a_kind = 32
+
+-- the number of a generated campaign
+abbrev pub most_number : ℕ
+most_number = 4294967295
+
 -- names as an argument holds them, each at some place in memory
 abbrev pub HeldNames : Type 0
 HeldNames = Bor (List (Bor Text))
@@ -39,8 +47,8 @@ wire_flag = record (new_rule (codes "wire")) { long = Some (codes "wire"); actio
 abbrev pub command_line : HeldNames → App
 command_line names = record {
   top = record (new_shape (codes "ccp")) {
-    rules = mode_argument names ∷ number_option (codes "datapaths") 1 32 ∷ number_option (codes "agents") 1 32
-        ∷ number_option (codes "workers") 1 32 ∷ number_option (codes "number") 0 4294967295 ∷ wire_flag ∷ [];
+    rules = mode_argument names ∷ number_option (codes "datapaths") 1 most_of_a_kind ∷ number_option (codes "agents") 1 most_of_a_kind
+        ∷ number_option (codes "workers") 1 most_of_a_kind ∷ number_option (codes "number") 0 most_number ∷ wire_flag ∷ [];
     disable_help_flag = true;
     disable_version_flag = true;
   };
@@ -74,11 +82,11 @@ asked_in words = option_map (λ mode. record {
   wire = is_flag_text (said (codes "wire") words);
 }) (option_and_then mode_named (said (codes "mode") words))
 
--- each number of workers is 1 to 32
+-- each number of workers is at least 1, and at most that of a kind
 pub record HasWorkers (asked : Asked) : Type 0 where
-  pub datapaths : (1 ≤ asked.datapaths) × (asked.datapaths ≤ 32)
-  pub agents : (1 ≤ asked.agents) × (asked.agents ≤ 32)
-  pub workers : (1 ≤ asked.workers) × (asked.workers ≤ 32)
+  pub datapaths : (1 ≤ asked.datapaths) × (asked.datapaths ≤ most_of_a_kind)
+  pub agents : (1 ≤ asked.agents) × (asked.agents ≤ most_of_a_kind)
+  pub workers : (1 ≤ asked.workers) × (asked.workers ≤ most_of_a_kind)
 
 -- the command is the tool's command line, its names held at some place
 pub record IsCommandLine (command : Command) : Type 0 where

@@ -6,7 +6,6 @@ pub mod PlacedParts
 pub mod LiftLemmas
 pub mod WordLemmas
 pub mod LinkWordLemmas
-pub mod TimeLemmas
 pub mod ValueLemmas
 pub mod WorkedText
 pub mod LeftLemmas
