@@ -1,5 +1,5 @@
 -- The parts of a code go into a frame and come back.
-use Rattle.std.proofs.Common.{◌≡◌, ℕ, zero, suc, ◌≤◌, Bool, true, false, eqb, List, [], ◌∷◌, refl, sym, ap, ◌∙◌, arith}
+use Rattle.std.proofs.Common.{◌≡◌, ℕ, zero, suc, ◌≤◌, Bool, true, false, List, [], ◌∷◌, refl, sym, ap, ◌∙◌, arith}
 use Rattle.std.specs.Prelude.{map, Option, Some, nat_le, if◌then◌else◌, ◌&&◌, ◌==◌}
 use Rattle.std.specs.List.{AllByRecursion}
 use Rattle.std.proofs.lemmas.Bool.{and_parts, leb-true}
@@ -17,7 +17,7 @@ use Rattle.reg_code.specs.declared.code.Op.TheVariants as op
 use Rattle.reg_code.specs.declared.code.Reg.{Reg}
 use Rattle.reg_code.specs.declared.code.Reg.TheVariants as reg
 use Rattle.reg_code.specs.declared.code.Start.{Start}
-use Rattle.reg_code.specs.OperationNumbers.{op_number, op_numbered}
+use Rattle.reg_code.specs.OperationNumbers.{op_number}
 use Rattle.reg_code.specs.OperationNumberLaws.{op_back, op_again}
 use Rattle.reply_frames.specs.declared.outline.Instruction.{Instruction}
 use Rattle.reply_frames.specs.Frames as parts

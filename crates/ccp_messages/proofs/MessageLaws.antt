@@ -1,11 +1,11 @@
 -- A message and the body of its frame determine one another.
-use Rattle.std.proofs.Common.{◌≡◌, ℕ, zero, suc, ◌≤◌, ◌<◌, ◌^◌, Bool, true, false, List, [], ◌∷◌, ◌++◌, length, take, refl, sym, ap, subst, ◌∙◌, arith}
+use Rattle.std.proofs.Common.{◌≡◌, ℕ, ◌≤◌, ◌<◌, ◌^◌, List, [], ◌∷◌, ◌++◌, length, take, refl, sym, ap, subst, ◌∙◌, arith}
 use Rattle.std.specs.Prelude.{map}
 use Rattle.std.specs.List.{AllByRecursion}
 use Rattle.std.proofs.lemmas.List.{length-map}
 use Rattle.ccp_base.specs.declared.arithmetic.FaultKind.{FaultKind}
 use Rattle.ccp_base.specs.declared.arithmetic.FaultKind.TheVariants.{Overflow, Underflow, ZeroDivisor}
-use Rattle.ccp_base.specs.Acknowledgement.{bool_number, primitives, flag_number, ack_of}
+use Rattle.ccp_base.specs.Acknowledgement.{primitives, flag_number, ack_of}
 use Rattle.ccp_base.specs.FieldReg.{Pair}
 use Rattle.ccp_base.specs.Limits.{most_fields}
 use Rattle.reply_frames.specs.declared.outline.Version.{Version}
@@ -14,7 +14,7 @@ use Rattle.reply_frames.specs.declared.outline.FrameKind.TheVariants as kinds
 use Rattle.reply_frames.specs.Kinds.{most_n1}
 use Rattle.reply_frames.specs.Frames.{Body}
 use Rattle.reply_frames.specs.Frames as body
-use Rattle.reply_frames.specs.Bodies.{fault_number, fault_kind_of}
+use Rattle.reply_frames.specs.Bodies.{fault_number}
 use Rattle.reply_frames.specs.ValueBytes.{AreTargets, ValueFits, IsSendable}
 use Rattle.reply_frames.specs.FrameBytes.{IsNumber, IsCount, IsSpellable}
 use Rattle.reply_frames.proofs.BodyLaws.{fault-back, fault-again, true-back, plain-numbers, ack-again}

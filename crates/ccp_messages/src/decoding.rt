@@ -39,7 +39,7 @@ fn found(alloc: Global, bytes: &[u8]) -> Result<(Message, Version, usize), Halt>
 }
 
 /// The same, with its faults.
-fn answered(alloc: Global, bytes: &[u8]) -> Result<(Message, Version, usize), DecodeFault>
+fn decode_exactly(alloc: Global, bytes: &[u8]) -> Result<(Message, Version, usize), DecodeFault>
     ensures told { IsDecoded result (decoded_of bytes.now) }
     ensures memory { result ≡ Err DecodeFault.NoMemory → BeginsInstall bytes.now }
 {
@@ -74,5 +74,5 @@ pub fn decode(alloc: Global, bytes: &[u8]) -> Result<(Message, Version, usize), 
     // Only the code of an Install takes memory.
     ensures memory { result ≡ Err DecodeFault.NoMemory → BeginsInstall bytes.now }
 {
-    answered(alloc, bytes)
+    decode_exactly(alloc, bytes)
 }

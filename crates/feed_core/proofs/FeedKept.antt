@@ -16,7 +16,8 @@ use Rattle.reg_code.specs.AcceptedCode.{◌or_else◌, Refusal, rejected, IsAcce
 use Rattle.reg_code.specs.CodeStart.{with_value, with_values, declared_kept}
 use Rattle.reg_code.specs.CodeStep.{Kept, IsKeptOf, Work, done, failed, stuck, events_of, before_events, settled, made_of}
 use Rattle.reg_code.specs.CodeStep as steps
-use Rattle.reg_code.specs.SoundLaws.{WorkSized, events-sized, none-first, none-next, refusal_where-none, IsSound-accepted}
+use Rattle.reg_code.specs.AcceptedLaws.{WorkSized, none-first, none-next, refusal_where-none}
+use Rattle.reg_code.proofs.SoundLemmas.{events-sized, IsSound-accepted}
 use Rattle.reply_frames.specs.declared.outline.Version.{Version}
 use Rattle.reply_frames.specs.declared.outline.Version.TheVariants.{One, Two}
 use Rattle.ccp_messages.specs.declared.message.Message.{Message}

@@ -3,19 +3,19 @@ use Rattle.ccp_messages.proofs.DecodeLaws.{told_found, told_only, told_more, tol
 use Rattle.ccp_messages.proofs.decoding.decode.Goals as goal
 
 pub returns-clause-found : goal.returns-clause-found
-returns-clause-found c = told_found c.args.bytes.now c.answered.result (λ i. omega (arith, c.type_inv.bytes i)) c.answered.ensures.told
+returns-clause-found c = told_found c.args.bytes.now c.decode_exactly.result (λ i. omega (arith, c.type_inv.bytes i)) c.decode_exactly.ensures.told
 
 pub returns-clause-only : goal.returns-clause-only
-returns-clause-only c = told_only c.args.bytes.now c.answered.result c.answered.ensures.told
+returns-clause-only c = told_only c.args.bytes.now c.decode_exactly.result c.decode_exactly.ensures.told
 
 pub returns-clause-more : goal.returns-clause-more
-returns-clause-more c = told_more c.args.bytes.now c.answered.result c.answered.ensures.told
+returns-clause-more c = told_more c.args.bytes.now c.decode_exactly.result c.decode_exactly.ensures.told
 
 pub returns-clause-cut : goal.returns-clause-cut
-returns-clause-cut c = told_cut c.args.bytes.now c.answered.result c.answered.ensures.told
+returns-clause-cut c = told_cut c.args.bytes.now c.decode_exactly.result c.decode_exactly.ensures.told
 
 pub returns-clause-bad : goal.returns-clause-bad
-returns-clause-bad c = told_bad c.args.bytes.now c.answered.result c.answered.ensures.told
+returns-clause-bad c = told_bad c.args.bytes.now c.decode_exactly.result c.decode_exactly.ensures.told
 
 pub returns-clause-refused : goal.returns-clause-refused
-returns-clause-refused c = told_refused c.args.bytes.now c.answered.result (λ i. omega (arith, c.type_inv.bytes i)) c.answered.ensures.told
+returns-clause-refused c = told_refused c.args.bytes.now c.decode_exactly.result (λ i. omega (arith, c.type_inv.bytes i)) c.decode_exactly.ensures.told
