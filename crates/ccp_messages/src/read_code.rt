@@ -84,7 +84,7 @@ fn instrs(alloc: Global, bytes: &[u8], count: u16) -> Result<(Sequence<Packed>, 
 }
 
 /// An Install from its body, and the bytes after it.
-#[tactic(auto, unfolding(crate::specs::Decoding::code_at))]
+#[tactic(auto, unfolding(crate::specs::Decoding::install_message_at))]
 pub fn install(
     alloc: Global,
     bytes: &[u8],

@@ -94,7 +94,7 @@ pub fn measure(
 }
 
 /// The notice of a Fault on a flow.
-#[tactic(auto, unfolding(crate::specs::Frames::fault_at))]
+#[tactic(auto, unfolding(crate::specs::Frames::fault_body_at))]
 pub fn fault(bytes: &[u8], version: Version, flow: u32) -> Result<(Notice, &[u8]), Stop>
     ensures read { Gives (λ x. (notice_body x.0, x.1.now)) result (fault_body_at version bytes.now) }
     ensures flow { IfOk result (λ x. x.0.flow ≡ flow) }
@@ -132,7 +132,7 @@ fn acknowledged(numbers: &Values, was_timeout: u64) -> Ack
 }
 
 /// The acknowledgement of an Ack.
-#[tactic(auto, unfolding(crate::specs::Frames::ack_at))]
+#[tactic(auto, unfolding(crate::specs::Frames::ack_body_at))]
 pub fn ack(bytes: &[u8]) -> Result<(Ack, &[u8]), Stop>
     ensures { Gives (λ x. (ack_body x.0, x.1.now)) result (ack_body_at bytes.now) }
 {
