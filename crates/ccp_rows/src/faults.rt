@@ -1,6 +1,6 @@
 //! Each read and each write of a run fails in turn, where a call takes 16 bytes.
-use crate::came::{FIRST_REPORT, ONE_CASE, WHOLE, Ways, comes_to};
 use crate::feeds::{MEASURE, REPORTING};
+use crate::runs::{FIRST_REPORT, FailingCalls, NONE_FAILS, ONE_CASE, run_on_words};
 use std::alloc::Global;
 use std::process::Abort;
 use std::sync::Wait;
@@ -51,14 +51,14 @@ fn is_read_fault<R: Threads + Wait + Sync>(
     output: &[u8],
 ) -> Result<bool, Fail> {
     let failing = [call];
-    let ways = Ways {
+    let calls = FailingCalls {
         read: &failing,
         write: &[],
-        tell: &[],
+        report: &[],
         most: 16,
     };
-    let came = comes_to(rt, alloc, given.words, given.input, ways)?;
-    Ok(came.is(4, output, b"ccp: read fault\n") && came.programs == 0)
+    let run = run_on_words(rt, alloc, given.words, given.input, calls)?;
+    Ok(run.is(4, output, b"ccp: read fault\n") && run.programs == 0)
 }
 
 /// Whether a run whose write of this number fails ends so, and has written what came before, where this is the output.
@@ -70,15 +70,15 @@ fn is_write_fault<R: Threads + Wait + Sync>(
     output: &[u8],
 ) -> Result<bool, Fail> {
     let failing = [call];
-    let ways = Ways {
+    let calls = FailingCalls {
         read: &[],
         write: &failing,
-        tell: &[],
+        report: &[],
         most: 16,
     };
     let front = &output[..output.len().min((call as usize).saturating_mul(16))];
-    let came = comes_to(rt, alloc, given.words, given.input, ways)?;
-    Ok(came.is(5, front, b"ccp: write fault\n") && came.programs == 0)
+    let run = run_on_words(rt, alloc, given.words, given.input, calls)?;
+    Ok(run.is(5, front, b"ccp: write fault\n") && run.programs == 0)
 }
 
 /// Lets each read fail.
@@ -121,7 +121,7 @@ fn writes_fail_after_a_run<R: Threads + Wait + Sync>(
     alloc: Global,
     given: Given<'_>,
 ) -> Result<(), Fail> {
-    let whole = comes_to(rt, alloc, given.words, given.input, WHOLE)?;
+    let whole = run_on_words(rt, alloc, given.words, given.input, NONE_FAILS)?;
     if whole.status != 0 {
         return Err("the run doesn't end well".into());
     }

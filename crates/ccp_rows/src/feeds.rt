@@ -1,5 +1,5 @@
 //! Frames that come in pieces.
-use crate::came::{WHOLE, Ways, comes_to};
+use crate::runs::{FailingCalls, NONE_FAILS, run_on_words};
 use std::alloc::Global;
 use std::process::Abort;
 use std::sync::Wait;
@@ -55,7 +55,7 @@ const REPORTING_2: &[u8] =
 const MEASURE_2: &[u8] =
     b"\x02\x02\x01\x00\x00\x00\x00\x00\x00\x00\x00\x00\x48\x00\x00\x00\x00\x00\x00\x00\x00\x00\x00\x00\x00\x00\x00\x00\x00\x00\x00\x00\x01\x00\x00\x00\x00\x00\x00\x00\x00\x00\x00\x00\x00\x00\x00\x00\xf8\x10\x00\x00\x00\x00\x00\x00\x00\x00\x00\x00\x00\x00\x00\x00\x07\x00\x00\x00\x00\x00\x00\x00";
 
-/// Frames, and what a run of `feed` comes to: its status, what was written, and the error line.
+/// Frames, and the result of a run of `feed` on them: its status, what it wrote, and the error line.
 const ROWS: [(&[u8], u8, &[u8], &[u8]); 8] = [
     (REPORTING, 0, MEASURE, b""),
     (CUT, 3, MEASURE, b"ccp: input refused: frame cut at 273\n"),
@@ -67,7 +67,7 @@ const ROWS: [(&[u8], u8, &[u8], &[u8]); 8] = [
     (REPORTING_2, 0, MEASURE_2, b""),
 ];
 
-/// Whether a feed comes to this whose reads and writes take at most so many bytes.
+/// Whether a feed has this result if its reads and writes take at most `most` bytes.
 fn is_answered<R: Threads + Wait + Sync>(
     rt: &R,
     alloc: Global,
@@ -75,9 +75,9 @@ fn is_answered<R: Threads + Wait + Sync>(
     most: usize,
 ) -> Result<bool, Fail> {
     let (input, status, output, errors) = *row;
-    let ways = Ways { most, ..WHOLE };
-    let came = comes_to(rt, alloc, &["ccp", "feed"], input, ways)?;
-    Ok(came.is(status, output, errors) && came.programs == 0 && came.ran == 0)
+    let calls = FailingCalls { most, ..NONE_FAILS };
+    let run = run_on_words(rt, alloc, &["ccp", "feed"], input, calls)?;
+    Ok(run.is(status, output, errors) && run.programs == 0 && run.ran == 0)
 }
 
 /// Asserts it of pieces of each length from 1 to 20, and of the whole input.

@@ -1,6 +1,6 @@
 //! That workers run side by side: cases, the flows' parts of a round, datapaths, agents and installers.
-use crate::came::{WHOLE, comes_to, held_comes_to};
 use crate::hold_gate::{Hold, HoldGate, Moment};
+use crate::runs::{NONE_FAILS, run_on_words, run_under_gate};
 use ccp_base::Point;
 use std::alloc::Global;
 use std::sync::Wait;
@@ -37,9 +37,9 @@ fn is_one_output<R: Threads + Wait + Sync>(
     mode: &str,
     gate: &HoldGate,
 ) -> Result<bool, Fail> {
-    let one = comes_to(rt, alloc, &["ccp", mode], TWO_FLOWS, WHOLE)?;
+    let one = run_on_words(rt, alloc, &["ccp", mode], TWO_FLOWS, NONE_FAILS)?;
     let words = ["ccp", mode, "--workers", "2"];
-    let two = held_comes_to(rt, alloc, &words, TWO_FLOWS, WHOLE, gate)?;
+    let two = run_under_gate(rt, alloc, &words, TWO_FLOWS, NONE_FAILS, gate)?;
     Ok(one.status == 0 && two.is(0, one.output.as_slice(), b""))
 }
 
@@ -90,8 +90,8 @@ fn two_datapaths_write<R: Threads + Wait + Sync>(
     output: &[u8],
 ) -> Result<bool, Fail> {
     let words = ["ccp", "live", "--datapaths", "2"];
-    let came = held_comes_to(rt, alloc, &words, TWO_FLOWS, WHOLE, gate)?;
-    Ok(came.is(0, output, b""))
+    let run = run_under_gate(rt, alloc, &words, TWO_FLOWS, NONE_FAILS, gate)?;
+    Ok(run.is(0, output, b""))
 }
 
 /// Worker 0 is held in its first acknowledgement, with its flow's lock, until worker 1 has made one.
@@ -126,8 +126,8 @@ fn shows_on<R: Threads + Wait + Sync>(
     gate: &HoldGate,
     part: &[u8],
 ) -> Result<bool, Fail> {
-    let came = held_comes_to(rt, alloc, words, input, WHOLE, gate)?;
-    Ok(came.status == 0 && has_part(came.output.as_slice(), part))
+    let run = run_under_gate(rt, alloc, words, input, NONE_FAILS, gate)?;
+    Ok(run.status == 0 && has_part(run.output.as_slice(), part))
 }
 
 /// Whether a run of a mode, whose workers are held, ends well with an output that has this part.

@@ -87,9 +87,9 @@ pub(crate) struct HoldGate {
     others: Passed,
     one: Hold,
     other: Hold,
-    /// How many holds came to their end in time.
+    /// How many holds ended in time.
     held: AtomicU64,
-    /// How many didn't, and how often a worker came to a moment of theirs with another number.
+    /// How many did not, and how often a worker reached a moment of theirs with another number.
     failed: AtomicU64,
 }
 
@@ -109,7 +109,7 @@ impl HoldGate {
         }
     }
 
-    /// How many holds came to their end in time; None where one didn't, or a number was another one.
+    /// How many holds ended in time; None if one did not, or if a worker reached a hold with another number.
     pub(crate) fn held(&self) -> Option<u64> {
         if self.failed.load(Ordering::SeqCst) > 0 {
             return None;

@@ -3,8 +3,6 @@
 #![tactic(auto)]
 
 #[cfg(test)]
-mod came;
-#[cfg(test)]
 mod faults;
 #[cfg(test)]
 mod feeds;
@@ -14,5 +12,7 @@ mod held_workers;
 mod hold_gate;
 #[cfg(test)]
 mod modes;
+#[cfg(test)]
+mod runs;
 #[cfg(test)]
 mod words;

@@ -1,5 +1,5 @@
 //! Runs that end well, one a mode whose work is of another kind, and what they tell beside their output.
-use crate::came::{FIRST_REPORT, ONE_CASE, WHOLE, comes_to};
+use crate::runs::{FIRST_REPORT, NONE_FAILS, ONE_CASE, run_on_words};
 use ccp_base::{MemSink, MemSource};
 use ccp_run::calls::alone;
 use ccp_run::{Alone, Outcome};
@@ -41,8 +41,8 @@ fn begins<R: Threads + Wait + Sync>(
     input: &[u8],
     output: &[u8],
 ) -> Result<bool, Fail> {
-    let came = comes_to(rt, alloc, words, input, WHOLE)?;
-    Ok(came.status == 0 && came.output.as_slice().starts_with(output))
+    let run = run_on_words(rt, alloc, words, input, NONE_FAILS)?;
+    Ok(run.status == 0 && run.output.as_slice().starts_with(output))
 }
 
 #[test]
@@ -112,8 +112,8 @@ const TOLD: [Told; 6] = [
 
 /// Whether a run tells what the row says.
 fn is_told<R: Threads + Wait + Sync>(rt: &R, alloc: Global, row: &Told) -> Result<bool, Fail> {
-    let came = comes_to(rt, alloc, &["ccp", row.mode], row.input, WHOLE)?;
-    Ok(came.status == row.status && came.programs == row.programs && came.ran == row.ran)
+    let run = run_on_words(rt, alloc, &["ccp", row.mode], row.input, NONE_FAILS)?;
+    Ok(run.status == row.status && run.programs == row.programs && run.ran == row.ran)
 }
 
 #[test]

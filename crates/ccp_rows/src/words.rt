@@ -1,5 +1,5 @@
-//! Refused words, and want of memory for words.
-use crate::came::{FIRST_REPORT, WHOLE, Ways, comes_to};
+//! Refused words, and words for which there is no memory.
+use crate::runs::{FIRST_REPORT, FailingCalls, NONE_FAILS, run_on_words};
 use ccp_base::MemSink;
 use ccp_run::Outcome;
 use ccp_run::calls::without_words;
@@ -8,19 +8,19 @@ use std::sync::Wait;
 use std::test::Fail;
 use std::thread::Threads;
 
-/// Calls of which the first read fails.
-const NO_READ: Ways<'static> = Ways {
+/// The first read fails.
+const NO_READ: FailingCalls<'static> = FailingCalls {
     read: &[0],
     write: &[],
-    tell: &[],
+    report: &[],
     most: 4096,
 };
 
-/// Calls of which the first one fails that tells an error.
-const NO_LINE: Ways<'static> = Ways {
+/// The first call that reports an error fails.
+const NO_LINE: FailingCalls<'static> = FailingCalls {
     read: &[],
     write: &[],
-    tell: &[0],
+    report: &[0],
     most: 4096,
 };
 
@@ -31,16 +31,16 @@ const REFUSED: [&[&str]; 4] = [
     &["ccp", "folds"],
 ];
 
-/// Whether the words are refused, and this line is told.
+/// Whether the words are refused, and this line is reported.
 fn are_refused<R: Threads + Wait + Sync>(
     rt: &R,
     alloc: Global,
     given: &[&str],
-    ways: Ways<'_>,
+    calls: FailingCalls<'_>,
     line: &[u8],
 ) -> Result<bool, Fail> {
-    let came = comes_to(rt, alloc, given, FIRST_REPORT, ways)?;
-    Ok(came.is(2, b"", line))
+    let run = run_on_words(rt, alloc, given, FIRST_REPORT, calls)?;
+    Ok(run.is(2, b"", line))
 }
 
 #[test]
@@ -55,25 +55,25 @@ fn refused_words_leave_the_source(rt: HostRuntime) -> Result<(), Fail> {
 }
 
 #[test]
-fn a_status_stays_where_errors_cannot_be_told(rt: HostRuntime) -> Result<(), Fail> {
+fn a_status_stays_if_errors_cannot_be_reported(rt: HostRuntime) -> Result<(), Fail> {
     let given = ["ccp", "fold", "--workers", "33"];
     assert!(rt; are_refused(&rt, rt.alloc(), &given, NO_LINE, b"")?);
     Ok(())
 }
 
-/// Without its clause, which the proof of the test would search.
-fn wanting(alloc: Global, errors: &mut MemSink) -> Outcome {
+/// Ends without memory for the words, without the clause, which the proof of the test would search.
+fn end_without_memory(alloc: Global, errors: &mut MemSink) -> Outcome {
     without_words(alloc, errors)
 }
 
-/// Whether want of memory for the words ends with 6, and is told.
-fn is_wanting(alloc: Global) -> bool {
+/// Whether a run without memory for its words ends with 6 and reports that.
+fn reports_no_memory(alloc: Global) -> bool {
     let mut errors = MemSink::new(alloc, 16, &[]);
-    let outcome = wanting(alloc, &mut errors);
+    let outcome = end_without_memory(alloc, &mut errors);
     outcome.status == 6 && errors.as_slice() == b"ccp: no memory\n".as_slice()
 }
 
 #[test]
-fn want_of_memory_for_the_words_ends_with_6(rt: HostRuntime) {
-    assert!(rt; is_wanting(rt.alloc()));
+fn out_of_memory_for_the_words_ends_with_6(rt: HostRuntime) {
+    assert!(rt; reports_no_memory(rt.alloc()));
 }

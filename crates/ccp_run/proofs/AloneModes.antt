@@ -16,7 +16,7 @@ use Rattle.portus_build.specs.Texts.{IsBuiltFrom, IsNoProgram}
 use Rattle.portus_build.proofs.SettledTexts.{settled_text}
 use Rattle.ccp_words.specs.declared.mode.Alone.{Alone as AloneMode}
 use Rattle.ccp_words.specs.declared.mode.Alone.TheVariants as mode
-use Rattle.ccp_run.specs.Modes.{Alone, IsInput}
+use Rattle.ccp_run.specs.Modes.{Alone, IsInput, rules_of}
 use Rattle.fold_run.specs.AckLine.{AckLine, read_ack_line}
 use Rattle.fold_run.specs.AckLine as said
 use Rattle.fold_run.specs.declared.acks.LineFault.{LineFault}
@@ -31,10 +31,10 @@ use Rattle.feed_core.specs.FeedEnds.{end_from, feed_end}
 use Rattle.ccp_run.specs.declared.refusal.Limit.TheVariants.{Input, Audit}
 use Rattle.ccp_run.specs.declared.refusal.Refusal.{Refusal}
 use Rattle.ccp_run.specs.declared.refusal.Refusal.TheVariants.{TooLong, NoSeparator, Program, Line, TooManyAcks, Scene as SceneRefused, Frame, FrameCut}
-use Rattle.ccp_run.specs.Check.{IsNoCheck}
-use Rattle.ccp_run.specs.FeedRuns.{IsNoFeed}
-use Rattle.ccp_run.specs.Fold.{acks_below, IsFold, HasNoProgram, HasBadLines, IsNoFold}
-use Rattle.ccp_run.specs.AuditRuns.{IsAudit, HasLongScenario, HasNoScenario, IsNoAudit}
+use Rattle.ccp_run.specs.Check.{IsProgramText, IsCheckOutput, IsNoCheck}
+use Rattle.ccp_run.specs.FeedRuns.{IsNoFeed, feed_rules}
+use Rattle.ccp_run.specs.Fold.{acks_below, IsFold, IsFoldInput, IsFoldOutput, HasNoProgram, HasBadLines, IsNoFold}
+use Rattle.ccp_run.specs.AuditRuns.{IsAudit, IsAuditInput, IsAuditOutput, HasLongScenario, HasNoScenario, IsNoAudit}
 use Rattle.ccp_run.specs.ErrorLine.{most_bytes}
 use Rattle.ccp_run.specs.Scenes.{Says, HasFault, IsNoScenario}
 use Rattle.ccp_run.specs.Settled.{IsSettled}
@@ -325,7 +325,7 @@ settled_audit bytes = record {
 
 -- ---- the table
 
-feed_mode : IsMode (Alone mode.Feed)
+feed_mode : IsMode feed_rules
 feed_mode = record {
   settled = settled_feed;
   begins = no-answers;
@@ -333,8 +333,8 @@ feed_mode = record {
   unread = λ unread bytes refusal refused. no_both unread;
 }
 
-pub alone_mode : (alone : AloneMode) → IsMode (Alone alone)
-alone_mode mode.Check = reads_to_end (Alone mode.Check) settled_check refl refl (λ bytes. (refl, tt))
-alone_mode mode.Fold = reads_to_end (Alone mode.Fold) settled_fold refl refl (λ bytes. (refl, tt))
+pub alone_mode : (alone : AloneMode) → IsMode (rules_of (Alone alone))
+alone_mode mode.Check = reads_to_end Input IsProgramText IsCheckOutput IsNoCheck settled_check
+alone_mode mode.Fold = reads_to_end Input IsFoldInput IsFoldOutput IsNoFold settled_fold
 alone_mode mode.Feed = feed_mode
-alone_mode mode.Audit = reads_to_end (Alone mode.Audit) settled_audit refl refl (λ bytes. (refl, tt))
+alone_mode mode.Audit = reads_to_end Audit IsAuditInput IsAuditOutput IsNoAudit settled_audit

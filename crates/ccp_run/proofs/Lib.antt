@@ -4,7 +4,7 @@ mod ModeLaws
 mod ScenarioInputs
 mod AloneModes
 mod WorkerModes
-mod RunLemmas
+pub mod RunLemmas
 mod FeedRunLemmas
 mod CompleteRuns
 pub mod ReadLemmas

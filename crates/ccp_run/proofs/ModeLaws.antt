@@ -1,27 +1,29 @@
 -- What the theorem asks of each mode's rules, which a mode that reads its input to the end mostly has at once.
-use Rattle.std.proofs.Common.{◌≡◌, ◌∙◌, sym, true, false, List, ℕ, []}
+use Rattle.std.proofs.Common.{◌≡◌, refl, true, false, List, ℕ, []}
+use Rattle.ccp_run.specs.declared.outcome.ModeOutput.{ModeOutput}
+use Rattle.ccp_run.specs.declared.refusal.Limit.{Limit}
 use Rattle.ccp_run.specs.declared.refusal.Refusal.{Refusal}
-use Rattle.ccp_run.specs.Modes.{Task, is_read, is_stream, answers_before, GoesOn, IsInputRefusal}
-use Rattle.ccp_run.specs.Settled.{IsSettled}
+use Rattle.ccp_run.specs.Rules.{Rules, reads_whole}
+use Rattle.ccp_run.specs.Settled.{IsSettledBy}
 
-pub record IsMode (task : Task) : Type 0 where
-  pub settled : (bytes : List ℕ) → IsSettled task bytes
+pub record IsMode (rules : Rules) : Type 0 where
+  pub settled : (bytes : List ℕ) → IsSettledBy rules bytes
   -- no bytes have no answers
-  pub begins : answers_before task [] ≡ []
+  pub begins : rules.answers_before [] ≡ []
   -- a mode that isn't a stream answers and refuses nothing before its input's end
-  pub plain : is_stream task ≡ false → (bytes : List ℕ) → (answers_before task bytes ≡ []) × GoesOn task bytes
+  pub plain : rules.is_stream ≡ false → (bytes : List ℕ) → (rules.answers_before bytes ≡ []) × rules.GoesOn bytes
   -- a mode that doesn't read its source refuses nothing
-  pub unread : is_read task ≡ false → (bytes : List ℕ) (refusal : Refusal) → IsInputRefusal task bytes refusal → ⊥
+  pub unread : rules.is_read ≡ false → (bytes : List ℕ) (refusal : Refusal) → rules.IsRefused bytes refusal → ⊥
 
 pub no_both : {A : Type 0} → true ≡ false → A
 no_both e = let bad : ⊥ = cc in absurd bad
 
 -- a mode that reads its input to the end and then writes
-pub reads_to_end : (task : Task) → ((bytes : List ℕ) → IsSettled task bytes) → is_read task ≡ true → answers_before task [] ≡ []
-    → ((bytes : List ℕ) → (answers_before task bytes ≡ []) × GoesOn task bytes) → IsMode task
-reads_to_end task settled reads begins plain = record {
-  settled = settled;
-  begins = begins;
-  plain = λ _. plain;
-  unread = λ not bytes refusal bad. no_both (sym reads ∙ not);
-}
+module _ (most : Limit) (inputs : List ℕ → Type 0) (made : List ℕ → ModeOutput → Type 0) (refused : List ℕ → Refusal → Type 0) where
+  pub reads_to_end : ((bytes : List ℕ) → IsSettledBy (reads_whole most inputs made refused) bytes) → IsMode (reads_whole most inputs made refused)
+  reads_to_end settled = record {
+    settled = settled;
+    begins = refl;
+    plain = λ _ bytes. (refl, tt);
+    unread = λ not bytes refusal bad. no_both not;
+  }

@@ -1,5 +1,5 @@
 -- The tasks that the tool can be given, and the rules of each task's mode.
-use Rattle.std.specs.Prelude.{ℕ, Bool, true, false, List}
+use Rattle.std.specs.Prelude.{ℕ, Bool, List}
 use Rattle.ccp_words.specs.declared.mode.Alone.{Alone as AloneMode}
 use Rattle.ccp_words.specs.declared.mode.Alone.TheVariants.{Check, Fold, Feed, Audit}
 use Rattle.ccp_words.specs.declared.mode.ToolMode.{ToolMode}
@@ -36,11 +36,6 @@ pub data Task : Type 0 where
   -- whether the programs' Install frames are shown
   Timeline : Bool → Task
   Acks : Task
-
--- the mode's work is done by its caller alone
-abbrev pub is_alone : ToolMode → Bool
-is_alone (mode.Alone alone) = true
-is_alone _ = false
 
 -- what this mode is to do, with these options
 abbrev pub task_in : ToolMode → Asked → Task

@@ -2,14 +2,18 @@
 use Rattle.std.specs.Prelude.{◌≡◌, ◌⊎◌, List, ℕ}
 use Rattle.ccp_run.specs.declared.outcome.ModeOutput.{ModeOutput}
 use Rattle.ccp_run.specs.declared.refusal.Refusal.{Refusal}
-use Rattle.ccp_run.specs.Modes.{Task, IsInput, IsMade, IsInputRefusal}
+use Rattle.ccp_run.specs.Modes.{Task, rules_of}
+use Rattle.ccp_run.specs.Rules.{Rules}
 
-pub record IsSettled (task : Task) (bytes : List ℕ) : Type 0 where
-  pub some : IsInput task bytes ⊎ ((refusal : Refusal) × IsInputRefusal task bytes refusal)
-  pub apart : (refusal : Refusal) → IsInput task bytes → IsInputRefusal task bytes refusal → ⊥
-  pub one_refusal : (left right : Refusal) → IsInputRefusal task bytes left → IsInputRefusal task bytes right → left ≡ right
+pub record IsSettledBy (rules : Rules) (bytes : List ℕ) : Type 0 where
+  pub some : rules.IsInput bytes ⊎ ((refusal : Refusal) × rules.IsRefused bytes refusal)
+  pub apart : (refusal : Refusal) → rules.IsInput bytes → rules.IsRefused bytes refusal → ⊥
+  pub one_refusal : (left right : Refusal) → rules.IsRefused bytes left → rules.IsRefused bytes right → left ≡ right
   -- what is made of bytes is made of an input
-  pub made : (output : ModeOutput) → IsMade task bytes output → IsInput task bytes
+  pub made : (output : ModeOutput) → rules.IsMade bytes output → rules.IsInput bytes
+
+abbrev pub IsSettled : Task → List ℕ → Type 0
+IsSettled task bytes = IsSettledBy (rules_of task) bytes
 
 -- every input of every mode
 abbrev pub AreSettled : Type 0

@@ -7,7 +7,7 @@ ghost use Rattle.ccp_run.specs.Statuses.{memory_line, words_line};
 ghost use Rattle.ccp_run.specs.Streams.{over};
 
 use crate::ending::end_without;
-use crate::modes::alone_run;
+use crate::modes::run_alone;
 use crate::outcome::Outcome;
 use crate::status::{MEMORY_LINE, Status, WORDS_LINE};
 use ccp_base::{Sink, Source};
@@ -29,7 +29,7 @@ pub fn alone<S: Source, K: Sink, E: Sink>(
         (over K.written K.faults sink.old sink.new)
         (over E.written E.faults errors.old errors.new) (K.is_finished sink.new) result }
 {
-    alone_run(alloc, mode, source, sink, errors)
+    run_alone(alloc, mode, source, sink, errors)
 }
 
 /// Ends if the words aren't text: reports that they are refused.

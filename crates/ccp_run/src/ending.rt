@@ -7,9 +7,7 @@ use crate::outcome::{ModeOutput, Outcome};
 use crate::refusal::{Refusal, refusal_line};
 use crate::status::{MEMORY_LINE, READ_LINE, Status, WRITE_LINE};
 use crate::stop::Stop;
-use agent_loop::Books;
 use ccp_base::{NoMemory, Sink, write_all};
-use reg_compiler::Builts;
 use std::alloc::Global;
 
 /// Writes the output, or reports why there is none.
@@ -71,10 +69,5 @@ pub fn end_without<E: Sink>(alloc: Global, errors: &mut E, status: Status, line:
     ensures { Ends (over E.written E.faults errors.old errors.new) result status line.now }
 {
     let _ = write_all(errors, line);
-    Outcome {
-        status: status.number(),
-        books: Books::new(alloc),
-        programs: Builts::new(alloc),
-        ran: 0,
-    }
+    Outcome::empty(alloc, status)
 }

@@ -1,7 +1,12 @@
 //! What a mode makes of its input, and what a run gives its caller: text, status, books and programs.
+ghost use Rattle.std.specs.Prelude.{◌≡◌, []};
+ghost use Rattle.ccp_run.specs.Statuses.{status_number};
+
+use crate::status::Status;
 use agent_loop::Books;
 use ccp_base::Bytes;
 use reg_compiler::Builts;
+use std::alloc::Global;
 
 /// What a mode makes of its input.
 #[derive(Drop)]
@@ -16,6 +21,33 @@ pub struct ModeOutput {
     pub ran: u64,
 }
 
+impl ModeOutput {
+    /// A text, without a book, a program or an instruction.
+    pub(crate) fn text(alloc: Global, text: Bytes) -> ModeOutput
+        ensures text { result.text ≡ text }
+        ensures books { result.books ≡ [] }
+        ensures programs { result.programs ≡ [] }
+        ensures ran { result.ran ≡ 0 }
+    {
+        ModeOutput::with_programs(alloc, text, Builts::new(alloc))
+    }
+
+    /// A text and programs, without a book or an instruction.
+    pub(crate) fn with_programs(alloc: Global, text: Bytes, programs: Builts) -> ModeOutput
+        ensures text { result.text ≡ text }
+        ensures books { result.books ≡ [] }
+        ensures programs { result.programs ≡ programs }
+        ensures ran { result.ran ≡ 0 }
+    {
+        ModeOutput {
+            text,
+            books: Books::new(alloc),
+            programs,
+            ran: 0,
+        }
+    }
+}
+
 /// How a run ended, and what it made.
 #[derive(Drop)]
 pub struct Outcome {
@@ -27,4 +59,21 @@ pub struct Outcome {
     pub programs: Builts,
     /// At status 0 that of the mode's output, else 0.
     pub ran: u64,
+}
+
+impl Outcome {
+    /// The end of a run with this status that keeps nothing.
+    pub(crate) fn empty(alloc: Global, status: Status) -> Outcome
+        ensures status { result.status ≡ status_number status }
+        ensures books { result.books ≡ [] }
+        ensures programs { result.programs ≡ [] }
+        ensures ran { result.ran ≡ 0 }
+    {
+        Outcome {
+            status: status.number(),
+            books: Books::new(alloc),
+            programs: Builts::new(alloc),
+            ran: 0,
+        }
+    }
 }

@@ -4,7 +4,7 @@ ghost use Rattle.ccp_run.specs.Streams.{over};
 ghost use Rattle.ccp_run.specs.Tool.{DoesWords};
 
 use crate::ending::end_without;
-use crate::modes::asked_run;
+use crate::modes::run_asked;
 use crate::outcome::Outcome;
 use crate::status::{MEMORY_LINE, Status, WORDS_LINE};
 use ccp_base::{Gate, Sink, Source};
@@ -30,7 +30,7 @@ pub fn run<R: Threads + Wait + Sync, S: Source, K: Sink, E: Sink, G: Gate + Sync
         (over E.written E.faults errors.old errors.new) (K.is_finished sink.new) result }
 {
     match read_words(alloc, &words) {
-        Ok(asked) => asked_run(rt, alloc, asked, source, sink, errors, gate),
+        Ok(asked) => run_asked(rt, alloc, asked, source, sink, errors, gate),
         Err(Unasked::Refused) => end_without(alloc, errors, Status::WordsRefused, WORDS_LINE),
         Err(Unasked::NoMemory) => end_without(alloc, errors, Status::NoMemory, MEMORY_LINE),
     }

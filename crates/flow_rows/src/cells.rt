@@ -1,7 +1,8 @@
 //! Flows with their links.
 use crate::scenes::{COUNTING, RENO, VOLATILE, cell};
 use crate::turns::{
-    Shown, completes, has_number, hears, is_out, is_stale, refuses, settles_nothing, shows, take,
+    Shown, assert_ack, assert_complete, assert_number, assert_out, assert_refused,
+    assert_settles_nothing, assert_shows, assert_stale, take,
 };
 use flow_core::{Cell, Ended, TakeFault};
 use fold_machine::Acked;
@@ -11,36 +12,36 @@ use std::test::Fail;
 
 /// The four acknowledgements result in one report, and no fifth one is taken.
 fn reports_once(rt: &impl Abort, cell: &mut Cell) {
-    hears(rt, cell, Ok(Acked::Quiet));
-    hears(rt, cell, Ok(Acked::Quiet));
-    hears(rt, cell, Ok(Acked::Quiet));
-    hears(rt, cell, Ok(Acked::Reported));
-    hears(rt, cell, Err(Ended));
+    assert_ack(rt, cell, Ok(Acked::Quiet));
+    assert_ack(rt, cell, Ok(Acked::Quiet));
+    assert_ack(rt, cell, Ok(Acked::Quiet));
+    assert_ack(rt, cell, Ok(Acked::Reported));
+    assert_ack(rt, cell, Err(Ended));
 }
 
 /// One ticket is out at a time, and its answer is applied once.
 fn settles_once(rt: &impl Abort, alloc: Global, cell: &mut Cell) -> Result<(), Fail> {
     let ticket = take(alloc, cell)?;
-    has_number(rt, &ticket, 0);
-    is_out(rt, cell, &ticket);
-    refuses(rt, alloc, cell, TakeFault::Out(0));
-    settles_nothing(rt, cell, &ticket);
-    is_stale(rt, cell, &ticket);
+    assert_number(rt, &ticket, 0);
+    assert_out(rt, cell, &ticket);
+    assert_refused(rt, alloc, cell, TakeFault::Out(0));
+    assert_settles_nothing(rt, cell, &ticket);
+    assert_stale(rt, cell, &ticket);
     Ok(())
 }
 
 /// The flow isn't complete.
-fn is_open(rt: &impl Abort, cell: &Cell) {
+fn assert_open(rt: &impl Abort, cell: &Cell) {
     assert!(rt; !cell.is_complete());
 }
 
 /// Before the first report there is nothing to take, and after its answer the flow is complete.
 fn reports_and_completes(rt: &impl Abort, alloc: Global, cell: &mut Cell) -> Result<(), Fail> {
-    refuses(rt, alloc, cell, TakeFault::NotYet);
+    assert_refused(rt, alloc, cell, TakeFault::NotYet);
     reports_once(rt, cell);
-    is_open(rt, cell);
+    assert_open(rt, cell);
     settles_once(rt, alloc, cell)?;
-    completes(rt, cell);
+    assert_complete(rt, cell);
     Ok(())
 }
 
@@ -69,14 +70,14 @@ fn span(first: u64, end: u64, value: u64) -> Shown {
 
 /// The second report is held, and the third one has the span of both.
 fn holds(rt: &impl Abort, alloc: Global, cell: &mut Cell, value: u64) -> Result<(), Fail> {
-    hears(rt, cell, Ok(Acked::Reported));
-    hears(rt, cell, Ok(Acked::Held));
+    assert_ack(rt, cell, Ok(Acked::Reported));
+    assert_ack(rt, cell, Ok(Acked::Held));
     let earlier = take(alloc, cell)?;
-    hears(rt, cell, Ok(Acked::Reported));
-    shows(rt, &earlier, span(0, 1, 1));
-    settles_nothing(rt, cell, &earlier);
+    assert_ack(rt, cell, Ok(Acked::Reported));
+    assert_shows(rt, &earlier, span(0, 1, 1));
+    assert_settles_nothing(rt, cell, &earlier);
     let later = take(alloc, cell)?;
-    shows(rt, &later, span(1, 3, value));
+    assert_shows(rt, &later, span(1, 3, value));
     Ok(())
 }
 

@@ -2,7 +2,9 @@
 ghost use Rattle.flow_core.specs.Cells.{IsComplete};
 
 use crate::scenes::{LOSING, case, cell};
-use crate::turns::{Shown, completes, hears, settles, settles_nothing, shows, take};
+use crate::turns::{
+    Shown, assert_ack, assert_complete, assert_settles, assert_settles_nothing, assert_shows, take,
+};
 use agent_core::calls::answer;
 use agent_core::{Answer, Ticket};
 use ccp_base::Reply;
@@ -33,20 +35,20 @@ fn change_of(reply: &Reply) -> Option<(u32, u64)> {
 }
 
 /// The reply is the change.
-fn is_change(rt: &impl Abort, reply: &Reply) {
+fn assert_change(rt: &impl Abort, reply: &Reply) {
     assert_eq!(rt; change_of(reply), Some((3, 2896)));
 }
 
 /// The frame is that of the change.
-fn has_frame(rt: &impl Abort, answer: &Answer) {
+fn assert_frame(rt: &impl Abort, answer: &Answer) {
     assert_eq!(rt; answer.frame(), CHANGE.as_slice());
 }
 
 /// The answer to a ticket is the change.
-fn answers_change(rt: &impl Abort, ticket: &Ticket) {
+fn assert_answers_change(rt: &impl Abort, ticket: &Ticket) {
     let answer = answer(*ticket);
-    is_change(rt, &answer.reply());
-    has_frame(rt, &answer);
+    assert_change(rt, &answer.reply());
+    assert_frame(rt, &answer);
 }
 
 /// What a report of this epoch shows, of one acknowledgement.
@@ -61,29 +63,29 @@ fn loss(epoch: u32, first: u64, end: u64) -> Shown {
 
 /// The first of two reports is answered by a change.
 fn changes(rt: &impl Abort, alloc: Global, cell: &mut Cell) -> Result<(), Fail> {
-    hears(rt, cell, Ok(Acked::Reported));
-    hears(rt, cell, Ok(Acked::Reported));
+    assert_ack(rt, cell, Ok(Acked::Reported));
+    assert_ack(rt, cell, Ok(Acked::Reported));
     let ticket = take(alloc, cell)?;
-    shows(rt, &ticket, loss(0, 0, 1));
-    answers_change(rt, &ticket);
-    settles(rt, cell, &ticket);
+    assert_shows(rt, &ticket, loss(0, 0, 1));
+    assert_answers_change(rt, &ticket);
+    assert_settles(rt, cell, &ticket);
     Ok(())
 }
 
 /// The second report keeps its epoch, which has ended, so nothing is answered to it.
 fn tells_the_waiting_one(rt: &impl Abort, alloc: Global, cell: &mut Cell) -> Result<(), Fail> {
     let ticket = take(alloc, cell)?;
-    shows(rt, &ticket, loss(0, 1, 2));
-    settles_nothing(rt, cell, &ticket);
+    assert_shows(rt, &ticket, loss(0, 1, 2));
+    assert_settles_nothing(rt, cell, &ticket);
     Ok(())
 }
 
 /// The third acknowledgement is reported of the new epoch.
 fn reports_anew(rt: &impl Abort, alloc: Global, cell: &mut Cell) -> Result<(), Fail> {
-    hears(rt, cell, Ok(Acked::Reported));
+    assert_ack(rt, cell, Ok(Acked::Reported));
     let ticket = take(alloc, cell)?;
-    shows(rt, &ticket, loss(1, 2, 3));
-    settles(rt, cell, &ticket);
+    assert_shows(rt, &ticket, loss(1, 2, 3));
+    assert_settles(rt, cell, &ticket);
     Ok(())
 }
 
@@ -122,7 +124,7 @@ fn second_epoch(cell: Cell) -> Option<EpochLine>
 
 /// The flow is complete, and its second epoch is that of the change.
 fn ends(rt: &impl Abort, cell: Cell) {
-    completes(rt, &cell);
+    assert_complete(rt, &cell);
     assert_eq!(rt; second_epoch(cell), Some(SECOND));
 }
 

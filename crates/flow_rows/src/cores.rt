@@ -21,11 +21,11 @@ fn next(core: &mut Core) -> Result<Acked, Ended> {
         rtt_sample_us: 5,
         ..Ack::default()
     };
-    counted::<Brand>(core, &ack, Blank::new(1))
+    take_ack::<Brand>(core, &ack, Blank::new(1))
 }
 
-/// The same, where a ledger of one part counts the steps.
-fn counted<L: Ledger>(core: &mut Core, ack: &Ack, blank: Blank) -> Result<Acked, Ended>
+/// The same. The ledger of the blank counts the instructions.
+fn take_ack<L: Ledger>(core: &mut Core, ack: &Ack, blank: Blank) -> Result<Acked, Ended>
     requires name { blank.name ≡ L.name }
     requires parts { blank.parts ≡ L.parts }
     requires some { 0 < blank.parts }
@@ -35,7 +35,7 @@ fn counted<L: Ledger>(core: &mut Core, ack: &Ack, blank: Blank) -> Result<Acked,
 }
 
 /// Asserts the outcome of that acknowledgement.
-fn hears(rt: &impl Abort, core: &mut Core, want: Result<Acked, Ended>) {
+fn assert_ack(rt: &impl Abort, core: &mut Core, want: Result<Acked, Ended>) {
     assert_eq!(rt; next(core), want);
 }
 
@@ -48,20 +48,20 @@ fn refusal(alloc: Global, core: &mut Core) -> Option<TakeFault> {
 }
 
 /// No ticket is taken, for this reason.
-fn refuses(rt: &impl Abort, alloc: Global, core: &mut Core, want: TakeFault) {
+fn assert_refused(rt: &impl Abort, alloc: Global, core: &mut Core, want: TakeFault) {
     assert_eq!(rt; refusal(alloc, core), Some(want));
 }
 
 /// Asserts the window in bytes.
-fn has_window(rt: &impl Abort, core: &Core, bytes: u64) {
+fn assert_window(rt: &impl Abort, core: &Core, bytes: u64) {
     assert_eq!(rt; core.cwnd(), bytes);
 }
 
 /// The acknowledgement makes no report, and the window is wider by it.
 fn widens(rt: &impl Abort, alloc: Global, core: &mut Core) {
-    hears(rt, core, Ok(Acked::Quiet));
-    has_window(rt, core, 5792);
-    refuses(rt, alloc, core, TakeFault::NotYet);
+    assert_ack(rt, core, Ok(Acked::Quiet));
+    assert_window(rt, core, 5792);
+    assert_refused(rt, alloc, core, TakeFault::NotYet);
 }
 
 /// A flow is widened so, and is dropped then.
@@ -81,12 +81,12 @@ fn an_acknowledgement_widens_the_window(rt: HostRuntime) -> Result<(), Fail> {
 fn takes_none(rt: &impl Abort, core: &mut Core)
     ensures { is_still (world_in core.new) ≡ true }
 {
-    hears(rt, core, Err(Ended));
-    stands_still(rt, core);
+    assert_ack(rt, core, Err(Ended));
+    assert_still(rt, core);
 }
 
 /// Nothing is left to take, and no ticket is out.
-fn stands_still(rt: &impl Abort, core: &Core)
+fn assert_still(rt: &impl Abort, core: &Core)
     ensures { is_still (world_in core.now) ≡ true }
 {
     assert!(rt; core.is_still());
@@ -108,7 +108,7 @@ fn letters(core: Core) -> usize
 }
 
 /// The flow made no letter. Nothing may be left to take, and no ticket may be out.
-fn has_no_letter(rt: &impl Abort, core: Core)
+fn assert_no_letter(rt: &impl Abort, core: Core)
     requires { is_still (world_in core) ≡ true }
 {
     assert_eq!(rt; letters(core), 0);
@@ -117,7 +117,7 @@ fn has_no_letter(rt: &impl Abort, core: Core)
 /// The flow takes no acknowledgement, and made no letter.
 fn flow_takes_none(rt: &impl Abort, mut core: Core) {
     takes_none(rt, &mut core);
-    has_no_letter(rt, core);
+    assert_no_letter(rt, core);
 }
 
 #[test]

@@ -25,11 +25,11 @@ pub(crate) struct Shown {
 
 /// The outcome of the cell's next acknowledgement.
 fn next(cell: &mut Cell) -> Result<Acked, Ended> {
-    counted::<Brand>(cell, Blank::new(1))
+    take_ack::<Brand>(cell, Blank::new(1))
 }
 
-/// The same, where a ledger of one part counts the steps.
-fn counted<L: Ledger>(cell: &mut Cell, blank: Blank) -> Result<Acked, Ended>
+/// The same. The ledger of the blank counts the instructions.
+fn take_ack<L: Ledger>(cell: &mut Cell, blank: Blank) -> Result<Acked, Ended>
     requires name { blank.name ≡ L.name }
     requires parts { blank.parts ≡ L.parts }
     requires some { 0 < blank.parts }
@@ -39,7 +39,7 @@ fn counted<L: Ledger>(cell: &mut Cell, blank: Blank) -> Result<Acked, Ended>
 }
 
 /// Asserts the outcome of the cell's next acknowledgement.
-pub(crate) fn hears(rt: &impl Abort, cell: &mut Cell, want: Result<Acked, Ended>) {
+pub(crate) fn assert_ack(rt: &impl Abort, cell: &mut Cell, want: Result<Acked, Ended>) {
     assert_eq!(rt; next(cell), want);
 }
 
@@ -57,12 +57,12 @@ fn refusal(alloc: Global, cell: &mut Cell) -> Option<TakeFault> {
 }
 
 /// No ticket is taken, for this reason.
-pub(crate) fn refuses(rt: &impl Abort, alloc: Global, cell: &mut Cell, want: TakeFault) {
+pub(crate) fn assert_refused(rt: &impl Abort, alloc: Global, cell: &mut Cell, want: TakeFault) {
     assert_eq!(rt; refusal(alloc, cell), Some(want));
 }
 
 /// The flow is complete.
-pub(crate) fn completes(rt: &impl Abort, cell: &Cell)
+pub(crate) fn assert_complete(rt: &impl Abort, cell: &Cell)
     ensures { IsComplete cell.now }
 {
     assert!(rt; cell.is_complete());
@@ -77,12 +77,12 @@ fn is_the_one_out(cell: &Cell, ticket: &Ticket) -> bool {
 }
 
 /// The ticket is out.
-pub(crate) fn is_out(rt: &impl Abort, cell: &Cell, ticket: &Ticket) {
+pub(crate) fn assert_out(rt: &impl Abort, cell: &Cell, ticket: &Ticket) {
     assert!(rt; is_the_one_out(cell, ticket));
 }
 
 /// The ticket has this number.
-pub(crate) fn has_number(rt: &impl Abort, ticket: &Ticket, number: u32) {
+pub(crate) fn assert_number(rt: &impl Abort, ticket: &Ticket, number: u32) {
     assert_eq!(rt; ticket.number, number);
 }
 
@@ -97,12 +97,12 @@ fn settle(cell: &mut Cell, ticket: &Ticket) -> Option<Reply> {
 }
 
 /// The answer to a ticket is applied.
-pub(crate) fn settles(rt: &impl Abort, cell: &mut Cell, ticket: &Ticket) {
+pub(crate) fn assert_settles(rt: &impl Abort, cell: &mut Cell, ticket: &Ticket) {
     assert!(rt; settle(cell, ticket).is_some());
 }
 
 /// The answer to a ticket is applied, and changes nothing.
-pub(crate) fn settles_nothing(rt: &impl Abort, cell: &mut Cell, ticket: &Ticket) {
+pub(crate) fn assert_settles_nothing(rt: &impl Abort, cell: &mut Cell, ticket: &Ticket) {
     assert_eq!(rt; settle(cell, ticket), Some(Reply::Nothing));
 }
 
@@ -115,7 +115,7 @@ fn stale(cell: &mut Cell, ticket: &Ticket) -> Option<Option<u32>> {
 }
 
 /// The answer to a ticket is refused, and no ticket is out.
-pub(crate) fn is_stale(rt: &impl Abort, cell: &mut Cell, ticket: &Ticket) {
+pub(crate) fn assert_stale(rt: &impl Abort, cell: &mut Cell, ticket: &Ticket) {
     assert_eq!(rt; stale(cell, ticket), Some(None));
 }
 
@@ -137,6 +137,6 @@ fn shown_by(ticket: &Ticket) -> Option<Shown> {
 }
 
 /// A ticket shows this of its report.
-pub(crate) fn shows(rt: &impl Abort, ticket: &Ticket, want: Shown) {
+pub(crate) fn assert_shows(rt: &impl Abort, ticket: &Ticket, want: Shown) {
     assert_eq!(rt; shown_by(ticket), Some(want));
 }

@@ -14,7 +14,6 @@ use crate::reading::read_bytes;
 use crate::refusal::Limit;
 use crate::scene::scene;
 use crate::stop::Stop;
-use agent_loop::Books;
 use campaign_gate::calls::acks;
 use campaign_report::acks_text;
 use ccp_base::{Gate, NoMemory, Source, Workers};
@@ -71,10 +70,6 @@ fn run_acks<R: Threads + Wait + Sync, G: Gate + Sync>(
 {
     let agents = agents(alloc, scene.cases.as_slice())?;
     let acks = acks(rt, alloc, scene.cases, workers, gate)?;
-    Ok(ModeOutput {
-        text: acks_text(alloc, &scene.names, &agents, &acks)?,
-        books: Books::new(alloc),
-        programs: scene.programs,
-        ran: 0,
-    })
+    let text = acks_text(alloc, &scene.names, &agents, &acks)?;
+    Ok(ModeOutput::with_programs(alloc, text, scene.programs))
 }

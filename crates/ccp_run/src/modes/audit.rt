@@ -5,26 +5,35 @@ ghost use Rattle.ccp_base.specs.Limits.{most_flows};
 ghost use Rattle.scenario_json.specs.Cases.{IsCoded, AreNumberedFrom};
 ghost use Rattle.scenario_json.specs.ScenePrograms.{forms_of};
 ghost use Rattle.run_audit.specs.Audit.{IsVerdict};
-ghost use Rattle.ccp_run.specs.Attempts.{IsOutputOrRefusal};
+ghost use Rattle.ccp_run.specs.Attempts.{IsOutputOrRefusal, IsAttempt};
 ghost use Rattle.ccp_run.specs.AuditRuns.{verdict_text};
+ghost use Rattle.ccp_run.specs.Streams.{over};
 ghost use Rattle.ccp_run.specs.Modes.{Task};
 
 use crate::outcome::ModeOutput;
+use crate::reading::read_bytes;
 use crate::refusal::{Limit, Refusal};
 use crate::scene::scene;
 use crate::stop::Stop;
-use agent_loop::Books;
-use ccp_base::{Bytes, NoMemory};
+use ccp_base::{Bytes, NoMemory, Source};
 use ccp_words::Alone;
 use fold_run::separate;
-use reg_compiler::Builts;
 use run_audit::{Verdict, audit};
 use scenario_json::{Scenario, SceneMode};
 use std::alloc::Global;
 
+/// Reads a scenario and a text below it, and makes the verdict on the text.
+#[tactic(auto, using(crate::proofs::ReadLemmas::not_read, crate::proofs::ReadLemmas::answered))]
+pub fn read_audit<S: Source>(alloc: Global, source: &mut S) -> Result<ModeOutput, Stop>
+    ensures { IsAttempt (Task.Alone Alone.Audit) (over S.remaining S.faults source.old source.new) result }
+{
+    let bytes = read_bytes(alloc, Limit::Audit, source)?;
+    audit_output(alloc, bytes.as_slice())
+}
+
 /// What is said of the text below the separator as the live text of the scenario above it, or the first refusal: of the
 /// separator, of the length before it, of the scenario.
-pub fn audit_output(alloc: Global, bytes: &[u8]) -> Result<ModeOutput, Stop>
+fn audit_output(alloc: Global, bytes: &[u8]) -> Result<ModeOutput, Stop>
     ensures { IsOutputOrRefusal (Task.Alone Alone.Audit) bytes.now result }
 {
     let Some(cut) = separate(bytes) else {
@@ -57,12 +66,7 @@ fn verdict_output(alloc: Global, verdict: Verdict) -> Result<ModeOutput, NoMemor
 {
     let mut text = Bytes::new(alloc);
     put_verdict(alloc, &mut text, verdict)?;
-    Ok(ModeOutput {
-        text,
-        books: Books::new(alloc),
-        programs: Builts::new(alloc),
-        ran: 0,
-    })
+    Ok(ModeOutput::text(alloc, text))
 }
 
 fn put_verdict(alloc: Global, text: &mut Bytes, verdict: Verdict) -> Result<(), NoMemory>

@@ -16,7 +16,6 @@ use crate::reading::read_bytes;
 use crate::refusal::Limit;
 use crate::scene::scene;
 use crate::stop::Stop;
-use agent_loop::Books;
 use campaign_gate::Rows;
 use campaign_gate::calls::rows;
 use campaign_report::{Agents, table_text};
@@ -79,12 +78,8 @@ fn run_campaign<R: Threads + Wait + Sync, G: Gate + Sync>(
 {
     let agents = agents(alloc, scene.cases.as_slice())?;
     let rows = rows(rt, alloc, scene.cases, workers, gate)?;
-    Ok(ModeOutput {
-        text: rows_text(alloc, wire, &scene.programs, &scene.names, &agents, &rows)?,
-        books: Books::new(alloc),
-        programs: scene.programs,
-        ran: 0,
-    })
+    let text = rows_text(alloc, wire, &scene.programs, &scene.names, &agents, &rows)?;
+    Ok(ModeOutput::with_programs(alloc, text, scene.programs))
 }
 
 /// The table of rows, after the programs' frames where they are asked for.

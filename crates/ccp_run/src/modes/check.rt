@@ -1,26 +1,34 @@
 //! The mode `check`: the summary and the listing of a program, or its refusal.
 ghost use Rattle.std.specs.Prelude.{◌≡◌};
-ghost use Rattle.ccp_run.specs.Attempts.{IsOutputOrRefusal};
+ghost use Rattle.ccp_run.specs.Attempts.{IsOutputOrRefusal, IsAttempt};
+ghost use Rattle.ccp_run.specs.Streams.{over};
 ghost use Rattle.ccp_run.specs.Modes.{Task};
 
 use crate::outcome::ModeOutput;
 use crate::program::{numbered_zero, program};
+use crate::reading::read_bytes;
+use crate::refusal::Limit;
 use crate::stop::Stop;
-use agent_loop::Books;
 use campaign_report::check_text;
+use ccp_base::Source;
 use ccp_words::Alone;
 use std::alloc::Global;
 
+/// Reads a program's text, and makes its summary and its listing.
+#[tactic(auto, using(crate::proofs::ReadLemmas::not_read, crate::proofs::ReadLemmas::answered))]
+pub fn read_check<S: Source>(alloc: Global, source: &mut S) -> Result<ModeOutput, Stop>
+    ensures { IsAttempt (Task.Alone Alone.Check) (over S.remaining S.faults source.old source.new) result }
+{
+    let bytes = read_bytes(alloc, Limit::Input, source)?;
+    check_output(alloc, bytes.as_slice())
+}
+
 /// The summary and the listing of the program that the bytes stand for, or its refusal.
-pub fn check_output(alloc: Global, bytes: &[u8]) -> Result<ModeOutput, Stop>
+fn check_output(alloc: Global, bytes: &[u8]) -> Result<ModeOutput, Stop>
     ensures { IsOutputOrRefusal (Task.Alone Alone.Check) bytes.now result }
 {
     let built = program(alloc, bytes)?;
     let text = check_text(alloc, &built)?;
-    Ok(ModeOutput {
-        text,
-        books: Books::new(alloc),
-        programs: numbered_zero(alloc, built)?,
-        ran: 0,
-    })
+    let programs = numbered_zero(alloc, built)?;
+    Ok(ModeOutput::with_programs(alloc, text, programs))
 }

@@ -11,15 +11,13 @@ use crate::ending::{end_without, refuse};
 use crate::outcome::Outcome;
 use crate::refusal::{Limit, Refusal};
 use crate::status::{MEMORY_LINE, READ_LINE, Status, WRITE_LINE};
-use agent_loop::Books;
 use ccp_base::{Sink, Source};
 use feed_core::FeedEnd;
 use feed_core::calls::feed;
-use reg_compiler::Builts;
 use std::alloc::Global;
 
 /// Answers the frames of the source as they come, and reports why if it stops before a whole input's end.
-pub fn feed_run<S: Source, K: Sink, E: Sink>(
+pub fn run_feed<S: Source, K: Sink, E: Sink>(
     alloc: Global,
     source: &mut S,
     sink: &mut K,
@@ -39,12 +37,7 @@ fn end_feed<E: Sink>(alloc: Global, errors: &mut E, ended: FeedEnd) -> Outcome
     ensures { EndsFeed (over E.written E.faults errors.old errors.new) result ended }
 {
     match ended {
-        FeedEnd::Whole => Outcome {
-            status: Status::Done.number(),
-            books: Books::new(alloc),
-            programs: Builts::new(alloc),
-            ran: 0,
-        },
+        FeedEnd::Whole => Outcome::empty(alloc, Status::Done),
         FeedEnd::Bad(field, place) => refuse(alloc, Refusal::Frame(field, place), errors),
         FeedEnd::Cut(place) => refuse(alloc, Refusal::FrameCut(place), errors),
         FeedEnd::TooLong => refuse(alloc, Refusal::TooLong(Limit::Input), errors),

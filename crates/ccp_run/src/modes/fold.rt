@@ -3,25 +3,35 @@ ghost use Rattle.std.specs.Prelude.{◌≡◌, ◌≤◌, ◌∷◌, [], IfOk, l
 ghost use Rattle.ccp_base.specs.Limits.{most_acks};
 ghost use Rattle.portus_core.specs.ProgramForm.{form_of};
 ghost use Rattle.fold_run.specs.Ran.{ran_of};
-ghost use Rattle.ccp_run.specs.Attempts.{IsOutputOrRefusal};
+ghost use Rattle.ccp_run.specs.Attempts.{IsOutputOrRefusal, IsAttempt};
 ghost use Rattle.ccp_run.specs.Fold.{folded_text};
+ghost use Rattle.ccp_run.specs.Streams.{over};
 ghost use Rattle.ccp_run.specs.Modes.{Task};
 
 use crate::outcome::ModeOutput;
 use crate::program::{numbered_zero, program};
-use crate::refusal::Refusal;
+use crate::reading::read_bytes;
+use crate::refusal::{Limit, Refusal};
 use crate::stop::Stop;
-use agent_loop::Books;
 use campaign_report::fold_text;
-use ccp_base::{Ack, NoMemory};
+use ccp_base::{Ack, NoMemory, Source};
 use ccp_words::Alone;
 use fold_run::calls::folded;
 use fold_run::{LineFault, acknowledgements, separate};
 use reg_compiler::Built;
 use std::alloc::Global;
 
+/// Reads a program and acknowledgements below it, and makes the program's fold over these.
+#[tactic(auto, using(crate::proofs::ReadLemmas::not_read, crate::proofs::ReadLemmas::answered))]
+pub fn read_fold<S: Source>(alloc: Global, source: &mut S) -> Result<ModeOutput, Stop>
+    ensures { IsAttempt (Task.Alone Alone.Fold) (over S.remaining S.faults source.old source.new) result }
+{
+    let bytes = read_bytes(alloc, Limit::Input, source)?;
+    fold_output(alloc, bytes.as_slice())
+}
+
 /// The fold that the bytes ask for, or the first refusal: of the separator, the program, the lines.
-pub fn fold_output(alloc: Global, bytes: &[u8]) -> Result<ModeOutput, Stop>
+fn fold_output(alloc: Global, bytes: &[u8]) -> Result<ModeOutput, Stop>
     ensures { IsOutputOrRefusal (Task.Alone Alone.Fold) bytes.now result }
 {
     let Some(cut) = separate(bytes) else {
@@ -46,10 +56,9 @@ fn run_fold(alloc: Global, built: Built, acks: &[Ack]) -> Result<ModeOutput, NoM
 {
     let folded = folded(alloc, &built, acks)?;
     let text = fold_text(alloc, &built, &folded.reports, folded.fault, &folded.end)?;
+    let programs = numbered_zero(alloc, built)?;
     Ok(ModeOutput {
-        text,
-        books: Books::new(alloc),
-        programs: numbered_zero(alloc, built)?,
         ran: folded.ran,
+        ..ModeOutput::with_programs(alloc, text, programs)
     })
 }

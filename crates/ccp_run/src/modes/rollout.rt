@@ -11,10 +11,8 @@ use crate::outcome::ModeOutput;
 use crate::reading::read_bytes;
 use crate::refusal::Limit;
 use crate::stop::Stop;
-use agent_loop::Books;
 use ccp_base::{Gate, NoMemory, Source, Workers};
 use live_install::{rollout, rollout_text};
-use reg_compiler::Builts;
 use scenario_json::OpenCases;
 use scenario_json::calls::rollout_scene;
 use std::alloc::Global;
@@ -77,10 +75,6 @@ fn run_rollout<R: Threads + Wait + Sync, G: Gate + Sync>(
     ensures { IfOk result (λ output. TellsRollout cases output) }
 {
     let books = rollout(rt, alloc, cases, datapaths, agents, gate)?;
-    Ok(ModeOutput {
-        text: rollout_text(alloc, &books)?,
-        books: Books::new(alloc),
-        programs: Builts::new(alloc),
-        ran: 0,
-    })
+    let text = rollout_text(alloc, &books)?;
+    Ok(ModeOutput::text(alloc, text))
 }

@@ -16,10 +16,8 @@ use crate::outcome::ModeOutput;
 use crate::reading::read_bytes;
 use crate::refusal::Limit;
 use crate::stop::Stop;
-use agent_loop::Books;
 use campaign_report::{Agents, table_text};
 use ccp_base::{Bytes, Gate, Names, NoMemory, Source, Workers};
-use reg_compiler::Builts;
 use scenario_json::SharedScene;
 use scenario_json::calls::shared_scene;
 use shared_link::Counts;
@@ -96,12 +94,8 @@ fn run_together<R: Threads + Wait + Sync, G: Gate + Sync>(
     let names = copy_names(alloc, &scene.scene.names)?;
     let agents = agents(alloc, scene.scene.cases.as_slice())?;
     let made = shared(rt, alloc, scene, workers, gate)?;
-    Ok(ModeOutput {
-        text: shared_text(alloc, &names, &agents, &made)?,
-        books: Books::new(alloc),
-        programs: Builts::new(alloc),
-        ran: 0,
-    })
+    let text = shared_text(alloc, &names, &agents, &made)?;
+    Ok(ModeOutput::text(alloc, text))
 }
 
 /// The table of a run, and the line of its link's packets.

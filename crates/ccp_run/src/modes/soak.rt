@@ -7,7 +7,6 @@ ghost use Rattle.ccp_run.specs.Modes.{Task};
 
 use crate::outcome::ModeOutput;
 use crate::stop::Stop;
-use agent_loop::Books;
 use campaign_gate::calls::rows;
 use campaign_report::soak_text;
 use ccp_base::{Gate, NoMemory, Workers};
@@ -40,10 +39,6 @@ fn run_soak<R: Threads + Wait + Sync, G: Gate + Sync>(
 {
     let scene = soak(alloc, number)?;
     let rows = rows(rt, alloc, scene.cases, workers, gate)?;
-    Ok(ModeOutput {
-        text: soak_text(alloc, number, &rows)?,
-        books: Books::new(alloc),
-        programs: scene.programs,
-        ran: 0,
-    })
+    let text = soak_text(alloc, number, &rows)?;
+    Ok(ModeOutput::with_programs(alloc, text, scene.programs))
 }

@@ -5,10 +5,10 @@ use Rattle.ccp_run.proofs.calls.alone.Goals as goal
 
 pub returns : goal.returns
 returns g c =
-    let source : Stream = over g.S.Source.remaining g.S.Source.faults c.args.source.now c.alone_run.new.source in
-    let sink : Stream = over g.K.Sink.written g.K.Sink.faults c.args.sink.now c.alone_run.new.sink in
-    let errors : Stream = over g.E.Sink.written g.E.Sink.faults c.args.errors.now c.alone_run.new.errors in
+    let source : Stream = over g.S.Source.remaining g.S.Source.faults c.args.source.now c.run_alone.new.source in
+    let sink : Stream = over g.K.Sink.written g.K.Sink.faults c.args.sink.now c.run_alone.new.sink in
+    let errors : Stream = over g.E.Sink.written g.E.Sink.faults c.args.errors.now c.run_alone.new.errors in
     record {
-      run = c.alone_run.ensures;
-      complete = complete (Alone c.args.mode) source sink errors (g.K.Sink.is_finished c.alone_run.new.sink) c.alone_run.result c.alone_run.ensures;
+      run = c.run_alone.ensures;
+      complete = complete (Alone c.args.mode) source sink errors (g.K.Sink.is_finished c.run_alone.new.sink) c.run_alone.result c.run_alone.ensures;
     }

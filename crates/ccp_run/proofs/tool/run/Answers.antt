@@ -16,24 +16,24 @@ one_some left right e = cc
 -- the words are accepted, and the run is one of the mode that they ask for
 pub returns-in-Ok : goal.returns-in-Ok
 returns-in-Ok g c =
-    let source : Stream = over g.S.Source.remaining g.S.Source.faults c.args.source.now c.asked_run.new.source in
-    let sink : Stream = over g.K.Sink.written g.K.Sink.faults c.args.sink.now c.asked_run.new.sink in
-    let errors : Stream = over g.E.Sink.written g.E.Sink.faults c.args.errors.now c.asked_run.new.errors in
-    let run : IsRun (task_of c.in-Ok.asked) source sink errors (g.K.Sink.is_finished c.asked_run.new.sink) c.asked_run.result = c.asked_run.ensures in
+    let source : Stream = over g.S.Source.remaining g.S.Source.faults c.args.source.now c.run_asked.new.source in
+    let sink : Stream = over g.K.Sink.written g.K.Sink.faults c.args.sink.now c.run_asked.new.sink in
+    let errors : Stream = over g.E.Sink.written g.E.Sink.faults c.args.errors.now c.run_asked.new.errors in
+    let run : IsRun (task_of c.in-Ok.asked) source sink errors (g.K.Sink.is_finished c.run_asked.new.sink) c.run_asked.result = c.run_asked.ensures in
     let given : List (List ℕ) = map string_bytes c.args.words.items in
     let words : c.deref.result.now ≡ c.args.words.items = search rules in
     let accepted : are_accepted given ≡ true = sym (ap (λ xs. are_accepted (map string_bytes xs)) words) ∙ c.in-Ok.ensures.accepted in
     let found : asked_in given ≡ Some c.in-Ok.asked = sym (ap (λ xs. asked_in (map string_bytes xs)) words) ∙ c.in-Ok.ensures.asked in
     record {
-      words = λ _. ((λ refused. absurd (never_words_refused (task_of c.in-Ok.asked) source sink errors (g.K.Sink.is_finished c.asked_run.new.sink) c.asked_run.result run refused)), (λ not. no_both (sym accepted ∙ not)));
+      words = λ _. ((λ refused. absurd (never_words_refused (task_of c.in-Ok.asked) source sink errors (g.K.Sink.is_finished c.run_asked.new.sink) c.run_asked.result run refused)), (λ not. no_both (sym accepted ∙ not)));
       unasked = λ not. no_both (sym accepted ∙ not);
       asks = λ _ _. ap is_some found;
       asked = λ asked _ is.
-          subst (λ (a : Asked). IsRun (task_of a) source sink errors (g.K.Sink.is_finished c.asked_run.new.sink) c.asked_run.result)
+          subst (λ (a : Asked). IsRun (task_of a) source sink errors (g.K.Sink.is_finished c.run_asked.new.sink) c.run_asked.result)
           (one_some c.in-Ok.asked asked (sym found ∙ is)) run;
       complete = λ asked _ is.
-          subst (λ (a : Asked). AnswersOrRefuses (task_of a) source sink c.asked_run.result) (one_some c.in-Ok.asked asked (sym found ∙ is))
-          (complete (task_of c.in-Ok.asked) source sink errors (g.K.Sink.is_finished c.asked_run.new.sink) c.asked_run.result run);
+          subst (λ (a : Asked). AnswersOrRefuses (task_of a) source sink c.run_asked.result) (one_some c.in-Ok.asked asked (sym found ∙ is))
+          (complete (task_of c.in-Ok.asked) source sink errors (g.K.Sink.is_finished c.run_asked.new.sink) c.run_asked.result run);
     }
 
 -- memory was wanted for the words

@@ -33,8 +33,9 @@ returns-clause-text g c =
     let cases = c.args.scene.cases in
     let programs = c.args.scene.programs in
     let agents : c.in_ok-agents.agents ≡ case_agents cases = search rules in
-    let text : c.in_ok-acks_text.field-0 ≡ acks_text c.args.scene.names c.in_ok-agents.agents c.in_ok-acks.acks = search rules in
-    text
+    let text : c.in_ok-text.text ≡ acks_text c.args.scene.names c.in_ok-agents.agents c.in_ok-acks.acks = search rules in
+    c.with_programs.ensures.text
+    ∙ text
     ∙ ap (λ (names : List (List ℕ)). acks_text names c.in_ok-agents.agents c.in_ok-acks.acks) c.requires.names
     ∙ ap (λ (kinds : List Agent). acks_text (case_names cases) kinds c.in_ok-acks.acks) agents
     ∙ ap (λ (acks : List (List Ack)). acks_text (case_names cases) (case_agents cases) acks)

@@ -33,9 +33,10 @@ returns-clause-text g c =
     let programs = c.args.scene.programs in
     let rows : c.in_ok-rows.rows ≡ map row_of cases = search rules in
     let agents : c.in_ok-agents.agents ≡ case_agents cases = search rules in
-    let text : c.in_ok-rows_text.field-0 ≡ frames_shown c.args.wire programs ++ table_text c.args.scene.names c.in_ok-agents.agents c.in_ok-rows.rows = search rules in
+    let text : c.in_ok-text.text ≡ frames_shown c.args.wire programs ++ table_text c.args.scene.names c.in_ok-agents.agents c.in_ok-rows.rows = search rules in
     let sources : c.in_ok-rows.rows ≡ source_rows programs cases = rows ∙ rows_over programs c.requires.numbered c.in_ok-rows.ensures.lifted cases c.requires.coded in
-    text
+    c.with_programs.ensures.text
+    ∙ text
     ∙ ap (λ names. frames_shown c.args.wire programs ++ table_text names c.in_ok-agents.agents c.in_ok-rows.rows) c.requires.names
     ∙ ap (λ agents. frames_shown c.args.wire programs ++ table_text (case_names cases) agents c.in_ok-rows.rows) agents
     ∙ ap (λ rows. frames_shown c.args.wire programs ++ table_text (case_names cases) (case_agents cases) rows) sources

@@ -31,7 +31,8 @@ returns-clause-text c =
     let places = c.args.built.places in
     let folded = c.in_ok-folded.folded in
     let reports = fold_reports form acks in
-    c.in_ok-text.ensures
+    c.with_programs.ensures.text
+    ∙ c.in_ok-text.ensures
     ∙ (ap (λ (r : List Report). fold_text form.fields places r folded.fault folded.end) c.in_ok-folded.ensures.reports
     ∙ (ap (λ (line : List ℕ). report_lines form.fields reports ++ (line ++ end_line form.fields (length reports) folded.end)) (line_of_notice acks places folded.end.cwnd folded.fault (fold_fault form acks) c.in_ok-folded.ensures.notice c.in_ok-folded.ensures.fault)
     ∙ ap (λ (end : End). report_lines form.fields reports ++ (stopping_line (fold_fault form acks) ++ end_line form.fields (length reports) end)) c.in_ok-folded.ensures.end))

@@ -47,5 +47,5 @@ returns-clause-text g c =
     let rows : c.in_ok-made.made.rows ≡ shared_rows scene.link sources cases scene.rounds = c.in_ok-made.ensures.run.rows ∙ one.rows in
     let counts : c.in_ok-made.made.counts ≡ shared_counts scene.link sources cases scene.rounds =
     c.in_ok-made.ensures.run.counts ∙ ap (λ run. counts_of scene.link run.history) one.run in
-    let text : c.in_ok-shared_text.field-0 ≡ table_text c.in_ok-names.names c.in_ok-agents.agents c.in_ok-made.made.rows ++ link_line c.in_ok-made.made.counts = search rules in
-    text ∙ (λ i. table_text (names i) (agents i) (rows i) ++ link_line (counts i))
+    let text : c.in_ok-text.text ≡ table_text c.in_ok-names.names c.in_ok-agents.agents c.in_ok-made.made.rows ++ link_line c.in_ok-made.made.counts = search rules in
+    c.text.ensures.text ∙ text ∙ (λ i. table_text (names i) (agents i) (rows i) ++ link_line (counts i))

@@ -1,6 +1,6 @@
 use Rattle.ccp_run.specs.Streams.{Stream, over}
 use Rattle.ccp_run.proofs.FeedRunLemmas.{run_of_feed}
-use Rattle.ccp_run.proofs.modes.feed.feed_run.Goals as goal
+use Rattle.ccp_run.proofs.modes.feed.run_feed.Goals as goal
 
 pub returns : goal.returns
 returns g c =

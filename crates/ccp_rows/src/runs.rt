@@ -14,27 +14,27 @@ pub(crate) const ONE_CASE: &[u8] =
 pub(crate) const FIRST_REPORT: &[u8] =
     b"(def (Report (volatile acked 0))) (when true (:= Report.acked (+ Report.acked Ack.bytes_acked)) (fallthrough)) (when (> Report.acked 2999) (report))\n---\nbytes_acked=1500\nbytes_acked=1500\nbytes_acked=1500\n";
 
-/// Which call of the source, of the sink and of the stream of errors fails, if one does, and how many bytes a call of
-/// the source and of the sink takes.
+/// Which calls of the source, of the sink and of the error stream fail, and how many bytes a call of the source or of the
+/// sink takes.
 #[derive(Clone, Copy)]
-pub(crate) struct Ways<'a> {
+pub(crate) struct FailingCalls<'a> {
     pub(crate) read: &'a [u64],
     pub(crate) write: &'a [u64],
-    pub(crate) tell: &'a [u64],
+    pub(crate) report: &'a [u64],
     pub(crate) most: usize,
 }
 
-/// Calls that take what they are given, of which none fails.
-pub(crate) const WHOLE: Ways<'static> = Ways {
+/// No call fails, and each takes all that it is given.
+pub(crate) const NONE_FAILS: FailingCalls<'static> = FailingCalls {
     read: &[],
     write: &[],
-    tell: &[],
+    report: &[],
     most: 4096,
 };
 
-/// What a run came to: its status, what was written and told, and how many programs and instructions it had.
+/// The result of a run: its status, what it wrote and reported, and its numbers of programs and instructions.
 #[derive(Drop)]
-pub(crate) struct Came<'a> {
+pub(crate) struct RunResult<'a> {
     pub(crate) status: u8,
     pub(crate) output: MemSink<'a>,
     pub(crate) errors: MemSink<'a>,
@@ -42,8 +42,8 @@ pub(crate) struct Came<'a> {
     pub(crate) ran: u64,
 }
 
-impl Came<'_> {
-    /// Whether this is what a run came to.
+impl RunResult<'_> {
+    /// Whether a run had this result.
     pub(crate) fn is(&self, status: u8, output: &[u8], errors: &[u8]) -> bool {
         self.status == status
             && self.output.as_slice() == output
@@ -51,8 +51,8 @@ impl Came<'_> {
     }
 }
 
-/// A run, without clauses, so that the proofs of tests don't search what it promises.
-fn run_on<R: Threads + Wait + Sync, G: Gate + Sync>(
+/// A run without clauses, so that the proofs of tests don't search what it promises.
+fn run_plainly<R: Threads + Wait + Sync, G: Gate + Sync>(
     rt: &R,
     alloc: Global,
     words: Vec<String>,
@@ -72,23 +72,23 @@ fn words_of(alloc: Global, given: &[&str]) -> Result<Vec<String>, Fail> {
     Ok(words)
 }
 
-/// What a run on these words comes to under a gate.
-pub(crate) fn held_comes_to<'a, R: Threads + Wait + Sync, G: Gate + Sync>(
+/// Runs the tool on these words under a gate.
+pub(crate) fn run_under_gate<'a, R: Threads + Wait + Sync, G: Gate + Sync>(
     rt: &R,
     alloc: Global,
     given: &[&str],
     input: &[u8],
-    ways: Ways<'a>,
+    calls: FailingCalls<'a>,
     gate: &G,
-) -> Result<Came<'a>, Fail> {
-    if ways.most == 0 {
+) -> Result<RunResult<'a>, Fail> {
+    if calls.most == 0 {
         return Err("a call takes no bytes".into());
     }
     let words = words_of(alloc, given)?;
-    let mut source = MemSource::new(input, ways.most, ways.read);
-    let mut output = MemSink::new(alloc, ways.most, ways.write);
-    let mut errors = MemSink::new(alloc, 4096, ways.tell);
-    let outcome = run_on(
+    let mut source = MemSource::new(input, calls.most, calls.read);
+    let mut output = MemSink::new(alloc, calls.most, calls.write);
+    let mut errors = MemSink::new(alloc, 4096, calls.report);
+    let outcome = run_plainly(
         rt,
         alloc,
         words,
@@ -97,7 +97,7 @@ pub(crate) fn held_comes_to<'a, R: Threads + Wait + Sync, G: Gate + Sync>(
         &mut errors,
         gate,
     );
-    Ok(Came {
+    Ok(RunResult {
         status: outcome.status,
         output,
         errors,
@@ -106,13 +106,13 @@ pub(crate) fn held_comes_to<'a, R: Threads + Wait + Sync, G: Gate + Sync>(
     })
 }
 
-/// What a run on these words comes to.
-pub(crate) fn comes_to<'a, R: Threads + Wait + Sync>(
+/// Runs the tool on these words.
+pub(crate) fn run_on_words<'a, R: Threads + Wait + Sync>(
     rt: &R,
     alloc: Global,
     given: &[&str],
     input: &[u8],
-    ways: Ways<'a>,
-) -> Result<Came<'a>, Fail> {
-    held_comes_to(rt, alloc, given, input, ways, &OpenGate)
+    calls: FailingCalls<'a>,
+) -> Result<RunResult<'a>, Fail> {
+    run_under_gate(rt, alloc, given, input, calls, &OpenGate)
 }
