@@ -11,13 +11,13 @@ use Rattle.agent_core.specs.declared.agent.Agent.TheVariants.{Reno, Cubic}
 use Rattle.agent_core.specs.Agents.{course_of, replied}
 use Rattle.agent_core.specs.RoleLaws.{AreRoles}
 
--- the programs after it was told are those before
+-- the programs after a report or a fault are those before
 kept_roles : (agent : Agent) (told : Told)
     → (course_of (replied agent told).0).ss ≡ (course_of agent).ss × (course_of (replied agent told).0).ca ≡ (course_of agent).ca
 kept_roles (Reno state) told = reno.kept_roles state told
 kept_roles (Cubic state) told = cubic.kept_roles state told
 
--- an agent that is told keeps its roles
+-- an agent that gets a report or a fault keeps its roles
 pub roles-kept : (ss ca : Role) (agent : Agent) (told : Told) → AreRoles ss ca (course_of agent) → AreRoles ss ca (course_of (replied agent told).0)
 roles-kept ss ca agent told roles =
     let kept = kept_roles agent told in

@@ -1,4 +1,4 @@
--- The text of a book with the state after its word is its flow's flow_part of the live text.
+-- The text of a book with the state after its word is its flow's part of the live text.
 use Rattle.std.specs.Prelude.{◌≡◌, ℕ, suc, ◌+◌, List, [], ◌∷◌, ◌++◌, length, map, codes, decimal, refl}
 use Rattle.std.specs.List.{All}
 use Rattle.std.proofs.Common.{ap, sym, ◌∙◌, arith}

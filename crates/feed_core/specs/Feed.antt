@@ -39,7 +39,7 @@ Answer = Option (Message × Version)
 abbrev pub MessageAnswer : Type 0
 MessageAnswer = Answer × FeedState
 
--- a refused frame is answer_message in its own version, and changes nothing
+-- a refused frame is answered in its own version, and changes nothing
 abbrev pub refused : FeedState → Version → ℕ → ℕ → ℕ → MessageAnswer
 refused state version n reason index = (Some (Refused n reason index, version), state)
 

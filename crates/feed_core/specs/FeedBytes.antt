@@ -52,7 +52,7 @@ fed (suc frames) place state bytes = fed_on (fed frames) place state bytes (deco
 unfoldable pub feed_of : List ℕ → Fed
 feed_of bytes = fed most_input_bytes 0 no_flows (take most_input_bytes bytes)
 
--- how far a feed has come: what it took and wrote, its state, and the bytes after the frames that it has answer_message
+-- how far a feed has come: what it took and wrote, its state, and the bytes after the frames that it has answered
 pub record IsFeeding (source source' sink sink' : Known) (state : FeedState) (eaten : ℕ) (rest : List ℕ) : Type 0 where
   pub front : List ℕ
   pub answers : List ℕ

@@ -167,7 +167,7 @@ account_text sources case account =
 abbrev pub flow_from : Sources → Case → Flow Place
 flow_from sources case = over_sources case (source_at sources case.ss.role.number) (source_at sources case.ca.role.number)
 
--- a flow's flow_part of the text, where this is its state
+-- a flow's part of the text, where this is its state
 abbrev pub flow_part : Sources → Case → World Place → List ℕ
 flow_part sources case w = account_text sources case (account_of (flow_from sources case) w)
 

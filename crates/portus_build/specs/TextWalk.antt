@@ -19,7 +19,7 @@ use Rattle.portus_build.specs.Texts.{IsBuiltFrom, IsNoProgram}
 use Rattle.portus_build.specs.declared.fault.BuildFault.{BuildFault}
 use Rattle.portus_build.specs.declared.fault.BuildFault.TheVariants.{Parse, Scope, Compile}
 
--- the forms that a text's tokens are read_lexemes as; the scan of a text without tokens ends at a stray byte
+-- the forms that a text's tokens are read as; the scan of a text without tokens ends at a stray byte
 abbrev pub forms_in : List ℕ → Result (List Token) Place → Result (List Node) ParseFault
 forms_in text (Ok tokens) = read_lexemes unread (map (lexeme_in text) tokens)
 forms_in text (Err place) = Err (NotText place)

@@ -29,7 +29,7 @@ use Rattle.portus_parser.proofs.Finishes.{SpellsParts-from_read}
 use Rattle.portus_parser.proofs.FirstFaults.{fault_read, fault_read-unread}
 use Rattle.portus_parser.proofs.Lexical.{is_lexical, lexical_if, lexical-refusal_of}
 
--- a text that spells forms has lexemes that are read_lexemes as these forms
+-- a text that spells forms has lexemes that are read as these forms
 record ReadsForms (text : List ℕ) (forms : Nodes) : Type 0 where
   lexemes : List Lexeme
   divided : AreLexemesOf text lexemes

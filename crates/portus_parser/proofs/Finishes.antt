@@ -1,4 +1,4 @@
--- What is read_lexemes of a text's lexemes is what the text spells.
+-- What is read of a text's lexemes is what the text spells.
 use Rattle.std.specs.Prelude.{◌≡◌, ℕ, ◌+◌, ◌<◌, Bool, true, false, nat_le, Result, Ok, Err, if◌then◌else◌, List, [], ◌∷◌, ◌++◌, length}
 use Rattle.std.proofs.Common.{arith, refl, ap, sym, ◌∙◌, subst, append_assoc, append-nil, suc}
 use Rattle.std.proofs.lemmas.Bool.{and_parts, and_from, leb-false}
@@ -175,7 +175,7 @@ finishes [] (opened ∷ opens) parts at i bytes forms h k = absurd (cc)
 finishes (lexeme ∷ rest) opens parts at i bytes forms h k =
     at_lexeme (is_opening lexeme.text) (is_closing lexeme.text) lexeme rest (finishes rest) opens parts at i bytes forms h refl refl k
 
--- what is read_lexemes of a text's lexemes is what the text spells
+-- what is read of a text's lexemes is what the text spells
 pub SpellsParts-from_read : (lexemes : List Lexeme) (at : Place) (i : ℕ) (bytes : List ℕ) (forms : List Node) → AreLexemes false at i bytes lexemes → read_lexemes unread lexemes ≡ Ok forms → SpellsParts 0 at bytes (collected forms)
 SpellsParts-from_read lexemes at i bytes forms h k =
     let f = finishes lexemes [] [] at i bytes forms h k in

@@ -1,4 +1,4 @@
--- Bytes that spell nodes have lexemes that are read_lexemes as these nodes.
+-- Bytes that spell nodes have lexemes that are read as these nodes.
 use Rattle.std.specs.Prelude.{◌≡◌, ℕ, ◌+◌, ◌<◌, true, false, ◌&&◌, Result, Ok, List, [], ◌∷◌, ◌++◌, length}
 use Rattle.std.proofs.Common.{arith, refl, ap, sym, ◌∙◌, subst, append_assoc, append-nil, length-append}
 use Rattle.std.proofs.lemmas.Bool.{and_parts, or_right}
@@ -124,7 +124,7 @@ lexed_list depth at i bytes place own rest split inner around within after =
           ∙ ap (λ (ps : List Node). read_lexemes (state opens ps) others) (append_assoc parts (list place own ∷ []) (listed rest));
     }
 
--- bytes that spell nodes are lexed so that they are read_lexemes
+-- bytes that spell nodes are lexed so that they are read
 pub lexed : (nodes : Nodes) (depth : ℕ) (at : Place) (i : ℕ) (bytes : List ℕ) → SpellsParts depth at bytes nodes → Lexed depth at i bytes nodes
 lexed none depth at i bytes h = lexed_none depth at i bytes h
 lexed (more (number place value) rest) depth at i bytes h =

@@ -17,7 +17,7 @@ use Rattle.reg_compiler.specs.declared.line.Line.{Line}
 use Rattle.reg_compiler.specs.CompiledCode.{variable_reg, code_line, next_free, unless_direct}
 use Rattle.reg_compiler.proofs.LineRuns.{Halt, placed, run_lines, halting, with_temps, SameBelow, Comes, then_do-Ok, run_lines-append}
 
--- every name that the program knows is register_value from its register
+-- every name that the program knows is read from its register
 abbrev pub Reads : KnownNames → Env → Locals → Ack → Regs → Type 0
 Reads known env locals ack regs = (v : Var) → is_known known v ≡ true → register_value (variable_reg v) regs ack ≡ Some (read_of v env locals ack)
 

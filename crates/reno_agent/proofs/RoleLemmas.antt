@@ -1,4 +1,4 @@
--- Reno keeps its two programs, whatever it is told.
+-- Reno keeps its two programs, whatever report or fault it gets.
 use Rattle.std.proofs.Common.{◌≡◌, arith, refl, ◌∙◌}
 use Rattle.ccp_base.specs.declared.course.Course.{Course}
 use Rattle.ccp_base.specs.declared.course.Phase.{Phase}
@@ -32,7 +32,7 @@ told_roles (Report report) s =
     measured_roles m (window_told s.course.mode m s) ∙ window_roles s.course.mode m s
 told_roles (Fault notice) s = refl
 
--- the programs after it was told are those before
+-- the programs after a report or a fault are those before
 pub kept_roles : (s : RenoState) (told : Told)
     → (reno s told).0.course.ss ≡ s.course.ss × (reno s told).0.course.ca ≡ s.course.ca
 kept_roles s told = grind (arith, told_roles)

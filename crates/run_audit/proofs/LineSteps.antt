@@ -1,4 +1,4 @@
--- The lines of an account, one text_after another.
+-- The lines of an account, one after another.
 use Rattle.std.proofs.Common.{◌≡◌, ℕ, ◌+◌, Option, Some, None, List, ◌∷◌, ◌++◌, map, ap, sym, ◌∙◌}
 use Rattle.std.specs.Option.{option_and_then}
 use Rattle.flow_core.specs.declared.book.EpochLine.{EpochLine}
@@ -42,9 +42,9 @@ pub ticket_missing : (sources : Sources) (number : ℕ) (tickets : List TicketLi
     → text_after (ticket_lines sources number tickets) text ≡ None
 ticket_missing sources number tickets ticket rest text is missing = ap (λ t. text_after (ticket_lines sources number t) text) is ∙ front_missing (ticket_text sources number ticket) (ticket_lines sources (number + 1) rest) text missing
 
--- ---- one part of a text text_after another
+-- ---- one part of a text after another
 
--- what is found text_after a front, and what is found then
+-- what is found after a front, and what is found then
 pub both_there : (first second text left : List ℕ) (found : Option (List ℕ)) → Some left ≡ text_after first text → found ≡ text_after second left → found ≡ text_after (first ++ second) text
 both_there first second text left found is then_is = then_is ∙ sym (front_there first second text left is)
 

@@ -1,4 +1,4 @@
--- What is left text_after a flow_part is so exactly where the text begins with the flow_part of a legal and complete word.
+-- What is left after a part is so exactly where the text begins with the part of a legal and complete word.
 use Rattle.std.proofs.Common.{◌≡◌, ℕ, ◌^◌, ◌<◌, Bool, true, false, ◌&&◌, Option, Some, None, List, ◌++◌, refl, ap, sym, ◌∙◌, arith, cond, append_assoc}
 use Rattle.flow_core.specs.declared.case.Case.{Case}
 use Rattle.flow_core.specs.declared.letter.Letter.{Letter}
@@ -18,7 +18,7 @@ some_same : {X : Type 0} {a b : X} → Some a ≡ Some b → a ≡ b
 some_same e = cc
 
 module _ (sources : Sources) (case : Case) where
-  -- a case's flow_part for a word
+  -- a case's part for a word
   abbrev pub part_of_word : List Letter → List ℕ
   part_of_word word = flow_part sources case (world (flow_from sources case) case.link word)
 
@@ -31,7 +31,7 @@ module _ (sources : Sources) (case : Case) where
   abbrev line : List ℕ
   line = flow_line case.flow case.name case.agent
 
-  -- the text is the flow_part of a legal and complete word, and this
+  -- the text is the part of a legal and complete word, and this
   pub record HasPart (text rest : List ℕ) : Type 0 where
     pub word : List Letter
     pub is : IsWordOf sources case word

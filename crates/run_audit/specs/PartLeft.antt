@@ -1,4 +1,4 @@
--- What of a text is left text_after a flow's part: the word is read off, the flow is worked out, and its lines are compared.
+-- What of a text is left after a flow's part: the word is read off, the flow is worked out, and its lines are compared.
 use Rattle.std.specs.Prelude.{ℕ, ◌+◌, Option, Some, None, option_map, unwrap_or, List, [], ◌∷◌}
 use Rattle.ccp_base.specs.Text.{◌⧺◌}
 use Rattle.flow_core.specs.declared.case.Case.{Case}
@@ -19,31 +19,31 @@ text_from_tickets sources account = ticket_lines sources 0 account.tickets ⧺ a
 abbrev pub text_from_faults : Sources → Account → List ℕ
 text_from_faults sources account = fault_lines account.faults ⧺ text_from_tickets sources account
 
--- those from its epochs on, which are all text_after its flow's first line
+-- those from its epochs on, which are all after its flow's first line
 abbrev pub body_text : Sources → Account → List ℕ
 body_text sources account = epoch_lines 0 account.epochs ⧺ text_from_faults sources account
 
--- what of this is left text_after an account's lines
+-- what of this is left after an account's lines
 abbrev pub account_left : Sources → List ℕ → Option Account → Option (List ℕ)
 account_left sources body None = None
 account_left sources body (Some account) = text_after (body_text sources account) body
 
--- text_after those of the account of a word
+-- after those of the account of a word
 abbrev pub word_left : Sources → Case → List ℕ → Option (List Letter) → Option (List ℕ)
 word_left sources case body None = None
 word_left sources case body (Some word) =
     account_left sources body (account_after (flow_from sources case) case.link word)
 
--- text_after those of the word that is read off
+-- after those of the word that is read off
 abbrev pub body_left : Sources → Case → Option (List ℕ) → Option (List ℕ)
 body_left sources case None = None
 body_left sources case (Some body) = word_left sources case body (forced_word case.acks (text_marks body))
 
--- what is left of a text text_after the part of a case; None where it doesn't begin with one
+-- what is left of a text after the part of a case; None where it doesn't begin with one
 abbrev pub part_left : Sources → Case → List ℕ → Option (List ℕ)
 part_left sources case text = body_left sources case (text_after (flow_line case.flow case.name case.agent) text)
 
--- the verdict, case by case, text_after this many parts
+-- the verdict, case by case, after this many parts
 abbrev pub judged : Sources → List Case → ℕ → List ℕ → Verdict
 judged sources [] count [] = Yes
 judged sources [] count (byte ∷ rest) = No count

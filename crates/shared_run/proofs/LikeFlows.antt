@@ -1,4 +1,4 @@
--- Two readings of a case with like states have one word, one round_part of a round and one row.
+-- Two readings of a case with like states have one word, one part of a round and one row.
 use Rattle.std.specs.Prelude.{◌≡◌, ℕ, zero, suc, max, Bool, true, false, Option, Some, None, List, [], ◌∷◌, ◌++◌, refl}
 use Rattle.std.proofs.Common.{ap, sym, ◌∙◌, subst}
 use Rattle.ccp_base.specs.declared.ack.Ack.{Ack}

@@ -32,7 +32,7 @@ module _ (link : SharedCase) (cases : List Case) (most rounds : ℕ) (state : Sh
   all-roomy-now within few =
       subst (λ (run : Progress). All (λ (core : CoreState). AreRoomy core.acks) run.flows) (sym whole) (run-roomy link within cases most few)
 
-  -- the flows, closed_flow, and the counts
+  -- the flows, closed, and the counts
   pub flows-are : map (closed_flow over_codes) (flows_after link cases rounds) ≡ flows_at_end link over_codes cases most
   flows-are = ap (λ (run : Progress). map (closed_flow over_codes) run.flows) whole
 

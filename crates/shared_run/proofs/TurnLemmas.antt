@@ -196,7 +196,7 @@ module _ {X : Type 0} (read : CaseReading X) where
   pub closed-still : (core : CoreState) → is_still (world_of_core read (after_settling true read core)) ≡ true
   closed-still core = still-ended (after_settling true read core) (settled-ends true core)
 
-  -- a round_part of a round leaves the case, and adds the acknowledgements
+  -- a part of a round leaves the case, and adds the acknowledgements
   pub part-case : (acks : List Ack) (core : CoreState) → (round_part read acks core).case ≡ core.case
   part-case [] core = refl
   part-case (ack ∷ rest) core = part-case rest (with_settled_ack read ack core) ∙ settled-case false (with_ack ack core)

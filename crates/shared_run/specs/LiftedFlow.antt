@@ -12,7 +12,7 @@ use Rattle.campaign_gate.specs.CampaignRow.{window_of}
 use Rattle.shared_run.specs.RoundLetters.{CaseReading, world_of_core, round_part, closed_flow}
 use Rattle.shared_run.specs.FlowRow.{flow_row}
 
--- two readings of a case are alike: whatever acknowledgements its flow has, it has one window, does one round_part of a round,
+-- two readings of a case are alike: whatever acknowledgements its flow has, it has one window, does one part of a round,
 -- closes with one word and has one row in both
 pub record ReadAlike {X Y : Type 0} (read : CaseReading X) (other : CaseReading Y) (core : CoreState) : Type 0 where
   pub window : window_of (read core.case) (world_of_core read core) ≡ window_of (other core.case) (world_of_core other core)

@@ -1,4 +1,4 @@
--- The letters of a flow's round_part of a round: its acknowledgements, each with what is taken and answered after it.
+-- The letters of a flow's part of a round: its acknowledgements, each with what is taken and answered after it.
 use Rattle.std.specs.Prelude.{◌≡◌, ℕ, zero, suc, Bool, true, false, Option, Some, None, List, [], ◌∷◌, ◌++◌}
 use Rattle.ccp_base.specs.declared.ack.Ack.{Ack}
 use Rattle.flow_core.specs.declared.case.Case.{Case}
@@ -62,13 +62,13 @@ after_settling at_end read core = settled_in at_end read (letters_left (read cor
 abbrev pub SettlingEnds : {X : Type 0} → CaseReading X → Type 0
 SettlingEnds read = (at_end : Bool) (core : CoreState) → settling_letter at_end read (after_settling at_end read core) ≡ None
 
--- ---- a round_part
+-- ---- a part
 
 -- an acknowledgement, and what is taken and answered after it
 abbrev pub with_settled_ack : {X : Type 0} → CaseReading X → Ack → CoreState → CoreState
 with_settled_ack read ack core = after_settling false read (with_ack ack core)
 
--- a flow's round_part of a round, in which it has these acknowledgements
+-- a flow's part of a round, in which it has these acknowledgements
 abbrev pub round_part : {X : Type 0} → CaseReading X → List Ack → CoreState → CoreState
 round_part read [] core = core
 round_part read (ack ∷ rest) core = round_part read rest (with_settled_ack read ack core)

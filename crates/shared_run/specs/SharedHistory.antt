@@ -32,7 +32,7 @@ ask_of read core = record {
 abbrev pub asks_of : {X : Type 0} → CaseReading X → List CoreState → List Ask
 asks_of read flows = map (ask_of read) flows
 
--- each flow's round_part of a round, in which the flows have these acknowledgements
+-- each flow's part of a round, in which the flows have these acknowledgements
 abbrev pub parts : {X : Type 0} → CaseReading X → List (List Ack) → List CoreState → List CoreState
 parts read [] flows = flows
 parts read (acks ∷ others) [] = []
