@@ -28,8 +28,5 @@ pub fn put_flow_line(
 pub fn agent_text(agent: &Agent) -> &'static str
     ensures { result.now ≡ agent_text agent.now }
 {
-    match agent {
-        Agent::Reno(_) => "reno",
-        Agent::Cubic(_) => "cubic",
-    }
+    agent.name()
 }
