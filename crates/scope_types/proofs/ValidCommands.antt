@@ -10,7 +10,7 @@ use Rattle.portus_core.specs.Trees.{Node, Nodes, none, more, number, word, list}
 use Rattle.portus_core.specs.ValidPrograms.{KnownNames, is_known, is_term, is_truth, is_target, term_is_truth, is_condition, fits_target, is_next_local, is_action, with_known_local, known_after, is_body}
 use Rattle.scope_types.specs.declared.names.Local.{Local}
 use Rattle.scope_types.specs.declared.target.Target.{Target}
-use Rattle.scope_types.specs.declared.target.Target.TheVariants.{KnownNames as Meant, Fresh}
+use Rattle.scope_types.specs.declared.target.Target.TheVariants.{Known as Meant, Fresh}
 use Rattle.portus_core.specs.Words.{variable_of, is_reserved, is_field_use, is_primitive_use}
 use Rattle.scope_types.specs.Names.{meaning_of}
 use Rattle.scope_types.specs.Scope.{Scope, known_in}
