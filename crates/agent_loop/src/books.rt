@@ -8,9 +8,9 @@ ghost use Rattle.agent_loop.specs.LiveBooks.{AreBooksOf, case_of};
 
 use crate::Books;
 use crate::crew::Crew;
-use ccp_base::{NoMemory, Sequence};
+use ccp_base::{NoMemory, Sequence, Workers};
 use flow_core::Cell;
-use flow_table::{WorkerCounts, make_books};
+use flow_table::make_books;
 use std::alloc::Global;
 
 /// The books of flows, in order, once the work of each of their workers is done: each tells the history that the workers
@@ -18,10 +18,11 @@ use std::alloc::Global;
 pub(crate) fn books(
     alloc: Global,
     cells: Sequence<Cell>,
-    workers: WorkerCounts,
+    datapaths: Workers,
+    agents: Workers,
     crew: Crew,
 ) -> Result<Books, NoMemory>
-    requires { HasWorked crew workers.datapaths.count workers.agents.count (length (map case_of cells)) }
+    requires { HasWorked crew datapaths.count agents.count (length (map case_of cells)) }
     ensures books { IfOk result (λ books. AreBooksOf (map case_of cells) books) }
     ensures led { IfOk result (λ books. AreLedTo HasNext cells (map flow_of books)) }
 {

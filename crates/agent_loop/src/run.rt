@@ -33,5 +33,5 @@ pub fn live<R: Threads + Wait + Sync, G: Gate + Sync>(
 {
     let workers = WorkerCounts { datapaths, agents };
     let crew = work(rt, alloc, &table, workers, gate)?;
-    books(alloc, table.close(alloc)?, workers, crew)
+    books(alloc, table.close(alloc)?, datapaths, agents, crew)
 }

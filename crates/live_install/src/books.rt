@@ -9,8 +9,8 @@ ghost use Rattle.live_install.specs.WholeBooks.{IsWhole, case_in, case_of, book_
 use crate::OpenBooks;
 use crate::cell::OpenCell;
 use crate::crew::Crew;
-use ccp_base::{NoMemory, Sequence};
-use flow_table::{WorkerCounts, make_books};
+use ccp_base::{NoMemory, Sequence, Workers};
+use flow_table::make_books;
 use std::alloc::Global;
 
 /// The books of flows, in order, once the work of each of their workers is done: each has the history that the workers
@@ -18,10 +18,11 @@ use std::alloc::Global;
 pub(crate) fn books(
     alloc: Global,
     cells: Sequence<OpenCell>,
-    workers: WorkerCounts,
+    datapaths: Workers,
+    agents: Workers,
     crew: Crew,
 ) -> Result<OpenBooks, NoMemory>
-    requires { HasWorked crew workers.datapaths.count workers.agents.count (length (map case_of cells)) }
+    requires { HasWorked crew datapaths.count agents.count (length (map case_of cells)) }
     ensures cases { IfOk result (λ books. map case_in books ≡ map case_of cells) }
     ensures led { IfOk result (λ books. AreLedTo HasNext cells (map book_state books)) }
     ensures whole { IfOk result (λ books. All IsWhole books) }

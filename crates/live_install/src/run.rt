@@ -40,5 +40,5 @@ pub fn rollout<R: Threads + Wait + Sync, G: Gate + Sync>(
     let table = FlowTable::new(alloc, cases)?;
     let workers = WorkerCounts { datapaths, agents };
     let crew = run_workers(rt, alloc, &table, workers, gate)?;
-    books(alloc, table.close(alloc)?, workers, crew)
+    books(alloc, table.close(alloc)?, datapaths, agents, crew)
 }
