@@ -122,9 +122,8 @@ def wrong_json_place(text, kind, rest, found):
 
 
 def test_explain_agrees_with_the_program_over_rows():
-    modes = {"check", "fold", "campaign", "live", "timeline", "acks", "shared", "rollout", "audit"}
     seen = {True: 0, False: 0}
-    for name, mode, given, reason in runs_of_rows(modes):
+    for name, mode, given, reason in runs_of_rows(EXPLAIN.MODES):
         given = Input(given)
         refused, text, found = EXPLAIN.explained(PROGRAM, given, mode)
         expect(refused == (reason is not None), "%s: refused %s" % (name, refused))
@@ -142,7 +141,7 @@ def test_explain_agrees_with_the_program_over_rows():
 
 def test_explain_reads_json_as_the_program():
     """What isn't JSON to one of them isn't to the other."""
-    for name, mode, given, reason in runs_of_rows({"campaign", "live", "timeline", "acks", "shared", "rollout"}):
+    for name, mode, given, reason in runs_of_rows(EXPLAIN.SCENARIOS):
         broken = scenarios.Scenario("row", Input(given).text).broken
         expect((broken is not None) == (reason == "json"), "%s: %s" % (name, broken))
 
