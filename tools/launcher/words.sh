@@ -42,12 +42,12 @@ is_number() {
 
 # What a mode reads, without the targets of links: the second cell of its row in README's table of modes.
 reads_of() {
-    local line cell
+    local line cell link='\[([^]]*)\]\([^)]*\)'
     while IFS= read -r line; do
         if [[ $line == "| \`$1\` |"* ]]; then
             cell=${line#*| *| }
             cell=${cell%% |*}
-            while [[ $cell =~ \[([^]]*)\]\([^\)]*\) ]]; do cell=${cell/"${BASH_REMATCH[0]}"/"${BASH_REMATCH[1]}"}; done
+            while [[ $cell =~ $link ]]; do cell=${cell/"${BASH_REMATCH[0]}"/"${BASH_REMATCH[1]}"}; done
             printf '%s' "$cell"
             return
         fi

@@ -10,7 +10,8 @@ import sys
 from harness import PROGRAM, TOOLS, TOP, expect, tool
 
 sys.path.insert(0, TOOLS)
-from explaining import asking, programs, scenarios
+from ccp import definition
+from explaining import asking, meanings, programs, scenarios
 from explaining.shown import nearest
 
 
@@ -161,6 +162,17 @@ def test_explain_knows_the_primitives():
     with open(os.path.join(TOP, "docs", "language.md"), encoding="utf-8") as file:
         named = set(re.findall(r"\| `((?:Ack|Flow)[.]\w+)` ", file.read()))
     expect(named == set(programs.PRIMITIVES), str(named ^ set(programs.PRIMITIVES)))
+
+
+def test_explain_knows_the_operators():
+    """The page's table of operators, the definition that programs.py reads, and what meanings.py works out are the same ones."""
+    with open(os.path.join(TOP, "docs", "language.md"), encoding="utf-8") as file:
+        rows = re.findall(r"^\| `(\S+)` \| `(\w+)` \| (\d+) \|", file.read(), re.MULTILINE)
+    shown = {text: word for mark, word, _ in rows for text in (mark.replace("\\|", "|"), word)}
+    expect(shown == programs.OPERATORS, str(set(shown.items()) ^ set(programs.OPERATORS.items())))
+    for mark, word, number in rows:
+        expect('%s (codes "%s")' % (number, word) in definition("Operations.antt"), word)
+    expect(set(meanings.MEANINGS) == set(programs.OPERATORS.values()), "meanings")
 
 
 def explained(text, mode=None, is_quiet=False, status=1, holds=()):
