@@ -9,7 +9,7 @@
         print(row["case"], 8 * row["acked"] / row["now"], "Mbit/s")
 
 Running           find_program, run, knows_mode, run_campaign, run_table, run_flows, run_acks
-Tables            PRIMITIVES, MODES, LIMITS
+Tables            PRIMITIVES, AGENTS, MODES, LIMITS
 Texts             kind_of, read_table, read_soak, read_flows, flows_in, read_acks, acks_in, read_installs
 Scenarios         read_scenario, scenario_text, write_scenario
 Traces            Trace, read_trace, trace_text, nearest_rank
@@ -37,15 +37,18 @@ SUMS = "acks reports held faults lost timeouts acked".split()
 LINK = "rounds sent acked lost inflight".split()
 
 
-def definition(name):
-    """The text of a definition in crates/ccp_base/specs. Its table is that of the scripts too."""
-    with open(os.path.join(TOP, "crates", "ccp_base", "specs", name), encoding="utf-8") as file:
+def definition(name, crate="ccp_base"):
+    """The text of a definition of a crate. Its table is that of the scripts too."""
+    with open(os.path.join(TOP, "crates", crate, "specs", name), encoding="utf-8") as file:
         return file.read()
 
 
 # the primitives in the order of their numbers, as a program writes them, and as a line of acknowledgements does
 PRIMITIVE_WORDS = ["%s.%s" % (of.capitalize(), name) for of, name in re.findall(r'of_(ack|flow) \(codes "(\w+)"\)', definition("PrimitiveNames.antt"))]
 PRIMITIVES = [word.partition(".")[2] for word in PRIMITIVE_WORDS]
+
+# the agents, each with the number of its built-in program of congestion avoidance
+AGENTS = {name: int(number) for name, number in re.findall(r'name = codes "(\w+)"; avoidance = (\d+)', definition("Kinds.antt", "agent_core"))}
 
 # what a mode may read, as README's table of modes says it: its kind, and the most cases of a scenario. A kind of scenario
 # has the name of its definition in examples/scenario.schema.json.

@@ -3,7 +3,7 @@ import json
 import os
 import re
 
-from ccp import LIMITS, MODES, SPLIT
+from ccp import AGENTS, LIMITS, MODES, SPLIT
 from explaining import json_places, programs
 from explaining.shown import Finding, Text, cut, did_you_mean, nearest, pointed
 
@@ -261,7 +261,7 @@ def hints_of_value(scenario, of, name, value):
     if name in ("trace", "ss", "ca", "steps"):
         return hints_of_reference(scenario, name, value)
     if name == "agent":
-        return ["Here is %s." % shown_value(value)] + (did_you_mean(value.is_, ["reno", "cubic"]) if value.kind == "text" else [])
+        return ["Here is %s." % shown_value(value)] + (did_you_mean(value.is_, list(AGENTS)) if value.kind == "text" else [])
     if name == "name":
         return hints_of_name(value.is_) if value.kind == "text" else ["A name is a text; here is %s." % value.kind_name()]
     if name in ("programs", "traces", "shared"):
