@@ -8,7 +8,11 @@ them. The agent, the class Reno below, reads each report and answers with a new 
 printed for each report and its answer, and one for the end.
 
 ACKS-FILE has a line for each acknowledgement, as `ccp acks` prints them and `ccp fold` takes them; of the flows of a file
-with `flow` lines, number N is played (0). `-` is standard input. The recording is fixed: it shows what an agent decides, not
+with `flow` lines, number N is played (0). `-` is standard input:
+
+    ./ccp acks < examples/live.json | examples/agent.py -
+
+The recording is fixed: it shows what an agent decides, not
 what the link would have done with another window. Put your own agent in the place of Reno: it needs `begin`, `report` and
 `fault`, and what these give is an answer of the class Datapath. docs/frames.md has the bytes of the frames.
 
@@ -22,10 +26,12 @@ import subprocess
 import sys
 
 TOP = os.path.dirname(os.path.dirname(os.path.abspath(__file__)))
+sys.path.insert(0, os.path.join(TOP, "tools"))
+sys.dont_write_bytecode = True
+from ccp import PRIMITIVES
+
 OUT = os.path.join(TOP, "crates", "ccp", "out")
 BUILT = next((path for path in (os.path.join(OUT, "ccp"), os.path.join(OUT, "checked", "ccp")) if os.path.exists(path)), os.path.join(OUT, "ccp"))
-PRIMITIVES = ("bytes_acked packets_acked bytes_misordered packets_misordered ecn_bytes ecn_packets lost_pkts_sample now "
-              "bytes_in_flight packets_in_flight bytes_pending rate_incoming rate_outgoing rtt_sample_us was_timeout").split()
 # The built-in programs that are used, the fields of their reports, and what an answer can set: class and index.
 SLOW_START, AVOIDANCE = 0, 1
 FIELDS = "acked sacked loss timeout rtt inflight ecn".split()
@@ -68,7 +74,7 @@ class Datapath:
 
     def ack(self, values):
         """Runs one acknowledgement, and gives its report or fault."""
-        return self.ask(frame(ACK, struct.pack("<15Q", *values)))
+        return self.ask(frame(ACK, struct.pack("<%dQ" % len(PRIMITIVES), *values)))
 
     def update(self, window):
         """Sets the window."""

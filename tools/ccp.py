@@ -9,8 +9,9 @@
         print(row["case"], 8 * row["acked"] / row["now"], "Mbit/s")
 
 Running           find_program, run, knows_mode, run_campaign, run_table, run_flows, run_acks
+Tables            PRIMITIVES, AGENTS, MODES, LIMITS
 Texts             kind_of, read_table, read_soak, read_flows, flows_in, read_acks, acks_in, read_installs
-Scenarios         read_scenario, scenario_text, write_scenario, LIMITS
+Scenarios         read_scenario, scenario_text, write_scenario
 Traces            Trace, read_trace, trace_text, nearest_rank
 Scripts           Words, whole_from, read_text, main_of
 
@@ -34,14 +35,72 @@ CHECKED = os.path.join(TOP, "crates", "ccp", "out", "checked", "ccp")
 COLUMNS = "case agent acks reports held faults epochs lost timeouts acked peak cwnd now tail".split()
 SUMS = "acks reports held faults lost timeouts acked".split()
 LINK = "rounds sent acked lost inflight".split()
-PRIMITIVES = (
-    "bytes_acked packets_acked bytes_misordered packets_misordered ecn_bytes ecn_packets lost_pkts_sample now "
-    "bytes_in_flight packets_in_flight bytes_pending rate_incoming rate_outgoing rtt_sample_us was_timeout"
-).split()
+
+
+def definition(name, crate="ccp_base"):
+    """The text of a definition of a crate. Its table is that of the scripts too."""
+    with open(os.path.join(TOP, "crates", crate, "specs", name), encoding="utf-8") as file:
+        return file.read()
+
+
+# the primitives in the order of their numbers, as a program writes them, and as a line of acknowledgements does
+PRIMITIVE_WORDS = ["%s.%s" % (of.capitalize(), name) for of, name in re.findall(r'of_(ack|flow) \(codes "(\w+)"\)', definition("PrimitiveNames.antt"))]
+PRIMITIVES = [word.partition(".")[2] for word in PRIMITIVE_WORDS]
+
+# the agents, each with the number of its built-in program of congestion avoidance
+AGENTS = {name: int(number) for name, number in re.findall(r'name = codes "(\w+)"; avoidance = (\d+)', definition("Kinds.antt", "agent_core"))}
+
+# what a mode may read, as README's table of modes says it: its kind, and the most cases of a scenario. A kind of scenario
+# has the name of its definition in examples/scenario.schema.json.
+INPUTS = {
+    "a program": ("program", None),
+    "a program and acknowledgements": ("fold", None),
+    "a scenario of at most 1,024 cases": ("campaign", 1024),
+    "a scenario of at most 64 cases": ("live", 64),
+    "a scenario with a bottleneck": ("shared", 64),
+    "a scenario of a rollout": ("rollout", 64),
+    "a scenario and a live text": ("audit", None),
+    "frames": ("feed", None),
+    "nothing": ("nothing", None),
+}
+
+
+@dataclass(frozen=True)
+class Mode:
+    """A mode. `reads` is a kind of INPUTS, `reads_text` and `does` are cells of README's table, and `cases` is the most cases
+    of its scenario, or None if it reads no scenario."""
+
+    name: str
+    reads: str
+    reads_text: str
+    does: str
+    cases: int = None
+
+
+def bare(cell):
+    """A cell of a table without marks, without links that stand in parentheses, and without the targets of others."""
+    kept = re.sub(r" \(\[[^]]*\]\([^)]*\)\)", "", cell)
+    return re.sub(r"\[([^]]*)\]\([^)]*\)", r"\1", kept).replace("`", "").strip()
+
+
+def modes_of_readme():
+    """README's table of modes, by their names."""
+    with open(os.path.join(TOP, "README.md"), encoding="utf-8") as file:
+        table = file.read().partition("\n## Modes\n")[2].partition("\n## ")[0]
+    modes = {}
+    for name, reads, does in re.findall(r"^\| `(\w+)` \|([^|]*)\|([^|]*)\|", table, re.MULTILINE):
+        kind, cases = INPUTS.get(bare(reads), (None, None))
+        modes[name] = Mode(name, kind, bare(reads), bare(does), cases)
+    return modes
+
+
+MODES = modes_of_readme()
+# the modes that tools/campaign-over-machines splits, with its option for each
+SPLIT = {"campaign": "", "timeline": " --timeline", "acks": " --acks"}
 
 LIMITS = {
     "scenario_bytes": 1_048_576,
-    "cases": {"campaign": 1024, "live": 64, "timeline": 64, "acks": 64, "rollout": 64, "shared": 64},
+    "cases": {name: mode.cases for name, mode in MODES.items() if mode.cases},
     "total_acks": 262_144,  # of all modes but campaign
     "acks": 65_536,
     "programs": 13,

@@ -3,7 +3,7 @@ import os
 import re
 import subprocess
 
-from ccp import TOP, NoProgram
+from ccp import MODES, TOP, NoProgram
 
 # an unproved program on a busy machine reads a megabyte in less than two seconds
 SECONDS, SECONDS_A_BYTE = 30, 2 / 1_000_000
@@ -14,7 +14,8 @@ def asked(program, mode, data):
 
     A refusal comes before a run begins. So a run that takes far longer than reading its input is ended, and refused nothing."""
     words = [program, mode]
-    if mode in ("campaign", "shared"):
+    # a mode that has no workers ignores the option
+    if MODES[mode].cases:
         words += ["--workers", str(min(32, os.cpu_count() or 1))]
     try:
         ran = subprocess.run(words, input=data, stdout=subprocess.DEVNULL, stderr=subprocess.PIPE, timeout=SECONDS + SECONDS_A_BYTE * len(data))

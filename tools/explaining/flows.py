@@ -3,6 +3,7 @@
 tools/audit shows with it the line in which a text differs. The verdict itself is the program's."""
 import os
 
+from ccp import AGENTS
 from explaining.links import Cubic, Link, Reno, Trace
 from explaining.meanings import Fault, Meaning
 
@@ -76,7 +77,7 @@ class Flow:
         self.link = link or Link(Trace(traces[case["trace"]]), case)
         self.agent = {"reno": Reno, "cubic": Cubic}[case["agent"]](case["mss"])
         self.roles = {"ss": programs.number(case["ss"]) if "ss" in case else 0,
-                      "ca": programs.number(case["ca"]) if "ca" in case else {"reno": 1, "cubic": 2}[case["agent"]]}
+                      "ca": programs.number(case["ca"]) if "ca" in case else AGENTS[case["agent"]]}
         self.acks = self.first = self.held = self.made = self.last = 0
         self.epochs, self.faults, self.tickets, self.waiting = [], [], [], []
         self.notice = self.out = self.state = None

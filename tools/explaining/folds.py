@@ -1,10 +1,9 @@
 """Inputs of `fold`: a program, a line `---`, and acknowledgement lines."""
 import re
 
-from explaining import programs
+from ccp import PRIMITIVES as NAMES
 from explaining.shown import Finding, cut, did_you_mean
 
-NAMES = [name.split(".")[1] for name in programs.PRIMITIVES]
 SEPARATOR = re.compile(rb"^---\r?$|^---\r?\n", re.MULTILINE)
 SENTENCE = "An acknowledgement line is `name=number`, with spaces or tabs between: `now=10 bytes_acked=1500`. Each name is there at most once; the others are 0."
 

@@ -2,10 +2,9 @@
 
 tools/audit works a flow out with it to show the line in which a text differs. The verdict itself is the program's."""
 
+from ccp import PRIMITIVES
+
 TOP = 2**64 - 1
-NO_ACK = dict.fromkeys(
-    "bytes_acked packets_acked bytes_misordered packets_misordered ecn_bytes ecn_packets lost_pkts_sample now bytes_in_flight "
-    "packets_in_flight bytes_pending rate_incoming rate_outgoing rtt_sample_us was_timeout".split(), 0)
 
 
 class Trace:
@@ -64,7 +63,7 @@ class Link:
         allowance = min(4096, max(1, window // self.case["mss"]))
         while len(self.flight) < allowance:
             self.flight.append(self._send())
-        ack = dict(NO_ACK)
+        ack = dict.fromkeys(PRIMITIVES, 0)
         arrived = [packet for packet in self.flight if packet.arrival is not None]
         if arrived:
             self._acknowledge(arrived[0], ack)

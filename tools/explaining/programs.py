@@ -3,19 +3,17 @@
 Places are characters of the text read as Latin-1, one character a byte, since ccp's columns count bytes."""
 import re
 
+from ccp import PRIMITIVE_WORDS as PRIMITIVES
+from ccp import definition
 from explaining.shown import Finding, cut, did_you_mean, nearest
 
-PRIMITIVES = (
-    "Ack.bytes_acked Ack.packets_acked Ack.bytes_misordered Ack.packets_misordered Ack.ecn_bytes Ack.ecn_packets "
-    "Ack.lost_pkts_sample Ack.now Flow.bytes_in_flight Flow.packets_in_flight Flow.bytes_pending Flow.rate_incoming "
-    "Flow.rate_outgoing Flow.rtt_sample_us Flow.was_timeout"
-).split()
-MARKS = "+ - * / > < == && || max min add sub mul div gt lt eq and or".split()
+# the word of each operator by what a program may write for it: its mark, or the word itself
+OPERATORS = {text: word for word, mark in re.findall(r'= row \d+ \(codes "(\S+)"\) \(codes "(\S+)"\)', definition("Operations.antt")) for text in (mark, word)}
 CONSTANTS = ["true", "false", "+infinity"]
 WRITTEN = ["Cwnd", "Rate", "Micros"]
 COMMANDS = [":=", "bind", "report", "fallthrough"]
 FORMS = ["def", "when", "Report", "volatile", "if", "!if", "ewma"]
-RESERVED = set(MARKS) | set(CONSTANTS) | set(WRITTEN) | set(COMMANDS) | set(FORMS)
+RESERVED = set(OPERATORS) | set(CONSTANTS) | set(WRITTEN) | set(COMMANDS) | set(FORMS)
 TOKEN = re.compile(r"#[^\n]*|[()]|[^ \t\r\n()#]+")
 
 # what people write, and what the language has in its place
@@ -377,7 +375,7 @@ def hints_of_command(program, node):
         return ["A block isn't in another block: close the one before it first."]
     if head in INSTEAD:
         return [INSTEAD[head]]
-    if head in MARKS:
+    if head in OPERATORS:
         return ["This is a value. To keep it write `(:= name %s)`." % node.source(program.text)]
     return ["A command is `(:= name value)`, `(report)` or `(fallthrough)`."] + did_you_mean(head, COMMANDS)
 
@@ -391,11 +389,11 @@ def hints_of_expression(program, node):
         if node.within.head() in (":=", "bind") and node.index == 2:
             return ["`%s` has two parts, %s; here are %d." % (head, parts, count)]
         return ["`%s` is the whole value of an assignment, `(:= name (%s ..))`, and can't be a part of an expression." % (head, head)]
-    if head in MARKS and count == 1 and head in ("-", "sub"):
+    if head in OPERATORS and count == 1 and head in ("-", "sub"):
         return ["There are no negative numbers: `-` takes two parts."]
-    if head in MARKS and count > 2:
+    if head in OPERATORS and count > 2:
         return ["`%s` takes two parts, here are %d: write `(%s (%s a b) c)`." % (head, count, head, head)]
-    if head in MARKS:
+    if head in OPERATORS:
         return ["`%s` takes two parts, here %s %d." % (head, "is" if count == 1 else "are", count)]
     if head in INSTEAD:
         return [INSTEAD[head]]
@@ -403,7 +401,7 @@ def hints_of_expression(program, node):
         return ["Write `%s` without parentheses." % cut(head)]
     if len(node.parts) > 1 and head in program.names(node):
         return ["The operator comes first: `(+ a b)`."]
-    return ["A list that is a value begins with an operator."] + did_you_mean(head, MARKS)
+    return ["A list that is a value begins with an operator."] + did_you_mean(head, list(OPERATORS))
 
 
 def looks_like_path(text):

@@ -3,20 +3,12 @@ import json
 import os
 import re
 
+from ccp import AGENTS, LIMITS, MODES, SPLIT
 from explaining import json_places, programs
 from explaining.shown import Finding, Text, cut, did_you_mean, nearest, pointed
 
 TOP = os.path.dirname(os.path.dirname(os.path.dirname(os.path.abspath(__file__))))
 SCHEMA = os.path.join(TOP, "examples", "scenario.schema.json")
-CASES = {"campaign": 1024}
-TOTAL = 262144
-# what takes more cases than a run of a mode
-MORE_CASES = {
-    "campaign": " tools/campaign-over-machines takes any number.",
-    "timeline": " tools/campaign-over-machines --timeline takes any number.",
-    "acks": " tools/campaign-over-machines --acks takes any number.",
-    "live": " `campaign` takes 1024, and `tools/campaign-over-machines --timeline` prints reports of any number.",
-}
 NAME = re.compile("[A-Za-z0-9_.-]{1,32}")
 # members that ccp ignores and that say nothing wrong: of editors, and what tools/scenario writes for tools/metrics
 NOTES = re.compile(r"[$_].*|comment|note|description|title|sender|seed|rate|loss")
@@ -87,7 +79,7 @@ class Scenario:
         return "shared" if self.whole is not None and self.whole.member("shared") else "campaign"
 
     def case_kind(self, mode):
-        return "rolloutCase" if mode == "rollout" else "case"
+        return "rolloutCase" if reads(mode) == "rollout" else "case"
 
     def found(self, path):
         """The object that a path ends in, the name of its last step, and the value there or None."""
@@ -102,6 +94,20 @@ class Scenario:
                 keys = [key for key in sorted(self.table(name), key=str.encode) if path_name(key) == path]
                 return value, keys[0], self.table(name)[keys[0]][1]
         return within, name, value
+
+
+def reads(mode):
+    """The kind of scenario that a mode reads; `audit` reads one of `live`."""
+    return MODES[mode].reads
+
+
+def more_cases(mode):
+    """What takes more cases than a run of a mode."""
+    if mode in SPLIT:
+        return " tools/campaign-over-machines%s takes any number." % SPLIT[mode]
+    if mode == "live":
+        return " `campaign` takes 1024, and `tools/campaign-over-machines --timeline` prints reports of any number."
+    return ""
 
 
 def path_name(key):
@@ -135,11 +141,11 @@ def refusal_of(scenario, mode, reason, sentences, program_sentences):
 def wrong_mode(scenario, mode):
     """A hint where the scenario looks like one of another mode."""
     looks = scenario.mode()
-    if looks == "rollout" and mode != "rollout":
+    if looks == "rollout" and reads(mode) != "rollout":
         return ["Its cases have `steps` or `cwnd`: this looks like a scenario of `rollout`."]
-    if mode == "rollout" and looks != "rollout":
+    if reads(mode) == "rollout" and looks != "rollout":
         return ["No case has `steps` or `cwnd`: this looks like a scenario of `%s`." % looks]
-    if mode == "shared" and looks == "campaign":
+    if reads(mode) == "shared" and looks == "campaign":
         return ["It has no member `shared`: this looks like a scenario of `campaign` or `live`."]
     return []
 
@@ -255,7 +261,7 @@ def hints_of_value(scenario, of, name, value):
     if name in ("trace", "ss", "ca", "steps"):
         return hints_of_reference(scenario, name, value)
     if name == "agent":
-        return ["Here is %s." % shown_value(value)] + (did_you_mean(value.is_, ["reno", "cubic"]) if value.kind == "text" else [])
+        return ["Here is %s." % shown_value(value)] + (did_you_mean(value.is_, list(AGENTS)) if value.kind == "text" else [])
     if name == "name":
         return hints_of_name(value.is_) if value.kind == "text" else ["A name is a text; here is %s." % value.kind_name()]
     if name in ("programs", "traces", "shared"):
@@ -288,9 +294,9 @@ def shown_value(value):
 
 def out_of_range(scenario, mode, of, _within, name, value, path):
     if path == "cases":
-        limit = CASES.get(mode, 64)
+        limit = LIMITS["cases"]["live" if mode == "audit" else mode]
         first = value.is_[limit]
-        more = MORE_CASES.get(mode, "")
+        more = more_cases(mode)
         return Finding("refused", first.start, first.start + 1, "", ["`%s` takes at most %d cases; here are %d.%s" % (mode, limit, len(value.is_), more)])
     if path == "programs":
         return Finding("refused", value.start, value.start + 1, "", ["At most 13 programs; here are %d." % len(value.names())])
@@ -304,7 +310,7 @@ def out_of_range(scenario, mode, of, _within, name, value, path):
 
 def totals_refusal(scenario, mode, reason, hints):
     total = sum(case.member("acks").whole() for case in scenario.cases())
-    hints.append("Here are %d acknowledgements in %d cases; the limit is %d. `campaign` has no such limit.%s" % (total, len(scenario.cases()), TOTAL, MORE_CASES[mode] if mode in ("timeline", "acks") else ""))
+    hints.append("Here are %d acknowledgements in %d cases; the limit is %d. `campaign` has no such limit.%s" % (total, len(scenario.cases()), LIMITS["total_acks"], more_cases(mode) if mode in SPLIT else ""))
     start = scenario.whole.member("cases").start
     return Finding("refused", start, start + 1, reason, hints)
 
@@ -393,7 +399,7 @@ def objects(scenario, mode):
     whole, kind = scenario.whole, scenario.case_kind(mode)
     found = [("whole", whole), (None, whole.member("programs")), (None, whole.member("traces"))]
     found += [(kind, case) for case in scenario.cases()]
-    found += [("bottleneck", whole.member("shared"))] if mode == "shared" else []
+    found += [("bottleneck", whole.member("shared"))] if reads(mode) == "shared" else []
     return [(of, value) for of, value in found if value is not None and value.kind == "object"]
 
 
@@ -409,10 +415,10 @@ def twice(value):
 def unknown(scenario, mode, of, value):
     """Members that ccp ignores."""
     known = scenario.rules.members(of)
-    others = scenario.rules.members("case" if mode == "rollout" else "rolloutCase") if of in ("case", "rolloutCase") else {}
+    others = scenario.rules.members("case" if reads(mode) == "rollout" else "rolloutCase") if of in ("case", "rolloutCase") else {}
     for name in value.names():
         key = value.members(name)[-1][0]
-        if name in known or (of == "whole" and name == "shared" and mode == "shared"):
+        if name in known or (of == "whole" and name == "shared" and reads(mode) == "shared"):
             continue
         if name in others or (of == "whole" and name == "shared"):
             yield Finding("warning", key.start, key.end, "`%s` is ignored by `%s`" % (name, mode))
@@ -429,7 +435,7 @@ def unused(scenario, mode):
     shared = scenario.whole.member("shared")
     users = [*scenario.cases(), *([shared] if shared else [])]
     traces = texts_of(users, ["trace"])
-    used = texts_of(users, ["steps"] if mode == "rollout" else ["ss", "ca"])
+    used = texts_of(users, ["steps"] if reads(mode) == "rollout" else ["ss", "ca"])
     for key, of, names in [(key, "trace", traces) for key, _ in scenario.table("traces").values()] + [
             (key, "program", used) for key, _ in scenario.table("programs").values()]:
         if key.is_ not in names:

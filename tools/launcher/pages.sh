@@ -1,20 +1,23 @@
 # shellcheck shell=bash disable=SC2154,SC2034
 # The pages that the launcher answers with: help, the help of a mode, and the version.
 
-# The rows of README's table of modes: of each mode its name, what it does and an example, with tabs between.
+# The rows of README's table of modes: of each mode its name, what it reads, what it does, its page and an example, with tabs
+# between.
 mode_rows() {
     awk '
         /^## / { within = $0 == "## Modes" }
         within && /^\| `/ {
             gsub(/\\\|/, "\001")
             split($0, cells, / *\| */)
-            gsub(/ \(\[[^)]*\)\)/, "", cells[3])
-            cells[3] = without_links(cells[3])
-            gsub(/`/, "", cells[2])
-            gsub(/`/, "", cells[3])
-            gsub(/`/, "", cells[4])
-            gsub("\001", "|", cells[4])
-            printf "%s\t%s\t%s\n", cells[2], cells[3], cells[4]
+            page = "-"
+            if (match(cells[3] cells[4], /docs\/[a-z]*\.md/)) page = substr(cells[3] cells[4], RSTART, RLENGTH)
+            gsub(/ \(\[[^)]*\)\)/, "", cells[4])
+            for (i = 2; i <= 5; i++) {
+                cells[i] = without_links(cells[i])
+                gsub(/`/, "", cells[i])
+                gsub("\001", "|", cells[i])
+            }
+            printf "%s\t%s\t%s\t%s\t%s\n", cells[2], cells[3], cells[4], page, cells[5]
         }
         function without_links(text) {
             while (match(text, /\[[^]]*\]\([^)]*\)/)) {
@@ -47,7 +50,7 @@ links with Reno and CUBIC as agents. Input comes from FILE, or from standard inp
 
 Modes:
 END_OF_PAGE
-    mode_rows | while IFS=$'\t' read -r name text example; do printf '  %-9s %s\n              %s\n' "$name" "$text" "$example"; done
+    mode_rows | while IFS=$'\t' read -r name _ text _ example; do printf '  %-9s %s\n              %s\n' "$name" "$text" "$example"; done
     printf '\nOptions, before or after the mode, each at most once:\n'
     page_of_options
     cat <<'END_OF_PAGE'
@@ -63,41 +66,17 @@ More: README.md, docs/, man -l docs/ccp.1. The scripts of tools/ make scenarios,
 END_OF_PAGE
 }
 
-# What a mode reads.
-input_of_mode() {
-    case $1 in
-        check) echo 'a program (docs/language.md)' ;;
-        fold) echo 'a program (docs/language.md), a line ---, and lines of acknowledgements' ;;
-        campaign) echo 'a scenario of at most 1,024 cases (docs/scenarios.md)' ;;
-        live | timeline | acks) echo 'a scenario of at most 64 cases (docs/scenarios.md)' ;;
-        shared) echo 'a scenario with the member "shared" (docs/scenarios.md)' ;;
-        rollout) echo 'a scenario of a rollout (docs/scenarios.md)' ;;
-        audit) echo 'a scenario of live, a line ---, and a live text' ;;
-        feed) echo 'a stream of frames (docs/frames.md)' ;;
-        soak) echo 'nothing' ;;
-    esac
-}
-
 # The page of one mode.
 page_of_mode() {
-    local name text example options page input=' [FILE]'
+    local name reads text page example options files
     options=$(page_of_options "$1")
-    case $1 in
-        soak) input='' ;;
-        fold) input=' [FILE | PROGRAM ACKS]' ;;
-        audit) input=' [FILE | SCENARIO TEXT]' ;;
-    esac
-    printf 'ccp %s\n\n' "${options:+[OPTION].. }$1$input"
-    mode_rows | while IFS=$'\t' read -r name text example; do
-        if [ "$name" = "$1" ]; then printf '%s.\nReads %s.\n\n  %s\n' "${text^}" "$(input_of_mode "$1")" "$example"; fi
-    done
+    files=$(files_of "$1")
+    if [ "${files/ /}" != "$files" ]; then files="FILE | $files"; fi
+    printf 'ccp %s%s%s\n\n' "${options:+[OPTION].. }" "$1" "${files:+ [$files]}"
+    IFS=$'\t' read -r name reads text page example < <(mode_rows | grep "^$1"$'\t')
+    printf '%s.\nReads %s.\n\n  %s\n' "${text^}" "$reads" "$example"
     if [ -n "$options" ]; then printf '\nOptions:\n%s\n' "$options"; fi
-    case $1 in
-        acks) page=docs/timeline.md ;;
-        feed) page=docs/frames.md ;;
-        *) page=docs/$1.md ;;
-    esac
-    if [ -e "$here/$page" ]; then page+=', '; else page=''; fi
+    if [ "$page" != - ]; then page+=', '; else page=''; fi
     printf '\nMore: %sdocs/formats.md\n' "$page"
 }
 

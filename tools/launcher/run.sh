@@ -70,8 +70,8 @@ print_errors() {
     fi
     cat "$1" >&2
     if [ "$status" = 3 ] && [ -t 2 ] && [ -x "$here/tools/explain" ]; then
-        case $mode in
-            check | fold | campaign | live | rollout | shared | timeline | acks | audit)
+        case $(reads_of "$mode") in
+            'a program'* | 'a scenario'*)
                 echo "ccp: $(words_of_explain) says what is wrong, where, and what is accepted" >&2 ;;
         esac
     fi

@@ -40,13 +40,42 @@ is_number() {
     [ ${#digits} -le 10 ] && [ "$digits" -ge "$2" ] && [ "$digits" -le "$3" ]
 }
 
-# How many FILEs a mode takes.
-most_files() {
-    case $1 in
-        soak) echo 0 ;;
-        fold | audit) echo 2 ;;
-        *) echo 1 ;;
+# What a mode reads, without the targets of links: the second cell of its row in README's table of modes.
+reads_of() {
+    local line cell link='\[([^]]*)\]\([^)]*\)'
+    while IFS= read -r line; do
+        if [[ $line == "| \`$1\` |"* ]]; then
+            cell=${line#*| *| }
+            cell=${cell%% |*}
+            while [[ $cell =~ $link ]]; do cell=${cell/"${BASH_REMATCH[0]}"/"${BASH_REMATCH[1]}"}; done
+            printf '%s' "$cell"
+            return
+        fi
+    done < "$here/README.md"
+}
+
+# The FILEs that a mode takes: two if it reads one thing and another.
+files_of() {
+    case $(reads_of "$1") in
+        nothing) ;;
+        'a program and acknowledgements') echo 'PROGRAM ACKS' ;;
+        *' and '*) echo 'SCENARIO TEXT' ;;
+        *) echo FILE ;;
     esac
+}
+
+most_files() {
+    files_of "$1" | wc -w
+}
+
+# Whether a mode uses the option $2, by the table of options.
+uses_option() {
+    local row name used
+    for row in "${option_table[@]}"; do
+        read -r name _ _ used _ <<< "$row"
+        if [ "$name" = "$2" ]; then [[ ,$used, == *,$1,* ]]; return; fi
+    done
+    return 1
 }
 
 # Reads the option $1, whose value is $2 if it was written with one, and else the first of `following`.

@@ -10,7 +10,8 @@ import sys
 from harness import PROGRAM, TOOLS, TOP, expect, tool
 
 sys.path.insert(0, TOOLS)
-from explaining import asking, programs, scenarios
+from ccp import definition
+from explaining import asking, meanings, programs, scenarios
 from explaining.shown import nearest
 
 
@@ -122,9 +123,8 @@ def wrong_json_place(text, kind, rest, found):
 
 
 def test_explain_agrees_with_the_program_over_rows():
-    modes = {"check", "fold", "campaign", "live", "timeline", "acks", "shared", "rollout", "audit"}
     seen = {True: 0, False: 0}
-    for name, mode, given, reason in runs_of_rows(modes):
+    for name, mode, given, reason in runs_of_rows(EXPLAIN.MODES):
         given = Input(given)
         refused, text, found = EXPLAIN.explained(PROGRAM, given, mode)
         expect(refused == (reason is not None), "%s: refused %s" % (name, refused))
@@ -142,7 +142,7 @@ def test_explain_agrees_with_the_program_over_rows():
 
 def test_explain_reads_json_as_the_program():
     """What isn't JSON to one of them isn't to the other."""
-    for name, mode, given, reason in runs_of_rows({"campaign", "live", "timeline", "acks", "shared", "rollout"}):
+    for name, mode, given, reason in runs_of_rows(EXPLAIN.SCENARIOS):
         broken = scenarios.Scenario("row", Input(given).text).broken
         expect((broken is not None) == (reason == "json"), "%s: %s" % (name, broken))
 
@@ -162,6 +162,17 @@ def test_explain_knows_the_primitives():
     with open(os.path.join(TOP, "docs", "language.md"), encoding="utf-8") as file:
         named = set(re.findall(r"\| `((?:Ack|Flow)[.]\w+)` ", file.read()))
     expect(named == set(programs.PRIMITIVES), str(named ^ set(programs.PRIMITIVES)))
+
+
+def test_explain_knows_the_operators():
+    """The page's table of operators, the definition that programs.py reads, and what meanings.py works out are the same ones."""
+    with open(os.path.join(TOP, "docs", "language.md"), encoding="utf-8") as file:
+        rows = re.findall(r"^\| `(\S+)` \| `(\w+)` \| (\d+) \|", file.read(), re.MULTILINE)
+    shown = {text: word for mark, word, _ in rows for text in (mark.replace("\\|", "|"), word)}
+    expect(shown == programs.OPERATORS, str(set(shown.items()) ^ set(programs.OPERATORS.items())))
+    for mark, word, number in rows:
+        expect('%s (codes "%s")' % (number, word) in definition("Operations.antt"), word)
+    expect(set(meanings.MEANINGS) == set(programs.OPERATORS.values()), "meanings")
 
 
 def explained(text, mode=None, is_quiet=False, status=1, holds=()):

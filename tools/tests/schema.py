@@ -11,6 +11,7 @@ import sys
 from harness import LeftOut, TOOLS, TOP, ccp, expect
 
 sys.path.insert(0, TOOLS)
+from ccp import MODES
 from explaining import json_places, scenarios
 
 SCHEMA = os.path.join(TOP, "examples", "scenario.schema.json")
@@ -58,15 +59,14 @@ def rows_of_scenarios():
     loader = importlib.machinery.SourceFileLoader("tests_explain", os.path.join(TOOLS, "tests", "explain.py"))
     module = importlib.util.module_from_spec(importlib.util.spec_from_loader(loader.name, loader))
     loader.exec_module(module)
-    for name, mode, data, reason in module.runs_of_rows({"campaign", "live", "timeline", "acks", "shared", "rollout"}):
+    for name, mode, data, reason in module.runs_of_rows(module.EXPLAIN.SCENARIOS):
         try:
             text = data.decode("utf-8")
             json.loads(text)
         except ValueError:
             expect(reason is not None, "%s: ccp takes what Python doesn't" % name)
             continue
-        # `timeline` and `acks` read what `live` reads
-        yield name, "live" if mode in ("timeline", "acks") else mode, text, reason
+        yield name, MODES[mode].reads, text, reason
 
 
 def is_whole_to_a_schema(value):

@@ -12,7 +12,6 @@ from harness import TOP, TRACES, LeftOut, ccp, content, expect, ran, tool
 
 DELAY = os.path.join(TOP, "examples", "delay.portus")
 AGENT = os.path.join(TOP, "examples", "agent.py")
-RECORDED = os.path.join(TOP, "examples", "recorded.acks")
 LIVE = os.path.join(TOP, "examples", "live.json")
 
 
@@ -80,20 +79,15 @@ def test_agent_answers_as_the_built_in_one():
     timeline, errors, status = ccp(["timeline"], content(LIVE))
     expect(status == 0, errors)
     tickets = [line for line in timeline.split("flow 1 ")[0].splitlines() if line.startswith("ticket")]
-    printed, errors, status = agent(RECORDED)
+    acks, errors, status = ccp(["acks"], content(LIVE))
+    expect(status == 0, errors)
+    printed, errors, status = agent("-", given=acks)
     expect(status == 0, errors)
     answers = printed.splitlines()[:-1]
     expect(len(answers) == len(tickets) > 0, printed)
     for ticket, answer in zip(tickets, answers):
         for word in answer.split()[1:]:
             expect(word in ticket.split(), "%s isn't in %s" % (word, ticket))
-
-
-def test_the_recording_is_what_acks_prints():
-    needs_mode("acks")
-    acks, errors, status = ccp(["acks"], content(LIVE))
-    expect(status == 0, errors)
-    expect(acks.partition("flow 1 ")[0] == content(RECORDED), "examples/recorded.acks differs")
 
 
 def test_agent_meets_a_timeout_and_a_fault():
@@ -118,7 +112,7 @@ def test_agent_says_what_is_wrong():
             expect(status == 1 and not printed and place in errors and errors.count("\n") == 1, "%r: %d %s" % (text, status, errors))
     printed, errors, status = agent("no-such-file")
     expect(status == 1 and "no-such-file" in errors and errors.count("\n") == 1, errors)
-    printed, errors, status = ran([AGENT, "--program", "/no/ccp", RECORDED])
+    printed, errors, status = ran([AGENT, "--program", "/no/ccp", "-"], "now=1\n")
     expect(status == 1 and "/no/ccp" in errors and errors.count("\n") == 1, errors)
 
 
