@@ -182,58 +182,39 @@ put-parts flow ack held env s = λ i. record (step_outcome flow ack (held, env) 
 put-parts flow ack (reported fields) env s = λ i. record (step_outcome flow ack (reported fields, env) s) { faults = plus-none s.faults i; held = plus-none s.held i }
 put-parts flow ack (failed fault) env s = λ i. record (step_outcome flow ack (failed fault, env) s) { waiting = append-nil s.waiting i; held = plus-none s.held i }
 
+-- one acknowledgement more, and at most one report or notice, one fault and one held report
+range-more : (case : Case) (s next : Summary)
+    → next ≡ record s { track = next.track; acks = s.acks + 1; time = next.time; waiting = next.waiting; untold = next.untold; faults = next.faults; held = next.held }
+    → s.acks < case.acks → length next.waiting + some_count next.untold ≤ (length s.waiting + some_count s.untold) + 1
+    → next.faults ≤ s.faults + 1 → next.held ≤ s.held + 1 → InRange case s → InRange case next
+range-more case s next is left open_ fault hold range =
+    let tickets = range.tickets in
+    let faults = range.faults in
+    let before = range.held in
+    subst (InRange case) (sym is) (record {
+      ss = range.ss;
+      ca = range.ca;
+      acks = omega (arith, left);
+      tickets = omega (arith, tickets, open_);
+      epochs = range.epochs;
+      told = range.told;
+      faults = omega (arith, faults, fault);
+      held = omega (arith, before, hold);
+    })
+
 range-met : {X : Type 0} → (case : Case) (flow : Flow X) (ack : Ack) (outcome : Outcome (FaultKind × X)) (env : Env) (s : Summary)
     → s.acks < case.acks → InRange case s → InRange case (step_outcome flow ack (outcome, env) s)
-range-met case flow ack quiet env s left range = record {
-  ss = range.ss;
-  ca = range.ca;
-  acks = omega (arith, left);
-  tickets = let before = range.tickets in omega (arith, before, length-append s.waiting []);
-  epochs = range.epochs;
-  told = range.told;
-  faults = let before = range.faults in omega (arith, before);
-  held = let before = range.held in omega (arith, before);
-}
-range-met case flow ack stopped env s left range = record {
-  ss = range.ss;
-  ca = range.ca;
-  acks = omega (arith, left);
-  tickets = let before = range.tickets in omega (arith, before, length-append s.waiting []);
-  epochs = range.epochs;
-  told = range.told;
-  faults = let before = range.faults in omega (arith, before);
-  held = let before = range.held in omega (arith, before);
-}
-range-met case flow ack held env s left range = record {
-  ss = range.ss;
-  ca = range.ca;
-  acks = omega (arith, left);
-  tickets = let before = range.tickets in omega (arith, before, length-append s.waiting []);
-  epochs = range.epochs;
-  told = range.told;
-  faults = let before = range.faults in omega (arith, before);
-  held = let before = range.held in omega (arith, before);
-}
-range-met case flow ack (reported fields) env s left range = record {
-  ss = range.ss;
-  ca = range.ca;
-  acks = omega (arith, left);
-  tickets = let before = range.tickets in omega (arith, before, length-append s.waiting (report_of (record { flow = flow.number; program = s.program; number = s.epoch }) s.track ack env fields ∷ []));
-  epochs = range.epochs;
-  told = range.told;
-  faults = let before = range.faults in omega (arith, before);
-  held = let before = range.held in omega (arith, before);
-}
-range-met case flow ack (failed fault) env s left range = record {
-  ss = range.ss;
-  ca = range.ca;
-  acks = omega (arith, left);
-  tickets = let before = range.tickets in omega (arith, before, length-append s.waiting []);
-  epochs = range.epochs;
-  told = range.told;
-  faults = let before = range.faults in omega (arith, before);
-  held = let before = range.held in omega (arith, before);
-}
+range-met case flow ack quiet env s left range =
+    range-more case s (step_outcome flow ack (quiet, env) s) refl left (omega (arith, length-append s.waiting [])) (omega arith) (omega arith) range
+range-met case flow ack stopped env s left range =
+    range-more case s (step_outcome flow ack (stopped, env) s) refl left (omega (arith, length-append s.waiting [])) (omega arith) (omega arith) range
+range-met case flow ack held env s left range =
+    range-more case s (step_outcome flow ack (held, env) s) refl left (omega (arith, length-append s.waiting [])) (omega arith) (omega arith) range
+range-met case flow ack (reported fields) env s left range =
+    let report = report_of (record { flow = flow.number; program = s.program; number = s.epoch }) s.track ack env fields in
+    range-more case s (step_outcome flow ack (reported fields, env) s) refl left (omega (arith, length-append s.waiting (report ∷ []))) (omega arith) (omega arith) range
+range-met case flow ack (failed fault) env s left range =
+    range-more case s (step_outcome flow ack (failed fault, env) s) refl left (omega (arith, length-append s.waiting [])) (omega arith) (omega arith) range
 
 -- a report was put at the outbox's end
 module _ (s : BareParts) (ack : Ack) (machine : MachineState) (outbox : OutboxState) (report : Report) (first : ℕ)

@@ -6,10 +6,11 @@ use Rattle.link_model.specs.Link.{ack_after, acks_for_windows}
 use Rattle.link_model.specs.LinkLaws.{acks_of-push}
 use Rattle.link_model.specs.Standing.{LinkState, Stands}
 use Rattle.agent_core.specs.declared.ticket.Ticket.{Ticket}
+use Rattle.flow_core.specs.declared.letter.Letter.{Letter}
 use Rattle.flow_core.specs.declared.letter.Letter.TheVariants.{A, T, C}
 use Rattle.flow_core.specs.World.{World, track_of, after_ack, after_take, after_answer}
-use Rattle.flow_core.specs.Words.{legal, legal_over}
-use Rattle.flow_core.specs.WordLaws.{world-append, acks_in-A, acks_in-T, acks_in-C}
+use Rattle.flow_core.specs.Words.{from_link, after_letter, legal, legal_over}
+use Rattle.flow_core.specs.WordLaws.{acks_in, world-append, acks_in-A, acks_in-T, acks_in-C}
 use Rattle.flow_core.specs.Books.{out_ticket}
 use Rattle.flow_core.specs.Cores.{CoreState, flow_in, world_in, out_in}
 use Rattle.flow_core.specs.Cells.{CellState, world_at, ack_at, out_at, IsCell, StateHoldsForSources}
@@ -62,64 +63,47 @@ module _ (core : CoreState) (link : LinkState) (cell : IsCell core link) where
       } in
       subst (λ (c : CoreState). IsCell c next) (sym grown) whole
 
-  pub cell-T : (new : CoreState) → new ≡ record core { word = core.word ++ T ∷ [] } → world_in new ≡ after_take (world_in core) → IsCell new link
-  cell-T new grown world =
-      let literal : CoreState = record core { word = core.word ++ T ∷ [] } in
-      let windows : (world_in literal).windows ≡ (world_in core).windows =
-      ap (λ (v : World ℕ). v.windows) (ap world_in (sym grown) ∙ world) ∙ (take-keeps (flow_in core) (world_in core)).windows in
+  -- a letter that takes no acknowledgement, or a refusal
+  pub cell-grown : {R E : Type 0} (letter : Letter) (next : World ℕ) → acks_in (core.word ++ letter ∷ []) ≡ acks_in core.word
+      → next.windows ≡ (world_in core).windows → (result : Result R E) (new : CoreState)
+      → OnOk result (new ≡ record core { word = core.word ++ letter ∷ [] }) → OnOk result (world_in new ≡ next) → OnErr result (new ≡ core)
+      → IsCell new link
+  cell-grown letter next none same_windows (Ok r) new grown world unchanged =
+      let literal : CoreState = record core { word = core.word ++ letter ∷ [] } in
+      let windows : (world_in literal).windows ≡ (world_in core).windows = ap (λ (v : World ℕ). v.windows) (ap world_in (sym grown) ∙ world) ∙ same_windows in
       let whole : IsCell literal link = record {
         case = cell.case;
-        all = acks_in-T core.word ∙ cell.all;
+        all = none ∙ cell.all;
         acks = cell.acks ∙ ap (acks_for_windows core.case.link) (sym windows);
         stands = subst (Stands link) (sym windows) cell.stands;
         calls = cell.calls;
         within = cell.within;
       } in
       subst (λ (c : CoreState). IsCell c link) (sym grown) whole
-
-  pub cell-C : (new : CoreState) → new ≡ record core { word = core.word ++ C ∷ [] } → world_in new ≡ after_answer (flow_in core) (world_in core) → IsCell new link
-  cell-C new grown world =
-      let literal : CoreState = record core { word = core.word ++ C ∷ [] } in
-      let windows : (world_in literal).windows ≡ (world_in core).windows =
-      ap (λ (v : World ℕ). v.windows) (ap world_in (sym grown) ∙ world) ∙ (answer-keeps (flow_in core) (world_in core)).windows in
-      let whole : IsCell literal link = record {
-        case = cell.case;
-        all = acks_in-C core.word ∙ cell.all;
-        acks = cell.acks ∙ ap (acks_for_windows core.case.link) (sym windows);
-        stands = subst (Stands link) (sym windows) cell.stands;
-        calls = cell.calls;
-        within = cell.within;
-      } in
-      subst (λ (c : CoreState). IsCell c link) (sym grown) whole
-
-  -- ---- a letter or a refusal
+  cell-grown letter next none same_windows (Err e) new grown world unchanged = subst (λ (c : CoreState). IsCell c link) (sym unchanged) cell
 
   pub cell-taken : {R E : Type 0} (result : Result R E) (new : CoreState)
       → OnOk result (new ≡ record core { word = core.word ++ T ∷ [] }) → OnOk result (world_in new ≡ after_take (world_in core)) → OnErr result (new ≡ core)
       → IsCell new link
-  cell-taken (Ok r) new grown world unchanged = cell-T new grown world
-  cell-taken (Err e) new grown world unchanged = subst (λ (c : CoreState). IsCell c link) (sym unchanged) cell
+  cell-taken result new =
+      cell-grown T (after_take (world_in core)) (acks_in-T core.word) (take-keeps (flow_in core) (world_in core)).windows result new
 
   pub cell-settled : {R E : Type 0} (result : Result R E) (new : CoreState)
       → OnOk result (new ≡ record core { word = core.word ++ C ∷ [] }) → OnOk result (world_in new ≡ after_answer (flow_in core) (world_in core)) → OnErr result (new ≡ core)
       → IsCell new link
-  cell-settled (Ok r) new grown world unchanged = cell-C new grown world
-  cell-settled (Err e) new grown world unchanged = subst (λ (c : CoreState). IsCell c link) (sym unchanged) cell
+  cell-settled result new =
+      cell-grown C (after_answer (flow_in core) (world_in core)) (acks_in-C core.word) (answer-keeps (flow_in core) (world_in core)).windows result new
 
 module _ (core new : CoreState) where
   pub world-A-at : (ack : Ack) → new ≡ record core { acks = core.acks ++ ack ∷ []; word = core.word ++ A ∷ [] }
       → world_at (cell_of new) ≡ after_ack (flow_in core) (ack_at (cell_of core)) (world_at (cell_of core))
   world-A-at ack grown = ap (λ (c : CoreState). world_at (cell_of c)) grown ∙ world-append (flow_in core) core.case.link core.word A
 
-  pub world-T-at : {R E : Type 0} (result : Result R E) → OnOk result (new ≡ record core { word = core.word ++ T ∷ [] })
-      → OnOk result (world_at (cell_of new) ≡ after_take (world_at (cell_of core)))
-  world-T-at (Ok r) grown = ap (λ (c : CoreState). world_at (cell_of c)) grown ∙ world-append (flow_in core) core.case.link core.word T
-  world-T-at (Err e) grown = tt
-
-  pub world-C-at : {R E : Type 0} (result : Result R E) → OnOk result (new ≡ record core { word = core.word ++ C ∷ [] })
-      → OnOk result (world_at (cell_of new) ≡ after_answer (flow_in core) (world_at (cell_of core)))
-  world-C-at (Ok r) grown = ap (λ (c : CoreState). world_at (cell_of c)) grown ∙ world-append (flow_in core) core.case.link core.word C
-  world-C-at (Err e) grown = tt
+  pub world-grown : {R E : Type 0} (letter : Letter) (result : Result R E) → OnOk result (new ≡ record core { word = core.word ++ letter ∷ [] })
+      → OnOk result (world_at (cell_of new) ≡ after_letter (flow_in core) (from_link (flow_in core) core.case.link) (world_at (cell_of core)) letter)
+  world-grown letter (Ok r) grown =
+      ap (λ (c : CoreState). world_at (cell_of c)) grown ∙ world-append (flow_in core) core.case.link core.word letter
+  world-grown letter (Err e) grown = tt
 
 pub ticket-at : {E : Type 0} (new : CoreState) (link : LinkState) → IsCell new link → (result : Result Ticket E)
     → IfOk result (λ ticket. out_in new ≡ Some ticket) → IfOk result (λ ticket. out_at (cell_of new) ≡ Some ticket)

@@ -1,5 +1,5 @@
 -- Where a case's codes simulate two programs, each word comes to the same over the codes as over the programs.
-use Rattle.std.specs.Prelude.{not, ◌&&◌, nat_lt, is_some, is_none, ◌≡◌, ◌==◌, ◌+◌, if◌then◌else◌, ℕ, Bool, true, false, Option, Some, None, option_map, List, [], ◌∷◌, ◌++◌, map, length, refl}
+use Rattle.std.specs.Prelude.{not, ◌&&◌, nat_lt, ◌≡◌, ◌==◌, ◌+◌, if◌then◌else◌, ℕ, Bool, true, false, Option, Some, None, option_map, List, [], ◌∷◌, ◌++◌, map, length, refl}
 use Rattle.std.proofs.Common.{ap, sym, ◌∙◌, subst}
 use Rattle.std.proofs.lemmas.List.{map-append}
 use Rattle.ccp_base.specs.declared.ack.Ack.{Ack}
@@ -22,7 +22,7 @@ use Rattle.agent_core.specs.Agents.{opening_change, replied, course_of, values_o
 use Rattle.agent_core.proofs.ReplyLemmas.{replied-site}
 use Rattle.flow_core.specs.declared.case.Case.{Case}
 use Rattle.flow_core.specs.Readings.{Flow, by_number, code_at, over_codes, over_sources}
-use Rattle.flow_core.specs.World.{Failure, Content, of_report, of_failure, Era, Taken, Answered, World, time_of, track_in, track_of, era_of, opening, failures_met, untold_after, with_met, has_room, after_ack, taking, with_taken, with_reply, told_as, with_turn, answer_applied, after_answer}
+use Rattle.flow_core.specs.World.{Failure, Content, of_report, of_failure, Era, Taken, Answered, World, time_of, track_in, track_of, era_of, opening, failures_met, untold_after, with_met, has_room, after_ack, taking, with_taken, with_reply, notice_of, told_as, with_turn, answer_applied, after_answer}
 use Rattle.flow_core.specs.Lift.{Placing, place_in, map_failure, map_content, map_taken, map_answered, map_world}
 use Rattle.flow_core.proofs.SimulatedEpochs.{met_placed, heard-simulated, after-simulated, IsEnvOf-after, declared-simulated}
 use Rattle.flow_core.specs.declared.letter.Letter.{Letter}
@@ -30,7 +30,8 @@ use Rattle.flow_core.specs.declared.letter.Letter.TheVariants.{A, T, C}
 use Rattle.flow_core.specs.Words.{Giving, from_list, from_link, with_given, after_letter, world_from, world_over, world, is_legal, legal_from, legal, is_complete}
 use Rattle.link_model.specs.declared.link_case.LinkCase.{LinkCase}
 use Rattle.link_model.specs.Link.{ack_after}
-use Rattle.flow_core.proofs.PlacedParts.{notice_of, take-lifts, failures-placed, reports-placed, held-placed, untold-placed}
+use Rattle.flow_core.proofs.MappedLemmas.{some-mapped, none-mapped}
+use Rattle.flow_core.proofs.PlacedParts.{take-lifts, can-placed, failures-placed, reports-placed, held-placed, untold-placed}
 
 -- ---- the two readings of a case
 
@@ -250,6 +251,25 @@ module _ (case : Case) (ss ca : Form) (ss_places ca_places : List Place)
       world_from-lifts by_codes by_sources alike word (opening codes) Shaped-opening
       ∙ ap (λ (v : World Place). world_from sources by_sources v word) opening-lifts
 
+  Shaped-from : (giving : Giving ℕ) (word : List Letter) (w : World ℕ) → Shaped w.present → Shaped (world_from codes giving w word).present
+  Shaped-from giving [] w shape = shape
+  Shaped-from giving (letter ∷ rest) w shape =
+      Shaped-from giving rest (after_letter codes giving w letter) (Shaped-letter giving letter w shape)
+
+  Shaped-source : (giving : Giving Place) (word : List Letter) → Shaped (world_from sources giving (opening sources) word).present
+  Shaped-source giving word =
+      let by_codes : Giving ℕ = λ w. giving (map_world place w) in
+      subst (λ (v : World Place). Shaped v.present) (worlds-lift by_codes giving (λ w shape. refl) word)
+      (Shaped-from by_codes word (opening codes) Shaped-opening)
+
+  -- where a state is one over the sources after a word, whoever gives the acknowledgements, the present epochs stand alike
+  pub track-placed : (w : World ℕ) (giving : Giving Place) (word : List Letter)
+      → map_world (place_in case ss_places ca_places) w ≡ world_from (over_sources case ss ca) giving (opening (over_sources case ss ca)) word
+      → track_of (over_codes case) w ≡ track_of (over_sources case ss ca) (world_from (over_sources case ss ca) giving (opening (over_sources case ss ca)) word)
+  track-placed w giving word same =
+      ap (λ (v : World Place). track_in codes v.present) same
+      ∙ track-lifts (world_from sources giving (opening sources) word).present (Shaped-source giving word)
+
   -- both readings agree after every word: an instruction's index stands for its place
   pub lift : (acks : List Ack) (word : List Letter)
       → map_world (place_in case ss_places ca_places) (world_over (over_codes case) acks word) ≡ world_over (over_sources case ss ca) acks word
@@ -262,24 +282,10 @@ module _ (case : Case) (ss ca : Form) (ss_places ca_places : List Place)
 
   -- ---- legal and complete words
 
-  can_take-lifts : (waiting : List Report) (untold : Option (Failure ℕ))
-      → is_some (taking waiting untold) ≡ is_some (taking waiting (option_map (map_failure place) untold))
-  can_take-lifts (report ∷ rest) untold = refl
-  can_take-lifts [] (Some failure) = refl
-  can_take-lifts [] None = refl
-
-  none-lifts : (out : Option (Taken ℕ)) → is_none out ≡ is_none (option_map (map_taken place) out)
-  none-lifts None = refl
-  none-lifts (Some ticket) = refl
-
-  some-lifts : (out : Option (Taken ℕ)) → is_some out ≡ is_some (option_map (map_taken place) out)
-  some-lifts None = refl
-  some-lifts (Some ticket) = refl
-
   legal_letter-lifts : (letter : Letter) (w : World ℕ) → is_legal codes w letter ≡ is_legal sources (map_world place w) letter
   legal_letter-lifts A w = refl
-  legal_letter-lifts T w = λ i. none-lifts w.out i && can_take-lifts w.waiting w.untold i
-  legal_letter-lifts C w = some-lifts w.out
+  legal_letter-lifts T w = λ i. none-mapped (map_taken place) w.out i && can-placed place w.waiting w.untold i
+  legal_letter-lifts C w = some-mapped (map_taken place) w.out
 
   legal_from-lifts : (by_codes : Giving ℕ) (by_sources : Giving Place) → GivesAlike by_codes by_sources
       → (word : List Letter) (w : World ℕ) → Shaped w.present
@@ -308,7 +314,7 @@ module _ (case : Case) (ss ca : Form) (ss_places ca_places : List Place)
 
   is_complete-placed : (w : World ℕ) → is_complete (over_codes case) w ≡ is_complete (over_sources case ss ca) (map_world place w)
   is_complete-placed w =
-      λ i. not (nat_lt (length w.acks) case.acks) && (none-lifts w.out i && not (can_take-lifts w.waiting w.untold i))
+      λ i. not (nat_lt (length w.acks) case.acks) && (none-mapped (map_taken place) w.out i && not (can-placed place w.waiting w.untold i))
 
   -- and it is complete in both or in neither
   pub complete_over-lift : (acks : List Ack) (word : List Letter)

@@ -1,35 +1,15 @@
 -- What a step of a flow makes of its state, where each fault's instruction becomes its place.
-use Rattle.std.specs.Prelude.{◌≡◌, ℕ, Option, Some, None, option_map, List, [], ◌∷◌, map, refl}
+use Rattle.std.specs.Prelude.{◌≡◌, ℕ, is_some, Option, Some, None, option_map, List, [], ◌∷◌, map, refl}
 use Rattle.ccp_base.specs.declared.ack.Ack.{Ack}
 use Rattle.ccp_base.specs.declared.arithmetic.FaultKind.{FaultKind}
 use Rattle.ccp_base.specs.declared.place.Place.{Place}
 use Rattle.ccp_base.specs.declared.exchange.Report.{Report}
-use Rattle.ccp_base.specs.declared.exchange.Notice.{Notice}
-use Rattle.ccp_base.specs.declared.exchange.Told.TheVariants.{Fault}
 use Rattle.portus_core.specs.declared.env.Env.{Env}
 use Rattle.portus_core.specs.Epoch.{Outcome, quiet, reported, held, failed, stopped, Track}
 use Rattle.portus_core.specs.Reports.{Epoch, reports_met}
-use Rattle.flow_core.specs.Readings.{Flow}
 use Rattle.flow_core.specs.World.{Failure, World, failures_met, untold_after, held_met, taking, with_taken, after_take}
 use Rattle.flow_core.specs.Lift.{Placing, map_failure, map_world}
 use Rattle.flow_core.proofs.SimulatedEpochs.{outcome_placed, met_placed}
-
--- ---- notices
-
--- the fault notice of a failure
-abbrev pub notice_of : {X : Type 0} → Flow X → Failure X → Notice
-notice_of flow failure = record {
-  flow = flow.number;
-  program = failure.program;
-  epoch = failure.epoch;
-  at = failure.at;
-  kind = failure.kind;
-  index = flow.index failure.site;
-  now = failure.now;
-  cwnd = failure.cwnd;
-}
-
--- ---- placed parts
 
 -- without an acknowledgement, a placing changes nothing that is taken
 take-placed : (place : Placing) (w : World ℕ) (waiting : List Report) (untold : Option (Failure ℕ))
@@ -41,6 +21,12 @@ take-placed place w [] None = refl
 
 pub take-lifts : (place : Placing) (w : World ℕ) → map_world place (after_take w) ≡ after_take (map_world place w)
 take-lifts place w = take-placed place w w.waiting w.untold
+
+pub can-placed : (place : Placing) (waiting : List Report) (untold : Option (Failure ℕ))
+    → is_some (taking waiting untold) ≡ is_some (taking waiting (option_map (map_failure place) untold))
+can-placed place (report ∷ rest) untold = refl
+can-placed place [] (Some failure) = refl
+can-placed place [] None = refl
 
 pub failures-placed : (place : Placing) (program epoch at : ℕ) (ack : Ack) (outcome : Outcome (FaultKind × ℕ)) (env : Env)
     → map (map_failure place) (failures_met program epoch at ack (outcome, env))

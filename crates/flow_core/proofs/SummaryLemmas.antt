@@ -1,5 +1,5 @@
 -- The summary after a letter is determined by the summary before it.
-use Rattle.std.specs.Prelude.{◌≡◌, ◌+◌, not, ◌&&◌, nat_lt, is_some, is_none, Option, Some, None, option_map, List, [], ◌∷◌, ◌++◌, length, map, refl}
+use Rattle.std.specs.Prelude.{◌≡◌, ◌+◌, not, ◌&&◌, nat_lt, is_some, Option, Some, None, option_map, List, [], ◌∷◌, ◌++◌, length, map, refl}
 use Rattle.std.proofs.Common.{ap, ◌∙◌, arith, length-append}
 use Rattle.std.proofs.lemmas.List.{map-append}
 use Rattle.ccp_base.specs.declared.ack.Ack.{Ack}
@@ -20,6 +20,7 @@ use Rattle.flow_core.specs.Books.{ticket_line}
 use Rattle.flow_core.specs.LiveText.{reports_told, report_count}
 use Rattle.flow_core.specs.States.{issued_as}
 use Rattle.flow_core.specs.Summaries.{summary, notice_after, step_ack, next_telling, with_told, step_take, step_reply, step_turn, step_out, step_answer, step_given, step_letter, may_make, is_done}
+use Rattle.flow_core.proofs.MappedLemmas.{some-mapped, none-mapped}
 
 -- the time of the last one of a list
 time-append : (acks : List Ack) (ack : Ack) → time_of (acks ++ ack ∷ []) ≡ ack.now
@@ -119,18 +120,10 @@ module _ {X : Type 0} (flow : Flow X) where
   can-told [] (Some failure) = refl
   can-told [] None = refl
 
-  none-mapped : (out : Option (Taken X)) → is_none out ≡ is_none (option_map (issued_as flow) out)
-  none-mapped None = refl
-  none-mapped (Some ticket) = refl
-
-  some-mapped : (out : Option (Taken X)) → is_some out ≡ is_some (option_map (issued_as flow) out)
-  some-mapped None = refl
-  some-mapped (Some ticket) = refl
-
   pub summary-legal : (letter : Letter) (w : World X) → is_legal flow w letter ≡ may_make flow (summary flow w) letter
   summary-legal A w = refl
-  summary-legal T w = λ i. none-mapped w.out i && can-told w.waiting w.untold i
-  summary-legal C w = some-mapped w.out
+  summary-legal T w = λ i. none-mapped (issued_as flow) w.out i && can-told w.waiting w.untold i
+  summary-legal C w = some-mapped (issued_as flow) w.out
 
   pub summary-complete : (w : World X) → is_complete flow w ≡ is_done flow (summary flow w)
-  summary-complete w = λ i. not (nat_lt (length w.acks) flow.acks) && (none-mapped w.out i && not (can-told w.waiting w.untold i))
+  summary-complete w = λ i. not (nat_lt (length w.acks) flow.acks) && (none-mapped (issued_as flow) w.out i && not (can-told w.waiting w.untold i))

@@ -17,6 +17,8 @@ use Rattle.flow_core.specs.WordLaws.{acks_in}
 use Rattle.flow_core.specs.Lift.{place_in, map_world}
 use Rattle.flow_core.specs.Books.{out_ticket}
 use Rattle.flow_core.specs.Cores.{CoreState, world_in, met_in, acked_as, ran_met}
+use Rattle.flow_core.specs.Summaries.{summary}
+use Rattle.flow_core.specs.Bares.{BareState}
 
 pub record CellState : Type 0 where
   pub case : Case
@@ -29,6 +31,10 @@ flow_at cell = over_codes cell.case
 -- the flow's state after its word, with the acknowledgements of its link
 abbrev pub world_at : CellState → World ℕ
 world_at cell = world (flow_at cell) cell.case.link cell.word
+
+-- what later letters depend on
+abbrev pub bare_at : CellState → BareState
+bare_at cell = record { case = cell.case; summary = summary (flow_at cell) (world_at cell) }
 
 -- the link's next acknowledgement: for the windows so far and the present `Cwnd`
 abbrev pub ack_at : CellState → Ack

@@ -25,8 +25,8 @@ use agent_core::{Agent, Answer, Ticket};
 use ccp_base::{Ack, FaultKind, FieldReg, Fields, NoMemory, Notice, Reply, Report, Told};
 use fold_machine::{Acked, Machine, Steps};
 use std::alloc::Global;
-use std::marker::Model;
-use std::sync::ledger::Ledger;
+use std::marker::{Brand, Model};
+use std::sync::ledger::{Blank, Ledger};
 
 /// What the ticket that is out tells, and at how many acknowledgements it was taken.
 #[derive(Clone, Copy, Drop)]
@@ -597,6 +597,28 @@ impl Bare {
         ensures steps { steps.new ≡ steps.old + instructions_at self.old.case ack.entry.now self.old.summary }
     {
         self.parts.hear(ack, steps)
+    }
+
+    /// The same, where nobody reads the count.
+    #[inline(always)]
+    pub fn hear(&mut self, ack: &Ack) -> Acked
+        requires { may_make (over_codes self.old.case) self.old.summary Letter.A ≡ true }
+        ensures step { self.new ≡ record self.old { summary = step_ack (over_codes self.old.case) ack.entry.now self.old.summary } }
+        ensures acked { result ≡ acked_as (outcome_at (over_codes self.old.case) ack.entry.now self.old.summary).0 }
+    {
+        self.hear_in_ledger::<Brand>(ack, Blank::new(1))
+    }
+
+    /// The same, with the ledger of the count.
+    #[inline(always)]
+    fn hear_in_ledger<L: Ledger>(&mut self, ack: &Ack, blank: Blank) -> Acked
+        requires ledger { (blank.name ≡ L.name) × (blank.parts ≡ L.parts) × (0 < blank.parts) }
+        requires may { may_make (over_codes self.old.case) self.old.summary Letter.A ≡ true }
+        ensures step { self.new ≡ record self.old { summary = step_ack (over_codes self.old.case) ack.entry.now self.old.summary } }
+        ensures acked { result ≡ acked_as (outcome_at (over_codes self.old.case) ack.entry.now self.old.summary).0 }
+    {
+        let mut steps = Steps::<L>::new(blank);
+        self.ack(ack, &mut steps)
     }
 
     /// Applies the answer to the ticket that is out.

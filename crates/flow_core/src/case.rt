@@ -6,7 +6,7 @@ ghost use Rattle.flow_core.specs.Cases.{KeepsWithin, AreOne};
 
 use agent_core::{Agent, same_role};
 use ccp_base::{Name, NoMemory, Role};
-use link_model::LinkCase;
+use link_model::{Link, LinkCase};
 use reg_code::{Checked, Code, Event, Instr, Packed, Start};
 use std::alloc::Global;
 
@@ -132,6 +132,8 @@ pub struct Case {
 }
 
 impl Case {
+    ghost use Rattle.std.specs.Prelude.{[]};
+    ghost use Rattle.link_model.specs.Standing.{Stands};
     ghost use Rattle.flow_core.specs.Readings.{code_at};
 
     /// An equal case.
@@ -181,6 +183,16 @@ impl Case {
             return false;
         }
         self.lag == other.lag
+    }
+
+    /// The case's link, to which no window was given yet.
+    pub fn open_link(&self, alloc: Global) -> Result<Link, NoMemory>
+        ensures case { IfOk result (λ link. link.case ≡ self.now.link) }
+        ensures stands { IfOk result (λ link. Stands link []) }
+        ensures calls { IfOk result (λ link. link.standing.calls ≡ 0) }
+    {
+        let link = self.link.copy(alloc)?;
+        Link::new(alloc, link)
     }
 
     /// The code of the program with this number.

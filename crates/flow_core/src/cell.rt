@@ -1,13 +1,13 @@
 //! A flow with its link: each call makes one letter of its word, and its end gives the book.
-ghost use Rattle.std.specs.Prelude.{◌≡◌, ◌+◌, ◌-◌, ◌≤◌, ◌↔◌, ◌∷◌, [], ◌++◌, ℕ, true, Some, Err, slice_get, length};
+ghost use Rattle.std.specs.Prelude.{◌≡◌, ◌+◌, ◌-◌, ◌<◌, ◌≤◌, ◌↔◌, ◌∷◌, [], ◌++◌, ℕ, true, Some, Err, slice_get, length};
 ghost use Rattle.std.specs.Prelude.{IsOk, IsErr, IfOk, IfErr, OnOk, OnErr};
-ghost use Rattle.link_model.specs.Standing.{Stands};
-ghost use Rattle.flow_core.specs.World.{track_of, after_take, after_answer};
-ghost use Rattle.flow_core.specs.Words.{is_still, is_legal, legal, is_complete};
+ghost use Rattle.flow_core.specs.World.{after_take, after_answer};
+ghost use Rattle.flow_core.specs.Words.{is_still, legal, is_complete};
 ghost use Rattle.flow_core.specs.Books.{IsBookOf};
-ghost use Rattle.flow_core.specs.Cells.{flow_at, world_at, heard_at, acked_at, ran_at, out_at, out_number_at};
+ghost use Rattle.flow_core.specs.Cells.{flow_at, world_at, bare_at, heard_at, acked_at, ran_at, out_at, out_number_at};
 ghost use Rattle.flow_core.specs.Cells.{IsComplete, StateHoldsForSources};
 
+use crate::bare::Bare;
 use crate::book::Book;
 use crate::case::Case;
 use crate::cores::{Core, Ended, Stale, TakeFault};
@@ -17,8 +17,8 @@ use ccp_base::{Ack, NoMemory};
 use fold_machine::{Acked, Steps};
 use link_model::Link;
 use std::alloc::Global;
-use std::marker::Model;
-use std::sync::ledger::Ledger;
+use std::marker::{Brand, Model};
+use std::sync::ledger::{Blank, Ledger};
 
 /// One flow: it has its link, which gives it its acknowledgements.
 #[derive(Drop)]
@@ -39,16 +39,6 @@ impl Model for Cell {
     ghost invariant = { λ c. IsCell c.core c.link };
 }
 
-/// The link of a case, to which no window was given yet.
-fn link_of(alloc: Global, case: &Case) -> Result<Link, NoMemory>
-    ensures case { IfOk result (λ link. link.case ≡ case.now.link) }
-    ensures stands { IfOk result (λ link. Stands link []) }
-    ensures calls { IfOk result (λ link. link.standing.calls ≡ 0) }
-{
-    let link = case.link.copy(alloc)?;
-    Link::new(alloc, link)
-}
-
 impl Cell {
     /// A flow without a letter. The word, the acknowledgements, the outbox, the link's packets in flight and a place
     /// for one fault per acknowledgement of the case are reserved here.
@@ -56,7 +46,7 @@ impl Cell {
         ensures { IfOk result (λ cell. cell ≡ record { case = case; word = [] }) }
     {
         let core = Core::new(alloc, case)?;
-        match link_of(alloc, core.case()) {
+        match core.case().open_link(alloc) {
             Ok(link) => Ok(Cell { core, link }),
             Err(fault) => {
                 drop(core);
@@ -85,6 +75,32 @@ impl Cell {
             unreachable!()
         };
         Ok(acked)
+    }
+
+    /// The same, where nobody reads the count.
+    #[inline(always)]
+    pub fn hear(&mut self) -> Result<Acked, Ended>
+        ensures ended { IsErr result ↔ (self.old.case.acks ≤ length (world_at self.old).acks) }
+        ensures ok { OnOk result (self.new ≡ record self.old { word = self.old.word ++ Letter.A ∷ [] }) }
+        ensures world { OnOk result (world_at self.new ≡ heard_at self.old) }
+        ensures acked { IfOk result (λ acked. acked ≡ acked_at self.old) }
+        ensures unchanged { OnErr result (self.new ≡ self.old) }
+    {
+        self.hear_in_ledger::<Brand>(Blank::new(1))
+    }
+
+    /// The same, with the ledger of the count.
+    #[inline(always)]
+    fn hear_in_ledger<L: Ledger>(&mut self, blank: Blank) -> Result<Acked, Ended>
+        requires ledger { (blank.name ≡ L.name) × (blank.parts ≡ L.parts) × (0 < blank.parts) }
+        ensures ended { IsErr result ↔ (self.old.case.acks ≤ length (world_at self.old).acks) }
+        ensures ok { OnOk result (self.new ≡ record self.old { word = self.old.word ++ Letter.A ∷ [] }) }
+        ensures world { OnOk result (world_at self.new ≡ heard_at self.old) }
+        ensures acked { IfOk result (λ acked. acked ≡ acked_at self.old) }
+        ensures unchanged { OnErr result (self.new ≡ self.old) }
+    {
+        let mut steps = Steps::<L>::new(blank);
+        self.ack(&mut steps)
     }
 
     /// Takes the oldest report, or else the untold fault notice, as a ticket. NotYet exactly where no ticket is out and
@@ -117,24 +133,21 @@ impl Cell {
     pub fn is_complete(&self) -> bool
         ensures { result ≡ is_complete (flow_at self.now) (world_at self.now) }
     {
-        if self.core.acks() < self.core.case().acks {
-            return false;
-        }
-        self.core.is_still()
+        self.bare().is_done()
     }
 
     /// How many acknowledgements are in.
     pub fn acks(&self) -> u32
         ensures { result ≡ length (world_at self.now).acks }
     {
-        self.core.acks()
+        self.bare().acks()
     }
 
-    /// How many reports wait.
-    pub fn waiting(&self) -> u32
-        ensures { result ≡ length (world_at self.now).waiting }
+    /// What later letters depend on.
+    pub fn bare(&self) -> &Bare
+        ensures { result.now ≡ bare_at self.now }
     {
-        self.core.waiting()
+        self.core.bare()
     }
 
     /// The flow's case, for which each letter of the word is legal at its point. For all programs that its codes
@@ -145,27 +158,6 @@ impl Cell {
         ensures lifted { StateHoldsForSources self.now }
     {
         self.core.case()
-    }
-
-    /// Whether a ticket is out.
-    pub fn has_out(&self) -> bool
-        ensures { result ≡ is_legal (flow_at self.now) (world_at self.now) Letter.C }
-    {
-        self.core.has_out()
-    }
-
-    /// Whether a ticket may be taken: none is out, and a report waits or a notice is untold.
-    pub fn may_take(&self) -> bool
-        ensures { result ≡ is_legal (flow_at self.now) (world_at self.now) Letter.T }
-    {
-        self.core.may_take()
-    }
-
-    /// The present congestion window, in bytes.
-    pub fn cwnd(&self) -> u64
-        ensures { result ≡ (track_of (flow_at self.now) (world_at self.now)).env.cwnd }
-    {
-        self.core.cwnd()
     }
 
     /// The last acknowledgement, None exactly where there is none.

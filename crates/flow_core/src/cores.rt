@@ -1,5 +1,5 @@
 //! A flow without its link: its caller gives it each acknowledgement, and its end gives the book.
-ghost use Rattle.std.specs.Prelude.{◌≡◌, ◌+◌, ◌-◌, ◌≤◌, ◌↔◌, ◌∷◌, [], ◌++◌, ℕ, true, Some, option_map, slice_get};
+ghost use Rattle.std.specs.Prelude.{◌≡◌, ◌+◌, ◌-◌, ◌<◌, ◌≤◌, ◌↔◌, ◌∷◌, [], ◌++◌, ℕ, true, Some, option_map, slice_get};
 ghost use Rattle.std.specs.Prelude.{length, Err, IsOk, IsErr, IfOk, IfErr, OnOk, OnErr};
 ghost use Rattle.flow_core.specs.World.{track_of, after_take, after_answer};
 ghost use Rattle.flow_core.specs.Words.{is_still, is_legal, legal_over};
@@ -17,8 +17,8 @@ use agent_core::{Answer, Ticket};
 use ccp_base::{Ack, NoMemory, Notice};
 use fold_machine::{Acked, Steps};
 use std::alloc::{AllocError, Global};
-use std::marker::Model;
-use std::sync::ledger::Ledger;
+use std::marker::{Brand, Model};
+use std::sync::ledger::{Blank, Ledger};
 
 /// All acknowledgements of the case are in.
 #[derive(Clone, Copy, PartialEq, Eq, Debug)]
@@ -147,6 +147,32 @@ impl Core {
         let fault = new_notice(acked, self.bare.untold());
         self.journal.put_ack(ack, fault);
         Ok(acked)
+    }
+
+    /// The same, where nobody reads the count.
+    #[inline(always)]
+    pub fn hear(&mut self, ack: &Ack) -> Result<Acked, Ended>
+        ensures ended { IsErr result ↔ (self.old.case.acks ≤ length self.old.acks) }
+        ensures ok { OnOk result (self.new ≡ with_ack self.old ack.entry.now) }
+        ensures world { OnOk result (world_in self.new ≡ heard_in self.old ack.entry.now) }
+        ensures acked { IfOk result (λ acked. acked ≡ acked_with self.old ack.entry.now) }
+        ensures unchanged { OnErr result (self.new ≡ self.old) }
+    {
+        self.hear_in_ledger::<Brand>(ack, Blank::new(1))
+    }
+
+    /// The same, with the ledger of the count.
+    #[inline(always)]
+    fn hear_in_ledger<L: Ledger>(&mut self, ack: &Ack, blank: Blank) -> Result<Acked, Ended>
+        requires ledger { (blank.name ≡ L.name) × (blank.parts ≡ L.parts) × (0 < blank.parts) }
+        ensures ended { IsErr result ↔ (self.old.case.acks ≤ length self.old.acks) }
+        ensures ok { OnOk result (self.new ≡ with_ack self.old ack.entry.now) }
+        ensures world { OnOk result (world_in self.new ≡ heard_in self.old ack.entry.now) }
+        ensures acked { IfOk result (λ acked. acked ≡ acked_with self.old ack.entry.now) }
+        ensures unchanged { OnErr result (self.new ≡ self.old) }
+    {
+        let mut steps = Steps::<L>::new(blank);
+        self.ack(ack, &mut steps)
     }
 
     /// Takes the oldest report, or else the untold fault notice, as a ticket. NotYet exactly where no ticket is out and

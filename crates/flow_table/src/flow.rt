@@ -4,9 +4,7 @@ ghost use Rattle.std.specs.Prelude.{◌≡◌, ℕ, ◌<◌, ◌↔◌, true, fa
 ghost use Rattle.worker_desk.specs.declared.event.Heard.{Heard};
 
 use ccp_base::NoMemory;
-use fold_machine::Steps;
 use std::alloc::Global;
-use std::sync::ledger::Ledger;
 use worker_desk::Heard;
 
 /// A flow that workers share behind a lock, and that the caller completes when they are done.
@@ -61,7 +59,7 @@ pub trait LockedFlow: Drop {
         ensures { IsTrue result ↔ (case_of self.now ≡ case.now) };
 
     /// Takes the next acknowledgement, and gives what it means for a worker; Ended exactly where none is left.
-    fn hear<L: Ledger>(&mut self, steps: &mut Steps<L>) -> Heard
+    fn hear(&mut self) -> Heard
         ensures case { case_of self.new ≡ case_of self.old }
         ensures heard { HasHeard self.old self.new result };
 
@@ -71,7 +69,7 @@ pub trait LockedFlow: Drop {
         ensures left { result ≡ false → IsLeft self.now };
 
     /// Makes the letter that the caller makes next.
-    fn make_next<L: Ledger>(&mut self, alloc: Global, steps: &mut Steps<L>) -> Result<(), NoMemory>
+    fn make_next(&mut self, alloc: Global) -> Result<(), NoMemory>
         requires { IsLeft self.old }
         ensures case { OnOk result (case_of self.new ≡ case_of self.old) }
         ensures fewer { OnOk result (letters self.new < letters self.old) }

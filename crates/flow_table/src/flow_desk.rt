@@ -10,26 +10,22 @@ use crate::held::Held;
 use crate::nudges::Nudges;
 use crate::table::FlowTable;
 use ccp_base::{Gate, Point};
-use fold_machine::Steps;
 use std::sync::Wait;
-use std::sync::ledger::Ledger;
 use worker_desk::{Desk, Heard};
 
 /// The desk of a datapath worker over a table of flows.
 #[derive(Drop)]
-pub(crate) struct FlowDesk<'a, F: LockedFlow, N, L: Ledger, R, G> {
+pub(crate) struct FlowDesk<'a, F: LockedFlow, N, R, G> {
     pub(crate) rt: &'a R,
     pub(crate) table: &'a FlowTable<F>,
     pub(crate) nudges: &'a N,
     pub(crate) gate: &'a G,
-    pub(crate) steps: Steps<L>,
     pub(crate) held: Option<Held<'a, F>>,
     /// How many acknowledgements may still come; after the last one it waits forever.
     pub(crate) left: u64,
 }
 
-impl<'a, F: LockedFlow, N: Nudges, L: Ledger, R: Wait, G: Gate> Desk
-    for FlowDesk<'a, F, N, L, R, G> {
+impl<'a, F: LockedFlow, N: Nudges, R: Wait, G: Gate> Desk for FlowDesk<'a, F, N, R, G> {
     ghost use Rattle.std.specs.Prelude.{None, option_map, length};
 
     ghost log = { λ d. None };
@@ -57,7 +53,7 @@ impl<'a, F: LockedFlow, N: Nudges, L: Ledger, R: Wait, G: Gate> Desk
             unreachable!()
         };
         let Held { flow, mut cell } = held;
-        let answer = cell.hear(&mut self.steps);
+        let answer = cell.hear();
         self.held = Some(Held { flow, cell });
         if let Heard::Ended = answer {
             return answer;

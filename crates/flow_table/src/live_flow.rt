@@ -9,9 +9,8 @@ use crate::flow::LockedFlow;
 use crate::turn::make_letter;
 use ccp_base::NoMemory;
 use flow_core::{Book, Case, Cell, Ended};
-use fold_machine::{Acked, Steps};
+use fold_machine::Acked;
 use std::alloc::Global;
-use std::sync::ledger::Ledger;
 use worker_desk::Heard;
 
 impl LockedFlow for Cell {
@@ -59,8 +58,8 @@ impl LockedFlow for Cell {
         self.case().same(case)
     }
 
-    fn hear<L: Ledger>(&mut self, steps: &mut Steps<L>) -> Heard {
-        match self.ack(steps) {
+    fn hear(&mut self) -> Heard {
+        match Cell::hear(self) {
             Ok(acked) => news_of(acked),
             Err(Ended) => Heard::Ended,
         }
@@ -70,12 +69,8 @@ impl LockedFlow for Cell {
         self.is_complete()
     }
 
-    fn make_next<L: Ledger>(
-        &mut self,
-        alloc: Global,
-        steps: &mut Steps<L>,
-    ) -> Result<(), NoMemory> {
-        make_letter(alloc, self, steps)
+    fn make_next(&mut self, alloc: Global) -> Result<(), NoMemory> {
+        make_letter(alloc, self)
     }
 
     fn finish(self) -> Book {

@@ -8,17 +8,11 @@ use agent_core::Ticket;
 use agent_core::calls::answer;
 use ccp_base::NoMemory;
 use flow_core::{Cell, TakeFault};
-use fold_machine::Steps;
 use std::alloc::Global;
-use std::sync::ledger::Ledger;
 
 /// Makes one letter of a word that isn't complete: the answer to the ticket that is out, or else a taking, or else an
 /// acknowledgement.
-pub(crate) fn make_letter<L: Ledger>(
-    alloc: Global,
-    cell: &mut Cell,
-    steps: &mut Steps<L>,
-) -> Result<(), NoMemory>
+pub(crate) fn make_letter(alloc: Global, cell: &mut Cell) -> Result<(), NoMemory>
     requires { is_complete (flow_at cell.old) (world_at cell.old) ≡ false }
     ensures nearer { OnOk result (IsNearer cell.old cell.new) }
     ensures order { OnOk result (cell.new ≡ with_letter (next_at cell.old) cell.old) }
@@ -30,7 +24,7 @@ pub(crate) fn make_letter<L: Ledger>(
     if take(alloc, cell)? {
         return Ok(());
     }
-    acknowledge(cell, steps);
+    acknowledge(cell);
     Ok(())
 }
 
@@ -61,13 +55,11 @@ fn take(alloc: Global, cell: &mut Cell) -> Result<bool, NoMemory>
 }
 
 /// Takes the next acknowledgement.
-fn acknowledge<L: Ledger>(cell: &mut Cell, steps: &mut Steps<L>)
+fn acknowledge(cell: &mut Cell)
     requires acks { length (world_at cell.old).acks < cell.old.case.acks }
     requires still { (out_at cell.old ≡ None) × (can_take (world_at cell.old) ≡ false) }
     ensures nearer { IsNearer cell.old cell.new }
     ensures order { cell.new ≡ with_letter (next_at cell.old) cell.old }
 {
-    let Ok(_) = cell.ack(steps) else {
-        unreachable!()
-    };
+    let Ok(_) = cell.hear() else { unreachable!() };
 }

@@ -1,12 +1,13 @@
 use Rattle.std.proofs.Common.{◌≡◌, ℕ, ◌↔◌, true, Option, Some, option_map, OnOk, Err, ap, ◌∙◌, subst}
 use Rattle.agent_core.specs.declared.ticket.Ticket.{Ticket}
 use Rattle.flow_core.specs.declared.cores.TakeFault.TheVariants.{NotYet, Out}
+use Rattle.flow_core.specs.declared.letter.Letter.TheVariants.{T}
 use Rattle.flow_core.specs.World.{World, after_take}
 use Rattle.flow_core.specs.Words.{is_still}
 use Rattle.flow_core.specs.Books.{out_ticket}
 use Rattle.flow_core.specs.Cores.{flow_in}
 use Rattle.flow_core.specs.Cells.{CellState, world_at, out_number_at}
-use Rattle.flow_core.proofs.CellLemmas.{cell_of, same, cell-taken, world-T-at, ticket-at}
+use Rattle.flow_core.proofs.CellLemmas.{cell_of, same, cell-taken, world-grown, ticket-at}
 use Rattle.flow_core.proofs.cell.Cell.take.Goals as goal
 
 pub invariant_of-self : goal.invariant_of-self
@@ -31,7 +32,7 @@ pub returns-clause-world : goal.returns-clause-world
 returns-clause-world c =
     let core = c.self.inside.core in
     subst (λ (w : World ℕ). OnOk c.take.result (world_at (cell_of c.take.new.self) ≡ after_take w)) (ap world_at c.self.view_is)
-    (world-T-at core c.take.new.self c.take.result c.take.ensures.ok)
+    (world-grown core c.take.new.self T c.take.result c.take.ensures.ok)
 
 pub returns-clause-ticket : goal.returns-clause-ticket
 returns-clause-ticket c =

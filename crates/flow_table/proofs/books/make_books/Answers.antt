@@ -1,6 +1,6 @@
 use Rattle.std.proofs.Common.{rules, map}
 use Rattle.flow_table.proofs.LedLemmas.{are-led}
-use Rattle.flow_table.proofs.books.with_step_counter.Goals as goal
+use Rattle.flow_table.proofs.books.make_books.Goals as goal
 
 pub returns-clause-led : goal.returns-clause-led
 returns-clause-led g c =
