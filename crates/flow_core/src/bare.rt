@@ -599,7 +599,7 @@ impl Bare {
         self.parts.hear(ack, steps)
     }
 
-    /// The same, where nobody reads the count.
+    /// As `ack`, without a count of the instructions.
     #[inline(always)]
     pub fn hear(&mut self, ack: &Ack) -> Acked
         requires { may_make (over_codes self.old.case) self.old.summary Letter.A ≡ true }
@@ -609,7 +609,7 @@ impl Bare {
         self.hear_in_ledger::<Brand>(ack, Blank::new(1))
     }
 
-    /// The same, with the ledger of the count.
+    /// As `ack`, with a counter that nobody reads, which `blank` opens.
     #[inline(always)]
     fn hear_in_ledger<L: Ledger>(&mut self, ack: &Ack, blank: Blank) -> Acked
         requires ledger { (blank.name ≡ L.name) × (blank.parts ≡ L.parts) × (0 < blank.parts) }

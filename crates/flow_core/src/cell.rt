@@ -1,7 +1,7 @@
 //! A flow with its link: each call makes one letter of its word, and its end gives the book.
 ghost use Rattle.std.specs.Prelude.{◌≡◌, ◌+◌, ◌-◌, ◌<◌, ◌≤◌, ◌↔◌, ◌∷◌, [], ◌++◌, ℕ, true, Some, Err, slice_get, length};
 ghost use Rattle.std.specs.Prelude.{IsOk, IsErr, IfOk, IfErr, OnOk, OnErr};
-ghost use Rattle.flow_core.specs.World.{after_take, after_answer};
+ghost use Rattle.flow_core.specs.World.{track_of, after_take, after_answer};
 ghost use Rattle.flow_core.specs.Words.{is_still, legal, is_complete};
 ghost use Rattle.flow_core.specs.Books.{IsBookOf};
 ghost use Rattle.flow_core.specs.Cells.{flow_at, world_at, bare_at, heard_at, acked_at, ran_at, out_at, out_number_at};
@@ -77,7 +77,7 @@ impl Cell {
         Ok(acked)
     }
 
-    /// The same, where nobody reads the count.
+    /// As `ack`, without a count of the instructions.
     #[inline(always)]
     pub fn hear(&mut self) -> Result<Acked, Ended>
         ensures ended { IsErr result ↔ (self.old.case.acks ≤ length (world_at self.old).acks) }
@@ -89,7 +89,7 @@ impl Cell {
         self.hear_in_ledger::<Brand>(Blank::new(1))
     }
 
-    /// The same, with the ledger of the count.
+    /// As `ack`, with a counter that nobody reads, which `blank` opens.
     #[inline(always)]
     fn hear_in_ledger<L: Ledger>(&mut self, blank: Blank) -> Result<Acked, Ended>
         requires ledger { (blank.name ≡ L.name) × (blank.parts ≡ L.parts) × (0 < blank.parts) }
@@ -141,6 +141,20 @@ impl Cell {
         ensures { result ≡ length (world_at self.now).acks }
     {
         self.bare().acks()
+    }
+
+    /// How many reports wait.
+    pub fn waiting(&self) -> u32
+        ensures { result ≡ length (world_at self.now).waiting }
+    {
+        self.core.waiting()
+    }
+
+    /// The present congestion window, in bytes.
+    pub fn cwnd(&self) -> u64
+        ensures { result ≡ (track_of (flow_at self.now) (world_at self.now)).env.cwnd }
+    {
+        self.bare().cwnd()
     }
 
     /// What later letters depend on.

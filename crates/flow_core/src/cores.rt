@@ -149,7 +149,7 @@ impl Core {
         Ok(acked)
     }
 
-    /// The same, where nobody reads the count.
+    /// As `ack`, without a count of the instructions.
     #[inline(always)]
     pub fn hear(&mut self, ack: &Ack) -> Result<Acked, Ended>
         ensures ended { IsErr result ↔ (self.old.case.acks ≤ length self.old.acks) }
@@ -161,7 +161,7 @@ impl Core {
         self.hear_in_ledger::<Brand>(ack, Blank::new(1))
     }
 
-    /// The same, with the ledger of the count.
+    /// As `ack`, with a counter that nobody reads, which `blank` opens.
     #[inline(always)]
     fn hear_in_ledger<L: Ledger>(&mut self, ack: &Ack, blank: Blank) -> Result<Acked, Ended>
         requires ledger { (blank.name ≡ L.name) × (blank.parts ≡ L.parts) × (0 < blank.parts) }
