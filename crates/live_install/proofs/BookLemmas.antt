@@ -17,14 +17,14 @@ use Rattle.live_install.specs.OpenWorld.{OpenWorld, eras_of, track_now}
 use Rattle.live_install.specs.OpenWords.{install_world}
 use Rattle.live_install.specs.RolloutText.{OpenAccount, account_of, account_text, end_of, fault_lines, open_part, rollout_text}
 use Rattle.report_lines.specs.EndLine.{is_faulted}
-use Rattle.live_install.specs.BookText.{account_in, book_text, books_text, end_in, failures_in, notice_lines, placed_failure, placed_line}
+use Rattle.live_install.specs.BookText.{account_in, book_text, books_text, end_in, failures_in, notice_lines, failure_if_placed, placed_line}
 use Rattle.live_install.specs.WholeBooks.{IsRightBook, flows_of}
 use Rattle.live_install.proofs.StopLemmas.{fails_in, stopped-where}
 
 -- ---- faults and their places
 
 placed-line : (notice : Notice) (place : Option Place) (more : List ℕ) (rest : List (Failure Place)) → more ≡ fault_lines rest
-    → placed_line notice place ⧺ more ≡ fault_lines (placed_failure notice place ++ rest)
+    → placed_line notice place ⧺ more ≡ fault_lines (failure_if_placed notice place ++ rest)
 placed-line notice None more rest same = same
 placed-line notice (Some place) more rest same = ap (λ (t : List ℕ). placed_line notice (Some place) ⧺ t) same
 
@@ -34,7 +34,7 @@ notice_lines-faults entries (notice ∷ rest) =
     placed-line notice (step_place entries notice.program notice.index) (notice_lines entries rest) (failures_in entries rest) (notice_lines-faults entries rest)
 
 seen-placed : (notice : Notice) (place : Option Place) (failure : Failure Place) → option_map (failure_at notice) place ≡ Some failure
-    → (placed_failure notice place ≡ failure ∷ []) × (notice.epoch ≡ failure.epoch)
+    → (failure_if_placed notice place ≡ failure ∷ []) × (notice.epoch ≡ failure.epoch)
 seen-placed notice None failure is = absurd (let wrong : None ≡ Some failure = is in (cc))
 seen-placed notice (Some place) failure is =
     let same : failure_at notice place ≡ failure = cc in
