@@ -20,9 +20,9 @@ use Rattle.flow_core.proofs.WordLemmas.{take-keeps, answer-keeps}
 use Rattle.campaign_gate.specs.declared.case_run.Tally.{Tally}
 use Rattle.campaign_gate.specs.declared.sums.Sums.{Sums}
 use Rattle.campaign_gate.specs.CampaignWord.{is_late, first_letter, plan_from, plan}
-use Rattle.campaign_gate.specs.CampaignRow.{sums_of, with_ack, AreRoomy, peak_of}
+use Rattle.campaign_gate.specs.CampaignRow.{sums_of, sums_with, AreRoomy, peak_of}
 use Rattle.campaign_gate.specs.CampaignBooks.{planned}
-use Rattle.campaign_gate.specs.CaseRuns.{next_at, window_at, plan_at, opened, longer, left_in, due_to, next_in, MayMake, MayHear, Makes, sums_after, IsOnWay, IsNext, Onward, IsEnded}
+use Rattle.campaign_gate.specs.CaseRuns.{next_at, window_at, plan_at, opened, longer, left_in, due_to, next_in, MayMake, MayHear, Makes, sums_after, IsOnWay, IsNextLetter, Onward, IsEnded}
 use Rattle.campaign_gate.proofs.PlanLemmas.{next-legal, plan-next, plan-none}
 use Rattle.campaign_gate.proofs.PeakLemmas.{peak-append}
 use Rattle.campaign_gate.proofs.SumLemmas.{sums-append, roomy}
@@ -109,7 +109,7 @@ module _ {F : Type 0} (at : CellState → F) (bare_of : F → BareState) (law : 
         next-bare cell ∙ sym (ap next_in (is-bare flow cell on.after)) ∙ sym is
 
     -- the flow is on its way after its next letter, and fewer letters are left
-    pub onward : (letter : Letter) → IsNext at case flow tally letter → (new : F) (sums : Sums) (peak : ℕ) → Makes at letter flow new
+    pub onward : (letter : Letter) → IsNextLetter at case flow tally letter → (new : F) (sums : Sums) (peak : ℕ) → Makes at letter flow new
         → ((cell : CellState) → flow ≡ at cell → sums ≡ sums_after letter cell tally.sums)
         → peak ≡ max tally.peak (bare_of new).summary.track.env.cwnd
         → Onward at bare_of flow new (record { sums = sums; peak = peak })
@@ -145,7 +145,7 @@ module _ {F : Type 0} (at : CellState → F) (bare_of : F → BareState) (law : 
 
 module _ {F : Type 0} (at : CellState → F) (case : Case) (flow : F) (tally : Tally) where
   -- the flow is after a word at whose end its next letter is legal
-  pub may-next : (letter : Letter) → IsNext at case flow tally letter → MayMake at letter flow
+  pub may-next : (letter : Letter) → IsNextLetter at case flow tally letter → MayMake at letter flow
   may-next letter n =
       let cell : CellState = record { case = case; word = n.on.word } in
       record { cell = cell; after = n.on.after; legal = may cell letter n.next }
@@ -173,7 +173,7 @@ on-ok (Ok value) follows holds = follows holds
 on-ok (Err fault) follows holds = holds
 
 -- the sums with the next acknowledgement are numbers of 64 bits
-pub may-hear : {F : Type 0} → (at : CellState → F) (case : Case) (flow : F) (tally : Tally) → IsNext at case flow tally A
+pub may-hear : {F : Type 0} → (at : CellState → F) (case : Case) (flow : F) (tally : Tally) → IsNextLetter at case flow tally A
     → MayHear at flow tally.sums
 may-hear at case flow tally n =
     let cell : CellState = record { case = case; word = n.on.word } in
@@ -188,6 +188,6 @@ may-hear at case flow tally n =
     record {
       may = record { cell = cell; after = n.on.after; legal = may cell A n.next };
       roomy =
-          subst AreRoomy (ap sums_of made ∙ sums-append before.acks (ack_at cell) ∙ (λ i. with_ack (ack_at cell) (sym n.on.sums i)))
+          subst AreRoomy (ap sums_of made ∙ sums-append before.acks (ack_at cell) ∙ (λ i. sums_with (ack_at cell) (sym n.on.sums i)))
           (roomy (flow_at cell) link word few);
     }

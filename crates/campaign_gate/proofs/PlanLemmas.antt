@@ -8,7 +8,7 @@ use Rattle.flow_core.specs.declared.letter.Letter.TheVariants.{A, T, C}
 use Rattle.flow_core.specs.Readings.{Flow, over_codes}
 use Rattle.flow_core.specs.World.{Taken, World, opening}
 use Rattle.flow_core.specs.Words.{from_link, after_letter, world_from, world, can_take, is_legal, legal_from, legal, is_complete, most_letters}
-use Rattle.campaign_gate.specs.CampaignWord.{is_late, is_due, first_letter, next_of, then_rest, plan_from, plan_over, plan}
+use Rattle.campaign_gate.specs.CampaignWord.{is_late, is_answer_due, first_letter, next_of, then_rest, plan_from, plan_over, plan}
 use Rattle.flow_core.specs.LettersLeft.{letters_left}
 use Rattle.flow_core.proofs.LeftLemmas.{left-letter}
 
@@ -52,10 +52,10 @@ ended lag acks false out can due takes more = still out can due takes
 
 module _ {X : Type 0} (flow : Flow X) (lag : ℕ) where
   next-made : (w : World X) (next : Option Letter) → next_of flow lag w ≡ next
-      → IsMade (is_due flow lag w) (is_legal flow w T) (is_legal flow w A) next
+      → IsMade (is_answer_due flow lag w) (is_legal flow w T) (is_legal flow w A) next
   next-made w next is =
-      subst (λ (n : Option Letter). IsMade (is_due flow lag w) (is_legal flow w T) (is_legal flow w A) n) is
-      (made (is_due flow lag w) (is_legal flow w T) (is_legal flow w A))
+      subst (λ (n : Option Letter). IsMade (is_answer_due flow lag w) (is_legal flow w T) (is_legal flow w A) n) is
+      (made (is_answer_due flow lag w) (is_legal flow w T) (is_legal flow w A))
 
   -- the next letter is legal
   pub next-legal : (w : World X) (letter : Letter) → next_of flow lag w ≡ Some letter → is_legal flow w letter ≡ true

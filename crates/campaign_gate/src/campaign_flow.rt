@@ -3,7 +3,7 @@ ghost use Rattle.std.specs.Prelude.{◌≡◌, true, refl, OnOk};
 ghost use Rattle.flow_core.specs.Words.{is_legal};
 ghost use Rattle.flow_core.specs.Bares.{BareState};
 ghost use Rattle.flow_core.specs.Cells.{CellState, flow_at, world_at, bare_at, ack_at};
-ghost use Rattle.campaign_gate.specs.CampaignRow.{with_ack};
+ghost use Rattle.campaign_gate.specs.CampaignRow.{sums_with};
 ghost use Rattle.campaign_gate.specs.CaseRuns.{longer, MayMake, MayHear, Makes};
 
 use crate::sums::Sums;
@@ -39,7 +39,7 @@ pub(crate) trait CampaignFlow: Drop {
     fn hear(&mut self, sums: &mut Sums) -> Result<(), NoMemory>
         requires { MayHear at self.old sums.old }
         ensures made { OnOk result (Makes at Letter.A self.old self.new) }
-        ensures sums { OnOk result ((cell : CellState) → self.old ≡ at cell → sums.new ≡ with_ack (ack_at cell) sums.old) };
+        ensures sums { OnOk result ((cell : CellState) → self.old ≡ at cell → sums.new ≡ sums_with (ack_at cell) sums.old) };
 
     ghost bare_law: { (cell : CellState) → bare_of (at cell) ≡ bare_at cell };
 }

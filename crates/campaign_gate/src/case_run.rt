@@ -1,8 +1,8 @@
 //! The run of a case: its flow on the way along the campaign word, and beside it what its row needs of the letters so far.
 ghost use Rattle.std.specs.Prelude.{◌≡◌, OnOk};
 ghost use Rattle.flow_core.specs.Cells.{CellState};
-ghost use Rattle.campaign_gate.specs.CampaignRow.{row_of};
-ghost use Rattle.campaign_gate.specs.CaseRuns.{opened, is_due_in, next_in, IsOnWay, IsNext, Makes, sums_after, Onward, IsEnded};
+ghost use Rattle.campaign_gate.specs.CampaignRow.{case_row};
+ghost use Rattle.campaign_gate.specs.CaseRuns.{opened, is_due_in, next_in, IsOnWay, IsNextLetter, Makes, sums_after, Onward, IsEnded};
 ghost use Rattle.campaign_gate.specs.LinkedFlows.{linked_at};
 
 use crate::campaign_flow::CampaignFlow;
@@ -78,7 +78,7 @@ impl<F: CampaignFlow> CaseRun<F> {
 
     /// Makes this letter, which is the next one.
     pub(crate) fn make(&mut self, alloc: Global, letter: Letter) -> Result<(), NoMemory>
-        requires { IsNext F.at (F.bare_of self.old.flow).case self.old.flow self.old.tally letter }
+        requires { IsNextLetter F.at (F.bare_of self.old.flow).case self.old.flow self.old.tally letter }
         ensures { OnOk result (Onward F.at F.bare_of self.old.flow self.new.flow self.new.tally) }
     {
         self.grow(alloc, letter)?;
@@ -89,7 +89,7 @@ impl<F: CampaignFlow> CaseRun<F> {
     /// Adds this letter to the flow's word, and its acknowledgement to the sums.
     #[inline(always)]
     fn grow(&mut self, alloc: Global, letter: Letter) -> Result<(), NoMemory>
-        requires { IsNext F.at (F.bare_of self.old.flow).case self.old.flow self.old.tally letter }
+        requires { IsNextLetter F.at (F.bare_of self.old.flow).case self.old.flow self.old.tally letter }
         ensures made { OnOk result (Makes F.at letter self.old.flow self.new.flow) }
         ensures sums { OnOk result ((cell : CellState) → self.old.flow ≡ F.at cell → self.new.tally.sums ≡ sums_after letter cell self.old.tally.sums) }
         ensures peak { self.new.tally.peak ≡ self.old.tally.peak }
@@ -109,7 +109,7 @@ impl CaseRun<Linked> {
     /// The row of the flow, which is at the end of its campaign word.
     pub(crate) fn row(&self) -> Row
         requires { IsEnded linked_at self.now.flow.bare.case self.now.flow self.now.tally }
-        ensures { result ≡ row_of self.now.flow.bare.case }
+        ensures { result ≡ case_row self.now.flow.bare.case }
     {
         Row::of(&self.flow.bare, self.tally.sums, self.tally.peak)
     }

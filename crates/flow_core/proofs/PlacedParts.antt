@@ -7,14 +7,14 @@ use Rattle.ccp_base.specs.declared.exchange.Report.{Report}
 use Rattle.portus_core.specs.declared.env.Env.{Env}
 use Rattle.portus_core.specs.Epoch.{Outcome, quiet, reported, held, failed, stopped, Track}
 use Rattle.portus_core.specs.Reports.{Epoch, reports_met}
-use Rattle.flow_core.specs.World.{Failure, World, failures_met, untold_after, held_met, taking, with_taken, after_take}
+use Rattle.flow_core.specs.World.{Failure, World, failures_met, untold_after, held_met, takeable, with_taken, after_take}
 use Rattle.flow_core.specs.Lift.{Placing, map_failure, map_world}
 use Rattle.flow_core.proofs.SimulatedEpochs.{outcome_placed, met_placed}
 
 -- without an acknowledgement, a placing changes nothing that is taken
 take-placed : (place : Placing) (w : World ℕ) (waiting : List Report) (untold : Option (Failure ℕ))
-    → map_world place (with_taken (taking waiting untold) w)
-    ≡ with_taken (taking waiting (option_map (map_failure place) untold)) (map_world place w)
+    → map_world place (with_taken (takeable waiting untold) w)
+    ≡ with_taken (takeable waiting (option_map (map_failure place) untold)) (map_world place w)
 take-placed place w (report ∷ rest) untold = refl
 take-placed place w [] (Some failure) = refl
 take-placed place w [] None = refl
@@ -23,7 +23,7 @@ pub take-lifts : (place : Placing) (w : World ℕ) → map_world place (after_ta
 take-lifts place w = take-placed place w w.waiting w.untold
 
 pub can-placed : (place : Placing) (waiting : List Report) (untold : Option (Failure ℕ))
-    → is_some (taking waiting untold) ≡ is_some (taking waiting (option_map (map_failure place) untold))
+    → is_some (takeable waiting untold) ≡ is_some (takeable waiting (option_map (map_failure place) untold))
 can-placed place (report ∷ rest) untold = refl
 can-placed place [] (Some failure) = refl
 can-placed place [] None = refl
