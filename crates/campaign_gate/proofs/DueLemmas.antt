@@ -35,12 +35,6 @@ may-take f g None true none_out not_still = refl
 may-take f g None false none_out not_still = absurd (not_still refl)
 may-take f g (Some ticket) can none_out not_still = absurd (none_out (f (g ticket)) refl)
 
--- nothing can be taken
-pub nothing-left : {X : Type 0} → (out : Option (Taken X)) (can : Bool) → (is_none out && not can) ≡ true → (is_none out && can) ≡ false
-nothing-left None true still = absurd (let wrong : false ≡ true = still in (cc))
-nothing-left None false still = refl
-nothing-left (Some ticket) can still = refl
-
 -- a ticket is out
 pub one-out : {X Y : Type 0} → (f : Y → ℕ) (g : Taken X → Y) (out : Option (Taken X)) (can : Bool) (n : ℕ)
     → option_map f (option_map g out) ≡ Some n → (is_none out && can) ≡ false

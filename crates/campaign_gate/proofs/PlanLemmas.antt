@@ -50,20 +50,6 @@ ended : {X : Type 0} (lag acks : ℕ) (more : Bool) (out : Option (Taken X)) (ca
 ended lag acks true out can due takes more = absurd (let wrong : true ≡ false = more in (cc))
 ended lag acks false out can due takes more = still out can due takes
 
-none-due : {X : Type 0} (lag acks : ℕ) (more : Bool) (out : Option (Taken X)) (can : Bool)
-    → (not more && (is_none out && not can)) ≡ true
-    → first_letter (if more then is_late lag acks out else is_some out) (is_none out && can) more ≡ None
-none-due lag acks true out can done = absurd (let wrong : false ≡ true = done in (cc))
-none-due lag acks false (Some ticket) can done = absurd (let wrong : false ≡ true = done in (cc))
-none-due lag acks false None true done = absurd (let wrong : false ≡ true = done in (cc))
-none-due lag acks false None false done = refl
-
-heard-next : (due may_take may_hear done : Bool) → due ≡ false → may_take ≡ false → (may_hear ≡ false → done ≡ true) → done ≡ false
-    → first_letter due may_take may_hear ≡ Some A
-heard-next due may_take true done not_due not_take ends left = λ i. first_letter (not_due i) (not_take i) true
-heard-next due may_take false done not_due not_take ends left =
-    absurd (let wrong : true ≡ false = sym (ends refl) ∙ left in (cc))
-
 module _ {X : Type 0} (flow : Flow X) (lag : ℕ) where
   next-made : (w : World X) (next : Option Letter) → next_of flow lag w ≡ next
       → IsMade (is_answer_due flow lag w) (is_legal flow w T) (is_legal flow w A) next
@@ -82,22 +68,6 @@ module _ {X : Type 0} (flow : Flow X) (lag : ℕ) where
   none-complete w is =
       let all = next-made w None is in
       ended lag (length w.acks) (is_legal flow w A) w.out (can_take w) all.0 all.1 all.2
-
-  pub complete-none : (w : World X) → is_complete flow w ≡ true → next_of flow lag w ≡ None
-  complete-none w done = none-due lag (length w.acks) (is_legal flow w A) w.out (can_take w) done
-
-  -- which letter is next
-  pub next-C : (w : World X) → is_answer_due flow lag w ≡ true → next_of flow lag w ≡ Some C
-  next-C w due = ap (λ (b : Bool). first_letter b (is_legal flow w T) (is_legal flow w A)) due
-
-  pub next-T : (w : World X) → is_answer_due flow lag w ≡ false → is_legal flow w T ≡ true → next_of flow lag w ≡ Some T
-  next-T w due may = λ i. first_letter (due i) (may i) (is_legal flow w A)
-
-  pub next-A : (w : World X) → is_answer_due flow lag w ≡ false → is_legal flow w T ≡ false → is_complete flow w ≡ false
-      → next_of flow lag w ≡ Some A
-  next-A w due may left =
-      heard-next (is_answer_due flow lag w) (is_legal flow w T) (is_legal flow w A) (is_complete flow w) due may
-      (ended lag (length w.acks) (is_legal flow w A) w.out (can_take w) due may) left
 
   -- ---- the word
 
@@ -143,10 +113,11 @@ module _ {X : Type 0} (flow : Flow X) (lag : ℕ) where
         ap (λ (next : Option Letter). then_rest next (λ l. plan_from flow link lag more (after_letter flow (from_link flow link) w l))) is
         ∙ ap (λ (n : ℕ). letter ∷ plan_from flow link lag n (after_letter flow (from_link flow link) w letter)) less
 
-    pub plan-none : (most : ℕ) (w : World X) → is_complete flow w ≡ true → plan_from flow link lag most w ≡ []
-    plan-none zero w done = refl
-    plan-none (suc more) w done =
-        ap (λ (next : Option Letter). then_rest next (λ l. plan_from flow link lag more (after_letter flow (from_link flow link) w l))) (complete-none w done)
+    -- where no letter comes next, no more come
+    pub plan-none : (most : ℕ) (w : World X) → next_of flow lag w ≡ None → plan_from flow link lag most w ≡ []
+    plan-none zero w none = refl
+    plan-none (suc more) w none =
+        ap (λ (next : Option Letter). then_rest next (λ l. plan_from flow link lag more (after_letter flow (from_link flow link) w l))) none
 
     -- ---- the laws
 

@@ -1,16 +1,18 @@
 -- The run of a case: its flow on the way along the campaign word, its tally, and what a letter changes of both.
-use Rattle.std.specs.Prelude.{◌≡◌, ℕ, ◌+◌, ◌-◌, ◌<◌, ◌≤◌, max, Option, Some, true, List, [], ◌∷◌, ◌++◌, length}
-use Rattle.std.specs.Option.{ForSome}
+use Rattle.std.specs.Prelude.{◌≡◌, ℕ, ◌+◌, ◌-◌, ◌*◌, ◌<◌, ◌≤◌, max, nat_lt, nat_le, Bool, true, false, not, ◌||◌, Option, Some, None, option_map, List, [], ◌∷◌, ◌++◌, length}
 use Rattle.flow_core.specs.declared.case.Case.{Case}
 use Rattle.flow_core.specs.declared.letter.Letter.{Letter}
 use Rattle.flow_core.specs.declared.letter.Letter.TheVariants.{A, T, C}
-use Rattle.flow_core.specs.World.{Taken}
 use Rattle.flow_core.specs.Words.{is_legal, most_letters}
+use Rattle.flow_core.specs.Readings.{over_codes}
+use Rattle.flow_core.specs.States.{some_count}
+use Rattle.flow_core.specs.Summaries.{may_make}
+use Rattle.flow_core.specs.Bares.{BareState}
 use Rattle.flow_core.specs.Cells.{CellState, flow_at, world_at, ack_at}
 use Rattle.flow_core.specs.LettersLeft.{left_at}
 use Rattle.campaign_gate.specs.declared.sums.Sums.{Sums}
 use Rattle.campaign_gate.specs.declared.case_run.Tally.{Tally}
-use Rattle.campaign_gate.specs.CampaignWord.{next_of, plan_from, plan}
+use Rattle.campaign_gate.specs.CampaignWord.{first_letter, next_of, plan_from, plan}
 use Rattle.campaign_gate.specs.CampaignRow.{sums_of, sums_with, AreRoomy, window_of, peak_of}
 use Rattle.campaign_gate.specs.CampaignBooks.{planned}
 
@@ -36,9 +38,27 @@ opened case = record { case = case; word = [] }
 abbrev pub longer : Letter → CellState → CellState
 longer letter cell = record { case = cell.case; word = cell.word ++ letter ∷ [] }
 
--- if a ticket is out, this is the number of acknowledgements at which it was taken
-abbrev pub WasTaken : CellState → ℕ → Type 0
-WasTaken cell taken = ForSome (world_at cell).out (λ (ticket : Taken ℕ). ticket.taken ≡ taken)
+-- how many letters the word can have yet
+abbrev pub left_in : BareState → ℕ
+left_in bare =
+    let s = bare.summary in
+    most_letters (bare.case.acks - s.acks) + (2 * (length s.waiting + some_count s.untold) + some_count s.out)
+
+-- an answer is due, by whether an acknowledgement is left, and at how many the ticket that is out was taken
+abbrev pub due_to : Bool → ℕ → ℕ → Option ℕ → Bool
+due_to more lag acks None = false
+due_to more lag acks (Some taken) = not more || nat_le (taken + lag) acks
+
+abbrev pub is_due_in : BareState → Bool
+is_due_in bare =
+    let s = bare.summary in
+    due_to (nat_lt s.acks bare.case.acks) bare.case.lag s.acks (option_map (λ issued. issued.taken) s.out)
+
+-- the next letter of the campaign word
+abbrev pub next_in : BareState → Option Letter
+next_in bare =
+    let flow = over_codes bare.case in
+    first_letter (is_due_in bare) (may_make flow bare.summary T) (may_make flow bare.summary A)
 
 -- the flow is one after a word at whose end the letter is legal
 pub record MayMake {F : Type 0} (at : CellState → F) (letter : Letter) (flow : F) : Type 0 where
@@ -61,7 +81,6 @@ pub record IsOnWay {F : Type 0} (at : CellState → F) (case : Case) (flow : F) 
   pub after : flow ≡ at (record { case = case; word = word })
   pub plan : word ++ plan_at (record { case = case; word = word }) ≡ plan case
   pub left : length word + left_at (record { case = case; word = word }) ≤ most_letters case.acks
-  pub taken : WasTaken (record { case = case; word = word }) tally.taken
   pub sums : tally.sums ≡ sums_of (world_at (record { case = case; word = word })).acks
   pub peak : tally.peak ≡ peak_of (flow_at (record { case = case; word = word })) case.link word
 
@@ -75,28 +94,11 @@ sums_after A cell sums = sums_with (ack_at cell) sums
 sums_after T cell sums = sums
 sums_after C cell sums = sums
 
--- if a ticket is out afterwards, it was taken at that number of acknowledgements
-abbrev pub TakenAfter : Letter → CellState → ℕ → ℕ → Type 0
-TakenAfter A cell old new = new ≡ old
-TakenAfter T cell old new = new ≡ length (world_at cell).acks
-TakenAfter C cell old new = Unit {0}
-
--- what is kept beside a flow after one more letter
-pub record IsTallied (letter : Letter) (cell : CellState) (old new : Tally) : Type 0 where
-  pub taken : TakenAfter letter cell old.taken new.taken
-  pub sums : new.sums ≡ sums_after letter cell old.sums
-  pub peak : new.peak ≡ max old.peak (window_at (longer letter cell))
-
--- one letter was made and recorded
-pub record IsStep {F : Type 0} (at : CellState → F) (letter : Letter) (old : F) (old_tally : Tally) (new : F) (new_tally : Tally) : Type 0 where
-  pub made : Makes at letter old new
-  pub tally : (cell : CellState) → old ≡ at cell → IsTallied letter cell old_tally new_tally
-
 -- the flow is still on the way of its case, and fewer letters are left
-pub record Onward {F : Type 0} (at : CellState → F) (case_of : F → Case) (left_of : F → ℕ) (old new : F) (tally : Tally) : Type 0 where
-  pub on : IsOnWay at (case_of new) new tally
-  pub case : case_of new ≡ case_of old
-  pub fewer : left_of new < left_of old
+pub record Onward {F : Type 0} (at : CellState → F) (bare_of : F → BareState) (old new : F) (tally : Tally) : Type 0 where
+  pub on : IsOnWay at (bare_of new).case new tally
+  pub case : (bare_of new).case ≡ (bare_of old).case
+  pub fewer : left_in (bare_of new) < left_in (bare_of old)
 
 -- the flow is after its campaign word
 pub record IsEnded {F : Type 0} (at : CellState → F) (case : Case) (flow : F) (tally : Tally) : Type 0 where

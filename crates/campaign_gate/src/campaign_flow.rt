@@ -1,19 +1,16 @@
 //! Flows that make their campaign word letter by letter, with their history or without.
-ghost use Rattle.std.specs.Prelude.{◌≡◌, ℕ, true, length, refl, OnOk};
-ghost use Rattle.flow_core.specs.declared.case.Case.{Case};
-ghost use Rattle.flow_core.specs.Words.{is_legal, is_complete};
-ghost use Rattle.flow_core.specs.Cells.{CellState, flow_at, world_at, ack_at};
-ghost use Rattle.flow_core.specs.LettersLeft.{left_at};
+ghost use Rattle.std.specs.Prelude.{◌≡◌, true, refl, OnOk};
+ghost use Rattle.flow_core.specs.Words.{is_legal};
+ghost use Rattle.flow_core.specs.Bares.{BareState};
+ghost use Rattle.flow_core.specs.Cells.{CellState, flow_at, world_at, bare_at, ack_at};
 ghost use Rattle.campaign_gate.specs.CampaignRow.{sums_with};
-ghost use Rattle.campaign_gate.specs.CaseRuns.{window_at, longer, MayMake, MayHear, Makes};
+ghost use Rattle.campaign_gate.specs.CaseRuns.{longer, MayMake, MayHear, Makes};
 
 use crate::sums::Sums;
 use agent_core::calls::answer;
 use ccp_base::{Ack, NoMemory};
-use flow_core::{Case, Cell, Letter};
-use fold_machine::Steps;
+use flow_core::{Bare, Cell, Letter};
 use std::alloc::Global;
-use std::sync::ledger::Ledger;
 
 /// A flow that makes letters of its campaign word. Its type says what it keeps of a word: the whole history, or only what later
 /// letters depend on.
@@ -21,35 +18,12 @@ pub(crate) trait CampaignFlow: Drop {
     /// The flow of a case after a word.
     ghost at: { CellState → Self };
 
-    /// The flow's case.
-    ghost case_of: { Self → Case };
+    /// What later letters depend on.
+    ghost bare_of: { Self → BareState };
 
-    /// How many letters its word can have yet.
-    ghost left_of: { Self → ℕ };
-
-    /// The flow's case.
-    fn case(&self) -> &Case
-        ensures { result.now ≡ case_of self.now };
-
-    /// How many acknowledgements are in.
-    fn acks(&self) -> u32
-        ensures { (cell : CellState) → self.now ≡ at cell → result ≡ length (world_at cell).acks };
-
-    /// The present congestion window, in bytes.
-    fn cwnd(&self) -> u64
-        ensures { (cell : CellState) → self.now ≡ at cell → result ≡ window_at cell };
-
-    /// Whether a ticket is out.
-    fn has_out(&self) -> bool
-        ensures { (cell : CellState) → self.now ≡ at cell → result ≡ is_legal (flow_at cell) (world_at cell) Letter.C };
-
-    /// Whether a ticket may be taken.
-    fn may_take(&self) -> bool
-        ensures { (cell : CellState) → self.now ≡ at cell → result ≡ is_legal (flow_at cell) (world_at cell) Letter.T };
-
-    /// Whether the word is complete.
-    fn is_complete(&self) -> bool
-        ensures { (cell : CellState) → self.now ≡ at cell → result ≡ is_complete (flow_at cell) (world_at cell) };
+    /// What later letters depend on.
+    fn bare(&self) -> &Bare
+        ensures { result.now ≡ bare_of self.now };
 
     /// Takes a ticket.
     fn take(&mut self, alloc: Global) -> Result<(), NoMemory>
@@ -62,25 +36,21 @@ pub(crate) trait CampaignFlow: Drop {
         ensures { Makes at Letter.C self.old self.new };
 
     /// Takes the next acknowledgement, and adds it to the sums.
-    fn hear<L: Ledger>(&mut self, sums: &mut Sums, steps: &mut Steps<L>) -> Result<(), NoMemory>
+    fn hear(&mut self, sums: &mut Sums) -> Result<(), NoMemory>
         requires { MayHear at self.old sums.old }
         ensures made { OnOk result (Makes at Letter.A self.old self.new) }
         ensures sums { OnOk result ((cell : CellState) → self.old ≡ at cell → sums.new ≡ sums_with (ack_at cell) sums.old) };
 
-    ghost case_law: { (cell : CellState) → case_of (at cell) ≡ cell.case };
-
-    ghost left_law: { (cell : CellState) → left_of (at cell) ≡ left_at cell };
+    ghost bare_law: { (cell : CellState) → bare_of (at cell) ≡ bare_at cell };
 }
 
 /// Takes the next acknowledgement of a flow with its history, and gives it.
-fn take_ack<L: Ledger>(cell: &mut Cell, steps: &mut Steps<L>) -> Ack
+fn take_ack(cell: &mut Cell) -> Ack
     requires { is_legal (flow_at cell.old) (world_at cell.old) Letter.A ≡ true }
     ensures made { cell.new ≡ longer Letter.A cell.old }
     ensures ack { result ≡ ack_at cell.old }
 {
-    let Ok(_) = cell.ack(steps) else {
-        unreachable!()
-    };
+    let Ok(_) = cell.hear() else { unreachable!() };
     let Some(ack) = cell.last() else {
         unreachable!()
     };
@@ -91,36 +61,12 @@ fn take_ack<L: Ledger>(cell: &mut Cell, steps: &mut Steps<L>) -> Ack
 impl CampaignFlow for Cell {
     ghost at = { λ cell. cell };
 
-    ghost case_of = { λ cell. cell.case };
+    ghost bare_of = { bare_at };
 
-    ghost left_of = { left_at };
+    ghost bare_law = { λ cell. refl };
 
-    ghost case_law = { λ cell. refl };
-
-    ghost left_law = { λ cell. refl };
-
-    fn case(&self) -> &Case {
-        Cell::case(self)
-    }
-
-    fn acks(&self) -> u32 {
-        Cell::acks(self)
-    }
-
-    fn cwnd(&self) -> u64 {
-        Cell::cwnd(self)
-    }
-
-    fn has_out(&self) -> bool {
-        Cell::has_out(self)
-    }
-
-    fn may_take(&self) -> bool {
-        Cell::may_take(self)
-    }
-
-    fn is_complete(&self) -> bool {
-        Cell::is_complete(self)
+    fn bare(&self) -> &Bare {
+        Cell::bare(self)
     }
 
     fn take(&mut self, alloc: Global) -> Result<(), NoMemory> {
@@ -139,8 +85,8 @@ impl CampaignFlow for Cell {
         };
     }
 
-    fn hear<L: Ledger>(&mut self, sums: &mut Sums, steps: &mut Steps<L>) -> Result<(), NoMemory> {
-        let ack = take_ack(self, steps);
+    fn hear(&mut self, sums: &mut Sums) -> Result<(), NoMemory> {
+        let ack = take_ack(self);
         *sums = sums.with(&ack);
         Ok(())
     }

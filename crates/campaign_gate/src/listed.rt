@@ -1,16 +1,14 @@
 //! A flow that lists its acknowledgements.
 ghost use Rattle.std.specs.Prelude.{◌≡◌, refl, IfOk};
 ghost use Rattle.campaign_gate.specs.CaseRuns.{opened};
-ghost use Rattle.campaign_gate.specs.LinkedFlows.{listed_at, left_in, left_linked};
+ghost use Rattle.campaign_gate.specs.LinkedFlows.{listed_at};
 
 use crate::campaign_flow::CampaignFlow;
 use crate::linked::Linked;
 use crate::sums::Sums;
 use ccp_base::{Acks, NoMemory};
-use flow_core::Case;
-use fold_machine::Steps;
+use flow_core::{Bare, Case};
 use std::alloc::Global;
-use std::sync::ledger::Ledger;
 
 /// A flow without its history that lists its acknowledgements.
 #[derive(Drop)]
@@ -34,36 +32,12 @@ impl Listed {
 impl CampaignFlow for Listed {
     ghost at = { listed_at };
 
-    ghost case_of = { λ listed. listed.linked.bare.case };
+    ghost bare_of = { λ listed. listed.linked.bare };
 
-    ghost left_of = { λ listed. left_in listed.linked.bare.case listed.linked.bare.summary };
+    ghost bare_law = { λ cell. refl };
 
-    ghost case_law = { λ cell. refl };
-
-    ghost left_law = { left_linked };
-
-    fn case(&self) -> &Case {
-        self.linked.case()
-    }
-
-    fn acks(&self) -> u32 {
-        CampaignFlow::acks(&self.linked)
-    }
-
-    fn cwnd(&self) -> u64 {
-        self.linked.cwnd()
-    }
-
-    fn has_out(&self) -> bool {
-        self.linked.has_out()
-    }
-
-    fn may_take(&self) -> bool {
-        self.linked.may_take()
-    }
-
-    fn is_complete(&self) -> bool {
-        self.linked.is_complete()
+    fn bare(&self) -> &Bare {
+        &self.linked.bare
     }
 
     fn take(&mut self, alloc: Global) -> Result<(), NoMemory> {
@@ -74,8 +48,8 @@ impl CampaignFlow for Listed {
         self.linked.settle();
     }
 
-    fn hear<L: Ledger>(&mut self, sums: &mut Sums, steps: &mut Steps<L>) -> Result<(), NoMemory> {
-        let ack = self.linked.take_ack(steps);
+    fn hear(&mut self, sums: &mut Sums) -> Result<(), NoMemory> {
+        let ack = self.linked.take_ack();
         *sums = sums.with(&ack);
         self.acks.push(ack)?;
         Ok(())

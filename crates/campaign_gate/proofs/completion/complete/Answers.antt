@@ -1,27 +1,36 @@
-use Rattle.std.proofs.Common.{◌≡◌, ◌∙◌, true, sym, refl, subst, rules}
+use Rattle.std.proofs.Common.{◌≡◌, ◌∙◌, sym, ap, refl, subst}
 use Rattle.flow_core.specs.declared.case.Case.{Case}
-use Rattle.campaign_gate.specs.CaseRuns.{IsOnWay}
-use Rattle.campaign_gate.proofs.CaseRunLemmas.{on-ended}
+use Rattle.campaign_gate.specs.CaseRuns.{next_in, IsEnded}
+use Rattle.campaign_gate.proofs.CaseRunLemmas.{next-is, on-ended}
 use Rattle.campaign_gate.proofs.completion.complete.Goals as goal
 
-pub loop-alloc-init : goal.loop-alloc-init
-loop-alloc-init g c = (c.requires, refl)
+pub loop-letter-init : goal.loop-letter-init
+loop-letter-init g c = (c.requires, refl)
 
-pub make_next-requires-clause-on : goal.make_next-requires-clause-on
-make_next-requires-clause-on g c = c.loop-alloc.invariant.0
+pub make-requires : goal.make-requires
+make-requires g c =
+    let flow = g.F.CampaignFlow in
+    let run = c.loop-letter.run in
+    let on = c.loop-letter.invariant.0 in
+    record {
+      on = on;
+      next =
+          next-is flow.at flow.bare_of g.met.F.CampaignFlow.bare_law (flow.bare_of run.flow).case run.flow run.tally on
+          c.next_letter.result (c.next_letter.ensures ∙ ap next_in c.bare.ensures) ∙ c.in-Some.is;
+    }
 
-pub loop-alloc-preserved : goal.loop-alloc-preserved
-loop-alloc-preserved g c = (c.in_ok-make_next.ensures.on, c.in_ok-make_next.ensures.case ∙ c.loop-alloc.invariant.1)
+pub loop-letter-preserved : goal.loop-letter-preserved
+loop-letter-preserved g c = (c.in_ok-make.ensures.on, c.in_ok-make.ensures.case ∙ c.loop-letter.invariant.1)
 
-pub loop-alloc-smaller : goal.loop-alloc-smaller
-loop-alloc-smaller g c = c.in_ok-make_next.ensures.fewer
+pub loop-letter-smaller : goal.loop-letter-smaller
+loop-letter-smaller g c = c.in_ok-make.ensures.fewer
 
 pub returns : goal.returns
 returns g c =
-    let at = g.F.CampaignFlow.at in
-    let case = g.F.CampaignFlow.case_of c.args.run.now.flow in
-    let run = c.loop-alloc.run in
-    let done : c.is_complete.result ≡ true = search rules in
-    on-ended at case run.flow run.tally
-    (subst (λ (k : Case). IsOnWay at k run.flow run.tally) c.loop-alloc.invariant.1 c.loop-alloc.invariant.0)
-    (λ cell is. sym (c.is_complete.ensures cell is) ∙ done)
+    let flow = g.F.CampaignFlow in
+    let run = c.loop-letter.run in
+    let on = c.loop-letter.invariant.0 in
+    let none = next-is flow.at flow.bare_of g.met.F.CampaignFlow.bare_law (flow.bare_of run.flow).case run.flow run.tally on
+    c.next_letter.result (c.next_letter.ensures ∙ ap next_in c.bare.ensures) ∙ c.in_default.is in
+    subst (λ (k : Case). IsEnded flow.at k run.flow run.tally) c.loop-letter.invariant.1
+    (on-ended flow.at (flow.bare_of run.flow).case run.flow run.tally on none)

@@ -1,11 +1,11 @@
 use Rattle.std.proofs.Common.{◌≡◌}
-use Rattle.campaign_gate.specs.CaseRuns.{IsOnWay}
+use Rattle.campaign_gate.specs.CaseRuns.{left_in, IsOnWay}
 use Rattle.campaign_gate.proofs.completion.complete.Given as goal
 
-abbrev pub invariant-loop-alloc : goal.invariant-loop-alloc
-invariant-loop-alloc g l =
-    IsOnWay g.F.CampaignFlow.at (g.F.CampaignFlow.case_of l.run.flow) l.run.flow l.run.tally
-    × (g.F.CampaignFlow.case_of l.run.flow ≡ g.F.CampaignFlow.case_of l.initial.run.flow)
+abbrev pub invariant-loop-letter : goal.invariant-loop-letter
+invariant-loop-letter g l =
+    IsOnWay g.F.CampaignFlow.at (g.F.CampaignFlow.bare_of l.run.flow).case l.run.flow l.run.tally
+    × ((g.F.CampaignFlow.bare_of l.run.flow).case ≡ (g.F.CampaignFlow.bare_of l.initial.run.flow).case)
 
-abbrev pub decreases-loop-alloc : goal.decreases-loop-alloc
-decreases-loop-alloc g l = g.F.CampaignFlow.left_of l.run.flow
+abbrev pub decreases-loop-letter : goal.decreases-loop-letter
+decreases-loop-letter g l = left_in (g.F.CampaignFlow.bare_of l.run.flow)
