@@ -38,7 +38,7 @@ enough_is count may enough = grind (arith, nat_tests)
 enough_of : (count may : ℕ) → ltb count may ≡ false → may ≤ count
 enough_of count may is = grind (arith, nat_tests)
 
-or_false : (a b : Bool) → a ≡ false → b ≡ false → a || b ≡ false
+pub or_false : (a b : Bool) → a ≡ false → b ≡ false → a || b ≡ false
 or_false true b not_a not_b = not_a
 or_false false b not_a not_b = not_b
 
@@ -127,6 +127,41 @@ module _ (case : SharedCase) (trace : IsTrace case.trace) (now : ℕ) (givens : 
       none_lacks_if (some_lacks may givens (length case.flows) sent) (length case.flows) (turns_of case now may givens turns after) sent refl
       (none_lacks-turns turns after (settled-turn case trace now givens may (length case.flows) sent settled)
       (λ flow within. turn_nearer (length case.flows) flow turns sent settled within (near flow within)))
+
+-- ---- a turn in which no flow sends
+
+or_left : (a b : Bool) → a || b ≡ false → a ≡ false
+or_left true b none = none
+or_left false b none = refl
+
+or_right : (a b : Bool) → a || b ≡ false → b ≡ false
+or_right true b none = absurd (cc)
+or_right false b none = none
+
+module _ (case : SharedCase) (now : ℕ) (givens : ℕ → List GivenAck) (may : ℕ → ℕ) where
+  none-turn : (flows : ℕ) (sent : List Sent) → some_lacks may givens flows sent ≡ false → sending_turn case now may givens flows sent ≡ sent
+  none-turn zero sent none = refl
+  none-turn (suc flow) sent none =
+      let so_far = sending_turn case now may givens flow sent in
+      let same = none-turn flow sent (or_right (lacks may givens flow sent) (some_lacks may givens flow sent) none) in
+      ap (λ b. cond b (with_packet case now flow so_far) so_far)
+      (ap (lacks may givens flow) same ∙ or_left (lacks may givens flow sent) (some_lacks may givens flow sent) none) ∙ same
+
+  pub turns-over : (turns : ℕ) (sent : List Sent) → some_lacks may givens (length case.flows) sent ≡ false → turns_of case now may givens turns sent ≡ sent
+  turns-over zero sent none = refl
+  turns-over (suc turns) sent none =
+      ap (λ b. cond b (turns_of case now may givens turns (sending_turn case now may givens (length case.flows) sent)) sent) none
+
+  first-if : (b : Bool) (turns : ℕ) (sent : List Sent) → some_lacks may givens (length case.flows) sent ≡ b
+      → turns_of case now may givens turns (sending_turn case now may givens (length case.flows) sent)
+      ≡ cond b (turns_of case now may givens turns (sending_turn case now may givens (length case.flows) sent)) sent
+  first-if true turns sent is = refl
+  first-if false turns sent is = ap (turns_of case now may givens turns) (none-turn (length case.flows) sent is) ∙ turns-over turns sent is
+
+  -- a turn is the first of the turns, whether some flow sends or none
+  pub turns-first : (turns : ℕ) (sent : List Sent)
+      → turns_of case now may givens turns (sending_turn case now may givens (length case.flows) sent) ≡ turns_of case now may givens (suc turns) sent
+  turns-first turns sent = first-if (some_lacks may givens (length case.flows) sent) turns sent refl
 
 pub none_lacks-round : (case : SharedCase) (trace : IsTrace case.trace) (asks : List Ask) (rounds : List (List Ask)) → NoneLacks case asks (shared_run_of case rounds)
 none_lacks-round case trace asks rounds =

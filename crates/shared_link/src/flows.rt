@@ -1,5 +1,5 @@
 //! The traffic of all flows: they send in turn and get their acknowledgements in order, and their packets are counted.
-ghost use Rattle.std.specs.Prelude.{◌≡◌, ◌+◌, ◌*◌, ◌<◌, ◌≤◌, [], length, map, get_or, vec_capacity, IfOk, OnOk, IsTrue};
+ghost use Rattle.std.specs.Prelude.{◌≡◌, ◌+◌, ◌*◌, ◌<◌, ◌≤◌, [], length, map, get_or, vec_capacity, false, IfOk, OnOk, IsTrue, IsFalse};
 ghost use Rattle.ccp_base.specs.Limits.{most_flight, most_rounds, most_quantum_us};
 ghost use Rattle.link_model.specs.Traces.{IsTrace};
 ghost use Rattle.shared_link.specs.SharedLimits.{IsWithin};
@@ -73,24 +73,14 @@ impl Flows {
         self.traffic[flow].in_flight < may
     }
 
-    /// Whether some flow has fewer packets in flight than it may have.
-    fn some_lacks(&self, case: &SharedCase, asks: &[Ask], sending: &Sending) -> bool
-        requires case { IsWithin case.now }
-        requires ready { AreReady case.now sending.now.rounds self.now.traffic.items }
-        requires asks { length asks.now ≡ length case.now.flows }
-        ensures { TellsSomeLack case.now asks.now self.now result }
-    {
-        let mut found = false;
-        let mut flow = 0;
-        while flow < self.traffic.len() {
-            found = self.lacks(case, asks, sending, flow) || found;
-            flow += 1;
-        }
-        found
-    }
-
-    /// A flow sends a packet if it has fewer in flight than it may have.
-    fn send_one(&mut self, case: &SharedCase, asks: &[Ask], sending: &mut Sending, flow: usize)
+    /// A flow sends a packet if it has fewer in flight than it may have. Answers whether it sent one.
+    fn send_one(
+        &mut self,
+        case: &SharedCase,
+        asks: &[Ask],
+        sending: &mut Sending,
+        flow: usize,
+    ) -> bool
         requires case { IsWithin case.now }
         requires ready { AreReady case.now sending.old.rounds self.old.traffic.items }
         requires room { HaveRoom case.now asks.now (length self.old.traffic.items) self.old.traffic.items }
@@ -103,15 +93,19 @@ impl Flows {
         ensures rounds { sending.new.rounds ≡ sending.old.rounds }
         ensures now { sending.new.now ≡ sending.old.now }
         ensures follows { SendsOne case.now asks.now flow self.old sending.old self.new sending.new }
+        ensures unchanged { IsFalse result → self.new ≡ self.old }
+        ensures lacks { IsFalse result → TellsLack case.now asks.now self.new flow false }
     {
         if !self.lacks(case, asks, sending, flow) {
-            return;
+            return false;
         }
         self.traffic[flow].send(link_of(case, flow), &case.trace, case.queue, sending);
+        true
     }
 
-    /// Each flow in turn sends a packet if it has fewer in flight than it may have.
-    fn send_turn(&mut self, case: &SharedCase, asks: &[Ask], sending: &mut Sending)
+    /// Each flow in turn sends a packet if it has fewer in flight than it may have. Answers whether some flow sent one: if
+    /// not, none has fewer.
+    fn send_turn(&mut self, case: &SharedCase, asks: &[Ask], sending: &mut Sending) -> bool
         requires case { IsWithin case.now }
         requires ready { AreReady case.now sending.old.rounds self.old.traffic.items }
         requires room { HaveRoom case.now asks.now (length self.old.traffic.items) self.old.traffic.items }
@@ -123,12 +117,15 @@ impl Flows {
         ensures rounds { sending.new.rounds ≡ sending.old.rounds }
         ensures now { sending.new.now ≡ sending.old.now }
         ensures follows { SendsTurn case.now asks.now self.old sending.old self.new sending.new }
+        ensures over { IsFalse result → TellsSomeLack case.now asks.now self.new false }
     {
+        let mut has_sent = false;
         let mut flow = 0;
         while flow < self.traffic.len() {
-            self.send_one(case, asks, sending, flow);
+            has_sent = self.send_one(case, asks, sending, flow) || has_sent;
             flow += 1;
         }
+        has_sent
     }
 
     /// The flows send in turn until none has fewer packets in flight than it may have.
@@ -147,10 +144,9 @@ impl Flows {
     {
         let mut left = PACKETS;
         while left > 0 {
-            if !self.some_lacks(case, asks, sending) {
+            if !self.send_turn(case, asks, sending) {
                 return;
             }
-            self.send_turn(case, asks, sending);
             left -= 1;
         }
     }

@@ -1,4 +1,4 @@
-use Rattle.std.proofs.Common.{◌≡◌, ◌≤◌, true, cond, ◌<◌, min, max, vec_capacity, length, set, subst, ap, sym, ◌∙◌, arith, rules}
+use Rattle.std.proofs.Common.{◌≡◌, ◌≤◌, true, false, cond, ◌<◌, min, max, vec_capacity, length, set, subst, ap, sym, ◌∙◌, arith, rules}
 use Rattle.std.proofs.lemmas.List.{length-set}
 use Rattle.shared_link.specs.declared.flow_traffic.FlowTraffic.{FlowTraffic}
 use Rattle.shared_link.specs.declared.shared_case.FlowLink.{FlowLink}
@@ -62,3 +62,8 @@ returns-clause-follows c = λ sent givens follows.
     let chance = c.send.ensures.chance ∙ ap (λ (l : FlowLink). chance_past (fate_now case.trace l case.queue old.sent before) (chance_number case.trace before.next)) link in
     subst (λ b. Follows case (set flows f new) after (cond b (with_packet case before.now f sent) sent) givens) (sym some ∙ c.lacks.ensures.lacks sent givens follows.traffic)
     (follows-sent case c.requires.sending.valid flows before sent givens follows c.requires.sending f c.requires.flow old c.index_mut.ensures.value new after c.send.ensures.now standing chance)
+
+pub returns-then-not-lacks-clause-lacks : goal.returns-then-not-lacks-clause-lacks
+returns-then-not-lacks-clause-lacks c = λ is sent givens follows.
+    let none : false ≡ c.lacks.result = search rules in
+    none ∙ c.lacks.ensures.lacks sent givens follows

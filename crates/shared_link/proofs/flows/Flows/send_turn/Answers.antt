@@ -1,6 +1,10 @@
-use Rattle.std.proofs.Common.{◌≡◌, ◌+◌, suc, cond, length, subst, ◌∙◌, arith}
-use Rattle.shared_link.specs.SharedRounds.{allowed, lacks, sending_turn, with_packet}
-use Rattle.shared_link.specs.Kept.{Follows}
+use Rattle.std.proofs.Common.{◌≡◌, ◌+◌, suc, true, false, cond, length, subst, ap, sym, ◌∙◌, arith, rules}
+use Rattle.std.specs.Prelude.{IsFalse}
+use Rattle.shared_link.specs.declared.flows.Flows.{Flows}
+use Rattle.shared_link.specs.SharedRounds.{allowed, lacks, some_lacks, sending_turn, with_packet}
+use Rattle.shared_link.specs.Kept.{Follows, FlowsFollow}
+use Rattle.shared_link.proofs.SendingLemmas.{or_false}
+use Rattle.shared_link.proofs.flows.Flows.send_turn.Goals.{then-send_one, else-send_one}
 use Rattle.shared_link.proofs.flows.Flows.send_turn.Goals as goal
 
 pub loop-flow-preserved : goal.loop-flow-preserved
@@ -22,6 +26,17 @@ loop-flow-preserved c =
           let sent_now = c.send_one.ensures.follows so_far givens (c.loop-flow.invariant.6 sent givens follows) in
           subst (λ k. Follows case after.self.traffic.items after.sending (sending_turn case now may givens k sent) givens) one
           (subst (λ n. Follows case after.self.traffic.items after.sending (cond (lacks may givens flow so_far) (with_packet case n flow so_far) so_far) givens) c.loop-flow.invariant.5 sent_now)),
+      λ none sent givens follows.
+          elim c.if-send_one.branch [
+            | then-send_one w ↦ absurd (let wrong : true ≡ false = sym w.if-send_one.true ∙ sym w.has_sent-is ∙ none in (cc))
+            | else-send_one w ↦
+                (let is : IsFalse c.send_one.result = search rules in
+                let same : after.self ≡ c.loop-flow.self = c.send_one.ensures.unchanged is in
+                let before = c.loop-flow.invariant.7 (sym w.has_sent-is ∙ none) sent givens
+                (subst (λ (flows : Flows). FlowsFollow case flows.traffic.items sent givens) same follows) in
+                ap (λ k. some_lacks may givens k sent) (sym one)
+                ∙ or_false (lacks may givens flow sent) (some_lacks may givens flow sent) (sym (c.send_one.ensures.lacks is sent givens follows)) before)
+          ],
     )
 
 pub returns-clause-follows : goal.returns-clause-follows

@@ -1,7 +1,7 @@
-use Rattle.std.proofs.Common.{◌≡◌, ℕ, ◌-◌, ◌≤◌, List, length}
+use Rattle.std.proofs.Common.{◌≡◌, ℕ, ◌-◌, ◌≤◌, false, List, length}
 use Rattle.link_model.specs.Link.{GivenAck}
-use Rattle.shared_link.specs.SharedRounds.{Sent, allowed, sending_turn}
-use Rattle.shared_link.specs.Kept.{IsSending, Follows, AreReady, HaveRoom}
+use Rattle.shared_link.specs.SharedRounds.{Sent, allowed, some_lacks, sending_turn}
+use Rattle.shared_link.specs.Kept.{IsSending, Follows, FlowsFollow, AreReady, HaveRoom}
 use Rattle.shared_link.proofs.flows.Flows.send_turn.Given as goal
 
 abbrev pub invariant-loop-flow : goal.invariant-loop-flow
@@ -14,6 +14,8 @@ invariant-loop-flow l =
     × (l.sending.now ≡ l.fn.sending.now)
     × ((sent : List Sent) (givens : ℕ → List GivenAck) → Follows l.case l.fn.self.traffic.items l.fn.sending sent givens
     → Follows l.case l.self.traffic.items l.sending (sending_turn l.case l.fn.sending.now (allowed l.case l.asks) givens l.flow sent) givens)
+    × (l.has_sent ≡ false → (sent : List Sent) (givens : ℕ → List GivenAck) → FlowsFollow l.case l.self.traffic.items sent givens
+    → some_lacks (allowed l.case l.asks) givens l.flow sent ≡ false)
 
 abbrev pub decreases-loop-flow : goal.decreases-loop-flow
 decreases-loop-flow l = length l.self.traffic.items - l.flow
