@@ -1,7 +1,7 @@
 //! What a worker is to do in a round: the parts of its flows.
 ghost use Rattle.std.specs.Prelude.{◌≡◌, ◌%◌, List, [], map, IfOk, OnOk};
 ghost use Rattle.std.specs.List.{All};
-ghost use Rattle.shared_run.specs.Orders.{OrderState, with_part, AreDealt};
+ghost use Rattle.shared_run.specs.Orders.{OrderState, with_flow_part, AreDealt};
 
 use crate::course::Course;
 use crate::round_acks::RoundAcks;
@@ -43,7 +43,7 @@ impl<C: Course> Order<C> {
     /// Adds a part of a flow of the worker.
     pub(crate) fn push(&mut self, part: RoundAcks<C>) -> Result<(), NoMemory>
         requires { part.number % self.old.workers ≡ self.old.worker }
-        ensures { OnOk result (self.new ≡ with_part (part.number, part.acks) self.old) }
+        ensures { OnOk result (self.new ≡ with_flow_part (part.number, part.acks) self.old) }
     {
         self.parts.push(part)?;
         Ok(())
