@@ -90,7 +90,7 @@ of_lines number (Ok acks) (text ∷ rest) not =
 
 -- ---- fold
 
--- what an input of `fold` with this cut comes to: lines below a program, or why there is bad program
+-- what an input of `fold` with this cut is: lines below a program, or why the program is bad
 module _ (bytes : List ℕ) where
   same_cut : (left right : Cut) → cut_of bytes ≡ Some left → cut_of bytes ≡ Some right → left ≡ right
   same_cut left right e e' = let same : Some left ≡ Some right = sym e ∙ e' in cc

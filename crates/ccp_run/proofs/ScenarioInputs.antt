@@ -7,9 +7,9 @@ use Rattle.ccp_run.specs.declared.refusal.Refusal.TheVariants.{TooLong, NoSepara
 use Rattle.ccp_run.specs.declared.stop.Stop.{Stop}
 use Rattle.ccp_run.specs.Scenes.{IsOfScene, SaysSomething, StopsFor, scene_stop}
 
--- ---- what is said, or the fault
+-- ---- the output, or the fault
 
--- something is said or there is a fault, not both, and no two faults
+-- there is an output or a fault, not both, and no two faults
 pub record AreApart {Said : Type 0} (says : Said → Type 0) (has : SceneFault → Type 0) : Type 0 where
   pub some : SaysSomething says ⊎ ((fault : SceneFault) × has fault)
   pub apart : (said : Said) (fault : SceneFault) → says said → has fault → ⊥
