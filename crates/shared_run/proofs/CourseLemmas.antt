@@ -84,6 +84,19 @@ parts-length [] flows = refl
 parts-length (list ∷ lists) [] = refl
 parts-length (list ∷ lists) (flow ∷ flows) = ap suc (parts-length lists flows)
 
+-- a flow without acknowledgements stays as it is
+rest-first : (list : List Ack) (flow : CoreState) → length list ≡ 0 → Some (round_part over_codes list flow) ≡ Some flow
+rest-first [] flow none = refl
+rest-first (ack ∷ rest) flow none = absurd (omega (arith, none))
+
+rest-parts : (lists : List (List Ack)) (flows : List CoreState) (i : ℕ) (acks : List Ack) → slice_get lists i ≡ Some acks → length acks ≡ 0
+    → slice_get (parts over_codes lists flows) i ≡ slice_get flows i
+rest-parts [] flows i acks at none = refl
+rest-parts (list ∷ lists) [] i acks at none = refl
+rest-parts (list ∷ lists) (flow ∷ flows) zero acks at none =
+    rest-first list flow (ap (λ (xs : List Ack). length xs) (same-some list acks at) ∙ none)
+rest-parts (list ∷ lists) (flow ∷ flows) (suc i) acks at none = rest-parts lists flows i acks at none
+
 -- ---- what is left
 
 sub-left : (a b : ℕ) → ((a - b) == 0) ≡ nat_le a b
@@ -144,6 +157,20 @@ module _ (link : SharedCase) (cases : List Case) where
   flow_asks rounds number core ask there is =
       slice_get-map (ask_of over_codes) (flows_after link cases rounds) number
       ∙ ap (option_map (ask_of over_codes)) there ∙ ap (λ (a : Ask). Some a) (sym is)
+
+  -- a flow without acknowledgements in a round stands and asks as before
+  pub flows_rest : (rounds number : ℕ) (acks : List Ack) → slice_get (acks_in_round link cases rounds) number ≡ Some acks → length acks ≡ 0
+      → slice_get (flows_after link cases rounds) number ≡ slice_get (flows_after link cases (rounds + 1)) number
+  flows_rest rounds number acks at none =
+      sym (ap (λ (n : ℕ). slice_get (flows_after link cases n) number) (add-one rounds)
+      ∙ rest-parts (acks_in_round link cases rounds) (flows_after link cases rounds) number acks at none)
+
+  pub asks_rest : (rounds number : ℕ) (acks : List Ack) → slice_get (acks_in_round link cases rounds) number ≡ Some acks → length acks ≡ 0
+      → slice_get (asks_in link cases rounds) number ≡ slice_get (asks_in link cases (rounds + 1)) number
+  asks_rest rounds number acks at none =
+      slice_get-map (ask_of over_codes) (flows_after link cases rounds) number
+      ∙ ap (option_map (ask_of over_codes)) (flows_rest rounds number acks at none)
+      ∙ sym (slice_get-map (ask_of over_codes) (flows_after link cases (rounds + 1)) number)
 
   -- the link after one more round
   pub stands-next : (rounds : ℕ) (old new : SharedState) (asked : List Ask) → StandsAfter link cases rounds old → new.case ≡ old.case → new.rounds ≡ old.rounds + 1

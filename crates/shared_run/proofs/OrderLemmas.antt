@@ -9,7 +9,7 @@ use Rattle.std.proofs.Math.Nat.{mod-lt}
 use Rattle.circular_buffer.proofs.Places.{slice_get-set_same, slice_get-set_other}
 use Rattle.ccp_base.specs.declared.ack.Ack.{Ack}
 use Rattle.shared_run.proofs.CountLemmas.{same-some}
-use Rattle.shared_run.specs.Orders.{Part, OrderState, with_part, is_done_by, parts_of, order_of, IsDealtBefore, DealsOne}
+use Rattle.shared_run.specs.Orders.{FlowPart, OrderState, with_flow_part, is_done_by, parts_of_worker, order_of, IsDealtBefore, DealsOne}
 
 enumerate-last : {X : Type 0} (n : ℕ) (xs : List X) (x : X) → enumerate_from n (xs ++ x ∷ []) ≡ enumerate_from n xs ++ (n + length xs, x) ∷ []
 enumerate-last n [] x =
@@ -21,20 +21,20 @@ enumerate-last n (y ∷ ys) x =
 
 -- one more flow may be one more part
 parts-last : (workers worker : ℕ) (lists : List (List Ack)) (acks : List Ack)
-    → parts_of workers worker (lists ++ acks ∷ [])
-    ≡ parts_of workers worker lists ++ filter (is_done_by workers worker) ((length lists, acks) ∷ [])
+    → parts_of_worker workers worker (lists ++ acks ∷ [])
+    ≡ parts_of_worker workers worker lists ++ filter (is_done_by workers worker) ((length lists, acks) ∷ [])
 parts-last workers worker lists acks =
     let here : 0 + length lists ≡ length lists = omega arith in
     ap (filter (is_done_by workers worker)) (enumerate-last 0 lists acks ∙ ap (λ (n : ℕ). enumerate_from 0 lists ++ (n, acks) ∷ []) here)
     ∙ filter-append (is_done_by workers worker) (enumerate_from 0 lists) ((length lists, acks) ∷ [])
 
-no-part : (workers worker : ℕ) (part : Part) → is_done_by workers worker part ≡ false → filter (is_done_by workers worker) (part ∷ []) ≡ []
+no-part : (workers worker : ℕ) (part : FlowPart) → is_done_by workers worker part ≡ false → filter (is_done_by workers worker) (part ∷ []) ≡ []
 no-part workers worker part isnt = ap (λ (b : Bool). cond b (part ∷ []) []) isnt
 
-a-part : (workers worker : ℕ) (part : Part) → is_done_by workers worker part ≡ true → filter (is_done_by workers worker) (part ∷ []) ≡ part ∷ []
+a-part : (workers worker : ℕ) (part : FlowPart) → is_done_by workers worker part ≡ true → filter (is_done_by workers worker) (part ∷ []) ≡ part ∷ []
 a-part workers worker part is = ap (λ (b : Bool). cond b (part ∷ []) []) is
 
-abbrev with-parts : ℕ → ℕ → List Part → OrderState
+abbrev with-parts : ℕ → ℕ → List FlowPart → OrderState
 with-parts workers worker parts = record { worker = worker; workers = workers; parts = parts }
 
 -- a flow that isn't the worker's, or that has no acknowledgement, leaves the worker's order
@@ -43,16 +43,16 @@ order-same : (workers worker : ℕ) (lists : List (List Ack)) (acks : List Ack) 
 order-same workers worker lists acks isnt =
     ap (with-parts workers worker)
     (sym (parts-last workers worker lists acks
-    ∙ ap (λ (more : List Part). parts_of workers worker lists ++ more) (no-part workers worker (length lists, acks) isnt)
-    ∙ append-nil (parts_of workers worker lists)))
+    ∙ ap (λ (more : List FlowPart). parts_of_worker workers worker lists ++ more) (no-part workers worker (length lists, acks) isnt)
+    ∙ append-nil (parts_of_worker workers worker lists)))
 
 -- and else is one more part
 order-longer : (workers worker : ℕ) (lists : List (List Ack)) (acks : List Ack) → is_done_by workers worker (length lists, acks) ≡ true
-    → with_part (length lists, acks) (order_of workers worker lists) ≡ order_of workers worker (lists ++ acks ∷ [])
+    → with_flow_part (length lists, acks) (order_of workers worker lists) ≡ order_of workers worker (lists ++ acks ∷ [])
 order-longer workers worker lists acks is =
     ap (with-parts workers worker)
     (sym (parts-last workers worker lists acks
-    ∙ ap (λ (more : List Part). parts_of workers worker lists ++ more) (a-part workers worker (length lists, acks) is)))
+    ∙ ap (λ (more : List FlowPart). parts_of_worker workers worker lists ++ more) (a-part workers worker (length lists, acks) is)))
 
 pub deals-none : (workers number : ℕ) (acks : List Ack) (orders : List OrderState) → length acks ≡ 0 → DealsOne workers (number, acks) orders orders
 deals-none workers number [] orders none lists is dealt worker less =
@@ -76,7 +76,7 @@ worker-own workers number orders some before worker order is at =
     ap (λ (o : OrderState). number % o.workers) (sym same) ∙ sym is ∙ ap (λ (o : OrderState). o.worker) same
 
 pub deals-part : (workers number : ℕ) (acks : List Ack) (orders : List OrderState) (order new : OrderState) (at : ℕ)
-    → 0 < length acks → at ≡ number % workers → slice_get orders at ≡ Some order → new ≡ with_part (number, acks) order
+    → 0 < length acks → at ≡ number % workers → slice_get orders at ≡ Some order → new ≡ with_flow_part (number, acks) order
     → DealsOne workers (number, acks) orders (set orders at new)
 deals-part workers number [] orders order new at some is there made lists same dealt worker less = absurd (omega (arith, some))
 deals-part workers number (ack ∷ rest) orders order new at some is there made lists same dealt worker less =
@@ -89,8 +89,8 @@ deals-part workers number (ack ∷ rest) orders order new at some is there made 
           ap (slice_get (set orders at new)) (sym here)
           ∙ slice_get-set_same orders at new (slice_get_within orders at order there)
           ∙ ap (λ (o : OrderState). Some o)
-          (made ∙ ap (λ (o : OrderState). with_part (number, ack ∷ rest) o) (sym was)
-          ∙ ap (λ (n : ℕ). with_part (n, ack ∷ rest) (order_of workers worker lists)) (sym same)
+          (made ∙ ap (λ (o : OrderState). with_flow_part (number, ack ∷ rest) o) (sym was)
+          ∙ ap (λ (n : ℕ). with_flow_part (n, ack ∷ rest) (order_of workers worker lists)) (sym same)
           ∙ order-longer workers worker lists (ack ∷ rest) mine))
       | inr others ↦
           (let apart : worker ≢ at = λ e. others.1 (sym is ∙ sym e) in

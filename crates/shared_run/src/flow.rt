@@ -12,7 +12,7 @@ ghost use Rattle.shared_run.specs.OnWay.{MakesNext, Took};
 use agent_core::calls::answer;
 use campaign_gate::{Row, Sums};
 use ccp_base::{Ack, NoMemory};
-use flow_core::{Case, Core, Given, Letter, TakeFault};
+use flow_core::{Case, Core, Given, Letter};
 use fold_machine::Steps;
 use std::alloc::Global;
 use std::marker::{Brand, Model};
@@ -149,7 +149,7 @@ impl SharedFlow {
     fn is_answered(&self, at_end: bool) -> bool
         ensures { result ≡ is_answered at_end over_codes self.now }
     {
-        let is_out = self.core.out().is_some();
+        let is_out = self.core.has_out();
         if at_end || self.has_all() {
             return is_out;
         }
@@ -169,6 +169,7 @@ impl SharedFlow {
     }
 
     /// Applies the answer to the ticket that is out.
+    #[inline(never)]
     fn settle(&mut self)
         requires { is_legal (over_codes self.old.case) (world_of_core over_codes self.old) Letter.C ≡ true }
         ensures { self.new ≡ with_letter Letter.C self.old }
@@ -186,15 +187,27 @@ impl SharedFlow {
     fn take(&mut self, alloc: Global) -> Result<bool, NoMemory>
         ensures { IfOk result (λ took. Took took self.old self.new) }
     {
+        if !self.core.may_take() {
+            return Ok(false);
+        }
+        self.take_ticket(alloc)?;
+        Ok(true)
+    }
+
+    /// Takes a ticket. A ticket is large and rarely taken: it has no place in the function that asks for it after each
+    /// acknowledgement.
+    #[inline(never)]
+    fn take_ticket(&mut self, alloc: Global) -> Result<(), NoMemory>
+        requires { is_legal (over_codes self.old.case) (world_of_core over_codes self.old) Letter.T ≡ true }
+        ensures { OnOk result (self.new ≡ with_letter Letter.T self.old) }
+    {
         match self.core.take(alloc) {
             Ok(_) => {
                 self.taken = self.core.acks();
                 self.peak = self.peak.max(self.core.cwnd());
-                Ok(true)
+                Ok(())
             }
-            Err(TakeFault::NotYet) => Ok(false),
-            Err(TakeFault::Out(_)) => Ok(false),
-            Err(TakeFault::NoMemory) => Err(NoMemory),
+            Err(_) => Err(NoMemory),
         }
     }
 

@@ -1,14 +1,15 @@
 //! The flows of a run side by side, each behind its lock.
-ghost use Rattle.std.specs.Prelude.{◌≡◌, ◌≤◌, Some, length, slice_get, IfOk};
+ghost use Rattle.std.specs.Prelude.{◌≡◌, ◌≤◌, length, IfOk, OnOk};
 ghost use Rattle.ccp_base.specs.Limits.{most_flows};
 ghost use Rattle.shared_run.specs.Courses.{flows_after, asks_in, none_left};
 
 use crate::course::Course;
 use crate::flow::SharedFlow;
+use crate::known_flow::KnownFlow;
 use crate::round_acks::RoundAcks;
 use crate::run_flow::RunFlow;
 use campaign_gate::Cases;
-use ccp_base::{NoMemory, Sequence};
+use ccp_base::NoMemory;
 use shared_link::Ask;
 use std::alloc::Global;
 use std::sync::{Mutex, Wait};
@@ -32,39 +33,72 @@ pub(crate) fn open_flows<C: Course>(
     Ok(flows)
 }
 
-/// What the flows ask the link for after this many rounds, in order. If one of them isn't there, since its part ran out of
-/// memory or its worker didn't do it, that is reported as out of memory.
-pub(crate) fn collect_asks<C: Course, R: Wait>(
+/// What is known of the flows before the first round, in order.
+pub(crate) fn know_flows<C: Course, R: Wait>(
     rt: &R,
     alloc: Global,
     flows: &[Mutex<RunFlow<C>>],
-    round: u32,
-) -> Result<Sequence<Ask>, NoMemory>
-    requires flows { length flows.now ≡ length (asks_in C.link C.cases round) }
-    requires few { length flows.now ≤ most_flows }
-    ensures { IfOk result (λ asks. asks ≡ asks_in C.link C.cases round) }
+) -> Result<Vec<KnownFlow<C>>, NoMemory>
+    ensures { IfOk result (λ known. length known.items ≡ length flows.now) }
 {
-    let mut asks = Sequence::new(alloc);
-    let mut number = 0;
+    let mut known = Vec::new(alloc);
     let mut rest = flows;
     while let Some((flow, later)) = rest.split_first() {
-        asks.push(ask(rt, flow, number, round)?)?;
+        known.push(know_flow(rt, flow)?)?;
+        rest = later;
+    }
+    Ok(known)
+}
+
+/// What is known of a flow. If its part ran out of memory, so does this.
+fn know_flow<C: Course, R: Wait>(
+    rt: &R,
+    flow: &Mutex<RunFlow<C>>,
+) -> Result<KnownFlow<C>, NoMemory> {
+    flow.lock(rt).known().ok_or(NoMemory)
+}
+
+/// A flow rests in a round in which it has no acknowledgement.
+pub(crate) fn rest_flow<C: Course>(known: &mut [KnownFlow<C>], acks: &RoundAcks<C>)
+    requires { length acks.now.acks ≡ 0 }
+{
+    if let Some(flow) = known.get_mut(acks.number as usize) {
+        flow.rest(acks);
+    }
+}
+
+/// A flow's part of a round, with the rounds that the flow has rested through.
+pub(crate) fn rest_part<C: Course>(known: &[KnownFlow<C>], part: RoundAcks<C>) -> RoundAcks<C>
+    ensures acks { result.acks ≡ part.acks }
+    ensures number { result.number ≡ part.number }
+{
+    let mut part = part;
+    if let Some(flow) = known.get(part.number as usize) {
+        part.rest_since(flow);
+    }
+    part
+}
+
+/// Puts what the flows ask the link for after this many rounds into a list, in order. If that isn't known of one of them,
+/// since its part ran out of memory or its worker didn't do it, that is reported as out of memory.
+pub(crate) fn collect_asks<C: Course>(
+    known: &[KnownFlow<C>],
+    round: u32,
+    asks: &mut Vec<Ask>,
+) -> Result<(), NoMemory>
+    requires flows { length known.now ≡ length (asks_in C.link C.cases round) }
+    requires few { length known.now ≤ most_flows }
+    ensures { OnOk result (asks.new.items ≡ asks_in C.link C.cases round) }
+{
+    asks.clear();
+    let mut number = 0;
+    let mut rest = known;
+    while let Some((flow, later)) = rest.split_first() {
+        asks.push(flow.ask(number, round)?)?;
         number += 1;
         rest = later;
     }
-    Ok(asks)
-}
-
-/// What a flow asks the link for.
-fn ask<C: Course, R: Wait>(
-    rt: &R,
-    flow: &Mutex<RunFlow<C>>,
-    number: u32,
-    round: u32,
-) -> Result<Ask, NoMemory>
-    ensures { IfOk result (λ ask. slice_get (asks_in C.link C.cases round) number ≡ Some ask) }
-{
-    flow.lock(rt).ask(number, round)
+    Ok(())
 }
 
 /// Whether no flow asks for an acknowledgement.
@@ -81,17 +115,31 @@ pub(crate) fn none_left(asks: &[Ask]) -> bool
     true
 }
 
-/// A flow's part of a round, if the flow is there.
+/// A flow's part of a round, and what is known of the flow then. If the flow isn't there or runs out of memory, nothing is
+/// known of it.
 pub(crate) fn do_part<C: Course, R: Wait>(
     rt: &R,
     alloc: Global,
     flows: &[Mutex<RunFlow<C>>],
     acks: &RoundAcks<C>,
+) -> Option<KnownFlow<C>> {
+    let mut flow = flows.get(acks.number as usize)?.lock(rt);
+    if !flow.is_at(acks.number, acks.since) {
+        return None;
+    }
+    flow.hear(alloc, acks);
+    flow.known()
+}
+
+/// Brings the flows that rested in the last rounds to the round that the caller knows them after.
+pub(crate) fn rest_flows<C: Course, R: Wait>(
+    rt: &R,
+    flows: &[Mutex<RunFlow<C>>],
+    known: &[KnownFlow<C>],
 ) {
-    if let Some(flow) = flows.get(acks.number as usize) {
-        let mut flow = flow.lock(rt);
-        if flow.is_at(acks.number, acks.round) {
-            flow.hear(alloc, acks);
+    for rested in known {
+        if let Some(flow) = flows.get(rested.number as usize) {
+            flow.lock(rt).rest(rested);
         }
     }
 }

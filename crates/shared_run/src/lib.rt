@@ -3,8 +3,10 @@
 
 mod books;
 mod course;
+mod desk;
 mod flow;
 mod flows;
+mod known_flow;
 mod laws;
 mod line;
 mod order;

@@ -6,9 +6,10 @@ use std::hint::spin_loop;
 use std::sync::Wait;
 use std::thread::Parker;
 
-/// How often a thread looks for a message before it sleeps: rounds follow one another within microseconds, and to wake a
-/// thread takes longer.
-const LOOKS: u32 = 10_000;
+/// How often a thread looks for a message before it sleeps. Looking takes some 10 nanoseconds, so this is some 2
+/// milliseconds: longer than the caller's own work in a round of many packets. To wake a thread takes up to 100
+/// microseconds, which is longer than many workers' parts.
+const LOOKS: u32 = 200_000;
 
 /// The end of a line that messages go into. Once it is dropped no more come.
 pub(crate) struct Sender<'e, T: Drop> {

@@ -1,22 +1,27 @@
 //! What a flow of a run is given in a round.
-ghost use Rattle.std.specs.Prelude.{◌≡◌, ◌<◌, Some, slice_get};
+ghost use Rattle.std.specs.Prelude.{◌≡◌, ◌<◌, Some, slice_get, refl};
 ghost use Rattle.ccp_base.specs.Limits.{most_rounds};
-ghost use Rattle.shared_run.specs.Courses.{acks_in_round};
+ghost use Rattle.shared_run.specs.Courses.{flows_after, acks_in_round};
 
 use crate::course::Course;
+use crate::known_flow::KnownFlow;
 use ccp_base::Acks;
 use std::marker::PhantomData;
 
-/// The acknowledgements of a flow in the round that comes after `round` rounds.
+/// The acknowledgements of a flow in the round that comes after `round` rounds. The flow stands as it did after `since`
+/// rounds.
 #[derive(Drop)]
 pub(crate) struct RoundAcks<C: Course> {
     pub(crate) acks: Acks,
     /// The flow's number.
     pub(crate) number: u32,
+    /// After how many rounds its lock has it.
+    pub(crate) since: u32,
     pub(crate) round: u32,
     of: PhantomData<C>,
     ghost are: { slice_get (acks_in_round C.link C.cases round) number ≡ Some acks },
     ghost few: { round < most_rounds },
+    ghost rests: { slice_get (flows_after C.link C.cases since) number ≡ slice_get (flows_after C.link C.cases round) number },
 }
 
 impl<C: Course> RoundAcks<C> {
@@ -30,8 +35,20 @@ impl<C: Course> RoundAcks<C> {
         RoundAcks {
             acks,
             number,
+            since: round,
             round,
             of: PhantomData,
+        }
+    }
+
+    /// Says which rounds the flow has rested through, as the caller knows. If it isn't known before this round, nothing
+    /// changes.
+    pub(crate) fn rest_since(&mut self, known: &KnownFlow<C>)
+        ensures acks { self.new.acks ≡ self.old.acks }
+        ensures number { self.new.number ≡ self.old.number }
+    {
+        if known.is_at(self.number, self.round) {
+            self.since = known.since;
         }
     }
 

@@ -1,17 +1,18 @@
 //! The rounds of a shared run: flows ask, the link answers, and workers do the flows' parts.
-ghost use Rattle.std.specs.Prelude.{◌≡◌, ◌+◌, ◌<◌, ◌≤◌, length, IfOk, OnOk};
+ghost use Rattle.std.specs.Prelude.{◌≡◌, ◌+◌, ◌%◌, ◌<◌, ◌≤◌, [], length, IfOk, OnOk};
 ghost use Rattle.ccp_base.specs.Limits.{most_flows, most_rounds, most_workers};
 ghost use Rattle.shared_run.specs.Courses.{asks_in, acks_in_round, StandsAfter, HasEnded};
 ghost use Rattle.shared_run.specs.Orders.{AreDealt, IsDealtBefore, DealsOne};
 
 use crate::course::Course;
-use crate::flows::{collect_asks, do_part, none_left};
+use crate::desk::Desk;
+use crate::flows::{collect_asks, know_flows, none_left, rest_flow, rest_flows, rest_part};
 use crate::order::{Order, open_orders};
 use crate::round_acks::RoundAcks;
 use crate::run_flow::RunFlow;
 use crate::worker_handle::{WorkerHandle, do_orders, start_workers};
-use ccp_base::{Gate, NoMemory, Sequence};
-use shared_link::{AckLists, Ask, SharedLink};
+use ccp_base::{Gate, NoMemory};
+use shared_link::{AckLists, SharedLink};
 use std::alloc::Global;
 use std::sync::{Mutex, Wait};
 use std::thread;
@@ -24,122 +25,122 @@ pub(crate) struct RunEnd {
     pub(crate) rounds: u32,
 }
 
-/// The orders of a round, in the order of the workers: a flow that has acknowledgements is a part of worker
-/// `f mod workers`. A flow without acknowledgements goes on at once, and the link gets its list back.
-fn deal<C: Course, R: Wait>(
-    rt: &R,
-    alloc: Global,
-    link: &mut SharedLink,
-    flows: &[Mutex<RunFlow<C>>],
+/// Puts the parts of a round into the orders of their workers: a flow that has acknowledgements is a part of worker
+/// `f mod workers`. A flow without acknowledgements stays as it is, and the link gets its list back.
+fn deal<C: Course>(
+    desk: &mut Desk<C>,
+    orders: &mut Vec<Order<C>>,
     lists: AckLists,
     round: u32,
     workers: u32,
-) -> Result<Vec<Order<C>>, NoMemory>
+) -> Result<(), NoMemory>
     requires workers { 1 ≤ workers }
     requires lists { lists ≡ acks_in_round C.link C.cases round }
     requires few { length lists ≤ most_flows }
     requires round { round < most_rounds }
-    ensures link { link.new ≡ link.old }
-    ensures orders { IfOk result (λ orders. AreDealt workers lists orders.items) }
+    requires none { AreDealt workers [] orders.old.items }
+    ensures link { desk.new.link ≡ desk.old.link }
+    ensures known { length desk.new.known.items ≡ length desk.old.known.items }
+    ensures orders { OnOk result (AreDealt workers lists orders.new.items) }
 {
-    let mut orders = open_orders(alloc, workers)?;
     let mut number = 0;
     for acks in lists.into_vec() {
         let part = RoundAcks::new(acks, number, round);
-        deal_part(rt, alloc, link, flows, &mut orders, part, workers)?;
+        deal_part(desk, orders, part, workers)?;
         number += 1;
     }
-    Ok(orders)
+    Ok(())
 }
 
 /// Puts a flow's part into the order of its worker, if the flow has acknowledgements.
-fn deal_part<C: Course, R: Wait>(
-    rt: &R,
-    alloc: Global,
-    link: &mut SharedLink,
-    flows: &[Mutex<RunFlow<C>>],
+fn deal_part<C: Course>(
+    desk: &mut Desk<C>,
     orders: &mut Vec<Order<C>>,
     part: RoundAcks<C>,
     workers: u32,
 ) -> Result<(), NoMemory>
     requires workers { 1 ≤ workers }
     requires before { IsDealtBefore workers part.number orders.old.items }
-    ensures link { link.new ≡ link.old }
+    ensures link { desk.new.link ≡ desk.old.link }
+    ensures known { length desk.new.known.items ≡ length desk.old.known.items }
     ensures orders { OnOk result (DealsOne workers (part.number, part.acks) orders.old.items orders.new.items) }
 {
     if part.acks.as_slice().is_empty() {
-        do_part(rt, alloc, flows, &part);
-        link.give_back(part.number, part.into_acks());
+        rest_flow(desk.known.as_mut_slice(), &part);
+        desk.link.give_back(part.number, part.into_acks());
         return Ok(());
     }
-    let worker = part.number % workers;
+    let part = rest_part(desk.known.as_slice(), part);
+    let worker = worker_of(part.number, workers);
     orders[worker as usize].push(part)
 }
 
-/// One more round, where the flows ask for this: the link answers, and each flow does its part on its worker. Answers
-/// what they ask for then.
+/// The worker that does a flow's parts.
+fn worker_of(flow: u32, workers: u32) -> u32
+    requires { 1 ≤ workers }
+    ensures { result ≡ flow % workers }
+{
+    flow % workers
+}
+
+/// One more round, where the flows ask for what the desk has: the link answers, and each flow does its part on its worker.
+/// Then the desk has what they ask for next.
 fn run_round<'e, C: Course, R: Wait, G: Gate>(
     rt: &R,
     alloc: Global,
-    link: &mut SharedLink,
     flows: &[Mutex<RunFlow<C>>],
+    desk: &mut Desk<C>,
+    orders: &mut Vec<Order<C>>,
     handles: &mut [WorkerHandle<'e, C>],
-    asked: &[Ask],
     done: u32,
     gate: &G,
-) -> Result<Sequence<Ask>, NoMemory>
+) -> Result<(), NoMemory>
     requires workers { 1 ≤ length handles.old }
     requires few_workers { length handles.old ≤ most_workers }
-    requires flows { length flows.now ≡ length C.cases }
-    requires few { length flows.now ≤ most_flows }
+    requires known { length desk.old.known.items ≡ length C.cases }
+    requires few { length C.cases ≤ most_flows }
     requires links { length C.link.flows ≡ length C.cases }
-    requires stands { StandsAfter C.link C.cases done link.old }
-    requires asks { asked.now ≡ asks_in C.link C.cases done }
+    requires stands { StandsAfter C.link C.cases done desk.old.link }
+    requires asks { desk.old.asks.items ≡ asks_in C.link C.cases done }
     requires rounds { done < most_rounds }
-    ensures asks { IfOk result (λ asks. asks ≡ asks_in C.link C.cases (done + 1)) }
-    ensures stands { OnOk result (StandsAfter C.link C.cases (done + 1) link.new) }
+    ensures known { length desk.new.known.items ≡ length C.cases }
+    ensures asks { OnOk result (desk.new.asks.items ≡ asks_in C.link C.cases (done + 1)) }
+    ensures stands { OnOk result (StandsAfter C.link C.cases (done + 1) desk.new.link) }
 {
-    let lists = link.round(alloc, asked)?;
+    let lists = desk.link.round(alloc, desk.asks.as_slice())?;
     let workers = handles.len() as u32;
-    let orders = deal(rt, alloc, link, flows, lists, done, workers)?;
-    do_orders(rt, alloc, link, flows, orders, handles, gate);
-    collect_asks(rt, alloc, flows, done + 1)
+    open_orders(alloc, orders, &mut desk.spare, workers)?;
+    deal(desk, orders, lists, done, workers)?;
+    do_orders(rt, alloc, flows, desk, orders, handles, gate);
+    collect_asks(desk.known.as_slice(), done + 1, &mut desk.asks)
 }
 
 /// Rounds until all flows have all acknowledgements, at most `most`. Answers how many there were.
 fn run_rounds<'e, C: Course, R: Wait, G: Gate>(
     rt: &R,
     alloc: Global,
-    link: &mut SharedLink,
     flows: &[Mutex<RunFlow<C>>],
+    desk: &mut Desk<C>,
     handles: &mut [WorkerHandle<'e, C>],
     most: u32,
     gate: &G,
 ) -> Result<u32, NoMemory>
     requires workers { 1 ≤ length handles.old }
     requires few_workers { length handles.old ≤ most_workers }
-    requires flows { length flows.now ≡ length C.cases }
-    requires few { length flows.now ≤ most_flows }
+    requires known { length desk.old.known.items ≡ length C.cases }
+    requires few { length C.cases ≤ most_flows }
     requires links { length C.link.flows ≡ length C.cases }
-    requires stands { StandsAfter C.link C.cases 0 link.old }
+    requires stands { StandsAfter C.link C.cases 0 desk.old.link }
     requires rounds { most ≤ most_rounds }
-    ensures { IfOk result (λ done. HasEnded C.link C.cases most done link.new) }
+    ensures { IfOk result (λ done. HasEnded C.link C.cases most done desk.new.link) }
 {
+    let mut orders = Vec::new(alloc);
     let mut done = 0;
-    let mut asked = collect_asks(rt, alloc, flows, 0)?;
+    collect_asks(desk.known.as_slice(), 0, &mut desk.asks)?;
     while done < most {
-        asked = run_round(
-            rt,
-            alloc,
-            link,
-            flows,
-            handles,
-            asked.as_slice(),
-            done,
-            gate,
-        )?;
+        run_round(rt, alloc, flows, desk, &mut orders, handles, done, gate)?;
         done += 1;
-        if none_left(asked.as_slice()) {
+        if none_left(desk.asks.as_slice()) {
             return Ok(done);
         }
     }
@@ -183,17 +184,20 @@ pub(crate) fn run_by_workers<
             requires rounds { most ≤ most_rounds }
             ensures { IfOk result (λ end. HasEnded C.link C.cases most end.rounds end.link) }
         {
-            let mut link = link;
             let mut handles = start_workers(scope, rt, alloc, flows, bells, gate)?;
+            let known = know_flows(rt, alloc, flows)?;
+            let mut desk = Desk::new(alloc, link, known);
             let rounds = run_rounds(
                 rt,
                 alloc,
-                &mut link,
                 flows,
+                &mut desk,
                 handles.as_mut_slice(),
                 most,
                 gate,
             )?;
+            rest_flows(rt, flows, desk.known.as_slice());
+            let link = desk.into_link();
             Ok(RunEnd { link, rounds })
         },
     )

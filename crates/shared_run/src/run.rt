@@ -27,10 +27,11 @@ use std::thread::{Parker, Threads};
 /// acknowledgements, the link answers, and each flow that has some does its part on a worker: worker `w` does those of
 /// the flows whose number leaves `w` when it is divided by the number of workers, in order. Workers that have parts in a
 /// round do them side by side, each in a thread that lives for the whole run; the parts of the first of them are done by
-/// the caller, and so are those of a worker for which no thread can be started. A worker passes the gate at `InCase`
-/// before a part and at `AfterCase` after it. The run ends after the round in which all flows have all acknowledgements,
-/// and at the latest after `rounds` rounds, where 0 flows run none; then each flow takes and answers until nothing is
-/// left. A thread's answer that is lost is reported as out of memory.
+/// the caller, and so are those of a worker for which no thread can be started. A flow's next question comes back with its
+/// part; a flow without acknowledgements in a round stays as it is. A worker passes the gate at `InCase` before a part and
+/// at `AfterCase` after it. The run ends after the round in which all flows have all acknowledgements, and at the latest
+/// after `rounds` rounds, where 0 flows run none; then each flow takes and answers until nothing is left. A thread's answer
+/// that is lost is reported as out of memory.
 pub fn shared<R: Threads + Wait + Sync, G: Gate + Sync>(
     rt: &R,
     alloc: Global,

@@ -1,9 +1,10 @@
 //! A flow of a run between two rounds.
-ghost use Rattle.std.specs.Prelude.{◌≡◌, ◌+◌, ◌↔◌, false, Some, length, slice_get, IfOk, IsTrue};
-ghost use Rattle.shared_run.specs.Courses.{flows_after, asks_in};
+ghost use Rattle.std.specs.Prelude.{◌≡◌, ◌+◌, ◌↔◌, false, Some, length, slice_get, IfOk, IsSome, IsTrue};
+ghost use Rattle.shared_run.specs.Courses.{flows_after};
 
 use crate::course::Course;
 use crate::flow::SharedFlow;
+use crate::known_flow::KnownFlow;
 use crate::round_acks::RoundAcks;
 use ccp_base::NoMemory;
 use shared_link::Ask;
@@ -44,33 +45,41 @@ impl<C: Course> RunFlow<C> {
         !self.lacked_memory && self.number == number && self.round == round
     }
 
-    /// What that flow asks the link for after this many rounds. If it isn't there, that is reported as out of memory.
+    /// What the caller is to know of the flow. Nothing is known of a flow whose part ran out of memory.
     #[tactic(auto, using(crate::proofs::CourseLemmas::flow_asks))]
-    pub(crate) fn ask(&self, number: u32, round: u32) -> Result<Ask, NoMemory>
-        ensures { IfOk result (λ ask. slice_get (asks_in C.link C.cases round) number ≡ Some ask) }
+    pub(crate) fn known(&self) -> Option<KnownFlow<C>>
+        ensures { IsSome result ↔ (self.now.lacked_memory ≡ false) }
     {
-        if !self.is_at(number, round) {
-            return Err(NoMemory);
+        if self.lacked_memory {
+            return None;
         }
-        Ok(Ask {
+        let ask = Ask {
             window: self.flow.window(),
             left: self.flow.left(),
-        })
+        };
+        Some(KnownFlow::new(self.number, self.round, ask))
     }
 
-    /// The flow's part of its next round, in which it has these acknowledgements. It is through the round then, unless
-    /// memory ran out on the way.
+    /// The flow's part of a round, in which it has these acknowledgements. It is through the round then, unless memory ran
+    /// out on the way.
     pub(crate) fn hear(&mut self, alloc: Global, acks: &RoundAcks<C>)
         requires whole { self.old.lacked_memory ≡ false }
         requires number { self.old.number ≡ acks.now.number }
-        requires round { self.old.round ≡ acks.now.round }
+        requires since { self.old.round ≡ acks.now.since }
         ensures number { self.new.number ≡ self.old.number }
-        ensures through { self.new.lacked_memory ≡ false → self.new.round ≡ self.old.round + 1 }
+        ensures through { self.new.lacked_memory ≡ false → self.new.round ≡ acks.now.round + 1 }
         ensures nothing { length acks.now.acks ≡ 0 → self.new.lacked_memory ≡ false }
     {
         match self.flow.part(alloc, acks.acks.as_slice()) {
-            Ok(()) => self.round += 1,
+            Ok(()) => self.round = acks.round + 1,
             Err(NoMemory) => self.lacked_memory = true,
+        }
+    }
+
+    /// Goes on by the rounds in which the flow had no acknowledgement, as the caller knows.
+    pub(crate) fn rest(&mut self, known: &KnownFlow<C>) {
+        if self.is_at(known.number, known.since) {
+            self.round = known.round;
         }
     }
 

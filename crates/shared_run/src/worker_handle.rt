@@ -2,12 +2,12 @@
 ghost use Rattle.std.specs.Prelude.{◌≡◌, ◌<◌, length, IfOk};
 
 use crate::course::Course;
+use crate::desk::Desk;
 use crate::line::{Receiver, Sender, line};
 use crate::order::Order;
 use crate::run_flow::RunFlow;
-use crate::worker::{do_order, serve};
+use crate::worker::serve;
 use ccp_base::{Gate, NoMemory};
-use shared_link::SharedLink;
 use std::alloc::Global;
 use std::sync::{Mutex, Wait};
 use std::thread::{Parker, Scope, Threads};
@@ -101,53 +101,71 @@ impl<'e, C: Course> WorkerHandle<'e, C> {
     }
 }
 
-/// Does all orders of a round. The caller does the first one that has a part, beside the threads that do the others: a
-/// thread is woken only if two workers have parts. The link gets the lists of the parts back.
+/// Does all orders of a round, and leaves none. The caller does the first one that has a part, beside the threads that do
+/// the others: a thread is woken only if two workers have parts.
 pub(crate) fn do_orders<'e, C: Course, R: Wait, G: Gate>(
     rt: &R,
     alloc: Global,
-    link: &mut SharedLink,
     flows: &[Mutex<RunFlow<C>>],
-    orders: Vec<Order<C>>,
+    desk: &mut Desk<C>,
+    orders: &mut Vec<Order<C>>,
     handles: &mut [WorkerHandle<'e, C>],
     gate: &G,
 )
-    ensures { link.new ≡ link.old }
+    ensures link { desk.new.link ≡ desk.old.link }
+    ensures known { length desk.new.known.items ≡ length desk.old.known.items }
 {
-    let mut own = None;
-    for order in orders {
+    let first = hand_out_all(rt, alloc, flows, desk, orders, handles, gate);
+    if let Some(order) = first {
+        do_here(rt, alloc, flows, desk, order, gate);
+    }
+    take_back_all(rt, desk, handles);
+}
+
+/// Hands the orders that have a part to their workers' threads, the last one first. It keeps the first one and gives it
+/// back.
+fn hand_out_all<'e, C: Course, R: Wait, G: Gate>(
+    rt: &R,
+    alloc: Global,
+    flows: &[Mutex<RunFlow<C>>],
+    desk: &mut Desk<C>,
+    orders: &mut Vec<Order<C>>,
+    handles: &mut [WorkerHandle<'e, C>],
+    gate: &G,
+) -> Option<Order<C>>
+    ensures link { desk.new.link ≡ desk.old.link }
+    ensures known { length desk.new.known.items ≡ length desk.old.known.items }
+{
+    let mut first = None;
+    while let Some(order) = orders.pop() {
         if order.is_empty() {
-            drop(order);
-        } else if own.is_none() {
-            own = Some(order);
-        } else {
-            hand_out(rt, alloc, link, flows, order, handles, gate);
+            desk.take_in(order);
+        } else if let Some(later) = std::mem::replace(&mut first, Some(order)) {
+            hand_out(rt, alloc, flows, desk, later, handles, gate);
         }
     }
-    if let Some(order) = own {
-        do_here(rt, alloc, link, flows, order, gate);
-    }
-    take_back_all(rt, link, handles);
+    first
 }
 
 /// Hands an order to its worker's thread. If the worker has none, the order is done here.
 fn hand_out<'e, C: Course, R: Wait, G: Gate>(
     rt: &R,
     alloc: Global,
-    link: &mut SharedLink,
     flows: &[Mutex<RunFlow<C>>],
+    desk: &mut Desk<C>,
     order: Order<C>,
     handles: &mut [WorkerHandle<'e, C>],
     gate: &G,
 )
-    ensures { link.new ≡ link.old }
+    ensures link { desk.new.link ≡ desk.old.link }
+    ensures known { length desk.new.known.items ≡ length desk.old.known.items }
 {
     let unsent = match handles.get_mut(order.worker() as usize) {
         Some(handle) => handle.hand_out(order),
         None => Some(order),
     };
     if let Some(order) = unsent {
-        do_here(rt, alloc, link, flows, order, gate);
+        do_here(rt, alloc, flows, desk, order, gate);
     }
 }
 
@@ -155,38 +173,31 @@ fn hand_out<'e, C: Course, R: Wait, G: Gate>(
 fn do_here<C: Course, R: Wait, G: Gate>(
     rt: &R,
     alloc: Global,
-    link: &mut SharedLink,
     flows: &[Mutex<RunFlow<C>>],
+    desk: &mut Desk<C>,
     order: Order<C>,
     gate: &G,
 )
-    ensures { link.new ≡ link.old }
+    ensures link { desk.new.link ≡ desk.old.link }
+    ensures known { length desk.new.known.items ≡ length desk.old.known.items }
 {
-    do_order(rt, alloc, flows, &order, gate);
-    give_lists_back(link, order);
+    let mut order = order;
+    order.do_parts(rt, alloc, flows, gate);
+    desk.take_in(order);
 }
 
 /// Waits for the threads that have orders.
 fn take_back_all<'e, C: Course, R: Wait>(
     rt: &R,
-    link: &mut SharedLink,
+    desk: &mut Desk<C>,
     handles: &mut [WorkerHandle<'e, C>],
 )
-    ensures { link.new ≡ link.old }
+    ensures link { desk.new.link ≡ desk.old.link }
+    ensures known { length desk.new.known.items ≡ length desk.old.known.items }
 {
     for handle in handles {
         if let Some(order) = handle.take_back(rt) {
-            give_lists_back(link, order);
+            desk.take_in(order);
         }
-    }
-}
-
-/// Gives the link the lists of an order's parts back.
-fn give_lists_back<C: Course>(link: &mut SharedLink, order: Order<C>)
-    ensures { link.new ≡ link.old }
-{
-    for part in order.into_parts() {
-        let flow = part.number;
-        link.give_back(flow, part.into_acks());
     }
 }

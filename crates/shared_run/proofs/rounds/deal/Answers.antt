@@ -41,4 +41,5 @@ loop-acks-preserved g c =
       omega (arith, shorter, c.in-Some.ensures.steps.1, l.invariant.2),
       subst (λ (xs : List (List Ack)). AreDealt c.args.workers xs c.deal_part.new.orders.items) longer dealt,
       c.in_ok-deal_part.ensures.link ∙ l.invariant.4,
+      c.in_ok-deal_part.ensures.known ∙ l.invariant.5,
     )

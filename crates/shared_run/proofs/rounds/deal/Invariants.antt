@@ -10,4 +10,5 @@ invariant-loop-acks g l =
     × (l.number + length (into_iter_items l.acks-iterator) ≡ length (acks_in_round g.C.Course.link g.C.Course.cases l.round))
     × (into_iter_len l.acks-iterator ≡ length (into_iter_items l.acks-iterator))
     × AreDealt l.workers (take l.number (acks_in_round g.C.Course.link g.C.Course.cases l.round)) l.orders.items
-    × (l.link ≡ l.fn.link)
+    × (l.desk.link ≡ l.fn.desk.link)
+    × (length l.desk.known.items ≡ length l.fn.desk.known.items)

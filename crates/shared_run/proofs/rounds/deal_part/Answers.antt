@@ -1,5 +1,6 @@
-use Rattle.std.proofs.Common.{◌≡◌, ◌<◌, ◌%◌, Some, length, slice_get, rules, refl}
+use Rattle.std.proofs.Common.{◌≡◌, ◌<◌, ◌%◌, Some, length, slice_get, rules, refl, ap, ◌∙◌}
 use Rattle.std.proofs.lemmas.Option.{slice_get_read}
+use Rattle.shared_run.specs.Orders.{with_flow_part}
 use Rattle.shared_run.proofs.OrderLemmas.{deals-none, worker-there, worker-own, deals-part, on_ok}
 use Rattle.shared_run.proofs.rounds.deal_part.Goals as goal
 
@@ -11,26 +12,39 @@ returns-then-is_empty-clause-orders g c =
 pub index_mut-requires : goal.index_mut-requires
 index_mut-requires g c =
     let orders = c.args.orders.now.items in
-    let less : c.args.part.number % c.args.workers < length orders = worker-there c.args.workers c.args.part.number orders c.requires.workers c.requires.before (c.args.part.number % c.args.workers) refl in
+    let worker = c.worker_of-worker.result in
+    let own : worker ≡ c.args.part.number % c.args.workers =
+    c.worker_of-worker.ensures ∙ ap (λ n. n % c.args.workers) c.rest_part-part.ensures.number in
+    let less : worker < length orders = worker-there c.args.workers c.args.part.number orders c.requires.workers c.requires.before worker own in
     search (rules, less)
 
 pub push-requires : goal.push-requires
 push-requires g c =
     let orders = c.args.orders.now.items in
     let number = c.args.part.number in
-    let worker = number % c.args.workers in
+    let worker = c.worker_of-worker.result in
+    let own : worker ≡ number % c.args.workers =
+    c.worker_of-worker.ensures ∙ ap (λ n. n % c.args.workers) c.rest_part-part.ensures.number in
     let order = c.index_mut.result.now in
-    let less = worker-there c.args.workers number orders c.requires.workers c.requires.before worker refl in
+    let less = worker-there c.args.workers number orders c.requires.workers c.requires.before worker own in
     let at : slice_get orders worker ≡ Some order = slice_get_read orders (length orders) worker order refl less c.index_mut.ensures.value in
-    worker-own c.args.workers number orders c.requires.workers c.requires.before worker order refl at
+    ap (λ n. n % order.workers) c.rest_part-part.ensures.number
+    ∙ worker-own c.args.workers number orders c.requires.workers c.requires.before worker order own at
 
 pub returns-clause-orders : goal.returns-clause-orders
 returns-clause-orders g c =
     let orders = c.args.orders.now.items in
     let number = c.args.part.number in
-    let worker = number % c.args.workers in
+    let worker = c.worker_of-worker.result in
+    let own : worker ≡ number % c.args.workers =
+    c.worker_of-worker.ensures ∙ ap (λ n. n % c.args.workers) c.rest_part-part.ensures.number in
     let order = c.index_mut.result.now in
-    let less = worker-there c.args.workers number orders c.requires.workers c.requires.before worker refl in
+    let less = worker-there c.args.workers number orders c.requires.workers c.requires.before worker own in
     let at : slice_get orders worker ≡ Some order = slice_get_read orders (length orders) worker order refl less c.index_mut.ensures.value in
     let some : 0 < length c.args.part.acks = search rules in
-    on_ok c.push.result (deals-part c.args.workers number c.args.part.acks orders order c.push.new.self worker some refl at) c.push.ensures
+    let rested = c.rest_part-part.ensures in
+    on_ok c.push.result
+    (λ made.
+    deals-part c.args.workers number c.args.part.acks orders order c.push.new.self worker some own at
+    (made ∙ (λ i. with_flow_part (rested.number i, rested.acks i) order)))
+    c.push.ensures

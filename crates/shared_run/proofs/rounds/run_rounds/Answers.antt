@@ -11,11 +11,11 @@ returns-then-none_left g c =
     let link = g.C.Course.link in
     let cases = g.C.Course.cases in
     let less : l.done < c.args.most = omega (arith, c.loop-done-test.true) in
-    let asked : c.as_slice-in-loop-done.result.now ≡ asks_in link cases (l.done + 1) = c.as_slice-in-loop-done.ensures ∙ c.in_ok-asked-2.ensures.asks in
+    let asked : c.as_slice-in-loop-done.result.now ≡ asks_in link cases (l.done + 1) = c.as_slice-in-loop-done.ensures.value ∙ c.in_ok-run_round.ensures.asks in
     let has : have_all (flows_after link cases (l.done + 1)) ≡ true =
     sym (none_asked (flows_after link cases (l.done + 1))) ∙ sym (ap (λ (asks : List Ask). none_left asks) asked) ∙ sym c.none_left.ensures
     ∙ c.if-none_left.true in
-    record { stands = c.in_ok-asked-2.ensures.stands; whole = way_ends link cases c.args.most l.done less l.invariant.2 has }
+    record { stands = c.in_ok-run_round.ensures.stands; whole = way_ends link cases c.args.most l.done less l.invariant.2 has }
 
 pub loop-done-preserved : goal.loop-done-preserved
 loop-done-preserved g c =
@@ -23,14 +23,15 @@ loop-done-preserved g c =
     let link = g.C.Course.link in
     let cases = g.C.Course.cases in
     let less : l.done < c.args.most = omega (arith, c.loop-done-test.true) in
-    let asked : c.as_slice-in-loop-done.result.now ≡ asks_in link cases (l.done + 1) = c.as_slice-in-loop-done.ensures ∙ c.in_ok-asked-2.ensures.asks in
+    let asked : c.as_slice-in-loop-done.result.now ≡ asks_in link cases (l.done + 1) = c.as_slice-in-loop-done.ensures.value ∙ c.in_ok-run_round.ensures.asks in
     let lacks : have_all (flows_after link cases (l.done + 1)) ≡ false =
     sym (none_asked (flows_after link cases (l.done + 1))) ∙ sym (ap (λ (asks : List Ask). none_left asks) asked) ∙ sym c.none_left.ensures
     ∙ c.if-none_left.false in
     let same = c.run_round.auto.handles in (
-      c.in_ok-asked-2.ensures.stands,
-      c.in_ok-asked-2.ensures.asks,
+      c.in_ok-run_round.ensures.stands,
+      c.in_ok-run_round.ensures.asks,
       way_on link cases c.args.most l.done less l.invariant.2 lacks,
       omega (arith, less),
       omega (arith, same, l.invariant.4),
+      c.in_ok-run_round.ensures.known,
     )

@@ -5,11 +5,12 @@ use Rattle.shared_run.proofs.rounds.run_rounds.Given as goal
 
 abbrev pub invariant-loop-done : goal.invariant-loop-done
 invariant-loop-done g l =
-    StandsAfter g.C.Course.link g.C.Course.cases l.done l.link
-    × (l.asked ≡ asks_in g.C.Course.link g.C.Course.cases l.done)
+    StandsAfter g.C.Course.link g.C.Course.cases l.done l.desk.link
+    × (l.desk.asks.items ≡ asks_in g.C.Course.link g.C.Course.cases l.done)
     × IsOnWay g.C.Course.link g.C.Course.cases l.most l.done
     × (l.done ≤ l.most)
     × (1 ≤ length l.handles)
+    × (length l.desk.known.items ≡ length g.C.Course.cases)
 
 abbrev pub decreases-loop-done : goal.decreases-loop-done
 decreases-loop-done g l = l.most - l.done

@@ -1,0 +1,8 @@
+use Rattle.std.proofs.Common.{◌≡◌, ◌+◌, length}
+use Rattle.shared_run.proofs.flows.know_flows.Given as goal
+
+abbrev pub invariant-loop-flow : goal.invariant-loop-flow
+invariant-loop-flow g l = length l.known.items + length l.rest ≡ length l.flows
+
+abbrev pub decreases-loop-flow : goal.decreases-loop-flow
+decreases-loop-flow g l = length l.rest
