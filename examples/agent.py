@@ -12,9 +12,9 @@ with `flow` lines, number N is played (0). `-` is standard input:
 
     ./ccp acks < examples/live.json | examples/agent.py -
 
-The recording is fixed: it shows what an agent decides, not
-what the link would have done with another window. Put your own agent in the place of Reno: it needs `begin`, `report` and
-`fault`, and what these give is an answer of the class Datapath. docs/frames.md has the bytes of the frames.
+The recording is fixed: it shows what an agent decides, not what the link would have done with another window. Put your own
+agent in the place of Reno: it needs `begin`, `report` and `fault`, and what these give is an answer of the class Datapath.
+docs/frames.md has the bytes of the frames.
 
 The program is the one of --program, else of $CCP_PROGRAM, else the one built here: crates/ccp/out/ccp, or
 crates/ccp/out/checked/ccp, which isn't proved.
