@@ -13,10 +13,8 @@ use agent_core::calls::answer;
 use campaign_gate::{Row, Sums};
 use ccp_base::{Ack, NoMemory};
 use flow_core::{Case, Core, Given, Letter};
-use fold_machine::Steps;
 use std::alloc::Global;
-use std::marker::{Brand, Model};
-use std::sync::ledger::{Blank, Ledger};
+use std::marker::Model;
 
 /// A flow that shares its link: it is given its acknowledgements round by round. Contracts see it as its case, its
 /// acknowledgements and its word.
@@ -91,27 +89,9 @@ impl SharedFlow {
         ensures part { OnOk result (self.new ≡ round_part over_codes acks.now self.old) }
         ensures nothing { length acks.now ≡ 0 → IsOk result }
     {
-        self.hear_all::<Brand>(alloc, acks, Blank::new(1))
-    }
-
-    /// The same, where a ledger of one part counts the steps.
-    fn hear_all<L: Ledger>(
-        &mut self,
-        alloc: Global,
-        acks: &[Ack],
-        blank: Blank,
-    ) -> Result<(), NoMemory>
-        requires name { blank.name ≡ L.name }
-        requires parts { blank.parts ≡ L.parts }
-        requires some { 0 < blank.parts }
-        requires left { length self.old.acks + length acks.now ≤ self.old.case.acks }
-        ensures part { OnOk result (self.new ≡ round_part over_codes acks.now self.old) }
-        ensures nothing { length acks.now ≡ 0 → IsOk result }
-    {
-        let mut steps = Steps::<L>::new(blank);
         let mut left = acks;
         while let Some((ack, rest)) = left.split_first() {
-            self.hear(ack, &mut steps);
+            self.hear(ack);
             self.settle_all(alloc, false)?;
             left = rest;
         }
@@ -158,11 +138,11 @@ impl SharedFlow {
     }
 
     /// Takes an acknowledgement.
-    fn hear<L: Ledger>(&mut self, ack: &Ack, steps: &mut Steps<L>)
+    fn hear(&mut self, ack: &Ack)
         requires { length self.old.acks < self.old.case.acks }
         ensures { self.new ≡ with_ack ack.entry.now self.old }
     {
-        let Ok(_) = self.core.ack(ack, steps) else {
+        let Ok(_) = self.core.hear(ack) else {
             unreachable!()
         };
         self.peak = self.peak.max(self.core.cwnd());

@@ -4,10 +4,10 @@ use Rattle.flow_core.specs.Readings.{over_codes}
 use Rattle.flow_core.specs.Cores.{CoreState}
 use Rattle.shared_run.specs.RoundLetters.{with_ack, after_settling, round_part}
 use Rattle.shared_run.proofs.TurnLemmas.{settled-acks, settled-case}
-use Rattle.shared_run.proofs.flow.SharedFlow.hear_all.Goals as goal
+use Rattle.shared_run.proofs.flow.SharedFlow.part.Goals as goal
 
 pub loop-ack-preserved : goal.loop-ack-preserved
-loop-ack-preserved g c =
+loop-ack-preserved c =
     let old = c.loop-ack.self in
     let ack = c.in-Some.ack.now in
     let rest = c.in-Some.rest.now in
