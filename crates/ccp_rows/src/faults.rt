@@ -151,7 +151,10 @@ fn feed_reads_fail<R: Threads + Wait + Sync>(
     for call in 0..reads {
         assert!(abort; is_read_fault(rt, alloc, given, call, b"")?, "read {call}");
     }
-    assert!(abort; is_read_fault(rt, alloc, given, reads, MEASURE)?, "the last read");
+    assert!(abort;
+        is_read_fault(rt, alloc, given, reads, MEASURE)?,
+        "the last read"
+    );
     Ok(())
 }
 
@@ -169,7 +172,10 @@ fn feed_writes_fail<R: Threads + Wait + Sync>(
     given: Given<'_>,
 ) -> Result<(), Fail> {
     for call in 0..6 {
-        assert!(abort; is_write_fault(rt, alloc, given, call, MEASURE)?, "write {call}");
+        assert!(abort;
+            is_write_fault(rt, alloc, given, call, MEASURE)?,
+            "write {call}"
+        );
     }
     Ok(())
 }

@@ -18,7 +18,7 @@ use Rattle.ccp_base.specs.Truth.{is_true}
 use Rattle.ccp_base.proofs.PartLemmas.{without_last-other}
 use Rattle.fold_run.specs.declared.acks.LineFault.TheVariants.{TooMany}
 use Rattle.fold_run.specs.declared.line_values.LineValues.{LineValues}
-use Rattle.fold_run.specs.AckLine.{AckLine, nothing, given, refused, no_values, with_line_value, with_item, with_one_word, with_each_word, given_or_refused, begins_blank, ends_blank, read_ack_line}
+use Rattle.fold_run.specs.AckLine.{AckLine, nothing, given, refused, no_values, with_line_value, with_named_value, with_one_word, with_each_word, given_or_refused, begins_blank, ends_blank, read_ack_line}
 use Rattle.fold_run.specs.Acknowledgements.{with_line, with_lines}
 use Rattle.fold_run.proofs.NameLemmas.{IsNamed, AreNamed, is_name_byte, all_named, first_named, rest_named}
 use Rattle.campaign_report.specs.AcksText.{now_number, is_shown, gap, items_text, ack_line, ack_lines}
@@ -303,7 +303,7 @@ found_at name rest plain =
     ap (λ (n : ℕ). cond (nat_lt n (length (name ++ 61 ∷ rest))) (Some n) None) at
     ∙ ap (λ (b : Bool). cond b (Some (length name)) None) within
 
-as_item : (values : LineValues) (name rest : List ℕ) → with_one_word values (name ++ 61 ∷ rest) ≡ with_item values (name ++ 61 ∷ rest)
+as_item : (values : LineValues) (name rest : List ℕ) → with_one_word values (name ++ 61 ∷ rest) ≡ with_named_value values (name ++ 61 ∷ rest)
 as_item values [] rest = refl
 as_item values (byte ∷ name) rest = refl
 

@@ -37,7 +37,7 @@ use Rattle.ccp_run.specs.Fold.{acks_below, IsFold, IsFoldInput, IsFoldOutput, Ha
 use Rattle.ccp_run.specs.AuditRuns.{IsAudit, IsAuditInput, IsAuditOutput, HasLongScenario, HasNoScenario, IsNoAudit}
 use Rattle.ccp_run.specs.ErrorLine.{most_bytes}
 use Rattle.ccp_run.specs.Scenes.{Says, HasFault, IsNoScenario}
-use Rattle.ccp_run.specs.Settled.{IsSettled}
+use Rattle.ccp_run.specs.Settled.{IsInputSettled}
 use Rattle.ccp_run.proofs.ModeLaws.{IsMode, no_both, reads_to_end}
 use Rattle.ccp_run.proofs.ScenarioInputs.{AreApart, by_function, of_scene, some_input}
 
@@ -57,7 +57,7 @@ check_some : (bytes : List ℕ) → ((form : Form) × IsBuiltFrom bytes form) �
 check_some bytes (inl built) = inl built
 check_some bytes (inr bad) = inr (Program bad.0, bad.1)
 
-settled_check : (bytes : List ℕ) → IsSettled (Alone mode.Check) bytes
+settled_check : (bytes : List ℕ) → IsInputSettled (Alone mode.Check) bytes
 settled_check bytes = record {
   some = check_some bytes (settled_text bytes).some;
   apart = λ refusal input bad. let p = only_program bytes refusal bad in (settled_text bytes).apart input.0 p.0 input.1 p.1;
@@ -172,7 +172,7 @@ module _ (bytes : List ℕ) where
   some_cut None e = inr (NoSeparator, e)
   some_cut (Some cut) e = some_program cut e (settled_text cut.program).some
 
-  settled_fold : IsSettled (Alone mode.Fold) bytes
+  settled_fold : IsInputSettled (Alone mode.Fold) bytes
   settled_fold = record {
     some = some_cut (cut_of bytes) refl;
     apart = λ refusal input bad. fold_apart input.0 input.1 refusal input.2 bad;
@@ -206,7 +206,7 @@ feed_some bytes (feeds.left place rest) true is = inr (TooLong Input, is)
 feed_some bytes (feeds.left place []) false is = inl is
 feed_some bytes (feeds.left place (byte ∷ rest)) false is = inr (FrameCut place, is)
 
-settled_feed : (bytes : List ℕ) → IsSettled (Alone mode.Feed) bytes
+settled_feed : (bytes : List ℕ) → IsInputSettled (Alone mode.Feed) bytes
 settled_feed bytes = record {
   some = feed_some bytes (feed_of bytes).tail (nat_lt most_input_bytes (length bytes)) refl;
   apart = λ refusal input bad. let same : None ≡ Some refusal = sym (ap refusal_of input) ∙ no_feed bytes refusal bad in cc;
@@ -315,7 +315,7 @@ module _ (bytes : List ℕ) where
   one_kind left right (told fault e l) (long f r) = absurd (short_long l.cut r.cut l.at.at_separator r.at_separator l.at.short r.long)
   one_kind left right (told fault e l) (told other f r) = e ∙ ap SceneRefused (one_scene_fault fault other l r) ∙ sym f
 
-settled_audit : (bytes : List ℕ) → IsSettled (Alone mode.Audit) bytes
+settled_audit : (bytes : List ℕ) → IsInputSettled (Alone mode.Audit) bytes
 settled_audit bytes = record {
   some = at_cut bytes (cut_of bytes) refl;
   apart = audit_apart bytes;

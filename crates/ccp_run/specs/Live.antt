@@ -7,7 +7,7 @@ use Rattle.flow_core.specs.declared.book.Book.{Book}
 use Rattle.flow_core.specs.declared.case.Case.{Case}
 use Rattle.flow_core.specs.LiveText.{live_text}
 use Rattle.flow_core.specs.Words.{legal, is_complete}
-use Rattle.campaign_report.specs.BooksRead.{IsRead, read_flow, read_world, flows_of}
+use Rattle.campaign_report.specs.BooksRead.{IsBookRead, read_flow, read_world, flows_of}
 use Rattle.scene_members.specs.declared.mode.SceneMode.TheVariants as scene
 use Rattle.scenario_json.specs.ScenePrograms.{forms_of}
 use Rattle.ccp_run.specs.declared.outcome.ModeOutput.{ModeOutput}
@@ -21,7 +21,7 @@ use Rattle.ccp_run.specs.Scenes.{IsScenario, IsNoScenario, SaysSomething, Says}
 pub record IsRightBook (programs : List (ℕ × Built)) (book : Book) : Type 0 where
   pub legal : legal (read_flow programs book) book.case.link book.word ≡ true
   pub complete : is_complete (read_flow programs book) (read_world programs book) ≡ true
-  pub read : IsRead programs book
+  pub read : IsBookRead programs book
 
 -- the cases that books are of, in order
 abbrev pub book_cases : List Book → List Case

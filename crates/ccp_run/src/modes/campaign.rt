@@ -7,7 +7,7 @@ ghost use Rattle.std.specs.List.{All};
 ghost use Rattle.campaign_report.specs.TableText.{table_text};
 ghost use Rattle.scenario_json.specs.Cases.{case_names, IsCoded, AreNumberedFrom};
 ghost use Rattle.ccp_run.specs.Campaign.{campaign_text, frames_shown};
-ghost use Rattle.ccp_run.specs.Streams.{over};
+ghost use Rattle.ccp_run.specs.Streams.{stream_change};
 ghost use Rattle.ccp_run.specs.Modes.{Task};
 
 use crate::modes::common::{agents, frames};
@@ -36,7 +36,7 @@ pub fn read_campaign<R: Threads + Wait + Sync, S: Source, G: Gate + Sync>(
     source: &mut S,
     gate: &G,
 ) -> Result<ModeOutput, Stop>
-    ensures { IsAttempt (Task.Campaign wire) (over S.remaining S.faults source.old source.new) result }
+    ensures { IsAttempt (Task.Campaign wire) (stream_change S.remaining S.faults source.old source.new) result }
 {
     let bytes = read_bytes(alloc, Limit::Input, source)?;
     campaign_output(rt, alloc, workers, wire, bytes.as_slice(), gate)

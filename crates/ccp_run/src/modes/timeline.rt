@@ -7,7 +7,7 @@ ghost use Rattle.scenario_json.specs.Cases.{IsCoded, AreNumberedFrom};
 ghost use Rattle.scenario_json.specs.ScenePrograms.{forms_of};
 ghost use Rattle.ccp_run.specs.Attempts.{IsOutputOrRefusal, IsAttempt};
 ghost use Rattle.ccp_run.specs.Live.{IsRightBook};
-ghost use Rattle.ccp_run.specs.Streams.{over};
+ghost use Rattle.ccp_run.specs.Streams.{stream_change};
 ghost use Rattle.ccp_run.specs.Timeline.{planned_by, timeline_text};
 ghost use Rattle.ccp_run.specs.Modes.{Task};
 
@@ -34,7 +34,7 @@ pub fn read_timeline<R: Threads + Wait + Sync, S: Source, G: Gate + Sync>(
     source: &mut S,
     gate: &G,
 ) -> Result<ModeOutput, Stop>
-    ensures { IsAttempt (Task.Timeline wire) (over S.remaining S.faults source.old source.new) result }
+    ensures { IsAttempt (Task.Timeline wire) (stream_change S.remaining S.faults source.old source.new) result }
 {
     let bytes = read_bytes(alloc, Limit::Input, source)?;
     timeline_output(rt, alloc, workers, wire, bytes.as_slice(), gate)
