@@ -47,7 +47,8 @@ own : (n : ℕ) → n < primitive_count → (rest : List ℕ) → GivesNumeral (
 own n below rest =
     let name : List ℕ = primitive_word n in
     let is = word_named n below in
-    gives-at (name ++ 61 ∷ rest) (length name) n rest (equals_after 0 name rest is.bytes)
+    let whole : 0 + length name ≡ length name = omega arith in
+    gives-at (name ++ 61 ∷ rest) (length name) n rest (equals_after 0 name rest is.bytes ∙ ap (λ k. Some k) whole)
     (ap value_named (take-append_seam name (61 ∷ rest)) ∙ is.found) (drop-append-add name (61 ∷ rest) 1)
 
 -- a text whose front is a name

@@ -59,4 +59,6 @@ named_from number (known ∷ rest) are (suc n) below =
     (named_from (number + 1) rest (rest_named are) n (omega (arith, below)))
 
 pub word_named : (n : ℕ) → n < primitive_count → IsNamed n (primitive_word n)
-word_named n below = named_from 0 primitive_names all_named n below
+word_named n below =
+    let whole : 0 + n ≡ n = omega arith in
+    subst (λ (k : ℕ). IsNamed k (primitive_word n)) whole (named_from 0 primitive_names all_named n below)
