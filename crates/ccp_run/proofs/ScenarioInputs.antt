@@ -1,11 +1,19 @@
--- Each text is a scenario's, or has one first refusal.
-use Rattle.std.proofs.Common.{◌≡◌, ◌≢◌, ◌∙◌, ◌⊎◌, inl, inr, Result, Ok, Err, ap, sym, subst, refl}
+-- Each text is a scenario's, or has one first refusal; so a mode whose inputs are scenarios has what the theorem asks of it.
+use Rattle.std.proofs.Common.{◌≡◌, ◌≢◌, ◌∙◌, ◌⊎◌, inl, inr, ℕ, List, Result, Ok, Err, ap, sym, subst, refl}
+use Rattle.reg_compiler.specs.declared.built.Built.{Built}
+use Rattle.flow_core.specs.declared.case.Case.{Case}
+use Rattle.scene_members.specs.declared.mode.SceneMode.{SceneMode}
+use Rattle.scenario_json.specs.Scene.{scene_of}
 use Rattle.scenario_json.specs.declared.fault.SceneFault.{SceneFault}
 use Rattle.scenario_json.specs.declared.fault.SceneFault.TheVariants as scene
+use Rattle.ccp_run.specs.declared.outcome.ModeOutput.{ModeOutput}
+use Rattle.ccp_run.specs.declared.refusal.Limit.TheVariants.{Input}
 use Rattle.ccp_run.specs.declared.refusal.Refusal.{Refusal}
 use Rattle.ccp_run.specs.declared.refusal.Refusal.TheVariants.{TooLong, NoSeparator, Program, Line, TooManyAcks, Scene as SceneRefused, Frame, FrameCut}
 use Rattle.ccp_run.specs.declared.stop.Stop.{Stop}
-use Rattle.ccp_run.specs.Scenes.{IsOfScene, SaysSomething, StopsFor, scene_stop}
+use Rattle.ccp_run.specs.Rules.{reads_whole}
+use Rattle.ccp_run.specs.Scenes.{IsOfScene, SaysSomething, StopsFor, scene_stop, Says, HasFault, IsScenario, IsSceneOutput, Telling, scene_rules}
+use Rattle.ccp_run.proofs.ModeLaws.{IsMode, reads_to_end}
 
 -- ---- what is said, or the fault
 
@@ -84,3 +92,32 @@ module _ {Said : Type 0} (says : Said → Type 0) (has : SceneFault → Type 0) 
       let of_left = of_scene has left l in
       let of_right = of_scene has right r in
       of_left.same ∙ (ap SceneRefused (parted.one of_left.fault of_right.fault of_left.has_it of_right.has_it) ∙ sym of_right.same)
+
+-- ---- modes
+
+-- a mode whose inputs say something, or have a first fault, and which makes its outputs of inputs
+module _ {Said : Type 0} (says : List ℕ → Said → Type 0) (has : List ℕ → SceneFault → Type 0)
+    (parted : (bytes : List ℕ) → AreApart (says bytes) (has bytes))
+    (Makes : List ℕ → ModeOutput → Type 0) (said : (bytes : List ℕ) (output : ModeOutput) → Makes bytes output → SaysSomething (says bytes)) where
+  pub text_mode : IsMode (reads_whole Input (λ bytes. SaysSomething (says bytes)) Makes (λ bytes. IsOfScene (has bytes)))
+  text_mode =
+      reads_to_end Input (λ bytes. SaysSomething (says bytes)) Makes (λ bytes. IsOfScene (has bytes)) (λ bytes. record {
+        some = some_input (says bytes) (has bytes) (parted bytes);
+        apart = not_both (says bytes) (has bytes) (parted bytes);
+        one_refusal = one_refused (says bytes) (has bytes) (parted bytes);
+        made = said bytes;
+      })
+
+-- a mode whose inputs are scenarios, each output of which tells this of one
+pub scene_mode : (mode : SceneMode) (Tells : Telling) → IsMode (scene_rules mode (IsSceneOutput mode Tells))
+scene_mode mode Tells =
+    text_mode (Says mode) (HasFault mode) (λ bytes. by_function (scene_of mode bytes)) (IsSceneOutput mode Tells) (λ bytes output made. (_, made.scenario.text))
+
+-- what tells of a scenario's programs and cases, and keeps the programs, is an output for the scenario
+pub of_cases : (mode : SceneMode) (Tells : Telling) (bytes : List ℕ) (programs : List (ℕ × Built)) (cases : List Case) (output : ModeOutput)
+    → IsScenario mode bytes programs cases → output.programs ≡ programs → Tells programs cases output → IsSceneOutput mode Tells bytes output
+of_cases mode Tells bytes programs cases output scenario kept tells = record {
+  cases = cases;
+  scenario = subst (λ (ps : List (ℕ × Built)). IsScenario mode bytes ps cases) (sym kept) scenario;
+  tells = subst (λ (ps : List (ℕ × Built)). Tells ps cases output) (sym kept) tells;
+}

@@ -4,7 +4,7 @@ ghost use Rattle.std.specs.List.{All};
 ghost use Rattle.ccp_base.specs.Limits.{most_flows};
 ghost use Rattle.scenario_json.specs.Cases.{IsCoded, AreFlowsFrom, AreNumberedFrom};
 ghost use Rattle.ccp_run.specs.Attempts.{IsOutputOrRefusal, IsAttempt};
-ghost use Rattle.ccp_run.specs.Live.{IsRightBook, book_cases, books_written};
+ghost use Rattle.ccp_run.specs.Live.{TellsLive};
 ghost use Rattle.ccp_run.specs.Streams.{stream_change};
 ghost use Rattle.ccp_run.specs.Modes.{Task};
 
@@ -40,6 +40,7 @@ pub fn read_live<R: Threads + Wait + Sync, S: Source, G: Gate + Sync>(
 }
 
 /// The output for the flows of the scenario that the bytes stand for, or its refusal.
+#[tactic(auto, using(crate::proofs::ScenarioInputs::of_cases))]
 fn live_output<R: Threads + Wait + Sync, G: Gate + Sync>(
     rt: &R,
     alloc: Global,
@@ -69,11 +70,8 @@ fn run_live<R: Threads + Wait + Sync, G: Gate + Sync>(
     requires flows { AreFlowsFrom 0 scene.cases }
     requires numbered { AreNumberedFrom 0 scene.programs }
     requires coded { All (IsCoded scene.programs) scene.cases }
-    ensures text { IfOk result (λ output. output.text ≡ books_written wire scene.programs output.books) }
-    ensures books { IfOk result (λ output. book_cases output.books ≡ scene.cases) }
-    ensures right { IfOk result (λ output. All (IsRightBook scene.programs) output.books) }
     ensures programs { IfOk result (λ output. output.programs ≡ scene.programs) }
-    ensures ran { IfOk result (λ output. output.ran ≡ 0) }
+    ensures tells { IfOk result (TellsLive wire scene.programs scene.cases) }
 {
     let table = FlowTable::new(alloc, scene.cases)?;
     let books = live(rt, alloc, table, datapaths, agents, gate)?;
