@@ -7,13 +7,13 @@ use Rattle.ccp_run.specs.AcksRuns.{TellsAcks}
 use Rattle.ccp_run.specs.Campaign.{TellsCampaign}
 use Rattle.ccp_run.specs.Live.{TellsLive}
 use Rattle.ccp_run.specs.Modes.{Task, Alone, Live, Campaign, Soak, Rollout, Shared, Timeline, Acks, rules_of}
-use Rattle.ccp_run.specs.Rollout.{SaysRollout, HasRolloutFault, IsRolloutOutput}
-use Rattle.ccp_run.specs.Shared.{SaysShared, HasSharedFault, IsSharedOutput}
+use Rattle.ccp_run.specs.Rollout.{IsRolloutOutput}
+use Rattle.ccp_run.specs.Shared.{IsSharedOutput}
 use Rattle.ccp_run.specs.Soak.{soak_rules}
 use Rattle.ccp_run.specs.Timeline.{TellsTimeline}
 use Rattle.ccp_run.proofs.AloneModes.{alone_mode}
 use Rattle.ccp_run.proofs.ModeLaws.{IsMode}
-use Rattle.ccp_run.proofs.ScenarioInputs.{by_function, text_mode, scene_mode}
+use Rattle.ccp_run.proofs.ScenarioInputs.{text_mode, scene_mode}
 
 soak_mode : (number : ℕ) → IsMode (soak_rules number)
 soak_mode number = record {
@@ -33,9 +33,7 @@ is_mode (Alone alone) = alone_mode alone
 is_mode (Live wire) = scene_mode scene.Live (TellsLive wire)
 is_mode (Campaign wire) = scene_mode scene.Campaign (TellsCampaign wire)
 is_mode (Soak number) = soak_mode number
-is_mode Rollout =
-    text_mode SaysRollout HasRolloutFault (λ bytes. by_function (rollout_of bytes)) IsRolloutOutput (λ bytes output made. (_, made.scenario.text))
-is_mode Shared =
-    text_mode SaysShared HasSharedFault (λ bytes. by_function (shared_scene_of bytes)) IsSharedOutput (λ bytes output made. (_, made.scenario.text))
+is_mode Rollout = text_mode rollout_of IsRolloutOutput (λ bytes output made. (_, made.scenario.text))
+is_mode Shared = text_mode shared_scene_of IsSharedOutput (λ bytes output made. (_, made.scenario.text))
 is_mode (Timeline wire) = scene_mode scene.Live (TellsTimeline wire)
 is_mode Acks = scene_mode scene.Live TellsAcks
