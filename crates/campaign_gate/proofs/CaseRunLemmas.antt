@@ -12,17 +12,17 @@ use Rattle.flow_core.specs.declared.case.Case.{Case}
 use Rattle.flow_core.specs.declared.letter.Letter.{Letter}
 use Rattle.flow_core.specs.declared.letter.Letter.TheVariants.{A, T, C}
 use Rattle.flow_core.specs.Readings.{Flow}
-use Rattle.flow_core.specs.World.{Failure, Content, Taken, World, opening, taking, with_taken, told_as, with_turn, answer_applied}
+use Rattle.flow_core.specs.World.{Failure, Content, Taken, World, opening, takeable, with_taken, told_as, with_turn, answer_applied}
 use Rattle.flow_core.specs.Words.{from_link, after_letter, world, can_take, is_legal, is_complete, most_letters}
 use Rattle.flow_core.specs.WordLaws.{world-append}
 use Rattle.flow_core.specs.Cells.{CellState, flow_at, world_at, ack_at}
 use Rattle.flow_core.proofs.WordLemmas.{take-keeps, answer-keeps}
 use Rattle.campaign_gate.specs.declared.case_run.Tally.{Tally}
 use Rattle.campaign_gate.specs.CampaignWord.{plan_from, plan}
-use Rattle.campaign_gate.specs.CampaignRow.{sums_of, with_ack, AreRoomy, peak_of}
+use Rattle.campaign_gate.specs.CampaignRow.{sums_of, sums_with, AreRoomy, peak_of}
 use Rattle.campaign_gate.specs.CampaignBooks.{planned}
 use Rattle.flow_core.specs.LettersLeft.{letters_left, left_at}
-use Rattle.campaign_gate.specs.CaseRuns.{next_at, window_at, plan_at, opened, longer, WasTaken, MayMake, MayHear, sums_after, TakenAfter, IsOnWay, IsNext, IsStep, Onward, IsEnded}
+use Rattle.campaign_gate.specs.CaseRuns.{next_at, window_at, plan_at, opened, longer, WasTaken, MayMake, MayHear, sums_after, TakenAfter, IsOnWay, IsNextLetter, IsStep, Onward, IsEnded}
 use Rattle.flow_core.proofs.LeftLemmas.{left-letter}
 use Rattle.campaign_gate.proofs.PlanLemmas.{next-legal, plan-next, plan-none}
 use Rattle.campaign_gate.proofs.PeakLemmas.{peak-append}
@@ -72,7 +72,7 @@ module _ (cell : CellState) where
       → ForSome (made letter).out (λ (ticket : Taken ℕ). ticket.taken ≡ new)
   taken-made A old new may was same ticket is = was ticket is ∙ sym same
   taken-made T old new may was same ticket is =
-      taken-takes flow (taking before.waiting before.untold) before (can-take flow before.out (can_take before) may) ticket is ∙ sym same
+      taken-takes flow (takeable before.waiting before.untold) before (can-take flow before.out (can_take before) may) ticket is ∙ sym same
   taken-made C old new may was same ticket is =
       nothing-out flow (made C).out (λ (ticket : Taken ℕ). ticket.taken ≡ new) (applied-out flow before.out before may) ticket is
 
@@ -106,12 +106,12 @@ module _ (cell : CellState) where
 
 module _ {F : Type 0} (at : CellState → F) (case : Case) (flow : F) (tally : Tally) (letter : Letter) where
   -- the flow is after a word at whose end its next letter is legal
-  pub may-next : IsNext at case flow tally letter → MayMake at letter flow
+  pub may-next : IsNextLetter at case flow tally letter → MayMake at letter flow
   may-next n =
       let cell : CellState = record { case = case; word = n.on.word } in
       record { cell = cell; after = n.on.after; legal = may cell letter n.next }
 
-  module _ (n : IsNext at case flow tally letter) (new : F) (new_tally : Tally) (step : IsStep at letter flow tally new new_tally) where
+  module _ (n : IsNextLetter at case flow tally letter) (new : F) (new_tally : Tally) (step : IsStep at letter flow tally new new_tally) where
     abbrev cell : CellState
     cell = record { case = case; word = n.on.word }
 
@@ -169,7 +169,7 @@ on-ok (Ok value) follows holds = follows holds
 on-ok (Err fault) follows holds = holds
 
 -- the sums with the next acknowledgement are numbers of 64 bits
-pub may-hear : {F : Type 0} → (at : CellState → F) (case : Case) (flow : F) (tally : Tally) → IsNext at case flow tally A
+pub may-hear : {F : Type 0} → (at : CellState → F) (case : Case) (flow : F) (tally : Tally) → IsNextLetter at case flow tally A
     → MayHear at flow tally.sums
 may-hear at case flow tally n =
     let cell : CellState = record { case = case; word = n.on.word } in
@@ -184,7 +184,7 @@ may-hear at case flow tally n =
     record {
       may = record { cell = cell; after = n.on.after; legal = may cell A n.next };
       roomy =
-          subst AreRoomy (ap sums_of made ∙ sums-append before.acks (ack_at cell) ∙ (λ i. with_ack (ack_at cell) (sym n.on.sums i)))
+          subst AreRoomy (ap sums_of made ∙ sums-append before.acks (ack_at cell) ∙ (λ i. sums_with (ack_at cell) (sym n.on.sums i)))
           (roomy (flow_at cell) link word few);
     }
 

@@ -16,7 +16,7 @@ use Rattle.flow_core.specs.WordLaws.{world-append}
 use Rattle.flow_core.specs.Lift.{Placing, place_in, map_world}
 use Rattle.flow_core.proofs.LiftLemmas.{link-lift}
 use Rattle.campaign_gate.specs.CampaignWord.{first_letter, next_of, then_rest, plan_from, plan_over}
-use Rattle.campaign_gate.specs.CampaignRow.{window_of, peak_from, row_over, row_after, row_read, row_of}
+use Rattle.campaign_gate.specs.CampaignRow.{window_of, peak_from, row_over, row_after, row_read, case_row}
 use Rattle.campaign_gate.specs.LiftedRow.{RowHoldsForSources}
 use Rattle.campaign_gate.specs.CampaignBooks.{acks_read, HasSourcePlan}
 use Rattle.campaign_gate.proofs.SourceReadings.{late-placed, some-placed, none-placed, can-placed, track-placed, row-placed}
@@ -103,7 +103,7 @@ module _ (case : Case) (ss ca : Form) (ss_places ca_places : List Place)
       (peak_from codes (from_link codes link) (by_code []) word)
       ∙ ap (row_over sources (by_source word)) (peak-lifts word [])
 
-  row-lifts : row_of case ≡ row_read (over_sources case ss ca) case.link case.lag
+  row-lifts : case_row case ≡ row_read (over_sources case ss ca) case.link case.lag
   row-lifts = rows-lift (plan_over codes link case.lag) ∙ ap (row_after sources link) plan-lifts
 
 pub lifted : (case : Case) → RowHoldsForSources case

@@ -8,7 +8,7 @@ use Rattle.flow_core.specs.declared.letter.Letter.TheVariants.{A, T, C}
 use Rattle.flow_core.specs.Readings.{Flow, over_codes}
 use Rattle.flow_core.specs.World.{Taken, World, opening}
 use Rattle.flow_core.specs.Words.{from_link, after_letter, world_from, world, can_take, is_legal, legal_from, legal, is_complete, most_letters}
-use Rattle.campaign_gate.specs.CampaignWord.{is_late, is_due, first_letter, next_of, then_rest, plan_from, plan_over, plan}
+use Rattle.campaign_gate.specs.CampaignWord.{is_late, is_answer_due, first_letter, next_of, then_rest, plan_from, plan_over, plan}
 use Rattle.flow_core.specs.LettersLeft.{letters_left}
 use Rattle.flow_core.proofs.LeftLemmas.{left-letter}
 
@@ -66,10 +66,10 @@ heard-next due may_take false done not_due not_take ends left =
 
 module _ {X : Type 0} (flow : Flow X) (lag : ℕ) where
   next-made : (w : World X) (next : Option Letter) → next_of flow lag w ≡ next
-      → IsMade (is_due flow lag w) (is_legal flow w T) (is_legal flow w A) next
+      → IsMade (is_answer_due flow lag w) (is_legal flow w T) (is_legal flow w A) next
   next-made w next is =
-      subst (λ (n : Option Letter). IsMade (is_due flow lag w) (is_legal flow w T) (is_legal flow w A) n) is
-      (made (is_due flow lag w) (is_legal flow w T) (is_legal flow w A))
+      subst (λ (n : Option Letter). IsMade (is_answer_due flow lag w) (is_legal flow w T) (is_legal flow w A) n) is
+      (made (is_answer_due flow lag w) (is_legal flow w T) (is_legal flow w A))
 
   -- the next letter is legal
   pub next-legal : (w : World X) (letter : Letter) → next_of flow lag w ≡ Some letter → is_legal flow w letter ≡ true
@@ -87,16 +87,16 @@ module _ {X : Type 0} (flow : Flow X) (lag : ℕ) where
   complete-none w done = none-due lag (length w.acks) (is_legal flow w A) w.out (can_take w) done
 
   -- which letter is next
-  pub next-C : (w : World X) → is_due flow lag w ≡ true → next_of flow lag w ≡ Some C
+  pub next-C : (w : World X) → is_answer_due flow lag w ≡ true → next_of flow lag w ≡ Some C
   next-C w due = ap (λ (b : Bool). first_letter b (is_legal flow w T) (is_legal flow w A)) due
 
-  pub next-T : (w : World X) → is_due flow lag w ≡ false → is_legal flow w T ≡ true → next_of flow lag w ≡ Some T
+  pub next-T : (w : World X) → is_answer_due flow lag w ≡ false → is_legal flow w T ≡ true → next_of flow lag w ≡ Some T
   next-T w due may = λ i. first_letter (due i) (may i) (is_legal flow w A)
 
-  pub next-A : (w : World X) → is_due flow lag w ≡ false → is_legal flow w T ≡ false → is_complete flow w ≡ false
+  pub next-A : (w : World X) → is_answer_due flow lag w ≡ false → is_legal flow w T ≡ false → is_complete flow w ≡ false
       → next_of flow lag w ≡ Some A
   next-A w due may left =
-      heard-next (is_due flow lag w) (is_legal flow w T) (is_legal flow w A) (is_complete flow w) due may
+      heard-next (is_answer_due flow lag w) (is_legal flow w T) (is_legal flow w A) (is_complete flow w) due may
       (ended lag (length w.acks) (is_legal flow w A) w.out (can_take w) due may) left
 
   -- ---- the word

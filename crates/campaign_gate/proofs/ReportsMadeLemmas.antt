@@ -14,7 +14,7 @@ use Rattle.flow_core.specs.declared.case.Case.{Case}
 use Rattle.flow_core.specs.declared.letter.Letter.{Letter}
 use Rattle.flow_core.specs.declared.letter.Letter.TheVariants.{A, T, C}
 use Rattle.flow_core.specs.Readings.{Flow, over_codes, over_sources}
-use Rattle.flow_core.specs.World.{Failure, Content, of_report, of_failure, Era, Taken, Answered, World, track_of, opening, has_room, after_ack, taking, with_taken, after_take, with_reply, told_as, with_turn, answer_applied}
+use Rattle.flow_core.specs.World.{Failure, Content, of_report, of_failure, Era, Taken, Answered, World, track_of, opening, has_room, after_ack, takeable, with_taken, after_take, with_reply, told_as, with_turn, answer_applied}
 use Rattle.flow_core.specs.Words.{Giving, from_link, with_given, after_letter, world_from, world, is_legal, legal_from}
 use Rattle.flow_core.specs.Books.{ticket_line}
 use Rattle.flow_core.specs.LiveText.{report_count, reports_told}
@@ -122,7 +122,7 @@ module _ {X : Type 0} (flow : Flow X) where
       ∙ taken-kept w.waiting w.untold w
       ∙ ap reports_kept (sym same)
       ∙ kept
-      ∙ sym (taken-made (taking w.waiting w.untold) w)
+      ∙ sym (taken-made (takeable w.waiting w.untold) w)
 
   reply-kept : (agent : Agent) (reply : Reply) (w : World X) → reports_kept (with_reply flow agent reply w) ≡ reports_kept w
   reply-kept agent Nothing w = refl
@@ -161,7 +161,7 @@ module _ {X : Type 0} (flow : Flow X) where
   letter-made : (giving : Giving X) (letter : Letter) (w : World X) → is_legal flow w letter ≡ true → KeepsMade w
       → KeepsMade (after_letter flow giving w letter)
   letter-made giving A w legal kept = given-made (giving w) w kept
-  letter-made giving T w legal kept = take-made w (none-out w.out (is_some (taking w.waiting w.untold)) legal) kept
+  letter-made giving T w legal kept = take-made w (none-out w.out (is_some (takeable w.waiting w.untold)) legal) kept
   letter-made giving C w legal kept = answer-made w.out w refl kept
 
   -- ---- a word
@@ -177,7 +177,7 @@ module _ {X : Type 0} (flow : Flow X) where
 
   -- a complete word leaves none
   none-left : (more : Bool) (out : Option (Taken X)) (waiting : List Report) (untold : Option (Failure X))
-      → (not more && (is_none out && not (is_some (taking waiting untold)))) ≡ true → reports_out out ++ waiting ≡ []
+      → (not more && (is_none out && not (is_some (takeable waiting untold)))) ≡ true → reports_out out ++ waiting ≡ []
   none-left true out waiting untold done = absurd (let wrong : false ≡ true = done in (cc))
   none-left false (Some ticket) waiting untold done = absurd (let wrong : false ≡ true = done in (cc))
   none-left false None (report ∷ rest) untold done = absurd (let wrong : false ≡ true = done in (cc))

@@ -20,7 +20,7 @@ use Rattle.flow_core.specs.declared.case.Case.{Case}
 use Rattle.flow_core.specs.declared.letter.Letter.{Letter}
 use Rattle.flow_core.specs.declared.letter.Letter.TheVariants.{A, T, C}
 use Rattle.flow_core.specs.Readings.{Flow, by_number, code_at, over_codes, over_sources}
-use Rattle.flow_core.specs.World.{Failure, Content, of_report, of_failure, Era, Taken, Answered, World, time_of, track_in, track_of, era_of, opening, taking, with_taken, with_reply, told_as, answer_applied}
+use Rattle.flow_core.specs.World.{Failure, Content, of_report, of_failure, Era, Taken, Answered, World, time_of, track_in, track_of, era_of, opening, takeable, with_taken, with_reply, told_as, answer_applied}
 use Rattle.flow_core.specs.Words.{Giving, with_given, after_letter, world_from}
 use Rattle.flow_core.specs.Lift.{Placing, place_in, map_failure, map_content, map_taken, map_answered, map_world}
 use Rattle.flow_core.specs.Books.{ticket_line}
@@ -45,7 +45,7 @@ none-placed place None = refl
 none-placed place (Some ticket) = refl
 
 pub can-placed : (place : Placing) (waiting : List Report) (untold : Option (Failure ℕ))
-    → is_some (taking waiting untold) ≡ is_some (taking waiting (option_map (map_failure place) untold))
+    → is_some (takeable waiting untold) ≡ is_some (takeable waiting (option_map (map_failure place) untold))
 can-placed place (report ∷ rest) untold = refl
 can-placed place [] (Some failure) = refl
 can-placed place [] None = refl
@@ -118,7 +118,7 @@ module _ (case : Case) (ss ca : Form) (ss_places ca_places : List Place)
 
   Shaped-letter : (giving : Giving Place) (letter : Letter) (w : World Place) → Shaped w → Shaped (after_letter sources giving w letter)
   Shaped-letter giving A w shape = Shaped-given (giving w) w shape
-  Shaped-letter giving T w shape = Shaped-taken (taking w.waiting w.untold) w shape
+  Shaped-letter giving T w shape = Shaped-taken (takeable w.waiting w.untold) w shape
   Shaped-letter giving C w shape = Shaped-answer w.out w shape
 
   Shaped-from : (giving : Giving Place) (word : List Letter) (w : World Place) → Shaped w → Shaped (world_from sources giving w word)

@@ -9,7 +9,7 @@ use Rattle.flow_core.specs.Readings.{Flow}
 use Rattle.flow_core.specs.Words.{world}
 use Rattle.flow_core.proofs.LinkWordLemmas.{acks-of-world, length-world, length-windows}
 use Rattle.campaign_gate.specs.declared.sums.Sums.{Sums}
-use Rattle.campaign_gate.specs.CampaignRow.{lost_in, timeouts_in, acked_in, sums_of, with_ack, AreRoomy}
+use Rattle.campaign_gate.specs.CampaignRow.{lost_in, timeouts_in, acked_in, sums_of, sums_with, AreRoomy}
 
 -- ---- one more acknowledgement
 
@@ -25,7 +25,7 @@ acked-append : (acks : List Ack) (ack : Ack) → acked_in (acks ++ ack ∷ []) �
 acked-append [] ack = omega arith
 acked-append (first ∷ rest) ack = omega (arith, acked-append rest ack)
 
-pub sums-append : (acks : List Ack) (ack : Ack) → sums_of (acks ++ ack ∷ []) ≡ with_ack ack (sums_of acks)
+pub sums-append : (acks : List Ack) (ack : Ack) → sums_of (acks ++ ack ∷ []) ≡ sums_with ack (sums_of acks)
 sums-append acks ack =
     λ i. record { lost = lost-append acks ack i; timeouts = timeouts-append acks ack i; acked = acked-append acks ack i }
 

@@ -36,8 +36,8 @@ abbrev pub sums_of : List Ack → Sums
 sums_of acks = record { lost = lost_in acks; timeouts = timeouts_in acks; acked = acked_in acks }
 
 -- the sums with one more acknowledgement
-abbrev pub with_ack : Ack → Sums → Sums
-with_ack ack sums = record {
+abbrev pub sums_with : Ack → Sums → Sums
+sums_with ack sums = record {
   lost = sums.lost + ack.lost_pkts_sample;
   timeouts = sums.timeouts + (if ack.was_timeout then 1 else 0);
   acked = sums.acked + ack.bytes_acked;
@@ -97,8 +97,8 @@ abbrev pub row_read : {X : Type 0} → Flow X → LinkCase → ℕ → Row
 row_read flow link lag = row_after flow link (plan_over flow link lag)
 
 -- the row of a case
-abbrev pub row_of : Case → Row
-row_of case = row_read (over_codes case) case.link case.lag
+abbrev pub case_row : Case → Row
+case_row case = row_read (over_codes case) case.link case.lag
 
 -- ---- the columns of a table of rows
 
@@ -123,19 +123,19 @@ heading_of Now = codes "now"
 heading_of Tail = codes "tail"
 
 -- a row's number in a column
-abbrev pub value_in : Column → Row → ℕ
-value_in Acks row = row.acks
-value_in Reports row = row.reports
-value_in Held row = row.held
-value_in Faults row = row.faults
-value_in Epochs row = row.epochs
-value_in Lost row = row.lost
-value_in Timeouts row = row.timeouts
-value_in Acked row = row.acked
-value_in Peak row = row.peak
-value_in Cwnd row = row.cwnd
-value_in Now row = row.now
-value_in Tail row = row.tail
+abbrev pub column_value : Column → Row → ℕ
+column_value Acks row = row.acks
+column_value Reports row = row.reports
+column_value Held row = row.held
+column_value Faults row = row.faults
+column_value Epochs row = row.epochs
+column_value Lost row = row.lost
+column_value Timeouts row = row.timeouts
+column_value Acked row = row.acked
+column_value Peak row = row.peak
+column_value Cwnd row = row.cwnd
+column_value Now row = row.now
+column_value Tail row = row.tail
 
 -- whether the total has the sum of a column
 abbrev pub is_summed : Column → Bool

@@ -14,8 +14,8 @@ is_late lag acks None = false
 is_late lag acks (Some ticket) = nat_le (ticket.taken + lag) acks
 
 -- an answer is due to a ticket that is `lag` acknowledgements old, and once all acknowledgements are in to any ticket that is out
-abbrev pub is_due : {X : Type 0} → Flow X → ℕ → World X → Bool
-is_due flow lag w = if is_legal flow w A then is_late lag (length w.acks) w.out else is_legal flow w C
+abbrev pub is_answer_due : {X : Type 0} → Flow X → ℕ → World X → Bool
+is_answer_due flow lag w = if is_legal flow w A then is_late lag (length w.acks) w.out else is_legal flow w C
 
 -- the first of three letters that may be made, or none
 abbrev pub first_letter : Bool → Bool → Bool → Option Letter
@@ -26,7 +26,7 @@ first_letter false false false = None
 
 -- the next letter: C where an answer is due, else T where it is legal, else A where it is legal
 abbrev pub next_of : {X : Type 0} → Flow X → ℕ → World X → Option Letter
-next_of flow lag w = first_letter (is_due flow lag w) (is_legal flow w T) (is_legal flow w A)
+next_of flow lag w = first_letter (is_answer_due flow lag w) (is_legal flow w T) (is_legal flow w A)
 
 -- the next letter, if there is one, and the rest of the word after it
 abbrev pub then_rest : Option Letter → (Letter → List Letter) → List Letter

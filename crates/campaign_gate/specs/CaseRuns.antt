@@ -11,7 +11,7 @@ use Rattle.flow_core.specs.LettersLeft.{left_at}
 use Rattle.campaign_gate.specs.declared.sums.Sums.{Sums}
 use Rattle.campaign_gate.specs.declared.case_run.Tally.{Tally}
 use Rattle.campaign_gate.specs.CampaignWord.{next_of, plan_from, plan}
-use Rattle.campaign_gate.specs.CampaignRow.{sums_of, with_ack, AreRoomy, window_of, peak_of}
+use Rattle.campaign_gate.specs.CampaignRow.{sums_of, sums_with, AreRoomy, window_of, peak_of}
 use Rattle.campaign_gate.specs.CampaignBooks.{planned}
 
 -- the next letter of a cell's campaign word
@@ -49,7 +49,7 @@ pub record MayMake {F : Type 0} (at : CellState → F) (letter : Letter) (flow :
 -- the next letter may be an acknowledgement, and the sums with it are numbers of 64 bits
 pub record MayHear {F : Type 0} (at : CellState → F) (flow : F) (sums : Sums) : Type 0 where
   pub may : MayMake at A flow
-  pub roomy : AreRoomy (with_ack (ack_at may.cell) sums)
+  pub roomy : AreRoomy (sums_with (ack_at may.cell) sums)
 
 -- one letter was made: after whatever word the old flow is, the new one is after that word and the letter
 abbrev pub Makes : {F : Type 0} → (CellState → F) → Letter → F → F → Type 0
@@ -66,12 +66,12 @@ pub record IsOnWay {F : Type 0} (at : CellState → F) (case : Case) (flow : F) 
   pub peak : tally.peak ≡ peak_of (flow_at (record { case = case; word = word })) case.link word
 
 -- and this letter is the next one of the campaign word
-pub record IsNext {F : Type 0} (at : CellState → F) (case : Case) (flow : F) (tally : Tally) (letter : Letter) : Type 0 where
+pub record IsNextLetter {F : Type 0} (at : CellState → F) (case : Case) (flow : F) (tally : Tally) (letter : Letter) : Type 0 where
   pub on : IsOnWay at case flow tally
   pub next : next_at (record { case = case; word = on.word }) ≡ Some letter
 
 abbrev pub sums_after : Letter → CellState → Sums → Sums
-sums_after A cell sums = with_ack (ack_at cell) sums
+sums_after A cell sums = sums_with (ack_at cell) sums
 sums_after T cell sums = sums
 sums_after C cell sums = sums
 
@@ -87,7 +87,7 @@ pub record IsTallied (letter : Letter) (cell : CellState) (old new : Tally) : Ty
   pub sums : new.sums ≡ sums_after letter cell old.sums
   pub peak : new.peak ≡ max old.peak (window_at (longer letter cell))
 
--- one letter was made, and put down
+-- one letter was made and recorded
 pub record IsStep {F : Type 0} (at : CellState → F) (letter : Letter) (old : F) (old_tally : Tally) (new : F) (new_tally : Tally) : Type 0 where
   pub made : Makes at letter old new
   pub tally : (cell : CellState) → old ≡ at cell → IsTallied letter cell old_tally new_tally

@@ -7,7 +7,7 @@ ghost use Rattle.flow_core.specs.Words.{world, legal, is_complete};
 ghost use Rattle.flow_core.specs.Cells.{CellState};
 ghost use Rattle.flow_core.specs.declared.book.Book.{Book};
 ghost use Rattle.campaign_gate.specs.CampaignWord.{plan};
-ghost use Rattle.campaign_gate.specs.CampaignRow.{row_of};
+ghost use Rattle.campaign_gate.specs.CampaignRow.{case_row};
 ghost use Rattle.campaign_gate.specs.CampaignBooks.{acks_of_case, IsCampaignBook, AreCampaignBooks, HasSourcePlan};
 ghost use Rattle.campaign_gate.specs.LiftedRow.{RowHoldsForSources};
 
@@ -24,7 +24,7 @@ use std::thread::Threads;
 /// Runs a case along its campaign word, which is legal and complete, and gives its row. For all programs that the case's
 /// codes simulate, this is the row read over their sources.
 pub fn run_case(alloc: Global, case: Case) -> Result<Row, NoMemory>
-    ensures row { IfOk result (λ row. row ≡ row_of case) }
+    ensures row { IfOk result (λ row. row ≡ case_row case) }
     ensures legal { legal (over_codes case) case.link (plan case) ≡ true }
     ensures complete { is_complete (over_codes case) (world (over_codes case) case.link (plan case)) ≡ true }
     ensures lifted { RowHoldsForSources case }
@@ -46,7 +46,7 @@ pub fn rows<R: Threads + Sync, G: Gate + Sync>(
     gate: &G,
 ) -> Result<Rows, NoMemory>
     requires few { length cases ≤ most_cases }
-    ensures rows { IfOk result (λ rows. rows ≡ map row_of cases) }
+    ensures rows { IfOk result (λ rows. rows ≡ map case_row cases) }
     ensures lifted { (case : Case) → RowHoldsForSources case }
 {
     make_by_workers::<Brand, Row, R, G>(rt, alloc, cases.as_slice(), workers, gate)

@@ -4,7 +4,7 @@ ghost use Rattle.flow_core.specs.declared.case.Case.{Case};
 ghost use Rattle.flow_core.specs.Words.{is_legal, is_complete};
 ghost use Rattle.flow_core.specs.Cells.{CellState, flow_at, world_at, ack_at};
 ghost use Rattle.flow_core.specs.LettersLeft.{left_at};
-ghost use Rattle.campaign_gate.specs.CampaignRow.{with_ack};
+ghost use Rattle.campaign_gate.specs.CampaignRow.{sums_with};
 ghost use Rattle.campaign_gate.specs.CaseRuns.{window_at, longer, MayMake, MayHear, Makes};
 
 use crate::sums::Sums;
@@ -65,7 +65,7 @@ pub(crate) trait CampaignFlow: Drop {
     fn hear<L: Ledger>(&mut self, sums: &mut Sums, steps: &mut Steps<L>) -> Result<(), NoMemory>
         requires { MayHear at self.old sums.old }
         ensures made { OnOk result (Makes at Letter.A self.old self.new) }
-        ensures sums { OnOk result ((cell : CellState) → self.old ≡ at cell → sums.new ≡ with_ack (ack_at cell) sums.old) };
+        ensures sums { OnOk result ((cell : CellState) → self.old ≡ at cell → sums.new ≡ sums_with (ack_at cell) sums.old) };
 
     ghost case_law: { (cell : CellState) → case_of (at cell) ≡ cell.case };
 

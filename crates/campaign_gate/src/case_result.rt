@@ -1,7 +1,7 @@
 //! The results that a worker can make of a case: its row, its flow after the campaign word, or its acknowledgements.
 ghost use Rattle.std.specs.Prelude.{◌≡◌, IfOk};
 ghost use Rattle.flow_core.specs.declared.case.Case.{Case};
-ghost use Rattle.campaign_gate.specs.CampaignRow.{row_of};
+ghost use Rattle.campaign_gate.specs.CampaignRow.{case_row};
 ghost use Rattle.campaign_gate.specs.CampaignBooks.{planned, acks_of_case};
 
 use crate::completion::run_to_end;
@@ -23,7 +23,7 @@ pub(crate) trait CaseResult: Drop {
 }
 
 impl CaseResult for Row {
-    ghost of_case = { row_of };
+    ghost of_case = { case_row };
 
     fn make(alloc: Global, case: Case) -> Result<Row, NoMemory> {
         let run = run_to_end(alloc, Linked::new(alloc, case)?)?;

@@ -2,9 +2,9 @@
 ghost use Rattle.std.specs.Prelude.{◌≡◌, ◌<◌, false, OnOk};
 ghost use Rattle.flow_core.specs.Words.{is_complete};
 ghost use Rattle.flow_core.specs.Cells.{CellState, flow_at, world_at};
-ghost use Rattle.campaign_gate.specs.CampaignWord.{is_due};
-ghost use Rattle.campaign_gate.specs.CampaignRow.{row_of};
-ghost use Rattle.campaign_gate.specs.CaseRuns.{opened, WasTaken, IsOnWay, IsNext, IsStep, Onward, IsEnded};
+ghost use Rattle.campaign_gate.specs.CampaignWord.{is_answer_due};
+ghost use Rattle.campaign_gate.specs.CampaignRow.{case_row};
+ghost use Rattle.campaign_gate.specs.CaseRuns.{opened, WasTaken, IsOnWay, IsNextLetter, IsStep, Onward, IsEnded};
 ghost use Rattle.campaign_gate.specs.LinkedFlows.{linked_at};
 
 use crate::campaign_flow::CampaignFlow;
@@ -74,7 +74,7 @@ impl<F: CampaignFlow> CaseRun<F> {
 
     /// Whether an answer is due.
     fn is_due(&self) -> bool
-        ensures { (cell : CellState) → self.now.flow ≡ F.at cell → WasTaken cell self.now.tally.taken → result ≡ is_due (flow_at cell) cell.case.lag (world_at cell) }
+        ensures { (cell : CellState) → self.now.flow ≡ F.at cell → WasTaken cell self.now.tally.taken → result ≡ is_answer_due (flow_at cell) cell.case.lag (world_at cell) }
     {
         let is_out = self.flow.has_out();
         let case = self.flow.case();
@@ -87,7 +87,7 @@ impl<F: CampaignFlow> CaseRun<F> {
 
     /// Answers the ticket that is out.
     fn settle(&mut self)
-        requires { IsNext F.at (F.case_of self.old.flow) self.old.flow self.old.tally Letter.C }
+        requires { IsNextLetter F.at (F.case_of self.old.flow) self.old.flow self.old.tally Letter.C }
         ensures { IsStep F.at Letter.C self.old.flow self.old.tally self.new.flow self.new.tally }
     {
         self.flow.settle();
@@ -96,7 +96,7 @@ impl<F: CampaignFlow> CaseRun<F> {
 
     /// Takes a ticket.
     fn take(&mut self, alloc: Global) -> Result<(), NoMemory>
-        requires { IsNext F.at (F.case_of self.old.flow) self.old.flow self.old.tally Letter.T }
+        requires { IsNextLetter F.at (F.case_of self.old.flow) self.old.flow self.old.tally Letter.T }
         ensures { OnOk result (IsStep F.at Letter.T self.old.flow self.old.tally self.new.flow self.new.tally) }
     {
         let acks = self.flow.acks();
@@ -108,7 +108,7 @@ impl<F: CampaignFlow> CaseRun<F> {
 
     /// Takes the next acknowledgement.
     fn hear<L: Ledger>(&mut self, steps: &mut Steps<L>) -> Result<(), NoMemory>
-        requires { IsNext F.at (F.case_of self.old.flow) self.old.flow self.old.tally Letter.A }
+        requires { IsNextLetter F.at (F.case_of self.old.flow) self.old.flow self.old.tally Letter.A }
         ensures { OnOk result (IsStep F.at Letter.A self.old.flow self.old.tally self.new.flow self.new.tally) }
     {
         self.flow.hear(&mut self.tally.sums, steps)?;
@@ -121,7 +121,7 @@ impl CaseRun<Linked> {
     /// The row of the flow, which is at the end of its campaign word.
     pub(crate) fn row(&self) -> Row
         requires { IsEnded linked_at self.now.flow.bare.case self.now.flow self.now.tally }
-        ensures { result ≡ row_of self.now.flow.bare.case }
+        ensures { result ≡ case_row self.now.flow.bare.case }
     {
         Row::of(&self.flow.bare, self.tally.sums, self.tally.peak)
     }

@@ -1,6 +1,6 @@
 //! The sums of a row over a flow's acknowledgements: lost packets, timeouts and acknowledged bytes.
 ghost use Rattle.std.specs.Prelude.{◌≡◌, ◌<◌, ◌^◌, []};
-ghost use Rattle.campaign_gate.specs.CampaignRow.{lost_in, acked_in, sums_of, with_ack, AreRoomy};
+ghost use Rattle.campaign_gate.specs.CampaignRow.{lost_in, acked_in, sums_of, sums_with, AreRoomy};
 
 use ccp_base::Ack;
 
@@ -45,8 +45,8 @@ impl Sums {
     /// The sums with one more acknowledgement.
     #[inline(always)]
     pub(crate) fn with(self, ack: &Ack) -> Sums
-        requires { AreRoomy (with_ack ack.now self) }
-        ensures { result ≡ with_ack ack.entry.now self }
+        requires { AreRoomy (sums_with ack.now self) }
+        ensures { result ≡ sums_with ack.entry.now self }
     {
         Sums {
             lost: self.lost + ack.lost_pkts_sample,

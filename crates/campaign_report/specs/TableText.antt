@@ -5,7 +5,7 @@ use Rattle.agent_core.specs.declared.agent.Agent.{Agent}
 use Rattle.flow_core.specs.LiveText.{agent_text}
 use Rattle.campaign_gate.specs.declared.row.Column.{Column}
 use Rattle.campaign_gate.specs.declared.row.Row.{Row}
-use Rattle.campaign_gate.specs.CampaignRow.{columns, heading_of, value_in, is_summed}
+use Rattle.campaign_gate.specs.CampaignRow.{columns, heading_of, column_value, is_summed}
 
 -- ---- the heading
 
@@ -26,7 +26,7 @@ after_space number = codes " " ⧺ decimal number
 -- a row's numbers in columns, each after a space
 abbrev pub values : List Column → Row → List ℕ
 values [] row = []
-values (column ∷ rest) row = after_space (value_in column row) ⧺ values rest row
+values (column ∷ rest) row = after_space (column_value column row) ⧺ values rest row
 
 -- the name of a case and its agent
 abbrev pub row_head : List ℕ → Agent → List ℕ
@@ -47,7 +47,7 @@ row_lines (row ∷ rows) (name ∷ names) (agent ∷ agents) = row_line name age
 -- the sum of a column, which has no bound
 abbrev pub column_sum : Column → List Row → ℕ
 column_sum column [] = 0
-column_sum column (row ∷ rest) = value_in column row + column_sum column rest
+column_sum column (row ∷ rest) = column_value column row + column_sum column rest
 
 -- the sum of a column with its word, if it is shown
 abbrev pub sum_text : Bool → Column → List Row → List ℕ

@@ -41,7 +41,7 @@ module _ (source sink errors : StreamChange) (is_finished : Type 0) (outcome : O
     kept = omega arith;
   }
 
-  -- a frame is bad or cut, and that is told, or memory is wanted for its line
+  -- a frame is bad or cut, and its line says so, or memory for that line runs out
   bad_or_not : (refusal : Refusal) → RefusesAny true (Alone Feed) source refusal → TakesWithin most_input_bytes source.old source.new → WritesAnswers (Alone Feed) source sink
       → Refuses errors outcome refusal → (outcome.status ≡ 3) ⊎ (outcome.status ≢ 3) → IsRun (Alone Feed) source sink errors is_finished outcome
   bad_or_not refusal cause few all r (inl three) =

@@ -1,4 +1,4 @@
--- What a task comes to, from how its source was read and what is made of the bytes.
+-- The result of a task, from how its source was read and what the bytes give.
 use Rattle.std.proofs.Common.{◌≡◌, ℕ, Bool, true, false, Result, Ok, Err, List, inl, inr}
 use Rattle.ccp_run.specs.declared.outcome.ModeOutput.{ModeOutput}
 use Rattle.ccp_run.specs.declared.stop.Stop.{Stop}

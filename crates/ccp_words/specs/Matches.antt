@@ -8,12 +8,12 @@ use Rattle.ccp_words.specs.declared.mode.ToolMode.{ToolMode}
 use Rattle.ccp_words.specs.declared.words.Asked.{Asked}
 use Rattle.ccp_words.specs.Modes.{mode_named}
 
--- the number that digits write, after a plus or none; 1 where nothing is said
+-- the number that digits write, with or without a plus before them; 1 if the option isn't given
 abbrev pub written_number : Option (List ℕ) → ℕ
 written_number None = 1
 written_number (Some text) = digits_value 10 (without_leading_plus text)
 
--- a flag that is given is said to be true
+-- a flag that is given is true
 abbrev pub is_flag_text : Option (List ℕ) → Bool
 is_flag_text None = false
 is_flag_text (Some text) = bytes_eq text (codes "true")

@@ -16,8 +16,8 @@ abbrev pub most_of_a_kind : ℕ
 most_of_a_kind = 32
 
 -- the number of a generated campaign
-abbrev pub most_number : ℕ
-most_number = 4294967295
+abbrev pub most_campaign_number : ℕ
+most_campaign_number = 4294967295
 
 -- names as an argument holds them, each at some place in memory
 abbrev pub HeldNames : Type 0
@@ -48,7 +48,7 @@ abbrev pub command_line : HeldNames → App
 command_line names = record {
   top = record (new_shape (codes "ccp")) {
     rules = mode_argument names ∷ number_option (codes "datapaths") 1 most_of_a_kind ∷ number_option (codes "agents") 1 most_of_a_kind
-        ∷ number_option (codes "workers") 1 most_of_a_kind ∷ number_option (codes "number") 0 most_number ∷ wire_flag ∷ [];
+        ∷ number_option (codes "workers") 1 most_of_a_kind ∷ number_option (codes "number") 0 most_campaign_number ∷ wire_flag ∷ [];
     disable_help_flag = true;
     disable_version_flag = true;
   };

@@ -32,7 +32,7 @@ use Rattle.fold_machine.specs.Heard.{after_acknowledgement, heard_where, after_m
 use Rattle.feed_core.specs.declared.flow.Epoch.{Epoch}
 use Rattle.feed_core.specs.declared.flow.Flow.{Flow}
 use Rattle.feed_core.specs.Feed.{FeedState, there, Answer, MessageAnswer, refused, with_flow, fresh_flow, created_at, installed_as, installed_at, next_epoch, changed_flow, is_too_wide, changed_with, changed_to, changed_at, running_code, updated_flow, updated_with, updated_on, updated_at, counted_flow, first_after, flow_after, message_about, in_version, acked_on, flow_acked, handled}
-use Rattle.feed_core.specs.FeedHolds.{RunsOn, IsFlow, IsFlowThere, IsAcceptedThere, AreFeedParts, IsFeed, longest_answer, HasFrame}
+use Rattle.feed_core.specs.FeedHolds.{RunsOn, IsFlow, IsFlowThere, IsAcceptedThere, AreFeedParts, IsFeed, longest_answer, HasShortFrame}
 
 -- ---- lists of places
 
@@ -120,7 +120,7 @@ fields-few code accepted =
 
 module _ (code : Code) (ack : Ack) (n : ℕ) (epoch : Epoch) (flow : Flow) (first : flow.first ≤ flow.count) (count : flow.count < most_messages) (few : AreFew flow.version (length code.reports)) (fit : length code.reports ≤ most_fields) where
   asked-framed : (asked : Bool) (machine : MachineState) (kept : Kept) (ran : ℕ) → length kept.reports ≡ length code.reports
-      → HasFrame (in_version flow.version (message_about (after_made (made_of (steps.answered code asked true kept) ran) machine) ack n epoch flow))
+      → HasShortFrame (in_version flow.version (message_about (after_made (made_of (steps.answered code asked true kept) ran) machine) ack n epoch flow))
   asked-framed false machine kept ran sized = tt
   asked-framed true machine kept ran sized =
       let told : MachineState = (after_made (made_of (steps.answered code true true kept) ran) machine).1 in
@@ -140,7 +140,7 @@ module _ (code : Code) (ack : Ack) (n : ℕ) (epoch : Epoch) (flow : Flow) (firs
       )
 
   work-framed : (work : Work) (kept : Kept) (machine : MachineState) → WorkSized (sizes_of code) work
-      → HasFrame (in_version flow.version (message_about (after_made (settled code kept true work) machine) ack n epoch flow))
+      → HasShortFrame (in_version flow.version (message_about (after_made (settled code kept true work) machine) ack n epoch flow))
   work-framed (done ran regs) kept machine sized = asked-framed (is_true regs.send) machine regs.kept ran sized.reports
   work-framed (failed kind index ran) kept machine sized =
       let told : MachineState = (after_made (settled code kept true (failed kind index ran)) machine).1 in
@@ -158,7 +158,7 @@ module _ (code : Code) (ack : Ack) (n : ℕ) (epoch : Epoch) (flow : Flow) (firs
   work-framed (stuck ran) kept machine sized = absurd sized
 
   heard-framed : (stopped : Bool) (machine : MachineState) → IsAccepted code → Fits machine code
-      → HasFrame (in_version flow.version (message_about (heard_where stopped code ack true machine) ack n epoch flow))
+      → HasShortFrame (in_version flow.version (message_about (heard_where stopped code ack true machine) ack n epoch flow))
   heard-framed true machine accepted fits = tt
   heard-framed false machine accepted fits =
       let none = none-next (counts_refusal code or_else events_refusal code.events 0 (length code.instrs)) _ accepted in
@@ -178,7 +178,7 @@ module _ (code : Code) (ack : Ack) (n : ℕ) (epoch : Epoch) (flow : Flow) (firs
 
 -- what holds after a message: of the fields, and of the answer
 abbrev pub IsKept : ℕ → MessageAnswer → Type 0
-IsKept messages (answer, state) = AreFeedParts state.flows state.programs messages × HasFrame answer
+IsKept messages (answer, state) = AreFeedParts state.flows state.programs messages × HasShortFrame answer
 
 kept-if : (messages : ℕ) (b : Bool) (x y : MessageAnswer) → IsKept messages x → IsKept messages y → IsKept messages (cond b x y)
 kept-if messages true x y p q = p
@@ -190,7 +190,7 @@ later programs messages None is = tt
 later programs messages (Some flow) is = record { counted = omega (arith, is.counted); spanned = is.spanned; changed = omega (arith, is.changed); runs = is.runs }
 
 module _ (state : FeedState) (is_feed : IsFeed state) where
-  kept-same : (answer : Answer) → HasFrame answer → IsKept (state.messages + 1) (answer, state)
+  kept-same : (answer : Answer) → HasShortFrame answer → IsKept (state.messages + 1) (answer, state)
   kept-same answer framed = (
     record {
       flows_full = is_feed.flows_full;
@@ -204,7 +204,7 @@ module _ (state : FeedState) (is_feed : IsFeed state) where
   kept-refused : (version : Version) (n reason index : ℕ) → 1 ≤ reason → reason ≤ 9 → IsKept (state.messages + 1) (refused state version n reason index)
   kept-refused version n reason index least most = kept-same (Some (Refused n reason index, version)) ((least, most), refusal-short version n reason index)
 
-  kept-flow : (n : ℕ) (flow : Flow) (answer : Answer) → IsFlow state.programs (state.messages + 1) flow → HasFrame answer → IsKept (state.messages + 1) (answer, with_flow state n flow)
+  kept-flow : (n : ℕ) (flow : Flow) (answer : Answer) → IsFlow state.programs (state.messages + 1) flow → HasShortFrame answer → IsKept (state.messages + 1) (answer, with_flow state n flow)
   kept-flow n flow answer is framed = (
     record {
       flows_full = length-set state.flows n (Some flow) ∙ is_feed.flows_full;

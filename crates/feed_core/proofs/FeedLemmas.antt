@@ -1,4 +1,4 @@
--- What a feed's calls come to, place by place.
+-- The answers of a feed's calls, place by place.
 use Rattle.std.proofs.Common.{◌≡◌, ℕ, ◌<◌, Bool, true, false, nat_lt, Option, Some, None, unwrap_or, List, length, slice_set, slice_index_or, ap, sym, ◌∙◌, cond}
 use Rattle.std.proofs.lemmas.List.{set-get_or}
 use Rattle.std.proofs.lemmas.Option.{slice_get-get_or}
@@ -12,7 +12,7 @@ use Rattle.ccp_messages.specs.declared.message.Message.TheVariants.{Refused}
 use Rattle.fold_machine.specs.Heard.{after_acknowledgement, updated_by}
 use Rattle.feed_core.specs.declared.flow.Epoch.{Epoch}
 use Rattle.feed_core.specs.declared.flow.Flow.{Flow}
-use Rattle.feed_core.specs.Feed.{FeedState, there, Answer, MessageAnswer, changed_flow, is_too_wide, changed_with, changed_to, changed_at, changed, running_code, updated_with, updated_on, updated_at, updated, counted_flow, flow_after, message_about, in_version, acked_on, flow_acked, acked_by, installed_as, installed_at, installed}
+use Rattle.feed_core.specs.Feed.{FeedState, there, Answer, MessageAnswer, changed_flow, is_too_wide, changed_with, changed_to, changed_at, changed, running_code, updated_with, updated_on, updated_at, updated, counted_flow, flow_after, message_about, in_version, acked_on, flow_acked, answer_to_ack, installed_as, installed_at, installed}
 
 -- what stands at a place, written there again, changes nothing
 pub same_there : {A : Type 0} (xs : List A) (n : ℕ) (x : A) → x ≡ slice_index_or xs n x → slice_set xs n x ≡ xs
@@ -38,12 +38,12 @@ module _ (flows : List (Option Flow)) (programs : List (Option Code)) (messages 
   -- ---- acknowledgements
 
   pub ack-absent : (ack : Ack) (y : Option Flow) (r : Answer) → x ≡ None → y ≡ x → r ≡ Some (Refused n 3 0, version)
-      → ◌≡◌ {A = MessageAnswer} (r, put y) (acked_by old version n ack)
+      → ◌≡◌ {A = MessageAnswer} (r, put y) (answer_to_ack old version n ack)
   ack-absent ack y r none e answer =
       refuses 3 0 y r e answer ∙ sym (ap (λ f. flow_acked f old version n ack) (is_there flows n x lt is ∙ none))
 
   pub ack-counted : (ack : Ack) (flow flow' : Flow) → x ≡ Some flow → running_code flow.epoch programs ≡ None → flow' ≡ counted_flow ack flow
-      → ◌≡◌ {A = MessageAnswer} (None, put (Some flow')) (acked_by old version n ack)
+      → ◌≡◌ {A = MessageAnswer} (None, put (Some flow')) (answer_to_ack old version n ack)
   ack-counted ack flow flow' some none e =
       ap (λ f. (None, put (Some f))) e
       ∙ sym (ap (λ f. flow_acked f old version n ack) (is_there flows n x lt is ∙ some) ∙ ap (λ c. acked_on c old n ack flow) none)
@@ -51,7 +51,7 @@ module _ (flows : List (Option Flow)) (programs : List (Option Code)) (messages 
   pub ack-heard : (ack : Ack) (flow flow' : Flow) (epoch : Epoch) (code : Code) (r : Answer) → x ≡ Some flow → running_code flow.epoch programs ≡ Some (epoch, code)
       → flow' ≡ flow_after (after_acknowledgement code ack true flow.machine) ack flow
       → r ≡ in_version flow.version (message_about (after_acknowledgement code ack true flow.machine) ack n epoch flow)
-      → ◌≡◌ {A = MessageAnswer} (r, put (Some flow')) (acked_by old version n ack)
+      → ◌≡◌ {A = MessageAnswer} (r, put (Some flow')) (answer_to_ack old version n ack)
   ack-heard ack flow flow' epoch code r some runs e answer =
       (λ i. (answer i, put (Some (e i))))
       ∙ sym (ap (λ f. flow_acked f old version n ack) (is_there flows n x lt is ∙ some) ∙ ap (λ c. acked_on c old n ack flow) runs)

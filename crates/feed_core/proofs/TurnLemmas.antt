@@ -14,7 +14,7 @@ use Rattle.ccp_messages.specs.Decoding.{Found, decoded_of, IsDecoded, BeginsInst
 use Rattle.feed_core.specs.Feed.{FeedState}
 use Rattle.feed_core.specs.FeedTurns.{without_frame, IsTurn}
 
--- a refusal that isn't want of memory is what decoding gives
+-- a refusal other than out of memory is what decoding gives
 pub told-fault : (result answer : Result Found DecodeFault) (fault : DecodeFault) → IsDecoded result answer → result ≡ Err fault → fault ≢ NoMemory → answer ≡ Err fault
 told-fault result answer fault told is other =
     sym (told (λ none. let same : ◌≡◌ {A = Result Found DecodeFault} (Err fault) (Err NoMemory) = sym is ∙ none in other cc)) ∙ is

@@ -188,8 +188,8 @@ abbrev pub flow_acked : Option Flow → FeedState → Version → ℕ → Ack �
 flow_acked None state version n ack = refused state version n 3 0
 flow_acked (Some flow) state version n ack = acked_on (running_code flow.epoch state.programs) state n ack flow
 
-abbrev pub acked_by : FeedState → Version → ℕ → Ack → MessageAnswer
-acked_by state version n ack = flow_acked (there state.flows n) state version n ack
+abbrev pub answer_to_ack : FeedState → Version → ℕ → Ack → MessageAnswer
+answer_to_ack state version n ack = flow_acked (there state.flows n) state version n ack
 
 -- ---- a message of any kind
 
@@ -198,7 +198,7 @@ handled state (Create n mss cwnd) version = created state version n cwnd
 handled state (Install n program code) version = installed state version n program code
 handled state (Change n program values) version = changed state version n program values
 handled state (Update n values) version = updated state version n values
-handled state (message.Ack n ack) version = acked_by state version n ack
+handled state (message.Ack n ack) version = answer_to_ack state version n ack
 handled state (Measure report) version = (None, state)
 handled state (Fault notice) version = (None, state)
 handled state (Refused n reason index) version = (None, state)

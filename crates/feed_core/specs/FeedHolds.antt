@@ -59,6 +59,6 @@ abbrev pub longest_answer : ℕ
 longest_answer = 64 + 8 * most_fields
 
 -- the answer has a frame, which isn't longer than the longest one
-abbrev pub HasFrame : Answer → Type 0
-HasFrame None = Unit {0}
-HasFrame (Some (message, version)) = Meets version message × (length (frame_bytes version message) ≤ longest_answer)
+abbrev pub HasShortFrame : Answer → Type 0
+HasShortFrame None = Unit {0}
+HasShortFrame (Some (message, version)) = Meets version message × (length (frame_bytes version message) ≤ longest_answer)

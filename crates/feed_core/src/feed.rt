@@ -3,7 +3,7 @@
 ghost use Rattle.std.specs.Prelude.{◌≡◌, ◌+◌, ◌<◌, IfOk, OnOk, OnErr};
 ghost use Rattle.ccp_base.specs.Limits.{most_messages};
 ghost use Rattle.feed_core.specs.Feed.{no_flows, answer_message, TakesMemory};
-ghost use Rattle.feed_core.specs.FeedHolds.{HasFrame};
+ghost use Rattle.feed_core.specs.FeedHolds.{HasShortFrame};
 
 use crate::tables::Tables;
 use ccp_base::NoMemory;
@@ -64,7 +64,7 @@ impl Feed {
         ensures unchanged { OnErr result (self.new ≡ self.old) }
         ensures memory { OnErr result (TakesMemory self.old message) }
         ensures counted { OnOk result (self.new.messages ≡ self.old.messages + 1) }
-        ensures frame { IfOk result HasFrame }
+        ensures frame { IfOk result HasShortFrame }
     {
         self.tables.frame(alloc, message, version)
     }

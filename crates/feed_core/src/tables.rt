@@ -5,8 +5,8 @@ ghost use Rattle.std.specs.Prelude.{OnErr, IsTrue, ◌↔◌, true, option_map, 
 ghost use Rattle.ccp_base.specs.Limits.{most_flows, most_messages};
 ghost use Rattle.reg_code.specs.declared.checked.Checked.{Checked};
 ghost use Rattle.feed_core.specs.Feed.{no_flows, there, refused, created, installed, is_too_wide, changed};
-ghost use Rattle.feed_core.specs.Feed.{running_code, updated, in_version, acked_by, handled, answer_message, TakesMemory};
-ghost use Rattle.feed_core.specs.FeedHolds.{feed_state, codes_in, AreFeedParts, IsFeed, HasFrame};
+ghost use Rattle.feed_core.specs.Feed.{running_code, updated, in_version, answer_to_ack, handled, answer_message, TakesMemory};
+ghost use Rattle.feed_core.specs.FeedHolds.{feed_state, codes_in, AreFeedParts, IsFeed, HasShortFrame};
 
 use crate::flow::{Epoch, Flow};
 use ccp_base::{Ack, Fields, NoMemory};
@@ -127,7 +127,7 @@ impl Tables {
         ensures memory { OnErr result (TakesMemory (feed_state self.old) message) }
         ensures counted { OnOk result (self.new.messages ≡ self.old.messages + 1) }
         ensures is_feed { IsFeed (feed_state self.new) }
-        ensures frame { IfOk result HasFrame }
+        ensures frame { IfOk result HasShortFrame }
     {
         let answer = self.handle(alloc, message, version)?;
         self.messages += 1;
@@ -282,7 +282,7 @@ impl Tables {
     fn ack(&mut self, version: Version, n: u32, ack: &Ack) -> Option<(Message, Version)>
         requires few { self.old.messages < most_messages }
         requires is_feed { IsFeed (feed_state self.old) }
-        ensures handled { (result, feed_state self.new) ≡ acked_by (feed_state self.old) version n ack.entry.now }
+        ensures handled { (result, feed_state self.new) ≡ answer_to_ack (feed_state self.old) version n ack.entry.now }
         ensures messages { self.new.messages ≡ self.old.messages }
     {
         let at = n as usize;

@@ -267,7 +267,7 @@ module _ (s : BareParts) (ack : Ack) (machine : MachineState) (outbox : OutboxSt
         };
   }
 
--- the machine ran an acknowledgement, and what came of it was put down
+-- the machine ran an acknowledgement, and its outcome was recorded
 module _ (s : BareParts) (parts : IsBare s) (ack : Ack) where
   abbrev kept : Summary
   kept = summary_by s

@@ -27,7 +27,7 @@ use Rattle.flow_core.specs.Cores.{acked_as}
 use Rattle.flow_core.specs.States.{issued_as, some_count}
 use Rattle.flow_core.specs.Summaries.{Summary, summary, outcome_at, step_ack, next_telling, with_told, step_take, can_tell, step_reply, step_turn, step_out, step_answer, may_make}
 use Rattle.flow_core.specs.Bares.{BareState, told_ticket, InRange}
-use Rattle.flow_core.specs.Journals.{with_item, with_some, journal_ack, journal_take, journal_answer, new_notice, journal_line, taken_at, line_after, HasRoom, HaveLineRoom, HasLines, Records, world_by, letter_count, IsCore}
+use Rattle.flow_core.specs.Journals.{with_item, with_some, journal_ack, journal_take, journal_answer, new_notice, journal_line, taken_at, line_after, HasSpareRoom, HaveLineRoom, HasLines, Records, world_by, letter_count, IsCore}
 use Rattle.flow_core.proofs.WordLemmas.{world_over-A, legal_over-A}
 use Rattle.flow_core.proofs.SummaryLemmas.{summary-ack, summary-take, summary-answer, summary-legal}
 use Rattle.flow_core.proofs.JournalLemmas.{records-ack, records-take, records-answer}
@@ -133,23 +133,23 @@ module _ (bare : BareState) (j : Journal) (core : IsCore bare j) where
 
   module _ (range : InRange bare.case bare.summary) where
     module _ (left : bare.summary.acks < bare.case.acks) where
-      pub faults-room : HasRoom j.faults
+      pub faults-room : HasSpareRoom j.faults
       faults-room = omega (arith, faults-length, range.faults, left, core.rooms.faults)
 
-      pub acks-room : HasRoom j.acks
+      pub acks-room : HasSpareRoom j.acks
       acks-room = omega (arith, acks-length, left, core.rooms.acks)
 
-      pub room-A : HasRoom j.word
+      pub room-A : HasSpareRoom j.word
       room-A = omega (arith, core.letters, range.tickets, left, core.rooms.word)
 
-    pub room-T : may_make flow s T ≡ true → HasRoom j.word
+    pub room-T : may_make flow s T ≡ true → HasSpareRoom j.word
     room-T may =
         let none = ap some_count (none-out s.out (can_tell s) may) in
         omega (arith, core.letters, none, range.tickets, range.acks, told-some s.waiting s.untold (can-out s.out (can_tell s) may), core.rooms.word)
 
-    pub room-C : (ticket : Ticket) → told_ticket bare.case s ≡ Some ticket → HasRoom j.word × HaveLineRoom j.tickets j.epochs
+    pub room-C : (ticket : Ticket) → told_ticket bare.case s ≡ Some ticket → HasSpareRoom j.word × HaveLineRoom j.tickets j.epochs
     room-C ticket is = by s.out refl core.lines where
-      by : (out : Option Issued) → s.out ≡ out → HasLines out j.tickets j.epochs → HasRoom j.word × HaveLineRoom j.tickets j.epochs
+      by : (out : Option Issued) → s.out ≡ out → HasLines out j.tickets j.epochs → HasSpareRoom j.word × HaveLineRoom j.tickets j.epochs
       by None none lines = absurd (none-some ticket (sym (ap (λ (o : Option Issued). told_ticket bare.case (record s { out = o })) none) ∙ is))
       by (Some issued) some lines =
           let one = ap some_count some in

@@ -19,7 +19,7 @@ use Rattle.flow_core.specs.declared.journal.Journal.{Journal}
 use Rattle.flow_core.specs.declared.letter.Letter.TheVariants.{C}
 use Rattle.flow_core.specs.declared.bare.Issued.{Issued}
 use Rattle.flow_core.specs.Readings.{Flow}
-use Rattle.flow_core.specs.World.{Failure, Content, Taken, Answered, World, track_of, failures_met, after_ack, taking, with_taken, after_take, with_reply, notice_of, told_as, with_turn, answer_applied, after_answer}
+use Rattle.flow_core.specs.World.{Failure, Content, Taken, Answered, World, track_of, failures_met, after_ack, takeable, with_taken, after_take, with_reply, notice_of, told_as, with_turn, answer_applied, after_answer}
 use Rattle.flow_core.specs.Roomy.{RoomyState}
 use Rattle.flow_core.specs.Books.{ticket_of, ticket_line, epoch_line}
 use Rattle.flow_core.specs.Cores.{acked_as}
@@ -63,7 +63,7 @@ module _ (flow : Flow ℕ) where
   records-taken (Some taken) w j records = record { tickets = records.tickets; epochs = records.epochs; faults = records.faults; acks = records.acks }
 
   pub records-take : (w : World ℕ) (j : Journal) → Records flow w j → Records flow (after_take w) (journal_take j)
-  records-take w j records = records-taken (taking w.waiting w.untold) w j records
+  records-take w j records = records-taken (takeable w.waiting w.untold) w j records
 
   -- ---- C
 

@@ -17,7 +17,7 @@ use Rattle.link_model.specs.Link.{ack_after}
 use Rattle.flow_core.specs.declared.letter.Letter.{Letter}
 use Rattle.flow_core.specs.declared.letter.Letter.TheVariants.{A, T, C}
 use Rattle.flow_core.specs.Readings.{Flow}
-use Rattle.flow_core.specs.World.{Failure, Taken, World, track_of, has_room, with_met, after_ack, taking, with_taken, after_take, told_as, with_turn, answer_applied, after_answer}
+use Rattle.flow_core.specs.World.{Failure, Taken, World, track_of, has_room, with_met, after_ack, takeable, with_taken, after_take, told_as, with_turn, answer_applied, after_answer}
 use Rattle.flow_core.specs.Words.{from_link, after_letter, can_take, is_legal}
 use Rattle.flow_core.specs.States.{some_count}
 use Rattle.flow_core.specs.LettersLeft.{letters_left}
@@ -50,8 +50,8 @@ module _ {X : Type 0} (flow : Flow X) where
       left-heard ack (has_room flow w) track (heard (flow.reading w.present.program) track.is_stopped track.env ack (has_room flow w)) w more
 
   left-taking : (waiting : List Report) (untold : Option (Failure X)) (w : World X) → w.waiting ≡ waiting → w.untold ≡ untold
-      → is_some (taking waiting untold) ≡ true → some_count w.out ≡ 0
-      → letters_left flow (with_taken (taking waiting untold) w) < letters_left flow w
+      → is_some (takeable waiting untold) ≡ true → some_count w.out ≡ 0
+      → letters_left flow (with_taken (takeable waiting untold) w) < letters_left flow w
   left-taking [] None w waits tells can out = absurd (let wrong : false ≡ true = can in (cc))
   left-taking [] (Some failure) w waits tells can out =
       let waits = ap length waits in

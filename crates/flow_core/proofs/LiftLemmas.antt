@@ -1,4 +1,4 @@
--- Where a case's codes simulate two programs, each word comes to the same over the codes as over the programs.
+-- Where a case's codes simulate two programs, each word has the same meaning over the codes as over the programs.
 use Rattle.std.specs.Prelude.{not, ◌&&◌, nat_lt, is_some, is_none, ◌≡◌, ◌==◌, ◌+◌, if◌then◌else◌, ℕ, Bool, true, false, Option, Some, None, option_map, List, [], ◌∷◌, ◌++◌, map, length, refl}
 use Rattle.std.proofs.Common.{ap, sym, ◌∙◌, subst}
 use Rattle.std.proofs.lemmas.List.{map-append}
@@ -22,7 +22,7 @@ use Rattle.agent_core.specs.Agents.{opening_change, replied, course_of, values_o
 use Rattle.agent_core.proofs.ReplyLemmas.{replied-site}
 use Rattle.flow_core.specs.declared.case.Case.{Case}
 use Rattle.flow_core.specs.Readings.{Flow, by_number, code_at, over_codes, over_sources}
-use Rattle.flow_core.specs.World.{Failure, Content, of_report, of_failure, Era, Taken, Answered, World, time_of, track_in, track_of, era_of, opening, failures_met, untold_after, with_met, has_room, after_ack, taking, with_taken, with_reply, told_as, with_turn, answer_applied, after_answer}
+use Rattle.flow_core.specs.World.{Failure, Content, of_report, of_failure, Era, Taken, Answered, World, time_of, track_in, track_of, era_of, opening, failures_met, untold_after, with_met, has_room, after_ack, takeable, with_taken, with_reply, told_as, with_turn, answer_applied, after_answer}
 use Rattle.flow_core.specs.Lift.{Placing, place_in, map_failure, map_content, map_taken, map_answered, map_world}
 use Rattle.flow_core.proofs.SimulatedEpochs.{met_placed, heard-simulated, after-simulated, IsEnvOf-after, declared-simulated}
 use Rattle.flow_core.specs.declared.letter.Letter.{Letter}
@@ -147,7 +147,7 @@ module _ (case : Case) (ss ca : Form) (ss_places ca_places : List Place)
       let env = (track_of codes w).env in
       Shaped-era program (length w.acks) (values_of agent (Change program cwnd cap)) env.cwnd env.rate (time_of w.acks)
 
-  -- the agent is told the same but for a fault's instruction
+  -- the agent gets the same but for a fault's instruction
   turn-lifts : (agent : Agent) (told : Content ℕ) → replied agent (told_as codes told) ≡ replied agent (told_as sources (map_content place told))
   turn-lifts agent (of_report report) = refl
   turn-lifts agent (of_failure failure) =
@@ -218,7 +218,7 @@ module _ (case : Case) (ss ca : Form) (ss_places ca_places : List Place)
 
   Shaped-letter : (giving : Giving ℕ) (letter : Letter) (w : World ℕ) → Shaped w.present → Shaped (after_letter codes giving w letter).present
   Shaped-letter giving A w shape = Shaped-given (giving w) w shape
-  Shaped-letter giving T w shape = Shaped-taken (taking w.waiting w.untold) w shape
+  Shaped-letter giving T w shape = Shaped-taken (takeable w.waiting w.untold) w shape
   Shaped-letter giving C w shape = Shaped-answer w.out w shape
 
   -- ---- words
@@ -263,7 +263,7 @@ module _ (case : Case) (ss ca : Form) (ss_places ca_places : List Place)
   -- ---- legal and complete words
 
   can_take-lifts : (waiting : List Report) (untold : Option (Failure ℕ))
-      → is_some (taking waiting untold) ≡ is_some (taking waiting (option_map (map_failure place) untold))
+      → is_some (takeable waiting untold) ≡ is_some (takeable waiting (option_map (map_failure place) untold))
   can_take-lifts (report ∷ rest) untold = refl
   can_take-lifts [] (Some failure) = refl
   can_take-lifts [] None = refl

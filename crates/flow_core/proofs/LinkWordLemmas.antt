@@ -121,7 +121,7 @@ module _ {X : Type 0} (flow : Flow X) where
         all (Linked-answer link w linked) same,
   )
 
-  -- a list whose acknowledgements are all taken and are the link's for the windows comes to the link's state
+  -- a list whose acknowledgements are all taken and are the link's for the windows leads to the link's state
   pub over-link : (link : LinkCase) (acks : List Ack) (word : List Letter) → acks_in word ≡ length acks
       → acks ≡ acks_for_windows link (world_over flow acks word).windows → world_over flow acks word ≡ world flow link word
   over-link link acks word all same =

@@ -10,7 +10,7 @@ use Rattle.portus_core.specs.declared.env.Env.{Env}
 use Rattle.portus_core.specs.Epoch.{Outcome, quiet, reported, held, failed, stopped, Track}
 use Rattle.portus_core.specs.Reports.{Epoch, reports_met}
 use Rattle.flow_core.specs.Readings.{Flow}
-use Rattle.flow_core.specs.World.{Failure, World, failures_met, untold_after, held_met, taking, with_taken, after_take}
+use Rattle.flow_core.specs.World.{Failure, World, failures_met, untold_after, held_met, takeable, with_taken, after_take}
 use Rattle.flow_core.specs.Lift.{Placing, map_failure, map_world}
 use Rattle.flow_core.proofs.SimulatedEpochs.{outcome_placed, met_placed}
 
@@ -33,8 +33,8 @@ notice_of flow failure = record {
 
 -- without an acknowledgement, a placing changes nothing that is taken
 take-placed : (place : Placing) (w : World ℕ) (waiting : List Report) (untold : Option (Failure ℕ))
-    → map_world place (with_taken (taking waiting untold) w)
-    ≡ with_taken (taking waiting (option_map (map_failure place) untold)) (map_world place w)
+    → map_world place (with_taken (takeable waiting untold) w)
+    ≡ with_taken (takeable waiting (option_map (map_failure place) untold)) (map_world place w)
 take-placed place w (report ∷ rest) untold = refl
 take-placed place w [] (Some failure) = refl
 take-placed place w [] None = refl

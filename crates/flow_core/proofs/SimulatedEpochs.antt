@@ -21,7 +21,7 @@ use Rattle.reg_code.specs.CodeStep as steps
 use Rattle.reg_code.specs.CodeStart.{declared_kept}
 use Rattle.reg_compiler.specs.Simulation.{Simulates, seen, register_start}
 use Rattle.flow_core.specs.Readings.{env_of, outcome_of, by_code}
-use Rattle.flow_core.specs.Lift.{no_place, place_at}
+use Rattle.flow_core.specs.Lift.{missing_place, place_at}
 
 -- ---- one acknowledgement
 
@@ -42,7 +42,7 @@ outcome_by None = stopped
 
 fault-seen : (kind : FaultKind) (place : Option Place) (mean : Mean)
     → option_map (λ place. Fault kind place) place ≡ Some mean
-    → failed (kind, unwrap_or place no_place) ≡ epoch.outcome_of mean
+    → failed (kind, unwrap_or place missing_place) ≡ epoch.outcome_of mean
 fault-seen kind (Some place) mean same = ap outcome_by same
 fault-seen kind None mean same = absurd (none-some mean same)
 

@@ -14,7 +14,7 @@ use Rattle.flow_core.specs.declared.book.TicketLine.{TicketLine}
 use Rattle.flow_core.specs.declared.letter.Letter.{Letter}
 use Rattle.flow_core.specs.declared.letter.Letter.TheVariants.{A, T, C}
 use Rattle.flow_core.specs.Readings.{Flow}
-use Rattle.flow_core.specs.World.{Failure, Taken, Answered, World, track_of, time_of, failures_met, untold_after, has_room, after_ack, taking, with_taken, after_take, with_reply, notice_of, told_as, with_turn, answer_applied, after_answer}
+use Rattle.flow_core.specs.World.{Failure, Taken, Answered, World, track_of, time_of, failures_met, untold_after, has_room, after_ack, takeable, with_taken, after_take, with_reply, notice_of, told_as, with_turn, answer_applied, after_answer}
 use Rattle.flow_core.specs.Words.{Giving, with_given, after_letter, is_legal, is_complete}
 use Rattle.flow_core.specs.Books.{ticket_line}
 use Rattle.flow_core.specs.LiveText.{reports_told, report_count}
@@ -58,7 +58,7 @@ module _ {X : Type 0} (flow : Flow X) where
   -- ---- T
 
   summary-taken : (waiting : List Report) (untold : Option (Failure X)) (w : World X)
-      → summary flow (with_taken (taking waiting untold) w) ≡ with_told (next_telling waiting (option_map (notice_of flow) untold)) (summary flow w)
+      → summary flow (with_taken (takeable waiting untold) w) ≡ with_told (next_telling waiting (option_map (notice_of flow) untold)) (summary flow w)
   summary-taken (report ∷ rest) untold w = refl
   summary-taken [] (Some failure) w = refl
   summary-taken [] None w = refl
@@ -114,7 +114,7 @@ module _ {X : Type 0} (flow : Flow X) where
 
   -- ---- what depends on the summary alone
 
-  can-told : (waiting : List Report) (untold : Option (Failure X)) → is_some (taking waiting untold) ≡ is_some (next_telling waiting (option_map (notice_of flow) untold))
+  can-told : (waiting : List Report) (untold : Option (Failure X)) → is_some (takeable waiting untold) ≡ is_some (next_telling waiting (option_map (notice_of flow) untold))
   can-told (report ∷ rest) untold = refl
   can-told [] (Some failure) = refl
   can-told [] None = refl

@@ -1,4 +1,4 @@
--- Which acknowledgements a word takes, and where two sources of them come to one state.
+-- Which acknowledgements a word takes, and where two sources of them lead to the same state.
 use Rattle.std.specs.Prelude.{◌≡◌, ◌≤◌, Bool, true, ◌&&◌, nat_le, Option, Some, None, List, [], ◌∷◌, ◌++◌, length, slice_get, refl}
 use Rattle.std.proofs.Common.{ap, sym, ◌∙◌, subst, arith, append_assoc, append-nil, length-append}
 use Rattle.std.proofs.lemmas.Bool.{le-leb}
@@ -11,7 +11,7 @@ use Rattle.agent_core.specs.Agents.{replied}
 use Rattle.flow_core.specs.declared.letter.Letter.{Letter}
 use Rattle.flow_core.specs.declared.letter.Letter.TheVariants.{A, T, C}
 use Rattle.flow_core.specs.Readings.{Flow}
-use Rattle.flow_core.specs.World.{Failure, Content, Taken, World, opening, taking, after_ack, with_taken, after_take, told_as, with_turn, answer_applied, after_answer}
+use Rattle.flow_core.specs.World.{Failure, Content, Taken, World, opening, takeable, after_ack, with_taken, after_take, told_as, with_turn, answer_applied, after_answer}
 use Rattle.flow_core.specs.Words.{Giving, from_list, with_given, after_letter, world_from, world_over, is_legal, legal_from, legal_over}
 use Rattle.flow_core.specs.WordLaws.{acks_in, acks_in-A, world_over-append, legal_over-append}
 
@@ -48,7 +48,7 @@ module _ {X : Type 0} (flow : Flow X) where
   applied-keeps (Some ticket) w = turn-keeps ticket (replied w.agent (told_as flow ticket.told)) w
 
   pub take-keeps : (w : World X) → Keeps w (after_take w)
-  take-keeps w = taken-keeps (taking w.waiting w.untold) w
+  take-keeps w = taken-keeps (takeable w.waiting w.untold) w
 
   pub answer-keeps : (w : World X) → Keeps w (after_answer flow w)
   answer-keeps w = applied-keeps w.out w
@@ -145,7 +145,7 @@ module _ {X : Type 0} (flow : Flow X) where
   acks-taken acks (C ∷ word) w rest split enough =
       acks-taken acks word (after_answer flow w) rest (split ∙ ap (λ (xs : List Ack). xs ++ rest) (sym (answer-keeps w).acks)) enough
 
-  -- a word that takes all of the list has come to all of it
+  -- a word that takes the whole list has its acknowledgements
   pub acks-of-world_over : (acks : List Ack) (word : List Letter) → acks_in word ≡ length acks → (world_over flow acks word).acks ≡ acks
   acks-of-world_over acks word all = acks-taken acks word (opening flow) acks refl all
 

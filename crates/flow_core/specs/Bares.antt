@@ -84,7 +84,7 @@ pub record IsBare (s : BareParts) : Type 0 where
 
 -- ---- an acknowledgement
 
--- what an outcome puts down, where the machine has run
+-- what an outcome records, after the machine has run
 abbrev pub step_note : {X : Type 0} → Flow X → Ack → Outcome (FaultKind × X) → Summary → Summary
 step_note flow ack quiet s = s
 step_note flow ack stopped s = s

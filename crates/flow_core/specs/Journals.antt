@@ -68,14 +68,14 @@ line_after epoch s = if nat_lt epoch s.epoch then Some (begun_line s) else None
 
 -- ---- room
 
-abbrev pub HasRoom : {X : Type 0} → RoomyState X → Type 0
-HasRoom list = length list.items < list.room
+abbrev pub HasSpareRoom : {X : Type 0} → RoomyState X → Type 0
+HasSpareRoom list = length list.items < list.room
 
 -- one ticket and one epoch more have their room
 abbrev pub HaveLineRoom : RoomyState TicketLine → RoomyState EpochLine → Type 0
-HaveLineRoom tickets epochs = HasRoom tickets × HasRoom epochs
+HaveLineRoom tickets epochs = HasSpareRoom tickets × HasSpareRoom epochs
 
--- the lines that the answer to the ticket that is out puts down have their room
+-- there is room for the lines that the answer to the ticket that is out adds
 abbrev pub HasLines : Option Issued → RoomyState TicketLine → RoomyState EpochLine → Type 0
 HasLines None tickets epochs = Unit {0}
 HasLines (Some issued) tickets epochs = HaveLineRoom tickets epochs

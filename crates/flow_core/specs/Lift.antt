@@ -12,11 +12,11 @@ use Rattle.flow_core.specs.World.{Failure, Content, of_report, of_failure, Taken
 use Rattle.flow_core.specs.Words.{Giving, from_list, from_link, world_from, legal_from, is_complete}
 
 -- what stands for the place of an instruction that isn't there
-abbrev pub no_place : Place
-no_place = record { line = 0; column = 0 }
+abbrev pub missing_place : Place
+missing_place = record { line = 0; column = 0 }
 
 abbrev pub place_at : List Place → ℕ → Place
-place_at places index = unwrap_or (slice_get places index) no_place
+place_at places index = unwrap_or (slice_get places index) missing_place
 
 -- the place of a program's instruction, by the program's number
 abbrev pub place_in : Case → List Place → List Place → ℕ → ℕ → Place

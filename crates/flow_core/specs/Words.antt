@@ -6,7 +6,7 @@ use Rattle.link_model.specs.Link.{ack_after}
 use Rattle.flow_core.specs.declared.letter.Letter.{Letter}
 use Rattle.flow_core.specs.declared.letter.Letter.TheVariants.{A, T, C}
 use Rattle.flow_core.specs.Readings.{Flow}
-use Rattle.flow_core.specs.World.{World, opening, track_of, taking, after_ack, after_take, after_answer}
+use Rattle.flow_core.specs.World.{World, opening, track_of, takeable, after_ack, after_take, after_answer}
 
 -- what an acknowledgement of a flow is, after a state
 abbrev pub Giving : Type 0 → Type 0
@@ -45,7 +45,7 @@ world flow link word = world_from flow (from_link flow link) (opening flow) word
 -- ---- legal and complete words
 
 abbrev pub can_take : {X : Type 0} → World X → Bool
-can_take w = is_some (taking w.waiting w.untold)
+can_take w = is_some (takeable w.waiting w.untold)
 
 -- an acknowledgement while fewer than the flow's are in; a taking where no ticket is out and a report waits or a notice
 -- is untold; an answer where a ticket is out

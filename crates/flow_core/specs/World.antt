@@ -158,10 +158,10 @@ after_ack flow ack w =
 -- ---- a ticket is taken
 
 -- what can be taken, with what is left then: the oldest report, or else the untold notice
-abbrev pub taking : {X : Type 0} → List Report → Option (Failure X) → Option (Content X × (List Report × Option (Failure X)))
-taking (report ∷ rest) untold = Some (of_report report, (rest, untold))
-taking [] (Some failure) = Some (of_failure failure, ([], None))
-taking [] None = None
+abbrev pub takeable : {X : Type 0} → List Report → Option (Failure X) → Option (Content X × (List Report × Option (Failure X)))
+takeable (report ∷ rest) untold = Some (of_report report, (rest, untold))
+takeable [] (Some failure) = Some (of_failure failure, ([], None))
+takeable [] None = None
 
 abbrev pub with_taken : {X : Type 0} → Option (Content X × (List Report × Option (Failure X))) → World X → World X
 with_taken None w = w
@@ -172,7 +172,7 @@ with_taken (Some taken) w = record w {
 }
 
 abbrev pub after_take : {X : Type 0} → World X → World X
-after_take w = with_taken (taking w.waiting w.untold) w
+after_take w = with_taken (takeable w.waiting w.untold) w
 
 -- ---- its answer is applied
 

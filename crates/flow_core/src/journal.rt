@@ -1,6 +1,6 @@
 //! The history of a flow, as lists that each letter makes longer.
 ghost use Rattle.std.specs.Prelude.{◌≡◌, ◌<◌, length, IfOk, OnOk};
-ghost use Rattle.flow_core.specs.Journals.{OpensJournal, HasRoom, HaveLineRoom, journal_ack, journal_take, journal_answer, journal_line};
+ghost use Rattle.flow_core.specs.Journals.{OpensJournal, HasSpareRoom, HaveLineRoom, journal_ack, journal_take, journal_answer, journal_line};
 
 use crate::book::{EpochLine, TicketLine};
 use crate::letter::Letter;
@@ -53,9 +53,9 @@ impl Journal {
 
     /// Records an acknowledgement, and its fault, if it had one.
     pub(crate) fn put_ack(&mut self, ack: &Ack, fault: Option<Notice>)
-        requires faults { HasRoom self.old.faults }
-        requires acks { HasRoom self.old.acks }
-        requires word { HasRoom self.old.word }
+        requires faults { HasSpareRoom self.old.faults }
+        requires acks { HasSpareRoom self.old.acks }
+        requires word { HasSpareRoom self.old.word }
         ensures { self.new ≡ journal_ack ack.entry.now fault self.old }
     {
         if let Some(notice) = fault {
@@ -67,7 +67,7 @@ impl Journal {
 
     /// Records that a ticket was taken.
     pub(crate) fn put_take(&mut self)
-        requires { HasRoom self.old.word }
+        requires { HasSpareRoom self.old.word }
         ensures { self.new ≡ journal_take self.old }
     {
         self.word.push(Letter::T);
@@ -83,7 +83,7 @@ impl Journal {
         epoch: Option<EpochLine>,
     )
         requires lines { HaveLineRoom self.old.tickets self.old.epochs }
-        requires word { HasRoom self.old.word }
+        requires word { HasSpareRoom self.old.word }
         ensures { self.new ≡ journal_answer (journal_line answer.now taken answered) epoch self.old }
     {
         self.tickets.push(TicketLine {

@@ -1,4 +1,4 @@
--- A text after so many of its lines, and the search for a separator among them.
+-- A text after some of its lines, and the search for a separator among them.
 use Rattle.std.proofs.Common.{◌≡◌, ℕ, zero, suc, ◌+◌, ◌-◌, ◌<◌, true, false, Some, None, List, ◌∷◌, length, take, position, nat_lt, not, cond, refl, ap, sym, ◌∙◌, arith, add-one}
 use Rattle.std.proofs.lemmas.Bool.Decides.{nat_tests}
 use Rattle.std.specs.List.{position_or_len}

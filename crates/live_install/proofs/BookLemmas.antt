@@ -11,30 +11,30 @@ use Rattle.flow_core.specs.Books.{epoch_line}
 use Rattle.flow_core.specs.World.{Failure}
 use Rattle.live_install.specs.declared.book.OpenBook.{OpenBook}
 use Rattle.live_install.specs.BuiltTexts.{EntryState}
-use Rattle.live_install.specs.Entries.{place_at}
+use Rattle.live_install.specs.Entries.{step_place}
 use Rattle.live_install.specs.OpenBooks.{failure_at, seen_of, seen_as}
 use Rattle.live_install.specs.OpenWorld.{OpenWorld, eras_of, track_now}
 use Rattle.live_install.specs.OpenWords.{install_world}
 use Rattle.live_install.specs.RolloutText.{OpenAccount, account_of, account_text, end_of, fault_lines, open_part, rollout_text}
 use Rattle.report_lines.specs.EndLine.{is_faulted}
-use Rattle.live_install.specs.BookText.{account_in, book_text, books_text, end_in, failures_in, notice_lines, placed, placed_line}
+use Rattle.live_install.specs.BookText.{account_in, book_text, books_text, end_in, failures_in, notice_lines, failure_if_placed, placed_line}
 use Rattle.live_install.specs.WholeBooks.{IsRightBook, flows_of}
 use Rattle.live_install.proofs.StopLemmas.{fails_in, stopped-where}
 
 -- ---- faults and their places
 
 placed-line : (notice : Notice) (place : Option Place) (more : List ℕ) (rest : List (Failure Place)) → more ≡ fault_lines rest
-    → placed_line notice place ⧺ more ≡ fault_lines (placed notice place ++ rest)
+    → placed_line notice place ⧺ more ≡ fault_lines (failure_if_placed notice place ++ rest)
 placed-line notice None more rest same = same
 placed-line notice (Some place) more rest same = ap (λ (t : List ℕ). placed_line notice (Some place) ⧺ t) same
 
 pub notice_lines-faults : (entries : List EntryState) (faults : List Notice) → notice_lines entries faults ≡ fault_lines (failures_in entries faults)
 notice_lines-faults entries [] = refl
 notice_lines-faults entries (notice ∷ rest) =
-    placed-line notice (place_at entries notice.program notice.index) (notice_lines entries rest) (failures_in entries rest) (notice_lines-faults entries rest)
+    placed-line notice (step_place entries notice.program notice.index) (notice_lines entries rest) (failures_in entries rest) (notice_lines-faults entries rest)
 
 seen-placed : (notice : Notice) (place : Option Place) (failure : Failure Place) → option_map (failure_at notice) place ≡ Some failure
-    → (placed notice place ≡ failure ∷ []) × (notice.epoch ≡ failure.epoch)
+    → (failure_if_placed notice place ≡ failure ∷ []) × (notice.epoch ≡ failure.epoch)
 seen-placed notice None failure is = absurd (let wrong : None ≡ Some failure = is in (cc))
 seen-placed notice (Some place) failure is =
     let same : failure_at notice place ≡ failure = cc in
@@ -49,7 +49,7 @@ module _ (entries : List EntryState) (flow : ℕ) where
   seen-failures (notice ∷ rest) (failure ∷ more) same =
       let heads : seen_of entries notice ≡ seen_as flow failure = cc in
       let tails : map (seen_of entries) rest ≡ map (seen_as flow) more = cc in
-      let here = seen-placed notice (place_at entries notice.program notice.index) failure (ap (λ (s : ℕ × Option (Failure Place)). s.1) heads) in
+      let here = seen-placed notice (step_place entries notice.program notice.index) failure (ap (λ (s : ℕ × Option (Failure Place)). s.1) heads) in
       λ i. here.0 i ++ seen-failures rest more tails i
 
   pub seen-faulted : (number : ℕ) (faults : List Notice) (failures : List (Failure Place)) → map (seen_of entries) faults ≡ map (seen_as flow) failures
@@ -60,7 +60,7 @@ module _ (entries : List EntryState) (flow : ℕ) where
   seen-faulted number (notice ∷ rest) (failure ∷ more) same =
       let heads : seen_of entries notice ≡ seen_as flow failure = cc in
       let tails : map (seen_of entries) rest ≡ map (seen_as flow) more = cc in
-      let here = seen-placed notice (place_at entries notice.program notice.index) failure (ap (λ (s : ℕ × Option (Failure Place)). s.1) heads) in
+      let here = seen-placed notice (step_place entries notice.program notice.index) failure (ap (λ (s : ℕ × Option (Failure Place)). s.1) heads) in
       λ i. (here.1 i == number) || seen-faulted number rest more tails i
 
 -- ---- a book

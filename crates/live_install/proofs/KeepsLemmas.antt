@@ -31,11 +31,11 @@ use Rattle.live_install.specs.declared.entry.Entry.{Entry}
 use Rattle.live_install.specs.Accounts.{reporter, met_in, HasRun}
 use Rattle.live_install.specs.declared.letter.OpenLetter.{OpenLetter}
 use Rattle.live_install.specs.declared.state.State.{State}
-use Rattle.live_install.specs.OpenWorld.{Installed, Running, OpenWorld, track_of, cwnd_of, bare, met_by, after_ack, eras_of, with_entry, after_install, next_entry, running_of, with_change, after_change}
+use Rattle.live_install.specs.OpenWorld.{Installed, Running, OpenWorld, track_of, cwnd_of, bare, met_by, after_ack, eras_of, with_entry, with_next_entry, next_entry, running_of, with_change, after_change}
 use Rattle.live_install.specs.BuiltTexts.{form_or_refusal, built_of}
-use Rattle.live_install.specs.Entries.{installed_of, built_in, built_at, entry_place}
+use Rattle.live_install.specs.Entries.{installed_of, built_entry, built_at, entry_place}
 use Rattle.live_install.specs.OpenBooks.{Seen, failure_at, seen_of, seen_as}
-use Rattle.live_install.specs.States.{kept_track, next_from, Runs, RunsAs, FitsBuilt, FitsAt, epoch_of, turn_of, Keeps}
+use Rattle.live_install.specs.States.{kept_track, next_from, Runs, RunsStep, FitsBuilt, FitsAt, epoch_of, turn_of, Keeps}
 use Rattle.live_install.proofs.ListLemmas.{slice_get-front, time-push}
 use Rattle.live_install.proofs.NextLemmas.{was_started-same, passed-more, passed-push, next-entry}
 
@@ -118,7 +118,7 @@ module _ (s : State) (base : OpenWorld) (link : LinkState) (ack : Ack) (word : R
           track =
               (λ i. record { env = heard.env i; is_stopped = heard.stopping i; first = heard.first i; count = s.acks + 1 })
               ∙ (λ i. after_outcome (met-same i) (keeps.track i)) ∙ sym track-next;
-          runs = subst (λ (r : Option ℕ). RunsAs s.entries.items r (Some next)) (sym is_running) (record {
+          runs = subst (λ (r : Option ℕ). RunsStep s.entries.items r (Some next)) (sym is_running) (record {
             program = runs.program;
             form = runs.form;
             shape = subst (λ (t : Track). IsEnvOf running.form t.env)
@@ -136,7 +136,7 @@ module _ (s : State) (base : OpenWorld) (link : LinkState) (ack : Ack) (word : R
 
 -- a step's entry stays where it is
 built-front : (entries more : List Entry) (step : ℕ) → step < length entries → built_at (entries ++ more) step ≡ built_at entries step
-built-front entries more step within = ap built_in (slice_get-front entries more step within)
+built-front entries more step within = ap built_entry (slice_get-front entries more step within)
 
 seen-front : (entries more : List Entry) (notice : Notice) (failure : Seen) (place : Failure Place) → seen_of entries notice ≡ seen_as failure.0 place
     → seen_of (entries ++ more) notice ≡ seen_of entries notice
@@ -146,7 +146,7 @@ seen-front entries more notice failure place is = by (slice_get entries notice.p
       let within = slice_get_within entries notice.program entry here in
       ap (λ (b : Option Built). (notice.flow, option_map (failure_at notice) (entry_place b notice.index))) (built-front entries more notice.program within)
   by None here =
-      absurd (none-some place (ap (λ (b : Option Entry). option_map (failure_at notice) (entry_place (built_in b) notice.index)) (sym here) ∙ ap (λ (p : Seen). p.1) is))
+      absurd (none-some place (ap (λ (b : Option Entry). option_map (failure_at notice) (entry_place (built_entry b) notice.index)) (sym here) ∙ ap (λ (p : Seen). p.1) is))
 
 seen-more : (entries more : List Entry) (flow : ℕ) (notices : List Notice) (failures : List (Failure Place))
     → map (seen_of entries) notices ≡ map (seen_as flow) failures → map (seen_of (entries ++ more)) notices ≡ map (seen_of entries) notices
@@ -165,7 +165,7 @@ seen-more entries more flow (notice ∷ rest) (failure ∷ failures) same =
       rest_of (x ∷ xs) = xs
 
 runs-more : (entries more : List Entry) (running : Option ℕ) (present : Option Running) → next_from running ≤ length entries
-    → RunsAs entries running present → RunsAs (entries ++ more) running present
+    → RunsStep entries running present → RunsStep (entries ++ more) running present
 runs-more entries more None None within runs = tt
 runs-more entries more None (Some r) within runs = runs
 runs-more entries more (Some step) None within runs = runs
@@ -189,11 +189,11 @@ pub keeps-put : (s : State) (w : OpenWorld) (entry : Entry) (entries : RoomyStat
     → Keeps s w → next_from s.running ≤ length s.entries.items
     → entries.items ≡ s.entries.items ++ entry ∷ [] → installed.items ≡ s.installed.items ++ s.acks ∷ []
     → slice_get s.case.steps (length s.entries.items) ≡ Some entry.text → program_of entry.text ≡ installed_of entry
-    → Keeps (put_state s entry entries installed word) (after_install s.case w)
+    → Keeps (put_state s entry entries installed word) (with_next_entry s.case w)
 keeps-put s w entry entries installed word keeps within pushed counted text came =
     let count : length s.entries.items ≡ length w.entries = sym (length-map s.entries.items installed_of) ∙ ap length keeps.entries in
     let next : OpenWorld = record w { entries = w.entries ++ installed_of entry ∷ []; installed = w.installed ++ length w.acks ∷ [] } in
-    let is : after_install s.case w ≡ next =
+    let is : with_next_entry s.case w ≡ next =
     (λ i. with_entry ((ap (slice_get s.case.steps) (sym count) ∙ text) i) w)
     ∙ (λ i. record w { entries = w.entries ++ came i ∷ []; installed = w.installed ++ length w.acks ∷ [] }) in
     let whole : Keeps (record (put_state s entry entries installed word) { entries = record { items = s.entries.items ++ entry ∷ []; room = entries.room } }) next = record {
@@ -230,9 +230,9 @@ form-answer built form (Err refusal) one two = absurd (none-some built one)
 
 form-found : (entries : List Entry) (step : ℕ) (built : Built) (form : Form) (found : Option Entry) → slice_get entries step ≡ found → built_at entries step ≡ Some built
     → slice_get (map installed_of entries) step ≡ Some (Ok form) → form_of built.program ≡ form
-form-found entries step built form None here is ok = absurd (none-some built (ap built_in (sym here) ∙ is))
+form-found entries step built form None here is ok = absurd (none-some built (ap built_entry (sym here) ∙ is))
 form-found entries step built form (Some entry) here is ok =
-    form-answer built form entry.answer (ap built_in (sym here) ∙ is) (ap (option_map installed_of) (sym here) ∙ sym (slice_get-map installed_of entries step) ∙ ok)
+    form-answer built form entry.answer (ap built_entry (sym here) ∙ is) (ap (option_map installed_of) (sym here) ∙ sym (slice_get-map installed_of entries step) ∙ ok)
 
 form-same : (entries : List Entry) (step : ℕ) (built : Built) (form : Form) → built_at entries step ≡ Some built
     → slice_get (map installed_of entries) step ≡ Some (Ok form) → form_of built.program ≡ form

@@ -11,8 +11,8 @@ use Rattle.portus_core.specs.ProgramForm.{form_of}
 use Rattle.flow_core.specs.World.{Era}
 use Rattle.live_install.specs.declared.entry.Entry.{Entry}
 use Rattle.live_install.specs.OpenWorld.{Installed, OpenWorld, was_started, first_left, eras_of, next_entry}
-use Rattle.live_install.specs.BuiltTexts.{is_built, form_or_refusal, built_of}
-use Rattle.live_install.specs.Entries.{installed_of, built_in, built_at}
+use Rattle.live_install.specs.BuiltTexts.{was_built, form_or_refusal, built_of}
+use Rattle.live_install.specs.Entries.{installed_of, built_entry, built_at}
 use Rattle.live_install.specs.States.{accepted_from, ArePassed}
 use Rattle.live_install.proofs.ListLemmas.{slice_get-front}
 
@@ -44,9 +44,9 @@ by-first step later count true =
 by-first step later count false = shifted step later count (nat_lt later count) refl
 
 accepted-first : (step : ℕ) (entry : Entry) (rest : List Entry)
-    → accepted_from step (entry ∷ rest) ≡ (if is_built entry.answer then Some step else accepted_from (step + 1) rest)
+    → accepted_from step (entry ∷ rest) ≡ (if was_built entry.answer then Some step else accepted_from (step + 1) rest)
 accepted-first step entry rest =
-    by-first step (position_or_len (λ (e : Entry). is_built e.answer) rest) (length rest) (is_built entry.answer)
+    by-first step (position_or_len (λ (e : Entry). was_built e.answer) rest) (length rest) (was_built entry.answer)
 
 -- ---- the next entry
 
@@ -58,7 +58,7 @@ steps left = option_map (λ next. next.0) left
 fresh-first : (eras : List Era) (step : ℕ) (answer : Result Built BuildFault) (rest : List Entry) → was_started step eras ≡ false
     → steps (first_left eras (step + 1) (map installed_of rest)) ≡ accepted_from (step + 1) rest
     → steps (first_left eras step (form_or_refusal answer ∷ map installed_of rest))
-    ≡ (if is_built answer then Some step else accepted_from (step + 1) rest)
+    ≡ (if was_built answer then Some step else accepted_from (step + 1) rest)
 fresh-first eras step (Ok built) rest fresh later =
     λ i. steps (if fresh i then first_left eras (step + 1) (map installed_of rest) else Some (step, form_of built.program))
 fresh-first eras step (Err refusal) rest fresh later = later
@@ -219,7 +219,7 @@ pub none-built : (entries : List Entry) (step : ℕ) (form : Form) → slice_get
 none-built entries step form ok none = by (slice_get entries step) refl where
   by : (found : Option Entry) → slice_get entries step ≡ found → ⊥
   by None here = none-some (Ok form) (ap (option_map installed_of) (sym here) ∙ sym (slice_get-map installed_of entries step) ∙ ok)
-  by (Some entry) here = by_answer entry.answer (ap built_in (sym here) ∙ none) (ap (option_map installed_of) (sym here) ∙ sym (slice_get-map installed_of entries step) ∙ ok) where
+  by (Some entry) here = by_answer entry.answer (ap built_entry (sym here) ∙ none) (ap (option_map installed_of) (sym here) ∙ sym (slice_get-map installed_of entries step) ∙ ok) where
     by_answer : (answer : Result Built BuildFault) → built_of answer ≡ None → Some (form_or_refusal answer) ≡ Some (Ok form) → ⊥
     by_answer (Ok built) one two = none-some built (sym one)
     by_answer (Err refusal) one two = err≢ok refusal form (ap (first_of (Err refusal)) two)

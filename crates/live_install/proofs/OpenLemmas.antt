@@ -28,7 +28,7 @@ use Rattle.live_install.specs.OpenWords.{after_letter, install_world, next_ack, 
 use Rattle.live_install.specs.BuiltTexts.{Answers}
 use Rattle.live_install.specs.Entries.{installed_of, built_at, AreStepsFrom}
 use Rattle.live_install.specs.OpenCells.{HasOutcome, AnswersTo, ran_with, ran_in, next_step}
-use Rattle.live_install.specs.States.{cell_of, world_of, kept_track, next_from, RunsAs, Runs, FitsAt, FitsBuilt, faults_left, turn_of, form_at, Keeps, IsFit, IsOpen}
+use Rattle.live_install.specs.States.{cell_of, world_of, kept_track, next_from, RunsStep, Runs, FitsAt, FitsBuilt, faults_left, turn_of, form_at, Keeps, IsFit, IsOpen}
 use Rattle.live_install.proofs.LetterLemmas.{world-append, legal-append}
 use Rattle.live_install.proofs.KeepsLemmas.{counted_state, keeps-counted, keeps-heard, put_state, keeps-put, fits-more, started_state, keeps-started}
 use Rattle.live_install.proofs.ListLemmas.{steps-push}
@@ -109,7 +109,7 @@ module _ (s : State) (opens : IsOpen s) (left : s.acks < s.case.acks) (window : 
       }
 
   -- before the first change
-  none-runs : (running : Option ℕ) → running ≡ None → (present : Option Running) → RunsAs s.entries.items running present → present ≡ None
+  none-runs : (running : Option ℕ) → running ≡ None → (present : Option Running) → RunsStep s.entries.items running present → present ≡ None
   none-runs None none None runs = refl
   none-runs None none (Some r) runs = absurd runs
   none-runs (Some step) none present runs = absurd (none-some step (sym none))
@@ -129,7 +129,7 @@ module _ (s : State) (opens : IsOpen s) (left : s.acks < s.case.acks) (window : 
       legal-now
 
   -- and then
-  some-runs : (running : Option ℕ) (step : ℕ) → running ≡ Some step → (present : Option Running) → RunsAs s.entries.items running present
+  some-runs : (running : Option ℕ) (step : ℕ) → running ≡ Some step → (present : Option Running) → RunsStep s.entries.items running present
       → (r : Running) × ((present ≡ Some r) × Runs s.entries.items step r)
   some-runs None step some present runs = absurd (none-some step some)
   some-runs (Some one) step some None runs = absurd runs

@@ -25,11 +25,11 @@ use Rattle.live_install.specs.OpenBooks.{seen_of, seen_as}
 use Rattle.live_install.specs.OpenCells.{HasOutcome}
 use Rattle.live_install.specs.Accounts.{reporter, notice_by, faults_of, track_by, RecordsOutcome, met_in, HasRun}
 use Rattle.live_install.specs.OpenWorld.{Running}
-use Rattle.live_install.specs.States.{RunsAs, running_step, form_at}
+use Rattle.live_install.specs.States.{RunsStep, running_step, form_at}
 use Rattle.live_install.proofs.SeenLemmas.{placed, heard-placed, heard-env, stops-placed, first-placed, reports-placed, failures-placed, tells-placed}
 
 -- the step that is kept is that of the program that runs
-pub running-step : (entries : List Entry) (step : Option ℕ) (present : Option Running) → RunsAs entries step present → step ≡ running_step present
+pub running-step : (entries : List Entry) (step : Option ℕ) (present : Option Running) → RunsStep entries step present → step ≡ running_step present
 running-step entries None None runs = refl
 running-step entries None (Some running) runs = absurd runs
 running-step entries (Some step) None runs = absurd runs
@@ -45,7 +45,7 @@ reports-count whose track ack held env = omega arith
 reports-count whose track ack (failed fault) env = omega arith
 reports-count whose track ack stopped env = omega arith
 
--- a fault is put down only where one is left, and none is left after it
+-- a fault is recorded only if one is left, and none is left after it
 faults-count : (step number at : ℕ) (ack : Ack) (reading : _) (is_stopped : Bool) (old : Env) (outcome : Outcome (FaultKind × ℕ)) (env : Env) (after : Bool)
     → heard {F = FaultKind × ℕ} reading is_stopped old ack true ≡ (outcome, env) → after ≡ stops outcome
     → length (failures_met step number at ack (outcome, env)) + faults_of after ≤ faults_of is_stopped
@@ -62,7 +62,7 @@ faults-count step number at ack reading false old outcome env after met is =
       by (failed fault) = omega arith
       by stopped = omega arith
 
--- ---- what is put down
+-- ---- what is recorded
 
 some-form : (built : Option Built) (form : Form) → option_map (λ (b : Built). form_of b.program) built ≡ Some form → (one : Built) → built ≡ Some one → form_of one.program ≡ form
 some-form built form is one same = ap (by form) (sym (ap (option_map (λ (b : Built). form_of b.program)) same) ∙ is) where

@@ -9,19 +9,19 @@ use Rattle.report_lines.specs.EndLine.{is_faulted}
 use Rattle.flow_core.specs.World.{Failure}
 use Rattle.live_install.specs.declared.book.OpenBook.{OpenBook}
 use Rattle.live_install.specs.BuiltTexts.{EntryState}
-use Rattle.live_install.specs.Entries.{installed_of, place_at}
+use Rattle.live_install.specs.Entries.{installed_of, step_place}
 use Rattle.live_install.specs.OpenBooks.{failure_at}
 use Rattle.live_install.specs.RolloutText.{OpenAccount, account_text}
 
 -- a fault where its instruction has a place
-abbrev pub placed : Notice → Option Place → List (Failure Place)
-placed notice None = []
-placed notice (Some place) = failure_at notice place ∷ []
+abbrev pub failure_if_placed : Notice → Option Place → List (Failure Place)
+failure_if_placed notice None = []
+failure_if_placed notice (Some place) = failure_at notice place ∷ []
 
 -- the faults with the places of their instructions
 abbrev pub failures_in : List EntryState → List Notice → List (Failure Place)
 failures_in entries [] = []
-failures_in entries (notice ∷ rest) = placed notice (place_at entries notice.program notice.index) ++ failures_in entries rest
+failures_in entries (notice ∷ rest) = failure_if_placed notice (step_place entries notice.program notice.index) ++ failures_in entries rest
 
 -- how the flow stands; a fault stops its epoch
 abbrev pub end_in : OpenBook → End
@@ -60,4 +60,4 @@ placed_line notice (Some place) = fault_line notice.epoch notice.at notice.kind 
 
 abbrev pub notice_lines : List EntryState → List Notice → List ℕ
 notice_lines entries [] = []
-notice_lines entries (notice ∷ rest) = placed_line notice (place_at entries notice.program notice.index) ⧺ notice_lines entries rest
+notice_lines entries (notice ∷ rest) = placed_line notice (step_place entries notice.program notice.index) ⧺ notice_lines entries rest

@@ -13,9 +13,9 @@ abbrev pub form_or_refusal : Result Built BuildFault → Installed
 form_or_refusal (Ok built) = Ok (form_of built.program)
 form_or_refusal (Err refusal) = Err refusal
 
-abbrev pub is_built : Result Built BuildFault → Bool
-is_built (Ok built) = true
-is_built (Err refusal) = false
+abbrev pub was_built : Result Built BuildFault → Bool
+was_built (Ok built) = true
+was_built (Err refusal) = false
 
 -- whether memory ran out
 abbrev pub is_out_of_memory : Result Built BuildFault → Bool

@@ -8,7 +8,7 @@ use Rattle.flow_core.specs.Books.{epoch_line}
 use Rattle.live_install.specs.declared.entry.Entry.{Entry}
 use Rattle.live_install.specs.declared.book.OpenBook.{OpenBook}
 use Rattle.live_install.specs.OpenWorld.{OpenWorld, track_now, eras_of}
-use Rattle.live_install.specs.Entries.{installed_of, place_at, AreStepsFrom}
+use Rattle.live_install.specs.Entries.{installed_of, step_place, AreStepsFrom}
 
 -- a failure of a flow, or none where an instruction has no place
 abbrev pub Seen : Type 0
@@ -27,7 +27,7 @@ failure_at notice place = record {
 
 -- a notice as a failure of its flow: its instruction's index becomes its place
 abbrev pub seen_of : List Entry → Notice → Seen
-seen_of entries notice = (notice.flow, option_map (failure_at notice) (place_at entries notice.program notice.index))
+seen_of entries notice = (notice.flow, option_map (failure_at notice) (step_place entries notice.program notice.index))
 
 abbrev pub seen_as : ℕ → Failure Place → Seen
 seen_as flow failure = (flow, Some failure)

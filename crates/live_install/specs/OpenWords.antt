@@ -5,7 +5,7 @@ use Rattle.scene_members.specs.declared.open_case.OpenCase.{OpenCase}
 use Rattle.ccp_base.specs.declared.ack.Ack.{Ack}
 use Rattle.live_install.specs.declared.letter.OpenLetter.{OpenLetter}
 use Rattle.live_install.specs.declared.letter.OpenLetter.TheVariants.{A, I, G}
-use Rattle.live_install.specs.OpenWorld.{OpenWorld, opening, cwnd_of, after_ack, after_install, after_change, next_entry}
+use Rattle.live_install.specs.OpenWorld.{OpenWorld, opening, cwnd_of, after_ack, with_next_entry, after_change, next_entry}
 
 -- the link's next acknowledgement: for the windows so far and the present `Cwnd`
 abbrev pub next_ack : OpenCase → OpenWorld → Ack
@@ -14,7 +14,7 @@ next_ack case w = ack_after case.link w.windows (cwnd_of case w)
 -- the state after one more letter: A is an acknowledgement, I an entry that is installed, G a change
 abbrev pub after_letter : OpenCase → OpenWorld → OpenLetter → OpenWorld
 after_letter case w A = after_ack case (next_ack case w) w
-after_letter case w I = after_install case w
+after_letter case w I = with_next_entry case w
 after_letter case w G = after_change case w
 
 abbrev pub world_from : OpenCase → OpenWorld → List OpenLetter → OpenWorld

@@ -110,8 +110,8 @@ with_entry (Some text) w = record w {
 }
 
 -- what the next step's text stands for
-abbrev pub after_install : OpenCase → OpenWorld → OpenWorld
-after_install case w = with_entry (slice_get case.steps (length w.entries)) w
+abbrev pub with_next_entry : OpenCase → OpenWorld → OpenWorld
+with_next_entry case w = with_entry (slice_get case.steps (length w.entries)) w
 
 -- ---- a change
 

@@ -16,7 +16,7 @@ use Rattle.live_install.specs.declared.account.Turn.{Turn}
 use Rattle.live_install.specs.Accounts.{faults_of}
 use Rattle.live_install.specs.OpenWorld.{Installed, Running, OpenWorld, track_of, track_now, eras_of, was_started}
 use Rattle.live_install.specs.OpenWords.{install_world, legal}
-use Rattle.live_install.specs.BuiltTexts.{is_built}
+use Rattle.live_install.specs.BuiltTexts.{was_built}
 use Rattle.live_install.specs.Entries.{installed_of, built_at, AreStepsFrom}
 use Rattle.live_install.specs.OpenBooks.{seen_of, seen_as}
 use Rattle.live_install.specs.OpenCells.{OpenState, most_letters}
@@ -42,7 +42,7 @@ next_from (Some step) = step + 1
 
 -- the place of the first accepted one of these entries
 abbrev pub first_accepted : List Entry → Option ℕ
-first_accepted entries = position (λ entry. is_built entry.answer) entries
+first_accepted entries = position (λ entry. was_built entry.answer) entries
 
 -- the step of the first accepted one of these entries, which are those from this step on
 abbrev pub accepted_from : ℕ → List Entry → Option ℕ
@@ -68,11 +68,11 @@ pub record Runs (entries : List Entry) (step : ℕ) (running : Running) : Type 0
   pub form : form_at entries step ≡ Some running.form
   pub shape : IsEnvOf running.form (track_of running).env
 
-abbrev pub RunsAs : List Entry → Option ℕ → Option Running → Type 0
-RunsAs entries None None = ⊤
-RunsAs entries None (Some running) = ⊥
-RunsAs entries (Some step) None = ⊥
-RunsAs entries (Some step) (Some running) = Runs entries step running
+abbrev pub RunsStep : List Entry → Option ℕ → Option Running → Type 0
+RunsStep entries None None = ⊤
+RunsStep entries None (Some running) = ⊥
+RunsStep entries (Some step) None = ⊥
+RunsStep entries (Some step) (Some running) = Runs entries step running
 
 abbrev pub FitsBuilt : MachineState → Option Built → Type 0
 FitsBuilt machine None = ⊥
@@ -105,7 +105,7 @@ pub record Keeps (s : State) (w : OpenWorld) : Type 0 where
   pub acks : s.acks ≡ length w.acks
   pub time : s.time ≡ time_of w.acks
   pub track : kept_track s ≡ track_now s.case w
-  pub runs : RunsAs s.entries.items s.running w.present
+  pub runs : RunsStep s.entries.items s.running w.present
   pub passed : ArePassed (next_from s.running) (eras_of w) w.entries
   pub stands : Stands s.link w.windows
 

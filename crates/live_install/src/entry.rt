@@ -1,6 +1,6 @@
 //! The entries of a flow's library: a step's text with its program and code, or with its refusal.
 ghost use Rattle.std.specs.Prelude.{◌≡◌, false, IfOk, option_copied};
-ghost use Rattle.live_install.specs.BuiltTexts.{is_built, is_no_memory, is_out_of_memory, Answers, IsEntry, built_of};
+ghost use Rattle.live_install.specs.BuiltTexts.{was_built, is_no_memory, is_out_of_memory, Answers, IsEntry, built_of};
 
 use ccp_base::{Bytes, NoMemory, Sequence};
 use portus_build::{BuildFault, build};
@@ -103,7 +103,7 @@ impl Entry {
 
     /// Whether the text is that of a program.
     pub fn is_accepted(&self) -> bool
-        ensures { result ≡ is_built self.now.answer }
+        ensures { result ≡ was_built self.now.answer }
     {
         self.answer.is_ok()
     }

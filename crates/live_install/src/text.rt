@@ -1,7 +1,7 @@
 //! The text of a rollout: for each flow its entries, changes, faults, reports and end.
 ghost use Rattle.std.specs.Prelude.{◌≡◌, ◌≤◌, ◌++◌, IfOk, OnOk, map};
 ghost use Rattle.std.specs.List.{All};
-ghost use Rattle.live_install.specs.Entries.{installed_of, place_at};
+ghost use Rattle.live_install.specs.Entries.{installed_of, step_place};
 ghost use Rattle.live_install.specs.RolloutText.{fault_lines, fields_at, fields_of, flow_line, last_fields, last_line};
 ghost use Rattle.live_install.specs.RolloutText.{rollout_text, shown_lines};
 ghost use Rattle.live_install.specs.BookText.{account_in, book_text, books_text, end_in, failures_in, notice_lines};
@@ -101,7 +101,7 @@ fn put_notice(
     notice: &Notice,
 ) -> Result<(), NoMemory>
     ensures { OnOk result (text.new ≡ text.old ++ placed_line notice.entry.now
-        (place_at entries.now notice.entry.now.program notice.entry.now.index)) }
+        (step_place entries.now notice.entry.now.program notice.entry.now.index)) }
 {
     match place_at(entries, notice.program, notice.index) {
         None => Ok(()),
@@ -111,7 +111,7 @@ fn put_notice(
 
 /// The place of an instruction of a step's code; None where the step has no code, or that no such instruction.
 fn place_at(entries: &[Entry], step: u32, index: u16) -> Option<Place>
-    ensures { result ≡ place_at entries.now step index }
+    ensures { result ≡ step_place entries.now step index }
 {
     let entry = entries.get(step as usize)?;
     let Ok(built) = entry.answer() else {

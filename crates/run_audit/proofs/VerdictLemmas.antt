@@ -11,7 +11,7 @@ use Rattle.run_audit.proofs.LineReadings.{HasPlainNames}
 use Rattle.run_audit.proofs.PartLemmas.{HasPart, part_of_word, left-of_part, part-of_left}
 
 module _ (sources : Sources) (named : HasPlainNames sources) where
-  -- where so many parts were there before
+  -- after this many parts
   abbrev IsSaid : List Case → ℕ → List ℕ → Verdict → Type 0
   IsSaid cases count text Yes = IsLiveText sources cases text
   IsSaid cases count text (No flow) = (more : ℕ) × (flow ≡ count + more) × IsNot sources cases text more

@@ -10,7 +10,7 @@ use Rattle.agent_core.specs.Agents.{replied}
 use Rattle.flow_core.specs.declared.letter.Letter.{Letter}
 use Rattle.flow_core.specs.declared.letter.Letter.TheVariants.{A, T, C}
 use Rattle.flow_core.specs.Readings.{Flow}
-use Rattle.flow_core.specs.World.{World, Content, Failure, Taken, Answered, taking, with_reply, with_taken, answer_applied, after_answer, opening, told_as}
+use Rattle.flow_core.specs.World.{World, Content, Failure, Taken, Answered, takeable, with_reply, with_taken, answer_applied, after_answer, opening, told_as}
 use Rattle.flow_core.specs.Words.{from_link, after_letter, world_from, world, legal_from, legal, is_legal, can_take, is_complete, is_still}
 use Rattle.flow_core.specs.Books.{ticket_line}
 use Rattle.run_audit.specs.declared.mark.Mark.{Mark}
@@ -133,8 +133,8 @@ module _ {X : Type 0} (flow : Flow X) (link : LinkCase) where
       let parts = and_parts (is_legal flow w T) (legal_from flow (from_link flow link) (step w T) rest) legal in
       let now = and_parts (is_none w.out) (can_take w) parts.0 in
       let (marks, acks, within) = along_word rest (step w T) parts.1 in
-      let same : length (step w T).acks ≡ length w.acks = ap length (taken-acks w (taking w.waiting w.untold)) in
-      let first : world_marks (step w T) ≡ world_marks w ++ record { at = length w.acks; letter = T } ∷ [] = taken-marks w (taking w.waiting w.untold) now.1 (none_out w.out now.0) in (
+      let same : length (step w T).acks ≡ length w.acks = ap length (taken-acks w (takeable w.waiting w.untold)) in
+      let first : world_marks (step w T) ≡ world_marks w ++ record { at = length w.acks; letter = T } ∷ [] = taken-marks w (takeable w.waiting w.untold) now.1 (none_out w.out now.0) in (
         marks ∙ ap (λ n. world_marks (step w T) ++ marks_along n rest) same ∙ ap (λ ms. ms ++ marks_along (length w.acks) rest) first ∙ one_more (world_marks w) (marks_along (length w.acks) rest) (length w.acks) T,
         omega (arith, acks, same),
         λ below. within (omega (arith, same, below)),

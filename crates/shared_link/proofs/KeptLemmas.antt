@@ -205,7 +205,7 @@ module _ (times : List ℕ) (trace : IsTrace times) (link : FlowLink) (end past 
         ∙ ap (parts acks now (ack (length flight) (length (left_by (all_below (length packets)) flight))) (with_packets times link.delay_us (packets_of (left_by (all_below (length packets)) flight)) no_flight) (acked_of givens)) (add_comm (lost_of givens) (length flight))
         ∙ ap (λ acked. parts acks now (ack (length flight) (length (left_by (all_below (length packets)) flight))) (with_packets times link.delay_us (packets_of (left_by (all_below (length packets)) flight)) no_flight) acked (length flight + lost_of givens)) (let e : acked_of givens ≡ 0 + acked_of givens = omega arith in e)
 
-    -- what these givens come to
+    -- what these givens mean
     abbrev come_to : List GivenAck → AnsweredFlow
     come_to more = record { acks = acks ++ acks_of_givens more; standing = flow_standing times link packets (with_givens more givens) }
 

@@ -22,7 +22,7 @@ acks-length (given ∷ rest) = ap suc (acks-length rest)
 
 -- ---- how small
 
--- so many packets at most, and the bytes of a segment at most
+-- how many packets at most, and how many bytes a segment at most
 abbrev pub IsSmall : ℕ → Ack → Type 0
 IsSmall most ack = (ack.lost_pkts_sample ≤ most) × (ack.bytes_acked ≤ 65535)
 

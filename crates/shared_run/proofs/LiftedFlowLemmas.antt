@@ -16,7 +16,7 @@ use Rattle.flow_core.specs.States.{some_count}
 use Rattle.flow_core.specs.Lift.{Placing, place_in, map_failure, map_taken, map_world}
 use Rattle.flow_core.specs.LettersLeft.{letters_left}
 use Rattle.flow_core.proofs.LiftLemmas.{lift}
-use Rattle.campaign_gate.specs.CampaignWord.{is_due}
+use Rattle.campaign_gate.specs.CampaignWord.{is_answer_due}
 use Rattle.campaign_gate.specs.CampaignRow.{window_of, row_over}
 use Rattle.campaign_gate.proofs.SourceReadings.{late-placed, some-placed, none-placed, can-placed, track-placed, row-placed}
 use Rattle.shared_run.specs.LiftedFlow.{FlowHoldsForSources}
@@ -63,7 +63,7 @@ module _ (case : Case) (ss ca : Form) (ss_places ca_places : List Place)
 
   -- ---- letters
 
-  due-placed : (w : World ℕ) → is_due codes case.lag w ≡ is_due sources case.lag (map_world place w)
+  due-placed : (w : World ℕ) → is_answer_due codes case.lag w ≡ is_answer_due sources case.lag (map_world place w)
   due-placed w =
       λ i. if nat_lt (length w.acks) case.acks then late-placed place case.lag (length w.acks) w.out i else some-placed place w.out i
 
@@ -84,7 +84,7 @@ module _ (case : Case) (ss ca : Form) (ss_places ca_places : List Place)
   like-lifted : AreLike case.lag codes sources
   like-lifted = record {
     window = window-lifts;
-    due = λ acks word. due-placed (by_code acks word) ∙ ap (λ (w : World Place). is_due sources case.lag w) (worlds-lift acks word);
+    due = λ acks word. due-placed (by_code acks word) ∙ ap (λ (w : World Place). is_answer_due sources case.lag w) (worlds-lift acks word);
     takes = λ acks word. takes-placed (by_code acks word) ∙ ap (λ (w : World Place). is_legal sources w T) (worlds-lift acks word);
     answers = λ acks word. some-placed place (by_code acks word).out ∙ ap (λ (w : World Place). is_legal sources w C) (worlds-lift acks word);
     left = λ acks word. left-placed (by_code acks word) ∙ ap (λ (w : World Place). letters_left sources w) (worlds-lift acks word);

@@ -10,7 +10,7 @@ use Rattle.flow_core.specs.World.{World}
 use Rattle.flow_core.specs.Words.{from_list, world_over, is_legal}
 use Rattle.flow_core.specs.WordLaws.{world_over-append}
 use Rattle.flow_core.specs.Cores.{CoreState}
-use Rattle.campaign_gate.specs.CampaignWord.{is_due, first_letter}
+use Rattle.campaign_gate.specs.CampaignWord.{is_answer_due, first_letter}
 use Rattle.campaign_gate.specs.CampaignRow.{window_of, peak_from, row_over}
 use Rattle.flow_core.specs.LettersLeft.{letters_left}
 use Rattle.shared_run.specs.RoundLetters.{CaseReading, with_ack, settling_letter, with_next, settled_in, after_settling, with_settled_ack, round_part}
@@ -22,7 +22,7 @@ use Rattle.shared_run.proofs.TurnLemmas.{settled-case}
 -- left, and both have one row
 pub record AreLike {X Y : Type 0} (lag : ℕ) (flow : Flow X) (other : Flow Y) : Type 0 where
   pub window : (acks : List Ack) (word : List Letter) → window_of flow (world_over flow acks word) ≡ window_of other (world_over other acks word)
-  pub due : (acks : List Ack) (word : List Letter) → is_due flow lag (world_over flow acks word) ≡ is_due other lag (world_over other acks word)
+  pub due : (acks : List Ack) (word : List Letter) → is_answer_due flow lag (world_over flow acks word) ≡ is_answer_due other lag (world_over other acks word)
   pub takes : (acks : List Ack) (word : List Letter) → is_legal flow (world_over flow acks word) T ≡ is_legal other (world_over other acks word) T
   pub answers : (acks : List Ack) (word : List Letter) → is_legal flow (world_over flow acks word) C ≡ is_legal other (world_over other acks word) C
   pub left : (acks : List Ack) (word : List Letter) → letters_left flow (world_over flow acks word) ≡ letters_left other (world_over other acks word)

@@ -12,7 +12,7 @@ use Rattle.agent_core.specs.Agents.{replied}
 use Rattle.flow_core.specs.declared.case.Case.{Case}
 use Rattle.flow_core.specs.declared.letter.Letter.TheVariants.{A, T, C}
 use Rattle.flow_core.specs.Readings.{Flow, over_codes}
-use Rattle.flow_core.specs.World.{Failure, Content, Taken, World, opening, taking, after_ack, with_taken, after_take, told_as, with_turn, answer_applied, after_answer}
+use Rattle.flow_core.specs.World.{Failure, Content, Taken, World, opening, takeable, after_ack, with_taken, after_take, told_as, with_turn, answer_applied, after_answer}
 use Rattle.flow_core.specs.Words.{from_list, can_take, is_legal}
 use Rattle.flow_core.specs.WordLaws.{acks_in-A, acks_in-T, acks_in-C, world_over-append}
 use Rattle.flow_core.specs.Cores.{CoreState}
@@ -91,7 +91,7 @@ module _ (core : CoreState) (count greatest : ℕ) (on : IsOnWay core count grea
         within = on.within;
         taken =
             subst (TakenAt (length before.acks)) (sym world)
-            (taken-takes (taking before.waiting before.untold) before (can-take before.out (can_take before) may));
+            (taken-takes (takeable before.waiting before.untold) before (can-take before.out (can_take before) may));
         peak =
             is ∙ ap (λ (n : ℕ). max n (window_of flow (world_of_core over_codes (with_letter T core)))) on.peak
             ∙ sym (peak-append flow (from_list core.acks) core.word T (opening flow));

@@ -8,7 +8,7 @@ use Rattle.flow_core.specs.Readings.{Flow}
 use Rattle.flow_core.specs.World.{World}
 use Rattle.flow_core.specs.Words.{world_over, is_legal}
 use Rattle.flow_core.specs.Cores.{CoreState}
-use Rattle.campaign_gate.specs.CampaignWord.{is_due, first_letter}
+use Rattle.campaign_gate.specs.CampaignWord.{is_answer_due, first_letter}
 use Rattle.flow_core.specs.LettersLeft.{letters_left}
 
 -- a reading of cases: over their codes, or over the sources of programs
@@ -36,7 +36,7 @@ with_letter letter core = record { case = core.case; acks = core.acks; word = co
 -- whether an answer comes next: on the way where it is due, as in the campaign word, and at the run's end where a ticket
 -- is out
 abbrev pub is_answered : {X : Type 0} → Bool → CaseReading X → CoreState → Bool
-is_answered false read core = is_due (read core.case) core.case.lag (world_of_core read core)
+is_answered false read core = is_answer_due (read core.case) core.case.lag (world_of_core read core)
 is_answered true read core = is_legal (read core.case) (world_of_core read core) C
 
 -- the next letter without an acknowledgement: C where an answer comes next, else T where it is legal

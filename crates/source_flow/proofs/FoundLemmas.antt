@@ -5,7 +5,7 @@ use Rattle.portus_core.specs.Programs.{Form}
 use Rattle.portus_core.specs.ProgramForm.{form_of}
 use Rattle.reg_compiler.specs.declared.built.Built.{Built}
 use Rattle.flow_core.specs.LiveText.{source_at, sources_of}
-use Rattle.source_flow.specs.Sourced.{built_at}
+use Rattle.source_flow.specs.Sourced.{built_numbered}
 
 found-by : (test : Bool) (one built : Built) (later : Option Built) (rest : Form)
     → (if test then Some one else later) ≡ Some built → (later ≡ Some built → rest ≡ form_of built.program)
@@ -15,10 +15,10 @@ found-by true one built later rest is next = ap (λ (b : Built). form_of b.progr
   one_some left right e = cc
 found-by false one built later rest is next = next is
 
-pub source-found : (programs : List (ℕ × Built)) (number : ℕ) (built : Built) → built_at programs number ≡ Some built
+pub source-found : (programs : List (ℕ × Built)) (number : ℕ) (built : Built) → built_numbered programs number ≡ Some built
     → source_at (sources_of programs) number ≡ form_of built.program
 source-found [] number built is = absurd (none_some built is) where
   none_some : (b : Built) → None ≡ Some b → ⊥
   none_some b e = cc
 source-found (one ∷ rest) number built is =
-    found-by (one.0 == number) one.1 built (built_at rest number) (source_at (sources_of rest) number) is (source-found rest number built)
+    found-by (one.0 == number) one.1 built (built_numbered rest number) (source_at (sources_of rest) number) is (source-found rest number built)

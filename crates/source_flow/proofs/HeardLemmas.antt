@@ -17,11 +17,11 @@ use Rattle.source_flow.specs.declared.source_case.SourceCase.{SourceCase}
 use Rattle.source_flow.specs.declared.state.Present.{Present}
 use Rattle.source_flow.specs.declared.state.State.{State}
 use Rattle.source_flow.specs.SourceAccounts.{failure_of}
-use Rattle.source_flow.specs.SourceStates.{form_at, flow_over_sources, KeptFlow, seen, kept_of, IsAt}
-use Rattle.source_flow.specs.SourceSteps.{present_track, failures_in, untold_by, PutDown}
+use Rattle.source_flow.specs.SourceStates.{form_at, flow_over_sources, KeptFlow, kept_flow_in, kept_flow_of, IsAt}
+use Rattle.source_flow.specs.SourceSteps.{present_track, failures_heard, untold_by, PutDown}
 use Rattle.source_flow.proofs.StateLemmas.{epoch_lines-last, time-append}
 
--- ---- what an outcome comes to depends on where the span begins and on the count alone
+-- ---- the record of an outcome depends only on where the span begins and on the count
 
 first-same : (outcome : Outcome Cause) (one other : Track) → one.first ≡ other.first → one.count ≡ other.count
     → next_first outcome one ≡ next_first outcome other
@@ -99,7 +99,7 @@ module _ (source : SourceCase) (s : State) (w : World Place) (at : IsAt (flow_ov
       first-old : s.present.first ≡ (track_of flow w).first
       first-old = ap (λ (k : KeptFlow). k.first) at.kept
 
-      failures-same : failures_in between ack outcome ≡ failures_met w.present.program (length w.past) (track_of flow w).count ack (outcome, env)
+      failures-same : failures_heard between ack outcome ≡ failures_met w.present.program (length w.past) (track_of flow w).count ack (outcome, env)
       failures-same = λ i. failures_met (at.kept i).program (at.kept i).epoch (count-same i) ack (outcome, env)
 
       kept-first : put.present.first ≡ (track_of flow next).first
@@ -127,7 +127,7 @@ module _ (source : SourceCase) (s : State) (w : World Place) (at : IsAt (flow_ov
       acks-same : put.acks + 1 ≡ length next.acks
       acks-same = ap (λ (p : State). p.acks + 1) down.frame ∙ ap (λ (k : KeptFlow). k.acks + 1) at.kept ∙ sym (length-append w.acks (ack ∷ []))
 
-      kept-heard : seen final ≡ kept_of flow next
+      kept-heard : kept_flow_in final ≡ kept_flow_of flow next
       kept-heard = λ i. record {
         program = (ap (λ (p : Present). p.program) down.present ∙ ap (λ (k : KeptFlow). k.program) at.kept) i;
         epoch = (ap (λ (p : Present). p.number) down.present ∙ ap (λ (k : KeptFlow). k.epoch) at.kept) i;

@@ -21,7 +21,7 @@ use Rattle.source_flow.specs.declared.source_case.SourceCase.{SourceCase}
 use Rattle.source_flow.specs.declared.state.Issued.{Issued}
 use Rattle.source_flow.specs.declared.state.Present.{Present}
 use Rattle.source_flow.specs.declared.state.State.{State}
-use Rattle.source_flow.specs.SourceStates.{form_at, flow_over_sources, KeptFlow, seen, kept_of, issued_as, IsAt, IsSourceSound}
+use Rattle.source_flow.specs.SourceStates.{form_at, flow_over_sources, KeptFlow, kept_flow_in, kept_flow_of, issued_as, IsAt, IsSourceSound}
 use Rattle.source_flow.specs.SourceSteps.{Changed, Obeyed}
 use Rattle.source_flow.proofs.StateLemmas.{epoch_lines-last, epoch_lines-more}
 
@@ -38,10 +38,10 @@ module _ (source : SourceCase) (s : State) (w : World Place) (at : IsAt (flow_ov
       let next : World Place = with_reply flow agent (Update cwnd) w in
       let track : track_of flow next ≡ record (track_of flow w) { env = record (track_of flow w).env { cwnd = cwnd } } =
       after-append (flow.reading w.present.program) w.present.events (updated (values_of agent (Update cwnd)) ∷ []) _ in
-      let kept : seen new ≡ kept_of flow next =
-      ap seen obeyed
+      let kept : kept_flow_in new ≡ kept_flow_of flow next =
+      ap kept_flow_in obeyed
       ∙ (λ i. record (at.kept i) { env = record (at.kept i).env { cwnd = cwnd } })
-      ∙ (λ i. record (kept_of flow w) {
+      ∙ (λ i. record (kept_flow_of flow w) {
         env = (sym track i).env;
         is_stopped = (sym track i).is_stopped;
         first = (sym track i).first;
@@ -67,7 +67,7 @@ module _ (source : SourceCase) (s : State) (w : World Place) (at : IsAt (flow_ov
       changed.epochs ∙ (λ i. (at.kept i).epochs ++ line i ∷ []) ∙ sym (epoch_lines-more w.past w.present next.present) in
       let number : s.present.number + 1 ≡ length next.past =
       ap (λ (k : KeptFlow). k.epoch + 1) at.kept ∙ sym (more w.past) in
-      let kept : seen new ≡ kept_of flow next = λ i. record {
+      let kept : kept_flow_in new ≡ kept_flow_of flow next = λ i. record {
         program = (ap (λ (p : Present). p.program) changed.present) i;
         epoch = (ap (λ (p : Present). p.number) changed.present ∙ number) i;
         env = first i;
@@ -81,7 +81,7 @@ module _ (source : SourceCase) (s : State) (w : World Place) (at : IsAt (flow_ov
         out = (ap (λ (p : State). p.out) changed.frame ∙ ap (λ (k : KeptFlow). k.out) at.kept) i;
         tickets = (ap (λ (p : State). p.tickets) changed.frame ∙ ap (λ (k : KeptFlow). k.tickets) at.kept) i;
         epochs = epochs i;
-        faults = (ap (λ (p : State). (seen p).faults) changed.frame ∙ ap (λ (k : KeptFlow). k.faults) at.kept) i;
+        faults = (ap (λ (p : State). (kept_flow_in p).faults) changed.frame ∙ ap (λ (k : KeptFlow). k.faults) at.kept) i;
         held = (ap (λ (p : State). p.held) changed.frame ∙ ap (λ (k : KeptFlow). k.held) at.kept) i;
       } in
       record {
@@ -140,7 +140,7 @@ module _ (source : SourceCase) (s : State) (w : World Place) (at : IsAt (flow_ov
     at-closed =
         let agents : agent ≡ turn.0 = ap (λ (pair : Agent × Reply). pair.0) turn-same in
         record {
-          kept = ap seen framed ∙ (λ i. record (at.kept i) { agent = agents i; out = None; tickets = tickets-same i });
+          kept = ap kept_flow_in framed ∙ (λ i. record (at.kept i) { agent = agents i; out = None; tickets = tickets-same i });
           count = at.count;
           stands = subst (λ (l : LinkState). Stands l w.windows) (sym (ap (λ (p : State). p.link) framed)) at.stands;
         }

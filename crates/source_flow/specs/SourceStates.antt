@@ -59,8 +59,8 @@ pub record KeptFlow : Type 0 where
   pub faults : List (Failure Place)
   pub held : ℕ
 
-abbrev pub seen : State → KeptFlow
-seen s = record {
+abbrev pub kept_flow_in : State → KeptFlow
+kept_flow_in s = record {
   program = s.present.program;
   epoch = s.present.number;
   env = s.present.env;
@@ -81,8 +81,8 @@ seen s = record {
 abbrev pub issued_as : {X : Type 0} → Flow X → Taken X → Issued
 issued_as flow ticket = record { told = told_as flow ticket.told; taken = ticket.taken }
 
-abbrev pub kept_of : Flow Place → World Place → KeptFlow
-kept_of flow w = record {
+abbrev pub kept_flow_of : Flow Place → World Place → KeptFlow
+kept_flow_of flow w = record {
   program = w.present.program;
   epoch = length w.past;
   env = (track_of flow w).env;
@@ -102,7 +102,7 @@ kept_of flow w = record {
 
 -- what is kept is that of this state, and the link has given its acknowledgements
 pub record IsAt (flow : Flow Place) (s : State) (w : World Place) : Type 0 where
-  pub kept : seen s ≡ kept_of flow w
+  pub kept : kept_flow_in s ≡ kept_flow_of flow w
   pub count : (track_of flow w).count ≡ length w.acks
   pub stands : Stands s.link w.windows
 

@@ -35,8 +35,8 @@ abbrev pub present_track : State → Track
 present_track s = record { env = s.present.env; is_stopped = s.present.is_stopped; first = s.present.first; count = s.acks }
 
 -- the fault of an outcome, or none
-abbrev pub failures_in : State → Ack → Outcome Cause → List (Failure Place)
-failures_in s ack outcome = failures_met s.present.program s.present.number s.acks ack (outcome, s.present.env)
+abbrev pub failures_heard : State → Ack → Outcome Cause → List (Failure Place)
+failures_heard s ack outcome = failures_met s.present.program s.present.number s.acks ack (outcome, s.present.env)
 
 -- what the notice of a fault of a flow says; a place has no index
 abbrev pub notice_by : ℕ → Failure Place → Notice
@@ -81,8 +81,8 @@ pub record PutDown (flow : ℕ) (old new : State) (ack : Ack) (outcome : Outcome
   pub waiting :
       new.waiting.items
       ≡ old.waiting.items ++ reports_met (reporter flow old) (present_track old) ack outcome old.present.env
-  pub untold : new.untold ≡ untold_by flow (failures_in old ack outcome) old.untold
-  pub faults : map failure_of new.faults ≡ map failure_of old.faults ++ failures_in old ack outcome
+  pub untold : new.untold ≡ untold_by flow (failures_heard old ack outcome) old.untold
+  pub faults : map failure_of new.faults ≡ map failure_of old.faults ++ failures_heard old ack outcome
   pub held : new.held ≡ old.held + held_met outcome
 
 -- the notice that is left after a ticket with the oldest report, or else the notice

@@ -7,9 +7,9 @@ use Rattle.flow_core.specs.declared.case.Case.{Case}
 use Rattle.flow_core.specs.declared.case.Coded.{Coded}
 
 -- the first program with this number, or none
-abbrev pub built_at : List (ℕ × Built) → ℕ → Option Built
-built_at [] number = None
-built_at (one ∷ rest) number = if one.0 == number then Some one.1 else built_at rest number
+abbrev pub built_numbered : List (ℕ × Built) → ℕ → Option Built
+built_numbered [] number = None
+built_numbered (one ∷ rest) number = if one.0 == number then Some one.1 else built_numbered rest number
 
 -- the role's code, with the places there, simulates this program
 abbrev pub SimulatedBy : Coded → Option Built → Type 0
@@ -18,5 +18,5 @@ SimulatedBy coded (Some built) = Simulates (form_of built.program) coded.code.co
 
 -- each program that the case's roles name is one of these, and the role's code simulates it
 pub record IsSourced (programs : List (ℕ × Built)) (case : Case) : Type 0 where
-  pub ss : SimulatedBy case.ss (built_at programs case.ss.role.number)
-  pub ca : SimulatedBy case.ca (built_at programs case.ca.role.number)
+  pub ss : SimulatedBy case.ss (built_numbered programs case.ss.role.number)
+  pub ca : SimulatedBy case.ca (built_numbered programs case.ca.role.number)

@@ -1,7 +1,7 @@
 //! A case with the source programs of its two roles, by their numbers.
 ghost use Rattle.std.specs.Prelude.{◌≡◌, option_map};
 ghost use Rattle.portus_core.specs.ProgramForm.{form_of};
-ghost use Rattle.source_flow.specs.Sourced.{built_at};
+ghost use Rattle.source_flow.specs.Sourced.{built_numbered};
 ghost use Rattle.source_flow.specs.SourceStates.{form_at};
 
 use flow_core::Case;
@@ -33,7 +33,7 @@ impl<'a> SourceCase<'a> {
 
 /// The first program with this number, None exactly where there is none.
 pub(crate) fn built_at(programs: &[(u32, Built)], number: u32) -> Option<&Built>
-    ensures { option_map (λ built. built.now) result ≡ built_at programs.now number }
+    ensures { option_map (λ built. built.now) result ≡ built_numbered programs.now number }
 {
     let mut left = programs;
     while let Some((first, rest)) = left.split_first() {

@@ -31,7 +31,7 @@ pub fn read_audit<S: Source>(alloc: Global, source: &mut S) -> Result<ModeOutput
     audit_output(alloc, bytes.as_slice())
 }
 
-/// What is said of the text below the separator as the live text of the scenario above it, or the first refusal: of the
+/// The verdict on the text below the separator as the live text of the scenario above it, or the first refusal: of the
 /// separator, of the length before it, of the scenario.
 fn audit_output(alloc: Global, bytes: &[u8]) -> Result<ModeOutput, Stop>
     ensures { IsOutputOrRefusal (Task.Alone Alone.Audit) bytes.now result }
@@ -47,7 +47,7 @@ fn audit_output(alloc: Global, bytes: &[u8]) -> Result<ModeOutput, Stop>
     Ok(verdict_output(alloc, verdict)?)
 }
 
-/// What is said of a text as the live text of a scenario.
+/// The verdict on a text as the live text of a scenario.
 fn judge(alloc: Global, scene: &Scenario, text: &[u8]) -> Result<Verdict, NoMemory>
     requires few { length scene.now.cases ≤ most_flows }
     requires numbered { AreNumberedFrom 0 scene.now.programs }

@@ -1,7 +1,7 @@
 use Rattle.std.proofs.Common.{sym, ◌∙◌}
 use Rattle.flow_core.specs.declared.letter.Letter.TheVariants.{A, T, C}
 use Rattle.flow_core.specs.Cells.{CellState, flow_at, world_at}
-use Rattle.campaign_gate.specs.CaseRuns.{IsNext}
+use Rattle.campaign_gate.specs.CaseRuns.{IsNextLetter}
 use Rattle.campaign_gate.proofs.PlanLemmas.{next-C, next-T, next-A}
 use Rattle.campaign_gate.proofs.CaseRunLemmas.{onward, on-ok}
 use Rattle.campaign_gate.proofs.case_run.CaseRun.make_next.Goals as goal
@@ -42,7 +42,7 @@ returns-then-is_due g c =
     let old = c.args.self.now in
     let on = c.requires.on in
     let cell : CellState = record { case = g.F.CampaignFlow.case_of old.flow; word = on.word } in
-    let next : IsNext g.F.CampaignFlow.at cell.case old.flow old.tally C =
+    let next : IsNextLetter g.F.CampaignFlow.at cell.case old.flow old.tally C =
     record { on = on; next = next-C (flow_at cell) cell.case.lag (world_at cell) (sym (c.is_due.ensures cell on.after on.taken) ∙ c.if-is_due.true) } in
     let new = c.settle.new.self in
     onward g.F.CampaignFlow.at cell.case old.flow old.tally C next new.flow new.tally c.settle.ensures
@@ -53,7 +53,7 @@ returns-then-may_take g c =
     let old = c.args.self.now in
     let on = c.requires.on in
     let cell : CellState = record { case = g.F.CampaignFlow.case_of old.flow; word = on.word } in
-    let next : IsNext g.F.CampaignFlow.at cell.case old.flow old.tally T =
+    let next : IsNextLetter g.F.CampaignFlow.at cell.case old.flow old.tally T =
     record { on = on; next = next-T (flow_at cell) cell.case.lag (world_at cell) (sym (c.is_due.ensures cell on.after on.taken) ∙ c.if-is_due.false) (sym (c.may_take.ensures cell on.after) ∙ c.if-may_take.true) } in
     let new = c.take.new.self in
     on-ok c.take.result
@@ -66,7 +66,7 @@ returns g c =
     let old = c.args.self.now in
     let on = c.requires.on in
     let cell : CellState = record { case = g.F.CampaignFlow.case_of old.flow; word = on.word } in
-    let next : IsNext g.F.CampaignFlow.at cell.case old.flow old.tally A =
+    let next : IsNextLetter g.F.CampaignFlow.at cell.case old.flow old.tally A =
     record { on = on; next = next-A (flow_at cell) cell.case.lag (world_at cell) (sym (c.is_due.ensures cell on.after on.taken) ∙ c.if-is_due.false) (sym (c.may_take.ensures cell on.after) ∙ c.if-may_take.false) (c.requires.open cell on.after) } in
     let new = c.hear.new.self in
     on-ok c.hear.result

@@ -1,7 +1,7 @@
 use Rattle.std.proofs.Common.{◌≡◌, ◌∙◌, ℕ, List, map, rules, ap, sym, subst}
 use Rattle.std.specs.List.{All}
 use Rattle.reg_compiler.specs.declared.built.Built.{Built}
-use Rattle.campaign_gate.specs.CampaignRow.{row_of}
+use Rattle.campaign_gate.specs.CampaignRow.{case_row}
 use Rattle.campaign_report.specs.TableText.{soak_text}
 use Rattle.scenario_json.specs.Cases.{plan_of, IsCoded}
 use Rattle.scenario_json.specs.Scene.{scene_with}
@@ -17,7 +17,7 @@ returns g c =
     let cases = c.in_ok-scene.scene.cases in
     let number = c.args.number in
     let made = c.with_programs.ensures in
-    let rows : c.in_ok-rows.rows ≡ map row_of cases = search rules in
+    let rows : c.in_ok-rows.rows ≡ map case_row cases = search rules in
     let text : c.in_ok-text.text ≡ soak_text number c.in_ok-rows.rows = search rules in
     record {
       cases = cases;
