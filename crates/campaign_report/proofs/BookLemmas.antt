@@ -19,7 +19,7 @@ use Rattle.flow_core.specs.Words.{acks_in}
 use Rattle.flow_core.specs.World.{Era, Answered, World, told_as, track_of}
 use Rattle.flow_core.proofs.LinkWordLemmas.{length-world}
 use Rattle.campaign_report.specs.BookText.{account_in, book_text, books_text, end_in, last_program}
-use Rattle.campaign_report.specs.BooksRead.{answered_of, content_of, flows_of, IsRead, read_flow, read_world}
+use Rattle.campaign_report.specs.BooksRead.{answered_of, content_of, flows_of, IsBookRead, read_flow, read_world}
 
 last_program-present : (program : ℕ) (past : List Era) (present : Era) → last_program program (map epoch_line (past ++ present ∷ [])) ≡ present.program
 last_program-present program [] present = refl
@@ -64,7 +64,7 @@ module _ (programs : List (ℕ × Built)) (case : Case) (flow : Flow Place) wher
       ⧺ tickets-shown 0 tickets i
       ⧺ last_line (fields_at texts account.program) (counts-shown tickets i) account.held (length account.faults) account.end
 
-module _ (programs : List (ℕ × Built)) (book : Book) (told : IsRead programs book) where
+module _ (programs : List (ℕ × Built)) (book : Book) (told : IsBookRead programs book) where
   abbrev flow : Flow Place
   flow = read_flow programs book
 
@@ -109,7 +109,7 @@ module _ (programs : List (ℕ × Built)) (book : Book) (told : IsRead programs 
       ∙ ap (λ (ts : List (Answered Place)). account_text (sources_of programs) book.case (record (account_of flow w) { tickets = map (ticket_line flow) ts })) told.tickets
 
 -- and so are those of books in order
-pub books-live : (programs : List (ℕ × Built)) (books : List Book) → All (IsRead programs) books
+pub books-live : (programs : List (ℕ × Built)) (books : List Book) → All (IsBookRead programs) books
     → books_text programs books ≡ live_text (sources_of programs) (flows_of books)
 books-live programs [] told = refl
 books-live programs (book ∷ rest) told =

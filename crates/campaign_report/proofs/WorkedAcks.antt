@@ -1,27 +1,13 @@
 -- Lines of acknowledgements, worked out: one of a flow that loses nothing, a timeout, and one at time zero.
-use Rattle.std.specs.Prelude.{◌≡◌, refl, true, false, [], codes, decimal}
+use Rattle.std.specs.Prelude.{◌≡◌, refl, true, [], codes, decimal, replicate}
 use Rattle.ccp_base.specs.declared.ack.Ack.{Ack}
+use Rattle.ccp_base.specs.Acknowledgement.{ack_of}
+use Rattle.ccp_base.specs.Limits.{primitive_count}
 use Rattle.ccp_base.specs.Text.{◌⧺◌}
 use Rattle.campaign_report.specs.AcksText.{ack_line}
 
 abbrev no_ack : Ack
-no_ack = record {
-  bytes_acked = 0;
-  packets_acked = 0;
-  bytes_misordered = 0;
-  packets_misordered = 0;
-  ecn_bytes = 0;
-  ecn_packets = 0;
-  lost_pkts_sample = 0;
-  now = 0;
-  bytes_in_flight = 0;
-  packets_in_flight = 0;
-  bytes_pending = 0;
-  rate_incoming = 0;
-  rate_outgoing = 0;
-  rtt_sample_us = 0;
-  was_timeout = false;
-}
+no_ack = ack_of (replicate primitive_count 0)
 
 first-line : ack_line (record no_ack {
   bytes_acked = 1448;

@@ -17,9 +17,9 @@ use Rattle.flow_core.specs.World.{Failure}
 -- ---- programs by their numbers
 
 -- the places of the first program with this number
-abbrev pub places_of : List (ℕ × Built) → ℕ → List Place
-places_of [] number = []
-places_of (program ∷ rest) number = if program.0 == number then program.1.places else places_of rest number
+abbrev pub program_places : List (ℕ × Built) → ℕ → List Place
+program_places [] number = []
+program_places (program ∷ rest) number = if program.0 == number then program.1.places else program_places rest number
 
 -- ---- the account of a book
 
@@ -30,11 +30,11 @@ last_program program (epoch ∷ rest) = last_program epoch.program rest
 
 -- the places of the program with this number, which is one of the case's two
 abbrev pub places_in : List (ℕ × Built) → Case → ℕ → List Place
-places_in programs case = by_number case (places_of programs case.ss.role.number) (places_of programs case.ca.role.number)
+places_in programs case = by_number case (program_places programs case.ss.role.number) (program_places programs case.ca.role.number)
 
 -- a fault, with the place of its instruction
-abbrev pub failure_of : List (ℕ × Built) → Case → Notice → Failure Place
-failure_of programs case notice = record {
+abbrev pub placed_failure : List (ℕ × Built) → Case → Notice → Failure Place
+placed_failure programs case notice = record {
   program = notice.program;
   epoch = notice.epoch;
   at = notice.at;
@@ -58,7 +58,7 @@ end_in book = record {
 abbrev pub account_in : List (ℕ × Built) → Book → Account
 account_in programs book = record {
   epochs = book.epochs;
-  faults = map (failure_of programs book.case) book.faults;
+  faults = map (placed_failure programs book.case) book.faults;
   tickets = book.tickets;
   held = book.held;
   program = last_program 0 book.epochs;

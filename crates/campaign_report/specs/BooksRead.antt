@@ -14,12 +14,12 @@ use Rattle.flow_core.specs.LiveText.{flow_from, live_text, sources_of}
 use Rattle.flow_core.specs.Readings.{Flow, env_of}
 use Rattle.flow_core.specs.Words.{world}
 use Rattle.flow_core.specs.World.{Content, of_report, of_failure, Answered, World, track_of}
-use Rattle.campaign_report.specs.BookText.{failure_of}
+use Rattle.campaign_report.specs.BookText.{placed_failure}
 
 -- the content of a ticket, where a fault has the place of its instruction
 abbrev pub content_of : List (ℕ × Built) → Case → Told → Content Place
 content_of programs case (Report report) = of_report report
-content_of programs case (Fault notice) = of_failure (failure_of programs case notice)
+content_of programs case (Fault notice) = of_failure (placed_failure programs case notice)
 
 abbrev pub answered_of : List (ℕ × Built) → Case → TicketLine → Answered Place
 answered_of programs case ticket = record {
@@ -39,10 +39,10 @@ read_world programs book = world (read_flow programs book) book.case.link book.w
 
 -- the book's tickets, epochs, faults, held number and registers are those of that state, each fault with the place of
 -- its instruction
-pub record IsRead (programs : List (ℕ × Built)) (book : Book) : Type 0 where
+pub record IsBookRead (programs : List (ℕ × Built)) (book : Book) : Type 0 where
   pub tickets : map (answered_of programs book.case) book.tickets ≡ (read_world programs book).answered
   pub epochs : book.epochs ≡ map epoch_line ((read_world programs book).past ++ (read_world programs book).present ∷ [])
-  pub faults : map (failure_of programs book.case) book.faults ≡ (read_world programs book).faults
+  pub faults : map (placed_failure programs book.case) book.faults ≡ (read_world programs book).faults
   pub held : book.held ≡ (read_world programs book).held
   pub first : book.first ≡ (track_of (read_flow programs book) (read_world programs book)).first
   pub registers : env_of book.machine.kept ≡ (track_of (read_flow programs book) (read_world programs book)).env

@@ -13,14 +13,14 @@ use Rattle.report_lines.specs.FaultLine.{fault_line}
 use Rattle.report_lines.specs.ReportLine.{report_lines}
 
 -- the line of a fault, where its instruction has a place
-abbrev pub placed_line : Notice → Option Place → List ℕ
-placed_line notice None = []
-placed_line notice (Some place) = fault_line notice.epoch notice.at notice.kind place
+abbrev pub placed_fault_line : Notice → Option Place → List ℕ
+placed_fault_line notice None = []
+placed_fault_line notice (Some place) = fault_line notice.epoch notice.at notice.kind place
 
 -- the line of a fault or none, each instruction having one of these places
 abbrev pub notice_line : List Place → Option Notice → List ℕ
 notice_line places None = []
-notice_line places (Some notice) = placed_line notice (slice_get places notice.index)
+notice_line places (Some notice) = placed_fault_line notice (slice_get places notice.index)
 
 -- reports and the fault in order of acknowledgements, which is that order since a fault stops the program, and the end
 abbrev pub fold_text : List Decl → List Place → List Report → Option Notice → End → List ℕ

@@ -3,8 +3,8 @@ ghost use Rattle.std.specs.Prelude.{◌≡◌, ◌++◌, IfOk, OnOk, map};
 ghost use Rattle.std.specs.List.{All};
 ghost use Rattle.flow_core.specs.LiveText.{account_end_line, epoch_lines, fault_lines, sources_of, ticket_lines};
 ghost use Rattle.flow_core.specs.Words.{acks_in};
-ghost use Rattle.campaign_report.specs.BookText.{account_in, book_text, books_text, end_in, failure_of, last_program};
-ghost use Rattle.campaign_report.specs.BooksRead.{IsRead, read_text};
+ghost use Rattle.campaign_report.specs.BookText.{account_in, book_text, books_text, end_in, placed_failure, last_program};
+ghost use Rattle.campaign_report.specs.BooksRead.{IsBookRead, read_text};
 
 use crate::programs::place_of;
 use ccp_base::{Bytes, NoMemory, Notice};
@@ -21,7 +21,7 @@ use std::alloc::Global;
 /// each book has the state after its word, read over the sources of the programs, it is the live text of these words.
 pub fn live_text(alloc: Global, books: &[Book], programs: &Builts) -> Result<Bytes, NoMemory>
     ensures text { IfOk result (λ text. text ≡ books_text programs.now books.now) }
-    ensures live { All (IsRead programs.now) books.now → IfOk result (λ text. text ≡ read_text programs.now books.now) }
+    ensures live { All (IsBookRead programs.now) books.now → IfOk result (λ text. text ≡ read_text programs.now books.now) }
 {
     let mut text = Bytes::new(alloc);
     put_books(alloc, &mut text, programs.as_slice(), books)?;
@@ -76,7 +76,7 @@ fn put_faults(
     case: &Case,
     faults: &[Notice],
 ) -> Result<(), NoMemory>
-    ensures { OnOk result (text.new ≡ text.old ++ fault_lines (map (failure_of programs.now case.now) faults.now)) }
+    ensures { OnOk result (text.new ≡ text.old ++ fault_lines (map (placed_failure programs.now case.now) faults.now)) }
 {
     let mut left = faults;
     while let Some((notice, rest)) = left.split_first() {

@@ -1,15 +1,15 @@
 //! The source places of programs' instructions, by the programs' numbers.
 ghost use Rattle.std.specs.Prelude.{◌≡◌};
 ghost use Rattle.flow_core.specs.Lift.{place_at};
-ghost use Rattle.campaign_report.specs.BookText.{places_in, places_of};
+ghost use Rattle.campaign_report.specs.BookText.{places_in, program_places};
 
 use ccp_base::Place;
 use flow_core::Case;
 use reg_compiler::Built;
 
 /// The places of the first program with this number; none if there is no such program.
-fn places_of<'a>(programs: &'a [(u32, Built)], number: u32) -> &'a [Place]
-    ensures { result.now ≡ places_of programs.now number }
+fn program_places<'a>(programs: &'a [(u32, Built)], number: u32) -> &'a [Place]
+    ensures { result.now ≡ program_places programs.now number }
 {
     let mut left = programs;
     while let Some((program, rest)) = left.split_first() {
@@ -26,9 +26,9 @@ fn places_in<'a>(programs: &'a [(u32, Built)], case: &Case, number: u32) -> &'a 
     ensures { result.now ≡ places_in programs.now case.now number }
 {
     if number == case.ss.role.number {
-        places_of(programs, case.ss.role.number)
+        program_places(programs, case.ss.role.number)
     } else {
-        places_of(programs, case.ca.role.number)
+        program_places(programs, case.ca.role.number)
     }
 }
 

@@ -2,7 +2,7 @@
 ghost use Rattle.std.specs.Prelude.{IfOk, map, string_bytes};
 ghost use Rattle.std.specs.Iterator.{IsFinite};
 ghost use Rattle.std.specs.Process.{exit_status};
-ghost use Rattle.ccp_run.specs.Streams.{over};
+ghost use Rattle.ccp_run.specs.Streams.{stream_change};
 ghost use Rattle.ccp.specs.Process.{IsExit, IsProcess, ReportsFault};
 
 use crate::words::{WordsFault, words};
@@ -34,9 +34,9 @@ pub fn run_process<
 ) -> ExitCode
     requires ends { IfOk given (λ words. I.can_next words × IsFinite (I.remaining words)) }
     ensures { IsProcess I.next_gives given
-        (over S.remaining S.faults source.old source.new)
-        (over K.written K.faults sink.old sink.new)
-        (over E.written E.faults errors.old errors.new) (K.is_finished sink.new) (exit_status result) }
+        (stream_change S.remaining S.faults source.old source.new)
+        (stream_change K.written K.faults sink.old sink.new)
+        (stream_change E.written E.faults errors.old errors.new) (K.is_finished sink.new) (exit_status result) }
 {
     match words(alloc, given) {
         Ok(words) => run_on(rt, alloc, words, source, sink, errors),
@@ -54,9 +54,9 @@ fn run_on<R: Threads + Wait + Sync, S: Source, K: Sink, E: Sink>(
     errors: &mut E,
 ) -> ExitCode
     ensures { IsExit (map string_bytes words.items)
-        (over S.remaining S.faults source.old source.new)
-        (over K.written K.faults sink.old sink.new)
-        (over E.written E.faults errors.old errors.new) (K.is_finished sink.new) (exit_status result) }
+        (stream_change S.remaining S.faults source.old source.new)
+        (stream_change K.written K.faults sink.old sink.new)
+        (stream_change E.written E.faults errors.old errors.new) (K.is_finished sink.new) (exit_status result) }
 {
     let outcome = run(rt, alloc, words, source, sink, errors, &OpenGate);
     ExitCode::from(outcome.status)
@@ -65,7 +65,7 @@ fn run_on<R: Threads + Wait + Sync, S: Source, K: Sink, E: Sink>(
 /// Reports why there are no words.
 #[tactic(auto, using(crate::proofs::ProcessLemmas::reports))]
 fn end_without_words<E: Sink>(alloc: Global, fault: WordsFault, errors: &mut E) -> ExitCode
-    ensures { ReportsFault fault (over E.written E.faults errors.old errors.new) (exit_status result) }
+    ensures { ReportsFault fault (stream_change E.written E.faults errors.old errors.new) (exit_status result) }
 {
     match fault {
         WordsFault::NotText => ExitCode::from(refuse_words(alloc, errors).status),

@@ -1,5 +1,5 @@
 //! Each read and each write of a run fails in turn, where a call takes 16 bytes.
-use crate::feeds::{MEASURE, REPORTING};
+use crate::feeds::{MEASURE, REPORTING, joined};
 use crate::runs::{FIRST_REPORT, FailingCalls, NONE_FAILS, ONE_CASE, run_on_words};
 use std::alloc::Global;
 use std::process::Abort;
@@ -37,10 +37,13 @@ const GIVEN: [Given<'static>; 4] = [
     },
 ];
 
-const FEED: Given<'static> = Given {
-    words: &["ccp", "feed"],
-    input: REPORTING,
-};
+/// A feed of this input.
+fn feed_of(input: &[u8]) -> Given<'_> {
+    Given {
+        words: &["ccp", "feed"],
+        input,
+    }
+}
 
 /// Whether a run whose read of this number fails ends so, and has written this.
 fn is_read_fault<R: Threads + Wait + Sync>(
@@ -137,30 +140,48 @@ fn each_read_and_each_write_fails(rt: HostRuntime) -> Result<(), Fail> {
     Ok(())
 }
 
-/// The 273 bytes come by 18 reads, and the report is answered before the next one.
-#[test]
-fn each_read_of_a_feed_fails(rt: HostRuntime) -> Result<(), Fail> {
-    for call in 0..18 {
-        assert!(rt;
-            is_read_fault(&rt, rt.alloc(), FEED, call, b"")?,
-            "read {call}"
-        );
+/// Lets each read of a feed fail: the report is answered before the last one, which finds the end.
+fn feed_reads_fail<R: Threads + Wait + Sync>(
+    rt: &R,
+    abort: &impl Abort,
+    alloc: Global,
+    given: Given<'_>,
+) -> Result<(), Fail> {
+    let reads = given.input.len().div_ceil(16) as u64;
+    for call in 0..reads {
+        assert!(abort; is_read_fault(rt, alloc, given, call, b"")?, "read {call}");
     }
-    assert!(rt;
-        is_read_fault(&rt, rt.alloc(), FEED, 18, MEASURE)?,
+    assert!(abort;
+        is_read_fault(rt, alloc, given, reads, MEASURE)?,
         "the last read"
     );
     Ok(())
 }
 
-/// Two flushes follow the four writes of the answer.
 #[test]
-fn each_write_of_a_feed_fails(rt: HostRuntime) -> Result<(), Fail> {
+fn each_read_of_a_feed_fails(rt: HostRuntime) -> Result<(), Fail> {
+    let input = joined(rt.alloc(), &REPORTING)?;
+    feed_reads_fail(&rt, &rt, rt.alloc(), feed_of(input.as_slice()))
+}
+
+/// Lets each write of a feed fail: two flushes follow the four writes of the answer.
+fn feed_writes_fail<R: Threads + Wait + Sync>(
+    rt: &R,
+    abort: &impl Abort,
+    alloc: Global,
+    given: Given<'_>,
+) -> Result<(), Fail> {
     for call in 0..6 {
-        assert!(rt;
-            is_write_fault(&rt, rt.alloc(), FEED, call, MEASURE)?,
+        assert!(abort;
+            is_write_fault(rt, alloc, given, call, MEASURE)?,
             "write {call}"
         );
     }
     Ok(())
+}
+
+#[test]
+fn each_write_of_a_feed_fails(rt: HostRuntime) -> Result<(), Fail> {
+    let input = joined(rt.alloc(), &REPORTING)?;
+    feed_writes_fail(&rt, &rt, rt.alloc(), feed_of(input.as_slice()))
 }

@@ -1,6 +1,5 @@
 -- The lines of acknowledgements are read by `fold` as these acknowledgements.
 use Rattle.std.proofs.Common.{◌≡◌, ℕ, zero, suc, ◌+◌, ◌-◌, ◌<◌, ◌≤◌, ◌^◌, Bool, true, false, not, ◌&&◌, ◌||◌, ◌==◌, nat_lt, Option, Some, None, Ok, Err, List, [], ◌∷◌, ◌++◌, length, take, drop, position, replicate, get_or, set, slice_get, decimal, refl, ap, sym, subst, ◌∙◌, arith, cond, length-append, append-nil, append_assoc}
-use Rattle.std.specs.Bool.{⊤}
 use Rattle.std.specs.List.{All, list_all, position_or_len}
 use Rattle.std.specs.Option.{option_and_then, option_map_or}
 use Rattle.std.proofs.Math.Seq.{take-append_seam, drop-append-add}
@@ -10,8 +9,8 @@ use Rattle.std.proofs.lemmas.List.{get_or-set_other}
 use Rattle.ccp_base.specs.declared.ack.Ack.{Ack}
 use Rattle.ccp_base.specs.declared.parts.Separator.{Separator}
 use Rattle.ccp_base.specs.declared.parts.Separator.TheVariants.{LineFeed, Blank}
-use Rattle.ccp_base.specs.Acknowledgement.{primitives, prim, bool_number, is_flag, ack_of}
-use Rattle.ccp_base.specs.Limits.{most_acks}
+use Rattle.ccp_base.specs.Acknowledgement.{primitives, prim, bool_number, flag_number, is_flag, ack_of}
+use Rattle.ccp_base.specs.Limits.{most_acks, primitive_count}
 use Rattle.ccp_base.specs.Numerals.{is_digit, numeral_of}
 use Rattle.ccp_base.specs.Parts.{separates, parts_of, with_first, without_last}
 use Rattle.ccp_base.specs.PrimitiveNames.{PrimitiveName, primitive_names, value_named}
@@ -19,9 +18,10 @@ use Rattle.ccp_base.specs.Truth.{is_true}
 use Rattle.ccp_base.proofs.PartLemmas.{without_last-other}
 use Rattle.fold_run.specs.declared.acks.LineFault.TheVariants.{TooMany}
 use Rattle.fold_run.specs.declared.line_values.LineValues.{LineValues}
-use Rattle.fold_run.specs.AckLine.{AckLine, nothing, given, refused, no_values, with_line_value, with_item, with_one_word, with_each_word, given_or_refused, begins_blank, ends_blank, read_ack_line}
+use Rattle.fold_run.specs.AckLine.{AckLine, nothing, given, refused, no_values, with_line_value, with_named_value, with_one_word, with_each_word, given_or_refused, begins_blank, ends_blank, read_ack_line}
 use Rattle.fold_run.specs.Acknowledgements.{with_line, with_lines}
-use Rattle.campaign_report.specs.AcksText.{is_shown, gap, items_text, ack_line, ack_lines}
+use Rattle.fold_run.proofs.NameLemmas.{IsNamed, AreNamed, is_name_byte, all_named, first_named, rest_named}
+use Rattle.campaign_report.specs.AcksText.{now_number, is_shown, gap, items_text, ack_line, ack_lines}
 use Rattle.run_audit.proofs.NumeralLemmas.{numeral_of-decimal}
 use Rattle.run_audit.proofs.Pieces.{IsPlain, plain-append, plain-of, ended-part, decimal-digits}
 use Rattle.ccp_run.specs.TextLaws.{IsOf64Bits, ReadsAcksBack}
@@ -159,60 +159,23 @@ module _ (text : List ℕ) (tight : IsTight text) where
 
 -- ---- names
 
--- a name is found at its number, and stands in a word without an equals sign
-record IsNamed (number : ℕ) (known : PrimitiveName) : Type 0 where
-  found : value_named known.1 ≡ Some number
-  word : list_all in_word known.1 ≡ true
-  plain : list_all (λ byte. not (byte == 61)) known.1 ≡ true
+-- a byte of a name stands in a word, and is no equals sign
+name_in_word : (byte : ℕ) → is_name_byte byte ≡ true → in_word byte ≡ true
+name_in_word byte is =
+    and_from (not (separates Blank byte)) (not (separates LineFeed byte) && not (byte == 13)) (grind (arith, nat_tests, is))
+    (and_from (not (separates LineFeed byte)) (not (byte == 13)) (grind (arith, nat_tests, is)) (grind (arith, nat_tests, is)))
 
-abbrev AreNamed : ℕ → List PrimitiveName → Type 0
-AreNamed number [] = ⊤
-AreNamed number (known ∷ rest) = IsNamed number known × AreNamed (number + 1) rest
+word-name : (name : List ℕ) → list_all is_name_byte name ≡ true → IsWord name
+word-name [] are = refl
+word-name (b ∷ name) are =
+    let parts = and_parts (is_name_byte b) (list_all is_name_byte name) are in
+    and_from (in_word b) (list_all in_word name) (name_in_word b parts.0) (word-name name parts.1)
 
-all_named : AreNamed 0 primitive_names
-all_named = (
-  record { found = refl; word = refl; plain = refl },
-  (
-    record { found = refl; word = refl; plain = refl },
-    (
-      record { found = refl; word = refl; plain = refl },
-      (
-        record { found = refl; word = refl; plain = refl },
-        (
-          record { found = refl; word = refl; plain = refl },
-          (
-            record { found = refl; word = refl; plain = refl },
-            (
-              record { found = refl; word = refl; plain = refl },
-              (
-                record { found = refl; word = refl; plain = refl },
-                (
-                  record { found = refl; word = refl; plain = refl },
-                  (
-                    record { found = refl; word = refl; plain = refl },
-                    (
-                      record { found = refl; word = refl; plain = refl },
-                      (
-                        record { found = refl; word = refl; plain = refl },
-                        (
-                          record { found = refl; word = refl; plain = refl },
-                          (
-                            record { found = refl; word = refl; plain = refl },
-                            (record { found = refl; word = refl; plain = refl }, tt),
-                          ),
-                        ),
-                      ),
-                    ),
-                  ),
-                ),
-              ),
-            ),
-          ),
-        ),
-      ),
-    ),
-  ),
-)
+no-equals : (name : List ℕ) → list_all is_name_byte name ≡ true → list_all (λ byte. not (byte == 61)) name ≡ true
+no-equals [] are = refl
+no-equals (b ∷ name) are =
+    let parts = and_parts (is_name_byte b) (list_all is_name_byte name) are in
+    and_from (not (b == 61)) (list_all (λ byte. not (byte == 61)) name) (grind (arith, nat_tests, parts.0)) (no-equals name parts.1)
 
 -- ---- words of a line
 
@@ -229,9 +192,9 @@ module _ (ack : Ack) where
   words_from number (known ∷ rest) =
       cond (is_shown number (prim number ack)) (word_text known.1 (prim number ack) ∷ words_from (number + 1) rest) (words_from (number + 1) rest)
 
-  word_is : (number : ℕ) (known : PrimitiveName) → IsNamed number known → IsWord (word_text known.1 (prim number ack))
+  word_is : (number : ℕ) (known : PrimitiveName) → IsNamed number known.1 → IsWord (word_text known.1 (prim number ack))
   word_is number known is =
-      word-append known.1 (61 ∷ decimal (prim number ack)) is.word (word-digits (decimal (prim number ack)) (decimal-digits (prim number ack)))
+      word-append known.1 (61 ∷ decimal (prim number ack)) (word-name known.1 is.bytes) (word-digits (decimal (prim number ack)) (decimal-digits (prim number ack)))
 
   last_part : (text : List ℕ) → 0 < length text → IsPlain Blank text → parts_of Blank text ≡ text ∷ []
   last_part [] some plain = absurd (omega (arith, some))
@@ -248,7 +211,7 @@ module _ (ack : Ack) where
       → parts_of Blank (word ++ items_text true number names ack) ≡ word ∷ words_from number names
   parts_after number [] are word some plain = ap (parts_of Blank) (append-nil word) ∙ last_part word some plain
   parts_after number (known ∷ rest) are word some plain =
-      go (parts_after (number + 1) rest are.1) (is_shown number (prim number ack))
+      go (parts_after (number + 1) rest (rest_named are)) (is_shown number (prim number ack))
     where
       next : List ℕ
       next = word_text known.1 (prim number ack)
@@ -258,13 +221,13 @@ module _ (ack : Ack) where
           ≡ word ∷ cond b (next ∷ words_from (number + 1) rest) (words_from (number + 1) rest)
       go later true =
           ended-part Blank word 32 (next ++ items_text true (number + 1) rest ack) plain refl
-          ∙ ap (λ ws. word ∷ ws) (later next (some_bytes known.1 (decimal (prim number ack))) (plain_word Blank next (word_is number known are.0)))
+          ∙ ap (λ ws. word ∷ ws) (later next (some_bytes known.1 (decimal (prim number ack))) (plain_word Blank next (word_is number known (first_named are))))
       go later false = later word some plain
 
   -- the parts of the items
   parts_all : (number : ℕ) (names : List PrimitiveName) → AreNamed number names → parts_of Blank (items_text false number names ack) ≡ words_from number names
   parts_all number [] are = refl
-  parts_all number (known ∷ rest) are = go (parts_all (number + 1) rest are.1) (is_shown number (prim number ack))
+  parts_all number (known ∷ rest) are = go (parts_all (number + 1) rest (rest_named are)) (is_shown number (prim number ack))
     where
       next : List ℕ
       next = word_text known.1 (prim number ack)
@@ -272,14 +235,14 @@ module _ (ack : Ack) where
       go : parts_of Blank (items_text false (number + 1) rest ack) ≡ words_from (number + 1) rest
           → (b : Bool) → parts_of Blank (cond b (gap false ++ (known.1 ++ (61 ∷ decimal (prim number ack)))) [] ++ items_text b (number + 1) rest ack)
           ≡ cond b (next ∷ words_from (number + 1) rest) (words_from (number + 1) rest)
-      go later true = parts_after (number + 1) rest are.1 next (some_bytes known.1 (decimal (prim number ack))) (plain_word Blank next (word_is number known are.0))
+      go later true = parts_after (number + 1) rest (rest_named are) next (some_bytes known.1 (decimal (prim number ack))) (plain_word Blank next (word_is number known (first_named are)))
       go later false = later
 
   -- a word and the items after it are tight
   tight_after : (number : ℕ) (names : List PrimitiveName) → AreNamed number names → (word : List ℕ) → IsTight word → IsTight (word ++ items_text true number names ack)
   tight_after number [] are word tight = subst (λ (t : List ℕ). IsTight t) (sym (append-nil word)) tight
   tight_after number (known ∷ rest) are word tight =
-      go (tight_after (number + 1) rest are.1) (is_shown number (prim number ack))
+      go (tight_after (number + 1) rest (rest_named are)) (is_shown number (prim number ack))
     where
       next : List ℕ
       next = word_text known.1 (prim number ack)
@@ -288,39 +251,39 @@ module _ (ack : Ack) where
           → (b : Bool) → IsTight (word ++ (cond b (gap true ++ (known.1 ++ (61 ∷ decimal (prim number ack)))) [] ++ items_text true (number + 1) rest ack))
       go later true =
           tight-append word (next ++ items_text true (number + 1) rest ack) tight
-          (later next (tight_word next (some_bytes known.1 (decimal (prim number ack))) (word_is number known are.0)))
+          (later next (tight_word next (some_bytes known.1 (decimal (prim number ack))) (word_is number known (first_named are))))
       go later false = later word tight
 
   -- the items are tight, since `now` is among them
-  tight_all : (number : ℕ) (names : List PrimitiveName) → AreNamed number names → number ≤ 7 → 7 < number + length names → IsTight (items_text false number names ack)
+  tight_all : (number : ℕ) (names : List PrimitiveName) → AreNamed number names → number ≤ now_number → now_number < number + length names → IsTight (items_text false number names ack)
   tight_all number [] are begun there = absurd (omega (arith, begun, there))
   tight_all number (known ∷ rest) are begun there =
-      go (tight_all (number + 1) rest are.1) (is_shown number (prim number ack)) refl
+      go (tight_all (number + 1) rest (rest_named are)) (is_shown number (prim number ack)) refl
     where
       next : List ℕ
       next = word_text known.1 (prim number ack)
 
-      go : (number + 1 ≤ 7 → 7 < (number + 1) + length rest → IsTight (items_text false (number + 1) rest ack))
+      go : (number + 1 ≤ now_number → now_number < (number + 1) + length rest → IsTight (items_text false (number + 1) rest ack))
           → (b : Bool) → is_shown number (prim number ack) ≡ b
           → IsTight (cond b (gap false ++ (known.1 ++ (61 ∷ decimal (prim number ack)))) [] ++ items_text b (number + 1) rest ack)
-      go later true is = tight_after (number + 1) rest are.1 next (tight_word next (some_bytes known.1 (decimal (prim number ack))) (word_is number known are.0))
+      go later true is = tight_after (number + 1) rest (rest_named are) next (tight_word next (some_bytes known.1 (decimal (prim number ack))) (word_is number known (first_named are)))
       go later false is =
-          let other : (number == 7) ≡ false = (or_parts (number == 7) (nat_lt 0 (prim number ack)) is).0 in
-          let below : number + 1 ≤ 7 = grind (arith, nat_tests, other, begun) in
+          let other : (number == now_number) ≡ false = (or_parts (number == now_number) (nat_lt 0 (prim number ack)) is).0 in
+          let below : number + 1 ≤ now_number = grind (arith, nat_tests, other, begun) in
           later below (omega (arith, there))
 
   -- no line ends within the items
   plain_items : (follows : Bool) (number : ℕ) (names : List PrimitiveName) → AreNamed number names → IsPlain LineFeed (items_text follows number names ack)
   plain_items follows number [] are = record { plain = refl }
   plain_items follows number (known ∷ rest) are =
-      plain-append (one (is_shown number (prim number ack))) (plain_items (follows || is_shown number (prim number ack)) (number + 1) rest are.1)
+      plain-append (one (is_shown number (prim number ack))) (plain_items (follows || is_shown number (prim number ack)) (number + 1) rest (rest_named are))
     where
       before : (f : Bool) → IsPlain LineFeed (gap f)
       before true = record { plain = refl }
       before false = record { plain = refl }
 
       one : (b : Bool) → IsPlain LineFeed (cond b (gap follows ++ (known.1 ++ (61 ∷ decimal (prim number ack)))) [])
-      one true = plain-append (before follows) (plain_word LineFeed (word_text known.1 (prim number ack)) (word_is number known are.0))
+      one true = plain-append (before follows) (plain_word LineFeed (word_text known.1 (prim number ack)) (word_is number known (first_named are)))
       one false = record { plain = refl }
 
 -- ---- the item of a word
@@ -340,7 +303,7 @@ found_at name rest plain =
     ap (λ (n : ℕ). cond (nat_lt n (length (name ++ 61 ∷ rest))) (Some n) None) at
     ∙ ap (λ (b : Bool). cond b (Some (length name)) None) within
 
-as_item : (values : LineValues) (name rest : List ℕ) → with_one_word values (name ++ 61 ∷ rest) ≡ with_item values (name ++ 61 ∷ rest)
+as_item : (values : LineValues) (name rest : List ℕ) → with_one_word values (name ++ 61 ∷ rest) ≡ with_named_value values (name ++ 61 ∷ rest)
 as_item values [] rest = refl
 as_item values (byte ∷ name) rest = refl
 
@@ -367,7 +330,7 @@ and-false true = refl
 and-false false = refl
 
 module _ (ack : Ack) (fits : IsOf64Bits ack) where
-  fits_at : (number : ℕ) → number < 15 → prim number ack < 2 ^ 64
+  fits_at : (number : ℕ) → number < primitive_count → prim number ack < 2 ^ 64
   fits_at number below = fits number 0 below
 
   flag_within : (number : ℕ) → (nat_lt 1 (prim number ack) && is_flag number) ≡ false
@@ -378,7 +341,7 @@ module _ (ack : Ack) (fits : IsOf64Bits ack) where
       bool_within false = refl
 
       go : (b : Bool) → is_flag number ≡ b → (nat_lt 1 (prim number ack) && b) ≡ false
-      go true is = ap (λ (n : ℕ). nat_lt 1 (prim n ack) && true) (eqb-true number 14 is) ∙ bool_within ack.was_timeout
+      go true is = ap (λ (n : ℕ). nat_lt 1 (prim n ack) && true) (eqb-true number flag_number is) ∙ bool_within ack.was_timeout
       go false is = and-false (nat_lt 1 (prim number ack))
 
   -- the values of all primitives below this number
@@ -408,14 +371,14 @@ module _ (ack : Ack) (fits : IsOf64Bits ack) where
     unnamed = λ n above. has.unnamed n (omega (arith, above));
   }
 
-  with_shown : (number : ℕ) (known : PrimitiveName) (values : LineValues) → number < 15 → IsNamed number known → HasValues number values
+  with_shown : (number : ℕ) (known : PrimitiveName) (values : LineValues) → number < primitive_count → IsNamed number known.1 → HasValues number values
       → with_one_word values (word_text known.1 (prim number ack)) ≡ Some (next number values)
   with_shown number known values below is has =
       let name : List ℕ = known.1 in
       let value : ℕ = prim number ack in
       let digits : List ℕ = decimal value in
       as_item values name digits
-      ∙ ap (option_and_then (λ at. with_line_value values (value_named (take at (name ++ 61 ∷ digits))) (numeral_of (drop (at + 1) (name ++ 61 ∷ digits))))) (found_at name digits is.plain)
+      ∙ ap (option_and_then (λ at. with_line_value values (value_named (take at (name ++ 61 ∷ digits))) (numeral_of (drop (at + 1) (name ++ 61 ∷ digits))))) (found_at name digits (no-equals name is.bytes))
       ∙ ap (λ (t : List ℕ). with_line_value values (value_named t) (numeral_of (drop (length name + 1) (name ++ 61 ∷ digits)))) (take-append_seam name (61 ∷ digits))
       ∙ ap (λ (t : List ℕ). with_line_value values (value_named name) (numeral_of t)) (drop-append-add name (61 ∷ digits) 1)
       ∙ ap (λ (o : Option ℕ). with_line_value values o (numeral_of digits)) is.found
@@ -426,15 +389,15 @@ module _ (ack : Ack) (fits : IsOf64Bits ack) where
   record ComesTo (words : List (List ℕ)) (values : LineValues) : Type 0 where
     final : LineValues
     come : with_each_word (Some values) words ≡ Some final
-    has : HasValues 15 final
+    has : HasValues primitive_count final
 
-  read_words : (number : ℕ) (names : List PrimitiveName) → number + length names ≡ 15 → AreNamed number names
+  read_words : (number : ℕ) (names : List PrimitiveName) → number + length names ≡ primitive_count → AreNamed number names
       → (values : LineValues) → HasValues number values → ComesTo (words_from ack number names) values
   read_words number [] count are values has =
-      let e : number ≡ 15 = omega (arith, count) in
+      let e : number ≡ primitive_count = omega (arith, count) in
       record { final = values; come = refl; has = subst (λ (n : ℕ). HasValues n values) e has }
   read_words number (known ∷ rest) count are values has =
-      go (read_words (number + 1) rest (omega (arith, count)) are.1) (is_shown number (prim number ack)) refl
+      go (read_words (number + 1) rest (omega (arith, count)) (rest_named are)) (is_shown number (prim number ack)) refl
     where
       word : List ℕ
       word = word_text known.1 (prim number ack)
@@ -445,11 +408,11 @@ module _ (ack : Ack) (fits : IsOf64Bits ack) where
           let come = later (next number values) (has_next number values has) in
           record {
             final = come.final;
-            come = ap (λ (o : Option LineValues). with_each_word o (words_from ack (number + 1) rest)) (with_shown number known values (omega (arith, count)) are.0 has) ∙ come.come;
+            come = ap (λ (o : Option LineValues). with_each_word o (words_from ack (number + 1) rest)) (with_shown number known values (omega (arith, count)) (first_named are) has) ∙ come.come;
             has = come.has;
           }
       go later false is =
-          let none : nat_lt 0 (prim number ack) ≡ false = (or_parts (number == 7) (nat_lt 0 (prim number ack)) is).1 in
+          let none : nat_lt 0 (prim number ack) ≡ false = (or_parts (number == now_number) (nat_lt 0 (prim number ack)) is).1 in
           let zero_is : prim number ack ≡ 0 = grind (arith, nat_tests, none) in
           later values (has_same number values zero_is has)
 
@@ -475,7 +438,7 @@ module _ (ack : Ack) (fits : IsOf64Bits ack) where
 
   said : read_ack_line (without_last 13 line) ≡ given ack
   said =
-      let come = read_words 0 primitive_names refl all_named no_values (record { numbers = refl; unnamed = λ n above. none_named 15 n }) in
+      let come = read_words 0 primitive_names refl all_named no_values (record { numbers = refl; unnamed = λ n above. none_named primitive_count n }) in
       ap read_ack_line (no_return line tight_line)
       ∙ told line tight_line
       ∙ ap (λ (ws : List (List ℕ)). given_or_refused (with_each_word (Some no_values) ws)) (parts_all ack 0 primitive_names all_named)

@@ -1,10 +1,10 @@
 -- The modes that their caller does alone have what the theorem asks of a mode.
-use Rattle.std.proofs.Common.{◌≡◌, ◌≢◌, ◌≤◌, ◌<◌, ◌∙◌, ◌⊎◌, inl, inr, leb, arith, ℕ, ◌+◌, Bool, true, false, nat_lt, cond, refl, List, [], ◌∷◌, ◌++◌, length, Option, Some, None, Result, Ok, Err, ap, sym, subst}
+use Rattle.std.proofs.Common.{◌≡◌, ◌≢◌, ◌≤◌, ◌<◌, ◌∙◌, ◌⊎◌, inl, inr, leb, arith, ℕ, ◌+◌, Bool, true, false, nat_lt, cond, refl, List, [], ◌∷◌, ◌++◌, length, Option, Some, None, option_map, Result, Ok, Err, ap}
 use Rattle.ccp_base.specs.declared.ack.Ack.{Ack}
 use Rattle.ccp_base.specs.declared.parts.Separator.TheVariants.{LineFeed}
 use Rattle.ccp_base.specs.Limits.{most_acks, most_input_bytes}
 use Rattle.ccp_base.specs.Parts.{parts_of, without_last}
-use Rattle.std.proofs.lemmas.Bool.Decides.{leb_tells}
+use Rattle.std.proofs.lemmas.Bool.Decides.{leb_tells, nat_tests}
 use Rattle.feed_core.proofs.FeedBegins.{no-answers}
 use Rattle.scenario_json.specs.declared.fault.SceneFault.{SceneFault}
 use Rattle.scene_members.specs.declared.mode.SceneMode.TheVariants as scene
@@ -31,42 +31,69 @@ use Rattle.feed_core.specs.FeedEnds.{end_from, feed_end}
 use Rattle.ccp_run.specs.declared.refusal.Limit.TheVariants.{Input, Audit}
 use Rattle.ccp_run.specs.declared.refusal.Refusal.{Refusal}
 use Rattle.ccp_run.specs.declared.refusal.Refusal.TheVariants.{TooLong, NoSeparator, Program, Line, TooManyAcks, Scene as SceneRefused, Frame, FrameCut}
-use Rattle.ccp_run.specs.Check.{IsProgramText, IsCheckOutput, IsNoCheck}
+use Rattle.ccp_run.specs.Check.{IsProgramText, IsCheckOutput, IsNoCheck, check_rules}
 use Rattle.ccp_run.specs.FeedRuns.{IsNoFeed, feed_rules}
-use Rattle.ccp_run.specs.Fold.{acks_below, IsFold, IsFoldInput, IsFoldOutput, HasNoProgram, HasBadLines, IsNoFold}
-use Rattle.ccp_run.specs.AuditRuns.{IsAudit, IsAuditInput, IsAuditOutput, HasLongScenario, HasNoScenario, IsNoAudit}
+use Rattle.ccp_run.specs.Fold.{acks_below, IsFoldInput, IsFoldOutput, IsNoFold, fold_rules}
+use Rattle.ccp_run.specs.AuditRuns.{IsAuditCut, IsAuditInput, IsAuditOutput, IsNoAudit, audit_rules}
 use Rattle.ccp_run.specs.ErrorLine.{most_bytes}
-use Rattle.ccp_run.specs.Scenes.{Says, HasFault, IsNoScenario}
-use Rattle.ccp_run.specs.Settled.{IsSettled}
-use Rattle.ccp_run.proofs.ModeLaws.{IsMode, no_both, reads_to_end}
-use Rattle.ccp_run.proofs.ScenarioInputs.{AreApart, by_function, of_scene, some_input}
+use Rattle.ccp_run.specs.Settled.{IsInputSettled}
+use Rattle.ccp_run.proofs.ModeLaws.{IsMode, no_both, reads_to_end, settled_by}
+use Rattle.ccp_run.proofs.ScenarioInputs.{refusal_in}
+
+-- ---- texts of programs
+
+-- what is settled of a text: its program, or its fault
+abbrev Settles : List ℕ → Type 0
+Settles text = ((form : Form) × IsBuiltFrom text form) ⊎ ((fault : BuildFault) × IsNoProgram text fault)
+
+abbrev settled_fault : {text : List ℕ} → Settles text → Option BuildFault
+settled_fault (inl built) = None
+settled_fault (inr bad) = Some bad.0
+
+module _ (text : List ℕ) where
+  -- the fault of a text, if it is no program
+  abbrev program_fault : Option BuildFault
+  program_fault = settled_fault {text = text} (settled_text text).some
+
+  no_fault : (form : Form) → IsBuiltFrom text form → program_fault ≡ None
+  no_fault form built = go (settled_text text).some
+    where
+      go : (settles : Settles text) → settled_fault {text = text} settles ≡ None
+      go (inl other) = refl
+      go (inr bad) = absurd ((settled_text text).apart form bad.0 built bad.1)
+
+  one_fault : (fault : BuildFault) → IsNoProgram text fault → program_fault ≡ Some fault
+  one_fault fault refused = go (settled_text text).some
+    where
+      go : (settles : Settles text) → settled_fault {text = text} settles ≡ Some fault
+      go (inl built) = absurd ((settled_text text).apart built.0 fault built.1 refused)
+      go (inr bad) = ap (λ (f : BuildFault). Some f) ((settled_text text).one_refusal bad.0 fault bad.1 refused)
 
 -- ---- check
 
-only_program : (bytes : List ℕ) (refusal : Refusal) → IsNoCheck bytes refusal → (fault : BuildFault) × IsNoProgram bytes fault × (refusal ≡ Program fault)
-only_program bytes (TooLong limit) bad = absurd bad
-only_program bytes NoSeparator bad = absurd bad
-only_program bytes (Program fault) bad = (fault, bad, refl)
-only_program bytes (Line n) bad = absurd bad
-only_program bytes TooManyAcks bad = absurd bad
-only_program bytes (Frame field place) bad = absurd bad
-only_program bytes (FrameCut place) bad = absurd bad
-only_program bytes (SceneRefused fault) bad = absurd bad
+module _ (bytes : List ℕ) where
+  abbrev check_refusal : Option Refusal
+  check_refusal = option_map (λ (fault : BuildFault). Program fault) (program_fault bytes)
 
-check_some : (bytes : List ℕ) → ((form : Form) × IsBuiltFrom bytes form) ⊎ ((fault : BuildFault) × IsNoProgram bytes fault) → IsInput (Alone mode.Check) bytes ⊎ ((refusal : Refusal) × IsNoCheck bytes refusal)
-check_some bytes (inl built) = inl built
-check_some bytes (inr bad) = inr (Program bad.0, bad.1)
+  check_one : (refusal : Refusal) → IsNoCheck bytes refusal → check_refusal ≡ Some refusal
+  check_one (TooLong limit) bad = absurd bad
+  check_one NoSeparator bad = absurd bad
+  check_one (Program fault) bad = ap (option_map (λ (f : BuildFault). Program f)) (one_fault bytes fault bad)
+  check_one (Line n) bad = absurd bad
+  check_one TooManyAcks bad = absurd bad
+  check_one (Frame field place) bad = absurd bad
+  check_one (FrameCut place) bad = absurd bad
+  check_one (SceneRefused fault) bad = absurd bad
 
-settled_check : (bytes : List ℕ) → IsSettled (Alone mode.Check) bytes
-settled_check bytes = record {
-  some = check_some bytes (settled_text bytes).some;
-  apart = λ refusal input bad. let p = only_program bytes refusal bad in (settled_text bytes).apart input.0 p.0 input.1 p.1;
-  one_refusal = λ left right bad bad'.
-      let p = only_program bytes left bad in
-      let q = only_program bytes right bad' in
-      p.2 ∙ ap Program ((settled_text bytes).one_refusal p.0 q.0 p.1 q.1) ∙ sym q.2;
-  made = λ output made. (form_of made.built.program, made.program);
-}
+  check_some : Settles bytes → IsProgramText bytes ⊎ ((refusal : Refusal) × IsNoCheck bytes refusal)
+  check_some (inl built) = inl built
+  check_some (inr bad) = inr (Program bad.0, bad.1)
+
+  settled_check : IsInputSettled (Alone mode.Check) bytes
+  settled_check =
+      settled_by check_rules bytes check_refusal (check_some (settled_text bytes).some)
+      (λ input. ap (option_map (λ (f : BuildFault). Program f)) (no_fault bytes input.0 input.1)) check_one
+      (λ output made. (form_of made.built.program, made.program))
 
 -- ---- the lines of a fold are refused for what they say alone
 
@@ -90,72 +117,38 @@ of_lines number (Ok acks) (text ∷ rest) not =
 
 -- ---- fold
 
--- what an input of `fold` with this cut is: lines below a program, or why the program is bad
+-- the refusal of lines below a program with this fault, or with none
+abbrev lines_refusal : Option BuildFault → Result (List Ack) LineFault → Option Refusal
+lines_refusal (Some fault) below = Some (Program fault)
+lines_refusal None (Ok acks) = None
+lines_refusal None (Err (lines.Line n)) = Some (Line n)
+lines_refusal None (Err lines.TooMany) = Some TooManyAcks
+lines_refusal None (Err lines.NoMemory) = None
+
+abbrev fold_refusal : Option Cut → Option Refusal
+fold_refusal None = Some NoSeparator
+fold_refusal (Some cut) = lines_refusal (program_fault cut.program) (acks_below cut)
+
 module _ (bytes : List ℕ) where
-  same_cut : (left right : Cut) → cut_of bytes ≡ Some left → cut_of bytes ≡ Some right → left ≡ right
-  same_cut left right e e' = let same : Some left ≡ Some right = sym e ∙ e' in cc
+  -- the refusal of lines below a program
+  below_program : (cut : Cut) (form : Form) (below : Result (List Ack) LineFault) → cut_of bytes ≡ Some cut → IsBuiltFrom cut.program form → acks_below cut ≡ below
+      → fold_refusal (cut_of bytes) ≡ lines_refusal None below
+  below_program cut form below at built is =
+      ap fold_refusal at
+      ∙ ap (λ (fault : Option BuildFault). lines_refusal fault (acks_below cut)) (no_fault cut.program form built)
+      ∙ ap (lines_refusal None) is
 
-  no_cut : (cut : Cut) → cut_of bytes ≡ None → cut_of bytes ≡ Some cut → ⊥
-  no_cut cut e e' = let same : None ≡ Some cut = sym e ∙ e' in cc
-
-  -- a program and its refusal aren't both there
-  one_program : (cut cut' : Cut) (form : Form) (fault : BuildFault) → cut_of bytes ≡ Some cut → cut_of bytes ≡ Some cut' → IsBuiltFrom cut.program form → IsNoProgram cut'.program fault → ⊥
-  one_program cut cut' form fault e e' built bad =
-      (settled_text cut'.program).apart form fault (subst (λ (c : Cut). IsBuiltFrom c.program form) (same_cut cut cut' e e') built) bad
-
-  one_lines : (cut cut' : Cut) (left right : Result (List Ack) LineFault) → cut_of bytes ≡ Some cut → cut_of bytes ≡ Some cut' → acks_below cut ≡ left → acks_below cut' ≡ right → left ≡ right
-  one_lines cut cut' left right e e' is is' = sym is ∙ ap acks_below (same_cut cut cut' e e') ∙ is'
-
-  bad_program : (fault : BuildFault) (lines_fault : LineFault) → HasNoProgram bytes fault → HasBadLines bytes lines_fault → ⊥
-  bad_program fault lines_fault none bad = one_program bad.cut none.cut bad.form fault bad.at_separator none.at_separator bad.program none.refused
-
-  bad_lines : (left right : LineFault) → HasBadLines bytes left → HasBadLines bytes right → left ≡ right
-  bad_lines left right bad bad' =
-      let same : Err left ≡ Err right = one_lines bad.cut bad'.cut (Err left) (Err right) bad.at_separator bad'.at_separator bad.refused bad'.refused in
-      cc
-
-  one_fault : (left right : BuildFault) → HasNoProgram bytes left → HasNoProgram bytes right → left ≡ right
-  one_fault left right bad bad' =
-      (settled_text bad'.cut.program).one_refusal left right
-      (subst (λ (c : Cut). IsNoProgram c.program left) (same_cut bad.cut bad'.cut bad.at_separator bad'.at_separator) bad.refused) bad'.refused
-
-  fold_apart : (form : Form) (acks : List Ack) (refusal : Refusal) → IsFold bytes form acks → IsNoFold bytes refusal → ⊥
-  fold_apart form acks (TooLong limit) input bad = bad
-  fold_apart form acks NoSeparator input bad = no_cut input.cut bad input.at_separator
-  fold_apart form acks (Program fault) input bad = one_program input.cut bad.cut form fault input.at_separator bad.at_separator input.program bad.refused
-  fold_apart form acks (Line n) input bad =
-      let same : Ok acks ≡ Err (lines.Line n) = one_lines input.cut bad.cut (Ok acks) (Err (lines.Line n)) input.at_separator bad.at_separator input.lines bad.refused in cc
-  fold_apart form acks TooManyAcks input bad =
-      let same : Ok acks ≡ Err lines.TooMany = one_lines input.cut bad.cut (Ok acks) (Err lines.TooMany) input.at_separator bad.at_separator input.lines bad.refused in cc
-  fold_apart form acks (Frame field place) input bad = bad
-  fold_apart form acks (FrameCut place) input bad = bad
-  fold_apart form acks (SceneRefused fault) input bad = bad
-
-  fold_one : (left right : Refusal) → IsNoFold bytes left → IsNoFold bytes right → left ≡ right
-  fold_one (TooLong limit) right bad bad' = absurd bad
-  fold_one left (TooLong limit) bad bad' = absurd bad'
-  fold_one (Frame field place) right bad bad' = absurd bad
-  fold_one left (Frame field place) bad bad' = absurd bad'
-  fold_one (FrameCut place) right bad bad' = absurd bad
-  fold_one left (FrameCut place) bad bad' = absurd bad'
-  fold_one (SceneRefused fault) right bad bad' = absurd bad
-  fold_one left (SceneRefused fault) bad bad' = absurd bad'
-  fold_one NoSeparator NoSeparator bad bad' = refl
-  fold_one NoSeparator (Program fault) bad bad' = absurd (no_cut bad'.cut bad bad'.at_separator)
-  fold_one NoSeparator (Line n) bad bad' = absurd (no_cut bad'.cut bad bad'.at_separator)
-  fold_one NoSeparator TooManyAcks bad bad' = absurd (no_cut bad'.cut bad bad'.at_separator)
-  fold_one (Program fault) NoSeparator bad bad' = absurd (no_cut bad.cut bad' bad.at_separator)
-  fold_one (Program fault) (Program fault') bad bad' = ap Program (one_fault fault fault' bad bad')
-  fold_one (Program fault) (Line n) bad bad' = absurd (bad_program fault (lines.Line n) bad bad')
-  fold_one (Program fault) TooManyAcks bad bad' = absurd (bad_program fault lines.TooMany bad bad')
-  fold_one (Line n) NoSeparator bad bad' = absurd (no_cut bad.cut bad' bad.at_separator)
-  fold_one (Line n) (Program fault) bad bad' = absurd (bad_program fault (lines.Line n) bad' bad)
-  fold_one (Line n) (Line m) bad bad' = let same : lines.Line n ≡ lines.Line m = bad_lines (lines.Line n) (lines.Line m) bad bad' in cc
-  fold_one (Line n) TooManyAcks bad bad' = let same : lines.Line n ≡ lines.TooMany = bad_lines (lines.Line n) lines.TooMany bad bad' in cc
-  fold_one TooManyAcks NoSeparator bad bad' = absurd (no_cut bad.cut bad' bad.at_separator)
-  fold_one TooManyAcks (Program fault) bad bad' = absurd (bad_program fault lines.TooMany bad' bad)
-  fold_one TooManyAcks (Line n) bad bad' = let same : lines.TooMany ≡ lines.Line n = bad_lines lines.TooMany (lines.Line n) bad bad' in cc
-  fold_one TooManyAcks TooManyAcks bad bad' = refl
+  fold_one : (refusal : Refusal) → IsNoFold bytes refusal → fold_refusal (cut_of bytes) ≡ Some refusal
+  fold_one (TooLong limit) bad = absurd bad
+  fold_one NoSeparator bad = ap fold_refusal bad
+  fold_one (Program fault) bad =
+      ap fold_refusal bad.at_separator
+      ∙ ap (λ (f : Option BuildFault). lines_refusal f (acks_below bad.cut)) (one_fault bad.cut.program fault bad.refused)
+  fold_one (Line n) bad = below_program bad.cut bad.form (Err (lines.Line n)) bad.at_separator bad.program bad.refused
+  fold_one TooManyAcks bad = below_program bad.cut bad.form (Err lines.TooMany) bad.at_separator bad.program bad.refused
+  fold_one (Frame field place) bad = absurd bad
+  fold_one (FrameCut place) bad = absurd bad
+  fold_one (SceneRefused fault) bad = absurd bad
 
   some_lines : (cut : Cut) (form : Form) → cut_of bytes ≡ Some cut → IsBuiltFrom cut.program form → (below : Result (List Ack) LineFault) → acks_below cut ≡ below → IsOfLines below → IsInput (Alone mode.Fold) bytes ⊎ ((refusal : Refusal) × IsNoFold bytes refusal)
   some_lines cut form e built (Ok acks) is not = inl (form, acks, record { cut = cut; at_separator = e; program = built; lines = is })
@@ -172,13 +165,11 @@ module _ (bytes : List ℕ) where
   some_cut None e = inr (NoSeparator, e)
   some_cut (Some cut) e = some_program cut e (settled_text cut.program).some
 
-  settled_fold : IsSettled (Alone mode.Fold) bytes
-  settled_fold = record {
-    some = some_cut (cut_of bytes) refl;
-    apart = λ refusal input bad. fold_apart input.0 input.1 refusal input.2 bad;
-    one_refusal = fold_one;
-    made = λ output made. (made.form, made.acks, made.input);
-  }
+  settled_fold : IsInputSettled (Alone mode.Fold) bytes
+  settled_fold =
+      settled_by fold_rules bytes (fold_refusal (cut_of bytes)) (some_cut (cut_of bytes) refl)
+      (λ input. below_program input.2.cut input.0 (Ok input.1) input.2.at_separator input.2.program input.2.lines) fold_one
+      (λ output made. (made.form, made.acks, made.input))
 
 -- ---- feed
 
@@ -206,122 +197,68 @@ feed_some bytes (feeds.left place rest) true is = inr (TooLong Input, is)
 feed_some bytes (feeds.left place []) false is = inl is
 feed_some bytes (feeds.left place (byte ∷ rest)) false is = inr (FrameCut place, is)
 
-settled_feed : (bytes : List ℕ) → IsSettled (Alone mode.Feed) bytes
-settled_feed bytes = record {
-  some = feed_some bytes (feed_of bytes).tail (nat_lt most_input_bytes (length bytes)) refl;
-  apart = λ refusal input bad. let same : None ≡ Some refusal = sym (ap refusal_of input) ∙ no_feed bytes refusal bad in cc;
-  one_refusal = λ left right bad bad'. let same : Some left ≡ Some right = sym (no_feed bytes left bad) ∙ no_feed bytes right bad' in cc;
-  made = λ output made. made.whole;
-}
+settled_feed : (bytes : List ℕ) → IsInputSettled (Alone mode.Feed) bytes
+settled_feed bytes =
+    settled_by feed_rules bytes (refusal_of (feed_end bytes)) (feed_some bytes (feed_of bytes).tail (nat_lt most_input_bytes (length bytes)) refl)
+    (λ whole. ap refusal_of whole) (no_feed bytes) (λ output made. made.whole)
 
 -- ---- audit
 
-one_some : {X : Type 0} {a b : X} → Some a ≡ Some b → a ≡ b
-one_some e = cc
+-- the refusal of a scenario, whose text is short or not
+abbrev scenario_refusal : Bool → Result Scene SceneFault → Option Refusal
+scenario_refusal true found = refusal_in found
+scenario_refusal false found = Some (TooLong Input)
 
-none_some : {X : Type 0} {b : X} → None ≡ Some b → ⊥
-none_some e = cc
+abbrev audit_refusal : Option Cut → Option Refusal
+audit_refusal None = Some NoSeparator
+audit_refusal (Some cut) = scenario_refusal (leb (length cut.program) (most_bytes Input)) (scene_of scene.Live cut.program)
 
 either : (a b : ℕ) → ((leb a b ≡ true) × (a ≤ b)) ⊎ ((leb a b ≡ false) × (b < a)) → (a ≤ b) ⊎ (b < a)
 either a b (inl few) = inl few.1
 either a b (inr more) = inr more.1
 
 module _ (bytes : List ℕ) where
-  abbrev AreParted : Cut → Type 0
-  AreParted cut = AreApart (Says scene.Live cut.program) (HasFault scene.Live cut.program)
+  at_short : (cut : Cut) → IsAuditCut bytes cut → audit_refusal (cut_of bytes) ≡ refusal_in (scene_of scene.Live cut.program)
+  at_short cut at =
+      let short = at.short in
+      let few : leb (length cut.program) (most_bytes Input) ≡ true = grind (arith, nat_tests, short) in
+      ap audit_refusal at.at_separator ∙ ap (λ (b : Bool). scenario_refusal b (scene_of scene.Live cut.program)) few
 
-  scene_parted : (cut : Cut) → AreParted cut
-  scene_parted cut = by_function (scene_of scene.Live cut.program)
+  at_long : (cut : Cut) → cut_of bytes ≡ Some cut → most_bytes Input < length cut.program → audit_refusal (cut_of bytes) ≡ Some (TooLong Input)
+  at_long cut at long =
+      let more : leb (length cut.program) (most_bytes Input) ≡ false = grind (arith, nat_tests, long) in
+      ap audit_refusal at ∙ ap (λ (b : Bool). scenario_refusal b (scene_of scene.Live cut.program)) more
 
-  audit_cut : (left right : Cut) → cut_of bytes ≡ Some left → cut_of bytes ≡ Some right → left ≡ right
-  audit_cut left right l r = one_some (sym l ∙ r)
+  audit_one : (refusal : Refusal) → IsNoAudit bytes refusal → audit_refusal (cut_of bytes) ≡ Some refusal
+  audit_one (TooLong Input) bad = at_long bad.cut bad.at_separator bad.long
+  audit_one (TooLong Audit) bad = absurd bad
+  audit_one NoSeparator bad = ap audit_refusal bad
+  audit_one (Program fault) bad = absurd bad
+  audit_one (Line n) bad = absurd bad
+  audit_one TooManyAcks bad = absurd bad
+  audit_one (SceneRefused fault) bad = at_short bad.cut bad.at ∙ ap refusal_in bad.refused
+  audit_one (Frame field place) bad = absurd bad
+  audit_one (FrameCut place) bad = absurd bad
 
-  no_audit_cut : (cut : Cut) → cut_of bytes ≡ None → cut_of bytes ≡ Some cut → ⊥
-  no_audit_cut cut none some = none_some (sym none ∙ some)
-
-  short_long : (left right : Cut) → cut_of bytes ≡ Some left → cut_of bytes ≡ Some right → length left.program ≤ most_bytes Input → most_bytes Input < length right.program → ⊥
-  short_long left right l r short long =
-      let same : length left.program ≡ length right.program = ap (λ (cut : Cut). length cut.program) (audit_cut left right l r) in
-      omega (arith, same, short, long)
-
-  -- ---- an input or a refusal
-
-  at_scene : (cut : Cut) → cut_of bytes ≡ Some cut → length cut.program ≤ most_bytes Input
-      → ((said : Scene) × Says scene.Live cut.program said) ⊎ ((refusal : Refusal) × IsNoScenario scene.Live cut.program refusal)
-      → ((said : Scene) × IsAudit bytes said) ⊎ ((refusal : Refusal) × IsNoAudit bytes refusal)
-  at_scene cut is short (inl said) = inl (said.0, record { cut = cut; at = record { at_separator = is; short = short }; says = said.1 })
-  at_scene cut is short (inr bad) =
-      let of = of_scene (HasFault scene.Live cut.program) bad.0 bad.1 in
-      inr (SceneRefused of.fault, record { cut = cut; at = record { at_separator = is; short = short }; refused = of.has_it })
+  at_scene : (cut : Cut) → IsAuditCut bytes cut → (came : Result Scene SceneFault) → scene_of scene.Live cut.program ≡ came
+      → IsAuditInput bytes ⊎ ((refusal : Refusal) × IsNoAudit bytes refusal)
+  at_scene cut at (Ok said) is = inl (said, record { cut = cut; at = at; says = is })
+  at_scene cut at (Err fault) is = inr (SceneRefused fault, record { cut = cut; at = at; refused = is })
 
   at_length : (cut : Cut) → cut_of bytes ≡ Some cut → (length cut.program ≤ most_bytes Input) ⊎ (most_bytes Input < length cut.program)
-      → ((said : Scene) × IsAudit bytes said) ⊎ ((refusal : Refusal) × IsNoAudit bytes refusal)
-  at_length cut is (inl short) = at_scene cut is short (some_input (Says scene.Live cut.program) (HasFault scene.Live cut.program) (scene_parted cut))
+      → IsAuditInput bytes ⊎ ((refusal : Refusal) × IsNoAudit bytes refusal)
+  at_length cut is (inl short) = at_scene cut (record { at_separator = is; short = short }) (scene_of scene.Live cut.program) refl
   at_length cut is (inr long) = inr (TooLong Input, record { cut = cut; at_separator = is; long = long })
 
-  at_cut : (o : Option Cut) → cut_of bytes ≡ o → ((said : Scene) × IsAudit bytes said) ⊎ ((refusal : Refusal) × IsNoAudit bytes refusal)
+  at_cut : (o : Option Cut) → cut_of bytes ≡ o → IsAuditInput bytes ⊎ ((refusal : Refusal) × IsNoAudit bytes refusal)
   at_cut None is = inr (NoSeparator, is)
   at_cut (Some cut) is = at_length cut is (either (length cut.program) (most_bytes Input) (leb_tells (length cut.program) (most_bytes Input)))
 
-  -- ---- not both
-
-  scenes_apart : (cut other : Cut) → cut_of bytes ≡ Some cut → cut_of bytes ≡ Some other → (said : Scene) (fault : SceneFault) → Says scene.Live cut.program said → IsNoScenario scene.Live other.program (SceneRefused fault) → ⊥
-  scenes_apart cut other l r said fault says refused =
-      (scene_parted other).apart said fault (subst (λ (c : Cut). Says scene.Live c.program said) (audit_cut cut other l r) says) refused
-
-  audit_apart : (refusal : Refusal) → ((said : Scene) × IsAudit bytes said) → IsNoAudit bytes refusal → ⊥
-  audit_apart (TooLong Input) input bad = short_long input.1.cut bad.cut input.1.at.at_separator bad.at_separator input.1.at.short bad.long
-  audit_apart (TooLong Audit) input bad = bad
-  audit_apart NoSeparator input bad = no_audit_cut input.1.cut bad input.1.at.at_separator
-  audit_apart (Program fault) input bad = bad
-  audit_apart (Line n) input bad = bad
-  audit_apart TooManyAcks input bad = bad
-  audit_apart (SceneRefused fault) input bad = scenes_apart input.1.cut bad.cut input.1.at.at_separator bad.at.at_separator input.0 fault input.1.says bad.refused
-  audit_apart (Frame field place) input bad = bad
-  audit_apart (FrameCut place) input bad = bad
-
-  -- ---- one refusal
-
-  one_scene_fault : (left right : SceneFault) → HasNoScenario bytes left → HasNoScenario bytes right → left ≡ right
-  one_scene_fault left right l r =
-      (scene_parted r.cut).one left right
-      (subst (λ (c : Cut). IsNoScenario scene.Live c.program (SceneRefused left)) (audit_cut l.cut r.cut l.at.at_separator r.at.at_separator) l.refused) r.refused
-
-  -- the three kinds of refusals
-  data Kind (refusal : Refusal) : Type 0 where
-    parted : refusal ≡ NoSeparator → cut_of bytes ≡ None → Kind refusal
-    long : refusal ≡ TooLong Input → HasLongScenario bytes → Kind refusal
-    told : (fault : SceneFault) → refusal ≡ SceneRefused fault → HasNoScenario bytes fault → Kind refusal
-
-  kind_of : (refusal : Refusal) → IsNoAudit bytes refusal → Kind refusal
-  kind_of (TooLong Input) bad = long refl bad
-  kind_of (TooLong Audit) bad = absurd bad
-  kind_of NoSeparator bad = parted refl bad
-  kind_of (Program fault) bad = absurd bad
-  kind_of (Line n) bad = absurd bad
-  kind_of TooManyAcks bad = absurd bad
-  kind_of (SceneRefused fault) bad = told fault refl bad
-  kind_of (Frame field place) bad = absurd bad
-  kind_of (FrameCut place) bad = absurd bad
-
-  one_kind : (left right : Refusal) → Kind left → Kind right → left ≡ right
-  one_kind left right (parted e l) (parted f r) = e ∙ sym f
-  one_kind left right (parted e l) (long f r) = absurd (no_audit_cut r.cut l r.at_separator)
-  one_kind left right (parted e l) (told fault f r) = absurd (no_audit_cut r.cut l r.at.at_separator)
-  one_kind left right (long e l) (parted f r) = absurd (no_audit_cut l.cut r l.at_separator)
-  one_kind left right (long e l) (long f r) = e ∙ sym f
-  one_kind left right (long e l) (told fault f r) = absurd (short_long r.cut l.cut r.at.at_separator l.at_separator r.at.short l.long)
-  one_kind left right (told fault e l) (parted f r) = absurd (no_audit_cut l.cut r l.at.at_separator)
-  one_kind left right (told fault e l) (long f r) = absurd (short_long l.cut r.cut l.at.at_separator r.at_separator l.at.short r.long)
-  one_kind left right (told fault e l) (told other f r) = e ∙ ap SceneRefused (one_scene_fault fault other l r) ∙ sym f
-
-settled_audit : (bytes : List ℕ) → IsSettled (Alone mode.Audit) bytes
-settled_audit bytes = record {
-  some = at_cut bytes (cut_of bytes) refl;
-  apart = audit_apart bytes;
-  one_refusal = λ left right l r. one_kind bytes left right (kind_of bytes left l) (kind_of bytes right r);
-  made = λ output made. (_, record { cut = made.cut; at = made.at; says = made.scenario.text });
-}
+  settled_audit : IsInputSettled (Alone mode.Audit) bytes
+  settled_audit =
+      settled_by audit_rules bytes (audit_refusal (cut_of bytes)) (at_cut (cut_of bytes) refl)
+      (λ input. at_short input.1.cut input.1.at ∙ ap refusal_in input.1.says) audit_one
+      (λ output made. (_, record { cut = made.cut; at = made.at; says = made.scenario.text }))
 
 -- ---- the table
 

@@ -56,11 +56,11 @@ live_text_of bytes output is those others scenario =
     let plans : map plan_of is.cases ≡ map plan_of others = ap (λ (s : Scene). s.cases) said in
     let alike = all_alike these those forms 0 is.cases others plans is.scenario.flows scenario.flows is.scenario.coded scenario.coded in
     let right : All (λ (flow : Case × List Letter). IsWordOf (forms_of these) flow.0 flow.1) (planned_by (forms_of these) is.cases) =
-    subst (λ (flows : List (Case × List Letter)). All (λ (flow : Case × List Letter). IsWordOf (forms_of these) flow.0 flow.1) flows) is.books (flows_right these output.books is.right) in
+    subst (λ (flows : List (Case × List Letter)). All (λ (flow : Case × List Letter). IsWordOf (forms_of these) flow.0 flow.1) flows) is.tells.books (flows_right these output.books is.tells.right) in
     let live : IsLiveText (forms_of these) others output.text = record {
       words = map (source_plan (forms_of these)) is.cases;
       are = words_alike (forms_of these) is.cases others alike right;
-      whole = is.written ∙ texts_alike (forms_of these) is.cases others alike;
+      whole = is.tells.written ∙ texts_alike (forms_of these) is.cases others alike;
     } in
     subst (λ (fs : Sources). IsLiveText fs others output.text) forms live
 

@@ -6,7 +6,7 @@ use Rattle.flow_core.specs.declared.case.Case.{Case}
 use Rattle.flow_core.specs.LiveText.{source_at}
 use Rattle.campaign_gate.specs.CampaignRow.{case_row}
 use Rattle.campaign_gate.specs.LiftedRow.{RowHoldsForSources}
-use Rattle.campaign_report.specs.BookText.{places_of}
+use Rattle.campaign_report.specs.BookText.{program_places}
 use Rattle.scenario_json.specs.Cases.{IsCoded, AreNumberedFrom}
 use Rattle.scenario_json.specs.ScenePrograms.{forms_of}
 use Rattle.ccp_run.specs.Campaign.{source_row, source_rows}
@@ -18,7 +18,7 @@ module _ (programs : List (ℕ × Built)) (numbered : AreNumberedFrom 0 programs
   row_over case coded =
       let ss = case.ss.role.number in
       let ca = case.ca.role.number in
-      lifted case (source_at (forms_of programs) ss) (source_at (forms_of programs) ca) (places_of programs ss) (places_of programs ca)
+      lifted case (source_at (forms_of programs) ss) (source_at (forms_of programs) ca) (program_places programs ss) (program_places programs ca)
       (simulated programs numbered ss case.ss coded.ss) (simulated programs numbered ca case.ca coded.ca)
 
   pub rows_over : (cases : List Case) → All (IsCoded programs) cases → map case_row cases ≡ source_rows programs cases

@@ -9,7 +9,7 @@ use Rattle.reg_compiler.specs.declared.built.Built.{Built}
 use Rattle.reg_compiler.specs.Simulation.{Simulates}
 use Rattle.flow_core.specs.declared.case.Coded.{Coded}
 use Rattle.flow_core.specs.LiveText.{source_at}
-use Rattle.campaign_report.specs.BookText.{places_of}
+use Rattle.campaign_report.specs.BookText.{program_places}
 use Rattle.scenario_json.specs.Cases.{coded_of, coded_at, AreNumberedFrom}
 use Rattle.scenario_json.specs.ScenePrograms.{forms_of}
 
@@ -34,7 +34,7 @@ at_zero i = omega arith
 -- the program of this number is this one
 record IsAt (programs : List (ℕ × Built)) (number : ℕ) (one : ℕ × Built) : Type 0 where
   source : source_at (forms_of programs) number ≡ form_of one.1.program
-  places : places_of programs number ≡ one.1.places
+  places : program_places programs number ≡ one.1.places
 
 -- the program at a place is the one with the number of the place
 found : (k : ℕ) (programs : List (ℕ × Built)) → AreNumberedFrom k programs → (i : ℕ) (one : ℕ × Built)
@@ -45,7 +45,7 @@ found k (first ∷ rest) numbered zero one is =
     let here : (first.0 == (k + 0)) ≡ true = eq-eqb first.0 (k + 0) (numbered.0 ∙ sym (at_once k)) in
     record {
       source = ap (λ b. if b then form_of first.1.program else source_at (forms_of rest) (k + 0)) here ∙ ap (λ o. form_of o.1.program) same;
-      places = ap (λ b. if b then first.1.places else places_of rest (k + 0)) here ∙ ap (λ o. o.1.places) same;
+      places = ap (λ b. if b then first.1.places else program_places rest (k + 0)) here ∙ ap (λ o. o.1.places) same;
     }
 found k (first ∷ rest) numbered (suc i) one is =
     let past : (first.0 == (k + suc i)) ≡ false = ne_eqb first.0 (k + suc i) (λ e. later k i (sym numbered.0 ∙ e)) in
@@ -53,8 +53,8 @@ found k (first ∷ rest) numbered (suc i) one is =
     record {
       source = ap (λ b. if b then form_of first.1.program else source_at (forms_of rest) (k + suc i)) past
           ∙ ap (λ n. source_at (forms_of rest) n) (shifted k i) ∙ next.source;
-      places = ap (λ b. if b then first.1.places else places_of rest (k + suc i)) past
-          ∙ ap (λ n. places_of rest n) (shifted k i) ∙ next.places;
+      places = ap (λ b. if b then first.1.places else program_places rest (k + suc i)) past
+          ∙ ap (λ n. program_places rest n) (shifted k i) ∙ next.places;
     }
 
 found_at : (programs : List (ℕ × Built)) → AreNumberedFrom 0 programs → (i : ℕ) (one : ℕ × Built)
@@ -62,7 +62,7 @@ found_at : (programs : List (ℕ × Built)) → AreNumberedFrom 0 programs → (
 found_at programs numbered i one is = subst (λ (n : ℕ). IsAt programs n one) (at_zero i) (found 0 programs numbered i one is)
 
 module _ (programs : List (ℕ × Built)) (numbered : AreNumberedFrom 0 programs) (number : ℕ) (coded : Coded) (is : coded_at programs number ≡ Some coded) where
-  simulated_by : (at : Option (ℕ × Built)) → slice_get programs number ≡ at → Simulates (source_at (forms_of programs) number) coded.code.code (places_of programs number)
+  simulated_by : (at : Option (ℕ × Built)) → slice_get programs number ≡ at → Simulates (source_at (forms_of programs) number) coded.code.code (program_places programs number)
   simulated_by None none =
       let bad : None ≡ Some coded = sym (ap (λ o. option_map (coded_of number) o) none) ∙ is in absurd (no_some coded bad)
   simulated_by (Some one) some =
@@ -70,10 +70,10 @@ module _ (programs : List (ℕ × Built)) (numbered : AreNumberedFrom 0 programs
       let same : coded_of number one ≡ coded = one_some (coded_of number one) coded both in
       let code : one.1.code.code ≡ coded.code.code = ap (λ c. c.code.code) same in
       let at = found_at programs numbered number one some in
-      subst (λ (form : Form). Simulates form coded.code.code (places_of programs number)) (sym at.source)
+      subst (λ (form : Form). Simulates form coded.code.code (program_places programs number)) (sym at.source)
       (subst (λ (places : List Place). Simulates (form_of one.1.program) coded.code.code places) (sym at.places)
       (subst (λ (code : Code). Simulates (form_of one.1.program) code one.1.places) code one.1.simulates))
 
   -- a case's code simulates the source of its program's number, with the places there
-  pub simulated : Simulates (source_at (forms_of programs) number) coded.code.code (places_of programs number)
+  pub simulated : Simulates (source_at (forms_of programs) number) coded.code.code (program_places programs number)
   simulated = simulated_by (slice_get programs number) refl

@@ -11,7 +11,7 @@ use Rattle.ccp_run.specs.Complete.{EndsAs, IsNoInput, AnswersOrRefuses}
 use Rattle.ccp_run.specs.Modes.{Task, limit_of, is_read, is_stream, IsInput, IsMade, IsInputRefusal}
 use Rattle.ccp_run.specs.Run.{EndsWith, IsRun, WritesAnyFront}
 use Rattle.ccp_run.specs.Statuses.{status_number}
-use Rattle.ccp_run.specs.Streams.{Stream, HasInput}
+use Rattle.ccp_run.specs.Streams.{StreamChange, HasInput}
 use Rattle.ccp_run.proofs.WorkerModes.{is_mode}
 
 not_over : (limit : ℕ) (bytes : List ℕ) (old new : Known) → old ≡ Some bytes → length bytes ≤ limit → TakesOver limit old new → ⊥
@@ -36,7 +36,7 @@ split : (bytes taken : List ℕ) (old new : Known) → old ≡ Some bytes → Ta
 split bytes taken old None is takes = let e : Some bytes ≡ None = sym is ∙ takes in let bad : ⊥ = cc in absurd bad
 split bytes taken old (Some left) is takes = let e : Some bytes ≡ Some (taken ++ left) = sym is ∙ takes in let lists : bytes ≡ taken ++ left = cc in (left, lists)
 
-module _ (task : Task) (source : Stream) (bytes : List ℕ) (is : source.old ≡ Some bytes) where
+module _ (task : Task) (source : StreamChange) (bytes : List ℕ) (is : source.old ≡ Some bytes) where
   same_bytes : (taken : List ℕ) → HasInput true source taken → bytes ≡ taken
   same_bytes taken has = whole bytes taken source.old source.new is has.taken has.end
 
@@ -70,7 +70,7 @@ module _ (task : Task) (source : Stream) (bytes : List ℕ) (is : source.old ≡
   not_made : (output : ModeOutput) → IsNoInput task bytes → MakesOutput task source output → ⊥
   not_made output other m = not_made_of output other m (is_read task) refl m.read
 
-module _ (task : Task) (source sink errors : Stream) (is_finished : Type 0) (outcome : Outcome) where
+module _ (task : Task) (source sink errors : StreamChange) (is_finished : Type 0) (outcome : Outcome) where
   answered : (bytes : List ℕ) → source.old ≡ Some bytes → length bytes ≤ limit_of task → IsInput task bytes
       → (Rose source.before source.now → ⊥) → (Rose sink.before sink.now → ⊥)
       → (end : Status) → outcome.status ≡ status_number end → EndsWith end task source sink errors is_finished outcome → EndsAs status.Done outcome

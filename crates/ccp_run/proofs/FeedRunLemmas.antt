@@ -17,10 +17,10 @@ use Rattle.ccp_run.specs.Attempts.{RefusesAny}
 use Rattle.ccp_run.specs.Endings.{Refuses}
 use Rattle.ccp_run.specs.FeedEndings.{EndsFeed}
 use Rattle.ccp_run.specs.Run.{IsRun, WritesAnswers, WritesSomeAnswers}
-use Rattle.ccp_run.specs.Streams.{Stream}
+use Rattle.ccp_run.specs.Streams.{StreamChange}
 use Rattle.ccp_run.proofs.RunLemmas.{is_three, one_more, ends_done, ends_refused, ends_unread, ends_unwritten, ends_wanting}
 
-module _ (source sink errors : Stream) (is_finished : Type 0) (outcome : Outcome) where
+module _ (source sink errors : StreamChange) (is_finished : Type 0) (outcome : Outcome) where
   abbrev source_of : Frames
   source_of = frames source.old source.new source.before source.now
 

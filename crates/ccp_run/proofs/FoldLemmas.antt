@@ -19,7 +19,7 @@ use Rattle.portus_core.specs.Programs.{Form}
 use Rattle.portus_core.specs.Reports.{reports, reports_at, reports_met, report_of}
 use Rattle.portus_core.specs.Value.{Cause}
 use Rattle.report_lines.specs.FaultLine.{fault_line}
-use Rattle.campaign_report.specs.FoldText.{ShowsAll, notice_line, placed_line}
+use Rattle.campaign_report.specs.FoldText.{ShowsAll, notice_line, placed_fault_line}
 use Rattle.fold_run.specs.Fold.{IsFoldNotice, fold_epoch, fold_reports, fold_end, fold_start, place_at, told_fault, with_room}
 use Rattle.ccp_run.specs.Fold.{stopping_line}
 
@@ -86,6 +86,6 @@ pub line_of_notice : (acks : List Ack) (places : List Place) (window : ℕ) (fau
 line_of_notice acks places window None told notice same = ap stopping_line same
 line_of_notice acks places window (Some n) told notice same =
     let is = notice n refl in
-    ap (placed_line n) (slice_get-get_or places n.index (record { line = 0; column = 0 }) is.placed)
+    ap (placed_fault_line n) (slice_get-get_or places n.index (record { line = 0; column = 0 }) is.placed)
     ∙ ap (λ epoch. fault_line epoch n.at n.kind (place_at places n.index)) is.epoch
     ∙ ap stopping_line same

@@ -21,8 +21,8 @@ use Rattle.flow_core.proofs.LiftLemmas.{link-lift, legal-lift, complete-lift}
 use Rattle.flow_table.specs.WholeBooks.{IsWhole}
 use Rattle.agent_loop.specs.LiveBooks.{AreBooksOf}
 use Rattle.campaign_gate.proofs.LiftedRowLemmas.{track-lifts}
-use Rattle.campaign_report.specs.BookText.{failure_of, places_of}
-use Rattle.campaign_report.specs.BooksRead.{content_of, answered_of, read_flow, read_world, IsRead}
+use Rattle.campaign_report.specs.BookText.{placed_failure, program_places}
+use Rattle.campaign_report.specs.BooksRead.{content_of, answered_of, read_flow, read_world, IsBookRead}
 use Rattle.scenario_json.specs.Cases.{IsCoded, AreNumberedFrom}
 use Rattle.scenario_json.specs.ScenePrograms.{forms_of}
 use Rattle.ccp_run.specs.Live.{IsRightBook, book_cases}
@@ -35,9 +35,9 @@ module _ (programs : List (ℕ × Built)) (case : Case) where
   codes = over_codes case
 
   abbrev place : Placing
-  place = place_in case (places_of programs case.ss.role.number) (places_of programs case.ca.role.number)
+  place = place_in case (program_places programs case.ss.role.number) (program_places programs case.ca.role.number)
 
-  faults-placed : (failures : List (Failure ℕ)) → map (failure_of programs case) (map (notice_of codes) failures) ≡ map (map_failure place) failures
+  faults-placed : (failures : List (Failure ℕ)) → map (placed_failure programs case) (map (notice_of codes) failures) ≡ map (map_failure place) failures
   faults-placed [] = refl
   faults-placed (failure ∷ rest) = ap (λ (fs : List (Failure Place)). map_failure place failure ∷ fs) (faults-placed rest)
 
@@ -61,10 +61,10 @@ module _ (programs : List (ℕ × Built)) (numbered : AreNumberedFrom 0 programs
   ca = source_at (forms_of programs) case.ca.role.number
 
   abbrev ss_places : List Place
-  ss_places = places_of programs case.ss.role.number
+  ss_places = program_places programs case.ss.role.number
 
   abbrev ca_places : List Place
-  ca_places = places_of programs case.ca.role.number
+  ca_places = program_places programs case.ca.role.number
 
   ss_simulates : Simulates ss case.ss.code.code ss_places
   ss_simulates = simulated programs numbered case.ss.role.number case.ss coded.ss
@@ -81,12 +81,12 @@ module _ (programs : List (ℕ × Built)) (numbered : AreNumberedFrom 0 programs
   tracks : track_of (over_codes case) by_code ≡ track_of (read_flow programs book) (read_world programs book)
   tracks = track-lifts case ss ca ss_places ca_places ss_simulates ca_simulates book.word
 
-  told : IsRead programs book
+  told : IsBookRead programs book
   told = record {
     tickets = ap (λ (ts : List TicketLine). map (answered_of programs case) ts) whole.told.tickets
         ∙ tickets-placed programs case by_code.answered ∙ ap (λ (w : World Place). w.answered) worlds;
     epochs = whole.told.epochs ∙ ap (λ (w : World Place). map epoch_line (w.past ++ w.present ∷ [])) worlds;
-    faults = ap (λ (ns : List Notice). map (failure_of programs case) ns) whole.told.faults
+    faults = ap (λ (ns : List Notice). map (placed_failure programs case) ns) whole.told.faults
         ∙ faults-placed programs case by_code.faults ∙ ap (λ (w : World Place). w.faults) worlds;
     held = whole.told.held ∙ ap (λ (w : World Place). w.held) worlds;
     first = whole.told.first ∙ ap (λ (t : Track). t.first) tracks;
@@ -111,7 +111,7 @@ right_books programs numbered (book ∷ rest) whole coded =
     (right_books programs numbered rest (λ k d h. whole (suc k) d (omega (arith, h))) (λ k d h. coded (suc k) d (omega (arith, h))))
 
 -- what each book tells, without its word's being legal and complete
-pub books_read : (programs : List (ℕ × Built)) (books : List Book) → All (IsRightBook programs) books → All (IsRead programs) books
+pub books_read : (programs : List (ℕ × Built)) (books : List Book) → All (IsRightBook programs) books → All (IsBookRead programs) books
 books_read programs books told = λ k d h. (told k d h).read
 
 -- the books of a table of coded cases

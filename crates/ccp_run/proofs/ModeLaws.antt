@@ -1,5 +1,5 @@
 -- What the theorem asks of each mode's rules, which a mode that reads its input to the end mostly has at once.
-use Rattle.std.proofs.Common.{◌≡◌, refl, true, false, List, ℕ, []}
+use Rattle.std.proofs.Common.{◌≡◌, ◌∙◌, ◌⊎◌, refl, sym, true, false, Option, Some, None, List, ℕ, []}
 use Rattle.ccp_run.specs.declared.outcome.ModeOutput.{ModeOutput}
 use Rattle.ccp_run.specs.declared.refusal.Limit.{Limit}
 use Rattle.ccp_run.specs.declared.refusal.Refusal.{Refusal}
@@ -26,4 +26,26 @@ module _ (most : Limit) (inputs : List ℕ → Type 0) (made : List ℕ → Mode
     begins = refl;
     plain = λ _ bytes. (refl, tt);
     unread = λ not bytes refusal bad. no_both not;
+  }
+
+-- ---- settled inputs
+
+one_some : {X : Type 0} {a b : X} → Some a ≡ Some b → a ≡ b
+one_some e = cc
+
+none_some : {X : Type 0} {b : X} → None ≡ Some b → ⊥
+none_some e = cc
+
+-- bytes are settled by what is found of them: an input has no refusal, and each refusal is the one that is found
+module _ (rules : Rules) (bytes : List ℕ) (found : Option Refusal)
+    (some : rules.IsInput bytes ⊎ ((refusal : Refusal) × rules.IsRefused bytes refusal))
+    (none : rules.IsInput bytes → found ≡ None)
+    (one : (refusal : Refusal) → rules.IsRefused bytes refusal → found ≡ Some refusal)
+    (made : (output : ModeOutput) → rules.IsMade bytes output → rules.IsInput bytes) where
+  pub settled_by : IsSettledBy rules bytes
+  settled_by = record {
+    some = some;
+    apart = λ refusal input bad. none_some (sym (none input) ∙ one refusal bad);
+    one_refusal = λ left right l r. one_some (sym (one left l) ∙ one right r);
+    made = made;
   }

@@ -8,13 +8,13 @@ use Rattle.ccp_run.specs.declared.status.Status.{Status}
 use Rattle.ccp_run.specs.declared.status.Status.TheVariants as status
 use Rattle.ccp_run.specs.declared.stop.Stop.{Stop}
 use Rattle.ccp_run.specs.declared.stop.Stop.TheVariants as stop
-use Rattle.ccp_run.specs.Attempts.{IsAttempt, MakesOutput, RefusesInput, RefusesAny, FailsToRead, LacksMemory}
+use Rattle.ccp_run.specs.Attempts.{IsAttempt, MakesOutput, RefusesInput, RefusesAny, FailsToRead, StopsWithoutMemory}
 use Rattle.ccp_run.specs.Endings.{Ends, IsEnding, Writes, WritesAll, Refuses}
 use Rattle.ccp_run.specs.ErrorLine.{refusal_line}
 use Rattle.ccp_run.specs.Modes.{Task, limit_in, limit_of, is_read, is_stream, answers_before}
 use Rattle.ccp_run.specs.Run.{EndsWith, IsReadFailed, IsRun, WritesFront, WritesAnyFront, WritesAnswers, WritesSomeAnswers}
 use Rattle.ccp_run.specs.Statuses.{status_number, read_line, write_line, memory_line}
-use Rattle.ccp_run.specs.Streams.{Stream, HasInput, IsLeft, IsUntouched}
+use Rattle.ccp_run.specs.Streams.{StreamChange, HasInput, IsLeft, IsUntouched}
 use Rattle.ccp_run.proofs.WorkerModes.{is_mode}
 
 appends_nothing : (old new : Known) → new ≡ old → Appends old new []
@@ -31,19 +31,19 @@ untouched_within limit old new same = record { taken = []; takes = takes_nothing
 pub one_more : (limit : ℕ) (old new : Known) → TakesWithin limit old new → TakesWithin (limit + 1) old new
 one_more limit old new few = record { taken = few.taken; takes = few.takes; within = let w = few.within in omega (arith, w) }
 
-within_of : (task : Task) (source : Stream) (bytes : List ℕ) (read : Bool) → HasInput read source bytes → length bytes ≤ limit_of task → TakesWithin (limit_of task) source.old source.new
+within_of : (task : Task) (source : StreamChange) (bytes : List ℕ) (read : Bool) → HasInput read source bytes → length bytes ≤ limit_of task → TakesWithin (limit_of task) source.old source.new
 within_of task source bytes true read short = record { taken = bytes; takes = read.taken; within = short }
 within_of task source bytes false read short = untouched_within (limit_of task) source.old source.new read.same.bytes
 
-left_of : (source : Stream) (bytes : List ℕ) (read : Bool) → HasInput read source bytes → IsLeft read source
+left_of : (source : StreamChange) (bytes : List ℕ) (read : Bool) → HasInput read source bytes → IsLeft read source
 left_of source bytes true has = tt
 left_of source bytes false has = has.same
 
-pub is_left : (read : Bool) (source : Stream) → read ≡ true → IsLeft read source
+pub is_left : (read : Bool) (source : StreamChange) → read ≡ true → IsLeft read source
 is_left true source reads = tt
 is_left false source reads = let bad : ⊥ = cc in absurd bad
 
-left_alone : (read : Bool) (source : Stream) → IsUntouched source → IsLeft read source
+left_alone : (read : Bool) (source : StreamChange) → IsUntouched source → IsLeft read source
 left_alone true source same = tt
 left_alone false source same = same
 
@@ -58,7 +58,7 @@ is_three (suc (suc zero)) = inr (λ e. omega (arith, e))
 is_three (suc (suc (suc zero))) = inl refl
 is_three (suc (suc (suc (suc n)))) = inr (λ e. omega (arith, e))
 
-module _ (task : Task) (source sink errors : Stream) (is_finished : Type 0) (outcome : Outcome) where
+module _ (task : Task) (source sink errors : StreamChange) (is_finished : Type 0) (outcome : Outcome) where
   -- out of memory, and these are the answers
   pub ends_wanting : TakesWithin (limit_of task) source.old source.new → IsLeft (is_read task) source → WritesSomeAnswers task source sink → Ends errors outcome status.NoMemory memory_line
       → IsRun task source sink errors is_finished outcome
@@ -143,7 +143,7 @@ module _ (task : Task) (source sink errors : Stream) (is_finished : Type 0) (out
       e
 
 -- where the mode reads its source to the end before it writes
-module _ (task : Task) (plain : is_stream task ≡ false) (source sink errors : Stream) (is_finished : Type 0) (outcome : Outcome) where
+module _ (task : Task) (plain : is_stream task ≡ false) (source sink errors : StreamChange) (is_finished : Type 0) (outcome : Outcome) where
   no_answers : (taken : List ℕ) → sink.new ≡ sink.old → Appends sink.old sink.new (answers_before task taken)
   no_answers taken same = subst (Appends sink.old sink.new) (sym ((is_mode task).plain plain taken).0) (appends_nothing sink.old sink.new same)
 
@@ -177,7 +177,7 @@ module _ (task : Task) (plain : is_stream task ≡ false) (source sink errors : 
       (plain_front (record { output = output; made = made; front = failed.front }))
       (within_of task source made.bytes (is_read task) made.read made.short) (left_of source made.bytes (is_read task) made.read) failed.ends
 
-  wants_memory : LacksMemory task source → sink.new ≡ sink.old → Ends errors outcome status.NoMemory memory_line → IsRun task source sink errors is_finished outcome
+  wants_memory : StopsWithoutMemory task source → sink.new ≡ sink.old → Ends errors outcome status.NoMemory memory_line → IsRun task source sink errors is_finished outcome
   wants_memory wants same e = ends_wanting task source sink errors is_finished outcome wants.within wants.left (some_answers wants.within same) e
 
   read_failed : FailsToRead task source → sink.new ≡ sink.old → Ends errors outcome status.ReadFailed read_line → IsRun task source sink errors is_finished outcome

@@ -9,7 +9,7 @@ use Rattle.flow_core.specs.declared.case.Case.{Case}
 use Rattle.flow_core.specs.Cores.{CoreState}
 use Rattle.flow_core.specs.LiveText.{source_at, flow_from}
 use Rattle.flow_core.specs.Readings.{over_codes}
-use Rattle.campaign_report.specs.BookText.{places_of}
+use Rattle.campaign_report.specs.BookText.{program_places}
 use Rattle.scenario_json.specs.Cases.{plan_of, IsCoded, AreNumberedFrom}
 use Rattle.scenario_json.specs.ScenePrograms.{forms_of}
 use Rattle.scenario_json.specs.SharedScenes.{flow_link_of}
@@ -36,8 +36,8 @@ module _ (programs : List (ℕ × Built)) (numbered : AreNumberedFrom 0 programs
       record {
         ss = source_at (forms_of programs) ss;
         ca = source_at (forms_of programs) ca;
-        ss_places = places_of programs ss;
-        ca_places = places_of programs ca;
+        ss_places = program_places programs ss;
+        ca_places = program_places programs ca;
         read = refl;
         ss_simulates = simulated programs numbered ss case.ss coded.ss;
         ca_simulates = simulated programs numbered ca case.ca coded.ca;

@@ -12,7 +12,7 @@ use Rattle.flow_core.specs.LiveText.{source_at}
 use Rattle.flow_table.specs.WholeBooks.{IsWhole}
 use Rattle.campaign_gate.specs.CampaignBooks.{IsCampaignBook, AreCampaignBooks, HasSourcePlan, acks_of_case}
 use Rattle.campaign_gate.specs.CampaignWord.{plan}
-use Rattle.campaign_report.specs.BookText.{places_of}
+use Rattle.campaign_report.specs.BookText.{program_places}
 use Rattle.campaign_report.specs.BooksRead.{flows_of}
 use Rattle.scenario_json.specs.Cases.{IsCoded, AreNumberedFrom}
 use Rattle.scenario_json.specs.ScenePrograms.{forms_of}
@@ -43,14 +43,14 @@ module _ (programs : List (ℕ × Built)) (numbered : AreNumberedFrom 0 programs
   plan_over_sources case coded =
       let ss = case.ss.role.number in
       let ca = case.ca.role.number in
-      (planned case).word (source_at (forms_of programs) ss) (source_at (forms_of programs) ca) (places_of programs ss) (places_of programs ca)
+      (planned case).word (source_at (forms_of programs) ss) (source_at (forms_of programs) ca) (program_places programs ss) (program_places programs ca)
       (simulated programs numbered ss case.ss coded.ss) (simulated programs numbered ca case.ca coded.ca)
 
   acks_over_sources : (case : Case) → IsCoded programs case → acks_of_case case ≡ source_acks (forms_of programs) case
   acks_over_sources case coded =
       let ss = case.ss.role.number in
       let ca = case.ca.role.number in
-      (planned case).acks (source_at (forms_of programs) ss) (source_at (forms_of programs) ca) (places_of programs ss) (places_of programs ca)
+      (planned case).acks (source_at (forms_of programs) ss) (source_at (forms_of programs) ca) (program_places programs ss) (program_places programs ca)
       (simulated programs numbered ss case.ss coded.ss) (simulated programs numbered ca case.ca coded.ca)
 
   -- ---- all cases

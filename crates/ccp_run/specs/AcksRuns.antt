@@ -10,10 +10,9 @@ use Rattle.scene_members.specs.declared.mode.SceneMode.TheVariants as scene
 use Rattle.scenario_json.specs.Cases.{case_names}
 use Rattle.scenario_json.specs.ScenePrograms.{forms_of}
 use Rattle.ccp_run.specs.declared.outcome.ModeOutput.{ModeOutput}
-use Rattle.ccp_run.specs.declared.refusal.Limit.TheVariants.{Input}
 use Rattle.ccp_run.specs.Campaign.{case_agents}
-use Rattle.ccp_run.specs.Rules.{Rules, reads_whole}
-use Rattle.ccp_run.specs.Scenes.{IsScenario, IsNoScenario, SaysSomething, Says}
+use Rattle.ccp_run.specs.Rules.{Rules}
+use Rattle.ccp_run.specs.Scenes.{IsSceneOutput, scene_rules}
 
 -- the acknowledgements of a case on its campaign word, read over the sources of its programs
 abbrev pub source_acks : Sources → Case → List Ack
@@ -23,13 +22,15 @@ source_acks sources case = acks_read (flow_from sources case) case.link case.lag
 abbrev pub acks_written : List (ℕ × Built) → List Case → List ℕ
 acks_written programs cases = acks_text (case_names cases) (case_agents cases) (map (source_acks (forms_of programs)) cases)
 
--- the output is these lines of the scenario's cases
-pub record IsAcksOutput (bytes : List ℕ) (output : ModeOutput) : Type 0 where
-  pub cases : List Case
-  pub scenario : IsScenario scene.Live bytes output.programs cases
-  pub written : output.text ≡ acks_written output.programs cases
+-- the output is these lines
+pub record TellsAcks (programs : List (ℕ × Built)) (cases : List Case) (output : ModeOutput) : Type 0 where
+  pub written : output.text ≡ acks_written programs cases
   pub no_books : output.books ≡ []
   pub idle : output.ran ≡ 0
 
+-- the output is these lines of the scenario's cases
+abbrev pub IsAcksOutput : List ℕ → ModeOutput → Type 0
+IsAcksOutput = IsSceneOutput scene.Live TellsAcks
+
 abbrev pub acks_rules : Rules
-acks_rules = reads_whole Input (λ bytes. SaysSomething (Says scene.Live bytes)) IsAcksOutput (IsNoScenario scene.Live)
+acks_rules = scene_rules scene.Live IsAcksOutput

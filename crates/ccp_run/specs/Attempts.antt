@@ -9,7 +9,7 @@ use Rattle.ccp_run.specs.declared.stop.Stop.{Stop}
 use Rattle.ccp_run.specs.declared.stop.Stop.TheVariants as stop
 use Rattle.ccp_run.specs.ErrorLine.{most_bytes}
 use Rattle.ccp_run.specs.Modes.{Task, limit_in, limit_of, is_read, IsMade, IsInputRefusal}
-use Rattle.ccp_run.specs.Streams.{Stream, ReadsToEnd, HasInput, IsLeft}
+use Rattle.ccp_run.specs.Streams.{StreamChange, ReadsToEnd, HasInput, IsLeft}
 
 -- the mode's output for bytes, or the first refusal of these
 abbrev pub IsOutputOrRefusal : Task → List ℕ → Result ModeOutput Stop → Type 0
@@ -19,64 +19,64 @@ IsOutputOrRefusal task bytes (Err stop.ReadFailed) = ⊥
 IsOutputOrRefusal task bytes (Err stop.NoMemory) = Unit {0}
 
 -- the input was read to its end, is within the limit, and the mode makes this of it
-pub record MakesOutput (task : Task) (source : Stream) (output : ModeOutput) : Type 0 where
+pub record MakesOutput (task : Task) (source : StreamChange) (output : ModeOutput) : Type 0 where
   pub bytes : List ℕ
   pub read : HasInput (is_read task) source bytes
   pub short : length bytes ≤ limit_of task
   pub made : IsMade task bytes output
 
 -- the input was read to its end, is within the limit, and this is its first refusal
-pub record RefusesBytes (task : Task) (source : Stream) (refusal : Refusal) : Type 0 where
+pub record RefusesBytes (task : Task) (source : StreamChange) (refusal : Refusal) : Type 0 where
   pub bytes : List ℕ
   pub read : HasInput (is_read task) source bytes
   pub short : length bytes ≤ limit_of task
   pub cause : IsInputRefusal task bytes refusal
 
 -- more bytes were taken than the limit, and that is the refusal
-pub record RefusesLength (task : Task) (source : Stream) (refusal : Refusal) : Type 0 where
+pub record RefusesLength (task : Task) (source : StreamChange) (refusal : Refusal) : Type 0 where
   pub reads : is_read task ≡ true
   pub over : TakesOver (limit_of task) source.old source.new
   pub most : TakesWithin (limit_of task + 1) source.old source.new
   pub cause : refusal ≡ TooLong (limit_in task)
 
 -- an input past the limit is refused as too long and as nothing else
-abbrev pub RefusesInput : Task → Stream → Refusal → Type 0
+abbrev pub RefusesInput : Task → StreamChange → Refusal → Type 0
 RefusesInput task source refusal = RefusesLength task source refusal ⊎ RefusesBytes task source refusal
 
 -- what was taken of the input has this refusal, whatever follows
-pub record RefusesEarly (task : Task) (source : Stream) (refusal : Refusal) : Type 0 where
+pub record RefusesEarly (task : Task) (source : StreamChange) (refusal : Refusal) : Type 0 where
   pub bytes : List ℕ
   pub taken : Takes source.old source.new bytes
   pub cause : (more : List ℕ) → IsInputRefusal task (bytes ++ more) refusal
 
 -- whether the input is a stream that is answered as it comes, and how it is refused then or else
-abbrev pub RefusesAny : Bool → Task → Stream → Refusal → Type 0
+abbrev pub RefusesAny : Bool → Task → StreamChange → Refusal → Type 0
 RefusesAny true task source refusal = RefusesEarly task source refusal ⊎ RefusesBytes task source refusal
 RefusesAny false task source refusal = RefusesInput task source refusal
 
 -- a read failed, before more bytes were taken than the limit
-pub record FailsToRead (task : Task) (source : Stream) : Type 0 where
+pub record FailsToRead (task : Task) (source : StreamChange) : Type 0 where
   pub reads : is_read task ≡ true
   pub rose : Rose source.before source.now
   pub within : TakesWithin (limit_of task) source.old source.new
 
 -- out of memory, before more bytes were taken than the limit
-pub record LacksMemory (task : Task) (source : Stream) : Type 0 where
+pub record StopsWithoutMemory (task : Task) (source : StreamChange) : Type 0 where
   pub left : IsLeft (is_read task) source
   pub within : TakesWithin (limit_of task) source.old source.new
 
 -- the source was read to its end within the limit, or why it wasn't
-abbrev pub IsRead : Limit → Stream → Result (List ℕ) Stop → Type 0
-IsRead limit source (Ok bytes) = ReadsToEnd source bytes × (length bytes ≤ most_bytes limit)
-IsRead limit source (Err (stop.Refused refusal)) =
+abbrev pub IsReadWithin : Limit → StreamChange → Result (List ℕ) Stop → Type 0
+IsReadWithin limit source (Ok bytes) = ReadsToEnd source bytes × (length bytes ≤ most_bytes limit)
+IsReadWithin limit source (Err (stop.Refused refusal)) =
     TakesOver (most_bytes limit) source.old source.new × TakesWithin (most_bytes limit + 1) source.old source.new
     × (refusal ≡ TooLong limit)
-IsRead limit source (Err stop.ReadFailed) =
+IsReadWithin limit source (Err stop.ReadFailed) =
     Rose source.before source.now × TakesWithin (most_bytes limit) source.old source.new
-IsRead limit source (Err stop.NoMemory) = TakesWithin (most_bytes limit) source.old source.new
+IsReadWithin limit source (Err stop.NoMemory) = TakesWithin (most_bytes limit) source.old source.new
 
-abbrev pub IsAttempt : Task → Stream → Result ModeOutput Stop → Type 0
+abbrev pub IsAttempt : Task → StreamChange → Result ModeOutput Stop → Type 0
 IsAttempt task source (Ok output) = MakesOutput task source output
 IsAttempt task source (Err (stop.Refused refusal)) = RefusesInput task source refusal
 IsAttempt task source (Err stop.ReadFailed) = FailsToRead task source
-IsAttempt task source (Err stop.NoMemory) = LacksMemory task source
+IsAttempt task source (Err stop.NoMemory) = StopsWithoutMemory task source

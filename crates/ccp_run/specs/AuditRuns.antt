@@ -26,21 +26,21 @@ verdict_text (No flow) = codes "no flow " ⧺ decimal flow ⧺ codes "\n"
 
 -- bytes are cut here: the scenario's text before the separator, no longer than an input of the other modes, and the
 -- text to be judged after it
-pub record IsCutAt (bytes : List ℕ) (cut : Cut) : Type 0 where
+pub record IsAuditCut (bytes : List ℕ) (cut : Cut) : Type 0 where
   pub at_separator : cut_of bytes ≡ Some cut
   pub short : length cut.program ≤ most_bytes limit.Input
 
 -- bytes are an input of `audit`: a scenario of `live` that says this, and a text
 pub record IsAudit (bytes : List ℕ) (said : Scene) : Type 0 where
   pub cut : Cut
-  pub at : IsCutAt bytes cut
+  pub at : IsAuditCut bytes cut
   pub says : Says scene.Live cut.program said
 
 -- the output says whether the text is the live text of the scenario's cases, for some legal and complete words, read
 -- over the sources of its programs, and else with how many flows' parts the text begins
 pub record IsAuditOutput (bytes : List ℕ) (output : ModeOutput) : Type 0 where
   pub cut : Cut
-  pub at : IsCutAt bytes cut
+  pub at : IsAuditCut bytes cut
   pub programs : List (ℕ × Built)
   pub cases : List Case
   pub scenario : IsScenario scene.Live cut.program programs cases
@@ -60,7 +60,7 @@ pub record HasLongScenario (bytes : List ℕ) : Type 0 where
 -- the separator is there, and the text before it is no scenario
 pub record HasNoScenario (bytes : List ℕ) (fault : SceneFault) : Type 0 where
   pub cut : Cut
-  pub at : IsCutAt bytes cut
+  pub at : IsAuditCut bytes cut
   pub refused : IsNoScenario scene.Live cut.program (refusal.Scene fault)
 
 -- bytes are no input of `audit`, and this is the first refusal, in the order separator, length before it, scenario

@@ -13,9 +13,8 @@ use Rattle.scene_members.specs.declared.mode.SceneMode.TheVariants as scene
 use Rattle.scenario_json.specs.Cases.{case_names}
 use Rattle.scenario_json.specs.ScenePrograms.{forms_of}
 use Rattle.ccp_run.specs.declared.outcome.ModeOutput.{ModeOutput}
-use Rattle.ccp_run.specs.declared.refusal.Limit.TheVariants.{Input}
-use Rattle.ccp_run.specs.Rules.{Rules, reads_whole}
-use Rattle.ccp_run.specs.Scenes.{IsScenario, IsNoScenario, SaysSomething, Says}
+use Rattle.ccp_run.specs.Rules.{Rules}
+use Rattle.ccp_run.specs.Scenes.{IsSceneOutput, scene_rules}
 
 -- the row of a case, read over the sources of its programs
 abbrev pub source_row : Sources → Case → Row
@@ -37,14 +36,15 @@ abbrev pub campaign_text : Bool → List (ℕ × Built) → List Case → List �
 campaign_text wire programs cases =
     frames_shown wire programs ⧺ table_text (case_names cases) (case_agents cases) (source_rows programs cases)
 
--- the output is the table of the scenario's cases, after the frames of its programs where they are asked for
-pub record IsCampaignOutput (wire : Bool) (bytes : List ℕ) (output : ModeOutput) : Type 0 where
-  pub cases : List Case
-  pub scenario : IsScenario scene.Campaign bytes output.programs cases
-  pub written : output.text ≡ campaign_text wire output.programs cases
+-- the output is that table
+pub record TellsCampaign (wire : Bool) (programs : List (ℕ × Built)) (cases : List Case) (output : ModeOutput) : Type 0 where
+  pub written : output.text ≡ campaign_text wire programs cases
   pub no_books : output.books ≡ []
   pub idle : output.ran ≡ 0
 
+-- the output is the table of the scenario's cases, after the frames of its programs where they are asked for
+abbrev pub IsCampaignOutput : Bool → List ℕ → ModeOutput → Type 0
+IsCampaignOutput wire = IsSceneOutput scene.Campaign (TellsCampaign wire)
+
 abbrev pub campaign_rules : Bool → Rules
-campaign_rules wire =
-    reads_whole Input (λ bytes. SaysSomething (Says scene.Campaign bytes)) (IsCampaignOutput wire) (IsNoScenario scene.Campaign)
+campaign_rules wire = scene_rules scene.Campaign (IsCampaignOutput wire)

@@ -8,7 +8,7 @@ use Rattle.ccp_run.specs.declared.status.Status.TheVariants as status
 use Rattle.ccp_run.specs.Modes.{Task, limit_of, is_read, is_stream, IsInput, IsInputRefusal}
 use Rattle.ccp_run.specs.Run.{IsRun}
 use Rattle.ccp_run.specs.Statuses.{status_number}
-use Rattle.ccp_run.specs.Streams.{Stream}
+use Rattle.ccp_run.specs.Streams.{StreamChange}
 
 -- the run ended so, or out of memory
 abbrev pub EndsAs : Status → Outcome → Type 0
@@ -20,7 +20,7 @@ IsNoInput task bytes = ((is_read task ≡ true) × (limit_of task < length bytes
 
 -- where no count of faults rose, an input of the mode within the limit is answered by the mode's output, and every
 -- other one is refused; the sink's count matters to a refusal only where answers are written before it
-pub record AnswersOrRefuses (task : Task) (source sink : Stream) (outcome : Outcome) : Type 0 where
+pub record AnswersOrRefuses (task : Task) (source sink : StreamChange) (outcome : Outcome) : Type 0 where
   pub answered : (bytes : List ℕ) → source.old ≡ Some bytes → length bytes ≤ limit_of task → IsInput task bytes
       → (Rose source.before source.now → ⊥) → (Rose sink.before sink.now → ⊥)
       → EndsAs status.Done outcome
@@ -29,6 +29,6 @@ pub record AnswersOrRefuses (task : Task) (source sink : Stream) (outcome : Outc
       → EndsAs status.InputRefused outcome
 
 -- what a call does that is given a task: it is a run of the task, and a complete one
-pub record DoesTask (task : Task) (source sink errors : Stream) (is_finished : Type 0) (outcome : Outcome) : Type 0 where
+pub record DoesTask (task : Task) (source sink errors : StreamChange) (is_finished : Type 0) (outcome : Outcome) : Type 0 where
   pub run : IsRun task source sink errors is_finished outcome
   pub complete : AnswersOrRefuses task source sink outcome

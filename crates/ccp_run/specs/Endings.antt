@@ -12,10 +12,10 @@ use Rattle.ccp_run.specs.declared.stop.Stop.{Stop}
 use Rattle.ccp_run.specs.declared.stop.Stop.TheVariants as stop
 use Rattle.ccp_run.specs.ErrorLine.{refusal_line}
 use Rattle.ccp_run.specs.Statuses.{status_number, read_line, write_line, memory_line}
-use Rattle.ccp_run.specs.Streams.{Stream, Tells}
+use Rattle.ccp_run.specs.Streams.{StreamChange, Tells}
 
 -- the run ends with this status, reports this line, and keeps nothing
-pub record Ends (errors : Stream) (outcome : Outcome) (end : Status) (line : List ℕ) : Type 0 where
+pub record Ends (errors : StreamChange) (outcome : Outcome) (end : Status) (line : List ℕ) : Type 0 where
   pub status : outcome.status ≡ status_number end
   pub books : outcome.books ≡ []
   pub programs : outcome.programs ≡ []
@@ -23,7 +23,7 @@ pub record Ends (errors : Stream) (outcome : Outcome) (end : Status) (line : Lis
   pub told : Tells errors line
 
 -- the whole output was written and the sink finished, nothing was reported, and the rest of the output is kept
-pub record WritesAll (sink errors : Stream) (is_finished : Type 0) (outcome : Outcome) (output : ModeOutput) : Type 0 where
+pub record WritesAll (sink errors : StreamChange) (is_finished : Type 0) (outcome : Outcome) (output : ModeOutput) : Type 0 where
   pub written : Appends sink.old sink.new output.text
   pub finished : is_finished
   pub books : outcome.books ≡ output.books
@@ -32,24 +32,24 @@ pub record WritesAll (sink errors : Stream) (is_finished : Type 0) (outcome : Ou
   pub quiet : errors.new ≡ errors.old
 
 -- a write failed, and a front of the output was written
-pub record FailsToWrite (sink errors : Stream) (outcome : Outcome) (output : ModeOutput) : Type 0 where
+pub record FailsToWrite (sink errors : StreamChange) (outcome : Outcome) (output : ModeOutput) : Type 0 where
   pub ends : Ends errors outcome status.WriteFailed write_line
   pub rose : Rose sink.before sink.now
   pub front : AppendsPrefix sink.old sink.new output.text
 
 -- the output is written, or a write fails
-pub record Writes (sink errors : Stream) (is_finished : Type 0) (outcome : Outcome) (output : ModeOutput) : Type 0 where
+pub record Writes (sink errors : StreamChange) (is_finished : Type 0) (outcome : Outcome) (output : ModeOutput) : Type 0 where
   pub whole : outcome.status ≡ status_number status.Done → WritesAll sink errors is_finished outcome output
   pub failed : outcome.status ≢ status_number status.Done → FailsToWrite sink errors outcome output
 
 -- the refusal is reported, or out of memory for its line; that the input is too long is always reported
-pub record Refuses (errors : Stream) (outcome : Outcome) (refusal : Refusal) : Type 0 where
+pub record Refuses (errors : StreamChange) (outcome : Outcome) (refusal : Refusal) : Type 0 where
   pub told : outcome.status ≡ status_number status.InputRefused → Ends errors outcome status.InputRefused (refusal_line refusal)
   pub failed : outcome.status ≢ status_number status.InputRefused → Ends errors outcome status.NoMemory memory_line
   pub too_long : (limit : Limit) → refusal ≡ TooLong limit → outcome.status ≡ status_number status.InputRefused
 
 -- how a run ends that came to this; where there is no output the sink is as it was
-abbrev pub IsEnding : Stream → Stream → Type 0 → Outcome → Result ModeOutput Stop → Type 0
+abbrev pub IsEnding : StreamChange → StreamChange → Type 0 → Outcome → Result ModeOutput Stop → Type 0
 IsEnding sink errors is_finished outcome (Ok output) = Writes sink errors is_finished outcome output
 IsEnding sink errors is_finished outcome (Err (stop.Refused refusal)) = (sink.new ≡ sink.old) × Refuses errors outcome refusal
 IsEnding sink errors is_finished outcome (Err stop.ReadFailed) = (sink.new ≡ sink.old) × Ends errors outcome status.ReadFailed read_line

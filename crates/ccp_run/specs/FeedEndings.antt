@@ -8,10 +8,10 @@ use Rattle.ccp_run.specs.declared.refusal.Refusal.TheVariants.{TooLong, Frame, F
 use Rattle.ccp_run.specs.declared.status.Status.TheVariants as status
 use Rattle.ccp_run.specs.Endings.{Ends, Refuses}
 use Rattle.ccp_run.specs.Statuses.{status_number, read_line, write_line, memory_line}
-use Rattle.ccp_run.specs.Streams.{Stream}
+use Rattle.ccp_run.specs.Streams.{StreamChange}
 
 -- nothing was reported, and nothing is kept
-pub record EndsWhole (errors : Stream) (outcome : Outcome) : Type 0 where
+pub record EndsWhole (errors : StreamChange) (outcome : Outcome) : Type 0 where
   pub status : outcome.status ≡ status_number status.Done
   pub books : outcome.books ≡ []
   pub programs : outcome.programs ≡ []
@@ -19,7 +19,7 @@ pub record EndsWhole (errors : Stream) (outcome : Outcome) : Type 0 where
   pub quiet : errors.new ≡ errors.old
 
 -- how each end of the loop is reported
-abbrev pub EndsFeed : Stream → Outcome → FeedEnd → Type 0
+abbrev pub EndsFeed : StreamChange → Outcome → FeedEnd → Type 0
 EndsFeed errors outcome ends.Whole = EndsWhole errors outcome
 EndsFeed errors outcome (ends.Bad field place) = Refuses errors outcome (Frame field place)
 EndsFeed errors outcome (ends.Cut place) = Refuses errors outcome (FrameCut place)

@@ -9,10 +9,13 @@ use Rattle.scenario_json.specs.Scene.{Scene, scene_with, scene_of}
 use Rattle.scenario_json.specs.ScenePrograms.{forms_of}
 use Rattle.scenario_json.specs.declared.fault.SceneFault.{SceneFault}
 use Rattle.scenario_json.specs.declared.fault.SceneFault.TheVariants as scene
+use Rattle.ccp_run.specs.declared.outcome.ModeOutput.{ModeOutput}
+use Rattle.ccp_run.specs.declared.refusal.Limit.TheVariants.{Input}
 use Rattle.ccp_run.specs.declared.refusal.Refusal.{Refusal}
 use Rattle.ccp_run.specs.declared.refusal.Refusal.TheVariants as refusal
 use Rattle.ccp_run.specs.declared.stop.Stop.{Stop}
 use Rattle.ccp_run.specs.declared.stop.Stop.TheVariants as stop
+use Rattle.ccp_run.specs.Rules.{Rules, reads_whole}
 
 -- bytes are a scenario's text, which says this
 abbrev pub Says : SceneMode → List ℕ → Scene → Type 0
@@ -55,3 +58,17 @@ IsNoScenario mode bytes = IsOfScene (HasFault mode bytes)
 -- why there is no scenario; out of memory is left open
 abbrev pub StopsScene : SceneMode → List ℕ → Stop → Type 0
 StopsScene mode bytes = StopsFor (HasFault mode bytes)
+
+-- what an output tells of programs and cases
+abbrev pub Telling : Type 1
+Telling = List (ℕ × Built) → List Case → ModeOutput → Type 0
+
+-- the bytes are a scenario's text, and the output keeps its programs and tells this of them and of its cases
+pub record IsSceneOutput (mode : SceneMode) (Tells : Telling) (bytes : List ℕ) (output : ModeOutput) : Type 0 where
+  pub cases : List Case
+  pub scenario : IsScenario mode bytes output.programs cases
+  pub tells : Tells output.programs cases output
+
+-- the rules of a mode whose inputs are scenarios, and which makes this of them
+abbrev pub scene_rules : SceneMode → (List ℕ → ModeOutput → Type 0) → Rules
+scene_rules mode made = reads_whole Input (λ bytes. SaysSomething (Says mode bytes)) made (IsNoScenario mode)

@@ -12,9 +12,9 @@ pub record IsSettledBy (rules : Rules) (bytes : List ℕ) : Type 0 where
   -- what is made of bytes is made of an input
   pub made : (output : ModeOutput) → rules.IsMade bytes output → rules.IsInput bytes
 
-abbrev pub IsSettled : Task → List ℕ → Type 0
-IsSettled task bytes = IsSettledBy (rules_of task) bytes
+abbrev pub IsInputSettled : Task → List ℕ → Type 0
+IsInputSettled task bytes = IsSettledBy (rules_of task) bytes
 
 -- every input of every mode
-abbrev pub AreSettled : Type 0
-AreSettled = (task : Task) (bytes : List ℕ) → IsSettled task bytes
+abbrev pub AreInputsSettled : Type 0
+AreInputsSettled = (task : Task) (bytes : List ℕ) → IsInputSettled task bytes

@@ -18,14 +18,14 @@ use Rattle.campaign_gate.specs.CampaignRow.{row_read}
 use Rattle.campaign_gate.specs.CampaignWord.{plan_over}
 use Rattle.campaign_report.specs.AcksText.{ack_lines}
 use Rattle.ccp_run.specs.declared.outcome.ModeOutput.{ModeOutput}
-use Rattle.ccp_run.specs.AuditRuns.{IsCutAt, IsAuditOutput}
+use Rattle.ccp_run.specs.AuditRuns.{IsAuditCut, IsAuditOutput}
 use Rattle.ccp_run.specs.Timeline.{IsTimelineOutput}
 
 -- where a scenario and the text of its timeline are given to `audit`, it says yes
 abbrev pub AuditsTimelines : Type 0
 AuditsTimelines =
     (bytes : List ℕ) (output : ModeOutput) → IsTimelineOutput false bytes output
-    → (input : List ℕ) (cut : Cut) → IsCutAt input cut → cut.program ≡ bytes → cut.rest ≡ output.text
+    → (input : List ℕ) (cut : Cut) → IsAuditCut input cut → cut.program ≡ bytes → cut.rest ≡ output.text
     → (made : ModeOutput) → IsAuditOutput input made → made.text ≡ codes "yes\n"
 
 -- each primitive of an acknowledgement is a number of 64 bits

@@ -11,11 +11,10 @@ use Rattle.campaign_report.specs.BooksRead.{flows_of}
 use Rattle.scene_members.specs.declared.mode.SceneMode.TheVariants as scene
 use Rattle.scenario_json.specs.ScenePrograms.{forms_of}
 use Rattle.ccp_run.specs.declared.outcome.ModeOutput.{ModeOutput}
-use Rattle.ccp_run.specs.declared.refusal.Limit.TheVariants.{Input}
 use Rattle.ccp_run.specs.Campaign.{frames_shown}
 use Rattle.ccp_run.specs.Live.{IsRightBook}
-use Rattle.ccp_run.specs.Rules.{Rules, reads_whole}
-use Rattle.ccp_run.specs.Scenes.{IsScenario, IsNoScenario, SaysSomething, Says}
+use Rattle.ccp_run.specs.Rules.{Rules}
+use Rattle.ccp_run.specs.Scenes.{IsSceneOutput, scene_rules}
 
 -- the campaign word of a case, read over the sources of its programs
 abbrev pub source_plan : Sources → Case → List Letter
@@ -30,16 +29,17 @@ abbrev pub timeline_text : Bool → List (ℕ × Built) → List Case → List �
 timeline_text wire programs cases =
     frames_shown wire programs ⧺ live_text (forms_of programs) (planned_by (forms_of programs) cases)
 
--- the output is that text of the scenario's cases, and there is one book for each of these, in order, whose word is the
--- campaign word, which is legal and complete, and which tells what the word came to
-pub record IsTimelineOutput (wire : Bool) (bytes : List ℕ) (output : ModeOutput) : Type 0 where
-  pub cases : List Case
-  pub scenario : IsScenario scene.Live bytes output.programs cases
-  pub books : flows_of output.books ≡ planned_by (forms_of output.programs) cases
-  pub right : All (IsRightBook output.programs) output.books
-  pub written : output.text ≡ timeline_text wire output.programs cases
+-- the output is that text of the cases, and there is one book for each of these, in order, whose word is the campaign
+-- word, which is legal and complete, and which tells what the word came to
+pub record TellsTimeline (wire : Bool) (programs : List (ℕ × Built)) (cases : List Case) (output : ModeOutput) : Type 0 where
+  pub books : flows_of output.books ≡ planned_by (forms_of programs) cases
+  pub right : All (IsRightBook programs) output.books
+  pub written : output.text ≡ timeline_text wire programs cases
   pub idle : output.ran ≡ 0
 
+-- this is so of the scenario's cases
+abbrev pub IsTimelineOutput : Bool → List ℕ → ModeOutput → Type 0
+IsTimelineOutput wire = IsSceneOutput scene.Live (TellsTimeline wire)
+
 abbrev pub timeline_rules : Bool → Rules
-timeline_rules wire =
-    reads_whole Input (λ bytes. SaysSomething (Says scene.Live bytes)) (IsTimelineOutput wire) (IsNoScenario scene.Live)
+timeline_rules wire = scene_rules scene.Live (IsTimelineOutput wire)

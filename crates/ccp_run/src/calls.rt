@@ -4,7 +4,7 @@ ghost use Rattle.ccp_run.specs.Complete.{DoesTask};
 ghost use Rattle.ccp_run.specs.Endings.{Ends};
 ghost use Rattle.ccp_run.specs.Modes.{Task};
 ghost use Rattle.ccp_run.specs.Statuses.{memory_line, words_line};
-ghost use Rattle.ccp_run.specs.Streams.{over};
+ghost use Rattle.ccp_run.specs.Streams.{stream_change};
 
 use crate::ending::end_without;
 use crate::modes::run_alone;
@@ -25,23 +25,23 @@ pub fn alone<S: Source, K: Sink, E: Sink>(
     errors: &mut E,
 ) -> Outcome
     ensures { DoesTask (Task.Alone mode)
-        (over S.remaining S.faults source.old source.new)
-        (over K.written K.faults sink.old sink.new)
-        (over E.written E.faults errors.old errors.new) (K.is_finished sink.new) result }
+        (stream_change S.remaining S.faults source.old source.new)
+        (stream_change K.written K.faults sink.old sink.new)
+        (stream_change E.written E.faults errors.old errors.new) (K.is_finished sink.new) result }
 {
     run_alone(alloc, mode, source, sink, errors)
 }
 
 /// Ends if the words aren't text: reports that they are refused.
 pub fn refuse_words<E: Sink>(alloc: Global, errors: &mut E) -> Outcome
-    ensures { Ends (over E.written E.faults errors.old errors.new) result Status.WordsRefused words_line }
+    ensures { Ends (stream_change E.written E.faults errors.old errors.new) result Status.WordsRefused words_line }
 {
     end_without(alloc, errors, Status::WordsRefused, WORDS_LINE)
 }
 
 /// Ends if there is no memory for the words: reports that.
 pub fn without_words<E: Sink>(alloc: Global, errors: &mut E) -> Outcome
-    ensures { Ends (over E.written E.faults errors.old errors.new) result Status.NoMemory memory_line }
+    ensures { Ends (stream_change E.written E.faults errors.old errors.new) result Status.NoMemory memory_line }
 {
     end_without(alloc, errors, Status::NoMemory, MEMORY_LINE)
 }

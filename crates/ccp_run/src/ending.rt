@@ -1,7 +1,7 @@
 //! How a run ends: with its output, or with a line for the error stream that gives the cause.
 ghost use Rattle.std.specs.Prelude.{◌≡◌, ◌≤◌};
 ghost use Rattle.ccp_run.specs.Endings.{Ends, IsEnding, Refuses, Writes};
-ghost use Rattle.ccp_run.specs.Streams.{over};
+ghost use Rattle.ccp_run.specs.Streams.{stream_change};
 
 use crate::outcome::{ModeOutput, Outcome};
 use crate::refusal::{Refusal, refusal_line};
@@ -18,8 +18,8 @@ pub fn end<K: Sink, E: Sink>(
     errors: &mut E,
 ) -> Outcome
     ensures { IsEnding
-        (over K.written K.faults sink.old sink.new)
-        (over E.written E.faults errors.old errors.new) (K.is_finished sink.new) result made }
+        (stream_change K.written K.faults sink.old sink.new)
+        (stream_change E.written E.faults errors.old errors.new) (K.is_finished sink.new) result made }
 {
     match made {
         Ok(output) => write_output(alloc, output, sink, errors),
@@ -37,8 +37,8 @@ fn write_output<K: Sink, E: Sink>(
     errors: &mut E,
 ) -> Outcome
     ensures { Writes
-        (over K.written K.faults sink.old sink.new)
-        (over E.written E.faults errors.old errors.new) (K.is_finished sink.new) result output }
+        (stream_change K.written K.faults sink.old sink.new)
+        (stream_change E.written E.faults errors.old errors.new) (K.is_finished sink.new) result output }
 {
     match write_all(sink, output.text.as_slice()) {
         Ok(()) => Outcome {
@@ -53,7 +53,7 @@ fn write_output<K: Sink, E: Sink>(
 
 /// Reports why the input is refused.
 pub fn refuse<E: Sink>(alloc: Global, refusal: Refusal, errors: &mut E) -> Outcome
-    ensures { Refuses (over E.written E.faults errors.old errors.new) result refusal }
+    ensures { Refuses (stream_change E.written E.faults errors.old errors.new) result refusal }
 {
     if let Refusal::TooLong(limit) = &refusal {
         return end_without(alloc, errors, Status::InputRefused, limit.line());
@@ -66,7 +66,7 @@ pub fn refuse<E: Sink>(alloc: Global, refusal: Refusal, errors: &mut E) -> Outco
 
 /// Ends without an output: reports the line.
 pub fn end_without<E: Sink>(alloc: Global, errors: &mut E, status: Status, line: &[u8]) -> Outcome
-    ensures { Ends (over E.written E.faults errors.old errors.new) result status line.now }
+    ensures { Ends (stream_change E.written E.faults errors.old errors.new) result status line.now }
 {
     let _ = write_all(errors, line);
     Outcome::empty(alloc, status)

@@ -1,10 +1,10 @@
 //! The laws of the modes: bytes are an input or have one first refusal, and how modes' outputs agree.
-ghost use Rattle.ccp_run.specs.Settled.{AreSettled};
+ghost use Rattle.ccp_run.specs.Settled.{AreInputsSettled};
 ghost use Rattle.ccp_run.specs.TextLaws.{AuditsTimelines, ReadsAcksBack, TellsRows};
 
 /// The law of inputs: of each mode, bytes are an input or have one first refusal, and not both.
 pub fn input_law()
-    ensures { AreSettled }
+    ensures { AreInputsSettled }
 {}
 
 /// A law: `audit` of a scenario and its timeline says yes.

@@ -17,7 +17,7 @@ ghost use Rattle.std.specs.Prelude.{◌≡◌};
 ghost use Rattle.ccp_words.specs.Words.{HasWorkers};
 ghost use Rattle.ccp_run.specs.Modes.{Task, task_of};
 ghost use Rattle.ccp_run.specs.Run.{IsRun};
-ghost use Rattle.ccp_run.specs.Streams.{over};
+ghost use Rattle.ccp_run.specs.Streams.{stream_change};
 
 use crate::ending::end;
 use crate::outcome::Outcome;
@@ -48,9 +48,9 @@ pub fn run_alone<S: Source, K: Sink, E: Sink>(
     errors: &mut E,
 ) -> Outcome
     ensures { IsRun (Task.Alone mode)
-        (over S.remaining S.faults source.old source.new)
-        (over K.written K.faults sink.old sink.new)
-        (over E.written E.faults errors.old errors.new) (K.is_finished sink.new) result }
+        (stream_change S.remaining S.faults source.old source.new)
+        (stream_change K.written K.faults sink.old sink.new)
+        (stream_change E.written E.faults errors.old errors.new) (K.is_finished sink.new) result }
 {
     match mode {
         Alone::Feed => run_feed(alloc, source, sink, errors),
@@ -73,9 +73,9 @@ pub fn run_asked<R: Threads + Wait + Sync, S: Source, K: Sink, E: Sink, G: Gate 
 ) -> Outcome
     requires { HasWorkers asked }
     ensures { IsRun (task_of asked)
-        (over S.remaining S.faults source.old source.new)
-        (over K.written K.faults sink.old sink.new)
-        (over E.written E.faults errors.old errors.new) (K.is_finished sink.new) result }
+        (stream_change S.remaining S.faults source.old source.new)
+        (stream_change K.written K.faults sink.old sink.new)
+        (stream_change E.written E.faults errors.old errors.new) (K.is_finished sink.new) result }
 {
     let wire = asked.wire;
     let workers = Workers::new(asked.workers);

@@ -1,6 +1,6 @@
 //! How a mode reads its input to the end, within the input's limit.
-ghost use Rattle.ccp_run.specs.Attempts.{IsRead};
-ghost use Rattle.ccp_run.specs.Streams.{over};
+ghost use Rattle.ccp_run.specs.Attempts.{IsReadWithin};
+ghost use Rattle.ccp_run.specs.Streams.{stream_change};
 
 use crate::refusal::{Limit, Refusal};
 use crate::stop::Stop;
@@ -9,7 +9,7 @@ use std::alloc::Global;
 
 /// Reads the source to its end, which comes within the limit.
 pub fn read_bytes<S: Source>(alloc: Global, limit: Limit, source: &mut S) -> Result<Bytes, Stop>
-    ensures { IsRead limit (over S.remaining S.faults source.old source.new) result }
+    ensures { IsReadWithin limit (stream_change S.remaining S.faults source.old source.new) result }
 {
     match read_all(alloc, source, limit.bytes()) {
         Ok(bytes) => Ok(bytes),

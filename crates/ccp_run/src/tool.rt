@@ -1,6 +1,6 @@
 //! The public call `run`: the whole tool on its words, a source, a sink and an error stream.
 ghost use Rattle.std.specs.Prelude.{map, string_bytes};
-ghost use Rattle.ccp_run.specs.Streams.{over};
+ghost use Rattle.ccp_run.specs.Streams.{stream_change};
 ghost use Rattle.ccp_run.specs.Tool.{DoesWords};
 
 use crate::ending::end_without;
@@ -25,9 +25,9 @@ pub fn run<R: Threads + Wait + Sync, S: Source, K: Sink, E: Sink, G: Gate + Sync
     gate: &G,
 ) -> Outcome
     ensures { DoesWords (map string_bytes words.items)
-        (over S.remaining S.faults source.old source.new)
-        (over K.written K.faults sink.old sink.new)
-        (over E.written E.faults errors.old errors.new) (K.is_finished sink.new) result }
+        (stream_change S.remaining S.faults source.old source.new)
+        (stream_change K.written K.faults sink.old sink.new)
+        (stream_change E.written E.faults errors.old errors.new) (K.is_finished sink.new) result }
 {
     match read_words(alloc, &words) {
         Ok(asked) => run_asked(rt, alloc, asked, source, sink, errors, gate),

@@ -12,7 +12,7 @@ use Rattle.ccp_base.specs.Parts.{separates, parts_of}
 use Rattle.ccp_base.specs.PrimitiveNames.{PrimitiveName, primitive_names, value_named}
 use Rattle.fold_run.specs.declared.line_values.LineValues.{LineValues}
 use Rattle.fold_run.specs.FirstPart.{first_of, after_separator, equals_from}
-use Rattle.fold_run.specs.AckLine.{with_line_value, with_item, with_one_word, with_each_word}
+use Rattle.fold_run.specs.AckLine.{with_line_value, with_named_value, with_one_word, with_each_word}
 use Rattle.fold_run.proofs.FirstLine.{parts-first}
 
 -- the words go on after the first one
@@ -121,10 +121,10 @@ no-item at (byte ∷ rest) is = go (no-item (at + 1) rest) (is_equals byte) (sep
         ∙ past is_equals byte (first_of Blank rest) equal
         ∙ ap (option_map (λ k. 1 + k)) (again is)
 
-item-of : (values : LineValues) (word : List ℕ) (n : ℕ) → position is_equals word ≡ Some n → with_item values word ≡ with_line_value values (value_named (take n word)) (numeral_of (drop (n + 1) word))
+item-of : (values : LineValues) (word : List ℕ) (n : ℕ) → position is_equals word ≡ Some n → with_named_value values word ≡ with_line_value values (value_named (take n word)) (numeral_of (drop (n + 1) word))
 item-of values word n is = ap (option_and_then (λ at. with_line_value values (value_named (take at word)) (numeral_of (drop (at + 1) word)))) is
 
-word-of : (values : LineValues) (word : List ℕ) (n : ℕ) → position is_equals word ≡ Some n → with_one_word values word ≡ with_item values word
+word-of : (values : LineValues) (word : List ℕ) (n : ℕ) → position is_equals word ≡ Some n → with_one_word values word ≡ with_named_value values word
 word-of values [] n is = cc
 word-of values (byte ∷ rest) n is = refl
 

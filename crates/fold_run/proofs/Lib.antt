@@ -6,5 +6,6 @@ mod FirstWord
 mod SeparatedLemmas
 mod AcksLaws
 mod CutLaws
+pub mod NameLemmas
 mod ItemLemmas
 mod LineLemmas

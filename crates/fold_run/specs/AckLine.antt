@@ -39,14 +39,14 @@ with_line_value values (Some n) None = None
 with_line_value values (Some n) (Some value) = with_number values n value
 
 -- the value that a word `name=numeral` gives
-abbrev pub with_item : LineValues → List ℕ → Option LineValues
-with_item values word =
+abbrev pub with_named_value : LineValues → List ℕ → Option LineValues
+with_named_value values word =
     option_and_then (λ at. with_line_value values (value_named (take at word)) (numeral_of (drop (at + 1) word))) (position (λ byte. byte == 61) word)
 
 -- two blanks may stand side by side
 abbrev pub with_one_word : LineValues → List ℕ → Option LineValues
 with_one_word values [] = Some values
-with_one_word values (byte ∷ rest) = with_item values (byte ∷ rest)
+with_one_word values (byte ∷ rest) = with_named_value values (byte ∷ rest)
 
 -- the values with those of each of the words
 abbrev pub with_each_word : Option LineValues → List (List ℕ) → Option LineValues

@@ -35,8 +35,8 @@ fold_reports form acks = reports (by_source form) fold_epoch (map with_room acks
 abbrev pub fold_fault : Form → List Ack → Option (ℕ × Cause)
 fold_fault form acks = epoch_fault (by_source form) (map with_room acks) (fold_start form)
 
-abbrev pub end_of : Track → End
-end_of track = record {
+abbrev pub end_of_track : Track → End
+end_of_track track = record {
   acks = track.count;
   first = track.first;
   stopped = track.is_stopped;
@@ -46,7 +46,7 @@ end_of track = record {
 }
 
 abbrev pub fold_end : Form → List Ack → End
-fold_end form acks = end_of (fold_track form acks)
+fold_end form acks = end_of_track (fold_track form acks)
 
 abbrev pub place_at : List Place → ℕ → Place
 place_at places index = slice_index_or places index (record { line = 0; column = 0 })

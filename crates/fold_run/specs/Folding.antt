@@ -43,8 +43,8 @@ folding_track folding = record {
 }
 
 -- the state of a fold's code
-abbrev pub running_of : Folding → CodeRun
-running_of folding = record {
+abbrev pub folding_code_run : Folding → CodeRun
+folding_code_run folding = record {
   kept = folding.machine.kept;
   is_stopped = folding.machine.is_stopped;
   ran = folding.ran;
@@ -89,8 +89,8 @@ abbrev pub by_program : Built → Kept → Ack → Mean × Env
 by_program built kept ack = one_of (form_of built.program) (env_of kept) ack true
 
 -- what its code does at it
-abbrev pub by_code : Built → Kept → Ack → Made
-by_code built kept ack = one_by_code built.code.code kept ack true
+abbrev pub made_by_code : Built → Kept → Ack → Made
+made_by_code built kept ack = one_by_code built.code.code kept ack true
 
 -- the state of the program after it
 abbrev pub track_after : Built → Folding → Ack → Track
@@ -98,7 +98,7 @@ track_after built folding ack = after_event (by_source (form_of built.program)) 
 
 -- the state of the code after it
 abbrev pub code_after : Built → Folding → Ack → CodeRun
-code_after built folding ack = running_after built.code.code (running_of folding) ack
+code_after built folding ack = running_after built.code.code (folding_code_run folding) ack
 
 -- the reports of it
 abbrev pub reports_after : Built → Folding → Ack → List Report
@@ -118,8 +118,8 @@ KeepsNotice built ack before now =
     (acks : List Ack) → slice_get acks before.count ≡ Some ack → HasNotice acks built.places before → HasNotice acks built.places now
 
 -- the notice of a fault at it
-abbrev pub notice_of : Folding → ℕ → FaultKind → ℕ → ℕ → Notice
-notice_of folding at kind index now = record {
+abbrev pub folding_notice : Folding → ℕ → FaultKind → ℕ → ℕ → Notice
+folding_notice folding at kind index now = record {
   flow = 0;
   program = 0;
   epoch = 0;

@@ -6,8 +6,8 @@ ghost use Rattle.fold_machine.specs.MachineState.{Fits};
 ghost use Rattle.fold_machine.specs.Heard.{is_fault, stops};
 ghost use Rattle.fold_run.specs.Fold.{fold_start};
 ghost use Rattle.fold_run.specs.AnswerMeaning.{mean_of, HasItsPlace};
-ghost use Rattle.fold_run.specs.Folding.{env_of, folding_track, running_of, IsFoldOf, KeepsNotice, by_code, by_program};
-ghost use Rattle.fold_run.specs.Folding.{code_after, end_with, fault_after, fault_in, notice_of, reported_by};
+ghost use Rattle.fold_run.specs.Folding.{env_of, folding_track, folding_code_run, IsFoldOf, KeepsNotice, made_by_code, by_program};
+ghost use Rattle.fold_run.specs.Folding.{code_after, end_with, fault_after, fault_in, folding_notice, reported_by};
 ghost use Rattle.fold_run.specs.Folding.{reports_after, track_after};
 ghost use Rattle.fold_run.specs.Ran.{running_start};
 
@@ -41,9 +41,9 @@ fn meant<L: Ledger>(machine: &mut Machine, built: &Built, ack: &Ack, steps: &mut
         ≡ mean_of built.now.places machine.new.report result }
     ensures placed { HasItsPlace built.now.places result }
     ensures env { env_of machine.new.kept ≡ (by_program built.now machine.old.kept ack.entry.now).1 }
-    ensures kept { machine.new.kept ≡ (by_code built.now machine.old.kept ack.entry.now).kept }
-    ensures ran { machine.new.ran ≡ (by_code built.now machine.old.kept ack.entry.now).ran }
-    ensures stopped { machine.new.is_stopped ≡ stops (by_code built.now machine.old.kept ack.entry.now).outcome }
+    ensures kept { machine.new.kept ≡ (made_by_code built.now machine.old.kept ack.entry.now).kept }
+    ensures ran { machine.new.ran ≡ (made_by_code built.now machine.old.kept ack.entry.now).ran }
+    ensures stopped { machine.new.is_stopped ≡ stops (made_by_code built.now machine.old.kept ack.entry.now).outcome }
     ensures stops { machine.new.is_stopped ≡ is_fault result }
     ensures fits { Fits machine.new built.now.code.code }
 {
@@ -54,7 +54,7 @@ impl Folding {
     /// A fold before its first acknowledgement.
     pub fn begin(alloc: Global, built: &Built) -> Result<Folding, NoMemory>
         ensures track { IfOk result (λ folding. folding_track folding ≡ fold_start (form_of built.now.program)) }
-        ensures running { IfOk result (λ folding. running_of folding ≡ running_start built.now.code.code) }
+        ensures running { IfOk result (λ folding. folding_code_run folding ≡ running_start built.now.code.code) }
         ensures reports { IfOk result (λ folding. folding.reports ≡ []) }
         ensures fault { IfOk result (λ folding. folding.fault ≡ None) }
         ensures fold { IfOk result (IsFoldOf built.now.code.code) }
@@ -84,7 +84,7 @@ impl Folding {
         requires fold { IsFoldOf built.now.code.code self.old }
         requires room { self.old.count < most_acks }
         ensures track { OnOk result (folding_track self.new ≡ track_after built.now self.old ack.entry.now) }
-        ensures running { OnOk result (running_of self.new ≡ code_after built.now self.old ack.entry.now) }
+        ensures running { OnOk result (folding_code_run self.new ≡ code_after built.now self.old ack.entry.now) }
         ensures reports { OnOk result (self.new.reports
             ≡ self.old.reports ++ reports_after built.now self.old ack.entry.now) }
         ensures fault { OnOk result (fault_in built.now self.new ≡ fault_after built.now self.old ack.entry.now) }
@@ -131,7 +131,7 @@ impl Folding {
 
     /// The notice that the acknowledgement with the number `at` and the time `now` faulted.
     fn notice(&self, at: u64, kind: FaultKind, index: u16, now: u64) -> Notice
-        ensures { result ≡ notice_of self.now at kind index now }
+        ensures { result ≡ folding_notice self.now at kind index now }
     {
         Notice {
             flow: 0,

@@ -7,8 +7,8 @@ ghost use Rattle.ccp_base.specs.declared.arithmetic.FaultKind.TheVariants.{Overf
 ghost use Rattle.reply_frames.specs.declared.outline.Version.TheVariants.{One};
 
 use crate::frames::{
-    ACK_BYTES, ACK_OF_TIMEOUT, CHANGE_8, CREATE, FAULT, FAULT_1, INSTALL, INSTALL_5, MEASURE,
-    MEASURE_WIDE, REFUSED_2, UPDATE,
+    ACK_BYTES, CHANGE_8, CREATE, FAULT, FAULT_1, INSTALL, INSTALL_5, MEASURE, MEASURE_WIDE,
+    REFUSED_2, UPDATE, ack_frame,
 };
 use ccp_base::{Bytes, FaultKind, FieldReg, Fields, Notice, Values};
 use ccp_messages::{Message, Short, Version, decode, encode_into};
@@ -150,15 +150,7 @@ fn comes_back(alloc: Global, bytes: &[u8]) -> bool {
 const ONE_VERSION: [&[u8]; 4] = [MEASURE, MEASURE_WIDE, FAULT_1, FAULT];
 
 /// Frames of a kind whose frames are the same in both versions but for the version.
-const BOTH_VERSIONS: [&[u8]; 7] = [
-    ACK_OF_TIMEOUT,
-    CREATE,
-    INSTALL_5,
-    INSTALL,
-    UPDATE,
-    CHANGE_8,
-    REFUSED_2,
-];
+const BOTH_VERSIONS: [&[u8]; 6] = [CREATE, INSTALL_5, INSTALL, UPDATE, CHANGE_8, REFUSED_2];
 
 /// Each kind in both versions, with a byte more behind it.
 #[test]
@@ -170,6 +162,15 @@ fn each_kind_comes_back(rt: HostRuntime) -> Result<(), Fail> {
         assert!(rt; comes_back_in(rt.alloc(), frame, 1)?);
         assert!(rt; comes_back_in(rt.alloc(), frame, 2)?);
     }
+    Ok(())
+}
+
+/// The same of an Ack with a time and a timeout.
+#[test]
+fn an_ack_comes_back(rt: HostRuntime) -> Result<(), Fail> {
+    let ack = ack_frame(rt.alloc(), 8, 1)?;
+    assert!(rt; comes_back_in(rt.alloc(), ack.as_slice(), 1)?);
+    assert!(rt; comes_back_in(rt.alloc(), ack.as_slice(), 2)?);
     Ok(())
 }
 

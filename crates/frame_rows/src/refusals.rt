@@ -1,6 +1,7 @@
 //! Bytes that no frame begins with, and bytes that go on to one, for both decoders.
 use crate::frames::{
-    ACK, ACK_BYTES, CHANGE, CHANGE_3, CREATE, FAULT, INSTALL, INSTALL_5, MEASURE, REFUSED_2, UPDATE,
+    ACK_BYTES, CHANGE, CHANGE_3, CREATE, FAULT, INSTALL, INSTALL_5, MEASURE, REFUSED_2, UPDATE,
+    ack_frame,
 };
 use ccp_base::{Bytes, Fields};
 use ccp_messages::{BadKind, DecodeFault, decode};
@@ -37,8 +38,8 @@ fn cut_everywhere(rt: &impl Abort, alloc: Global, frame: &[u8]) {
 }
 
 /// Frames that are cut at each place.
-const WHOLE: [&[u8]; 10] = [
-    CREATE, MEASURE, INSTALL_5, INSTALL, UPDATE, CHANGE, CHANGE_3, FAULT, ACK, REFUSED_2,
+const WHOLE: [&[u8]; 9] = [
+    CREATE, MEASURE, INSTALL_5, INSTALL, UPDATE, CHANGE, CHANGE_3, FAULT, REFUSED_2,
 ];
 
 #[test]
@@ -48,11 +49,18 @@ fn a_cut_frame_says_what_it_goes_on_to(rt: HostRuntime) {
     }
 }
 
+#[test]
+fn a_cut_ack_says_what_it_goes_on_to(rt: HostRuntime) -> Result<(), Fail> {
+    let ack = ack_frame(rt.alloc(), 0, 0)?;
+    cut_everywhere(&rt, rt.alloc(), ack.as_slice());
+    Ok(())
+}
+
 /// A frame, a place, a byte that can't stand there, and the byte's field.
-type Bad = (&'static [u8], usize, u8, BadKind);
+type Bad<'a> = (&'a [u8], usize, u8, BadKind);
 
 /// Whether a frame with the byte at the place is refused there.
-fn is_bad(alloc: Global, bad: &Bad) -> Result<bool, AllocError> {
+fn is_bad(alloc: Global, bad: &Bad<'_>) -> Result<bool, AllocError> {
     let (frame, place, byte, field) = *bad;
     if place >= frame.len() {
         return Ok(false);
@@ -77,7 +85,7 @@ const FULLER: &[u8] = b"\x03\x02\x40\x40\x00\x00\x01\x00";
 /// The front of an Update of control 0.
 const CONTROL: &[u8] = b"\x04\x01\x01\x00\x00\x00\x00\x00\x00\x00\x00\x00\x1a\x00\x00\x00\x03\x00";
 
-const BAD: [Bad; 36] = [
+const BAD: [Bad<'static>; 33] = [
     (b"\x01", 0, 9, BadKind::Kind),
     (b"\x01", 0, 0, BadKind::Kind),
     (b"\x01\x01", 1, 3, BadKind::Version),
@@ -107,9 +115,6 @@ const BAD: [Bad; 36] = [
     (CONTROL, 17, 64, BadKind::Index),
     (FAULT, 32, 3, BadKind::FaultKind),
     (FAULT, 12, 47, BadKind::Length),
-    (ACK, ACK_BYTES - 8, 2, BadKind::Flag),
-    (ACK, ACK_BYTES - 1, 1, BadKind::Flag),
-    (ACK, 6, 1, BadKind::Count),
     (REFUSED_2, 16, 0, BadKind::Kind),
     (REFUSED_2, 16, 10, BadKind::Kind),
     (REFUSED_2, 4, 1, BadKind::Count),
@@ -120,6 +125,27 @@ const BAD: [Bad; 36] = [
 fn the_first_bad_byte_is_named(rt: HostRuntime) -> Result<(), Fail> {
     for (place, bad) in BAD.iter().enumerate() {
         assert!(rt; is_bad(rt.alloc(), bad)?, "row {place}");
+    }
+    Ok(())
+}
+
+/// A place in an Ack, a byte that can't stand there, and the byte's field.
+const BAD_IN_ACK: [(usize, u8, BadKind); 3] = [
+    (ACK_BYTES - 8, 2, BadKind::Flag),
+    (ACK_BYTES - 1, 1, BadKind::Flag),
+    (6, 1, BadKind::Count),
+];
+
+fn is_bad_in_ack(alloc: Global, bad: &(usize, u8, BadKind)) -> Result<bool, AllocError> {
+    let (place, byte, field) = *bad;
+    let ack = ack_frame(alloc, 0, 0)?;
+    is_bad(alloc, &(ack.as_slice(), place, byte, field))
+}
+
+#[test]
+fn the_first_bad_byte_of_an_ack_is_named(rt: HostRuntime) -> Result<(), Fail> {
+    for bad in &BAD_IN_ACK {
+        assert!(rt; is_bad_in_ack(rt.alloc(), bad)?, "at {}", bad.0);
     }
     Ok(())
 }

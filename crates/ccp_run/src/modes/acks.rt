@@ -1,11 +1,11 @@
 //! The mode `acks`: the cases of a scenario on their campaign words, as lines of acknowledgements.
-ghost use Rattle.std.specs.Prelude.{◌≡◌, ◌≤◌, [], IfOk, length};
+ghost use Rattle.std.specs.Prelude.{◌≡◌, ◌≤◌, IfOk, length};
 ghost use Rattle.std.specs.List.{All};
 ghost use Rattle.ccp_base.specs.Limits.{most_flows};
 ghost use Rattle.scenario_json.specs.Cases.{case_names, IsCoded, AreNumberedFrom};
-ghost use Rattle.ccp_run.specs.AcksRuns.{acks_written};
+ghost use Rattle.ccp_run.specs.AcksRuns.{TellsAcks};
 ghost use Rattle.ccp_run.specs.Attempts.{IsOutputOrRefusal, IsAttempt};
-ghost use Rattle.ccp_run.specs.Streams.{over};
+ghost use Rattle.ccp_run.specs.Streams.{stream_change};
 ghost use Rattle.ccp_run.specs.Modes.{Task};
 
 use crate::modes::common::agents;
@@ -31,13 +31,14 @@ pub fn read_acks<R: Threads + Wait + Sync, S: Source, G: Gate + Sync>(
     source: &mut S,
     gate: &G,
 ) -> Result<ModeOutput, Stop>
-    ensures { IsAttempt Task.Acks (over S.remaining S.faults source.old source.new) result }
+    ensures { IsAttempt Task.Acks (stream_change S.remaining S.faults source.old source.new) result }
 {
     let bytes = read_bytes(alloc, Limit::Input, source)?;
     acks_output(rt, alloc, workers, bytes.as_slice(), gate)
 }
 
 /// The acknowledgements of the scenario that the bytes stand for, or its refusal.
+#[tactic(auto, using(crate::proofs::ScenarioInputs::of_cases))]
 fn acks_output<R: Threads + Wait + Sync, G: Gate + Sync>(
     rt: &R,
     alloc: Global,
@@ -63,10 +64,8 @@ fn run_acks<R: Threads + Wait + Sync, G: Gate + Sync>(
     requires few { length scene.cases ≤ most_flows }
     requires numbered { AreNumberedFrom 0 scene.programs }
     requires coded { All (IsCoded scene.programs) scene.cases }
-    ensures text { IfOk result (λ output. output.text ≡ acks_written scene.programs scene.cases) }
-    ensures books { IfOk result (λ output. output.books ≡ []) }
     ensures programs { IfOk result (λ output. output.programs ≡ scene.programs) }
-    ensures ran { IfOk result (λ output. output.ran ≡ 0) }
+    ensures tells { IfOk result (TellsAcks scene.programs scene.cases) }
 {
     let agents = agents(alloc, scene.cases.as_slice())?;
     let acks = acks(rt, alloc, scene.cases, workers, gate)?;

@@ -7,7 +7,7 @@ ghost use Rattle.scenario_json.specs.ScenePrograms.{forms_of};
 ghost use Rattle.run_audit.specs.Audit.{IsVerdict};
 ghost use Rattle.ccp_run.specs.Attempts.{IsOutputOrRefusal, IsAttempt};
 ghost use Rattle.ccp_run.specs.AuditRuns.{verdict_text};
-ghost use Rattle.ccp_run.specs.Streams.{over};
+ghost use Rattle.ccp_run.specs.Streams.{stream_change};
 ghost use Rattle.ccp_run.specs.Modes.{Task};
 
 use crate::outcome::ModeOutput;
@@ -25,7 +25,7 @@ use std::alloc::Global;
 /// Reads a scenario and a text below it, and makes the verdict on the text.
 #[tactic(auto, using(crate::proofs::ReadLemmas::not_read, crate::proofs::ReadLemmas::answered))]
 pub fn read_audit<S: Source>(alloc: Global, source: &mut S) -> Result<ModeOutput, Stop>
-    ensures { IsAttempt (Task.Alone Alone.Audit) (over S.remaining S.faults source.old source.new) result }
+    ensures { IsAttempt (Task.Alone Alone.Audit) (stream_change S.remaining S.faults source.old source.new) result }
 {
     let bytes = read_bytes(alloc, Limit::Audit, source)?;
     audit_output(alloc, bytes.as_slice())

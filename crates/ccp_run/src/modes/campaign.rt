@@ -1,13 +1,12 @@
 //! The mode `campaign`: the table of a scenario's cases, after the programs' frames if the words ask for them.
-ghost use Rattle.std.specs.Prelude.{◌≡◌, ◌≤◌, ◌++◌, [], IfOk, map, length};
+ghost use Rattle.std.specs.Prelude.{◌≡◌, ◌≤◌, ◌++◌, IfOk, length};
 ghost use Rattle.ccp_base.specs.Limits.{most_cases};
-ghost use Rattle.flow_core.specs.declared.case.Case.{Case};
 ghost use Rattle.ccp_run.specs.Attempts.{IsOutputOrRefusal, IsAttempt};
 ghost use Rattle.std.specs.List.{All};
 ghost use Rattle.campaign_report.specs.TableText.{table_text};
 ghost use Rattle.scenario_json.specs.Cases.{case_names, IsCoded, AreNumberedFrom};
-ghost use Rattle.ccp_run.specs.Campaign.{campaign_text, frames_shown};
-ghost use Rattle.ccp_run.specs.Streams.{over};
+ghost use Rattle.ccp_run.specs.Campaign.{TellsCampaign, frames_shown};
+ghost use Rattle.ccp_run.specs.Streams.{stream_change};
 ghost use Rattle.ccp_run.specs.Modes.{Task};
 
 use crate::modes::common::{agents, frames};
@@ -36,13 +35,14 @@ pub fn read_campaign<R: Threads + Wait + Sync, S: Source, G: Gate + Sync>(
     source: &mut S,
     gate: &G,
 ) -> Result<ModeOutput, Stop>
-    ensures { IsAttempt (Task.Campaign wire) (over S.remaining S.faults source.old source.new) result }
+    ensures { IsAttempt (Task.Campaign wire) (stream_change S.remaining S.faults source.old source.new) result }
 {
     let bytes = read_bytes(alloc, Limit::Input, source)?;
     campaign_output(rt, alloc, workers, wire, bytes.as_slice(), gate)
 }
 
 /// The table of the scenario that the bytes stand for, or its refusal.
+#[tactic(auto, using(crate::proofs::ScenarioInputs::of_cases))]
 fn campaign_output<R: Threads + Wait + Sync, G: Gate + Sync>(
     rt: &R,
     alloc: Global,
@@ -71,10 +71,8 @@ fn run_campaign<R: Threads + Wait + Sync, G: Gate + Sync>(
     requires few { length scene.cases ≤ most_cases }
     requires numbered { AreNumberedFrom 0 scene.programs }
     requires coded { All (IsCoded scene.programs) scene.cases }
-    ensures text { IfOk result (λ output. output.text ≡ campaign_text wire scene.programs scene.cases) }
-    ensures books { IfOk result (λ output. output.books ≡ []) }
     ensures programs { IfOk result (λ output. output.programs ≡ scene.programs) }
-    ensures ran { IfOk result (λ output. output.ran ≡ 0) }
+    ensures tells { IfOk result (TellsCampaign wire scene.programs scene.cases) }
 {
     let agents = agents(alloc, scene.cases.as_slice())?;
     let rows = rows(rt, alloc, scene.cases, workers, gate)?;

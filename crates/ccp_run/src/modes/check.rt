@@ -1,7 +1,7 @@
 //! The mode `check`: the summary and the listing of a program, or its refusal.
 ghost use Rattle.std.specs.Prelude.{◌≡◌};
 ghost use Rattle.ccp_run.specs.Attempts.{IsOutputOrRefusal, IsAttempt};
-ghost use Rattle.ccp_run.specs.Streams.{over};
+ghost use Rattle.ccp_run.specs.Streams.{stream_change};
 ghost use Rattle.ccp_run.specs.Modes.{Task};
 
 use crate::outcome::ModeOutput;
@@ -17,7 +17,7 @@ use std::alloc::Global;
 /// Reads a program's text, and makes its summary and its listing.
 #[tactic(auto, using(crate::proofs::ReadLemmas::not_read, crate::proofs::ReadLemmas::answered))]
 pub fn read_check<S: Source>(alloc: Global, source: &mut S) -> Result<ModeOutput, Stop>
-    ensures { IsAttempt (Task.Alone Alone.Check) (over S.remaining S.faults source.old source.new) result }
+    ensures { IsAttempt (Task.Alone Alone.Check) (stream_change S.remaining S.faults source.old source.new) result }
 {
     let bytes = read_bytes(alloc, Limit::Input, source)?;
     check_output(alloc, bytes.as_slice())

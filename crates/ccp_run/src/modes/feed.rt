@@ -4,7 +4,7 @@ ghost use Rattle.std.specs.Prelude.{◌≡◌};
 ghost use Rattle.ccp_words.specs.declared.mode.Alone.TheVariants as modes;
 ghost use Rattle.ccp_run.specs.FeedEndings.{EndsFeed};
 ghost use Rattle.ccp_run.specs.Run.{IsRun};
-ghost use Rattle.ccp_run.specs.Streams.{over};
+ghost use Rattle.ccp_run.specs.Streams.{stream_change};
 ghost use Rattle.ccp_run.specs.Modes.{Task};
 
 use crate::ending::{end_without, refuse};
@@ -24,9 +24,9 @@ pub fn run_feed<S: Source, K: Sink, E: Sink>(
     errors: &mut E,
 ) -> Outcome
     ensures { IsRun (Task.Alone modes.Feed)
-        (over S.remaining S.faults source.old source.new)
-        (over K.written K.faults sink.old sink.new)
-        (over E.written E.faults errors.old errors.new) (K.is_finished sink.new) result }
+        (stream_change S.remaining S.faults source.old source.new)
+        (stream_change K.written K.faults sink.old sink.new)
+        (stream_change E.written E.faults errors.old errors.new) (K.is_finished sink.new) result }
 {
     let ended = feed(alloc, source, sink);
     end_feed(alloc, errors, ended)
@@ -34,7 +34,7 @@ pub fn run_feed<S: Source, K: Sink, E: Sink>(
 
 /// Reports how a feed ended if its input isn't whole.
 fn end_feed<E: Sink>(alloc: Global, errors: &mut E, ended: FeedEnd) -> Outcome
-    ensures { EndsFeed (over E.written E.faults errors.old errors.new) result ended }
+    ensures { EndsFeed (stream_change E.written E.faults errors.old errors.new) result ended }
 {
     match ended {
         FeedEnd::Whole => Outcome::empty(alloc, Status::Done),

@@ -5,7 +5,7 @@ ghost use Rattle.portus_core.specs.ProgramForm.{form_of};
 ghost use Rattle.fold_run.specs.Ran.{ran_of};
 ghost use Rattle.ccp_run.specs.Attempts.{IsOutputOrRefusal, IsAttempt};
 ghost use Rattle.ccp_run.specs.Fold.{folded_text};
-ghost use Rattle.ccp_run.specs.Streams.{over};
+ghost use Rattle.ccp_run.specs.Streams.{stream_change};
 ghost use Rattle.ccp_run.specs.Modes.{Task};
 
 use crate::outcome::ModeOutput;
@@ -24,7 +24,7 @@ use std::alloc::Global;
 /// Reads a program and acknowledgements below it, and makes the program's fold over these.
 #[tactic(auto, using(crate::proofs::ReadLemmas::not_read, crate::proofs::ReadLemmas::answered))]
 pub fn read_fold<S: Source>(alloc: Global, source: &mut S) -> Result<ModeOutput, Stop>
-    ensures { IsAttempt (Task.Alone Alone.Fold) (over S.remaining S.faults source.old source.new) result }
+    ensures { IsAttempt (Task.Alone Alone.Fold) (stream_change S.remaining S.faults source.old source.new) result }
 {
     let bytes = read_bytes(alloc, Limit::Input, source)?;
     fold_output(alloc, bytes.as_slice())

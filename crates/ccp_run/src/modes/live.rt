@@ -4,8 +4,8 @@ ghost use Rattle.std.specs.List.{All};
 ghost use Rattle.ccp_base.specs.Limits.{most_flows};
 ghost use Rattle.scenario_json.specs.Cases.{IsCoded, AreFlowsFrom, AreNumberedFrom};
 ghost use Rattle.ccp_run.specs.Attempts.{IsOutputOrRefusal, IsAttempt};
-ghost use Rattle.ccp_run.specs.Live.{IsRightBook, book_cases, books_written};
-ghost use Rattle.ccp_run.specs.Streams.{over};
+ghost use Rattle.ccp_run.specs.Live.{TellsLive};
+ghost use Rattle.ccp_run.specs.Streams.{stream_change};
 ghost use Rattle.ccp_run.specs.Modes.{Task};
 
 use crate::modes::common::books_text;
@@ -33,13 +33,14 @@ pub fn read_live<R: Threads + Wait + Sync, S: Source, G: Gate + Sync>(
     source: &mut S,
     gate: &G,
 ) -> Result<ModeOutput, Stop>
-    ensures { IsAttempt (Task.Live wire) (over S.remaining S.faults source.old source.new) result }
+    ensures { IsAttempt (Task.Live wire) (stream_change S.remaining S.faults source.old source.new) result }
 {
     let bytes = read_bytes(alloc, Limit::Input, source)?;
     live_output(rt, alloc, datapaths, agents, wire, bytes.as_slice(), gate)
 }
 
 /// The output for the flows of the scenario that the bytes stand for, or its refusal.
+#[tactic(auto, using(crate::proofs::ScenarioInputs::of_cases))]
 fn live_output<R: Threads + Wait + Sync, G: Gate + Sync>(
     rt: &R,
     alloc: Global,
@@ -69,11 +70,8 @@ fn run_live<R: Threads + Wait + Sync, G: Gate + Sync>(
     requires flows { AreFlowsFrom 0 scene.cases }
     requires numbered { AreNumberedFrom 0 scene.programs }
     requires coded { All (IsCoded scene.programs) scene.cases }
-    ensures text { IfOk result (λ output. output.text ≡ books_written wire scene.programs output.books) }
-    ensures books { IfOk result (λ output. book_cases output.books ≡ scene.cases) }
-    ensures right { IfOk result (λ output. All (IsRightBook scene.programs) output.books) }
     ensures programs { IfOk result (λ output. output.programs ≡ scene.programs) }
-    ensures ran { IfOk result (λ output. output.ran ≡ 0) }
+    ensures tells { IfOk result (TellsLive wire scene.programs scene.cases) }
 {
     let table = FlowTable::new(alloc, scene.cases)?;
     let books = live(rt, alloc, table, datapaths, agents, gate)?;

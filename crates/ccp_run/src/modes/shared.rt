@@ -8,7 +8,7 @@ ghost use Rattle.scenario_json.specs.SharedScenes.{flow_link_of};
 ghost use Rattle.shared_link.specs.SharedLimits.{IsWithin};
 ghost use Rattle.ccp_run.specs.Attempts.{IsOutputOrRefusal, IsAttempt};
 ghost use Rattle.ccp_run.specs.Shared.{IsSharedScenario, StopsShared, link_line, text_of_scene};
-ghost use Rattle.ccp_run.specs.Streams.{over};
+ghost use Rattle.ccp_run.specs.Streams.{stream_change};
 ghost use Rattle.ccp_run.specs.Modes.{Task};
 
 use crate::modes::common::agents;
@@ -35,7 +35,7 @@ pub fn read_shared<R: Threads + Wait + Sync, S: Source, G: Gate + Sync>(
     source: &mut S,
     gate: &G,
 ) -> Result<ModeOutput, Stop>
-    ensures { IsAttempt Task.Shared (over S.remaining S.faults source.old source.new) result }
+    ensures { IsAttempt Task.Shared (stream_change S.remaining S.faults source.old source.new) result }
 {
     let bytes = read_bytes(alloc, Limit::Input, source)?;
     shared_output(rt, alloc, workers, bytes.as_slice(), gate)

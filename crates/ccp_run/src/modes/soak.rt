@@ -2,7 +2,7 @@
 ghost use Rattle.std.specs.Prelude.{◌≡◌, ◌≤◌, IfOk};
 ghost use Rattle.ccp_run.specs.Attempts.{IsAttempt};
 ghost use Rattle.ccp_run.specs.Soak.{IsSoakOutput};
-ghost use Rattle.ccp_run.specs.Streams.{Stream, IsUntouched};
+ghost use Rattle.ccp_run.specs.Streams.{StreamChange, IsUntouched};
 ghost use Rattle.ccp_run.specs.Modes.{Task};
 
 use crate::outcome::ModeOutput;
@@ -23,7 +23,7 @@ pub fn soak_output<R: Threads + Wait + Sync, G: Gate + Sync>(
     number: u32,
     gate: &G,
 ) -> Result<ModeOutput, Stop>
-    ensures { (source : Stream) → IsUntouched source → IsAttempt (Task.Soak number) source result }
+    ensures { (source : StreamChange) → IsUntouched source → IsAttempt (Task.Soak number) source result }
 {
     Ok(run_soak(rt, alloc, workers, number, gate)?)
 }

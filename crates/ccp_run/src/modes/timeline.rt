@@ -2,13 +2,10 @@
 ghost use Rattle.std.specs.Prelude.{◌≡◌, ◌≤◌, IfOk, length};
 ghost use Rattle.std.specs.List.{All};
 ghost use Rattle.ccp_base.specs.Limits.{most_flows};
-ghost use Rattle.campaign_report.specs.BooksRead.{flows_of};
 ghost use Rattle.scenario_json.specs.Cases.{IsCoded, AreNumberedFrom};
-ghost use Rattle.scenario_json.specs.ScenePrograms.{forms_of};
 ghost use Rattle.ccp_run.specs.Attempts.{IsOutputOrRefusal, IsAttempt};
-ghost use Rattle.ccp_run.specs.Live.{IsRightBook};
-ghost use Rattle.ccp_run.specs.Streams.{over};
-ghost use Rattle.ccp_run.specs.Timeline.{planned_by, timeline_text};
+ghost use Rattle.ccp_run.specs.Streams.{stream_change};
+ghost use Rattle.ccp_run.specs.Timeline.{TellsTimeline};
 ghost use Rattle.ccp_run.specs.Modes.{Task};
 
 use crate::modes::common::books_text;
@@ -34,13 +31,14 @@ pub fn read_timeline<R: Threads + Wait + Sync, S: Source, G: Gate + Sync>(
     source: &mut S,
     gate: &G,
 ) -> Result<ModeOutput, Stop>
-    ensures { IsAttempt (Task.Timeline wire) (over S.remaining S.faults source.old source.new) result }
+    ensures { IsAttempt (Task.Timeline wire) (stream_change S.remaining S.faults source.old source.new) result }
 {
     let bytes = read_bytes(alloc, Limit::Input, source)?;
     timeline_output(rt, alloc, workers, wire, bytes.as_slice(), gate)
 }
 
 /// The timeline of the scenario that the bytes stand for, or its refusal.
+#[tactic(auto, using(crate::proofs::ScenarioInputs::of_cases))]
 fn timeline_output<R: Threads + Wait + Sync, G: Gate + Sync>(
     rt: &R,
     alloc: Global,
@@ -67,11 +65,8 @@ fn run_timeline<R: Threads + Wait + Sync, G: Gate + Sync>(
     requires few { length scene.cases ≤ most_flows }
     requires numbered { AreNumberedFrom 0 scene.programs }
     requires coded { All (IsCoded scene.programs) scene.cases }
-    ensures text { IfOk result (λ output. output.text ≡ timeline_text wire scene.programs scene.cases) }
-    ensures books { IfOk result (λ output. flows_of output.books ≡ planned_by (forms_of scene.programs) scene.cases) }
-    ensures right { IfOk result (λ output. All (IsRightBook scene.programs) output.books) }
     ensures programs { IfOk result (λ output. output.programs ≡ scene.programs) }
-    ensures ran { IfOk result (λ output. output.ran ≡ 0) }
+    ensures tells { IfOk result (TellsTimeline wire scene.programs scene.cases) }
 {
     let books = books(rt, alloc, scene.cases, workers, gate)?;
     Ok(ModeOutput {

@@ -1,13 +1,13 @@
 use Rattle.ccp_run.specs.Modes.{Alone}
-use Rattle.ccp_run.specs.Streams.{Stream, over}
+use Rattle.ccp_run.specs.Streams.{StreamChange, stream_change}
 use Rattle.ccp_run.proofs.CompleteRuns.{complete}
 use Rattle.ccp_run.proofs.calls.alone.Goals as goal
 
 pub returns : goal.returns
 returns g c =
-    let source : Stream = over g.S.Source.remaining g.S.Source.faults c.args.source.now c.run_alone.new.source in
-    let sink : Stream = over g.K.Sink.written g.K.Sink.faults c.args.sink.now c.run_alone.new.sink in
-    let errors : Stream = over g.E.Sink.written g.E.Sink.faults c.args.errors.now c.run_alone.new.errors in
+    let source : StreamChange = stream_change g.S.Source.remaining g.S.Source.faults c.args.source.now c.run_alone.new.source in
+    let sink : StreamChange = stream_change g.K.Sink.written g.K.Sink.faults c.args.sink.now c.run_alone.new.sink in
+    let errors : StreamChange = stream_change g.E.Sink.written g.E.Sink.faults c.args.errors.now c.run_alone.new.errors in
     record {
       run = c.run_alone.ensures;
       complete = complete (Alone c.args.mode) source sink errors (g.K.Sink.is_finished c.run_alone.new.sink) c.run_alone.result c.run_alone.ensures;

@@ -1,15 +1,15 @@
 use Rattle.std.proofs.Common.{ap, refl, sym, subst}
 use Rattle.ccp_run.specs.Modes.{Task, Live, Campaign, Soak, Rollout, Shared, Timeline, Acks, task_in}
 use Rattle.ccp_run.specs.Run.{IsRun}
-use Rattle.ccp_run.specs.Streams.{Stream, over}
+use Rattle.ccp_run.specs.Streams.{StreamChange, stream_change}
 use Rattle.ccp_run.proofs.RunLemmas.{run_of}
 use Rattle.ccp_run.proofs.modes.run_asked.Goals as goal
 
 pub returns-in-Live : goal.returns-in-Live
 returns-in-Live g c =
-    let source : Stream = over g.S.Source.remaining g.S.Source.faults c.args.source.now c.read_live-made.new.source in
-    let sink : Stream = over g.K.Sink.written g.K.Sink.faults c.args.sink.now c.end.new.sink in
-    let errors : Stream = over g.E.Sink.written g.E.Sink.faults c.args.errors.now c.end.new.errors in
+    let source : StreamChange = stream_change g.S.Source.remaining g.S.Source.faults c.args.source.now c.read_live-made.new.source in
+    let sink : StreamChange = stream_change g.K.Sink.written g.K.Sink.faults c.args.sink.now c.end.new.sink in
+    let errors : StreamChange = stream_change g.E.Sink.written g.E.Sink.faults c.args.errors.now c.end.new.errors in
     let is_finished = g.K.Sink.is_finished c.end.new.sink in
     subst (λ (task : Task). IsRun task source sink errors is_finished c.end.result) (sym (ap (λ mode. task_in mode c.args.asked) c.in-Live.is))
     (run_of (Live c.args.asked.wire) refl source sink errors is_finished c.end.result c.read_live-made.result
@@ -17,9 +17,9 @@ returns-in-Live g c =
 
 pub returns-in-Campaign : goal.returns-in-Campaign
 returns-in-Campaign g c =
-    let source : Stream = over g.S.Source.remaining g.S.Source.faults c.args.source.now c.read_campaign-made.new.source in
-    let sink : Stream = over g.K.Sink.written g.K.Sink.faults c.args.sink.now c.end-in-Campaign.new.sink in
-    let errors : Stream = over g.E.Sink.written g.E.Sink.faults c.args.errors.now c.end-in-Campaign.new.errors in
+    let source : StreamChange = stream_change g.S.Source.remaining g.S.Source.faults c.args.source.now c.read_campaign-made.new.source in
+    let sink : StreamChange = stream_change g.K.Sink.written g.K.Sink.faults c.args.sink.now c.end-in-Campaign.new.sink in
+    let errors : StreamChange = stream_change g.E.Sink.written g.E.Sink.faults c.args.errors.now c.end-in-Campaign.new.errors in
     let is_finished = g.K.Sink.is_finished c.end-in-Campaign.new.sink in
     subst (λ (task : Task). IsRun task source sink errors is_finished c.end-in-Campaign.result) (sym (ap (λ mode. task_in mode c.args.asked) c.in-Campaign.is))
     (run_of (Campaign c.args.asked.wire) refl source sink errors is_finished c.end-in-Campaign.result c.read_campaign-made.result
@@ -28,9 +28,9 @@ returns-in-Campaign g c =
 -- it leaves the source as it was
 pub returns-in-Soak : goal.returns-in-Soak
 returns-in-Soak g c =
-    let source : Stream = over g.S.Source.remaining g.S.Source.faults c.args.source.now c.args.source.now in
-    let sink : Stream = over g.K.Sink.written g.K.Sink.faults c.args.sink.now c.end-in-Soak.new.sink in
-    let errors : Stream = over g.E.Sink.written g.E.Sink.faults c.args.errors.now c.end-in-Soak.new.errors in
+    let source : StreamChange = stream_change g.S.Source.remaining g.S.Source.faults c.args.source.now c.args.source.now in
+    let sink : StreamChange = stream_change g.K.Sink.written g.K.Sink.faults c.args.sink.now c.end-in-Soak.new.sink in
+    let errors : StreamChange = stream_change g.E.Sink.written g.E.Sink.faults c.args.errors.now c.end-in-Soak.new.errors in
     let is_finished = g.K.Sink.is_finished c.end-in-Soak.new.sink in
     subst (λ (task : Task). IsRun task source sink errors is_finished c.end-in-Soak.result) (sym (ap (λ mode. task_in mode c.args.asked) c.in-Soak.is))
     (run_of (Soak c.args.asked.number) refl source sink errors is_finished c.end-in-Soak.result c.soak_output-made.result
@@ -38,9 +38,9 @@ returns-in-Soak g c =
 
 pub returns-in-Rollout : goal.returns-in-Rollout
 returns-in-Rollout g c =
-    let source : Stream = over g.S.Source.remaining g.S.Source.faults c.args.source.now c.read_rollout-made.new.source in
-    let sink : Stream = over g.K.Sink.written g.K.Sink.faults c.args.sink.now c.end-in-Rollout.new.sink in
-    let errors : Stream = over g.E.Sink.written g.E.Sink.faults c.args.errors.now c.end-in-Rollout.new.errors in
+    let source : StreamChange = stream_change g.S.Source.remaining g.S.Source.faults c.args.source.now c.read_rollout-made.new.source in
+    let sink : StreamChange = stream_change g.K.Sink.written g.K.Sink.faults c.args.sink.now c.end-in-Rollout.new.sink in
+    let errors : StreamChange = stream_change g.E.Sink.written g.E.Sink.faults c.args.errors.now c.end-in-Rollout.new.errors in
     let is_finished = g.K.Sink.is_finished c.end-in-Rollout.new.sink in
     subst (λ (task : Task). IsRun task source sink errors is_finished c.end-in-Rollout.result) (sym (ap (λ mode. task_in mode c.args.asked) c.in-Rollout.is))
     (run_of (Rollout) refl source sink errors is_finished c.end-in-Rollout.result c.read_rollout-made.result
@@ -48,9 +48,9 @@ returns-in-Rollout g c =
 
 pub returns-in-Shared : goal.returns-in-Shared
 returns-in-Shared g c =
-    let source : Stream = over g.S.Source.remaining g.S.Source.faults c.args.source.now c.read_shared-made.new.source in
-    let sink : Stream = over g.K.Sink.written g.K.Sink.faults c.args.sink.now c.end-in-Shared.new.sink in
-    let errors : Stream = over g.E.Sink.written g.E.Sink.faults c.args.errors.now c.end-in-Shared.new.errors in
+    let source : StreamChange = stream_change g.S.Source.remaining g.S.Source.faults c.args.source.now c.read_shared-made.new.source in
+    let sink : StreamChange = stream_change g.K.Sink.written g.K.Sink.faults c.args.sink.now c.end-in-Shared.new.sink in
+    let errors : StreamChange = stream_change g.E.Sink.written g.E.Sink.faults c.args.errors.now c.end-in-Shared.new.errors in
     let is_finished = g.K.Sink.is_finished c.end-in-Shared.new.sink in
     subst (λ (task : Task). IsRun task source sink errors is_finished c.end-in-Shared.result) (sym (ap (λ mode. task_in mode c.args.asked) c.in-Shared.is))
     (run_of (Shared) refl source sink errors is_finished c.end-in-Shared.result c.read_shared-made.result
@@ -58,9 +58,9 @@ returns-in-Shared g c =
 
 pub returns-in-Timeline : goal.returns-in-Timeline
 returns-in-Timeline g c =
-    let source : Stream = over g.S.Source.remaining g.S.Source.faults c.args.source.now c.read_timeline-made.new.source in
-    let sink : Stream = over g.K.Sink.written g.K.Sink.faults c.args.sink.now c.end-in-Timeline.new.sink in
-    let errors : Stream = over g.E.Sink.written g.E.Sink.faults c.args.errors.now c.end-in-Timeline.new.errors in
+    let source : StreamChange = stream_change g.S.Source.remaining g.S.Source.faults c.args.source.now c.read_timeline-made.new.source in
+    let sink : StreamChange = stream_change g.K.Sink.written g.K.Sink.faults c.args.sink.now c.end-in-Timeline.new.sink in
+    let errors : StreamChange = stream_change g.E.Sink.written g.E.Sink.faults c.args.errors.now c.end-in-Timeline.new.errors in
     let is_finished = g.K.Sink.is_finished c.end-in-Timeline.new.sink in
     subst (λ (task : Task). IsRun task source sink errors is_finished c.end-in-Timeline.result) (sym (ap (λ mode. task_in mode c.args.asked) c.in-Timeline.is))
     (run_of (Timeline c.args.asked.wire) refl source sink errors is_finished c.end-in-Timeline.result c.read_timeline-made.result
@@ -68,9 +68,9 @@ returns-in-Timeline g c =
 
 pub returns-in-Acks : goal.returns-in-Acks
 returns-in-Acks g c =
-    let source : Stream = over g.S.Source.remaining g.S.Source.faults c.args.source.now c.read_acks-made.new.source in
-    let sink : Stream = over g.K.Sink.written g.K.Sink.faults c.args.sink.now c.end-in-Acks.new.sink in
-    let errors : Stream = over g.E.Sink.written g.E.Sink.faults c.args.errors.now c.end-in-Acks.new.errors in
+    let source : StreamChange = stream_change g.S.Source.remaining g.S.Source.faults c.args.source.now c.read_acks-made.new.source in
+    let sink : StreamChange = stream_change g.K.Sink.written g.K.Sink.faults c.args.sink.now c.end-in-Acks.new.sink in
+    let errors : StreamChange = stream_change g.E.Sink.written g.E.Sink.faults c.args.errors.now c.end-in-Acks.new.errors in
     let is_finished = g.K.Sink.is_finished c.end-in-Acks.new.sink in
     subst (λ (task : Task). IsRun task source sink errors is_finished c.end-in-Acks.result) (sym (ap (λ mode. task_in mode c.args.asked) c.in-Acks.is))
     (run_of (Acks) refl source sink errors is_finished c.end-in-Acks.result c.read_acks-made.result

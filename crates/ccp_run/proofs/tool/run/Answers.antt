@@ -4,7 +4,7 @@ use Rattle.ccp_words.specs.Words.{are_accepted, asked_in}
 use Rattle.ccp_run.specs.Complete.{AnswersOrRefuses}
 use Rattle.ccp_run.specs.Modes.{task_of}
 use Rattle.ccp_run.specs.Run.{IsRun}
-use Rattle.ccp_run.specs.Streams.{Stream, over}
+use Rattle.ccp_run.specs.Streams.{StreamChange, stream_change}
 use Rattle.ccp_run.proofs.CompleteRuns.{complete}
 use Rattle.ccp_run.proofs.ModeLaws.{no_both}
 use Rattle.ccp_run.proofs.RunLemmas.{never_words_refused, wants_at_once}
@@ -16,9 +16,9 @@ one_some left right e = cc
 -- the words are accepted, and the run is one of the mode that they ask for
 pub returns-in-Ok : goal.returns-in-Ok
 returns-in-Ok g c =
-    let source : Stream = over g.S.Source.remaining g.S.Source.faults c.args.source.now c.run_asked.new.source in
-    let sink : Stream = over g.K.Sink.written g.K.Sink.faults c.args.sink.now c.run_asked.new.sink in
-    let errors : Stream = over g.E.Sink.written g.E.Sink.faults c.args.errors.now c.run_asked.new.errors in
+    let source : StreamChange = stream_change g.S.Source.remaining g.S.Source.faults c.args.source.now c.run_asked.new.source in
+    let sink : StreamChange = stream_change g.K.Sink.written g.K.Sink.faults c.args.sink.now c.run_asked.new.sink in
+    let errors : StreamChange = stream_change g.E.Sink.written g.E.Sink.faults c.args.errors.now c.run_asked.new.errors in
     let run : IsRun (task_of c.in-Ok.asked) source sink errors (g.K.Sink.is_finished c.run_asked.new.sink) c.run_asked.result = c.run_asked.ensures in
     let given : List (List ℕ) = map string_bytes c.args.words.items in
     let words : c.deref.result.now ≡ c.args.words.items = search rules in
@@ -39,9 +39,9 @@ returns-in-Ok g c =
 -- memory was wanted for the words
 pub returns : goal.returns
 returns g c =
-    let source : Stream = over g.S.Source.remaining g.S.Source.faults c.args.source.now c.args.source.now in
-    let sink : Stream = over g.K.Sink.written g.K.Sink.faults c.args.sink.now c.args.sink.now in
-    let errors : Stream = over g.E.Sink.written g.E.Sink.faults c.args.errors.now c.end_without-in-Err-NoMemory.new.errors in
+    let source : StreamChange = stream_change g.S.Source.remaining g.S.Source.faults c.args.source.now c.args.source.now in
+    let sink : StreamChange = stream_change g.K.Sink.written g.K.Sink.faults c.args.sink.now c.args.sink.now in
+    let errors : StreamChange = stream_change g.E.Sink.written g.E.Sink.faults c.args.errors.now c.end_without-in-Err-NoMemory.new.errors in
     let ends = c.end_without-in-Err-NoMemory.ensures in
     let run : (asked : Asked) → IsRun (task_of asked) source sink errors (g.K.Sink.is_finished c.args.sink.now) c.end_without-in-Err-NoMemory.result =
     λ asked. wants_at_once (task_of asked) source sink errors (g.K.Sink.is_finished c.args.sink.now) c.end_without-in-Err-NoMemory.result (record { bytes = refl; faults = refl }) refl ends in

@@ -28,15 +28,19 @@ acks_text-requires-clause-agents g c =
     let agents : c.in_ok-agents.agents ≡ case_agents cases = search rules in
     ap length agents ∙ length-map cases (λ case. case.agent) ∙ sym (ap length c.in_ok-acks.ensures.acks ∙ length-map cases acks_of_case)
 
-pub returns-clause-text : goal.returns-clause-text
-returns-clause-text g c =
+pub returns-clause-tells : goal.returns-clause-tells
+returns-clause-tells g c =
     let cases = c.args.scene.cases in
     let programs = c.args.scene.programs in
     let agents : c.in_ok-agents.agents ≡ case_agents cases = search rules in
     let text : c.in_ok-text.text ≡ acks_text c.args.scene.names c.in_ok-agents.agents c.in_ok-acks.acks = search rules in
-    c.with_programs.ensures.text
-    ∙ text
-    ∙ ap (λ (names : List (List ℕ)). acks_text names c.in_ok-agents.agents c.in_ok-acks.acks) c.requires.names
-    ∙ ap (λ (kinds : List Agent). acks_text (case_names cases) kinds c.in_ok-acks.acks) agents
-    ∙ ap (λ (acks : List (List Ack)). acks_text (case_names cases) (case_agents cases) acks)
-    (c.in_ok-acks.ensures.acks ∙ acks_over programs c.requires.numbered c.in_ok-acks.ensures.source cases c.requires.coded)
+    record {
+      written = c.with_programs.ensures.text
+          ∙ text
+          ∙ ap (λ (names : List (List ℕ)). acks_text names c.in_ok-agents.agents c.in_ok-acks.acks) c.requires.names
+          ∙ ap (λ (kinds : List Agent). acks_text (case_names cases) kinds c.in_ok-acks.acks) agents
+          ∙ ap (λ (acks : List (List Ack)). acks_text (case_names cases) (case_agents cases) acks)
+          (c.in_ok-acks.ensures.acks ∙ acks_over programs c.requires.numbered c.in_ok-acks.ensures.source cases c.requires.coded);
+      no_books = c.with_programs.ensures.books;
+      idle = c.with_programs.ensures.ran;
+    }

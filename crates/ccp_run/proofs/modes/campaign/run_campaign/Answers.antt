@@ -27,16 +27,20 @@ rows_text-requires-clause-agents g c =
     let agents : c.in_ok-agents.agents ≡ case_agents cases = search rules in
     ap length agents ∙ length-map cases (λ case. case.agent) ∙ sym (ap length rows ∙ length-map cases case_row)
 
-pub returns-clause-text : goal.returns-clause-text
-returns-clause-text g c =
+pub returns-clause-tells : goal.returns-clause-tells
+returns-clause-tells g c =
     let cases = c.args.scene.cases in
     let programs = c.args.scene.programs in
     let rows : c.in_ok-rows.rows ≡ map case_row cases = search rules in
     let agents : c.in_ok-agents.agents ≡ case_agents cases = search rules in
     let text : c.in_ok-text.text ≡ frames_shown c.args.wire programs ++ table_text c.args.scene.names c.in_ok-agents.agents c.in_ok-rows.rows = search rules in
     let sources : c.in_ok-rows.rows ≡ source_rows programs cases = rows ∙ rows_over programs c.requires.numbered c.in_ok-rows.ensures.lifted cases c.requires.coded in
-    c.with_programs.ensures.text
-    ∙ text
-    ∙ ap (λ names. frames_shown c.args.wire programs ++ table_text names c.in_ok-agents.agents c.in_ok-rows.rows) c.requires.names
-    ∙ ap (λ agents. frames_shown c.args.wire programs ++ table_text (case_names cases) agents c.in_ok-rows.rows) agents
-    ∙ ap (λ rows. frames_shown c.args.wire programs ++ table_text (case_names cases) (case_agents cases) rows) sources
+    record {
+      written = c.with_programs.ensures.text
+          ∙ text
+          ∙ ap (λ names. frames_shown c.args.wire programs ++ table_text names c.in_ok-agents.agents c.in_ok-rows.rows) c.requires.names
+          ∙ ap (λ agents. frames_shown c.args.wire programs ++ table_text (case_names cases) agents c.in_ok-rows.rows) agents
+          ∙ ap (λ rows. frames_shown c.args.wire programs ++ table_text (case_names cases) (case_agents cases) rows) sources;
+      no_books = c.with_programs.ensures.books;
+      idle = c.with_programs.ensures.ran;
+    }

@@ -1,3 +1,5 @@
+use Rattle.std.proofs.Common.{◌≡◌, rules, refl}
+use Rattle.ccp_run.specs.Live.{book_cases, books_written}
 use Rattle.ccp_run.proofs.LiveLemmas.{books_of}
 use Rattle.ccp_run.proofs.modes.live.run_live.Goals as goal
 
@@ -6,7 +8,15 @@ books_text-requires g c =
     let scene = c.args.scene in
     books_of scene.programs c.requires.numbered scene.cases c.in_ok-table.table c.in_ok-books.books c.requires.coded c.in_ok-table.ensures c.in_ok-books.ensures
 
-pub returns-clause-right : goal.returns-clause-right
-returns-clause-right g c =
+pub returns-clause-tells : goal.returns-clause-tells
+returns-clause-tells g c =
     let scene = c.args.scene in
-    books_of scene.programs c.requires.numbered scene.cases c.in_ok-table.table c.in_ok-books.books c.requires.coded c.in_ok-table.ensures c.in_ok-books.ensures
+    let books = c.in_ok-books.books in
+    let cases : book_cases books ≡ scene.cases = search rules in
+    let text : c.in_ok-books_text.field-0 ≡ books_written c.args.wire scene.programs books = search rules in
+    record {
+      books = cases;
+      right = books_of scene.programs c.requires.numbered scene.cases c.in_ok-table.table books c.requires.coded c.in_ok-table.ensures c.in_ok-books.ensures;
+      written = text;
+      idle = refl;
+    }
