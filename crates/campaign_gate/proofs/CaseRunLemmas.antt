@@ -22,7 +22,7 @@ use Rattle.campaign_gate.specs.declared.sums.Sums.{Sums}
 use Rattle.campaign_gate.specs.CampaignWord.{is_late, first_letter, plan_from, plan}
 use Rattle.campaign_gate.specs.CampaignRow.{sums_of, sums_with, AreRoomy, peak_of}
 use Rattle.campaign_gate.specs.CampaignBooks.{planned}
-use Rattle.campaign_gate.specs.CaseRuns.{next_at, window_at, plan_at, opened, longer, left_in, due_to, next_in, MayMake, MayHear, Makes, sums_after, IsOnWay, IsNextLetter, Onward, IsEnded}
+use Rattle.campaign_gate.specs.CaseRuns.{next_at, plan_at, opened, longer, left_in, due_to, next_in, MayMake, MayHear, Makes, sums_after, IsOnWay, IsNextLetter, Onward, IsEnded}
 use Rattle.campaign_gate.proofs.PlanLemmas.{next-legal, plan-next, plan-none}
 use Rattle.campaign_gate.proofs.PeakLemmas.{peak-append}
 use Rattle.campaign_gate.proofs.SumLemmas.{sums-append, roomy}

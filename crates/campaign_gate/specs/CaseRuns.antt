@@ -13,16 +13,12 @@ use Rattle.flow_core.specs.LettersLeft.{left_at}
 use Rattle.campaign_gate.specs.declared.sums.Sums.{Sums}
 use Rattle.campaign_gate.specs.declared.case_run.Tally.{Tally}
 use Rattle.campaign_gate.specs.CampaignWord.{first_letter, next_of, plan_from, plan}
-use Rattle.campaign_gate.specs.CampaignRow.{sums_of, sums_with, AreRoomy, window_of, peak_of}
+use Rattle.campaign_gate.specs.CampaignRow.{sums_of, sums_with, AreRoomy, peak_of}
 use Rattle.campaign_gate.specs.CampaignBooks.{planned}
 
 -- the next letter of a cell's campaign word
 abbrev pub next_at : CellState → Option Letter
 next_at cell = next_of (flow_at cell) cell.case.lag (world_at cell)
-
--- the present window
-abbrev pub window_at : CellState → ℕ
-window_at cell = window_of (flow_at cell) (world_at cell)
 
 -- the rest of the campaign word
 abbrev pub plan_at : CellState → List Letter

@@ -17,21 +17,16 @@ use Rattle.live_install.specs.OpenWorld.{OpenWorld, eras_of, track_now}
 use Rattle.live_install.specs.OpenWords.{install_world}
 use Rattle.live_install.specs.RolloutText.{OpenAccount, account_of, account_text, end_of, fault_lines, open_part, rollout_text}
 use Rattle.report_lines.specs.EndLine.{is_faulted}
-use Rattle.live_install.specs.BookText.{account_in, book_text, books_text, end_in, failures_in, notice_lines, failure_if_placed, placed_line}
+use Rattle.live_install.specs.BookText.{account_in, book_text, books_text, end_in, failures_in, failure_if_placed, placed_line}
 use Rattle.live_install.specs.WholeBooks.{IsRightBook, flows_of}
 use Rattle.live_install.proofs.StopLemmas.{fails_in, stopped-where}
 
 -- ---- faults and their places
 
-placed-line : (notice : Notice) (place : Option Place) (more : List ℕ) (rest : List (Failure Place)) → more ≡ fault_lines rest
-    → placed_line notice place ⧺ more ≡ fault_lines (failure_if_placed notice place ++ rest)
-placed-line notice None more rest same = same
-placed-line notice (Some place) more rest same = ap (λ (t : List ℕ). placed_line notice (Some place) ⧺ t) same
-
-pub notice_lines-faults : (entries : List EntryState) (faults : List Notice) → notice_lines entries faults ≡ fault_lines (failures_in entries faults)
-notice_lines-faults entries [] = refl
-notice_lines-faults entries (notice ∷ rest) =
-    placed-line notice (step_place entries notice.program notice.index) (notice_lines entries rest) (failures_in entries rest) (notice_lines-faults entries rest)
+pub placed-line : (notice : Notice) (place : Option Place) (rest : List (Failure Place))
+    → placed_line notice place ++ fault_lines rest ≡ fault_lines (failure_if_placed notice place ++ rest)
+placed-line notice None rest = refl
+placed-line notice (Some place) rest = refl
 
 seen-placed : (notice : Notice) (place : Option Place) (failure : Failure Place) → option_map (failure_at notice) place ≡ Some failure
     → (failure_if_placed notice place ≡ failure ∷ []) × (notice.epoch ≡ failure.epoch)

@@ -57,7 +57,3 @@ books_text (book ∷ rest) = book_text book ⧺ books_text rest
 abbrev pub placed_line : Notice → Option Place → List ℕ
 placed_line notice None = []
 placed_line notice (Some place) = fault_line notice.epoch notice.at notice.kind place
-
-abbrev pub notice_lines : List EntryState → List Notice → List ℕ
-notice_lines entries [] = []
-notice_lines entries (notice ∷ rest) = placed_line notice (step_place entries notice.program notice.index) ⧺ notice_lines entries rest

@@ -5,7 +5,6 @@ use Rattle.ccp_base.specs.Text.{◌⧺◌}
 use Rattle.ccp_base.specs.declared.exchange.Report.{Report}
 use Rattle.ccp_base.specs.declared.place.Place.{Place}
 use Rattle.portus_core.specs.declared.program.Decl.{Decl}
-use Rattle.portus_core.specs.Epoch.{Track}
 use Rattle.portus_build.specs.RefusalText.{refusal_text}
 use Rattle.report_lines.specs.declared.end_line.End.{End}
 use Rattle.report_lines.specs.FlowLine.{flow_head}
@@ -17,6 +16,7 @@ use Rattle.flow_core.specs.World.{Failure}
 use Rattle.flow_core.specs.Books.{epoch_line}
 use Rattle.scene_members.specs.declared.open_case.OpenCase.{OpenCase}
 use Rattle.live_install.specs.declared.letter.OpenLetter.{OpenLetter}
+pub use Rattle.flow_core.specs.LiveText.{end_of}
 use Rattle.live_install.specs.OpenWorld.{Installed, OpenWorld, eras_of, track_now}
 use Rattle.live_install.specs.OpenWords.{install_world}
 
@@ -31,16 +31,6 @@ pub record OpenAccount : Type 0 where
   pub faults : List (Failure Place)
   pub reports : List Report
   pub end : End
-
-abbrev pub end_of : ℕ → Track → End
-end_of acks track = record {
-  acks = acks;
-  first = track.first;
-  stopped = track.is_stopped;
-  cwnd = track.env.cwnd;
-  rate = track.env.rate;
-  fields = track.env.fields;
-}
 
 -- the account of a flow's state; before the first change the unreported span begins at 0, nothing is stopped and there
 -- are no fields

@@ -1,5 +1,5 @@
 //! A flow of a rollout: acknowledgements, installed entries and changes, each a letter of its word.
-ghost use Rattle.std.specs.Prelude.{◌≡◌, ◌+◌, ◌≤◌, ◌↔◌, ◌∷◌, [], ◌++◌, true, Some, None, slice_get, length, map};
+ghost use Rattle.std.specs.Prelude.{◌≡◌, ◌+◌, ◌<◌, ◌≤◌, ◌↔◌, ◌∷◌, [], ◌++◌, true, Some, None, slice_get, length, map};
 ghost use Rattle.std.specs.Prelude.{IsTrue, IsOk, IsErr, IfOk, IfErr, OnOk, OnErr};
 ghost use Rattle.live_install.specs.OpenWords.{legal, is_complete};
 ghost use Rattle.live_install.specs.Entries.{installed_of};
@@ -17,8 +17,8 @@ use flow_core::Ended;
 use fold_machine::{Acked, Steps};
 use scene_members::OpenCase;
 use std::alloc::Global;
-use std::marker::Model;
-use std::sync::ledger::Ledger;
+use std::marker::{Brand, Model};
+use std::sync::ledger::{Blank, Ledger};
 
 /// The entry isn't the one that comes next, which is that of the step `want`. It is handed back.
 #[derive(Drop)]
@@ -96,6 +96,34 @@ impl OpenCell {
             return Err(Ended);
         }
         Ok(self.state.advance(steps))
+    }
+
+    /// As `ack`, without a count of the instructions.
+    #[inline(always)]
+    pub fn hear(&mut self) -> Result<Option<Acked>, Ended>
+        ensures ended { IsErr result ↔ HasAll self.old }
+        ensures ok { OnOk result (self.new ≡ record self.old { word = self.old.word ++ OpenLetter.A ∷ [] }) }
+        ensures within { OnOk result (length self.new.word ≤ most_letters self.new.case) }
+        ensures world { OnOk result (IsAfter self.old OpenLetter.A self.new) }
+        ensures acked { IfOk result (λ answer. Answered self.old answer) }
+        ensures unchanged { OnErr result (self.new ≡ self.old) }
+    {
+        self.hear_in_ledger::<Brand>(Blank::new(1))
+    }
+
+    /// As `ack`, with a counter that nobody reads, which `blank` opens.
+    #[inline(always)]
+    fn hear_in_ledger<L: Ledger>(&mut self, blank: Blank) -> Result<Option<Acked>, Ended>
+        requires ledger { (blank.name ≡ L.name) × (blank.parts ≡ L.parts) × (0 < blank.parts) }
+        ensures ended { IsErr result ↔ HasAll self.old }
+        ensures ok { OnOk result (self.new ≡ record self.old { word = self.old.word ++ OpenLetter.A ∷ [] }) }
+        ensures within { OnOk result (length self.new.word ≤ most_letters self.new.case) }
+        ensures world { OnOk result (IsAfter self.old OpenLetter.A self.new) }
+        ensures acked { IfOk result (λ answer. Answered self.old answer) }
+        ensures unchanged { OnErr result (self.new ≡ self.old) }
+    {
+        let mut steps = Steps::<L>::new(blank);
+        self.ack(&mut steps)
     }
 
     /// Installs an entry. Late exactly where its step isn't the number of entries so far or its text isn't the case's

@@ -9,10 +9,8 @@ use crate::cell::OpenCell;
 use crate::turn::make_letter;
 use ccp_base::NoMemory;
 use flow_table::LockedFlow;
-use fold_machine::Steps;
 use scene_members::OpenCase;
 use std::alloc::Global;
-use std::sync::ledger::Ledger;
 use worker_desk::Heard;
 
 impl LockedFlow for OpenCell {
@@ -59,9 +57,9 @@ impl LockedFlow for OpenCell {
         self.case().same(case)
     }
 
-    fn hear<L: Ledger>(&mut self, steps: &mut Steps<L>) -> Heard {
+    fn hear(&mut self) -> Heard {
         // A report or a fault of a rollout waits for no agent.
-        match self.ack(steps) {
+        match OpenCell::hear(self) {
             Ok(_) => Heard::Quiet,
             Err(_) => Heard::Ended,
         }
@@ -71,12 +69,8 @@ impl LockedFlow for OpenCell {
         self.is_complete()
     }
 
-    fn make_next<L: Ledger>(
-        &mut self,
-        alloc: Global,
-        steps: &mut Steps<L>,
-    ) -> Result<(), NoMemory> {
-        make_letter(alloc, self, steps)
+    fn make_next(&mut self, alloc: Global) -> Result<(), NoMemory> {
+        make_letter(alloc, self)
     }
 
     fn finish(self) -> OpenBook {

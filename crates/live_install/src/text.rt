@@ -4,7 +4,7 @@ ghost use Rattle.std.specs.List.{All};
 ghost use Rattle.live_install.specs.Entries.{installed_of, step_place};
 ghost use Rattle.live_install.specs.RolloutText.{fault_lines, fields_at, fields_of, flow_line, last_fields, last_line};
 ghost use Rattle.live_install.specs.RolloutText.{rollout_text, shown_lines};
-ghost use Rattle.live_install.specs.BookText.{account_in, book_text, books_text, end_in, failures_in, notice_lines};
+ghost use Rattle.live_install.specs.BookText.{account_in, book_text, books_text, end_in, failures_in};
 ghost use Rattle.live_install.specs.BookText.{placed_line};
 ghost use Rattle.live_install.specs.WholeBooks.{IsRightBook, flows_of};
 
@@ -24,12 +24,6 @@ use std::alloc::Global;
 pub fn rollout_text(alloc: Global, books: &OpenBooks) -> Result<Bytes, NoMemory>
     ensures text { IfOk result (λ text. text ≡ books_text books.now) }
     ensures rollout { All IsRightBook books.now → IfOk result (λ text. text ≡ rollout_text (flows_of books.now)) }
-{
-    books_text(alloc, books)
-}
-
-fn books_text(alloc: Global, books: &OpenBooks) -> Result<Bytes, NoMemory>
-    ensures { IfOk result (λ text. text ≡ books_text books.now) }
 {
     let mut text = Bytes::new(alloc);
     put_books(alloc, &mut text, books.as_slice())?;
@@ -74,17 +68,6 @@ fn put_faults(
     faults: &[Notice],
 ) -> Result<(), NoMemory>
     ensures { OnOk result (text.new ≡ text.old ++ fault_lines (failures_in entries.now faults.now)) }
-{
-    put_notices(alloc, text, entries, faults)
-}
-
-fn put_notices(
-    alloc: Global,
-    text: &mut Bytes,
-    entries: &[Entry],
-    faults: &[Notice],
-) -> Result<(), NoMemory>
-    ensures { OnOk result (text.new ≡ text.old ++ notice_lines entries.now faults.now) }
 {
     let mut left = faults;
     while let Some((notice, rest)) = left.split_first() {

@@ -8,17 +8,11 @@ ghost use Rattle.live_install.specs.NextLetter.{HasNext, letters_left};
 use crate::cell::OpenCell;
 use crate::entry::Entry;
 use ccp_base::NoMemory;
-use fold_machine::Steps;
 use scene_members::OpenCase;
 use std::alloc::Global;
-use std::sync::ledger::Ledger;
 
 /// Makes one letter of a word that isn't complete: a change, or else the next entry, or else an acknowledgement.
-pub(crate) fn make_letter<L: Ledger>(
-    alloc: Global,
-    cell: &mut OpenCell,
-    steps: &mut Steps<L>,
-) -> Result<(), NoMemory>
+pub(crate) fn make_letter(alloc: Global, cell: &mut OpenCell) -> Result<(), NoMemory>
     requires { is_complete cell.old.case (world_at cell.old) ≡ false }
     ensures next { OnOk result (HasNext cell.old cell.new) }
     ensures fewer { OnOk result (letters_left cell.new < letters_left cell.old) }
@@ -29,7 +23,7 @@ pub(crate) fn make_letter<L: Ledger>(
     if install(alloc, cell)? {
         return Ok(());
     }
-    acknowledge(cell, steps);
+    acknowledge(cell);
     Ok(())
 }
 
@@ -88,13 +82,11 @@ fn entry_of(alloc: Global, case: &OpenCase, step: u32) -> Result<Entry, NoMemory
 }
 
 /// Takes the next acknowledgement.
-fn acknowledge<L: Ledger>(cell: &mut OpenCell, steps: &mut Steps<L>)
+fn acknowledge(cell: &mut OpenCell)
     requires more { length (world_at cell.old).acks < cell.old.case.acks }
     requires none { (is_legal_at cell.old letters.G ≡ false) × (is_legal_at cell.old letters.I ≡ false) }
     ensures next { HasNext cell.old cell.new }
     ensures fewer { letters_left cell.new < letters_left cell.old }
 {
-    let Ok(_) = cell.ack(steps) else {
-        unreachable!()
-    };
+    let Ok(_) = cell.hear() else { unreachable!() };
 }
