@@ -38,7 +38,7 @@ pub record TellsLive (wire : Bool) (programs : List (ℕ × Built)) (cases : Lis
   pub written : output.text ≡ books_written wire programs output.books
   pub idle : output.ran ≡ 0
 
--- this is so of the scenario's cases
+-- the output tells this of the scenario's cases
 abbrev pub IsLiveOutput : Bool → List ℕ → ModeOutput → Type 0
 IsLiveOutput wire = IsSceneOutput scene.Live (TellsLive wire)
 

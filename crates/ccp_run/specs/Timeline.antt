@@ -37,7 +37,7 @@ pub record TellsTimeline (wire : Bool) (programs : List (ℕ × Built)) (cases :
   pub written : output.text ≡ timeline_text wire programs cases
   pub idle : output.ran ≡ 0
 
--- this is so of the scenario's cases
+-- the output tells this of the scenario's cases
 abbrev pub IsTimelineOutput : Bool → List ℕ → ModeOutput → Type 0
 IsTimelineOutput wire = IsSceneOutput scene.Live (TellsTimeline wire)
 
