@@ -7,9 +7,10 @@ use crate::course::Course;
 use crate::flow::SharedFlow;
 use crate::known_flow::KnownFlow;
 use crate::round_acks::RoundAcks;
-use crate::run_flow::RunFlow;
+use crate::run_flow::{LockedRunFlow, RunFlow};
 use campaign_gate::Cases;
 use ccp_base::NoMemory;
+use crossbeam_utils::CachePadded;
 use shared_link::Ask;
 use std::alloc::Global;
 use std::sync::{Mutex, Wait};
@@ -18,7 +19,7 @@ use std::sync::{Mutex, Wait};
 pub(crate) fn open_flows<C: Course>(
     alloc: Global,
     cases: Cases,
-) -> Result<Vec<Mutex<RunFlow<C>>>, NoMemory>
+) -> Result<Vec<LockedRunFlow<C>>, NoMemory>
     requires cases { cases ≡ C.cases }
     requires few { length cases ≤ most_flows }
     ensures { IfOk result (λ flows. length flows.items ≡ length C.cases) }
@@ -27,7 +28,8 @@ pub(crate) fn open_flows<C: Course>(
     let mut number = 0;
     for case in cases.into_vec() {
         let flow = SharedFlow::open(alloc, case)?;
-        flows.push(Mutex::new(RunFlow::<C>::begin(flow, number)))?;
+        let flow = Mutex::new(RunFlow::<C>::begin(flow, number));
+        flows.push(CachePadded::new(flow))?;
         number += 1;
     }
     Ok(flows)
@@ -37,7 +39,7 @@ pub(crate) fn open_flows<C: Course>(
 pub(crate) fn know_flows<C: Course, R: Wait>(
     rt: &R,
     alloc: Global,
-    flows: &[Mutex<RunFlow<C>>],
+    flows: &[LockedRunFlow<C>],
 ) -> Result<Vec<KnownFlow<C>>, NoMemory>
     ensures { IfOk result (λ known. length known.items ≡ length flows.now) }
 {
@@ -53,7 +55,7 @@ pub(crate) fn know_flows<C: Course, R: Wait>(
 /// What is known of a flow. If its part ran out of memory, so does this.
 fn know_flow<C: Course, R: Wait>(
     rt: &R,
-    flow: &Mutex<RunFlow<C>>,
+    flow: &LockedRunFlow<C>,
 ) -> Result<KnownFlow<C>, NoMemory> {
     flow.lock(rt).known().ok_or(NoMemory)
 }
@@ -120,7 +122,7 @@ pub(crate) fn none_left(asks: &[Ask]) -> bool
 pub(crate) fn do_part<C: Course, R: Wait>(
     rt: &R,
     alloc: Global,
-    flows: &[Mutex<RunFlow<C>>],
+    flows: &[LockedRunFlow<C>],
     acks: &RoundAcks<C>,
 ) -> Option<KnownFlow<C>> {
     let mut flow = flows.get(acks.number as usize)?.lock(rt);
@@ -134,7 +136,7 @@ pub(crate) fn do_part<C: Course, R: Wait>(
 /// Brings the flows that rested in the last rounds to the round that the caller knows them after.
 pub(crate) fn rest_flows<C: Course, R: Wait>(
     rt: &R,
-    flows: &[Mutex<RunFlow<C>>],
+    flows: &[LockedRunFlow<C>],
     known: &[KnownFlow<C>],
 ) {
     for rested in known {
@@ -147,7 +149,7 @@ pub(crate) fn rest_flows<C: Course, R: Wait>(
 /// The flows after this many rounds, in order. If one of them isn't there, that is reported as out of memory.
 pub(crate) fn take_flows<C: Course>(
     alloc: Global,
-    flows: Vec<Mutex<RunFlow<C>>>,
+    flows: Vec<LockedRunFlow<C>>,
     round: u32,
 ) -> Result<Vec<SharedFlow>, NoMemory>
     requires flows { length flows.items ≡ length (flows_after C.link C.cases round) }
@@ -157,7 +159,8 @@ pub(crate) fn take_flows<C: Course>(
     let mut taken = Vec::new(alloc);
     let mut number = 0;
     for flow in flows {
-        taken.push(flow.into_inner().into_flow(number, round)?)?;
+        let flow = flow.into_inner().into_inner();
+        taken.push(flow.into_flow(number, round)?)?;
         number += 1;
     }
     Ok(taken)

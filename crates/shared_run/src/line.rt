@@ -1,5 +1,6 @@
 //! A line from one thread to another: a ring of messages, and a bell that wakes the thread that takes them.
 use ccp_base::NoMemory;
+use crossbeam_utils::CachePadded;
 use rtrb::{Consumer, Producer, PushError, RingBuffer};
 use std::alloc::Global;
 use std::hint::spin_loop;
@@ -11,23 +12,27 @@ use std::thread::Parker;
 /// microseconds, which is longer than many workers' parts.
 const LOOKS: u32 = 200_000;
 
+/// What wakes a thread that sleeps until a message comes. The bells of a run are in one list, and each message rings one,
+/// so each has cache lines of its own.
+pub(crate) type Bell = CachePadded<Parker>;
+
 /// The end of a line that messages go into. Once it is dropped no more come.
 pub(crate) struct Sender<'e, T: Drop> {
     ring: Producer<T, Global>,
-    bell: &'e Parker,
+    bell: &'e Bell,
 }
 
 /// The end of a line that messages come out of.
 #[derive(Drop)]
 pub(crate) struct Receiver<'e, T: Drop> {
     ring: Consumer<T, Global>,
-    bell: &'e Parker,
+    bell: &'e Bell,
 }
 
 /// A line that holds one message. The bell is that of the thread that receives, and of no other.
 pub(crate) fn line<'e, T: Drop>(
     alloc: Global,
-    bell: &'e Parker,
+    bell: &'e Bell,
 ) -> Result<(Sender<'e, T>, Receiver<'e, T>), NoMemory> {
     let (producer, consumer) = RingBuffer::new(alloc, 1)?;
     let sender = Sender {

@@ -7,11 +7,11 @@ use crate::course::Course;
 use crate::flows::do_part;
 use crate::known_flow::KnownFlow;
 use crate::round_acks::RoundAcks;
-use crate::run_flow::RunFlow;
+use crate::run_flow::LockedRunFlow;
 use ccp_base::{Gate, NoMemory, Point};
 use std::alloc::Global;
 use std::marker::Model;
-use std::sync::{Mutex, Wait};
+use std::sync::Wait;
 
 /// The lists of an order. Their memory serves one round after another.
 #[derive(Drop)]
@@ -91,7 +91,7 @@ impl<C: Course> Order<C> {
         &mut self,
         rt: &R,
         alloc: Global,
-        flows: &[Mutex<RunFlow<C>>],
+        flows: &[LockedRunFlow<C>],
         gate: &G,
     )
         ensures { self.new ≡ self.old }
@@ -119,7 +119,7 @@ impl<C: Course> Order<C> {
 fn do_all<C: Course, R: Wait, G: Gate>(
     rt: &R,
     alloc: Global,
-    flows: &[Mutex<RunFlow<C>>],
+    flows: &[LockedRunFlow<C>],
     worker: u32,
     parts: &[RoundAcks<C>],
     known: &mut Vec<KnownFlow<C>>,

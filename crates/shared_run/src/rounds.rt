@@ -7,16 +7,17 @@ ghost use Rattle.shared_run.specs.Orders.{AreDealt, IsDealtBefore, DealsOne};
 use crate::course::Course;
 use crate::desk::Desk;
 use crate::flows::{collect_asks, know_flows, none_left, rest_flow, rest_flows, rest_part};
+use crate::line::Bell;
 use crate::order::{Order, open_orders};
 use crate::round_acks::RoundAcks;
-use crate::run_flow::RunFlow;
+use crate::run_flow::LockedRunFlow;
 use crate::worker_handle::{WorkerHandle, do_orders, start_workers};
 use ccp_base::{Gate, NoMemory};
 use shared_link::{AckLists, SharedLink};
 use std::alloc::Global;
-use std::sync::{Mutex, Wait};
+use std::sync::Wait;
 use std::thread;
-use std::thread::{Parker, Threads};
+use std::thread::Threads;
 
 /// The link at a run's end, and how many rounds there were.
 #[derive(Drop)]
@@ -88,7 +89,7 @@ fn worker_of(flow: u32, workers: u32) -> u32
 fn run_round<'e, C: Course, R: Wait, G: Gate>(
     rt: &R,
     alloc: Global,
-    flows: &[Mutex<RunFlow<C>>],
+    flows: &[LockedRunFlow<C>],
     desk: &mut Desk<C>,
     orders: &mut Vec<Order<C>>,
     handles: &mut [WorkerHandle<'e, C>],
@@ -119,7 +120,7 @@ fn run_round<'e, C: Course, R: Wait, G: Gate>(
 fn run_rounds<'e, C: Course, R: Wait, G: Gate>(
     rt: &R,
     alloc: Global,
-    flows: &[Mutex<RunFlow<C>>],
+    flows: &[LockedRunFlow<C>],
     desk: &mut Desk<C>,
     handles: &mut [WorkerHandle<'e, C>],
     most: u32,
@@ -157,9 +158,9 @@ pub(crate) fn run_by_workers<
     rt: &'e R,
     alloc: Global,
     link: SharedLink,
-    flows: &'e [Mutex<RunFlow<C>>],
+    flows: &'e [LockedRunFlow<C>],
     most: u32,
-    bells: &'e [Parker],
+    bells: &'e [Bell],
     gate: &'e G,
 ) -> Result<RunEnd, NoMemory>
     requires workers { 1 ≤ length bells.now }

@@ -12,6 +12,7 @@ ghost use Rattle.shared_run.specs.LiftedRun.{RunHoldsForSources};
 use crate::books::{SharedRun, close_flows};
 use crate::course::Course;
 use crate::flows::{open_flows, take_flows};
+use crate::line::Bell;
 use crate::rounds::run_by_workers;
 use campaign_gate::Cases;
 use ccp_base::{Gate, NoMemory, Workers};
@@ -117,12 +118,12 @@ fn run_course<C: Course + Send + Sync, R: Threads + Wait + Sync, G: Gate + Sync>
 }
 
 /// A bell for each worker of a run.
-fn make_bells(alloc: Global, workers: Workers) -> Result<Vec<Parker>, NoMemory>
+fn make_bells(alloc: Global, workers: Workers) -> Result<Vec<Bell>, NoMemory>
     ensures { IfOk result (λ bells. length bells.items ≡ workers.count) }
 {
     let mut bells = Vec::new(alloc);
     for _worker in 0..workers.count() {
-        bells.push(Parker::new())?;
+        bells.push(Bell::new(Parker::new()))?;
     }
     Ok(bells)
 }

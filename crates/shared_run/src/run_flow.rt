@@ -7,9 +7,11 @@ use crate::flow::SharedFlow;
 use crate::known_flow::KnownFlow;
 use crate::round_acks::RoundAcks;
 use ccp_base::NoMemory;
+use crossbeam_utils::CachePadded;
 use shared_link::Ask;
 use std::alloc::Global;
 use std::marker::PhantomData;
+use std::sync::Mutex;
 
 /// A flow of a run, its number, and how many rounds it is through. Unless its part of a round ran out of memory, it is
 /// that flow of the run after these rounds.
@@ -23,6 +25,10 @@ pub(crate) struct RunFlow<C: Course> {
     of: PhantomData<C>,
     ghost stands: { lacked_memory ≡ false → slice_get (flows_after C.link C.cases round) number ≡ Some flow },
 }
+
+/// A flow of a run behind its lock. The flows of a run are in one list, in which each has cache lines of its own: two
+/// threads that write values of one line take it from each other at each write.
+pub(crate) type LockedRunFlow<C> = CachePadded<Mutex<RunFlow<C>>>;
 
 impl<C: Course> RunFlow<C> {
     /// A flow before the first round.

@@ -2,16 +2,16 @@
 use crate::course::Course;
 use crate::line::{Receiver, Sender};
 use crate::order::Order;
-use crate::run_flow::RunFlow;
+use crate::run_flow::LockedRunFlow;
 use ccp_base::Gate;
 use std::alloc::Global;
-use std::sync::{Mutex, Wait};
+use std::sync::Wait;
 
 /// Does the orders that come, and sends each back after its parts, until no more can come.
 pub(crate) fn serve<'e, C: Course, R: Wait, G: Gate>(
     rt: &R,
     alloc: Global,
-    flows: &[Mutex<RunFlow<C>>],
+    flows: &[LockedRunFlow<C>],
     orders: Receiver<'e, Order<C>>,
     done: Sender<'e, Order<C>>,
     gate: &G,

@@ -3,14 +3,14 @@ ghost use Rattle.std.specs.Prelude.{◌≡◌, ◌<◌, length, IfOk};
 
 use crate::course::Course;
 use crate::desk::Desk;
-use crate::line::{Receiver, Sender, line};
+use crate::line::{Bell, Receiver, Sender, line};
 use crate::order::Order;
-use crate::run_flow::RunFlow;
+use crate::run_flow::LockedRunFlow;
 use crate::worker::serve;
 use ccp_base::{Gate, NoMemory};
 use std::alloc::Global;
-use std::sync::{Mutex, Wait};
-use std::thread::{Parker, Scope, Threads};
+use std::sync::Wait;
+use std::thread::{Scope, Threads};
 
 /// The lines to a worker's thread and back.
 #[derive(Drop)]
@@ -38,8 +38,8 @@ pub(crate) fn start_workers<
     scope: &'s Scope<'s, &'e ()>,
     rt: &'e R,
     alloc: Global,
-    flows: &'e [Mutex<RunFlow<C>>],
-    bells: &'e [Parker],
+    flows: &'e [LockedRunFlow<C>],
+    bells: &'e [Bell],
     gate: &'e G,
 ) -> Result<Vec<WorkerHandle<'e, C>>, NoMemory>
     ensures { IfOk result (λ handles. length handles.items ≡ length bells.now) }
@@ -61,8 +61,8 @@ fn start_worker<'s, 'e, C: Course + Send + Sync + 'e, R: Threads + Wait + Sync, 
     scope: &'s Scope<'s, &'e ()>,
     rt: &'e R,
     alloc: Global,
-    flows: &'e [Mutex<RunFlow<C>>],
-    bells: &'e [Parker],
+    flows: &'e [LockedRunFlow<C>],
+    bells: &'e [Bell],
     worker: usize,
     gate: &'e G,
 ) -> Result<Option<Lines<'e, C>>, NoMemory>
@@ -106,7 +106,7 @@ impl<'e, C: Course> WorkerHandle<'e, C> {
 pub(crate) fn do_orders<'e, C: Course, R: Wait, G: Gate>(
     rt: &R,
     alloc: Global,
-    flows: &[Mutex<RunFlow<C>>],
+    flows: &[LockedRunFlow<C>],
     desk: &mut Desk<C>,
     orders: &mut Vec<Order<C>>,
     handles: &mut [WorkerHandle<'e, C>],
@@ -127,7 +127,7 @@ pub(crate) fn do_orders<'e, C: Course, R: Wait, G: Gate>(
 fn hand_out_all<'e, C: Course, R: Wait, G: Gate>(
     rt: &R,
     alloc: Global,
-    flows: &[Mutex<RunFlow<C>>],
+    flows: &[LockedRunFlow<C>],
     desk: &mut Desk<C>,
     orders: &mut Vec<Order<C>>,
     handles: &mut [WorkerHandle<'e, C>],
@@ -151,7 +151,7 @@ fn hand_out_all<'e, C: Course, R: Wait, G: Gate>(
 fn hand_out<'e, C: Course, R: Wait, G: Gate>(
     rt: &R,
     alloc: Global,
-    flows: &[Mutex<RunFlow<C>>],
+    flows: &[LockedRunFlow<C>],
     desk: &mut Desk<C>,
     order: Order<C>,
     handles: &mut [WorkerHandle<'e, C>],
@@ -173,7 +173,7 @@ fn hand_out<'e, C: Course, R: Wait, G: Gate>(
 fn do_here<C: Course, R: Wait, G: Gate>(
     rt: &R,
     alloc: Global,
-    flows: &[Mutex<RunFlow<C>>],
+    flows: &[LockedRunFlow<C>],
     desk: &mut Desk<C>,
     order: Order<C>,
     gate: &G,
