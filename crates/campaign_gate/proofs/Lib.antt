@@ -3,7 +3,6 @@ pub mod PlanLemmas
 pub mod PeakLemmas
 pub mod SumLemmas
 pub mod CaseRunLemmas
-pub mod DueLemmas
 pub mod LinkedLemmas
 pub mod ShareLemmas
 pub mod BookLemmas

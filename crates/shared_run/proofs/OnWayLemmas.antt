@@ -18,7 +18,7 @@ use Rattle.flow_core.specs.WordLaws.{acks_in-A, acks_in-T, acks_in-C, world_over
 use Rattle.flow_core.specs.Cores.{CoreState}
 use Rattle.flow_core.proofs.WordLemmas.{world_over-A, acks-of-world_over}
 use Rattle.campaign_gate.specs.CampaignRow.{window_of}
-use Rattle.campaign_gate.proofs.DueLemmas.{due-ended, due-open}
+use Rattle.shared_run.proofs.DueLemmas.{due-ended, due-open}
 use Rattle.shared_run.specs.RoundLetters.{world_of_core, opened, with_ack, with_letter, is_answered}
 use Rattle.shared_run.specs.OnWay.{IsOnWay}
 use Rattle.shared_run.proofs.PeakLemmas.{peak-append, peak-more}
