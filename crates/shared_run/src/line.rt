@@ -7,10 +7,10 @@ use std::hint::spin_loop;
 use std::sync::Wait;
 use std::thread::Parker;
 
-/// How often a thread looks for a message before it sleeps. Looking takes some 10 nanoseconds, so this is some 2
-/// milliseconds: longer than the caller's own work in a round of many packets. To wake a thread takes up to 100
-/// microseconds, which is longer than many workers' parts.
-const LOOKS: u32 = 200_000;
+/// How often a thread looks for a message before it sleeps. Looks take half a millisecond in all on processors with a long
+/// pause. To wake a thread takes some 100 microseconds, and a thread that looks much longer takes processors from those
+/// that it waits for, if the machine is busy.
+const LOOKS: u32 = 10_000;
 
 /// What wakes a thread that sleeps until a message comes. The bells of a run are in one list, and each message rings one,
 /// so each has cache lines of its own.
