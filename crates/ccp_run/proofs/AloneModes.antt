@@ -173,7 +173,7 @@ module _ (bytes : List ℕ) where
 
 -- ---- feed
 
--- the end of a feed as the refusal that tells it, or none where the input is whole
+-- the end of a feed as the refusal that reports it, or none if the input is whole
 abbrev refusal_of : FeedEnd → Option Refusal
 refusal_of (ends.Bad field place) = Some (Frame field place)
 refusal_of (ends.Cut place) = Some (FrameCut place)

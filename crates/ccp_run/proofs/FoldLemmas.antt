@@ -81,7 +81,7 @@ module _ (form : Form) where
   pub end_shows_all : (acks : List Ack) → length (fold_end form acks).fields ≡ length form.fields
   end_shows_all acks = (shape_after acks (fold_start form) (IsEnvOf-declared_env form 0 0 0)).fields
 
--- the line of a fold's fault is that of the notice which tells it
+-- the line of a fold's fault is that of the notice which reports it
 pub line_of_notice : (acks : List Ack) (places : List Place) (window : ℕ) (fault : Option Notice) (told : Option (ℕ × Cause)) → ForSome fault (IsFoldNotice acks places window) → option_map (told_fault places) fault ≡ told → notice_line places fault ≡ stopping_line told
 line_of_notice acks places window None told notice same = ap stopping_line same
 line_of_notice acks places window (Some n) told notice same =

@@ -28,7 +28,7 @@ use Rattle.scenario_json.specs.ScenePrograms.{forms_of}
 use Rattle.ccp_run.specs.Live.{IsRightBook, book_cases}
 use Rattle.ccp_run.proofs.CodedLemmas.{simulated}
 
--- ---- what a book over codes tells, with the places of instructions
+-- ---- what a book over codes shows, with the places of instructions
 
 module _ (programs : List (ℕ × Built)) (case : Case) where
   abbrev codes : Flow ℕ
@@ -101,7 +101,7 @@ module _ (programs : List (ℕ × Built)) (numbered : AreNumberedFrom 0 programs
     read = told;
   }
 
--- each book of coded cases tells of its word
+-- each book of coded cases shows the meaning of its word
 pub right_books : (programs : List (ℕ × Built)) → AreNumberedFrom 0 programs → (books : List Book) → All IsWhole books
     → All (IsCoded programs) (book_cases books) → All (IsRightBook programs) books
 right_books programs numbered [] whole coded = All-nil (IsRightBook programs)
@@ -110,7 +110,7 @@ right_books programs numbered (book ∷ rest) whole coded =
     (right_book programs numbered book (whole 0 book (omega arith)) (coded 0 book.case (omega arith)))
     (right_books programs numbered rest (λ k d h. whole (suc k) d (omega (arith, h))) (λ k d h. coded (suc k) d (omega (arith, h))))
 
--- what each book tells, without its word's being legal and complete
+-- what each book shows, even if its word isn't legal and complete
 pub books_read : (programs : List (ℕ × Built)) (books : List Book) → All (IsRightBook programs) books → All (IsBookRead programs) books
 books_read programs books told = λ k d h. (told k d h).read
 

@@ -1,4 +1,4 @@
--- What the books of a rollout tell of its cases.
+-- What the books of a rollout show for its cases.
 use Rattle.std.proofs.Common.{◌≡◌, List, [], ◌∷◌, map, ap, refl}
 use Rattle.std.specs.List.{All}
 use Rattle.std.proofs.lemmas.List.Elements.{All-map}

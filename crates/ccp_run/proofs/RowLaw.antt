@@ -1,4 +1,4 @@
--- The row of a flow and the account of its timeline tell of one history.
+-- The row of a flow and the account of its timeline show the same history.
 use Rattle.std.proofs.Common.{◌≡◌, ◌∙◌, ℕ, ◌+◌, [], ◌∷◌, ◌++◌, length, map, refl, sym}
 use Rattle.std.proofs.lemmas.List.{length-append, length-map}
 use Rattle.link_model.specs.declared.link_case.LinkCase.{LinkCase}

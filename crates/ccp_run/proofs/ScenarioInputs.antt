@@ -63,12 +63,12 @@ module _ {Said : Type 0} (read : List ℕ → Result Said SceneFault) where
       reads_to_end Input (λ bytes. SaysSomething (λ (said : Said). read bytes ≡ Ok said)) Makes (λ bytes. IsOfScene (λ fault. read bytes ≡ Err fault))
       (λ bytes. settled_by rules bytes (refusal_in (read bytes)) (some_read bytes (read bytes) refl) (λ input. ap refusal_in input.1) (one_read bytes) (made bytes))
 
--- a mode whose inputs are scenarios, each output of which tells this of one
+-- a mode whose inputs are scenarios, and what each of its outputs must show for one
 pub scene_mode : (mode : SceneMode) (Tells : Telling) → IsMode (scene_rules mode (IsSceneOutput mode Tells))
 scene_mode mode Tells =
     text_mode (scene_of mode) (IsSceneOutput mode Tells) (λ bytes output made. (_, made.scenario.text))
 
--- what tells of a scenario's programs and cases, and keeps the programs, is an output for the scenario
+-- an output that shows what it must for a scenario's programs and cases, and keeps the programs, is an output for the scenario
 pub of_cases : (mode : SceneMode) (Tells : Telling) (bytes : List ℕ) (programs : List (ℕ × Built)) (cases : List Case) (output : ModeOutput)
     → IsScenario mode bytes programs cases → output.programs ≡ programs → Tells programs cases output → IsSceneOutput mode Tells bytes output
 of_cases mode Tells bytes programs cases output scenario kept tells = record {

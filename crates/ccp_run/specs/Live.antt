@@ -15,7 +15,7 @@ use Rattle.ccp_run.specs.Campaign.{frames_shown}
 use Rattle.ccp_run.specs.Rules.{Rules}
 use Rattle.ccp_run.specs.Scenes.{IsSceneOutput, scene_rules}
 
--- the book's word is legal and complete for its case, and the book tells what the word came to, all read over the
+-- the book's word is legal and complete for its case, and the book shows what the word means, all read over the
 -- sources of these programs
 pub record IsRightBook (programs : List (ℕ × Built)) (book : Book) : Type 0 where
   pub legal : legal (read_flow programs book) book.case.link book.word ≡ true
@@ -38,7 +38,7 @@ pub record TellsLive (wire : Bool) (programs : List (ℕ × Built)) (cases : Lis
   pub written : output.text ≡ books_written wire programs output.books
   pub idle : output.ran ≡ 0
 
--- the output tells this of the scenario's cases
+-- the output shows this for the scenario's cases
 abbrev pub IsLiveOutput : Bool → List ℕ → ModeOutput → Type 0
 IsLiveOutput wire = IsSceneOutput scene.Live (TellsLive wire)
 

@@ -59,11 +59,11 @@ IsNoScenario mode bytes = IsOfScene (HasFault mode bytes)
 abbrev pub StopsScene : SceneMode → List ℕ → Stop → Type 0
 StopsScene mode bytes = StopsFor (HasFault mode bytes)
 
--- what an output tells of programs and cases
+-- what an output must show for programs and cases
 abbrev pub Telling : Type 1
 Telling = List (ℕ × Built) → List Case → ModeOutput → Type 0
 
--- the bytes are a scenario's text, and the output keeps its programs and tells this of them and of its cases
+-- the bytes are a scenario's text; the output keeps its programs, and shows what it must for them and the scenario's cases
 pub record IsSceneOutput (mode : SceneMode) (Tells : Telling) (bytes : List ℕ) (output : ModeOutput) : Type 0 where
   pub cases : List Case
   pub scenario : IsScenario mode bytes output.programs cases

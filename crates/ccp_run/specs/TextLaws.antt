@@ -39,7 +39,7 @@ ReadsAcksBack =
     (acks : List Ack) (next : ℕ) → length acks ≤ most_acks → All IsOf64Bits acks
     → acks_of_lines next (parts_of LineFeed (ack_lines acks)) ≡ Ok acks
 
--- a row of a campaign's table has the numbers that the lines of an account show: its tickets that tell reports, its
+-- a row of a campaign's table has the numbers that the lines of an account show: its tickets with reports, its
 -- faults, its epochs, and its last line
 pub record TellsRow (account : Account) (row : Row) : Type 0 where
   pub acks : row.acks ≡ account.end.acks
@@ -50,7 +50,7 @@ pub record TellsRow (account : Account) (row : Row) : Type 0 where
   pub cwnd : row.cwnd ≡ account.end.cwnd
   pub tail : row.tail ≡ account.end.acks - account.end.first
 
--- the row of a flow and the account of its timeline tell of one history
+-- the row of a flow and the account of its timeline show the same history
 abbrev pub TellsRows : Type 0
 TellsRows =
     (flow : Flow Place) (link : LinkCase) (lag : ℕ)

@@ -30,14 +30,14 @@ timeline_text wire programs cases =
     frames_shown wire programs ⧺ live_text (forms_of programs) (planned_by (forms_of programs) cases)
 
 -- the output is that text of the cases, and there is one book for each of these, in order, whose word is the campaign
--- word, which is legal and complete, and which tells what the word came to
+-- word, which is legal and complete, and which shows what the word means
 pub record TellsTimeline (wire : Bool) (programs : List (ℕ × Built)) (cases : List Case) (output : ModeOutput) : Type 0 where
   pub books : flows_of output.books ≡ planned_by (forms_of programs) cases
   pub right : All (IsRightBook programs) output.books
   pub written : output.text ≡ timeline_text wire programs cases
   pub idle : output.ran ≡ 0
 
--- the output tells this of the scenario's cases
+-- the output shows this for the scenario's cases
 abbrev pub IsTimelineOutput : Bool → List ℕ → ModeOutput → Type 0
 IsTimelineOutput wire = IsSceneOutput scene.Live (TellsTimeline wire)
 
