@@ -22,7 +22,7 @@ use Rattle.campaign_gate.specs.declared.sums.Sums.{Sums}
 use Rattle.campaign_gate.specs.CampaignWord.{is_late, first_letter, plan_from, plan}
 use Rattle.campaign_gate.specs.CampaignRow.{sums_of, sums_with, AreRoomy, peak_of}
 use Rattle.campaign_gate.specs.CampaignBooks.{planned}
-use Rattle.campaign_gate.specs.CaseRuns.{next_at, plan_at, opened, longer, left_in, due_to, next_in, MayMake, MayHear, Makes, sums_after, IsOnWay, IsNextLetter, Onward, IsEnded}
+use Rattle.campaign_gate.specs.CaseRuns.{next_planned, plan_at, opened, longer, left_in, due_to, next_in, MayMake, MayHear, Makes, sums_after, IsOnWay, IsNextLetter, Onward, IsEnded}
 use Rattle.campaign_gate.proofs.PlanLemmas.{next-legal, plan-next, plan-none}
 use Rattle.campaign_gate.proofs.PeakLemmas.{peak-append}
 use Rattle.campaign_gate.proofs.SumLemmas.{sums-append, roomy}
@@ -45,7 +45,7 @@ due-out flow lag acks true (Some ticket) = refl
 due-out flow lag acks false (Some ticket) = refl
 
 -- the next letter is that of the flow's history
-next-bare : (cell : CellState) → next_at cell ≡ next_in (bare_at cell)
+next-bare : (cell : CellState) → next_planned cell ≡ next_in (bare_at cell)
 next-bare cell =
     let flow = flow_at cell in
     let w = world_at cell in
@@ -72,7 +72,7 @@ module _ (cell : CellState) where
   sums-made T = ap sums_of (sym (take-keeps flow before).acks)
   sums-made C = ap sums_of (sym (answer-keeps flow before).acks)
 
-  module _ (letter : Letter) (next : next_at cell ≡ Some letter) where
+  module _ (letter : Letter) (next : next_planned cell ≡ Some letter) where
     may : is_legal flow before letter ≡ true
     may = next-legal flow cell.case.lag before letter next
 
@@ -103,7 +103,7 @@ module _ {F : Type 0} (at : CellState → F) (bare_of : F → BareState) (law : 
   module _ (case : Case) (flow : F) (tally : Tally) where
     -- what comes next by what later letters depend on
     pub next-is : (on : IsOnWay at case flow tally) (next : Option Letter) → next ≡ next_in (bare_of flow)
-        → next_at (record { case = case; word = on.word }) ≡ next
+        → next_planned (record { case = case; word = on.word }) ≡ next
     next-is on next is =
         let cell : CellState = record { case = case; word = on.word } in
         next-bare cell ∙ sym (ap next_in (is-bare flow cell on.after)) ∙ sym is
@@ -151,7 +151,7 @@ module _ {F : Type 0} (at : CellState → F) (case : Case) (flow : F) (tally : T
       record { cell = cell; after = n.on.after; legal = may cell letter n.next }
 
   -- where nothing comes next, the word is the campaign word
-  pub on-ended : (on : IsOnWay at case flow tally) → next_at (record { case = case; word = on.word }) ≡ None → IsEnded at case flow tally
+  pub on-ended : (on : IsOnWay at case flow tally) → next_planned (record { case = case; word = on.word }) ≡ None → IsEnded at case flow tally
   on-ended on none =
       let cell : CellState = record { case = case; word = on.word } in
       let whole : on.word ≡ plan case =

@@ -19,7 +19,7 @@ use Rattle.flow_core.specs.Words.{Giving, from_link, with_given, after_letter, w
 use Rattle.flow_core.specs.Books.{ticket_line}
 use Rattle.flow_core.specs.LiveText.{report_count, reports_told}
 use Rattle.campaign_gate.specs.CampaignWord.{plan_over}
-use Rattle.campaign_gate.specs.ReportsMade.{reports_in, reports_from, reports_made, reports_of, reports_answered, CountsReports, RowCountsReports}
+use Rattle.campaign_gate.specs.ReportsMade.{era_reports, reports_from, reports_made, reports_of, reports_answered, CountsReports, RowCountsReports}
 use Rattle.campaign_gate.proofs.PlanLemmas.{plan_over-legal, plan_over-complete}
 
 -- ---- one more event, epoch or ticket
@@ -35,15 +35,15 @@ events-append reading epoch (first ∷ rest) event track =
     (reports_at reading epoch event (after reading rest (after_event reading first track))))
 
 eras-append : {X : Type 0} (flow : Flow X) (number : ℕ) (eras : List Era) (era : Era)
-    → reports_from flow number (eras ++ era ∷ []) ≡ reports_from flow number eras ++ reports_in flow (number + length eras) era
+    → reports_from flow number (eras ++ era ∷ []) ≡ reports_from flow number eras ++ era_reports flow (number + length eras) era
 eras-append flow number [] era =
     let same : number ≡ number + 0 = omega arith in
-    append-nil (reports_in flow number era) ∙ ap (λ (n : ℕ). reports_in flow n era) same
+    append-nil (era_reports flow number era) ∙ ap (λ (n : ℕ). era_reports flow n era) same
 eras-append flow number (first ∷ rest) era =
     let same : (number + 1) + length rest ≡ number + length (first ∷ rest) = omega arith in
-    ap (λ (xs : List Report). reports_in flow number first ++ xs)
-    (eras-append flow (number + 1) rest era ∙ ap (λ (n : ℕ). reports_from flow (number + 1) rest ++ reports_in flow n era) same)
-    ∙ sym (append_assoc (reports_in flow number first) (reports_from flow (number + 1) rest) (reports_in flow (number + length (first ∷ rest)) era))
+    ap (λ (xs : List Report). era_reports flow number first ++ xs)
+    (eras-append flow (number + 1) rest era ∙ ap (λ (n : ℕ). reports_from flow (number + 1) rest ++ era_reports flow n era) same)
+    ∙ sym (append_assoc (era_reports flow number first) (reports_from flow (number + 1) rest) (era_reports flow (number + length (first ∷ rest)) era))
 
 tickets-append : {X : Type 0} (tickets : List (Answered X)) (ticket : Answered X)
     → reports_answered (tickets ++ ticket ∷ []) ≡ reports_answered tickets ++ reports_of ticket.told
@@ -137,7 +137,7 @@ module _ {X : Type 0} (flow : Flow X) where
       let number : 0 + length w.past ≡ length w.past = omega arith in
       append-nil (reports_from flow 0 (w.past ++ w.present ∷ []))
       ∙ eras-append flow 0 w.past w.present
-      ∙ ap (λ (n : ℕ). reports_from flow 0 w.past ++ reports_in flow n w.present) number
+      ∙ ap (λ (n : ℕ). reports_from flow 0 w.past ++ era_reports flow n w.present) number
 
   turn-made : (ticket : Taken X) (turn : Agent × Reply) (w : World X) → w.out ≡ Some ticket → KeepsMade w → KeepsMade (with_turn flow ticket turn w)
   turn-made ticket turn w out kept =

@@ -18,8 +18,8 @@ use Rattle.campaign_gate.specs.CampaignWord.{plan_over, plan}
 abbrev pub planned : Case → CellState
 planned case = record { case = case; word = plan case }
 
--- the book's word is the campaign word of its case, which is legal and complete, and the book tells what that word came
--- to: the state after it, read over the case's codes, and so, for all programs that these simulate, over the programs
+-- the book's word is the campaign word of its case, which is legal and complete, and the book has the
+-- state after that word, read over the case's codes, and so, for all programs that these simulate, over the programs
 pub record IsCampaignBook (book : Book) : Type 0 where
   pub word : book.word ≡ plan book.case
   pub legal : legal (flow_at (planned book.case)) book.case.link book.word ≡ true

@@ -17,8 +17,8 @@ use Rattle.campaign_gate.specs.CampaignRow.{sums_of, sums_with, AreRoomy, peak_o
 use Rattle.campaign_gate.specs.CampaignBooks.{planned}
 
 -- the next letter of a cell's campaign word
-abbrev pub next_at : CellState → Option Letter
-next_at cell = next_of (flow_at cell) cell.case.lag (world_at cell)
+abbrev pub next_planned : CellState → Option Letter
+next_planned cell = next_of (flow_at cell) cell.case.lag (world_at cell)
 
 -- the rest of the campaign word
 abbrev pub plan_at : CellState → List Letter
@@ -83,7 +83,7 @@ pub record IsOnWay {F : Type 0} (at : CellState → F) (case : Case) (flow : F) 
 -- and this letter is the next one of the campaign word
 pub record IsNextLetter {F : Type 0} (at : CellState → F) (case : Case) (flow : F) (tally : Tally) (letter : Letter) : Type 0 where
   pub on : IsOnWay at case flow tally
-  pub next : next_at (record { case = case; word = on.word }) ≡ Some letter
+  pub next : next_planned (record { case = case; word = on.word }) ≡ Some letter
 
 abbrev pub sums_after : Letter → CellState → Sums → Sums
 sums_after A cell sums = sums_with (ack_at cell) sums

@@ -14,19 +14,19 @@ use Rattle.campaign_gate.specs.CampaignWord.{plan_over}
 use Rattle.campaign_gate.specs.CampaignRow.{row_read}
 
 -- the reports of an epoch with this number
-abbrev pub reports_in : {X : Type 0} → Flow X → ℕ → Era → List Report
-reports_in flow number era =
+abbrev pub era_reports : {X : Type 0} → Flow X → ℕ → Era → List Report
+era_reports flow number era =
     reports (flow.reading era.program) (record { flow = flow.number; program = era.program; number = number }) era.events
     (track_at era.at era.first)
 
 -- the reports of epochs, the first of which has this number
 abbrev pub reports_from : {X : Type 0} → Flow X → ℕ → List Era → List Report
 reports_from flow number [] = []
-reports_from flow number (era ∷ rest) = reports_in flow number era ++ reports_from flow (number + 1) rest
+reports_from flow number (era ∷ rest) = era_reports flow number era ++ reports_from flow (number + 1) rest
 
 -- the reports of a flow's ended epochs, and of the present one
 abbrev pub reports_made : {X : Type 0} → Flow X → World X → List Report
-reports_made flow w = reports_from flow 0 w.past ++ reports_in flow (length w.past) w.present
+reports_made flow w = reports_from flow 0 w.past ++ era_reports flow (length w.past) w.present
 
 -- the report of a ticket; a fault is none
 abbrev pub reports_of : {X : Type 0} → Content X → List Report

@@ -9,7 +9,7 @@ use Rattle.reg_compiler.specs.declared.fault.CompileFault.{CompileFault}
 use Rattle.reg_compiler.specs.declared.fault.CompileFault.TheVariants.{TooDeep, CodeTooLong}
 use Rattle.reg_compiler.specs.Counts.{form_count}
 use Rattle.reg_compiler.specs.Needs.{deep_form, form_need}
-use Rattle.reg_compiler.specs.Refusal.{refusal_of, shown, too_long}
+use Rattle.reg_compiler.specs.Refusal.{refusal_of, shown_count, too_long}
 use Rattle.reg_compiler.proofs.FittingNeeds.{fits-form}
 
 neither : (place : Option Place) (long : Option CompileFault) → option_or (option_map TooDeep place) long ≡ None → (place ≡ None) × (long ≡ None)
@@ -19,7 +19,7 @@ neither (Some place) long e = cc
 within : (count : ℕ) → too_long count ≡ None → count ≤ 256
 within count e = go (nat_lt 256 count) refl e
   where
-    go : (long : Bool) → nat_lt 256 count ≡ long → (if long then Some (CodeTooLong (shown count)) else None) ≡ None → count ≤ 256
+    go : (long : Bool) → nat_lt 256 count ≡ long → (if long then Some (CodeTooLong (shown_count count)) else None) ≡ None → count ≤ 256
     go true is none = cc
     go false is none = grind (arith, nat_tests)
 

@@ -4,8 +4,8 @@ use Rattle.ccp_base.specs.Limits.{most_name_bytes}
 use Rattle.ccp_base.specs.InPlace.{IsPadded, padded, padded-held, length-held}
 
 -- a text if it is a name, which has 1 to 64 bytes
-abbrev pub name_of : List ℕ → Option (List ℕ)
-name_of text = if nat_le 1 (length text) && nat_le (length text) most_name_bytes then Some text else None
+abbrev pub as_name : List ℕ → Option (List ℕ)
+as_name text = if nat_le 1 (length text) && nat_le (length text) most_name_bytes then Some text else None
 
 -- 64 bytes hold a name of this length
 pub record IsHeld (bytes : List ℕ) (count : ℕ) : Type 0 where

@@ -2,7 +2,7 @@
 ghost use Rattle.std.specs.Prelude.{◌≡◌, ◌≤◌, ◌++◌, drop, length};
 ghost use Rattle.ccp_base.specs.InPlace.{padded};
 ghost use Rattle.ccp_base.specs.Limits.{most_name_bytes};
-ghost use Rattle.ccp_base.specs.Named.{name_of};
+ghost use Rattle.ccp_base.specs.Named.{as_name};
 
 use crate::sequence::Sequence;
 use std::marker::Model;
@@ -36,7 +36,7 @@ impl Model for Name {
 impl Name {
     /// The name with this text; None exactly if the text is empty or longer than 64 bytes.
     pub fn new(text: &[u8]) -> Option<Self>
-        ensures { result ≡ name_of text.now }
+        ensures { result ≡ as_name text.now }
     {
         if text.is_empty() || text.len() > NAME_BYTES {
             return None;

@@ -25,7 +25,7 @@ made-both : {A A' B C : Type 0} (make : B → C) (part : A → A') (read : Read 
 made-both make part (Ok x) read' next next' is same = same x ∙ ap (λ r. r >>= next') is
 made-both make part (Err stop) read' next next' is same = ap (λ r. r >>= next') is
 
--- what is made of each of so many parts
+-- what is made of each of `count` parts
 made-repeated : {A B : Type 0} (make : A → B) (part : List ℕ → Read A) (count : ℕ) (bytes : List ℕ) → made (map make) (repeated_at part count bytes) ≡ repeated_at (λ bytes. made make (part bytes)) count bytes
 unfolding repeated_at
 made-repeated make part zero bytes = refl

@@ -110,7 +110,7 @@ const TOLD: [Told; 6] = [
     },
 ];
 
-/// Whether a run tells what the row says.
+/// Whether a run prints what the row says.
 fn is_told<R: Threads + Wait + Sync>(rt: &R, alloc: Global, row: &Told) -> Result<bool, Fail> {
     let run = run_on_words(rt, alloc, &["ccp", row.mode], row.input, NONE_FAILS)?;
     Ok(run.status == row.status && run.programs == row.programs && run.ran == row.ran)

@@ -1,4 +1,4 @@
--- A run of `feed`, from how its loop ended and what was told then.
+-- A run of `feed`, from how its loop ended and what it then reported.
 use Rattle.std.proofs.Common.{◌≡◌, ◌≢◌, ◌⊎◌, inl, inr, ◌∙◌, ℕ, true, List, [], ◌++◌, arith, ap, sym, refl, subst, append-nil}
 use Rattle.ccp_base.specs.Limits.{most_input_bytes}
 use Rattle.ccp_base.specs.Outside.{Takes, TakesWithin}

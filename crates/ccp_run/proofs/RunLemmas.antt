@@ -1,4 +1,4 @@
--- A run's promises, from what its mode came to and how it then ended.
+-- A run's promises, from its mode's outcome and from how it then ended.
 use Rattle.std.proofs.Common.{◌≡◌, ◌≢◌, ◌≤◌, ◌⊎◌, inl, inr, ◌∙◌, ℕ, zero, suc, ◌+◌, Bool, true, false, subst, Some, None, Result, Ok, Err, List, [], length, arith, ap, sym, refl, append-nil}
 use Rattle.ccp_base.specs.Outside.{Known, Rose, Takes, TakesWithin, Appends}
 use Rattle.ccp_run.specs.declared.outcome.ModeOutput.{ModeOutput}

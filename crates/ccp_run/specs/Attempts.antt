@@ -1,4 +1,4 @@
--- What a mode came to before anything was written: its output, or why there is none.
+-- A mode's outcome before anything is written: its output, or why there is none.
 use Rattle.std.specs.Prelude.{◌≡◌, ◌≤◌, ◌⊎◌, ℕ, ◌+◌, Bool, true, false, Result, Ok, Err, List, ◌++◌, length}
 use Rattle.ccp_base.specs.Outside.{Rose, Takes, TakesOver, TakesWithin}
 use Rattle.ccp_run.specs.declared.outcome.ModeOutput.{ModeOutput}

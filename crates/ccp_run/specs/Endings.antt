@@ -48,7 +48,7 @@ pub record Refuses (errors : StreamChange) (outcome : Outcome) (refusal : Refusa
   pub failed : outcome.status ≢ status_number status.InputRefused → Ends errors outcome status.NoMemory memory_line
   pub too_long : (limit : Limit) → refusal ≡ TooLong limit → outcome.status ≡ status_number status.InputRefused
 
--- how a run ends that came to this; where there is no output the sink is as it was
+-- how a run with this outcome ends; if there is no output the sink is as it was
 abbrev pub IsEnding : StreamChange → StreamChange → Type 0 → Outcome → Result ModeOutput Stop → Type 0
 IsEnding sink errors is_finished outcome (Ok output) = Writes sink errors is_finished outcome output
 IsEnding sink errors is_finished outcome (Err (stop.Refused refusal)) = (sink.new ≡ sink.old) × Refuses errors outcome refusal

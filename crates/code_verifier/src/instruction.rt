@@ -1,6 +1,7 @@
 //! The rules of acceptance for an instruction at its place, and the first that it fails.
 ghost use Rattle.std.specs.Prelude.{◌≡◌, ◌&&◌, not, IsTrue, IfNone};
-ghost use Rattle.reg_code.specs.AcceptedCode.{rule_where, is_there, are_there, is_readable, missing_value, missing_target_value, is_bind, is_ewma, is_zero, is_weight, is_fixed, is_micros, is_flag_reg, is_temp, is_in_condition, is_misplaced, rule_failed};
+ghost use Rattle.reg_code.specs.Forms.{is_micros};
+ghost use Rattle.reg_code.specs.AcceptedCode.{rule_where, is_there, are_there, is_readable, missing_value, missing_target_value, is_bind, is_ewma, is_zero, is_weight, is_fixed, is_flag_reg, is_temp, is_in_condition, is_misplaced, rule_failed};
 ghost use Rattle.code_verifier.specs.Marked.{marks_of};
 
 use crate::tables::{Tables, has_mark, writes};

@@ -32,7 +32,7 @@ ticket_line flow ticket = record {
 abbrev pub epoch_line : Era → EpochLine
 epoch_line era = record { program = era.program; at = era.at; cwnd = era.first.cwnd }
 
--- the book tells what the history came to
+-- the book has the result of the history
 pub record IsBookOf {X : Type 0} (flow : Flow X) (w : World X) (book : Book) : Type 0 where
   pub tickets : book.tickets ≡ map (ticket_line flow) w.answered
   pub epochs : book.epochs ≡ map epoch_line (w.past ++ w.present ∷ [])

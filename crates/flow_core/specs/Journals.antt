@@ -42,7 +42,7 @@ abbrev pub journal_answer : TicketLine → Option EpochLine → Journal → Jour
 journal_answer ticket epoch j =
     record j { tickets = with_item ticket j.tickets; epochs = with_some epoch j.epochs; word = with_item C j.word }
 
--- the fault that an acknowledgement came to, by the machine's answer and the untold notice after it
+-- the fault of an acknowledgement, by the machine's answer and the untold notice after it
 abbrev pub new_notice : Acked → Option Notice → Option Notice
 new_notice (Faulted kind index) untold = untold
 new_notice Quiet untold = None

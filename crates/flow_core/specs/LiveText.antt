@@ -1,4 +1,4 @@
--- The text of a live run: for each flow what its history came to, read over the sources of its programs.
+-- The text of a live run: for each flow the result of its history, read over the sources of its programs.
 use Rattle.std.specs.Prelude.{ℕ, ◌+◌, ◌==◌, if◌then◌else◌, List, [], ◌∷◌, ◌++◌, length, map, codes, decimal}
 use Rattle.ccp_base.specs.declared.exchange.Reply.{Reply}
 use Rattle.ccp_base.specs.declared.exchange.Reply.TheVariants.{Nothing, Update, Change}

@@ -15,7 +15,7 @@ use Rattle.flow_core.specs.States.{outcome_by}
 abbrev pub heard_on : Code → MachineState → Ack → Bool → Outcome (FaultKind × ℕ) × Env
 heard_on code machine ack room = heard (by_code code) machine.is_stopped (env_of machine.kept) ack room
 
--- what it came to, by the machine's answer
+-- its outcome, by the machine's answer
 abbrev pub met_by : Acked → MachineState → Outcome (FaultKind × ℕ) × Env
 met_by acked machine = (outcome_by acked machine.report, env_of machine.kept)
 

@@ -65,7 +65,7 @@ abbrev pub notice_after : {X : Type 0} → Flow X → List (Failure X) → Optio
 notice_after flow [] untold = untold
 notice_after flow (failure ∷ rest) untold = Some (notice_of flow failure)
 
--- an acknowledgement came to this
+-- an acknowledgement had this outcome
 abbrev pub step_outcome : {X : Type 0} → Flow X → Ack → Outcome (FaultKind × X) × Env → Summary → Summary
 step_outcome flow ack met s =
     let failures = failures_met s.program s.epoch s.track.count ack met in

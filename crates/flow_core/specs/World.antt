@@ -132,7 +132,7 @@ held_met (reported fields) = 0
 held_met (failed fault) = 0
 held_met stopped = 0
 
--- an acknowledgement came to this, where the epoch stood so before it and there was room or not
+-- an acknowledgement had this outcome, in this state of the epoch before it and with room or without
 abbrev pub with_met : {X : Type 0} → Flow X → Ack → Bool → Track → Outcome (FaultKind × X) × Env → World X → World X
 with_met flow ack room track met w =
     let failures = failures_met w.present.program (length w.past) track.count ack met in

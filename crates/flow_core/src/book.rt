@@ -22,7 +22,7 @@ pub struct EpochLine {
     pub cwnd: u64,
 }
 
-/// What a flow's history came to.
+/// The result of a flow's history.
 #[derive(Drop)]
 pub struct Book {
     pub case: Case,

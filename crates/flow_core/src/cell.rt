@@ -188,7 +188,7 @@ impl Cell {
         self.core.out()
     }
 
-    /// What the history came to. The word must be complete.
+    /// The result of the history. The word must be complete.
     pub fn finish(self) -> Book
         requires { IsComplete self }
         ensures case { result.case ≡ self.case }

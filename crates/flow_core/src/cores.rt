@@ -314,7 +314,7 @@ impl Core {
         self.bare.case()
     }
 
-    /// What the history came to. No ticket may be out, and nothing may be left to take.
+    /// The result of the history. No ticket may be out, and nothing may be left to take.
     pub fn finish(self) -> Given
         requires { is_still (world_in self) ≡ true }
         ensures case { result.book.case ≡ self.case }

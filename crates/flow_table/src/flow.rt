@@ -12,7 +12,7 @@ pub trait LockedFlow: Drop {
     /// What a flow is made of.
     type Case: Drop;
 
-    /// What a flow's history came to.
+    /// The result of a flow's history.
     type Book: Drop;
 
     // the case of a flow

@@ -11,7 +11,7 @@ use Rattle.fold_machine.specs.Layout.{words_from, kept_in, HasRoom, KeepsOthers,
 use Rattle.fold_machine.specs.KeptWords.{declared_words, reset_words}
 use Rattle.fold_machine.proofs.LayoutLemmas.{from-same}
 
--- the word at a place is outside of so many from another place on
+-- the word at a place is outside of those from another place on
 abbrev IsOutside : ℕ → ℕ → ℕ → Type 0
 IsOutside at count k = (k < at) ⊎ (at + count ≤ k)
 

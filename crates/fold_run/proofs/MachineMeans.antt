@@ -35,7 +35,7 @@ there places kind index m e = go (slice_get places index) refl e
         let is : m ≡ mean.Fault kind place = cc in
         (slice_get_within places index place found, is ∙ ap (mean.Fault kind) (sym (get_or_from_slice_get places index place (record { line = 0; column = 0 }) found)))
 
--- what an answer tells of the meaning, where the last report has these fields
+-- what an answer says of the meaning, if the last report has these fields
 abbrev pub Tells : List Place → List ℕ → Mean → Acked → Type 0
 Tells places report m a = (m ≡ mean_of places report a) × HasItsPlace places a
 

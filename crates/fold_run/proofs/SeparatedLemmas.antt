@@ -16,7 +16,7 @@ after_lines-next n text = ap (λ k. after_lines k text) (add-one n) ∙ go n tex
     go zero text = refl
     go (suc n) text = go n (after_separator LineFeed text)
 
--- the line at the front is passed over
+-- the line at the front is skipped
 pub past-line : (line : List ℕ) (lines : List (List ℕ)) → is_separator line ≡ false → position_or_len is_separator (line ∷ lines) ≡ 1 + position_or_len is_separator lines
 past-line line lines other = ap (λ b. cond (not b) (1 + position_or_len is_separator lines) 0) other
 

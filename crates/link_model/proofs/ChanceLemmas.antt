@@ -96,7 +96,7 @@ module _ (times : List ℕ) (trace : IsTrace times) where
             omega arith)
       ]
 
-  -- so many turns take at least as many milliseconds
+  -- a number of turns takes at least as many milliseconds
   pub late_chance : (at from : ℕ) → at ≤ chance_time times (from + length times * at)
   late_chance at from =
       let n = length times in

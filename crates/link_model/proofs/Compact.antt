@@ -7,7 +7,7 @@ use Rattle.link_model.specs.Traces.{IsTrace}
 use Rattle.link_model.specs.Chances.{first_chance}
 use Rattle.link_model.specs.Link.{Packet, Fate, Lost, Served, allowance, is_listed, is_marked, arrival_of, past_in, arrival_ack, timeout_ack, run_of, ack_after}
 use Rattle.link_model.specs.Standing.{Standing, arrival_by, arrivals_by, arrivals_of, lost_last_by, lost_last, standing_of}
-use Rattle.link_model.specs.LinkMoves.{count_of, with_fate, with_packet, sending, ack_by, acked_by, next_ack, next_standing}
+use Rattle.link_model.specs.LinkMoves.{flight_count, with_fate, with_packet, sending, ack_by, acked_by, next_ack, next_standing}
 use Rattle.link_model.proofs.Whole.{Landing, Arrived, AllLost, Whole, whole_of, packet_by, landing, landing_by, staying, with_flight, with_ack, sent_whole, next_whole}
 use Rattle.link_model.proofs.Whole as whole
 use Rattle.link_model.proofs.Refinement as refinement
@@ -68,13 +68,13 @@ module _ (case : LinkCase) where
       ∙ ap (arrivals_by case n packet.sent_at packet.fate (arrivals_of case (n + 1) rest ++ arrival_by case (lost_last (n + 1) rest) sent_at chance marked ∷ [])) (arrivals-served 0 sent_at chance marked rest)
       ∙ arrivals_by-push n packet.sent_at packet.fate (arrivals_of case (n + 1) rest) (arrivals_of case 0 rest) (lost_last (n + 1) rest) (lost_last 0 rest) (λ lost. arrival_by case lost sent_at chance marked)
 
-  count_by : (n sent_at m : ℕ) (fate : Fate) (rest : List Packet) → count_of (arrivals_of case (n + 1) rest) (lost_last (n + 1) rest) ≡ n + 1 + m
-      → count_of (arrivals_of case 0 rest) (lost_last 0 rest) ≡ 0 + m
-      → count_of (arrivals_by case n sent_at fate (arrivals_of case (n + 1) rest) (arrivals_of case 0 rest)) (lost_last_by fate (lost_last (n + 1) rest) (lost_last 0 rest)) ≡ n + suc m
+  count_by : (n sent_at m : ℕ) (fate : Fate) (rest : List Packet) → flight_count (arrivals_of case (n + 1) rest) (lost_last (n + 1) rest) ≡ n + 1 + m
+      → flight_count (arrivals_of case 0 rest) (lost_last 0 rest) ≡ 0 + m
+      → flight_count (arrivals_by case n sent_at fate (arrivals_of case (n + 1) rest) (arrivals_of case 0 rest)) (lost_last_by fate (lost_last (n + 1) rest) (lost_last 0 rest)) ≡ n + suc m
   count_by n sent_at m Lost rest after_lost after_served = omega (arith, after_lost)
   count_by n sent_at m (Served chance marked) rest after_lost after_served = omega (arith, after_served)
 
-  pub count-flight : (n : ℕ) (flight : List Packet) → count_of (arrivals_of case n flight) (lost_last n flight) ≡ n + length flight
+  pub count-flight : (n : ℕ) (flight : List Packet) → flight_count (arrivals_of case n flight) (lost_last n flight) ≡ n + length flight
   count-flight n [] = omega arith
   count-flight n (packet ∷ rest) = count_by n packet.sent_at (length rest) packet.fate rest (count-flight (n + 1) rest) (count-flight 0 rest)
 
@@ -154,12 +154,12 @@ module _ (case : LinkCase) where
       → whole.ack_by case (with_flight all (staying all.flight)) (Arrived sent_at chance marked lost) ≡ ack_by case (kept case all) (Some (arrival_by case lost sent_at chance marked))
   kept-arrival all sent_at chance marked lost lands =
       let stay = staying all.flight in
-      let count : length stay ≡ count_of (arrivals_of case 0 stay) (lost_last 0 stay) = omega (arith, count-flight 0 stay) in
+      let count : length stay ≡ flight_count (arrivals_of case 0 stay) (lost_last 0 stay) = omega (arith, count-flight 0 stay) in
       let ack : ℕ → Ack = λ n. arrival_ack case sent_at (arrival_of case chance) marked all.past lost n (all.acked + 1) all.sent in
       let rest : arrivals_of case 0 stay ≡ drop 1 (arrivals_of case 0 all.flight) = sym (ap (drop 1) lands.0) in
       ap ack count
-      ∙ ap (λ n. ack (count_of (arrivals_of case 0 stay) n)) (sym lands.1)
-      ∙ ap (λ xs. ack (count_of xs (lost_last 0 all.flight))) rest
+      ∙ ap (λ n. ack (flight_count (arrivals_of case 0 stay) n)) (sym lands.1)
+      ∙ ap (λ xs. ack (flight_count xs (lost_last 0 all.flight))) rest
 
   kept-ack_by : (all : Whole) (l : Landing) → LandsAs 0 all.flight l
       → whole.ack_by case (with_flight all (staying all.flight)) l ≡ ack_by case (kept case all) (slice_get (arrivals_of case 0 all.flight) 0)
@@ -202,10 +202,10 @@ module _ (case : LinkCase) where
 
   -- ---- one call
 
-  kept-sent : (window : ℕ) (all : Whole) → kept case (sent_whole case window all) ≡ sending case (allowance case window - count_of (arrivals_of case 0 all.flight) (lost_last 0 all.flight)) (kept case all)
+  kept-sent : (window : ℕ) (all : Whole) → kept case (sent_whole case window all) ≡ sending case (allowance case window - flight_count (arrivals_of case 0 all.flight) (lost_last 0 all.flight)) (kept case all)
   kept-sent window all =
       kept-sending (allowance case window - length all.flight) all
-      ∙ ap (λ n. sending case (allowance case window - n) (kept case all)) (let e : length all.flight ≡ count_of (arrivals_of case 0 all.flight) (lost_last 0 all.flight) = omega (arith, count-flight 0 all.flight) in e)
+      ∙ ap (λ n. sending case (allowance case window - n) (kept case all)) (let e : length all.flight ≡ flight_count (arrivals_of case 0 all.flight) (lost_last 0 all.flight) = omega (arith, count-flight 0 all.flight) in e)
 
   kept-next_ack : (window : ℕ) (all : Whole) → next_ack case window (kept case all) ≡ whole.next_ack case window all
   kept-next_ack window all =

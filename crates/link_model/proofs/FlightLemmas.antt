@@ -118,7 +118,7 @@ lost_by-later number from (sent ∷ rest) rises order =
     ap (λ b. cond (b && is_lost sent.packet.fate) (lost_by (packet_and_lost_below number) rest + 1) (lost_by (packet_and_lost_below number) rest)) (not_taken (packet_and_lost_below number) sent (omega (arith, rises.0)))
     ∙ lost_by-later number (sent.number + 1) rest rises.1 (omega (arith, rises.0))
 
--- what the definition acknowledges is what lands of the packets that the link keeps, after so many lost ones
+-- what the definition acknowledges is what lands of the packets that the link keeps, after the lost ones
 abbrev pub MatchNext : List Numbered → ℕ → ℕ → Next → Type 0
 MatchNext flight from lost all_lost = (landing (packets_of flight) lost ≡ AllLost (lost + length flight)) × (staying (packets_of flight) ≡ [])
 MatchNext flight from lost (arrives number sent_at chance marked) =

@@ -6,7 +6,7 @@ use Rattle.link_model.specs.declared.arrival.Arrival.{Arrival}
 use Rattle.link_model.specs.Traces.{longest_period, period, IsTrace}
 use Rattle.link_model.specs.Chances.{chance_time, first_chance}
 use Rattle.link_model.specs.Standing.{Standing, arrival_by}
-use Rattle.link_model.specs.LinkMoves.{count_of, with_lost, with_served, chance_now}
+use Rattle.link_model.specs.LinkMoves.{flight_count, with_lost, with_served, chance_now}
 use Rattle.link_model.specs.Horizon.{horizon, ArriveWithin, ArriveInOrder, IsTimely}
 use Rattle.link_model.proofs.ChanceLemmas.{chance_time_rises, chance_time-suc, first_chance_soon, le_first_chance}
 
@@ -25,15 +25,15 @@ ArriveInOrder-push from limit more (arrival ∷ rest) last order early after bou
     (order.0, omega (arith, order.1, after, bound), ArriveInOrder-push arrival.at limit more rest last order.2 (omega (arith, order.1, after)) after bound)
 
 -- each packet that isn't lost is in flight
-pub length_le_count : (arrivals : List Arrival) (lost : ℕ) → length arrivals + lost ≤ count_of arrivals lost
+pub length_le_count : (arrivals : List Arrival) (lost : ℕ) → length arrivals + lost ≤ flight_count arrivals lost
 length_le_count [] lost = omega arith
 length_le_count (arrival ∷ rest) lost = omega (arith, length_le_count rest lost)
 
-pub count-push : (arrivals : List Arrival) (last : Arrival) (lost : ℕ) → last.lost ≡ lost → count_of (arrivals ++ last ∷ []) 0 ≡ count_of arrivals lost + 1
+pub count-push : (arrivals : List Arrival) (last : Arrival) (lost : ℕ) → last.lost ≡ lost → flight_count (arrivals ++ last ∷ []) 0 ≡ flight_count arrivals lost + 1
 count-push [] last lost same = omega (arith, same)
 count-push (arrival ∷ rest) last lost same = omega (arith, count-push rest last lost same)
 
-pub count-lost : (arrivals : List Arrival) (lost more : ℕ) → count_of arrivals (lost + more) ≡ count_of arrivals lost + more
+pub count-lost : (arrivals : List Arrival) (lost more : ℕ) → flight_count arrivals (lost + more) ≡ flight_count arrivals lost + more
 count-lost [] lost more = omega arith
 count-lost (arrival ∷ rest) lost more = omega (arith, count-lost rest lost more)
 

@@ -7,7 +7,7 @@ use Rattle.link_model.specs.Chances.{first_chance}
 use Rattle.link_model.specs.Link.{Run, Packet, Fate, Lost, Served, allowance, chance_past, chances_past, fate_by, in_flight, time_of, past_in, past_of, acked_of, arrival_of, arrival_ack, timeout_ack}
 use Rattle.link_model.specs.Standing.{packets_of}
 
--- what comes of the packets in flight: the first one that isn't lost arrives after so many lost ones, or all are lost
+-- the fate of the packets in flight: the first one that isn't lost arrives after `lost` lost ones, or all are lost
 pub data Landing : Type 0 where
   Arrived : (sent_at chance : ℕ) → Bool → ℕ → Landing
   AllLost : ℕ → Landing
@@ -60,7 +60,7 @@ sending case due later zero standing = standing
 sending case due later (suc more) standing =
     sending case due later more (with_packet standing (packet_by case standing due later))
 
--- so many packets are sent now
+-- this many packets are sent now
 abbrev pub sending_whole : LinkCase → ℕ → Whole → Whole
 sending_whole case more standing =
     sending case (first_chance case.trace standing.time 0) (first_chance case.trace (standing.time + 1) 0) more standing
@@ -71,7 +71,7 @@ abbrev pub landing_by : Fate → ℕ → ℕ → Landing → Landing
 landing_by Lost sent_at lost later = later
 landing_by (Served chance marked) sent_at lost later = Arrived sent_at chance marked lost
 
--- the first packet that isn't lost, after so many that are
+-- the first packet that isn't lost, after those that are
 abbrev pub landing : List Packet → ℕ → Landing
 landing [] lost = AllLost lost
 landing (packet ∷ rest) lost = landing_by packet.fate packet.sent_at lost (landing rest (lost + 1))

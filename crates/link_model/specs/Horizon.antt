@@ -8,7 +8,7 @@ use Rattle.link_model.specs.Traces.{longest_period, IsTrace}
 use Rattle.link_model.specs.Chances.{chance_time}
 use Rattle.link_model.specs.Lines.{IsLine}
 use Rattle.link_model.specs.Standing.{Standing}
-use Rattle.link_model.specs.LinkMoves.{count_of, standing_in}
+use Rattle.link_model.specs.LinkMoves.{flight_count, standing_in}
 
 -- the longest that a call may take beside its packets, in microseconds: a delay and a timeout
 abbrev pub longest_call : ℕ
@@ -42,7 +42,7 @@ pub record IsKept (case : LinkCase) (traffic : Traffic) : Type 0 where
   pub capacity : traffic.flight.capacity ≡ most_flight
   pub line : IsLine case.trace traffic.time traffic.line
   pub order : ArriveInOrder traffic.time (traffic.line.next.at + case.delay_us) traffic.flight.items
-  pub count : traffic.in_flight ≡ count_of traffic.flight.items traffic.lost
+  pub count : traffic.in_flight ≡ flight_count traffic.flight.items traffic.lost
   pub few : traffic.in_flight ≤ most_flight
   pub passed : (i : ℕ) → i < traffic.passed → slice_index case.losses i < traffic.sent
   pub timely : IsTimely case (standing_in case.trace traffic)

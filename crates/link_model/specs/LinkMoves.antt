@@ -9,9 +9,9 @@ use Rattle.link_model.specs.Link.{Fate, Lost, Served, allowance, is_marked, fate
 use Rattle.link_model.specs.Standing.{Standing, arrival_by, packet_ack}
 
 -- how many packets are in flight
-abbrev pub count_of : List Arrival → ℕ → ℕ
-count_of [] lost = lost
-count_of (arrival ∷ rest) lost = arrival.lost + 1 + count_of rest lost
+abbrev pub flight_count : List Arrival → ℕ → ℕ
+flight_count [] lost = lost
+flight_count (arrival ∷ rest) lost = arrival.lost + 1 + flight_count rest lost
 
 -- what is under way, by the numbers of the trace's chances
 abbrev pub standing_in : List ℕ → Traffic → Standing
@@ -88,7 +88,7 @@ abbrev pub ack_by : LinkCase → Standing → Option Arrival → Ack
 ack_by case standing None =
     timeout_ack case (standing.time + case.timeout_us) standing.past standing.lost 0 standing.acked standing.sent
 ack_by case standing (Some arrival) =
-    packet_ack case arrival standing.past (count_of (drop 1 standing.arrivals) standing.lost) (standing.acked + 1)
+    packet_ack case arrival standing.past (flight_count (drop 1 standing.arrivals) standing.lost) (standing.acked + 1)
     standing.sent
 
 -- the standing after it
@@ -136,7 +136,7 @@ SendsOn case more old left new =
 -- the standing after the sending of a call
 abbrev pub sent_standing : LinkCase → ℕ → Standing → Standing
 sent_standing case window standing =
-    sending case (allowance case window - count_of standing.arrivals standing.lost) standing
+    sending case (allowance case window - flight_count standing.arrivals standing.lost) standing
 
 -- the acknowledgement of a call
 abbrev pub next_ack : LinkCase → ℕ → Standing → Ack

@@ -99,13 +99,13 @@ abbrev pub trace_of_lines : List (List ℕ) → Result (List ℕ) TraceFault
 trace_of_lines lines = unless_at (first_bad_line 1 lines) BadLine (checked (times_of lines) (first_fall 1 0 lines))
 
 -- the lines of a text
-abbrev pub lines_of : List ℕ → List (List ℕ)
-lines_of text = parts_of LineFeed text
+abbrev pub text_lines : List ℕ → List (List ℕ)
+text_lines text = parts_of LineFeed text
 
 -- the fault has the number of the first bad line, if there is one
 abbrev pub IsAtFirstBad : List ℕ → TraceFault → Type 0
-IsAtFirstBad text fault = (number : ℕ) → first_bad_line 1 (lines_of text) ≡ Some number → fault ≡ BadLine number
+IsAtFirstBad text fault = (number : ℕ) → first_bad_line 1 (text_lines text) ≡ Some number → fault ≡ BadLine number
 
 -- a trace text: its times, or the first of its refusals
 abbrev pub trace_of : List ℕ → Result (List ℕ) TraceFault
-trace_of text = trace_of_lines (lines_of text)
+trace_of text = trace_of_lines (text_lines text)

@@ -1,6 +1,6 @@
 //! How the lines of a trace's text are read, up to the first bad one.
 ghost use Rattle.std.specs.Prelude.{◌≡◌, ℕ, ◌+◌, ◌^◌, ◌<◌, ◌≤◌, None, IfOk, IfErr, OnOk, ◌≢◌, [], ◌++◌, true, false, length};
-ghost use Rattle.link_model.specs.TraceText.{without_first_blanks, without_last_blanks, word_line, trace_line, is_bad_line, with_time, time_after, times_of, first_bad_line, first_fall, fall_after, lines_of, IsAtFirstBad};
+ghost use Rattle.link_model.specs.TraceText.{without_first_blanks, without_last_blanks, word_line, trace_line, is_bad_line, with_time, time_after, times_of, first_bad_line, first_fall, fall_after, text_lines, IsAtFirstBad};
 ghost use Rattle.link_model.specs.declared.trace.TraceFault.TheVariants as fault;
 
 use crate::trace::{LONGEST_MS, TraceFault};
@@ -61,10 +61,10 @@ impl TraceReading {
 
 /// Reads every line of a trace text, up to the first bad one.
 pub(crate) fn read_lines(alloc: Global, text: &[u8]) -> Result<TraceReading, TraceFault>
-    ensures good { OnOk result (first_bad_line 1 (lines_of text.now) ≡ None) }
-    ensures times { IfOk result (λ r. r.times.items ≡ times_of (lines_of text.now)) }
-    ensures fall { IfOk result (λ r. r.fall ≡ first_fall 1 0 (lines_of text.now)) }
-    ensures bad { IfErr result (λ e. e ≢ fault.NoMemory → first_bad_line 1 (lines_of text.now) ≢ None) }
+    ensures good { OnOk result (first_bad_line 1 (text_lines text.now) ≡ None) }
+    ensures times { IfOk result (λ r. r.times.items ≡ times_of (text_lines text.now)) }
+    ensures fall { IfOk result (λ r. r.fall ≡ first_fall 1 0 (text_lines text.now)) }
+    ensures bad { IfErr result (λ e. e ≢ fault.NoMemory → first_bad_line 1 (text_lines text.now) ≢ None) }
     ensures at { IfErr result (λ e. e ≢ fault.NoMemory → IsAtFirstBad text.now e) }
 {
     let mut rest = text;

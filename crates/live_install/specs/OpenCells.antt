@@ -82,8 +82,8 @@ AnswersTo entries ack (Some running) None = ⊥
 AnswersTo entries ack (Some running) (Some answer) = HasOutcome (built_at entries running.era.program) answer (met_by running ack).0
 
 -- the answer to the next acknowledgement
-abbrev pub Answered : OpenState → Option Acked → Type 0
-Answered cell answer = AnswersTo cell.entries (ack_at cell) (world_at cell).present answer
+abbrev pub AnswersAck : OpenState → Option Acked → Type 0
+AnswersAck cell answer = AnswersTo cell.entries (ack_at cell) (world_at cell).present answer
 
 -- how many instructions an acknowledgement runs, none before the first change
 abbrev pub ran_with : Option Built → Running → Ack → ℕ

@@ -1,7 +1,7 @@
 //! An acknowledgement: it is counted, and run where a program runs.
 ghost use Rattle.std.specs.Prelude.{◌≡◌, ◌+◌, ◌<◌, Some, None, option_copied, ◌∷◌, [], ◌++◌};
 ghost use Rattle.live_install.specs.Entries.{built_at};
-ghost use Rattle.live_install.specs.OpenCells.{ran_at, Answered};
+ghost use Rattle.live_install.specs.OpenCells.{ran_at, AnswersAck};
 ghost use Rattle.live_install.specs.States.{cell_of, world_of, running_step, IsOpen};
 
 use crate::account::{Turn, run_ack};
@@ -37,7 +37,7 @@ impl State {
         ensures case { self.new.case ≡ self.old.case }
         ensures entries { self.new.entries ≡ self.old.entries }
         ensures word { self.new.word.items ≡ self.old.word.items ++ OpenLetter.A ∷ [] }
-        ensures answered { Answered (cell_of self.old) result }
+        ensures answered { AnswersAck (cell_of self.old) result }
         ensures steps { steps.new ≡ steps.old + ran_at (cell_of self.old) }
     {
         match self.running_step() {
@@ -76,7 +76,7 @@ impl State {
         ensures case { self.new.case ≡ self.old.case }
         ensures entries { self.new.entries ≡ self.old.entries }
         ensures word { self.new.word.items ≡ self.old.word.items ++ OpenLetter.A ∷ [] }
-        ensures answered { Answered (cell_of self.old) (Some result) }
+        ensures answered { AnswersAck (cell_of self.old) (Some result) }
         ensures steps { steps.new ≡ steps.old + ran_at (cell_of self.old) }
     {
         let window = self.machine.cwnd();

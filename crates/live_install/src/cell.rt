@@ -5,7 +5,7 @@ ghost use Rattle.live_install.specs.OpenWords.{legal, is_complete};
 ghost use Rattle.live_install.specs.Entries.{installed_of};
 ghost use Rattle.live_install.specs.OpenBooks.{IsOpenBookOf};
 ghost use Rattle.live_install.specs.OpenCells.{world_at, IsAfter, is_legal_at, HasAll, IsComplete, most_letters};
-ghost use Rattle.live_install.specs.OpenCells.{IsNextEntry, with_entry, Answered, ran_at, next_step};
+ghost use Rattle.live_install.specs.OpenCells.{IsNextEntry, with_entry, AnswersAck, ran_at, next_step};
 
 use crate::account::Account;
 use crate::book::OpenBook;
@@ -87,7 +87,7 @@ impl OpenCell {
         ensures ok { OnOk result (self.new ≡ record self.old { word = self.old.word ++ OpenLetter.A ∷ [] }) }
         ensures within { OnOk result (length self.new.word ≤ most_letters self.new.case) }
         ensures world { OnOk result (IsAfter self.old OpenLetter.A self.new) }
-        ensures acked { IfOk result (λ answer. Answered self.old answer) }
+        ensures acked { IfOk result (λ answer. AnswersAck self.old answer) }
         ensures steps { OnOk result (steps.new ≡ steps.old + ran_at self.old) }
         ensures unchanged { OnErr result (self.new ≡ self.old) }
         ensures idle { OnErr result (steps.new ≡ steps.old) }
@@ -105,7 +105,7 @@ impl OpenCell {
         ensures ok { OnOk result (self.new ≡ record self.old { word = self.old.word ++ OpenLetter.A ∷ [] }) }
         ensures within { OnOk result (length self.new.word ≤ most_letters self.new.case) }
         ensures world { OnOk result (IsAfter self.old OpenLetter.A self.new) }
-        ensures acked { IfOk result (λ answer. Answered self.old answer) }
+        ensures acked { IfOk result (λ answer. AnswersAck self.old answer) }
         ensures unchanged { OnErr result (self.new ≡ self.old) }
     {
         self.hear_in_ledger::<Brand>(Blank::new(1))
@@ -119,7 +119,7 @@ impl OpenCell {
         ensures ok { OnOk result (self.new ≡ record self.old { word = self.old.word ++ OpenLetter.A ∷ [] }) }
         ensures within { OnOk result (length self.new.word ≤ most_letters self.new.case) }
         ensures world { OnOk result (IsAfter self.old OpenLetter.A self.new) }
-        ensures acked { IfOk result (λ answer. Answered self.old answer) }
+        ensures acked { IfOk result (λ answer. AnswersAck self.old answer) }
         ensures unchanged { OnErr result (self.new ≡ self.old) }
     {
         let mut steps = Steps::<L>::new(blank);

@@ -17,7 +17,7 @@ use Rattle.portus_build.specs.Outcomes.{RefusesAs}
 use Rattle.portus_build.specs.StepFaults.{scope_fault}
 use Rattle.portus_build.specs.Texts.{IsNoProgram}
 
--- the refusal is told, unless memory was wanting
+-- the refusal is reported, unless memory ran out
 told : (e fault : ScopeFault) → (e ≢ scope.NoMemory → e ≡ fault) → (scope_fault e ≡ Scope fault) ⊎ (scope_fault e ≡ NoMemory)
 told scope.NoMemory fault h = inr refl
 told e fault h = inl (ap Scope (h (λ q. cc)))

@@ -16,14 +16,14 @@ use Rattle.reg_compiler.specs.declared.fault.CompileFault.{CompileFault}
 use Rattle.reg_compiler.specs.declared.fault.CompileFault.TheVariants as compile
 use Rattle.reg_compiler.specs.Needs.{deep_form}
 use Rattle.reg_compiler.specs.Counts.{form_count}
-use Rattle.reg_compiler.specs.Refusal.{shown, too_long, refusal_of}
+use Rattle.reg_compiler.specs.Refusal.{shown_count, too_long, refusal_of}
 use Rattle.portus_build.specs.declared.fault.BuildFault.{BuildFault}
 use Rattle.portus_build.specs.declared.fault.BuildFault.TheVariants.{Parse, Scope, Compile, NoMemory}
 use Rattle.portus_build.specs.Texts.{StandsFor, IsMisscoped, IsNotCompiled, IsNoProgram, IsBuiltFrom}
 use Rattle.portus_build.specs.Settled.{is_want_of_memory, IsSettled}
 
--- compiling isn't refused for want of memory
-long_for : (b : Bool) (count : ℕ) → (if b then Some (compile.CodeTooLong (shown count)) else None) ≡ Some compile.NoMemory → ⊥
+-- the definition of compiling has no refusal for lack of memory
+long_for : (b : Bool) (count : ℕ) → (if b then Some (compile.CodeTooLong (shown_count count)) else None) ≡ Some compile.NoMemory → ⊥
 long_for true count e = cc
 long_for false count e = cc
 

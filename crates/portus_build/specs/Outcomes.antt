@@ -4,7 +4,7 @@ use Rattle.reg_compiler.specs.declared.built.Built.{Built}
 use Rattle.portus_build.specs.declared.fault.BuildFault.{BuildFault}
 use Rattle.portus_build.specs.declared.fault.BuildFault.TheVariants.{NoMemory}
 
--- the outcome is this refusal, unless memory was wanting
+-- the outcome is this refusal, unless memory ran out
 abbrev pub RefusesAs : Result Built BuildFault → BuildFault → Type 0
 RefusesAs (Ok built) refusal = ⊥
 RefusesAs (Err fault) refusal = (fault ≡ refusal) ⊎ (fault ≡ NoMemory)

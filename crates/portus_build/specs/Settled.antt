@@ -8,7 +8,7 @@ use Rattle.portus_build.specs.declared.fault.BuildFault.{BuildFault}
 use Rattle.portus_build.specs.declared.fault.BuildFault.TheVariants.{Parse, Scope, Compile, NoMemory}
 use Rattle.portus_build.specs.Texts.{IsNoProgram, IsBuiltFrom}
 
--- whether memory was wanting, in building or in one of its steps
+-- whether memory ran out, in building or in one of its steps
 abbrev pub is_want_of_memory : BuildFault → Bool
 is_want_of_memory NoMemory = true
 is_want_of_memory (Parse parse.NoMemory) = true
@@ -18,7 +18,7 @@ is_want_of_memory (Scope fault) = false
 is_want_of_memory (Compile compile.NoMemory) = true
 is_want_of_memory (Compile fault) = false
 
--- a text stands for one program that is compiled or has one first refusal, which isn't want of memory, and not both
+-- a text stands for one program that is compiled or has one first refusal, which isn't out of memory, and not both
 pub record IsSettled (text : List ℕ) : Type 0 where
   pub one : (left right : Form) → IsBuiltFrom text left → IsBuiltFrom text right → left ≡ right
   pub one_refusal : (left right : BuildFault) → IsNoProgram text left → IsNoProgram text right → left ≡ right

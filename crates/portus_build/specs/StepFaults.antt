@@ -8,7 +8,7 @@ use Rattle.reg_compiler.specs.declared.fault.CompileFault.TheVariants as compile
 use Rattle.portus_build.specs.declared.fault.BuildFault.{BuildFault}
 use Rattle.portus_build.specs.declared.fault.BuildFault.TheVariants.{Parse, Scope, Compile, NoMemory}
 
--- a refusal of reading; want of memory in any step is that of building
+-- a refusal of reading; out of memory in any step is out of memory of building
 abbrev pub parse_fault : ParseFault → BuildFault
 parse_fault parse.NoMemory = NoMemory
 parse_fault fault = Parse fault

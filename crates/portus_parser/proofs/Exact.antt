@@ -65,7 +65,7 @@ forms-unique text left right h k =
     let lists : listed left ≡ listed right = cc in
     sym (collected-listed left) ∙ ap collected lists ∙ collected-listed right
 
--- want of memory says nothing
+-- out of memory says nothing
 pub exact-memory : (text : List ℕ) → IsExact text (Err NoMemory)
 exact-memory text = record {
   found = tt;

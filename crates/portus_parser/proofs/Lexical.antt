@@ -1,4 +1,4 @@
--- A refusal of a text's lexemes is neither of its length, nor of a stray byte, nor want of memory.
+-- A refusal of a text's lexemes is neither of its length, nor of a stray byte, nor of lacking memory.
 use Rattle.std.specs.Prelude.{◌≡◌, ℕ, ◌==◌, nat_le, Bool, true, false, Option, Some, None, Result, Ok, Err, if◌then◌else◌, List, [], ◌∷◌}
 use Rattle.std.specs.Option.{option_or, option_map}
 use Rattle.std.proofs.Common.{refl}

@@ -4,7 +4,7 @@ use Rattle.std.specs.Option.{option_or}
 use Rattle.ccp_base.specs.Limits.{most_fields, most_controls, most_blocks, most_locals, most_temps, most_instrs, most_tenths, primitive_count}
 use Rattle.reg_code.specs.declared.code.Code.{Code}
 use Rattle.reg_code.specs.declared.code.Event.{Event}
-use Rattle.reg_code.specs.declared.code.Implicit.TheVariants.{Flag, Fall, Send, Micros}
+use Rattle.reg_code.specs.declared.code.Implicit.TheVariants.{Flag, Fall, Send}
 use Rattle.reg_code.specs.declared.code.Instr.{Instr}
 use Rattle.reg_code.specs.declared.code.Op.{Op}
 use Rattle.reg_code.specs.declared.code.Op.TheVariants as op
@@ -16,6 +16,7 @@ use Rattle.reg_code.specs.declared.rule.Rule.{Rule}
 use Rattle.reg_code.specs.declared.rule.Rule.TheVariants as rule
 use Rattle.reg_code.specs.declared.rule.Sizes.{Sizes}
 use Rattle.reg_code.specs.CodeStep.{condition_of, event_body, instrs_after}
+use Rattle.reg_code.specs.Forms.{is_micros}
 
 -- a rule that fails, with the index of what it fails at
 abbrev pub Refusal : Type 0
@@ -119,10 +120,6 @@ abbrev pub is_fixed : Reg → Bool
 is_fixed (reg.Imm value) = true
 is_fixed (reg.Prim n) = true
 is_fixed _ = false
-
-abbrev pub is_micros : Reg → Bool
-is_micros (reg.Implicit Micros) = true
-is_micros _ = false
 
 abbrev pub is_flag_reg : Reg → Bool
 is_flag_reg (reg.Implicit Flag) = true

@@ -13,7 +13,8 @@ use Rattle.reg_code.specs.declared.rule.Part.TheVariants.{Condition, Body}
 use Rattle.reg_code.specs.declared.rule.Rule.{Rule}
 use Rattle.reg_code.specs.declared.rule.Rule.TheVariants as rule
 use Rattle.reg_code.specs.declared.rule.Sizes.{Sizes}
-use Rattle.reg_code.specs.AcceptedCode.{rule_where, Marks, writes, is_there, is_readable, missing_value, is_bind, is_ewma, is_zero, is_weight, is_fixed, is_micros, is_flag_reg, is_temp, is_in_condition, rule_failed}
+use Rattle.reg_code.specs.Forms.{is_micros}
+use Rattle.reg_code.specs.AcceptedCode.{rule_where, Marks, writes, is_there, is_readable, missing_value, is_bind, is_ewma, is_zero, is_weight, is_fixed, is_flag_reg, is_temp, is_in_condition, rule_failed}
 use Rattle.reg_code.specs.AcceptedLaws.{IsAllowed}
 use Rattle.reg_compiler.proofs.AllowedLines.{Grows, or_else-none, written-grows}
 

@@ -34,7 +34,7 @@ drop-own : (lines rest : List Line) → drop (length lines) (map instr_of (lines
 drop-own [] rest = refl
 drop-own (line ∷ lines) rest = drop-own lines rest
 
--- an event whose instructions are told apart
+-- an event whose instructions are distinguished
 abbrev apart : List Instr → List Instr → List Instr → List Event → ℕ → ℕ → ℕ → Ack → ℕ → Regs → Work
 apart condition body rest events index middle after ack ran regs =
     then_run (run condition index ack ran (at_event regs)) (λ ran regs.

@@ -7,7 +7,7 @@ use Rattle.ccp_base.specs.Chaining.{then_do}
 use Rattle.reg_code.specs.CodeStep.{Variables, Regs, Undone, fault, unset, instr_step}
 use Rattle.reg_compiler.specs.declared.line.Line.{Line}
 
--- why lines come to no registers: a fault with its place, or a register without a value
+-- why lines leave no registers: a fault with its place, or a register without a value
 pub data Halt : Type 0 where
   halted : Cause → Halt
   lacking : Halt
@@ -33,7 +33,7 @@ with_temps regs temps = record regs { temps = temps }
 abbrev pub SameBelow : ℕ → Variables → Variables → Type 0
 SameBelow free old new = (i : ℕ) → i < free → new i ≡ old i
 
--- what lines come to, where they leave the temporaries below a number as they were
+-- the result of lines, if they leave the temporaries below a number as they were
 pub record Comes (lines : List Line) (free : ℕ) (ack : Ack) (regs : Regs) (outcome : Variables → Result Regs Halt) : Type 0 where
   pub temps : Variables
   pub same : SameBelow free regs.temps temps

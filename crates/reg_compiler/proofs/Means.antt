@@ -32,7 +32,7 @@ kept-reset form env =
     ap (λ reports. with_lists reports (code.reset (map register_start form.controls) env.controls)) (reset-starts form.fields env.fields)
     ∙ ap (with_lists (reset form.fields env.fields)) (reset-starts form.controls env.controls)
 
--- what an acknowledgement came to, and what is kept
+-- the outcome of an acknowledgement, and what is kept
 abbrev Alike : List Place → Made → Form → Env → Bool → Result Going Cause → Type 0
 Alike places made form env room result = (seen places made.outcome ≡ Some (settled form env room result).0) × (made.kept ≡ kept_of (settled form env room result).1)
 

@@ -9,7 +9,7 @@ use Rattle.reg_code.specs.declared.code.Reg.{Reg}
 use Rattle.reg_code.specs.declared.code.Reg.TheVariants as reg
 use Rattle.reg_compiler.specs.declared.line.Line.{Line}
 use Rattle.reg_compiler.specs.Known.{known_value}
-use Rattle.reg_compiler.specs.Counts.{count_of, action_count, body_count, parts_count, form_count, lean_where, lean_of, action_lean, body_lean, parts_lean, lean}
+use Rattle.reg_compiler.specs.Counts.{term_count, action_count, body_count, parts_count, form_count, lean_where, lean_of, action_lean, body_lean, parts_lean, lean}
 use Rattle.reg_compiler.specs.CompiledCode.{variable_reg, code_line, direct, operand, free_after, unless_direct, operation_lines, unless_known, into, both_into, action_lines, body_lines, condition_lines, lines_of}
 
 unless_known-length : (known : Option ℕ) (to : Reg) (lines : List Line) (few : ℕ) → length lines ≤ few → length (unless_known known to lines) ≤ max 1 (lean_where known few)
@@ -79,7 +79,7 @@ lean_where-le : (known : Option ℕ) (few many : ℕ) → few ≤ many → lean_
 lean_where-le (Some value) few many within = omega arith
 lean_where-le None few many within = within
 
-lean_of-le : (term : Term) → lean_of term ≤ count_of term
+lean_of-le : (term : Term) → lean_of term ≤ term_count term
 lean_of-le (number n) = omega arith
 lean_of-le (truth b) = omega arith
 lean_of-le (name v) = omega arith

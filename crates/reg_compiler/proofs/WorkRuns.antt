@@ -1,4 +1,4 @@
--- Work on the instructions of lines, with an index into the places, is what the lines come to.
+-- Work on the instructions of lines, with an index into the places, has the result of the lines.
 use Rattle.std.proofs.Common.{◌≡◌, refl, sym, ap, ◌∙◌, ℕ, zero, suc, ◌+◌, arith, Some, Result, Ok, Err, List, [], ◌∷◌, ◌++◌, length, drop, map, add-one, subst}
 use Rattle.std.specs.List.{slice_get}
 use Rattle.std.specs.Prelude.{IfOk}
@@ -15,7 +15,7 @@ use Rattle.reg_compiler.specs.Simulation.{kept_of}
 use Rattle.reg_compiler.proofs.LineRuns.{Halt, halted, lacking, placed, run_lines, halting}
 use Rattle.ccp_base.specs.Acknowledgement.{bool_number}
 
--- the work on some instructions comes to the same as their lines, a fault with its place
+-- the work on some instructions has the same result as their lines, a fault with its place
 abbrev pub RunsAs : List Place → Work → Result Regs Halt → Type 0
 RunsAs places (done ran regs) (Ok other) = regs ≡ other
 RunsAs places (done ran regs) (Err halt) = ⊥
@@ -30,7 +30,7 @@ RunsAs places (stuck ran) (Err lacking) = Unit {0}
 abbrev pub Between : Regs → Going → Type 0
 Between regs going = (regs.kept ≡ kept_of going.env) × (regs.send ≡ bool_number going.asked)
 
--- the work on some events comes to the same as the blocks, a fault with its place
+-- the work on some events has the same result as the blocks, a fault with its place
 abbrev pub WorksAs : List Place → Work → Result Going Cause → Type 0
 WorksAs places (done ran regs) (Ok going) = Between regs going
 WorksAs places (done ran regs) (Err cause) = ⊥
@@ -82,7 +82,7 @@ work-as (failed kind index ran) (Err cause) P registers next then places runs ho
 work-as (stuck ran) (Ok a) P registers next then places runs holds follows = absurd runs
 work-as (stuck ran) (Err cause) P registers next then places runs holds follows = absurd runs
 
--- instructions whose lines come to what the source's part comes to, and then the rest of both
+-- instructions whose lines have the result of the source's part, and then the rest of both
 pub WorksAs-then : {A : Type 0} (lines : List Line) (rest : List Place) (result : Result A Cause) (P : A → Type 0) (registers : A → Regs) (next : ℕ → Regs → Work) (then : A → Result Going Cause) (places : List Place) (index : ℕ) (ack : Ack) (ran : ℕ) (regs : Regs)
     → drop index places ≡ map line_place lines ++ rest
     → run_lines lines ack regs ≡ halting result (λ a. Ok (registers a)) → IfOk result P

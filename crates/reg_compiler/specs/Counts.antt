@@ -4,17 +4,17 @@ use Rattle.portus_core.specs.Programs.{Term, number, truth, name, pair, Action, 
 use Rattle.reg_compiler.specs.Known.{known_value}
 
 -- each operation counts one
-abbrev pub count_of : Term → ℕ
-count_of (number n) = 0
-count_of (truth b) = 0
-count_of (name v) = 0
-count_of (pair op place left right) = 1 + (count_of left + count_of right)
+abbrev pub term_count : Term → ℕ
+term_count (number n) = 0
+term_count (truth b) = 0
+term_count (name v) = 0
+term_count (pair op place left right) = 1 + (term_count left + term_count right)
 
 abbrev pub action_count : Action → ℕ
-action_count (set v term) = 1 + count_of term
-action_count (set_if place v condition term) = 1 + (count_of condition + count_of term)
-action_count (set_unless place v condition term) = 1 + (count_of condition + count_of term)
-action_count (ewma place v weight term) = 1 + count_of term
+action_count (set v term) = 1 + term_count term
+action_count (set_if place v condition term) = 1 + (term_count condition + term_count term)
+action_count (set_unless place v condition term) = 1 + (term_count condition + term_count term)
+action_count (ewma place v weight term) = 1 + term_count term
 action_count zero_micros = 1
 action_count report = 1
 action_count fall = 1
@@ -25,7 +25,7 @@ body_count (action ∷ rest) = action_count action + body_count rest
 
 abbrev pub parts_count : List Part → ℕ
 parts_count [] = 0
-parts_count (part ∷ rest) = (1 + count_of part.condition) + (body_count part.body + parts_count rest)
+parts_count (part ∷ rest) = (1 + term_count part.condition) + (body_count part.body + parts_count rest)
 
 -- the count of a program
 abbrev pub form_count : Form → ℕ

@@ -8,12 +8,12 @@ use Rattle.reg_compiler.specs.declared.fault.CompileFault.TheVariants.{TooDeep, 
 use Rattle.reg_compiler.specs.Needs.{deep_form}
 use Rattle.reg_compiler.specs.Counts.{form_count}
 
--- the count that is shown, at most the largest number of 64 bits
-abbrev pub shown : ℕ → ℕ
-shown count = min count (2 ^ 64 - 1)
+-- the count that is shown_count, at most the largest number of 64 bits
+abbrev pub shown_count : ℕ → ℕ
+shown_count count = min count (2 ^ 64 - 1)
 
 abbrev pub too_long : ℕ → Option CompileFault
-too_long count = if nat_lt most_instrs count then Some (CodeTooLong (shown count)) else None
+too_long count = if nat_lt most_instrs count then Some (CodeTooLong (shown_count count)) else None
 
 -- the first expression that needs too many temporaries, or else a count above the instructions of a code
 abbrev pub refusal_of : Form → Option CompileFault

@@ -2,21 +2,21 @@
 ghost use Rattle.std.specs.Prelude.{◌≡◌, ◌+◌, map};
 ghost use Rattle.portus_core.specs.Programs.{term_of, action_of, part_of};
 ghost use Rattle.portus_core.specs.ProgramForm.{form_of};
-ghost use Rattle.reg_compiler.specs.Counts.{count_of, action_count, body_count, parts_count, form_count};
-ghost use Rattle.reg_compiler.specs.Refusal.{shown};
+ghost use Rattle.reg_compiler.specs.Counts.{term_count, action_count, body_count, parts_count, form_count};
+ghost use Rattle.reg_compiler.specs.Refusal.{shown_count};
 
 use portus_core::{Block, Cmd, Expr, Program};
 
 /// How many instructions a program counts: one for each operation and each command, and one for each condition and
 /// each plain assignment. It stops at 2^64 - 1.
 pub fn instruction_count(program: &Program) -> u64
-    ensures { result ≡ shown (form_count (form_of program.now)) }
+    ensures { result ≡ shown_count (form_count (form_of program.now)) }
 {
     parts_count(&program.blocks)
 }
 
 fn parts_count(blocks: &[Block]) -> u64
-    ensures { result ≡ shown (parts_count (map part_of blocks.now)) }
+    ensures { result ≡ shown_count (parts_count (map part_of blocks.now)) }
 {
     let mut total: u64 = 0;
     for block in blocks {
@@ -28,7 +28,7 @@ fn parts_count(blocks: &[Block]) -> u64
 }
 
 fn body_count(cmds: &[Cmd]) -> u64
-    ensures { result ≡ shown (body_count (map action_of cmds.now)) }
+    ensures { result ≡ shown_count (body_count (map action_of cmds.now)) }
 {
     let mut total: u64 = 0;
     for cmd in cmds {
@@ -38,7 +38,7 @@ fn body_count(cmds: &[Cmd]) -> u64
 }
 
 fn action_count(cmd: &Cmd) -> u64
-    ensures { result ≡ shown (action_count (action_of cmd.now)) }
+    ensures { result ≡ shown_count (action_count (action_of cmd.now)) }
 {
     match cmd {
         Cmd::Set(_, expr) | Cmd::Ewma(_, _, _, expr) => assigned_count(expr),
@@ -51,7 +51,7 @@ fn action_count(cmd: &Cmd) -> u64
 
 /// One more than the operations of an expression.
 fn assigned_count(expr: &Expr) -> u64
-    ensures { result ≡ shown (1 + count_of (term_of expr.now)) }
+    ensures { result ≡ shown_count (1 + term_count (term_of expr.now)) }
 {
     count(expr).saturating_add(1)
 }
@@ -59,7 +59,7 @@ fn assigned_count(expr: &Expr) -> u64
 /// The operations of an expression.
 #[tactic(auto, using(portus_core::specs::Programs::terms))]
 fn count(expr: &Expr) -> u64
-    ensures { result ≡ shown (count_of (term_of expr.now)) }
+    ensures { result ≡ shown_count (term_count (term_of expr.now)) }
 {
     match expr {
         Expr::Num(_) | Expr::Truth(_) | Expr::Var(_) => 0,

@@ -183,7 +183,7 @@ number16-writes n lt = record { again = λ rest. front-there 2 (from_le_bytes w1
 
 -- ---- numbers within a limit
 
--- the number has so many bytes at most
+-- the number has at most this many bytes
 abbrev pub HasWidth : ℕ → ℕ → Type 0
 HasWidth zero n = n ≡ 0
 HasWidth (suc width) n = HasWidth width (n / 256)
@@ -221,7 +221,7 @@ limited-reads field (suc width) most bytes x fits e =
     subst (λ (x : ℕ × List ℕ). IsSpelled bytes (low_digits (suc width) x.0) x.1 × (x.0 ≤ most)) (ok-pair (pair n b.0.1) x b.2)
     (subst (λ text. IsSpelled bytes text b.0.1) text both, le)
 
--- ---- so many parts of one form
+-- ---- several parts of one form
 
 repeated-again : {A : Type 0} (part : List ℕ → Read A) (text : A → List ℕ) (Valid : A → Type 0) → ((x : A) → Valid x → Writes part x (text x)) → (xs : List A) (rest : List ℕ) → AllByRecursion Valid xs → repeated_at part (length xs) (flat_map text xs ++ rest) ≡ Ok (xs, rest)
 unfolding repeated_at

@@ -16,7 +16,7 @@ use Rattle.reply_frames.specs.declared.outline.Counts.{Counts}
 use Rattle.reply_frames.specs.declared.outline.Outline.{Outline}
 use Rattle.reply_frames.specs.Parts.{Read, ◌>>=◌, byte_at, number_at, limited_at, exactly_at, repeated_at}
 use Rattle.reply_frames.specs.Kinds.{kind_number, kind_numbered, version_number, version_of, most_n1, most_n2, most_n3, most_n4, size_of}
-use Rattle.reply_frames.specs.Frames.{counts_at, outline_at, target_at, Start, start_at, Event, event_at, Register, register_number_at, register_at, Instruction, instruction_at, value_at, values_at, Body, Create, Measure, Install, Update, Change, Fault, Ack, Refused, create_at, count_at, measure_at, install_at, update_at, change_at, fault_body_at, ack_body_at, refused_at, body_at, Frame, frame_at}
+use Rattle.reply_frames.specs.Frames.{counts_at, outline_at, target_at, Start, start_at, EventLengths, event_at, Register, register_number_at, register_at, Instruction, instruction_at, value_at, values_at, Body, Create, Measure, Install, Update, Change, Fault, Ack, Refused, create_at, count_at, measure_at, install_at, update_at, change_at, fault_body_at, ack_body_at, refused_at, body_at, Frame, frame_at}
 use Rattle.reply_frames.specs.ValueBytes.{FieldFits, target_bytes, value_bytes, values_bytes, IsSendable}
 use Rattle.reply_frames.specs.FrameBytes.{counts_bytes, outline_bytes, start_bytes, event_bytes, register_bytes, instruction_bytes, count_bytes, numbers_bytes, body_bytes, kind_of_body, counts, body_counts, outline_of, spelled, StartFits, IsEvent, most_number, IsRegister, IsInstruction, IsNumber, IsCount, AreCounts, HasRanges, IsSpellable}
 use Rattle.ccp_base.specs.declared.fields.FieldReg.{FieldReg}
@@ -150,7 +150,7 @@ start-reads = read-by start_at start_bytes StartFits
     (λ volatile low. read-last (number_at w64) (λ value. record { volatile = volatile; value = value }) (to_le_bytes w64) _ _ number64-is
     (λ value fits. (refl, (low.1, fits)))))
 
-event-writes : (event : Event) → IsEvent event → Writes event_at event (event_bytes event)
+event-writes : (event : EventLengths) → IsEvent event → Writes event_at event (event_bytes event)
 unfolding event_at
 event-writes event ok =
     writes-then (number_at w16) _ event.condition event (to_le_bytes w16 event.condition) (to_le_bytes w16 event.block) (number16-writes event.condition ok.0)
@@ -334,7 +334,7 @@ measure-reads version c few = read-by (measure_at version c.n1) (body_bytes vers
       ((a, b, c', d, e, f, g, h.1), (refl, one-counted version c kinds.Measure (length fields) few refl refl refl h.0)),
     ))))))))))
 
-install-writes : (version : Version) (program : ℕ) (reports controls : List Start) (events : List Event) (instructions : List Instruction) → HasRanges version (Install program reports controls events instructions)
+install-writes : (version : Version) (program : ℕ) (reports controls : List Start) (events : List EventLengths) (instructions : List Instruction) → HasRanges version (Install program reports controls events instructions)
     → Writes (install_at (counts (length reports) (length controls) (length events) (length instructions))) (Install program reports controls events instructions) (body_bytes version (Install program reports controls events instructions))
 unfolding install_at
 install-writes version program reports controls events instructions ok =

@@ -1,4 +1,4 @@
--- What makes the reading of a part sound: a part that is read is told by its bytes alone, bytes that are cut can be
+-- What makes the reading of a part sound: a part that is read is determined by its bytes alone, bytes that are cut can be
 -- completed, and a byte that is bad ends the longest front that can be completed.
 use Rattle.std.specs.Prelude.{◌≡◌, ℕ, List, [], ◌∷◌, ◌++◌, length, Ok, Err}
 use Rattle.reply_frames.specs.declared.fault.BadKind.{BadKind}

@@ -14,7 +14,7 @@ use Rattle.reply_frames.specs.declared.outline.Version.{Version}
 use Rattle.reply_frames.specs.declared.outline.Version.TheVariants.{One, Two}
 use Rattle.reply_frames.specs.declared.outline.Outline.{Outline}
 use Rattle.reply_frames.specs.Kinds.{kind_number, version_number, most_n1, most_n2, size_of}
-use Rattle.reply_frames.specs.Frames.{Start, Event, Register, Instruction, Body, Create, Measure, Install, Update, Change, Fault, Ack, Refused}
+use Rattle.reply_frames.specs.Frames.{Start, EventLengths, Register, Instruction, Body, Create, Measure, Install, Update, Change, Fault, Ack, Refused}
 use Rattle.reply_frames.specs.ValueBytes.{FieldFits, target_bytes, value_bytes, values_bytes, IsSendable}
 use Rattle.reply_frames.specs.Whole.{AreBytes}
 use Rattle.reply_frames.specs.FrameBytes.{counts_bytes, outline_bytes, start_bytes, event_bytes, register_bytes, instruction_bytes, count_width, count_bytes, numbers_bytes, body_bytes, kind_of_body, body_counts, outline_of, spelled, StartFits, IsEvent, IsRegister, IsInstruction, IsNumber, AreCounts, HasRanges, IsSpellable}
@@ -68,7 +68,7 @@ text-numbers numbers ok = text-all (to_le_bytes w64) IsNumber (λ n fits. text64
 text-start : (start : Start) → StartFits start → IsText (start_bytes start)
 text-start start ok = text-cons start.volatile (to_le_bytes w64 start.value) (omega (arith, ok.0)) (text64 start.value)
 
-text-event : (event : Event) → IsEvent event → IsText (event_bytes event)
+text-event : (event : EventLengths) → IsEvent event → IsText (event_bytes event)
 text-event event ok = text-then (to_le_bytes w16 event.condition) (to_le_bytes w16 event.block) (text16 event.condition) (text16 event.block)
 
 text-register : (r : Register) → IsRegister r → IsText (register_bytes r)

@@ -35,9 +35,9 @@ is_done part front count i bytes total le so_far =
     let one : with_front front (repeated_at part (count - i) bytes) ≡ Ok (front, bytes) = rw k (ap (λ (items : List _). Ok (items, bytes)) (append-nil front)) in
     sym so_far ∙ one
 
--- ---- parts that are passed over
+-- ---- parts that are ignored
 
--- a part that is passed over, before what goes on from the bytes after it alone
+-- a part that is ignored, before what goes on from the bytes after it alone
 pub passed-then : {A B : Type 0} (read : Read A) (after : List ℕ) (next : A × List ℕ → Read B) (others : List ℕ → Result (List ℕ) Stop)
     → ((x : A × List ℕ) → passed (next x) ≡ others x.1) → passed read ≡ Ok after → passed (read >>= next) ≡ others after
 passed-then (Ok x) after next others same is = same x ∙ ap others (let e : x.1 ≡ after = cc in e)

@@ -120,7 +120,7 @@ written-change flow program values old out low known few targets numbers is = re
 
 -- ---- frames of other kinds
 
--- a body whose frame is passed over is no Update and no Change
+-- a body whose frame is ignored is no Update and no Change
 pub record IsPassed (body : Body) : Type 0 where
   pub no_update : kind_of_body body ≢ kinds.Update
   pub no_change : kind_of_body body ≢ kinds.Change

@@ -12,7 +12,7 @@ use Rattle.reply_frames.specs.declared.outline.Counts.{Counts}
 use Rattle.reply_frames.specs.declared.outline.Outline.{Outline}
 use Rattle.reply_frames.specs.Kinds.{kind_number, version_number, most_n1, most_n2, most_n3, most_n4, size_of}
 use Rattle.reply_frames.specs.ValueBytes.{values_bytes, IsSendable}
-use Rattle.reply_frames.specs.Frames.{Start, Event, Register, Instruction, Body, Create, Measure, Install, Update, Change, Fault, Ack, Refused}
+use Rattle.reply_frames.specs.Frames.{Start, EventLengths, Register, Instruction, Body, Create, Measure, Install, Update, Change, Fault, Ack, Refused}
 
 -- the counts of a head
 abbrev pub counts_bytes : Counts → List ℕ
@@ -29,7 +29,7 @@ outline_bytes head =
 abbrev pub start_bytes : Start → List ℕ
 start_bytes start = start.volatile ∷ to_le_bytes w64 start.value
 
-abbrev pub event_bytes : Event → List ℕ
+abbrev pub event_bytes : EventLengths → List ℕ
 event_bytes event = to_le_bytes w16 event.condition ++ to_le_bytes w16 event.block
 
 abbrev pub register_bytes : Register → List ℕ
@@ -106,7 +106,7 @@ spelled version flow body = outline_bytes (outline_of version flow body) ++ body
 abbrev pub StartFits : Start → Type 0
 StartFits start = (start.volatile ≤ 1) × (start.value < 2 ^ 64)
 
-abbrev pub IsEvent : Event → Type 0
+abbrev pub IsEvent : EventLengths → Type 0
 IsEvent event = (event.condition < 2 ^ 16) × (event.block < 2 ^ 16)
 
 -- the most that the number of a register of this class may be

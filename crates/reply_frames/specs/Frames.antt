@@ -51,11 +51,11 @@ start_at bytes = do
   Ok (record { volatile = volatile.0; value = value.0 }, value.1)
 
 -- an event: how many instructions its condition and its body have
-pub record Event : Type 0 where
+pub record EventLengths : Type 0 where
   pub condition : ℕ
   pub block : ℕ
 
-unfoldable pub event_at : List ℕ → Read Event
+unfoldable pub event_at : List ℕ → Read EventLengths
 event_at bytes = do
   condition ← number_at w16 bytes
   block ← number_at w16 condition.1
@@ -108,7 +108,7 @@ value_at bytes = do
 pub data Body : Type 0 where
   Create : (cwnd mss : ℕ) → Body
   Measure : (program epoch first last now cwnd rate : ℕ) (fields : List ℕ) → Body
-  Install : (program : ℕ) (reports controls : List Start) (events : List Event) (instructions : List Instruction) → Body
+  Install : (program : ℕ) (reports controls : List Start) (events : List EventLengths) (instructions : List Instruction) → Body
   Update : (values : List Pair) → Body
   Change : (program : ℕ) (values : List Pair) → Body
   Fault : (program epoch place kind index now cwnd : ℕ) → Body

@@ -88,7 +88,7 @@ digit_plain Blank b is = grind (arith, nat_tests)
 pub decimal-plain : (s : Separator) (n : ℕ) → IsPlain s (decimal n)
 decimal-plain s n = plain-of s is_digit (decimal n) (digit_plain s) (decimal-digits n)
 
--- ---- pieces that are passed over
+-- ---- pieces that are ignored
 
 -- the name stands at no place of the text, whatever follows
 abbrev pub Passes : List ℕ → List ℕ → Type 0

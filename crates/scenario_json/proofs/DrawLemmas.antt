@@ -3,7 +3,7 @@ use Rattle.std.proofs.Common.{◌≡◌, ℕ, zero, suc, ◌-◌, ◌<◌, ◌�
 use Rattle.std.proofs.lemmas.Bool.{le-leb}
 use Rattle.std.proofs.lemmas.Fmt.{length-decimal-le}
 use Rattle.std.specs.Fmt.{decimal}
-use Rattle.ccp_base.specs.Named.{name_of}
+use Rattle.ccp_base.specs.Named.{as_name}
 use Rattle.ccp_base.specs.Text.{◌⧺◌}
 use Rattle.link_model.specs.TraceText.{trace_of}
 use Rattle.scenario_json.specs.Soak.{text_at, times_at, drawn_plan, drawn_plans}
@@ -16,11 +16,11 @@ text_read (suc zero) = refl
 text_read (suc (suc zero)) = refl
 text_read (suc (suc (suc n))) = refl
 
-held : (text : List ℕ) → 1 ≤ length text → length text ≤ 64 → name_of text ≡ Some text
+held : (text : List ℕ) → 1 ≤ length text → length text ≤ 64 → as_name text ≡ Some text
 held text some short = rw (le-leb 1 (length text) some) (rw (le-leb (length text) 64 short) refl)
 
 -- the generated names are names
-pub name_named : (i : ℕ) → i < 2 ^ 64 → name_of (codes "s" ⧺ decimal i) ≡ Some (codes "s" ⧺ decimal i)
+pub name_named : (i : ℕ) → i < 2 ^ 64 → as_name (codes "s" ⧺ decimal i) ≡ Some (codes "s" ⧺ decimal i)
 name_named i small =
     let digits : length (decimal i) ≤ 20 = length-decimal-le 20 i (omega arith) (omega (arith, small)) small in
     held (codes "s" ⧺ decimal i) (omega arith) (omega (arith, digits))

@@ -16,12 +16,12 @@ path_of (Item i key j) = codes "cases[" ⧺ decimal i ⧺ codes "]." ⧺ key_wor
 path_of (Shared key) = codes "shared." ⧺ key_word key
 
 -- a byte of a name as paths show it: `?` for each one that isn't printable ASCII
-abbrev pub shown : ℕ → ℕ
-shown byte = if nat_le 32 byte && nat_le byte 126 then byte else 63
+abbrev pub shown_byte : ℕ → ℕ
+shown_byte byte = if nat_le 32 byte && nat_le byte 126 then byte else 63
 
 abbrev pub printable : List ℕ → List ℕ
 printable [] = []
-printable (byte ∷ rest) = shown byte ∷ printable rest
+printable (byte ∷ rest) = shown_byte byte ∷ printable rest
 
 -- the path of a member that a scenario names by itself, as a program or a trace
 abbrev pub named_path : Key → List ℕ → List ℕ

@@ -4,7 +4,7 @@ use Rattle.std.specs.List.{list_all}
 use Rattle.std.specs.Char.{is_ascii_alphanumeric}
 use Rattle.serde_json.specs.Data.{Data}
 use Rattle.ccp_base.specs.Limits.{most_scene_name_bytes}
-use Rattle.ccp_base.specs.Named.{name_of}
+use Rattle.ccp_base.specs.Named.{as_name}
 use Rattle.ccp_base.specs.Chaining.{then_do}
 use Rattle.scene_members.specs.declared.fault.MemberFault.{MemberFault}
 use Rattle.scene_members.specs.declared.json_place.JsonPlace.{JsonPlace}
@@ -16,7 +16,7 @@ is_name_byte byte = is_ascii_alphanumeric byte || byte == 95 || byte == 45 || by
 -- a text where it is a name
 abbrev pub scene_name : List ℕ → Option (List ℕ)
 scene_name text =
-    if nat_le (length text) most_scene_name_bytes && list_all is_name_byte text then name_of text else None
+    if nat_le (length text) most_scene_name_bytes && list_all is_name_byte text then as_name text else None
 
 -- a value that must be a name
 abbrev pub name_in : JsonPlace → Data → Result (List ℕ) MemberFault

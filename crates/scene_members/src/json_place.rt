@@ -1,6 +1,6 @@
 //! Where a value stands in a scenario, with the refusal of a value that is missing, wrong or out of range.
 ghost use Rattle.std.specs.Prelude.{◌≡◌, ◌≢◌, ◌++◌, IfOk, OnOk};
-ghost use Rattle.scene_members.specs.Paths.{path_of, printable, named_path, shown};
+ghost use Rattle.scene_members.specs.Paths.{path_of, printable, named_path, shown_byte};
 ghost use Rattle.scene_members.specs.declared.fault.MemberFault.TheVariants as fault;
 ghost use Rattle.scene_members.specs.declared.json_place.JsonPlace.TheVariants as places;
 
@@ -101,8 +101,8 @@ impl JsonPlace {
 }
 
 /// A byte of a name as paths show it.
-fn shown(byte: u8) -> u8
-    ensures { result ≡ shown byte }
+fn shown_byte(byte: u8) -> u8
+    ensures { result ≡ shown_byte byte }
 {
     if 0x20 <= byte && byte <= 0x7E {
         byte
@@ -116,7 +116,7 @@ fn put_printable(path: &mut Path, name: &[u8]) -> Result<(), NoMemory>
 {
     let mut rest = name;
     while let Some((byte, later)) = rest.split_first() {
-        path.push(shown(*byte))?;
+        path.push(shown_byte(*byte))?;
         rest = later;
     }
     Ok(())

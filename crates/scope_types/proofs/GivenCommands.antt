@@ -13,7 +13,7 @@ use Rattle.scope_types.specs.declared.target.Target.{Target}
 use Rattle.scope_types.specs.declared.target.Target.TheVariants.{Known as Meant, Fresh}
 use Rattle.portus_core.specs.Words.{variable_of, is_name_shaped, is_heading, is_constant, is_reserved, is_field_use, is_primitive_use}
 use Rattle.ccp_base.specs.Operations.{operator_of}
-use Rattle.scope_types.specs.Scope.{Scope, known_in, with_local}
+use Rattle.scope_types.specs.Scope.{Scope, known_in, with_local_name}
 use Rattle.scope_types.specs.Names.{decl_from, local_from, variable_or, meaning_of}
 use Rattle.scope_types.specs.Cuts.{node_place}
 use Rattle.scope_types.specs.WalkResults.{and_then}
@@ -205,8 +205,8 @@ first_given scope at w value action after p h =
     (value_plain scope (Fresh at w) value h.term h.truth h.is_value
     ∙ then_given (expression_walk scope value) _ h.term _ g.gives
     (if_false (nat_le 8 (length scope.locals)) _ _ _ (room_test _ h.few)
-    (ap (λ b. Ok (set (var.Local (length scope.locals)) h.term, with_local scope w b)) (sym g.kind)
-    ∙ ap (λ a. Ok (a, with_local scope w h.truth)) (sym h.command)
+    (ap (λ b. Ok (set (var.Local (length scope.locals)) h.term, with_local_name scope w b)) (sym g.kind)
+    ∙ ap (λ a. Ok (a, with_local_name scope w h.truth)) (sym h.command)
     ∙ ap (λ s. Ok (action, s)) (sym h.names))))
 
 assignment_given : (scope : Scope) (at : Place) (w : List ℕ) (value : Node) (action : Action) (after : Scope) → IsProper scope → IsAssignment scope w value action after → walk.assignment_walk scope (word at w) value ≡ Ok (action, after)

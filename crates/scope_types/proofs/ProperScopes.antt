@@ -6,7 +6,7 @@ use Rattle.scope_types.specs.declared.names.Local.{Local}
 use Rattle.portus_core.specs.Words.{is_reserved, is_field_use, is_primitive_use, is_control_name}
 use Rattle.ccp_base.specs.PrimitiveNames.{primitive_named}
 use Rattle.scope_types.specs.DeclarationWalk.{with_field, with_control}
-use Rattle.scope_types.specs.Scope.{Scope, with_local}
+use Rattle.scope_types.specs.Scope.{Scope, with_local_name}
 use Rattle.scope_types.specs.Names.{decl_from, local_from}
 use Rattle.scope_types.specs.CommandRules.{IsFresh}
 use Rattle.scope_types.proofs.ScopedExpressions.{spells, decl_found, declared_of, local_found, local_of, prim_means, IsProper, primitive_word}
@@ -51,7 +51,7 @@ fresh_primitive scope w f =
     nowhere (primitive_named w) _ (prim_means w (primitive_named w) refl) (λ n p. f.unknown (var.Prim n) _ p)
 
 -- one more local keeps a scope in order
-pub proper_with_local : (scope : Scope) (w : List ℕ) (truth : Bool) → IsProper scope → IsFresh scope w → IsProper (with_local scope w truth)
+pub proper_with_local : (scope : Scope) (w : List ℕ) (truth : Bool) → IsProper scope → IsFresh scope w → IsProper (with_local_name scope w truth)
 proper_with_local scope w truth p f = record {
   fields = p.fields;
   controls = λ i d h. let c = p.controls i d h in record { found = c.found; no_field = c.no_field; no_primitive = c.no_primitive };

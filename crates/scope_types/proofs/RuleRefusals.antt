@@ -1,4 +1,4 @@
--- No walk is refused for want of memory: each refusal is that of a rule.
+-- No walk runs out of memory: each refusal is that of a rule.
 use Rattle.std.proofs.Common.{◌≡◌, ℕ, ◌==◌, Bool, true, false, not, ◌&&◌, ◌||◌, List, [], ◌∷◌, ◌++◌, length, Option, Some, None, is_some, Result, Ok, Err, IfErr, nat_lt, nat_le, bytes_eq, codes, subst, if◌then◌else◌}
 use Rattle.std.specs.Prelude.{◌^◌}
 use Rattle.ccp_base.specs.declared.place.Place.{Place}
@@ -253,6 +253,6 @@ source_rule (more first rest) =
     then_rule (program.def_walk first) _ (def_rule first) (λ names.
     then_rule (program.blocks_walk names [] rest) _ (blocks_rule names [] rest) (λ body. tt))
 
--- forms aren't refused for want of memory
+-- the walk over forms doesn't run out of memory
 pub never_memory : (nodes : Nodes) → program.source_walk nodes ≡ Err NoMemory → ⊥
 never_memory nodes e = subst (λ (r : Result Form ScopeFault). ByRule r) e (source_rule nodes)

@@ -7,7 +7,7 @@ use Rattle.portus_core.specs.Programs.{Term, Action, set, set_if, set_unless, ew
 use Rattle.portus_core.specs.Trees.{Node, Nodes, number, word, list, none, more}
 use Rattle.portus_core.specs.ValidPrograms.{is_writable}
 use Rattle.ccp_base.specs.declared.place.Place.{Place}
-use Rattle.scope_types.specs.Scope.{Scope, with_local}
+use Rattle.scope_types.specs.Scope.{Scope, with_local_name}
 use Rattle.portus_core.specs.Words.{variable_of, is_reserved, is_field_use, is_primitive_use}
 use Rattle.scope_types.specs.ExpressionRules.{Means, NamesVariable, IsTerm}
 
@@ -93,7 +93,7 @@ pub record IsFirstAssignment (scope : Scope) (w : List ℕ) (value : Node) (acti
   pub is_value : IsTerm scope value term truth
   pub few : length scope.locals < most_locals
   pub command : action ≡ set (var.Local (length scope.locals)) term
-  pub names : after ≡ with_local scope w truth
+  pub names : after ≡ with_local_name scope w truth
 
 abbrev pub IsAssignment : Scope → List ℕ → Node → Action → Scope → Type 0
 IsAssignment scope w value action after =

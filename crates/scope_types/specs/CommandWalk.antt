@@ -14,7 +14,7 @@ use Rattle.scope_types.specs.declared.target.Target.{Target}
 use Rattle.scope_types.specs.declared.target.Target.TheVariants.{Known, Fresh}
 use Rattle.portus_core.specs.Words.{variable_of, is_reserved, is_field_use, is_primitive_use}
 use Rattle.scope_types.specs.Names.{meaning_of}
-use Rattle.scope_types.specs.Scope.{Scope, known_in, with_local}
+use Rattle.scope_types.specs.Scope.{Scope, known_in, with_local_name}
 use Rattle.scope_types.specs.Cuts.{node_place}
 use Rattle.scope_types.specs.WalkResults.{and_then}
 use Rattle.scope_types.specs.ExpressionWalk.{expression_walk}
@@ -100,7 +100,7 @@ set_walk names (Known at v) value_at term =
     and_then (kind_walk names (wants_bool names v) value_at term) (λ e. Ok (set v e, names))
 set_walk names (Fresh at w) value_at term =
     if nat_le most_locals (length names.locals) then Err (fault.TooMany at what.Locals)
-    else Ok (set (var.Local (length names.locals)) term, with_local names w (is_bool names term))
+    else Ok (set (var.Local (length names.locals)) term, with_local_name names w (is_bool names term))
 
 abbrev pub plain_walk : Scope → Target → Node → Result Step ScopeFault
 plain_walk names target node = and_then (expression_walk names node) (λ term. set_walk names target (node_place node) term)

@@ -19,5 +19,5 @@ abbrev pub known_in : Scope → KnownNames
 known_in names = record { fields = names.fields; controls = names.controls; locals = map (λ (l : Local). l.truth) names.locals }
 
 -- the names with one more local
-abbrev pub with_local : Scope → List ℕ → Bool → Scope
-with_local scope w truth = record scope { locals = scope.locals ++ record { name = w; truth = truth } ∷ [] }
+abbrev pub with_local_name : Scope → List ℕ → Bool → Scope
+with_local_name scope w truth = record scope { locals = scope.locals ++ record { name = w; truth = truth } ∷ [] }

@@ -23,8 +23,8 @@ abbrev pub actions_of : List Cmd → List Action
 actions_of commands = map action_of commands
 
 -- the data of blocks
-abbrev pub blocks_of : List Block → List Part
-blocks_of blocks = map part_of blocks
+abbrev pub block_parts : List Block → List Part
+block_parts blocks = map part_of blocks
 
 -- the walk gives these names
 abbrev pub GivesNames : Result Scope ScopeFault → Names → Type 0
@@ -48,4 +48,4 @@ GivesBlock outcome after block = outcome ≡ Ok (part_of block, scope_of after)
 
 -- the walk gives these blocks, and these names after them
 abbrev pub GivesBlocks : Result (List Part × Scope) ScopeFault → Names → List Block → Type 0
-GivesBlocks outcome after blocks = outcome ≡ Ok (blocks_of blocks, scope_of after)
+GivesBlocks outcome after blocks = outcome ≡ Ok (block_parts blocks, scope_of after)

@@ -9,7 +9,7 @@ use Rattle.link_model.specs.Link.{Packet, Fate, Lost, Served, GivenAck, Numbered
 use Rattle.link_model.specs.Link as model
 use Rattle.link_model.specs.Counts.{lost_of}
 use Rattle.link_model.specs.Standing.{packets_of}
-use Rattle.link_model.specs.LinkMoves.{count_of}
+use Rattle.link_model.specs.LinkMoves.{flight_count}
 use Rattle.link_model.proofs.Whole.{Landing, Arrived, AllLost, landing, landing_by, staying}
 use Rattle.link_model.proofs.HorizonLemmas.{count-lost, count-push}
 use Rattle.link_model.proofs.FlightLemmas.{MatchNext, IsNextBelow, next_below, left_by-all_below, length-packets_of}
@@ -33,7 +33,7 @@ module _ (times : List ℕ) (delay : ℕ) where
   with_packets-push (packet ∷ rest) last flight = with_packets-push rest last (with_fate times delay packet.sent_at packet.fate flight)
 
   abbrev counted : Flight → ℕ
-  counted flight = count_of flight.arrivals flight.lost
+  counted flight = flight_count flight.arrivals flight.lost
 
   count_fate : (sent_at : ℕ) (fate : Fate) (flight : Flight) → counted (with_fate times delay sent_at fate flight) ≡ counted flight + 1
   count_fate sent_at Lost flight = count-lost flight.arrivals flight.lost 1
@@ -122,10 +122,10 @@ kept-sent times trace link past packets givens settled packet =
 
 -- the packets in flight are counted
 pub kept-count : (times : List ℕ) (link : FlowLink) (packets : List Packet) (givens : List GivenAck)
-    → count_of (flow_standing times link packets givens).flight.arrivals (flow_standing times link packets givens).flight.lost ≡ length (in_flight packets givens)
+    → flight_count (flow_standing times link packets givens).flight.arrivals (flow_standing times link packets givens).flight.lost ≡ length (in_flight packets givens)
 kept-count times link packets givens =
     let flight = in_flight packets givens in
-    let counted : count_of (flow_standing times link packets givens).flight.arrivals (flow_standing times link packets givens).flight.lost ≡ 0 + length (packets_of flight) =
+    let counted : flight_count (flow_standing times link packets givens).flight.arrivals (flow_standing times link packets givens).flight.lost ≡ 0 + length (packets_of flight) =
     count-packets times link.delay_us (packets_of flight) no_flight in
     omega (arith, counted, length-packets_of flight)
 
@@ -181,11 +181,11 @@ module _ (times : List ℕ) (trace : IsTrace times) (link : FlowLink) (end past 
         let rest = with_packets times link.delay_us (staying (packets_of flight)) no_flight in
         let ack : ℕ → ℕ → Ack = λ lost stay. arrival_ack_of link.mss sent_at at marked (past_of givens) lost stay (acked_of givens + 1) (length packets) in
         let with_stay : ℕ → Flight → ℕ → ℕ → AnsweredFlow = λ stay left acked gone. parts acks at (ack n stay) left acked gone in
-        let count : count_of rest.arrivals rest.lost ≡ length (left_by (packet_and_lost_below number) flight) =
-        ap (λ ps. count_of (with_packets times link.delay_us ps no_flight).arrivals (with_packets times link.delay_us ps no_flight).lost) (sym same.1)
-        ∙ (let c : count_of (with_packets times link.delay_us stays no_flight).arrivals (with_packets times link.delay_us stays no_flight).lost ≡ 0 + length stays = count-packets times link.delay_us stays no_flight in
+        let count : flight_count rest.arrivals rest.lost ≡ length (left_by (packet_and_lost_below number) flight) =
+        ap (λ ps. flight_count (with_packets times link.delay_us ps no_flight).arrivals (with_packets times link.delay_us ps no_flight).lost) (sym same.1)
+        ∙ (let c : flight_count (with_packets times link.delay_us stays no_flight).arrivals (with_packets times link.delay_us stays no_flight).lost ≡ 0 + length stays = count-packets times link.delay_us stays no_flight in
         let e : 0 + length stays ≡ length (left_by (packet_and_lost_below number) flight) = omega (arith, length-packets_of (left_by (packet_and_lost_below number) flight)) in c ∙ e) in
-        ap (λ f. with_stay (count_of (drop 1 f.arrivals) f.lost) (record { arrivals = drop 1 f.arrivals; lost = f.lost; since = f.since }) (acked_of givens + 1) (lost_of givens + n)) kept
+        ap (λ f. with_stay (flight_count (drop 1 f.arrivals) f.lost) (record { arrivals = drop 1 f.arrivals; lost = f.lost; since = f.since }) (acked_of givens + 1) (lost_of givens + n)) kept
         ∙ ap (λ stay. with_stay stay rest (acked_of givens + 1) (lost_of givens + n)) count
         ∙ ap (λ ps. with_stay (length (left_by (packet_and_lost_below number) flight)) (with_packets times link.delay_us ps no_flight) (acked_of givens + 1) (lost_of givens + n)) (sym same.1)
         ∙ ap (λ m. parts acks at (ack m (length (left_by (packet_and_lost_below number) flight))) (with_packets times link.delay_us stays no_flight) (acked_of givens + 1) (lost_of givens + m)) n_is

@@ -6,7 +6,7 @@ use Rattle.link_model.specs.declared.arrival.Arrival.{Arrival}
 use Rattle.link_model.specs.declared.chance.Chance.{Chance}
 use Rattle.link_model.specs.Traces.{longest_period, period, IsTrace}
 use Rattle.link_model.specs.Chances.{chance_number, chance_time, first_chance}
-use Rattle.link_model.specs.LinkMoves.{count_of}
+use Rattle.link_model.specs.LinkMoves.{flight_count}
 use Rattle.link_model.proofs.ChanceLemmas.{chance_time_rises, chance_time-suc, first_chance_soon, le_first_chance, turn_below}
 use Rattle.link_model.proofs.SendingLemmas.{one_more, no_more}
 use Rattle.shared_link.specs.declared.sending.Sending.{Sending}
@@ -85,7 +85,7 @@ pub no_first : (arrivals : List Arrival) → slice_get arrivals 0 ≡ None → a
 no_first [] none = refl
 no_first (arrival ∷ rest) none = absurd (let some : Some arrival ≡ None = none in cc)
 
-pub some_in_flight : (arrivals : List Arrival) (first : Arrival) (lost : ℕ) → slice_get arrivals 0 ≡ Some first → 0 < count_of arrivals lost
+pub some_in_flight : (arrivals : List Arrival) (first : Arrival) (lost : ℕ) → slice_get arrivals 0 ≡ Some first → 0 < flight_count arrivals lost
 some_in_flight [] first lost is = absurd (let none : None ≡ Some first = is in cc)
 some_in_flight (arrival ∷ rest) first lost is = omega arith
 

@@ -7,7 +7,7 @@ use Rattle.link_model.specs.declared.chance.Chance.{Chance}
 use Rattle.link_model.specs.Traces.{longest_period, IsTrace}
 use Rattle.link_model.specs.Chances.{chance_number, chance_time, first_chance}
 use Rattle.link_model.specs.Link.{Fate, Served, GivenAck, chance_past, chances_past, is_marked, fate_of, past_in, arrival_ack_of, timeout_ack_of}
-use Rattle.link_model.specs.LinkMoves.{count_of}
+use Rattle.link_model.specs.LinkMoves.{flight_count}
 use Rattle.link_model.specs.Horizon.{ArriveWithin}
 use Rattle.shared_link.specs.declared.shared_case.FlowLink.{FlowLink}
 use Rattle.shared_link.specs.declared.shared_case.SharedCase.{SharedCase}
@@ -52,7 +52,7 @@ horizon = most_rounds * most_quantum_us + span + most_delay_us
 -- what holds of the traffic of a flow at every moment
 pub record IsFlowKept (link : FlowLink) (flow : FlowTraffic) : Type 0 where
   pub capacity : flow.flight.capacity ≡ most_flight
-  pub count : flow.in_flight ≡ count_of flow.flight.items flow.lost
+  pub count : flow.in_flight ≡ flight_count flow.flight.items flow.lost
   pub few : flow.in_flight ≤ most_flight
   pub passed : (i : ℕ) → i < flow.passed → slice_index link.losses i < flow.sent
   pub arrivals : ArriveWithin horizon flow.flight.items
@@ -112,7 +112,7 @@ answered_in flow = record { acks = flow.acks.items; standing = flow_under_way fl
 abbrev pub arrival_ack_to : FlowLink → Arrival → FlowStanding → Ack
 arrival_ack_to link arrival standing =
     arrival_ack_of link.mss arrival.sent_at arrival.at arrival.marked standing.past arrival.lost
-    (count_of (drop 1 standing.flight.arrivals) standing.flight.lost) (standing.acked + 1) standing.sent
+    (flight_count (drop 1 standing.flight.arrivals) standing.flight.lost) (standing.acked + 1) standing.sent
 
 abbrev pub with_arrival : FlowLink → Arrival → AnsweredFlow → AnsweredFlow
 with_arrival link arrival answered = record {

@@ -22,7 +22,7 @@ givens-last [] (one ∷ givens) core given are is = absurd are
 givens-last (first ∷ cores) [] core given are is = absurd are
 givens-last (first ∷ cores) (one ∷ givens) core given are is = (are.0, givens-last cores givens core given are.1 is)
 
--- of all flows those before the rest were closed, and told what they came to
+-- of all flows those before the rest were closed, and gave their books and rows
 pub record AreDone (all rest : List CoreState) (told : List Given) (made : List Row) : Type 0 where
   pub done : List CoreState
   pub split : done ++ map (closed_flow over_codes) rest ≡ map (closed_flow over_codes) all

@@ -18,7 +18,7 @@ state region first free = pool_of (words_of region) region.slots region.words fi
 abbrev pub Linked : Region → ℕ → ℕ → Type 0
 Linked region first free = IsLinked (words_of region) region.slots region.words first free
 
--- the counter of free slots tells how many are free
+-- the counter of free slots is the number of free slots
 pub free_of-state : (region : Region) (first free : ℕ) → Linked region first free → free_of (state region first free) ≡ free
 free_of-state region first free linked = let counted = linked.counted in omega arith
 

@@ -21,7 +21,7 @@ pub first_word : (region : List ℕ) (words slot : ℕ) → 0 < words → get_or
 first_word region words slot h =
     get_or-take words (drop (slot * words) region) 0 0 h ∙ get_or-drop (slot * words) region 0 0 ∙ ap (λ i. get_or region i 0) (omega arith)
 
--- a slot has so many words
+-- a slot has `words` words
 pub length-words_in : (region : List ℕ) (words slot : ℕ) → slot * words + words ≤ length region → length (slot_words_in region words slot) ≡ words
 length-words_in region words slot room = simp (length-take, length-drop) (omega arith)
 

@@ -34,7 +34,7 @@ form_at source = by_number source.case.now (form_of source.ss.now) (form_of sour
 abbrev pub flow_over_sources : SourceCase → Flow Place
 flow_over_sources source = over_sources source.case.now (form_of source.ss.now) (form_of source.ca.now)
 
--- what an acknowledgement came to: nothing where its epoch was stopped
+-- the outcome of an acknowledgement: nothing if its epoch was stopped
 abbrev pub outcome_met : Option Mean → Outcome Cause
 outcome_met None = stopped
 outcome_met (Some mean) = outcome_of mean

@@ -67,7 +67,7 @@ impl State {
         Ok(())
     }
 
-    /// Puts down what an acknowledgement came to.
+    /// Records the outcome of an acknowledgement.
     fn put_down(&mut self, flow: u32, ack: &Ack, mean: &Option<Mean>) -> Result<(), NoMemory>
         requires { CanPut self.old }
         ensures { OnOk result (PutDown flow self.old self.new ack.entry.now (outcome_met mean.now)) }
@@ -78,7 +78,7 @@ impl State {
         }
     }
 
-    /// Puts down what an acknowledgement that was run came to.
+    /// Records the outcome of an acknowledgement that was run.
     fn put_mean(&mut self, flow: u32, ack: &Ack, mean: &Mean) -> Result<(), NoMemory>
         requires { CanPut self.old }
         ensures { OnOk result (PutDown flow self.old self.new ack.entry.now (outcome_of mean.now)) }
@@ -94,7 +94,7 @@ impl State {
         }
     }
 
-    /// Puts down a report with these fields.
+    /// Records a report with these fields.
     fn put_report(&mut self, flow: u32, ack: &Ack, fields: &Values) -> Result<(), NoMemory>
         requires { CanPut self.old }
         ensures { OnOk result (PutDown flow self.old self.new ack.entry.now (outcome_of (Mean.Reported fields.now))) }
@@ -115,7 +115,7 @@ impl State {
         Ok(())
     }
 
-    /// Puts down a fault of this kind at this place, and leaves its notice untold.
+    /// Records a fault of this kind at this place, and leaves its notice undelivered.
     fn put_fault(
         &mut self,
         flow: u32,

@@ -70,7 +70,7 @@ impl State {
         Ok(())
     }
 
-    /// Puts down that the ticket that is out was answered so.
+    /// Records this answer to the ticket that is out.
     fn close(&mut self, issued: &Issued, reply: Reply) -> Result<(), NoMemory>
         ensures { OnOk result (Closed issued.now reply self.old self.new) }
     {

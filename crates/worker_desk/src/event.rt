@@ -2,7 +2,7 @@
 use agent_core::Ticket;
 use ccp_base::Point;
 
-/// What an acknowledgement of a flow came to, for a datapath worker.
+/// The outcome of an acknowledgement of a flow, for a datapath worker.
 #[derive(Clone, Copy, PartialEq, Eq)]
 pub enum Heard {
     /// It is in, and nothing new waits for an agent.

@@ -1,7 +1,7 @@
 use Rattle.std.proofs.Common.{◌≡◌, ◌≤◌, ◌+◌, ◌-◌, ℕ, List, Option, Some, slice_get, drop, ap, subst, sym, ◌∙◌, arith}
 use Rattle.link_model.specs.declared.arrival.Arrival.{Arrival}
 use Rattle.link_model.specs.Standing.{packet_ack}
-use Rattle.link_model.specs.LinkMoves.{count_of, standing_in, ack_by}
+use Rattle.link_model.specs.LinkMoves.{flight_count, standing_in, ack_by}
 use Rattle.link_model.specs.Horizon.{horizon, ArriveWithin, ArriveInOrder}
 use Rattle.link_model.proofs.HorizonLemmas.{ArriveWithin-more}
 use Rattle.link_model.proofs.LineLemmas.{is_line-later}
@@ -19,7 +19,7 @@ returns-clause-kept c =
     let items = ap (λ b. b.items) buffer in
     let limit = horizon old.sent old.calls + case.delay_us in
     let all = first_of old.flight.items first (sym c.pop_front.ensures.value ∙ c.in-Some.is) in
-    let count = ap (λ xs. count_of xs old.lost) all in
+    let count = ap (λ xs. flight_count xs old.lost) all in
     let within = subst (λ (xs : List Arrival). ArriveWithin limit xs) all kept.timely.arrivals in
     let order = subst (λ (xs : List Arrival). ArriveInOrder old.time (old.line.next.at + case.delay_us) xs) all kept.order in
     let later : limit ≤ horizon old.sent (old.calls + 1) = omega (arith, case.delay_within) in
@@ -28,7 +28,7 @@ returns-clause-kept c =
       capacity = ap (λ b. b.capacity) buffer ∙ kept.capacity;
       line = is_line-later case.trace old.time first.at old.line order.0 kept.line;
       order = subst (λ (xs : List Arrival). ArriveInOrder first.at (old.line.next.at + case.delay_us) xs) (sym items) order.2;
-      count = omega (arith, kept.count, count, ap (λ xs. count_of xs old.lost) items);
+      count = omega (arith, kept.count, count, ap (λ xs. flight_count xs old.lost) items);
       few = omega (arith, kept.few);
       passed = kept.passed;
       timely = record {
@@ -46,8 +46,8 @@ returns-clause-ack c =
     let old = c.args.self.now in
     let first = c.in-Some.arrival in
     let is : slice_get old.flight.items 0 ≡ Some first = sym c.pop_front.ensures.value ∙ c.in-Some.is in
-    let count = ap (λ xs. count_of xs old.lost) (first_of old.flight.items first is) in
-    let stay : old.in_flight - (first.lost + 1) ≡ count_of (drop 1 old.flight.items) old.lost = omega (arith, c.requires.kept.count, count) in
+    let count = ap (λ xs. flight_count xs old.lost) (first_of old.flight.items first is) in
+    let stay : old.in_flight - (first.lost + 1) ≡ flight_count (drop 1 old.flight.items) old.lost = omega (arith, c.requires.kept.count, count) in
     c.arrival_ack-ack.ensures
     ∙ ap (λ (n : ℕ). packet_ack case first old.past n (old.acked + 1) old.sent) stay
     ∙ sym (ap (λ (next : Option Arrival). ack_by case (standing_in case.trace old) next) is)

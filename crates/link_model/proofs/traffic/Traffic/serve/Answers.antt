@@ -3,7 +3,7 @@ use Rattle.link_model.specs.declared.arrival.Arrival.{Arrival}
 use Rattle.link_model.specs.Chances.{chance_time}
 use Rattle.link_model.specs.Link.{is_marked}
 use Rattle.link_model.specs.Standing.{Standing}
-use Rattle.link_model.specs.LinkMoves.{count_of, standing_in, waiting_now}
+use Rattle.link_model.specs.LinkMoves.{flight_count, standing_in, waiting_now}
 use Rattle.link_model.specs.Horizon.{ArriveInOrder, IsTimely}
 use Rattle.link_model.proofs.HorizonLemmas.{length_le_count, count-push, now_soon, is_timely-served, ArriveInOrder-push}
 use Rattle.link_model.proofs.LineLemmas.{waiting_is}
@@ -54,7 +54,7 @@ returns-clause-kept c =
       capacity = c.put.ensures.capacity;
       line = c.taken-self.ensures.line;
       order = subst (λ (xs : List Arrival). ArriveInOrder old.time limit xs) (sym c.put.ensures.items) after;
-      count = omega (arith, kept.count, ap (λ xs. count_of xs 0) c.put.ensures.items, count-push old.flight.items last old.lost refl);
+      count = omega (arith, kept.count, ap (λ xs. flight_count xs 0) c.put.ensures.items, count-push old.flight.items last old.lost refl);
       few = c.requires.room;
       passed = λ i below. omega (arith, kept.passed i below);
       timely = subst (λ (s : Standing). IsTimely case s) (sym same) (is_timely-served case c.requires.kept.valid standing kept.timely (is_marked case.mark (waiting_now case standing)));

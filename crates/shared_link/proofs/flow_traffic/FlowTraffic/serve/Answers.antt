@@ -1,7 +1,7 @@
 use Rattle.std.proofs.Common.{◌+◌, ◌≤◌, List, refl, ap, subst, sym, arith}
 use Rattle.link_model.specs.declared.arrival.Arrival.{Arrival}
 use Rattle.link_model.specs.Horizon.{ArriveWithin}
-use Rattle.link_model.specs.LinkMoves.{count_of}
+use Rattle.link_model.specs.LinkMoves.{flight_count}
 use Rattle.link_model.proofs.HorizonLemmas.{length_le_count, count-push, ArriveWithin-push}
 use Rattle.shared_link.specs.Kept.{horizon}
 use Rattle.shared_link.proofs.TimeLemmas.{own_soon, own_not_before}
@@ -34,7 +34,7 @@ returns-clause-kept c =
     let order : last.sent_at ≤ last.at = omega (arith, not_before, c.time_of-own.ensures.time) in
     record {
       capacity = c.put.ensures.capacity;
-      count = omega (arith, kept.count, ap (λ xs. count_of xs 0) c.put.ensures.items, count-push old.flight.items last old.lost refl);
+      count = omega (arith, kept.count, ap (λ xs. flight_count xs 0) c.put.ensures.items, count-push old.flight.items last old.lost refl);
       few = omega (arith, c.requires.room);
       passed = λ i below. omega (arith, kept.passed i below);
       arrivals = subst (λ (xs : List Arrival). ArriveWithin horizon xs) (sym c.put.ensures.items) (ArriveWithin-push horizon old.flight.items last kept.arrivals order within);

@@ -1,7 +1,7 @@
 use Rattle.std.proofs.Common.{◌≡◌, ◌≤◌, ◌<◌, length, subst, ap, sym, ◌∙◌, arith}
 use Rattle.link_model.specs.Link.{acked_of}
 use Rattle.link_model.specs.Counts.{most_packets, lost_of}
-use Rattle.link_model.specs.LinkMoves.{count_of}
+use Rattle.link_model.specs.LinkMoves.{flight_count}
 use Rattle.shared_link.specs.declared.flow_traffic.FlowTraffic.{FlowTraffic}
 use Rattle.shared_link.specs.SharedRounds.{flow_link_at, own_packets, own_flight, sum_over_flows}
 use Rattle.shared_link.specs.Kept.{flow_under_way, IsFlowReady}
@@ -33,7 +33,7 @@ loop-flow-preserved c =
           (ap (λ s. s.gone) (ap flow_under_way c.index-traffic.ensures ∙ follows f t within)),
       λ sent givens follows. sum_more f c.loop-flow.inflight t.in_flight (λ flow. length (own_flight flow sent (givens flow))) (inv.8 sent givens follows)
           (ready.kept.count
-          ∙ ap (λ s. count_of s.flight.arrivals s.flight.lost) (ap flow_under_way c.index-traffic.ensures ∙ follows f t within)
+          ∙ ap (λ s. flight_count s.flight.arrivals s.flight.lost) (ap flow_under_way c.index-traffic.ensures ∙ follows f t within)
           ∙ kept-count case.trace (flow_link_at case f) (own_packets f sent) (givens f)),
     )
 

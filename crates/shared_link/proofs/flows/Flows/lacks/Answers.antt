@@ -1,5 +1,5 @@
 use Rattle.std.proofs.Common.{◌≡◌, ◌<◌, ltb, length, subst, ap, sym, ◌∙◌, arith, ltb-true, rules}
-use Rattle.link_model.specs.LinkMoves.{count_of}
+use Rattle.link_model.specs.LinkMoves.{flight_count}
 use Rattle.shared_link.specs.declared.flow_traffic.FlowTraffic.{FlowTraffic}
 use Rattle.shared_link.specs.SharedRounds.{flow_link_at, own_packets, own_flight}
 use Rattle.shared_link.specs.Kept.{flow_under_way, IsFlowReady}
@@ -33,6 +33,6 @@ returns-clause-lacks c = λ sent givens follows.
     let standing = ap flow_under_way c.index.ensures ∙ follows f t c.requires.flow in
     let count : t.in_flight ≡ length (own_flight f sent (givens f)) =
     ready.kept.count
-    ∙ ap (λ s. count_of s.flight.arrivals s.flight.lost) standing
+    ∙ ap (λ s. flight_count s.flight.arrivals s.flight.lost) standing
     ∙ kept-count case.trace (flow_link_at case f) (own_packets f sent) (givens f) in
     ap (λ n. ltb n c.allowance_of-may.result) count ∙ ap (ltb (length (own_flight f sent (givens f)))) c.allowance_of-may.ensures.value
