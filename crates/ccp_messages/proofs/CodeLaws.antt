@@ -119,7 +119,7 @@ map-again f g Valid Typed again (x ∷ xs) valid =
 pub starts-again : (starts : List parts.Start) → AllByRecursion StartFits starts → (map start_part (map decoded_start starts) ≡ starts) × AllByRecursion IsTypedStart (map decoded_start starts)
 starts-again starts ok = map-again decoded_start start_part StartFits IsTypedStart start-again starts ok
 
-pub events-again : (events : List parts.Event) → AllByRecursion IsEvent events → (map event_part (map decoded_event events) ≡ events) × AllByRecursion IsTypedEvent (map decoded_event events)
+pub events-again : (events : List parts.EventLengths) → AllByRecursion IsEvent events → (map event_part (map decoded_event events) ≡ events) × AllByRecursion IsTypedEvent (map decoded_event events)
 events-again events ok = map-again decoded_event event_part IsEvent IsTypedEvent (λ event fits. (refl, fits)) events ok
 
 pub instructions-again : (instructions : List Instruction) → AllByRecursion IsInstruction instructions → (map instruction_part (map decoded_instr instructions) ≡ instructions) × AllByRecursion IsTypedInstr (map decoded_instr instructions)

@@ -60,10 +60,10 @@ start_part start = record { volatile = bool_number start.volatile; value = start
 abbrev pub decoded_start : parts.Start → Start
 decoded_start start = record { volatile = start.volatile == 1; value = start.value }
 
-abbrev pub event_part : Event → parts.Event
+abbrev pub event_part : Event → parts.EventLengths
 event_part event = record { condition = event.condition; block = event.body }
 
-abbrev pub decoded_event : parts.Event → Event
+abbrev pub decoded_event : parts.EventLengths → Event
 decoded_event event = record { condition = event.condition; body = event.block }
 
 abbrev pub instruction_part : Instr → Instruction

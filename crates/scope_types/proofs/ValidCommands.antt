@@ -139,7 +139,7 @@ set_known names v term t f = (
 next_test : (n m : ℕ) → m ≡ n → nat_le 8 n ≡ false → ((n == m) && nat_lt n 8) ≡ true
 next_test n m e h = grind (arith, nat_tests)
 
-set_fresh : (names : Scope) (w : List ℕ) (term : Term) → nat_le 8 (length names.locals) ≡ false → IsTrue (is_term (known_in names) term) → IsStep names (set (var.Local (length names.locals)) term, scope.with_local names w (walk.is_bool names term))
+set_fresh : (names : Scope) (w : List ℕ) (term : Term) → nat_le 8 (length names.locals) ≡ false → IsTrue (is_term (known_in names) term) → IsStep names (set (var.Local (length names.locals)) term, scope.with_local_name names w (walk.is_bool names term))
 set_fresh names w term room t =
     let next : is_next_local (known_in names) (var.Local (length names.locals)) ≡ true = next_test (length names.locals) _ (length-map names.locals (λ (l : Local). l.truth)) room in (
       or_right _ _ (both_true _ _ next t),
