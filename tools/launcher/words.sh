@@ -159,10 +159,9 @@ read_words() {
     [ -z "$wrong" ]
 }
 
-# Ends as the program does at refused words. At a terminal a second line names the word, and what is accepted.
+# Ends as the program does at refused words, with its line, and with a second one that names the word and what is accepted.
 refuse_words() {
-    echo 'ccp: words refused' >&2
-    if [ -t 2 ]; then printf 'ccp: %s (./ccp --help)\n' "$wrong" >&2; fi
+    printf 'ccp: words refused\nccp: %s (./ccp --help)\n' "$wrong" >&2
     exit 2
 }
 
