@@ -10,7 +10,7 @@
 
 Running           find_program, run, knows_mode, run_campaign, run_table, run_flows, run_acks
 Tables            PRIMITIVES, AGENTS, MODES, LIMITS
-Texts             kind_of, read_table, read_soak, read_flows, flows_in, read_acks, acks_in, read_installs
+Texts             kind_of, read_table, read_soak, read_flows, flows_in, read_acks, acks_in, read_installs, counts_of, same_run
 Scenarios         read_scenario, scenario_text, write_scenario
 Traces            Trace, read_trace, trace_text, nearest_rank
 Scripts           Words, whole_from, read_text, main_of
@@ -446,6 +446,20 @@ def flows_in(source):
 def read_flows(source):
     """The flows of a text of `fold`, `live`, `timeline` or `rollout`, as a list of Flow."""
     return list(flows_in(source))
+
+
+def counts_of(flow):
+    """The counts of a flow of `timeline` that its row of the table has too."""
+    end = flow.end
+    return {"acks": end.acks, "reports": end.reports, "held": end.held, "faults": end.faults, "epochs": len(flow.epochs), "cwnd": end.cwnd, "tail": end.acks - end.first}
+
+
+def same_run(case, what, counts, row):
+    """Refuses a text whose counts of a case differ from its row of the table: it is of another run."""
+    for name, value in counts.items():
+        if row[name] != value:
+            more = "; a text of `live` isn't one of `timeline`" if what == "timeline" else ""
+            raise CcpError("the table and the %s are of different runs: the case %s has %s=%d there and %d here%s" % (what, case, name, row[name], value, more))
 
 
 # -- acknowledgements

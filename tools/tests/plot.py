@@ -187,15 +187,32 @@ def test_a_table_with_a_timeline():
         given, name = files(room), os.path.join(room, "p.svg")
         table = os.path.join(room, "table")
         rows = [
-            {"case": "a", "agent": "reno", "acks": 7, "reports": 4, "held": 2, "faults": 1, "epochs": 2, "lost": 2, "timeouts": 1, "acked": 6000, "now": 600000},
-            {"case": "b", "agent": "cubic", "acks": 6, "reports": 1, "epochs": 1, "acked": 6000, "now": 80000},
+            {"case": "a", "agent": "reno", "acks": 7, "reports": 4, "held": 2, "faults": 1, "epochs": 2, "lost": 2, "timeouts": 1, "acked": 6000, "cwnd": 9500, "now": 600000},
+            {"case": "b", "agent": "cubic", "acks": 6, "reports": 1, "epochs": 1, "acked": 6000, "cwnd": 6000, "now": 80000},
         ]
         with open(table, "w") as file:
             file.write(table_text(rows))
-        drawn("table", "--live", given["flows"], "--scenario", given["scenario"], table, name)
+        drawn("table", "--timeline", given["flows"], "--scenario", given["scenario"], table, name)
         seen = texts_of(name)
         # the mean of 30, 30, 50 and 40 ms less 30
         expect("mean queueing delay [ms]" in seen and "7.50" in seen and "none" in seen, str(seen))
+
+
+def test_a_table_takes_no_text_of_another_run():
+    """As of `live`, whose agents answer when threads decide."""
+    with tempfile.TemporaryDirectory() as room:
+        given, table = files(room), os.path.join(room, "table")
+        rows = [{"case": "a", "agent": "reno", "acks": 7, "reports": 5, "held": 1, "faults": 1, "epochs": 2, "cwnd": 9500, "now": 600000},
+                {"case": "c", "agent": "cubic", "acks": 6, "reports": 1, "epochs": 1, "cwnd": 6000, "now": 80000}]
+        for kept, what in ((rows, "the case a has reports=5 there and 4 here; a text of `live` isn't one of `timeline`"), ([rows[1]], "the table has no case a")):
+            with open(table, "w") as file:
+                file.write(table_text(kept))
+            printed, errors, status = tool("plot", "table", "--timeline", given["flows"], table, os.path.join(room, "p.svg"))
+            expect(status == 1 and not printed and what in errors, errors)
+        errors, status = tool("plot", "table", "--timeline", given["acks"], table, os.path.join(room, "p.svg"))[1:]
+        expect(status == 1 and "no text of `timeline`" in errors, errors)
+        errors, status = tool("plot", "table", "--live", given["flows"], table, os.path.join(room, "p.svg"))[1:]
+        expect(status == 2 and "--live" in errors, errors)
 
 
 def test_refusals():
