@@ -68,9 +68,9 @@ def test_each_picture_in_each_kind():
         runs = (["flows", given["flows"]], ["flows", "--scenario", given["scenario"], "--acks", given["acks"], given["flows"]], ["table", table],
                 ["bars", given["metrics"]], ["scatter", given["metrics"]], ["cdf", given["acks"]], ["cdf", "--scenario", given["scenario"], given["acks"]])
         for number, words in enumerate(runs):
-            names = [os.path.join(room, "%d%s" % (number, kind)) for kind in (".svg", ".png", ".pdf")]
+            names = [os.path.join(room, "%d%s" % (number, kind)) for kind in (".svg", ".png", ".pdf", ".eps")]
             drawn(*words, *names)
-            for name, begins in zip(names, (b"<?xml", b"\x89PNG", b"%PDF")):
+            for name, begins in zip(names, (b"<?xml", b"\x89PNG", b"%PDF", b"%!PS-Adobe-3.0 EPSF")):
                 with open(name, "rb") as file:
                     expect(file.read().startswith(begins), "%s of %s" % (name, words))
 
@@ -84,6 +84,13 @@ def test_fonts_of_a_pdf_are_embedded():
         expect(any(fonts) and all(" yes " in line for line in fonts if line), "\n".join(fonts))
         pages = subprocess.run(["pdfinfo", os.path.join(room, "b.pdf")], stdout=subprocess.PIPE, text=True).stdout
         expect("300 x 300 pts" in pages, pages)
+
+
+def test_an_eps_has_the_size_that_is_asked():
+    needs("gnuplot")
+    with tempfile.TemporaryDirectory() as room:
+        drawn("bars", "--size", "300x200", files(room)["metrics"], os.path.join(room, "b.eps"))
+        expect("%%BoundingBox: 0 0 300 200\n" in content(os.path.join(room, "b.eps")), "its size")
 
 
 def test_a_picture_has_what_is_asked():
@@ -219,7 +226,7 @@ def test_refusals():
     with tempfile.TemporaryDirectory() as room:
         given = files(room)
         for words, status, what in (
-            (["flows", given["flows"], "x.gif"], 1, ".svg, .png or .pdf"),
+            (["flows", given["flows"], "x.gif"], 1, ".svg, .png, .pdf or .eps"),
             (["flows", given["metrics"], "x.svg"], 1, "no text of `timeline` or `live`"),
             (["table", given["flows"], "x.svg"], 1, "no table"),
             (["bars", given["flows"], "x.svg"], 1, "isn't what `tools/metrics --json` prints"),
