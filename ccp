@@ -15,7 +15,8 @@ here=$(cd "$(dirname "$(readlink -f "${BASH_SOURCE[0]}")")" && pwd)
 main() {
     if [ "${1-}" = --prove ]; then exec "$here/tools/prove" "${@:2}"; fi
     if [ $# -eq 0 ] && [ -t 0 ]; then page_of_help; exit 0; fi
-    case $(page_asked "$@") in
+    read_page "$@" || refuse_words
+    case $page in
         help) page_of_help; exit 0 ;;
         version) page_of_version; exit 0 ;;
         mode) page_of_mode "$(first_mode "$@")"; exit 0 ;;

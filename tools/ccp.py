@@ -10,7 +10,7 @@
 
 Running           find_program, run, knows_mode, run_campaign, run_table, run_flows, run_acks
 Tables            PRIMITIVES, AGENTS, MODES, LIMITS
-Texts             kind_of, read_table, read_soak, read_flows, flows_in, read_acks, acks_in, read_installs
+Texts             kind_of, read_table, read_soak, read_flows, flows_in, read_acks, acks_in, read_installs, counts_of, same_run
 Scenarios         read_scenario, scenario_text, write_scenario
 Traces            Trace, read_trace, trace_text, nearest_rank
 Scripts           Words, whole_from, read_text, main_of
@@ -29,8 +29,9 @@ from dataclasses import dataclass, field
 
 TOP = os.path.dirname(os.path.dirname(os.path.abspath(__file__)))
 PROGRAM = os.path.join(TOP, "crates", "ccp", "out", "ccp")
-# the unproved one, which ./ccp compiles and keeps until there is a proved one
+# the unproved one, which ./ccp compiles and keeps until there is a proved one, and the part of ./ccp that compiles it
 CHECKED = os.path.join(TOP, "crates", "ccp", "out", "checked", "ccp")
+COMPILER = os.path.join(TOP, "tools", "launcher", "checked-program")
 
 COLUMNS = "case agent acks reports held faults epochs lost timeouts acked peak cwnd now tail".split()
 SUMS = "acks reports held faults lost timeouts acked".split()
@@ -447,6 +448,20 @@ def read_flows(source):
     return list(flows_in(source))
 
 
+def counts_of(flow):
+    """The counts of a flow of `timeline` that its row of the table has too."""
+    end = flow.end
+    return {"acks": end.acks, "reports": end.reports, "held": end.held, "faults": end.faults, "epochs": len(flow.epochs), "cwnd": end.cwnd, "tail": end.acks - end.first}
+
+
+def same_run(case, what, counts, row):
+    """Refuses a text whose counts of a case differ from its row of the table: it is of another run."""
+    for name, value in counts.items():
+        if row[name] != value:
+            more = "; a text of `live` isn't one of `timeline`" if what == "timeline" else ""
+            raise CcpError("the table and the %s are of different runs: the case %s has %s=%d there and %d here%s" % (what, case, name, row[name], value, more))
+
+
 # -- acknowledgements
 
 NAMES_OF_ACKS = frozenset(PRIMITIVES)
@@ -694,12 +709,24 @@ class Run:
 
 def find_program(path=None):
     """The program to run: the one given, else that of the variable CCP_PROGRAM, else the one that was built here, else the
-    unproved one that ./ccp keeps."""
-    built = CHECKED if os.access(CHECKED, os.X_OK) and not os.path.exists(PROGRAM) else PROGRAM
-    found = path or os.environ.get("CCP_PROGRAM") or built
+    unproved one that ./ccp keeps. If there is none of them, the unproved one is compiled first, as ./ccp does."""
+    found = path or os.environ.get("CCP_PROGRAM") or (PROGRAM if os.path.exists(PROGRAM) else CHECKED)
+    if found == CHECKED and not os.path.exists(CHECKED):
+        compile_checked()
     if not (os.path.isfile(found) and os.access(found, os.X_OK)):
-        raise NoProgram("there is no program at %s: `./ccp --prove` builds it, and any run of `./ccp` an unproved one; --program PATH or CCP_PROGRAM=PATH names another" % found)
+        raise NoProgram("there is no program at %s: `./ccp --prove` proves and builds it; --program PATH or CCP_PROGRAM=PATH names another" % found)
     return os.path.abspath(found)
+
+
+def compile_checked():
+    """Compiles the unproved program, and says so on standard error, where the compiler's own lines go too."""
+    print("ccp: there is no program yet: compiling the unproved one with checks (about two minutes); ./ccp --prove proves and builds the program", file=sys.stderr, flush=True)
+    try:
+        ran = subprocess.run([COMPILER], stdin=subprocess.DEVNULL, stdout=subprocess.DEVNULL)
+    except OSError as error:
+        raise NoProgram("%s: %s" % (COMPILER, error.strerror))
+    if ran.returncode:
+        raise NoProgram("the unproved program isn't compiled; --program PATH or CCP_PROGRAM=PATH names another")
 
 
 def run(mode, given="", *, program=None, check=True, **options):

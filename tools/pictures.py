@@ -2,14 +2,14 @@
 
 A page has panels in rows and columns, one legend above them, and a title where one is wanted. A panel has its data and
 how each series is drawn. Series differ by colour, by dash and mark, and by pattern, so that a picture can be read in
-black and white too. A picture is an SVG, a PNG or a PDF, by the ending of its name."""
+black and white too. A picture is an SVG, a PNG, a PDF or an EPS, by the ending of its name."""
 import os
 import re
 import subprocess
 
 from ccp import CcpError
 
-KINDS = (".svg", ".png", ".pdf")
+KINDS = (".svg", ".png", ".pdf", ".eps")
 # colours that people with each kind of colour blindness tell apart (Okabe and Ito), darkest and lightest in turn
 COLOURS = ["#0072B2", "#E69F00", "#000000", "#56B4E9", "#D55E00", "#009E73", "#CC79A7", "#7F7F7F"]
 DASHES = ["solid", "(12,4)", "(3,3)", "(16,4,3,4)", "(8,8)", "(2,6)", "(20,6)", "(12,3,3,3,3,3)"]
@@ -22,7 +22,7 @@ WIDTH = 900
 
 
 class Look:
-    """What a user may choose of a picture: its size in pixels (points in a PDF), or none, its title and its font."""
+    """What a user may choose of a picture: its size in pixels (points in a PDF or an EPS), or none, its title and its font."""
 
     def __init__(self, size=None, title="", font="DejaVu Sans,12"):
         self.size, self.title = size, title
@@ -239,7 +239,8 @@ def terminal_line(kind, width, height, look):
         return "set terminal svg noenhanced size %d,%d font '%s,%g' background rgb 'white'" % (width, height, look.font, look.points)
     if kind == ".png":
         return "set terminal pngcairo noenhanced size %d,%d font '%s,%g' background rgb 'white'" % (width, height, look.font, look.points * 0.75)
-    return "set terminal pdfcairo noenhanced size %.4fin,%.4fin font '%s,%g' background rgb 'white'" % (width / 72, height / 72, look.font, look.points)
+    name = "epscairo" if kind == ".eps" else "pdfcairo"
+    return "set terminal %s noenhanced size %.4fin,%.4fin font '%s,%g' background rgb 'white'" % (name, width / 72, height / 72, look.font, look.points)
 
 
 def gnuplot(script, path):
@@ -264,7 +265,7 @@ def finish_svg(path):
 def kind_of_picture(path):
     kind = os.path.splitext(path)[1]
     if kind not in KINDS:
-        raise CcpError("%s: the name of a picture ends with .svg, .png or .pdf" % path)
+        raise CcpError("%s: the name of a picture ends with .svg, .png, .pdf or .eps" % path)
     return kind
 
 

@@ -310,7 +310,9 @@ def out_of_range(scenario, mode, of, _within, name, value, path):
 
 def totals_refusal(scenario, mode, reason, hints):
     total = sum(case.member("acks").whole() for case in scenario.cases())
-    hints.append("Here are %d acknowledgements in %d cases; the limit is %d. `campaign` has no such limit.%s" % (total, len(scenario.cases()), LIMITS["total_acks"], more_cases(mode) if mode in SPLIT else ""))
+    count = len(scenario.cases())
+    cases = "%d case%s" % (count, "" if count == 1 else "s")
+    hints.append("Here are %d acknowledgements in %s; the limit is %d. `campaign` has no such limit.%s" % (total, cases, LIMITS["total_acks"], more_cases(mode) if mode in SPLIT else ""))
     start = scenario.whole.member("cases").start
     return Finding("refused", start, start + 1, reason, hints)
 
@@ -431,15 +433,17 @@ def unknown(scenario, mode, of, value):
 
 
 def unused(scenario, mode):
-    """Programs and traces that no case names."""
+    """Programs and traces that no case names. A case that names one that isn't there may mean any of them."""
     shared = scenario.whole.member("shared")
     users = [*scenario.cases(), *([shared] if shared else [])]
-    traces = texts_of(users, ["trace"])
-    used = texts_of(users, ["steps"] if reads(mode) == "rollout" else ["ss", "ca"])
-    for key, of, names in [(key, "trace", traces) for key, _ in scenario.table("traces").values()] + [
-            (key, "program", used) for key, _ in scenario.table("programs").values()]:
-        if key.is_ not in names:
-            yield Finding("warning", key.start, key.end, "no case uses the %s `%s`" % (of, cut(key.is_)))
+    members = {"trace": ["trace"], "program": ["steps"] if reads(mode) == "rollout" else ["ss", "ca"]}
+    for of, names in members.items():
+        table, used = scenario.table(of + "s"), texts_of(users, names)
+        if not used <= set(table):
+            continue
+        for name, (key, _) in table.items():
+            if name not in used:
+                yield Finding("warning", key.start, key.end, "no case uses the %s `%s`" % (of, cut(name)))
 
 
 def texts_of(users, members):

@@ -62,7 +62,7 @@ path_of_file() {
 }
 
 # Prints the program's error line. A closed pipe ends silently, as that of any filter. At a terminal a second line says
-# what explains a refusal.
+# what explains a refusal; elsewhere the program's line stands alone, as the pages show it.
 print_errors() {
     if [ "$status" = 5 ] && { [ -p /dev/stdout ] || [ -S /dev/stdout ]; }; then
         status=141

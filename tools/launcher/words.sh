@@ -110,7 +110,7 @@ read_option() {
 read_place() {
     if [ -z "$mode" ]; then
         mode=$1
-        is_mode "$1" || wrong="${1:-the empty word} is no mode: the modes are $(joined_by ', ' "${modes[@]}")"
+        is_mode "$1" || wrong=$(no_mode "$1")
     elif [ -z "$1" ]; then
         wrong='an empty word is no option and no FILE'
     elif [ "$1" != - ] && [ ! -e "$1" ]; then
@@ -126,6 +126,10 @@ read_place() {
         fi
     fi
     [ -z "$wrong" ]
+}
+
+no_mode() {
+    printf '%s is no mode: the modes are %s' "${1:-the empty word}" "$(joined_by ', ' "${modes[@]}")"
 }
 
 joined_by() {
@@ -155,27 +159,30 @@ read_words() {
     [ -z "$wrong" ]
 }
 
-# Ends as the program does at refused words. At a terminal a second line names the word, and what is accepted.
+# Ends as the program does at refused words, with its line, and with a second one that names the word and what is accepted.
 refuse_words() {
-    echo 'ccp: words refused' >&2
-    if [ -t 2 ]; then printf 'ccp: %s (./ccp --help)\n' "$wrong" >&2; fi
+    printf 'ccp: words refused\nccp: %s (./ccp --help)\n' "$wrong" >&2
     exit 2
 }
 
-# What page the words ask for, if they do: `help`, `mode` (the help of one mode), `version`, or nothing.
-page_asked() {
-    local word asked='' named=''
+# Sets `page` to what page the words ask for, if they do: `help`, `mode` (the help of one mode), `version`, or nothing.
+# Sets `wrong` to what is refused: a word after `help` that is no mode.
+read_page() {
+    local word before='' named=''
+    page='' wrong=''
     read_modes
     for word in "$@"; do
         case $word in
             --) break ;;
-            --help | -h | help) asked=help ;;
-            --version) asked=${asked:-version} ;;
-            *) if is_mode "$word"; then named=yes; fi ;;
+            --help | -h | help) page=help ;;
+            --version) page=${page:-version} ;;
+            -?*) ;;
+            *) if is_mode "$word"; then named=yes; elif [ "$before" = help ]; then wrong=$(no_mode "$word"); fi ;;
         esac
+        before=$word
     done
-    if [ "$asked" = help ] && [ -n "$named" ]; then asked=mode; fi
-    printf '%s' "$asked"
+    if [ "$page" = help ] && [ -n "$named" ]; then page=mode; fi
+    [ -z "$wrong" ]
 }
 
 first_mode() {

@@ -286,6 +286,26 @@ def test_explain_warns():
     expect("warning" not in explained(text, "campaign", True, status=0), "quiet")
 
 
+def test_explain_warns_of_nothing_that_a_case_may_mean():
+    printed = explained(scenario(trace="T"), "campaign", holds=["`traces` has t.", "tools/explain: refused by campaign\n"])
+    expect("no case uses" not in printed, printed)
+    two = json.loads(scenario(ss="p"))
+    two["programs"] = {"p": "(def)", "q": "(def)"}
+    explained(json.dumps(two), "campaign", status=0, holds=["no case uses the program `q`"])
+    two["cases"][0]["ca"] = "r"
+    printed = explained(json.dumps(two), "campaign", holds=["wrong cases[0].ca", "`programs` has p, q."])
+    expect("no case uses" not in printed, printed)
+
+
+def test_explain_counts_the_cases():
+    whole = json.loads(scenario(acks=65536))
+    whole["cases"] = [dict(whole["cases"][0], name="c%d" % at) for at in range(5)]
+    explained(json.dumps(whole), "timeline", holds=["327680 acknowledgements in 5 cases; the limit"])
+    whole = EXPLAIN.scenarios.Scenario("one", scenario(acks=262145))
+    found = EXPLAIN.scenarios.totals_refusal(whole, "timeline", "totals", [])
+    expect("262145 acknowledgements in 1 case; the limit" in found.hints[0], found.hints[0])
+
+
 def test_explain_names_another_mode():
     with open(os.path.join(TOP, "examples", "rollout.json"), encoding="utf-8") as file:
         text = file.read()

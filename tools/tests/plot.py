@@ -68,9 +68,9 @@ def test_each_picture_in_each_kind():
         runs = (["flows", given["flows"]], ["flows", "--scenario", given["scenario"], "--acks", given["acks"], given["flows"]], ["table", table],
                 ["bars", given["metrics"]], ["scatter", given["metrics"]], ["cdf", given["acks"]], ["cdf", "--scenario", given["scenario"], given["acks"]])
         for number, words in enumerate(runs):
-            names = [os.path.join(room, "%d%s" % (number, kind)) for kind in (".svg", ".png", ".pdf")]
+            names = [os.path.join(room, "%d%s" % (number, kind)) for kind in (".svg", ".png", ".pdf", ".eps")]
             drawn(*words, *names)
-            for name, begins in zip(names, (b"<?xml", b"\x89PNG", b"%PDF")):
+            for name, begins in zip(names, (b"<?xml", b"\x89PNG", b"%PDF", b"%!PS-Adobe-3.0 EPSF")):
                 with open(name, "rb") as file:
                     expect(file.read().startswith(begins), "%s of %s" % (name, words))
 
@@ -84,6 +84,13 @@ def test_fonts_of_a_pdf_are_embedded():
         expect(any(fonts) and all(" yes " in line for line in fonts if line), "\n".join(fonts))
         pages = subprocess.run(["pdfinfo", os.path.join(room, "b.pdf")], stdout=subprocess.PIPE, text=True).stdout
         expect("300 x 300 pts" in pages, pages)
+
+
+def test_an_eps_has_the_size_that_is_asked():
+    needs("gnuplot")
+    with tempfile.TemporaryDirectory() as room:
+        drawn("bars", "--size", "300x200", files(room)["metrics"], os.path.join(room, "b.eps"))
+        expect("%%BoundingBox: 0 0 300 200\n" in content(os.path.join(room, "b.eps")), "its size")
 
 
 def test_a_picture_has_what_is_asked():
@@ -187,22 +194,39 @@ def test_a_table_with_a_timeline():
         given, name = files(room), os.path.join(room, "p.svg")
         table = os.path.join(room, "table")
         rows = [
-            {"case": "a", "agent": "reno", "acks": 7, "reports": 4, "held": 2, "faults": 1, "epochs": 2, "lost": 2, "timeouts": 1, "acked": 6000, "now": 600000},
-            {"case": "b", "agent": "cubic", "acks": 6, "reports": 1, "epochs": 1, "acked": 6000, "now": 80000},
+            {"case": "a", "agent": "reno", "acks": 7, "reports": 4, "held": 2, "faults": 1, "epochs": 2, "lost": 2, "timeouts": 1, "acked": 6000, "cwnd": 9500, "now": 600000},
+            {"case": "b", "agent": "cubic", "acks": 6, "reports": 1, "epochs": 1, "acked": 6000, "cwnd": 6000, "now": 80000},
         ]
         with open(table, "w") as file:
             file.write(table_text(rows))
-        drawn("table", "--live", given["flows"], "--scenario", given["scenario"], table, name)
+        drawn("table", "--timeline", given["flows"], "--scenario", given["scenario"], table, name)
         seen = texts_of(name)
         # the mean of 30, 30, 50 and 40 ms less 30
         expect("mean queueing delay [ms]" in seen and "7.50" in seen and "none" in seen, str(seen))
+
+
+def test_a_table_takes_no_text_of_another_run():
+    """As of `live`, whose agents answer when threads decide."""
+    with tempfile.TemporaryDirectory() as room:
+        given, table = files(room), os.path.join(room, "table")
+        rows = [{"case": "a", "agent": "reno", "acks": 7, "reports": 5, "held": 1, "faults": 1, "epochs": 2, "cwnd": 9500, "now": 600000},
+                {"case": "c", "agent": "cubic", "acks": 6, "reports": 1, "epochs": 1, "cwnd": 6000, "now": 80000}]
+        for kept, what in ((rows, "the case a has reports=5 there and 4 here; a text of `live` isn't one of `timeline`"), ([rows[1]], "the table has no case a")):
+            with open(table, "w") as file:
+                file.write(table_text(kept))
+            printed, errors, status = tool("plot", "table", "--timeline", given["flows"], table, os.path.join(room, "p.svg"))
+            expect(status == 1 and not printed and what in errors, errors)
+        errors, status = tool("plot", "table", "--timeline", given["acks"], table, os.path.join(room, "p.svg"))[1:]
+        expect(status == 1 and "no text of `timeline`" in errors, errors)
+        errors, status = tool("plot", "table", "--live", given["flows"], table, os.path.join(room, "p.svg"))[1:]
+        expect(status == 2 and "--live" in errors, errors)
 
 
 def test_refusals():
     with tempfile.TemporaryDirectory() as room:
         given = files(room)
         for words, status, what in (
-            (["flows", given["flows"], "x.gif"], 1, ".svg, .png or .pdf"),
+            (["flows", given["flows"], "x.gif"], 1, ".svg, .png, .pdf or .eps"),
             (["flows", given["metrics"], "x.svg"], 1, "no text of `timeline` or `live`"),
             (["table", given["flows"], "x.svg"], 1, "no table"),
             (["bars", given["flows"], "x.svg"], 1, "isn't what `tools/metrics --json` prints"),
