@@ -174,8 +174,8 @@ impl Machine {
         Ok(())
     }
 
-    /// How many instructions the last acknowledgement since the last start ran, a faulting one included; 0 where
-    /// there was none, and if the program was stopped.
+    /// How many instructions the last acknowledgement since the last start ran, a faulting one included; 0 if there
+    /// was none, or if the program was stopped before it.
     pub fn ran(&self) -> u32
         ensures { result ≡ self.now.ran }
     {
