@@ -63,24 +63,24 @@ fn headed(head: Outline, program: Option<u32>, bytes: &[u8], rest: &[u8]) -> Rep
     }
 }
 
-/// The head and the values of the Update or the Change at the front of bytes.
+/// Reads the Update or the Change at the front of bytes: the head, and the values into `fields`, which are as before
+/// unless the answer is Ok.
 #[tactic(auto, unfolding(crate::specs::Frames::frame_at))]
-fn found(bytes: &[u8]) -> Result<(ReplyHead, Fields), FrameFault>
-    ensures { result ≡ decoded_of bytes.now }
+fn found(bytes: &[u8], fields: &mut Fields) -> Result<ReplyHead, FrameFault>
+    ensures found { IfOk result (λ head. decoded_of bytes.now ≡ Ok (head, fields.new)) }
+    ensures fault { IfErr result (λ fault. decoded_of bytes.now ≡ Err fault) }
+    ensures unchanged { OnErr result (fields.new ≡ fields.old) }
 {
     let (head, rest) = outline(bytes).map_err(|stop| stopped(bytes, stop))?;
     let count = head.counts.n1;
-    let mut fields = Fields::new();
     match head.kind {
         FrameKind::Update => {
-            let rest = update(rest, count, &mut fields).map_err(|stop| stopped(bytes, stop))?;
-            Ok((headed(head, None, bytes, rest), fields))
+            let rest = update(rest, count, fields).map_err(|stop| stopped(bytes, stop))?;
+            Ok(headed(head, None, bytes, rest))
         }
         FrameKind::Change => {
-            let (program, rest) = change(rest, count, &mut fields).map_err(|stop| stopped(
-                bytes, stop,
-            ))?;
-            Ok((headed(head, Some(program), bytes, rest), fields))
+            let (program, rest) = change(rest, count, fields).map_err(|stop| stopped(bytes, stop))?;
+            Ok(headed(head, Some(program), bytes, rest))
         }
         kind => {
             passed(rest, head).map_err(|stop| stopped(bytes, stop))?;
@@ -115,7 +115,5 @@ pub fn decode_fields(bytes: &[u8], values: &mut Fields) -> Result<ReplyHead, Fra
     ensures refused { ((frame : Frame) → ¬ BeginsWithFrame bytes.now frame) → ¬ IsFrameFront bytes.now → IsBad result }
     ensures unchanged { OnErr result (values.new ≡ values.old) }
 {
-    let (head, fields) = found(bytes)?;
-    *values = fields;
-    Ok(head)
+    found(bytes, values)
 }
