@@ -48,13 +48,13 @@ segment_of course program =
 abbrev pub window_pair : ℕ → List Pair
 window_pair cwnd = (Cwnd, cwnd) ∷ []
 
--- a control variable's value, where there is such a variable
+-- a control variable's value, if there is such a variable
 abbrev pub control_pair : Option ℕ → ℕ → List Pair
 control_pair None value = []
 control_pair (Some number) value = (Control number, value) ∷ []
 
 -- what a reply writes: nothing, the window, or for a change the window, the cap and the segment's size, the last
--- two where the new program has control variables for them
+-- two if the new program has control variables for them
 abbrev pub values_of : Agent → Reply → List Pair
 values_of agent Nothing = []
 values_of agent (Update cwnd) = window_pair cwnd

@@ -15,7 +15,7 @@ after_of ticket = (replied ticket.before ticket.told).0
 abbrev pub reply_of : Ticket → Reply
 reply_of ticket = (replied ticket.before ticket.told).1
 
--- the frame of a reply: no bytes where nothing is replied
+-- the frame of a reply: no bytes if nothing is replied
 abbrev pub frame_by : ℕ → Agent → Reply → List ℕ
 frame_by flow agent Nothing = []
 frame_by flow agent (Update cwnd) = update_bytes One flow (values_of agent (Update cwnd))

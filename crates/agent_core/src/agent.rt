@@ -88,7 +88,7 @@ impl Agent {
     }
 
     /// What a reply writes: nothing, the window, or for a change the window and then the cap and the segment's
-    /// size, where the new program has control variables for them.
+    /// size, if the new program has control variables for them.
     pub fn values(&self, reply: &Reply) -> Fields
         ensures values { result ≡ values_of self.now reply.now }
         ensures targets { AreTargets result }
@@ -122,7 +122,7 @@ fn window(cwnd: u64) -> Fields
     values
 }
 
-/// Puts a control variable's value at the end, where there is such a variable.
+/// Puts a control variable's value at the end, if there is such a variable.
 fn put_control(values: &mut Fields, control: Option<u32>, value: u64)
     requires few { length values.old < 3 }
     requires below { ForSome control (λ n. n < 64) }
@@ -136,7 +136,7 @@ fn put_control(values: &mut Fields, control: Option<u32>, value: u64)
     }
 }
 
-/// Where a program keeps the window's cap; None where it is neither of the agent's.
+/// Where a program keeps the window's cap; None if it is neither of the agent's.
 fn cap_of(course: &Course, program: u32) -> Option<u32>
     ensures value { result ≡ cap_of course.now program }
     ensures below { ForSome result (λ n. n < 64) }
@@ -150,7 +150,7 @@ fn cap_of(course: &Course, program: u32) -> Option<u32>
     }
 }
 
-/// Where a program keeps the segment's size; None where it is neither of the agent's.
+/// Where a program keeps the segment's size; None if it is neither of the agent's.
 fn segment_of(course: &Course, program: u32) -> Option<u32>
     ensures value { result ≡ segment_of course.now program }
     ensures below { ForSome result (λ n. n < 64) }

@@ -78,7 +78,7 @@ impl Answer {
         self.reply
     }
 
-    /// The frame that tells the datapath, of version 1 and at most 64 bytes; no bytes where the agent replies
+    /// The frame that tells the datapath, of version 1 and at most 64 bytes; no bytes if the agent replies
     /// nothing.
     pub fn frame(&self) -> &[u8]
         ensures bytes { result.now ≡ frame_of self.now }

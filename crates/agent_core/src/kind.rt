@@ -24,7 +24,7 @@ pub enum Kind {
 const KINDS: [Kind; 2] = [Kind::Reno, Kind::Cubic];
 
 impl Kind {
-    /// The kind of this name; None where no kind has it.
+    /// The kind of this name; None if no kind has it.
     pub fn named(name: &[u8]) -> Option<Kind>
         ensures { result ≡ kind_named name.now }
     {

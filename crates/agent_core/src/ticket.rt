@@ -5,8 +5,7 @@ use crate::agent::Agent;
 use crate::same::{same_agent, same_told};
 use ccp_base::Told;
 
-/// What an agent is to be told: of which flow, the ticket's number there from 0, the agent before it, and what is
-/// told.
+/// What an agent gets: the flow, the ticket's number in that flow, from 0, the agent before it, and the content.
 #[derive(Clone, Copy, PartialEq, Eq)]
 pub struct Ticket {
     pub flow: u32,

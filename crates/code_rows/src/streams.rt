@@ -9,8 +9,8 @@ use std::test::Fail;
 /// What is read of a text and written of it.
 const TEXT: &[u8] = b"seven77";
 
-/// Reading the text: how many bytes a call gives, which calls fail, the limit, what comes of it, and how many calls have
-/// failed.
+/// Reading the text: how many bytes a call gives, which calls fail, the limit, what comes of it, and how many calls
+/// have failed.
 type Reading = (
     usize,
     &'static [u64],
@@ -51,8 +51,8 @@ fn what_is_read(rt: HostRuntime) {
     }
 }
 
-/// Writing the text: how many bytes a call takes, which calls fail, what comes of it, what is written, and how many calls
-/// have failed.
+/// Writing the text: how many bytes a call takes, which calls fail, what comes of it, what is written, and how many
+/// calls have failed.
 type Writing = (
     usize,
     &'static [u64],

@@ -1,12 +1,12 @@
--- CUBIC, by RFC 9438, once per report, in whole numbers. Windows are in thousandths of a segment where nothing else
+-- CUBIC, by RFC 9438, once per report, in whole numbers. Windows are in thousandths of a segment if nothing else
 -- is said, caps and thresholds in bytes, the curve's times in milliseconds, all others in microseconds.
 --
 -- What is taken from the RFC, with C 0.4, beta 0.7 and alpha 9/17:
 -- - W_cubic and K (section 4.2), and the target from the window to half as much again;
--- - W_est, whose alpha is 1 once it has reached cwnd_prior (4.3); the window is W_est where the curve is below it;
+-- - W_est, whose alpha is 1 once it has reached cwnd_prior (4.3); the window is W_est if the curve is below it;
 -- - growth by the target's distance times what was acknowledged over the window (4.4, 4.5);
 -- - a decrease to beta of the window, and the threshold with it, at least 2 segments (4.6); fast convergence (4.7);
--- - one segment and slow start after a timeout, and K = 0 with W_max and W_est the window where avoidance begins
+-- - one segment and slow start after a timeout, and K = 0 with W_max and W_est the window when avoidance begins
 --   after it (4.8); the initial window of 2, 3 or 4 segments.
 --
 -- What is this project's own:
@@ -140,7 +140,7 @@ after_loss r s =
       change_to Avoidance s.course ssthresh ssthresh,
     )
 
--- slow start ends where the window has reached the threshold; the curve then starts at its middle
+-- slow start ends if the window has reached the threshold; the curve then starts at its middle
 -- (RFC 9438, section 4.8)
 abbrev pub in_slow_start : Measurement → CubicState → Turn
 in_slow_start r s =

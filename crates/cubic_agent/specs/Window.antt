@@ -19,7 +19,7 @@ clamped_window window = clamped 1000 most_window window
 abbrev pub decreased : ℕ → ℕ
 decreased window = max 2000 ((window *ˢ 7) / 10)
 
--- W_max after a loss event: the window, but (1 + beta) / 2 of it where it didn't reach the last W_max, so that
+-- W_max after a loss event: the window, but (1 + beta) / 2 of it if it didn't reach the last W_max, so that
 -- the flow gives way to newer ones (fast convergence: RFC 9438, section 4.7)
 abbrev pub converged : ℕ → ℕ → ℕ
 converged w_max window = if nat_lt window w_max then (window *ˢ 17) / 20 else window

@@ -3,7 +3,7 @@ ghost use Rattle.std.specs.Prelude.{◌≡◌, ◌≤◌};
 ghost use Rattle.ccp_base.specs.Limits.{most_segment_bytes};
 
 use crate::curve::{time_to_maximum, w_cubic};
-use crate::window::{SEGMENT, WINDOW_MOST, bytes, clamped_window, converged, decreased};
+use crate::window::{SEGMENT, WINDOW_MOST, bytes, clamped_window, converge, decrease};
 use ccp_base::{Course, Measurement, Phase, Reply, Role, Told, initial_segments};
 use int_roots::muldiv;
 use std::marker::Model;
@@ -36,7 +36,7 @@ pub struct Growth {
     pub start: u64,
 }
 
-/// The state of a CUBIC agent. Windows are in thousandths of a segment where nothing else is said.
+/// The state of a CUBIC agent. Windows are in thousandths of a segment if nothing else is said.
 #[derive(Clone, Copy, PartialEq, Eq)]
 pub struct Cubic {
     /// The segment's size, in bytes.
@@ -196,7 +196,7 @@ impl Cubic {
     fn on_timeout(&mut self) -> Reply
         ensures { (self.new, result) ≡ after_timeout self.old }
     {
-        let ssthresh = bytes(self.mss, decreased(self.growth.window));
+        let ssthresh = bytes(self.mss, decrease(self.growth.window));
         let least = bytes(self.mss, SEGMENT);
         self.growth.w_prior = self.growth.window;
         self.ssthresh = ssthresh;
@@ -213,8 +213,8 @@ impl Cubic {
         if measurement.now < self.calm {
             return Reply::Nothing;
         }
-        let w_max = converged(self.growth.w_max, self.growth.window);
-        let window = decreased(self.growth.window);
+        let w_max = converge(self.growth.w_max, self.growth.window);
+        let window = decrease(self.growth.window);
         let ssthresh = bytes(self.mss, window);
         self.growth = Growth {
             window,
@@ -229,7 +229,7 @@ impl Cubic {
         self.course.change(Phase::Avoidance, ssthresh, ssthresh)
     }
 
-    /// Slow start ends where the window has reached the threshold; the curve then starts at its middle
+    /// Slow start ends if the window has reached the threshold; the curve then starts at its middle
     /// (RFC 9438, section 4.8).
     fn in_slow_start(&mut self, measurement: Measurement) -> Reply
         ensures { (self.new, result) ≡ in_slow_start measurement self.old }
@@ -252,17 +252,17 @@ impl Cubic {
         if measurement.acked == 0 {
             return Reply::Nothing;
         }
-        let acked = self.acked(measurement);
+        let acked = self.acked_thousandths(measurement);
         let t = measurement.now.saturating_sub(self.growth.start) / MILLISECOND;
         let rtt = measurement.rtt / MILLISECOND;
         self.growth.w_est = self.estimate(acked);
-        let window = self.grown(acked, t, rtt);
+        let window = self.grow_window(acked, t, rtt);
         self.growth.window = window;
         Reply::Update(bytes(self.mss, window))
     }
 
     /// What was acknowledged, in thousandths of a segment, at most the greatest window.
-    fn acked(&self, measurement: Measurement) -> u64
+    fn acked_thousandths(&self, measurement: Measurement) -> u64
         ensures { result ≡ acked_thousandths self.now.mss measurement }
     {
         muldiv(measurement.acked, SEGMENT, u64::from(self.mss)).min(WINDOW_MOST)
@@ -294,7 +294,7 @@ impl Cubic {
 
     /// The window after these acknowledgements, `t` milliseconds into the epoch, with a round-trip time in
     /// milliseconds.
-    fn grown(&self, acked: u64, t: u64, rtt: u64) -> u64
+    fn grow_window(&self, acked: u64, t: u64, rtt: u64) -> u64
         ensures value { result ≡ grown acked t rtt self.now }
         ensures least { 1000 ≤ result }
         ensures most { result ≤ most_window }

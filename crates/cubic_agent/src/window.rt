@@ -36,15 +36,15 @@ pub(crate) fn clamped_window(window: u64) -> u64
 }
 
 /// The window after a loss event: beta of the one before, at least 2 segments (RFC 9438, section 4.6).
-pub(crate) fn decreased(window: u64) -> u64
+pub(crate) fn decrease(window: u64) -> u64
     ensures { result ≡ decreased window }
 {
     (window.saturating_mul(BETA) / BETA_UNIT).max(THRESHOLD_LEAST)
 }
 
-/// W_max after a loss event: the window, but (1 + beta) / 2 of it where it didn't reach the last W_max, so that
+/// W_max after a loss event: the window, but (1 + beta) / 2 of it if it didn't reach the last W_max, so that
 /// the flow gives way to newer ones (fast convergence: RFC 9438, section 4.7).
-pub(crate) fn converged(w_max: u64, window: u64) -> u64
+pub(crate) fn converge(w_max: u64, window: u64) -> u64
     ensures { result ≡ converged w_max window }
 {
     if window < w_max {

@@ -11,7 +11,7 @@ use std::process::Abort;
 use std::test::Fail;
 
 /// The four acknowledgements result in one report, and no fifth one is taken.
-fn reports_once(rt: &impl Abort, cell: &mut Cell) {
+fn assert_reports_once(rt: &impl Abort, cell: &mut Cell) {
     assert_ack(rt, cell, Ok(Acked::Quiet));
     assert_ack(rt, cell, Ok(Acked::Quiet));
     assert_ack(rt, cell, Ok(Acked::Quiet));
@@ -20,7 +20,7 @@ fn reports_once(rt: &impl Abort, cell: &mut Cell) {
 }
 
 /// One ticket is out at a time, and its answer is applied once.
-fn settles_once(rt: &impl Abort, alloc: Global, cell: &mut Cell) -> Result<(), Fail> {
+fn assert_settles_once(rt: &impl Abort, alloc: Global, cell: &mut Cell) -> Result<(), Fail> {
     let ticket = take(alloc, cell)?;
     assert_number(rt, &ticket, 0);
     assert_out(rt, cell, &ticket);
@@ -36,18 +36,22 @@ fn assert_open(rt: &impl Abort, cell: &Cell) {
 }
 
 /// Before the first report there is nothing to take, and after its answer the flow is complete.
-fn reports_and_completes(rt: &impl Abort, alloc: Global, cell: &mut Cell) -> Result<(), Fail> {
+fn assert_reports_and_completes(
+    rt: &impl Abort,
+    alloc: Global,
+    cell: &mut Cell,
+) -> Result<(), Fail> {
     assert_refused(rt, alloc, cell, TakeFault::NotYet);
-    reports_once(rt, cell);
+    assert_reports_once(rt, cell);
     assert_open(rt, cell);
-    settles_once(rt, alloc, cell)?;
+    assert_settles_once(rt, alloc, cell)?;
     assert_complete(rt, cell);
     Ok(())
 }
 
-/// A flow does so, and is dropped then.
-fn flow_completes(rt: &impl Abort, alloc: Global, mut cell: Cell) -> Result<(), Fail> {
-    let completed = reports_and_completes(rt, alloc, &mut cell);
+/// The same of a flow, which it drops.
+fn assert_flow_completes(rt: &impl Abort, alloc: Global, mut cell: Cell) -> Result<(), Fail> {
+    let completed = assert_reports_and_completes(rt, alloc, &mut cell);
     drop(cell);
     completed
 }
@@ -55,7 +59,7 @@ fn flow_completes(rt: &impl Abort, alloc: Global, mut cell: Cell) -> Result<(), 
 #[test]
 fn a_flow_reports_once_and_is_complete(rt: HostRuntime) -> Result<(), Fail> {
     let cell = cell(rt.alloc(), RENO)?;
-    flow_completes(&rt, rt.alloc(), cell)
+    assert_flow_completes(&rt, rt.alloc(), cell)
 }
 
 /// What a report of epoch 0 shows that has this span and this first field.
@@ -69,7 +73,7 @@ fn span(first: u64, end: u64, value: u64) -> Shown {
 }
 
 /// The second report is held, and the third one has the span of both.
-fn holds(rt: &impl Abort, alloc: Global, cell: &mut Cell, value: u64) -> Result<(), Fail> {
+fn assert_holds(rt: &impl Abort, alloc: Global, cell: &mut Cell, value: u64) -> Result<(), Fail> {
     assert_ack(rt, cell, Ok(Acked::Reported));
     assert_ack(rt, cell, Ok(Acked::Held));
     let earlier = take(alloc, cell)?;
@@ -81,9 +85,14 @@ fn holds(rt: &impl Abort, alloc: Global, cell: &mut Cell, value: u64) -> Result<
     Ok(())
 }
 
-/// A flow with one slot does so, and is dropped then.
-fn flow_holds(rt: &impl Abort, alloc: Global, mut cell: Cell, value: u64) -> Result<(), Fail> {
-    let held = holds(rt, alloc, &mut cell, value);
+/// The same of a flow with one slot, which it drops.
+fn assert_flow_holds(
+    rt: &impl Abort,
+    alloc: Global,
+    mut cell: Cell,
+    value: u64,
+) -> Result<(), Fail> {
+    let held = assert_holds(rt, alloc, &mut cell, value);
     drop(cell);
     held
 }
@@ -91,11 +100,11 @@ fn flow_holds(rt: &impl Abort, alloc: Global, mut cell: Cell, value: u64) -> Res
 #[test]
 fn a_held_report_is_made_with_the_next(rt: HostRuntime) -> Result<(), Fail> {
     let cell = cell(rt.alloc(), COUNTING)?;
-    flow_holds(&rt, rt.alloc(), cell, 3)
+    assert_flow_holds(&rt, rt.alloc(), cell, 3)
 }
 
 #[test]
 fn a_held_report_keeps_its_volatile_field(rt: HostRuntime) -> Result<(), Fail> {
     let cell = cell(rt.alloc(), VOLATILE)?;
-    flow_holds(&rt, rt.alloc(), cell, 2)
+    assert_flow_holds(&rt, rt.alloc(), cell, 2)
 }

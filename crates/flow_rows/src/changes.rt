@@ -62,7 +62,7 @@ fn loss(epoch: u32, first: u64, end: u64) -> Shown {
 }
 
 /// The first of two reports is answered by a change.
-fn changes(rt: &impl Abort, alloc: Global, cell: &mut Cell) -> Result<(), Fail> {
+fn assert_changes(rt: &impl Abort, alloc: Global, cell: &mut Cell) -> Result<(), Fail> {
     assert_ack(rt, cell, Ok(Acked::Reported));
     assert_ack(rt, cell, Ok(Acked::Reported));
     let ticket = take(alloc, cell)?;
@@ -73,7 +73,11 @@ fn changes(rt: &impl Abort, alloc: Global, cell: &mut Cell) -> Result<(), Fail> 
 }
 
 /// The second report keeps its epoch, which has ended, so nothing is answered to it.
-fn tells_the_waiting_one(rt: &impl Abort, alloc: Global, cell: &mut Cell) -> Result<(), Fail> {
+fn assert_tells_the_waiting_one(
+    rt: &impl Abort,
+    alloc: Global,
+    cell: &mut Cell,
+) -> Result<(), Fail> {
     let ticket = take(alloc, cell)?;
     assert_shows(rt, &ticket, loss(0, 1, 2));
     assert_settles_nothing(rt, cell, &ticket);
@@ -81,7 +85,7 @@ fn tells_the_waiting_one(rt: &impl Abort, alloc: Global, cell: &mut Cell) -> Res
 }
 
 /// The third acknowledgement is reported of the new epoch.
-fn reports_anew(rt: &impl Abort, alloc: Global, cell: &mut Cell) -> Result<(), Fail> {
+fn assert_reports_anew(rt: &impl Abort, alloc: Global, cell: &mut Cell) -> Result<(), Fail> {
     assert_ack(rt, cell, Ok(Acked::Reported));
     let ticket = take(alloc, cell)?;
     assert_shows(rt, &ticket, loss(1, 2, 3));
@@ -90,15 +94,15 @@ fn reports_anew(rt: &impl Abort, alloc: Global, cell: &mut Cell) -> Result<(), F
 }
 
 /// Tickets have the three reports in order, the first two of epoch 0.
-fn tells_all(rt: &impl Abort, alloc: Global, cell: &mut Cell) -> Result<(), Fail> {
-    changes(rt, alloc, cell)?;
-    tells_the_waiting_one(rt, alloc, cell)?;
-    reports_anew(rt, alloc, cell)
+fn assert_tells_all(rt: &impl Abort, alloc: Global, cell: &mut Cell) -> Result<(), Fail> {
+    assert_changes(rt, alloc, cell)?;
+    assert_tells_the_waiting_one(rt, alloc, cell)?;
+    assert_reports_anew(rt, alloc, cell)
 }
 
 /// The flow after the tickets of the three reports.
-fn told(rt: &impl Abort, alloc: Global, mut cell: Cell) -> Result<Cell, Fail> {
-    match tells_all(rt, alloc, &mut cell) {
+fn assert_told(rt: &impl Abort, alloc: Global, mut cell: Cell) -> Result<Cell, Fail> {
+    match assert_tells_all(rt, alloc, &mut cell) {
         Ok(()) => Ok(cell),
         Err(fail) => {
             drop(cell);
@@ -123,7 +127,7 @@ fn second_epoch(cell: Cell) -> Option<EpochLine>
 }
 
 /// The flow is complete, and its second epoch is that of the change.
-fn ends(rt: &impl Abort, cell: Cell) {
+fn assert_ends(rt: &impl Abort, cell: Cell) {
     assert_complete(rt, &cell);
     assert_eq!(rt; second_epoch(cell), Some(SECOND));
 }
@@ -131,7 +135,7 @@ fn ends(rt: &impl Abort, cell: Cell) {
 #[test]
 fn a_change_leaves_what_waits(rt: HostRuntime) -> Result<(), Fail> {
     let cell = cell(rt.alloc(), LOSING)?;
-    ends(&rt, told(&rt, rt.alloc(), cell)?);
+    assert_ends(&rt, assert_told(&rt, rt.alloc(), cell)?);
     Ok(())
 }
 

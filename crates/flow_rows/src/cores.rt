@@ -39,7 +39,7 @@ fn assert_ack(rt: &impl Abort, core: &mut Core, want: Result<Acked, Ended>) {
     assert_eq!(rt; next(core), want);
 }
 
-/// Why no ticket is taken; None where one is.
+/// Why no ticket is taken; None if one is.
 fn refusal(alloc: Global, core: &mut Core) -> Option<TakeFault> {
     match core.take(alloc) {
         Ok(_) => None,
@@ -58,27 +58,27 @@ fn assert_window(rt: &impl Abort, core: &Core, bytes: u64) {
 }
 
 /// The acknowledgement makes no report, and the window is wider by it.
-fn widens(rt: &impl Abort, alloc: Global, core: &mut Core) {
+fn assert_widens(rt: &impl Abort, alloc: Global, core: &mut Core) {
     assert_ack(rt, core, Ok(Acked::Quiet));
     assert_window(rt, core, 5792);
     assert_refused(rt, alloc, core, TakeFault::NotYet);
 }
 
-/// A flow is widened so, and is dropped then.
-fn flow_widens(rt: &impl Abort, alloc: Global, mut core: Core) {
-    widens(rt, alloc, &mut core);
+/// The same of a flow, which it drops.
+fn assert_flow_widens(rt: &impl Abort, alloc: Global, mut core: Core) {
+    assert_widens(rt, alloc, &mut core);
     drop(core);
 }
 
 #[test]
 fn an_acknowledgement_widens_the_window(rt: HostRuntime) -> Result<(), Fail> {
     let core = core(rt.alloc(), RENO)?;
-    flow_widens(&rt, rt.alloc(), core);
+    assert_flow_widens(&rt, rt.alloc(), core);
     Ok(())
 }
 
 /// The flow takes no acknowledgement, nothing is left to take, and no ticket is out.
-fn takes_none(rt: &impl Abort, core: &mut Core)
+fn assert_takes_none(rt: &impl Abort, core: &mut Core)
     ensures { is_still (world_in core.new) ≡ true }
 {
     assert_ack(rt, core, Err(Ended));
@@ -115,14 +115,14 @@ fn assert_no_letter(rt: &impl Abort, core: Core)
 }
 
 /// The flow takes no acknowledgement, and made no letter.
-fn flow_takes_none(rt: &impl Abort, mut core: Core) {
-    takes_none(rt, &mut core);
+fn assert_flow_takes_none(rt: &impl Abort, mut core: Core) {
+    assert_takes_none(rt, &mut core);
     assert_no_letter(rt, core);
 }
 
 #[test]
 fn a_case_without_acknowledgements_takes_none(rt: HostRuntime) -> Result<(), Fail> {
     let core = core(rt.alloc(), NO_ACK)?;
-    flow_takes_none(&rt, core);
+    assert_flow_takes_none(&rt, core);
     Ok(())
 }

@@ -48,7 +48,7 @@ fn push(rt: &impl Abort, pool: &mut Pool, outbox: &mut Outbox, first: u32)
 }
 
 /// The next ticket has this.
-fn tells(rt: &impl Abort, pool: &mut Pool, outbox: &mut Outbox, want: Option<Told>)
+fn assert_tells(rt: &impl Abort, pool: &mut Pool, outbox: &mut Outbox, want: Option<Told>)
     requires words { 80 ≤ pool.old.words }
     requires owned { AreOwned pool.old outbox.old.slots }
     ensures words { 80 ≤ pool.new.words }
@@ -58,71 +58,71 @@ fn tells(rt: &impl Abort, pool: &mut Pool, outbox: &mut Outbox, want: Option<Tol
 }
 
 /// The next ticket has the report of the acknowledgements from here on.
-fn tells_report(rt: &impl Abort, pool: &mut Pool, outbox: &mut Outbox, first: u32)
+fn assert_tells_report(rt: &impl Abort, pool: &mut Pool, outbox: &mut Outbox, first: u32)
     requires words { 80 ≤ pool.old.words }
     requires owned { AreOwned pool.old outbox.old.slots }
     ensures words { 80 ≤ pool.new.words }
     ensures owned { AreOwned pool.new outbox.new.slots }
 {
-    tells(rt, pool, outbox, Some(Told::Report(report(first))));
+    assert_tells(rt, pool, outbox, Some(Told::Report(report(first))));
 }
 
-/// So many slots are free.
-fn has_free(rt: &impl Abort, pool: &Pool, slots: u32) {
+/// Asserts how many slots are free.
+fn assert_free(rt: &impl Abort, pool: &Pool, slots: u32) {
     assert_eq!(rt; pool.free(), slots);
 }
 
 /// No ticket can be taken any more, and each slot is free.
-fn is_emptied(rt: &impl Abort, pool: &mut Pool, outbox: &mut Outbox, slots: u32)
+fn assert_emptied(rt: &impl Abort, pool: &mut Pool, outbox: &mut Outbox, slots: u32)
     requires words { 80 ≤ pool.old.words }
     requires owned { AreOwned pool.old outbox.old.slots }
 {
-    tells(rt, pool, outbox, None);
-    has_free(rt, pool, slots);
+    assert_tells(rt, pool, outbox, None);
+    assert_free(rt, pool, slots);
 }
 
 /// The outbox has no room.
-fn is_full(rt: &impl Abort, outbox: &Outbox) {
+fn assert_full(rt: &impl Abort, outbox: &Outbox) {
     assert!(rt; !outbox.room());
 }
 
 /// A report waits in an outbox that is full then, before a notice.
-fn waits(rt: &impl Abort, pool: &mut Pool, outbox: &mut Outbox)
+fn assert_waits(rt: &impl Abort, pool: &mut Pool, outbox: &mut Outbox)
     requires words { 80 ≤ pool.old.words }
     requires owned { AreOwned pool.old outbox.old.slots }
     ensures words { 80 ≤ pool.new.words }
     ensures owned { AreOwned pool.new outbox.new.slots }
 {
     push(rt, pool, outbox, 3);
-    is_full(rt, outbox);
+    assert_full(rt, outbox);
     outbox.note(NOTICE);
 }
 
 /// A ticket has the report, and the next one the notice.
-fn tells_both(rt: &impl Abort, pool: &mut Pool, outbox: &mut Outbox)
+fn assert_tells_both(rt: &impl Abort, pool: &mut Pool, outbox: &mut Outbox)
     requires words { 80 ≤ pool.old.words }
     requires owned { AreOwned pool.old outbox.old.slots }
 {
-    tells_report(rt, pool, outbox, 3);
-    tells(rt, pool, outbox, Some(Told::Fault(NOTICE)));
-    is_emptied(rt, pool, outbox, 1);
+    assert_tells_report(rt, pool, outbox, 3);
+    assert_tells(rt, pool, outbox, Some(Told::Fault(NOTICE)));
+    assert_emptied(rt, pool, outbox, 1);
 }
 
 /// A report comes before the notice that came after it.
-fn tells_in_order(rt: &impl Abort, pool: &mut Pool, outbox: &mut Outbox)
+fn assert_tells_in_order(rt: &impl Abort, pool: &mut Pool, outbox: &mut Outbox)
     requires words { 80 ≤ pool.old.words }
     requires owned { AreOwned pool.old outbox.old.slots }
 {
-    waits(rt, pool, outbox);
-    tells_both(rt, pool, outbox);
+    assert_waits(rt, pool, outbox);
+    assert_tells_both(rt, pool, outbox);
 }
 
-/// A pool and an outbox do so, and are dropped then.
-fn outbox_tells_in_order(rt: &impl Abort, mut pool: Pool, mut outbox: Outbox)
+/// The same of a pool and an outbox, which it drops.
+fn assert_outbox_tells_in_order(rt: &impl Abort, mut pool: Pool, mut outbox: Outbox)
     requires words { 80 ≤ pool.words }
     requires owned { AreOwned pool outbox.slots }
 {
-    tells_in_order(rt, &mut pool, &mut outbox);
+    assert_tells_in_order(rt, &mut pool, &mut outbox);
     drop(outbox);
     drop(pool);
 }
@@ -131,17 +131,17 @@ fn outbox_tells_in_order(rt: &impl Abort, mut pool: Pool, mut outbox: Outbox)
 fn a_report_is_told_before_a_notice(rt: HostRuntime) -> Result<(), Fail> {
     let outbox = Outbox::new(rt.alloc(), 1)?;
     let pool = Pool::new(rt.alloc(), 1, 80)?;
-    outbox_tells_in_order(&rt, pool, outbox);
+    assert_outbox_tells_in_order(&rt, pool, outbox);
     Ok(())
 }
 
-/// So many reports wait.
-fn has_waiting(rt: &impl Abort, outbox: &Outbox, reports: u32) {
+/// Asserts how many reports wait.
+fn assert_waiting(rt: &impl Abort, outbox: &Outbox, reports: u32) {
     assert_eq!(rt; outbox.waiting(), reports);
 }
 
 /// The oldest of two reports makes room for a third one.
-fn makes_room(rt: &impl Abort, pool: &mut Pool, outbox: &mut Outbox)
+fn assert_makes_room(rt: &impl Abort, pool: &mut Pool, outbox: &mut Outbox)
     requires words { 80 ≤ pool.old.words }
     requires owned { AreOwned pool.old outbox.old.slots }
     ensures words { 80 ≤ pool.new.words }
@@ -149,40 +149,40 @@ fn makes_room(rt: &impl Abort, pool: &mut Pool, outbox: &mut Outbox)
 {
     push(rt, pool, outbox, 0);
     push(rt, pool, outbox, 1);
-    tells_report(rt, pool, outbox, 0);
+    assert_tells_report(rt, pool, outbox, 0);
     push(rt, pool, outbox, 2);
 }
 
 /// Two reports wait and are taken, and a notice that is void then isn't.
-fn tells_the_rest(rt: &impl Abort, pool: &mut Pool, outbox: &mut Outbox)
+fn assert_tells_the_rest(rt: &impl Abort, pool: &mut Pool, outbox: &mut Outbox)
     requires words { 80 ≤ pool.old.words }
     requires owned { AreOwned pool.old outbox.old.slots }
     ensures words { 80 ≤ pool.new.words }
     ensures owned { AreOwned pool.new outbox.new.slots }
 {
-    has_waiting(rt, outbox, 2);
-    tells_report(rt, pool, outbox, 1);
-    tells_report(rt, pool, outbox, 2);
+    assert_waiting(rt, outbox, 2);
+    assert_tells_report(rt, pool, outbox, 1);
+    assert_tells_report(rt, pool, outbox, 2);
     outbox.note(NOTICE);
     outbox.void();
 }
 
 /// An outbox in which two reports may wait gives three in order.
-fn tells_three(rt: &impl Abort, pool: &mut Pool, outbox: &mut Outbox)
+fn assert_tells_three(rt: &impl Abort, pool: &mut Pool, outbox: &mut Outbox)
     requires words { 80 ≤ pool.old.words }
     requires owned { AreOwned pool.old outbox.old.slots }
 {
-    makes_room(rt, pool, outbox);
-    tells_the_rest(rt, pool, outbox);
-    is_emptied(rt, pool, outbox, 3);
+    assert_makes_room(rt, pool, outbox);
+    assert_tells_the_rest(rt, pool, outbox);
+    assert_emptied(rt, pool, outbox, 3);
 }
 
-/// A pool and an outbox do so, and are dropped then.
-fn outbox_tells_three(rt: &impl Abort, mut pool: Pool, mut outbox: Outbox)
+/// The same of a pool and an outbox, which it drops.
+fn assert_outbox_tells_three(rt: &impl Abort, mut pool: Pool, mut outbox: Outbox)
     requires words { 80 ≤ pool.words }
     requires owned { AreOwned pool outbox.slots }
 {
-    tells_three(rt, &mut pool, &mut outbox);
+    assert_tells_three(rt, &mut pool, &mut outbox);
     drop(outbox);
     drop(pool);
 }
@@ -191,6 +191,6 @@ fn outbox_tells_three(rt: &impl Abort, mut pool: Pool, mut outbox: Outbox)
 fn the_oldest_of_a_full_outbox_is_told(rt: HostRuntime) -> Result<(), Fail> {
     let outbox = Outbox::new(rt.alloc(), 2)?;
     let pool = Pool::new(rt.alloc(), 3, 80)?;
-    outbox_tells_three(&rt, pool, outbox);
+    assert_outbox_tells_three(&rt, pool, outbox);
     Ok(())
 }

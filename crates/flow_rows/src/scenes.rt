@@ -17,7 +17,7 @@ pub(crate) const NO_ACK: &[u8] =
 pub(crate) const COUNTING: &[u8] =
     b"{\"version\":1,\"programs\":{\"p\":\"(def (Report (n 0))) (when true (:= Report.n (+ Report.n 1)) (report))\"},\"traces\":{\"t\":\"10\\n\"},\"cases\":[{\"name\":\"a\",\"agent\":\"reno\",\"trace\":\"t\",\"mss\":1448,\"queue\":10,\"delay_us\":20000,\"timeout_us\":1000000,\"acks\":3,\"slots\":1,\"ss\":\"p\",\"ca\":\"p\"}]}";
 
-/// The same, where the count begins anew after each report.
+/// The same, but the count begins anew after each report.
 pub(crate) const VOLATILE: &[u8] =
     b"{\"version\":1,\"programs\":{\"p\":\"(def (Report (volatile n 0))) (when true (:= Report.n (+ Report.n 1)) (report))\"},\"traces\":{\"t\":\"10\\n\"},\"cases\":[{\"name\":\"a\",\"agent\":\"reno\",\"trace\":\"t\",\"mss\":1448,\"queue\":10,\"delay_us\":20000,\"timeout_us\":1000000,\"acks\":3,\"slots\":1,\"ss\":\"p\",\"ca\":\"p\"}]}";
 
@@ -33,8 +33,8 @@ fn first(alloc: Global, cases: &[Case]) -> Result<Case, Fail> {
     }
 }
 
-/// A copy of the first case of a scenario, which is dropped then.
-fn only(alloc: Global, scene: Scenario) -> Result<Case, Fail> {
+/// A copy of the first case of a scenario, which it drops.
+fn copy_first(alloc: Global, scene: Scenario) -> Result<Case, Fail> {
     let case = first(alloc, scene.cases.as_slice());
     drop(scene);
     case
@@ -43,7 +43,7 @@ fn only(alloc: Global, scene: Scenario) -> Result<Case, Fail> {
 /// The case of a scenario.
 pub(crate) fn case(alloc: Global, text: &[u8]) -> Result<Case, Fail> {
     let scene = scenario(alloc, text, SceneMode::Live)?;
-    only(alloc, scene)
+    copy_first(alloc, scene)
 }
 
 /// The flow of a scenario with its link, without a letter.

@@ -48,7 +48,7 @@ pub(crate) fn take(alloc: Global, cell: &mut Cell) -> Result<Ticket, Fail> {
     Ok(cell.take(alloc)?)
 }
 
-/// Why no ticket is taken; None where one is.
+/// Why no ticket is taken; None if one is.
 fn refusal(alloc: Global, cell: &mut Cell) -> Option<TakeFault> {
     match cell.take(alloc) {
         Ok(_) => None,
@@ -86,7 +86,7 @@ pub(crate) fn assert_number(rt: &impl Abort, ticket: &Ticket, number: u32) {
     assert_eq!(rt; ticket.number, number);
 }
 
-/// Applies the answer to a ticket: the reply; None where the answer is refused.
+/// Applies the answer to a ticket: the reply; None if the answer is refused.
 fn settle(cell: &mut Cell, ticket: &Ticket) -> Option<Reply> {
     let answer = answer(*ticket);
     let reply = answer.reply();
@@ -106,8 +106,8 @@ pub(crate) fn assert_settles_nothing(rt: &impl Abort, cell: &mut Cell, ticket: &
     assert_eq!(rt; settle(cell, ticket), Some(Reply::Nothing));
 }
 
-/// The number of the ticket that is out, if one is, where the answer to a ticket is refused; None where it is applied.
-fn stale(cell: &mut Cell, ticket: &Ticket) -> Option<Option<u32>> {
+/// The number of the ticket that is out, if one is, after the answer to a ticket is refused; None if it is applied.
+fn ticket_out_if_stale(cell: &mut Cell, ticket: &Ticket) -> Option<Option<u32>> {
     match cell.settle(answer(*ticket)) {
         Ok(()) => None,
         Err(stale) => Some(stale.out),
@@ -116,7 +116,7 @@ fn stale(cell: &mut Cell, ticket: &Ticket) -> Option<Option<u32>> {
 
 /// The answer to a ticket is refused, and no ticket is out.
 pub(crate) fn assert_stale(rt: &impl Abort, cell: &mut Cell, ticket: &Ticket) {
-    assert_eq!(rt; stale(cell, ticket), Some(None));
+    assert_eq!(rt; ticket_out_if_stale(cell, ticket), Some(None));
 }
 
 fn shown_of(report: &Report) -> Shown {
@@ -128,7 +128,7 @@ fn shown_of(report: &Report) -> Shown {
     }
 }
 
-/// What a ticket shows of its report; None where it tells a fault.
+/// What a ticket shows of its report; None if it tells a fault.
 fn shown_by(ticket: &Ticket) -> Option<Shown> {
     match &ticket.told {
         Told::Report(report) => Some(shown_of(report)),

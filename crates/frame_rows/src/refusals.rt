@@ -10,7 +10,7 @@ use std::alloc::{AllocError, Global};
 use std::process::Abort;
 use std::test::*;
 
-/// Why bytes aren't a message; None where they are.
+/// Why bytes aren't a message; None if they are.
 fn refusal(alloc: Global, bytes: &[u8]) -> Option<DecodeFault> {
     match decode(alloc, bytes) {
         Ok(_) => None,

@@ -28,7 +28,7 @@ first_step passes later here false is rest =
       ];
     }
 
--- where the last step would pass, the search finds the first number that does
+-- if the last step would pass, the search finds the first number that does
 pub first_passing_first : (passes : ℕ → Bool) (steps here : ℕ) → passes (here + steps) ≡ true → IsFirst passes here (first_passing passes steps here)
 first_passing_first passes zero here last =
     let same : here + 0 ≡ here = omega arith in

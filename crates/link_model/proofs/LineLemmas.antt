@@ -71,7 +71,7 @@ module _ (times : List ℕ) (trace : IsTrace times) where
                 omega (arith, order, none))
           ]
 
-      -- where the next chance isn't later than now, nothing waits
+      -- if the next chance isn't later than now, nothing waits
       pub none_wait : line.next.at ≤ time → line.waiting ≡ 0
       none_wait early =
           elim (cases_lt 0 line.waiting) as (λ _. line.waiting ≡ 0)

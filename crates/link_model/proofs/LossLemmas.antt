@@ -47,12 +47,12 @@ rises_along numbers rises i (suc j) order within =
 equal : (a b : ℕ) → a ≡ b → eqb a b ≡ true
 equal a b same = grind (arith, nat_tests)
 
--- none is listed where all are below the number
+-- none is listed if all are below the number
 pub is_listed-past : (number : ℕ) (losses : List ℕ) (place : ℕ) → length losses ≤ place → ((i : ℕ) → i < place → get_or losses i 0 < number) → is_listed number losses ≡ false
 is_listed-past number losses place past before =
     is_listed-nowhere number losses (λ i within same. (let h = before i (omega arith) in omega arith))
 
--- a number is listed exactly where it is the first one that isn't below it
+-- a number is listed exactly if it is the first one that isn't below it
 pub is_listed-here : (number : ℕ) (losses : List ℕ) (place : ℕ) → IsStrictlyIncreasing losses → place < length losses
     → ((i : ℕ) → i < place → get_or losses i 0 < number) → number ≤ get_or losses place 0 → eqb (get_or losses place 0) number ≡ is_listed number losses
 is_listed-here number losses place rises within before from =

@@ -43,13 +43,13 @@ module _ (times : List ℕ) (trace : IsTrace times) (now chance : ℕ) where
   pub none_waits : chance_time times chance ≤ now → chance - first_chance times (now + 1) 0 ≡ 0
   none_waits early = omega (arith, up_to_now early)
 
-  -- one more waits, where its chance is later than now
+  -- one more waits if its chance is later than now
   pub one_more : now < chance_time times (max chance (first_chance times now 0))
       → chance - first_chance times (now + 1) 0 + 1 ≡ max (max chance (first_chance times now 0) + 1) (first_chance times now 0) - first_chance times (now + 1) 0
   one_more late =
       omega (arith, later_from, first_chance_le times trace (now + 1) (max chance (first_chance times now 0)) (omega arith))
 
--- and no more, where it isn't
+-- and no more if it isn't
 pub no_more : (times : List ℕ) → IsTrace times → (now chance : ℕ) → chance_time times (max chance (first_chance times now 0)) ≤ now
     → chance - first_chance times (now + 1) 0 ≡ max (max chance (first_chance times now 0) + 1) (first_chance times now 0) - first_chance times (now + 1) 0
 no_more times trace now chance early = omega (arith, up_to_now times trace now (max chance (first_chance times now 0)) early)
@@ -91,7 +91,7 @@ module _ (case : LinkCase) where
       ap (λ b. with_fate case (cond b Lost (Served (chance_now case standing) (is_marked case.mark (waiting_now case standing)))) standing)
       (or_last (is_listed standing.sent case.losses) (leb case.queue (waiting_now case standing)) (full case.queue (waiting_now case standing) is))
 
-  -- where the queue is full, all are lost
+  -- if the queue is full, all are lost
   pub sending-full : (more : ℕ) (standing : Standing) → case.queue ≤ waiting_now case standing → sending case more standing ≡ with_lost more standing
   sending-full zero standing is = same_counts standing standing.lost standing.sent (standing.lost + 0) (standing.sent + 0) (omega arith) (omega arith)
   sending-full (suc more) standing is =

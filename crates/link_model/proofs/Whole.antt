@@ -36,7 +36,7 @@ whole_of run = record {
 
 -- ---- sending
 
--- the packet that is sent next, where `due` is the first chance that isn't before now and `later` the first one
+-- the packet that is sent next, if `due` is the first chance that isn't before now and `later` the first one
 -- after now
 abbrev pub packet_by : LinkCase → Whole → ℕ → ℕ → Packet
 packet_by case standing due later = record {
@@ -85,7 +85,7 @@ abbrev pub staying : List Packet → List Packet
 staying [] = []
 staying (packet ∷ rest) = staying_by packet.fate rest (staying rest)
 
--- the acknowledgement of what landed, where the standing has the packets that stay
+-- the acknowledgement of what landed, if the standing has the packets that stay
 abbrev pub ack_by : LinkCase → Whole → Landing → Ack
 ack_by case standing (Arrived sent_at chance marked lost) =
     arrival_ack case sent_at (arrival_of case chance) marked standing.past lost (length standing.flight) (standing.acked + 1) standing.sent

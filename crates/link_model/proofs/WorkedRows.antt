@@ -121,7 +121,7 @@ slow_sent = sent_standing slow 4344 (standing_of slow (run_of slow []))
 lost_before : slow_sent.arrivals ≡ record { lost = 1; sent_at = 0; at = 21000; marked = false } ∷ record { lost = 0; sent_at = 0; at = 21000; marked = false } ∷ []
 lost_before = refl
 
--- where the queue is full, the others are one number
+-- if the queue is full, the others are one number
 abbrev narrow_sent : Standing
 narrow_sent = sent_standing narrow 4344 (standing_of narrow (run_of narrow []))
 

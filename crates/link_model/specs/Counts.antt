@@ -8,7 +8,7 @@ use Rattle.link_model.specs.Link.{Run, Packet, GivenAck, Fate, Lost, Served, in_
 abbrev pub most_packets : ℕ
 most_packets = most_flight * most_acks
 
--- the chances so far, and that of one more packet where it isn't lost
+-- the chances so far, and that of one more packet if it isn't lost
 abbrev pub with_chance : Fate → List ℕ → List ℕ
 with_chance Lost earlier = earlier
 with_chance (Served chance marked) earlier = earlier ++ chance ∷ []

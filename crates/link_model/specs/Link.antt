@@ -57,7 +57,7 @@ waiting times now [] = 0
 waiting times now (packet ∷ earlier) =
     if waits times now packet.fate then waiting times now earlier + 1 else waiting times now earlier
 
--- the number after a packet's chance, or this one where that is later
+-- the number after a packet's chance, or this one if that is later
 abbrev pub chance_past : Fate → ℕ → ℕ
 chance_past Lost from = from
 chance_past (Served chance marked) from = max (chance + 1) from
@@ -136,11 +136,11 @@ abbrev pub time_of : List GivenAck → ℕ
 time_of [] = 0
 time_of (given ∷ earlier) = given.ack.now
 
--- what later acknowledgements take from earlier ones: from this one, where it is the last
+-- what later acknowledgements take from earlier ones: from this one, if it is the last
 abbrev pub past_in : Ack → Past
 past_in ack = record { rtt_sample_us = ack.rtt_sample_us }
 
--- where nothing was acknowledged yet
+-- if nothing was acknowledged yet
 abbrev pub no_past : Past
 no_past = record { rtt_sample_us = 0 }
 
@@ -228,7 +228,7 @@ abbrev pub next_arrival : List Numbered → Next
 next_arrival [] = all_lost
 next_arrival (sent ∷ rest) = next_by sent.number sent.packet.sent_at sent.packet.fate (next_arrival rest)
 
--- that packet's acknowledgement, or where all are lost the timeout
+-- that packet's acknowledgement, or the timeout if all are lost
 abbrev pub answer_by : LinkCase → List Packet → List GivenAck → List Numbered → Next → GivenAck
 answer_by case packets givens flight (arrives number sent_at chance marked) = record {
   taking = packet_and_lost_below number;

@@ -83,7 +83,7 @@ sending case (suc more) standing = sending case more (with_packet case standing)
 
 -- ---- acknowledging
 
--- the acknowledgement of the first packet that isn't lost, or where there is none the timeout
+-- the acknowledgement of the first packet that isn't lost, or the timeout if there is none
 abbrev pub ack_by : LinkCase → Standing → Option Arrival → Ack
 ack_by case standing None =
     timeout_ack case (standing.time + case.timeout_us) standing.past standing.lost 0 standing.acked standing.sent

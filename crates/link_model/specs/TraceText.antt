@@ -82,7 +82,7 @@ first_fall number before (line ∷ rest) =
 abbrev pub fall_after : Option ℕ → TraceLine → ℕ → ℕ → Option ℕ
 fall_after fall line before number = option_or fall (if is_below line before then Some number else None)
 
--- refused at a line where there is one
+-- refused at a line if there is one
 abbrev pub unless_at : Option ℕ → (ℕ → TraceFault) → Result (List ℕ) TraceFault → Result (List ℕ) TraceFault
 unless_at (Some number) fault other = Err (fault number)
 unless_at None fault other = other

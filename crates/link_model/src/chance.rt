@@ -46,19 +46,19 @@ impl Trace {
 
     /// The chance after `coming`, with its time.
     #[inline(always)]
-    pub(crate) fn coming_after(&self, coming: Coming) -> Coming
+    pub(crate) fn next_chance(&self, coming: Coming) -> Coming
         requires coming { IsComing self.now coming }
         requires fits { chance_time self.now (chance_number self.now coming.chance + 1) < 2 ^ 64 }
         ensures coming { IsComing self.now result }
         ensures number { chance_number self.now result.chance ≡ chance_number self.now coming.chance + 1 }
     {
-        coming_after(self.as_slice(), coming)
+        next_chance(self.as_slice(), coming)
     }
 
-    /// The first chance at or after `now`, in microseconds, where `coming` is before it. Looks at the chance after
-    /// `coming` before it searches the trace.
+    /// The first chance at or after `now`, in microseconds, if `coming` is a chance before `now`. Looks at the chance
+    /// after `coming` before it searches the trace.
     #[inline(always)]
-    pub(crate) fn due(&self, coming: Coming, now: u64) -> Coming
+    pub(crate) fn first_due(&self, coming: Coming, now: u64) -> Coming
         requires valid { IsTrace self.now }
         requires coming { IsComing self.now coming }
         requires early { coming.at < now }
@@ -66,16 +66,16 @@ impl Trace {
         ensures coming { IsComing self.now result }
         ensures first { IsFirstChance self.now now 0 (chance_number self.now result.chance) }
     {
-        let after = self.coming_after(coming);
+        let after = self.next_chance(coming);
         if after.at >= now {
             return after;
         }
-        self.searched(now, coming.chance.place)
+        self.search(now, coming.chance.place)
     }
 
     /// The first chance at or after `now`, in microseconds. Looks at the place `near` first.
     #[inline(never)]
-    fn searched(&self, now: u64, near: usize) -> Coming
+    fn search(&self, now: u64, near: usize) -> Coming
         requires valid { IsTrace self.now }
         requires time { now + search_reach < 2 ^ 64 }
         ensures coming { IsComing self.now result }
@@ -88,13 +88,13 @@ impl Trace {
 
     /// How many chances there are from `from` on before `to`, which isn't before it.
     #[inline]
-    pub(crate) fn between(&self, from: Chance, to: Chance) -> u128
+    pub(crate) fn count_between(&self, from: Chance, to: Chance) -> u128
         requires from { from.place < length self.now }
         requires to { to.place < length self.now }
         requires order { chance_number self.now from ≤ chance_number self.now to }
         ensures { result ≡ chance_number self.now to - chance_number self.now from }
     {
-        between(self.as_slice(), from, to)
+        count_between(self.as_slice(), from, to)
     }
 
     /// The first chance at or after `at`, in microseconds. Goes straight to the turn of the trace in which that chance
@@ -160,7 +160,7 @@ fn after(times: &[u32], chance: Chance) -> Chance
 
 /// The chance after `coming`, with its time.
 #[inline(always)]
-fn coming_after(times: &[u32], coming: Coming) -> Coming
+fn next_chance(times: &[u32], coming: Coming) -> Coming
     requires valid { IsTrace times.now }
     requires coming { IsComing times.now coming }
     requires fits { chance_time times.now (chance_number times.now coming.chance + 1) < 2 ^ 64 }
@@ -187,7 +187,7 @@ fn coming_after(times: &[u32], coming: Coming) -> Coming
 
 /// How many chances there are from `from` on before `to`, which isn't before it.
 #[inline]
-fn between(times: &[u32], from: Chance, to: Chance) -> u128
+fn count_between(times: &[u32], from: Chance, to: Chance) -> u128
     requires from { from.place < length times.now }
     requires to { to.place < length times.now }
     requires order { chance_number times.now from ≤ chance_number times.now to }

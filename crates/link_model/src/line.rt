@@ -38,7 +38,7 @@ impl Line {
 
     /// The line at the time `now`, in microseconds, without the chances that are gone by then.
     #[inline(always)]
-    pub(crate) fn moved_to(self, trace: &Trace, now: u64) -> Line
+    pub(crate) fn move_to(self, trace: &Trace, now: u64) -> Line
         requires valid { IsTrace trace.now }
         requires line { IsLine trace.now now self }
         ensures line { IsLine trace.now now result }
@@ -47,14 +47,14 @@ impl Line {
     {
         let mut line = self;
         while line.waiting > 0 && line.later.at <= now {
-            line = line.past_one(trace, now);
+            line = line.pass_one(trace, now);
         }
         line
     }
 
     /// The line without its chance `later`, which is gone by at the time `now`.
     #[inline(always)]
-    fn past_one(self, trace: &Trace, now: u64) -> Line
+    fn pass_one(self, trace: &Trace, now: u64) -> Line
         requires valid { IsTrace trace.now }
         requires line { IsLine trace.now now self }
         requires some { 0 < self.waiting }
@@ -66,7 +66,7 @@ impl Line {
         let _ = now;
         Line {
             next: self.next,
-            later: trace.coming_after(self.later),
+            later: trace.next_chance(self.later),
             waiting: self.waiting - 1,
         }
     }
@@ -74,7 +74,7 @@ impl Line {
     /// The line whose next chance isn't before `now`, in microseconds: chances before then that no packet has are left
     /// out.
     #[inline(always)]
-    pub(crate) fn due(self, trace: &Trace, now: u64) -> Line
+    pub(crate) fn advance_to(self, trace: &Trace, now: u64) -> Line
         requires valid { IsTrace trace.now }
         requires line { IsLine trace.now now self }
         requires moved { IsMovedTo now self }
@@ -89,7 +89,7 @@ impl Line {
         if self.next.at >= now {
             return self;
         }
-        let next = trace.due(self.next, now);
+        let next = trace.first_due(self.next, now);
         Line {
             next,
             later: next,
@@ -99,7 +99,7 @@ impl Line {
 
     /// The line after a packet that was sent at `now`, in microseconds, got its next chance.
     #[inline(always)]
-    pub(crate) fn taken(self, trace: &Trace, now: u64) -> Line
+    pub(crate) fn take_chance(self, trace: &Trace, now: u64) -> Line
         requires valid { IsTrace trace.now }
         requires line { IsLine trace.now now self }
         requires moved { IsMovedTo now self }
@@ -111,7 +111,7 @@ impl Line {
         ensures next { chance_number trace.now result.next.chance ≡ chance_number trace.now self.next.chance + 1 }
         ensures order { self.next.at ≤ result.next.at }
     {
-        let next = trace.coming_after(self.next);
+        let next = trace.next_chance(self.next);
         if self.next.at > now {
             return Line {
                 next,

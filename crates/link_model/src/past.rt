@@ -7,7 +7,7 @@ use ccp_base::Ack;
 /// What later acknowledgements take from earlier ones.
 #[derive(Clone, Copy)]
 pub struct Past {
-    /// The last round-trip sample, in microseconds, 0 where there was none.
+    /// The last round-trip sample, in microseconds, 0 if there was none.
     pub rtt_sample_us: u64,
 }
 

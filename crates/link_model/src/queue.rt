@@ -17,7 +17,7 @@ pub struct Queue {
 }
 
 impl Trace {
-    /// The queue at `now`, in microseconds, where `next` is the chance after the last one that a packet got. Looks at the
+    /// The queue at `now`, in microseconds, if `next` is the chance after the last one that a packet got. Looks at the
     /// place `near` of the trace first. Any number may be `near`.
     #[inline(always)]
     pub fn queue(&self, next: Chance, now: u64, near: usize) -> Queue
@@ -25,7 +25,8 @@ impl Trace {
         requires fits { chance_time self.now (chance_number self.now next) < 2 ^ 64 }
         requires time { now + 1001 < 2 ^ 64 }
         ensures place { result.next.place < length self.now }
-        ensures next { chance_number self.now result.next ≡ max (chance_number self.now next) (first_chance self.now now 0) }
+        ensures next { chance_number self.now result.next
+            ≡ max (chance_number self.now next) (first_chance self.now now 0) }
         ensures waiting { result.waiting ≡ chance_number self.now next - first_chance self.now (now + 1) 0 }
     {
         let own = self.time_of(next);
@@ -33,7 +34,7 @@ impl Trace {
             let later = self.find_first_chance(now + 1, near);
             return Queue {
                 next,
-                waiting: self.between(later, next),
+                waiting: self.count_between(later, next),
                 near: later.place,
             };
         }

@@ -70,8 +70,8 @@ impl LinkCase {
         arrival_ack(self.mss, arrival, past, stay, acked, sent)
     }
 
-    /// The acknowledgement of a timeout at `now`, in microseconds, after `past`, if all `lost` packets in flight are lost
-    /// and `acked` packets were acknowledged of `sent` that were sent.
+    /// The acknowledgement of a timeout at `now`, in microseconds, after `past`, if all `lost` packets in flight are
+    /// lost and `acked` packets were acknowledged of `sent` that were sent.
     pub(crate) fn timeout_ack(&self, now: u64, past: Past, lost: u64, acked: u64, sent: u64) -> Ack
         requires acked { acked ≤ most_packets }
         requires sent { sent ≤ most_packets }
@@ -124,8 +124,8 @@ pub fn is_marked(mark: Option<u32>, queued: u128) -> bool
     }
 }
 
-/// The acknowledgement of `arrival`, a packet of `mss` bytes, after `past`, if `stay` packets stay in flight and `acked`
-/// packets were acknowledged, this one counted, of `sent` that were sent.
+/// The acknowledgement of `arrival`, a packet of `mss` bytes, after `past`, if `stay` packets stay in flight and
+/// `acked` packets were acknowledged, this one counted, of `sent` that were sent.
 #[inline]
 pub fn arrival_ack(mss: u32, arrival: Arrival, past: Past, stay: u64, acked: u64, sent: u64) -> Ack
     requires mss { mss ≤ most_segment_bytes }

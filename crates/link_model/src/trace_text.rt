@@ -86,7 +86,7 @@ pub(crate) fn read_lines(alloc: Global, text: &[u8]) -> Result<TraceReading, Tra
 fn trace_line(line: &[u8]) -> TraceLine
     ensures { result ≡ trace_line line.now }
 {
-    word_line(trimmed_end(trimmed_start(without_return(line))))
+    word_line(trim_end(trim_start(without_return(line))))
 }
 
 fn word_line(word: &[u8]) -> TraceLine
@@ -101,7 +101,7 @@ fn word_line(word: &[u8]) -> TraceLine
     }
 }
 
-fn trimmed_start(bytes: &[u8]) -> &[u8]
+fn trim_start(bytes: &[u8]) -> &[u8]
     ensures { result.now ≡ without_first_blanks bytes.now }
 {
     let mut rest = bytes;
@@ -114,7 +114,7 @@ fn trimmed_start(bytes: &[u8]) -> &[u8]
     rest
 }
 
-fn trimmed_end(bytes: &[u8]) -> &[u8]
+fn trim_end(bytes: &[u8]) -> &[u8]
     ensures { result.now ≡ without_last_blanks bytes.now }
 {
     let mut rest = bytes;

@@ -84,15 +84,15 @@ impl Traffic {
         if more == 0 {
             return;
         }
-        self.line = self.line.moved_to(&case.trace, self.time);
+        self.line = self.line.move_to(&case.trace, self.time);
         let mut left = more;
         while left > 0 {
             left = self.send_some(case, left);
         }
     }
 
-    /// Sends one of the `left` packets that are left to be sent, or all of them if the queue is full. Answers how many are
-    /// left then.
+    /// Sends one of the `left` packets that are left to be sent, or all of them if the queue is full. Answers how many
+    /// are left then.
     #[inline(always)]
     fn send_some(&mut self, case: &LinkCase, left: u64) -> u64
         requires kept { IsKept case.now self.old }
@@ -161,7 +161,7 @@ impl Traffic {
         ensures acked { self.new.acked ≡ self.old.acked }
         ensures calls { self.new.calls ≡ self.old.calls }
     {
-        let line = self.line.due(&case.trace, self.time);
+        let line = self.line.advance_to(&case.trace, self.time);
         let arrival = Arrival {
             lost: self.lost,
             sent_at: self.time,
@@ -172,10 +172,10 @@ impl Traffic {
         self.lost = 0;
         self.in_flight += 1;
         self.sent += 1;
-        self.line = line.taken(&case.trace, self.time);
+        self.line = line.take_chance(&case.trace, self.time);
     }
 
-    /// Acknowledges the first packet in flight that isn't lost, or times out where there is none.
+    /// Acknowledges the first packet in flight that isn't lost, or times out if there is none.
     #[inline(always)]
     pub(crate) fn acknowledge(&mut self, case: &LinkCase) -> Ack
         requires kept { IsKept case.now self.old }

@@ -71,7 +71,7 @@ fn report(epoch: u32, now: u64, acked: u64, loss: u64, inflight: u64) -> Told {
 }
 
 /// Tells an agent, compares its reply and its frame, and gives the agent after it.
-fn answered(rt: &impl Abort, before: Agent, told: Told, reply: Reply, frame: &[u8]) -> Agent {
+fn assert_answer(rt: &impl Abort, before: Agent, told: Told, reply: Reply, frame: &[u8]) -> Agent {
     let ticket = Ticket {
         flow: 3,
         number: 0,
@@ -105,15 +105,15 @@ fn answers_have_their_frames(rt: HostRuntime) {
         cwnd: 7240,
         cap: 7240,
     };
-    let agent = answered(&rt, agent, report(0, 1_000_000, 0, 1, 13_032), cut, &CHANGE);
-    let agent = answered(
+    let agent = assert_answer(&rt, agent, report(0, 1_000_000, 0, 1, 13_032), cut, &CHANGE);
+    let agent = assert_answer(
         &rt,
         agent,
         report(1, 1_020_000, 7240, 0, 7240),
         Reply::Update(8688),
         &UPDATE,
     );
-    let agent = answered(
+    let agent = assert_answer(
         &rt,
         agent,
         report(0, 1_030_000, 7240, 0, 7240),
@@ -125,5 +125,5 @@ fn answers_have_their_frames(rt: HostRuntime) {
         cwnd: 8688,
         cap: 7240,
     };
-    let _ = answered(&rt, agent, Told::Fault(FAULT), again, &AGAIN);
+    let _ = assert_answer(&rt, agent, Told::Fault(FAULT), again, &AGAIN);
 }

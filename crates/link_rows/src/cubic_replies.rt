@@ -1,6 +1,6 @@
 //! What CUBIC replies to reports and fault notices.
 use crate::long_flow::LONG;
-use crate::steps::{Answer, Event, Fields, NONE, assert_replies, role, told};
+use crate::steps::{Answer, Event, Fields, NONE, assert_opening, assert_replies, role, told};
 use Reply::{Change, Nothing, Update};
 use agent_core::Agent;
 use ccp_base::Reply;
@@ -248,16 +248,9 @@ const LONG_ANSWERS: [Answer; 30] = [
 
 #[test]
 fn cubic_answers_a_loss_and_grows_after_it(rt: HostRuntime) {
-    let agent = Cubic::new(1000, role(0), role(2));
-    assert!(rt;
-        agent.begin()
-            == Change {
-                program: 0,
-                cwnd: 4000,
-                cap: u64::MAX
-            }
-    );
-    assert_replies(&rt, Agent::Cubic(agent), &LOSS, &LOSS_ANSWERS);
+    let agent = Agent::Cubic(Cubic::new(1000, role(0), role(2)));
+    assert_opening(&rt, &agent, 4000);
+    assert_replies(&rt, agent, &LOSS, &LOSS_ANSWERS);
 }
 
 #[test]

@@ -128,7 +128,7 @@ fn next(rt: &impl Abort, link: &mut Link, window: u64) -> Ack {
 }
 
 /// Calls a link, and compares its acknowledgements.
-fn answers(rt: &impl Abort, link: Link, calls: &[Call]) {
+fn assert_answers(rt: &impl Abort, link: Link, calls: &[Call]) {
     let mut link = link;
     for call in calls {
         let ack = next(rt, &mut link, call.0);
@@ -146,7 +146,7 @@ fn packets_get_the_chances_of_the_trace(rt: HostRuntime) -> Result<(), Fail> {
         timeout_us: 200_000,
         mark: None,
     };
-    answers(&rt, link(rt.alloc(), b"1\n1\n3\n", &[], numbers)?, &CHANCES);
+    assert_answers(&rt, link(rt.alloc(), b"1\n1\n3\n", &[], numbers)?, &CHANCES);
     Ok(())
 }
 
@@ -159,7 +159,7 @@ fn a_packet_is_lost_and_the_next_one_served(rt: HostRuntime) -> Result<(), Fail>
         timeout_us: 200_000,
         mark: None,
     };
-    answers(&rt, link(rt.alloc(), b"1\n1\n3\n", &[0], numbers)?, &LISTED);
+    assert_answers(&rt, link(rt.alloc(), b"1\n1\n3\n", &[0], numbers)?, &LISTED);
     let mut again = link(rt.alloc(), b"1\n1\n3\n", &[0], numbers)?;
     let _ = next(&rt, &mut again, 1448);
     assert!(rt; next(&rt, &mut again, 1448) == SERVED);
@@ -175,7 +175,7 @@ fn a_full_queue_loses_packets(rt: HostRuntime) -> Result<(), Fail> {
         timeout_us: 1_000_000,
         mark: None,
     };
-    answers(&rt, link(rt.alloc(), b"10", &[], numbers)?, &FULL);
+    assert_answers(&rt, link(rt.alloc(), b"10", &[], numbers)?, &FULL);
     Ok(())
 }
 
@@ -188,7 +188,7 @@ fn a_packet_behind_others_is_marked(rt: HostRuntime) -> Result<(), Fail> {
         timeout_us: 200_000,
         mark: Some(1),
     };
-    answers(&rt, link(rt.alloc(), b"1\n1\n3\n", &[], numbers)?, &MARKED);
+    assert_answers(&rt, link(rt.alloc(), b"1\n1\n3\n", &[], numbers)?, &MARKED);
     let mut again = link(rt.alloc(), b"1\n1\n3\n", &[], numbers)?;
     let _ = next(&rt, &mut again, 2896);
     assert!(rt; next(&rt, &mut again, 2896).ecn_bytes == 1448);
@@ -204,6 +204,6 @@ fn ten_calls_are_those_by_hand(rt: HostRuntime) -> Result<(), Fail> {
         timeout_us: 100_000,
         mark: Some(2),
     };
-    answers(&rt, link(rt.alloc(), b"2\n4\n6\n", &[7], numbers)?, &TEN);
+    assert_answers(&rt, link(rt.alloc(), b"2\n4\n6\n", &[7], numbers)?, &TEN);
     Ok(())
 }

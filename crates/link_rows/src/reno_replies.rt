@@ -1,6 +1,6 @@
 //! What Reno replies to reports and fault notices.
 use crate::long_flow::LONG;
-use crate::steps::{Answer, Event, Fields, NONE, assert_replies, role};
+use crate::steps::{Answer, Event, Fields, NONE, assert_opening, assert_replies, role};
 use Reply::{Change, Nothing, Update};
 use agent_core::Agent;
 use ccp_base::Reply;
@@ -296,16 +296,9 @@ const LONG_ANSWERS: [Answer; 30] = [
 
 #[test]
 fn reno_answers_a_loss_and_a_timeout(rt: HostRuntime) {
-    let agent = Reno::new(1448, role(0), role(1));
-    assert!(rt;
-        agent.begin()
-            == Change {
-                program: 0,
-                cwnd: 4344,
-                cap: u64::MAX
-            }
-    );
-    assert_replies(&rt, Agent::Reno(agent), &LOSS, &LOSS_ANSWERS);
+    let agent = Agent::Reno(Reno::new(1448, role(0), role(1)));
+    assert_opening(&rt, &agent, 4344);
+    assert_replies(&rt, agent, &LOSS, &LOSS_ANSWERS);
 }
 
 #[test]

@@ -101,6 +101,16 @@ pub(crate) fn told(event: &Event, cwnd: u64) -> Told {
     }
 }
 
+/// Asserts that an agent starts its flow with program 0 and this window, without a cap.
+pub(crate) fn assert_opening(rt: &impl Abort, agent: &Agent, cwnd: u64) {
+    let opening = Reply::Change {
+        program: 0,
+        cwnd,
+        cap: u64::MAX,
+    };
+    assert!(rt; agent.begin() == opening);
+}
+
 /// Tells an agent event by event, and compares its replies.
 pub(crate) fn assert_replies<const N: usize>(
     rt: &impl Abort,

@@ -33,7 +33,7 @@ const REFUSED: [(&[u8], TraceFault); 16] = [
     (b"1\n18446744073709551617\n", TraceFault::BadLine(2)),
 ];
 
-fn is_read(rt: &impl Abort, alloc: Global, text: &[u8], times: &[u32]) -> Result<(), Fail> {
+fn assert_read(rt: &impl Abort, alloc: Global, text: &[u8], times: &[u32]) -> Result<(), Fail> {
     let trace = Trace::read(alloc, text)?;
     assert!(rt; trace.as_slice() == times);
     let copy = trace.copy(alloc)?;
@@ -52,7 +52,7 @@ fn refusal(alloc: Global, text: &[u8]) -> Option<TraceFault> {
 #[test]
 fn trace_texts_are_read(rt: HostRuntime) -> Result<(), Fail> {
     for (text, times) in READ {
-        is_read(&rt, rt.alloc(), text, times)?;
+        assert_read(&rt, rt.alloc(), text, times)?;
     }
     Ok(())
 }

@@ -24,7 +24,8 @@ pub fn put_last_line(
     counts: Counts,
     end: &End,
 ) -> Result<(), NoMemory>
-    ensures { OnOk result (text.new ≡ text.old ++ last_line fields.now counts.reports counts.held counts.faults end.now) }
+    ensures { OnOk result (text.new
+        ≡ text.old ++ last_line fields.now counts.reports counts.held counts.faults end.now) }
 {
     put_end_head(alloc, text, counts.reports, end)?;
     let middle = format!(in alloc; " held={} faults={}", counts.held, counts.faults)?;

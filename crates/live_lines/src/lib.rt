@@ -1,4 +1,5 @@
-//! The lines of a live text, each over the values that it shows: a run's books and the judge of its text both write them.
+//! The lines of a live text, each over the values that it shows: a run's books and the judge of its text both write
+//! them.
 #![tactic(auto)]
 
 mod ends;

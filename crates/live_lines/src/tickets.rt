@@ -31,7 +31,8 @@ fn put_content(
     programs: &[(u32, Built)],
     ticket: &TicketLine,
 ) -> Result<(), NoMemory>
-    ensures { OnOk result (text.new ≡ text.old ++ told_text (sources_of programs.now) ticket.now.told (answer_text ticket.now)) }
+    ensures { OnOk result (text.new
+        ≡ text.old ++ told_text (sources_of programs.now) ticket.now.told (answer_text ticket.now)) }
 {
     match &ticket.told {
         Told::Report(report) => {

@@ -34,7 +34,7 @@ const ONCE_A_ROUND: &str = "(when (> Micros Report.rtt) (report) (:= Micros 0))\
 const TWICE_A_ROUND: &str = "(when (> Micros (/ Report.rtt 2)) (report) (:= Micros 0))\n";
 
 /// The parts one after another.
-fn joined(alloc: Global, parts: &[&str]) -> Result<Bytes, Fail> {
+fn join(alloc: Global, parts: &[&str]) -> Result<Bytes, Fail> {
     let mut text = Bytes::new(alloc);
     for part in parts {
         text.extend(part.as_bytes())?;
@@ -46,11 +46,11 @@ fn joined(alloc: Global, parts: &[&str]) -> Result<Bytes, Fail> {
 fn built_in_texts(rt: HostRuntime) -> Result<(), Fail> {
     let alloc = rt.alloc();
     let controls = "  (cap +infinity) (mss 1))\n";
-    let slow_start = joined(alloc, &[FIELDS, controls, FOLD, GROWTH, ONCE_A_ROUND])?;
+    let slow_start = join(alloc, &[FIELDS, controls, FOLD, GROWTH, ONCE_A_ROUND])?;
     assert!(rt; builtin(0) == slow_start.as_slice());
-    let avoidance = joined(alloc, &[FIELDS, "  )\n", FOLD, ONCE_A_ROUND])?;
+    let avoidance = join(alloc, &[FIELDS, "  )\n", FOLD, ONCE_A_ROUND])?;
     assert!(rt; builtin(1) == avoidance.as_slice());
-    let cubic = joined(alloc, &[FIELDS, "  )\n", FOLD, TWICE_A_ROUND])?;
+    let cubic = join(alloc, &[FIELDS, "  )\n", FOLD, TWICE_A_ROUND])?;
     assert!(rt; builtin(2) == cubic.as_slice());
     Ok(())
 }

@@ -42,13 +42,13 @@ fn meant(
     program.mean(alloc, env, ack, room)
 }
 
-/// An answer is this, and the first field is so after it.
-fn is_met(rt: &impl Abort, mean: &Mean, after: &Env, want: &Mean, field: u64) {
+/// Asserts an answer and the first field after it.
+fn assert_met(rt: &impl Abort, mean: &Mean, after: &Env, want: &Mean, field: u64) {
     assert!(rt; *mean == *want && after.fields.as_slice() == [field].as_slice());
 }
 
-/// The environment after an acknowledgement of 1,500 bytes, which is answered so.
-fn goes_on(
+/// The environment after an acknowledgement of 1,500 bytes. Asserts its answer and the first field.
+fn assert_goes_on(
     rt: &impl Abort,
     alloc: Global,
     program: &Program,
@@ -63,28 +63,28 @@ fn goes_on(
     let mut ack = Ack::default();
     ack.bytes_acked = 1500;
     let (mean, after) = meant(alloc, program, env, &ack, room)?;
-    is_met(rt, &mean, &after, want, field);
+    assert_met(rt, &mean, &after, want, field);
     Ok(after)
 }
 
 /// Nothing but the field was written.
-fn is_unwritten(rt: &impl Abort, env: &Env) {
+fn assert_unwritten(rt: &impl Abort, env: &Env) {
     assert!(rt; env.cwnd == 0 && env.rate == 0 && env.zero == 0);
 }
 
-/// The second of two acknowledgements is reported, or held where there is no room, and the third one is counted anew.
-fn counts(rt: &impl Abort, alloc: Global, program: &Program, start: &Env) -> Result<(), Fail>
+/// The second of two acknowledgements is reported, or held if there is no room, and the third one is counted anew.
+fn assert_counts(rt: &impl Abort, alloc: Global, program: &Program, start: &Env) -> Result<(), Fail>
     requires { IsEnvOf (form_of program.now) start.now }
 {
-    let once = goes_on(rt, alloc, program, start, true, &Mean::Quiet, 1500)?;
-    let kept = goes_on(rt, alloc, program, &once, false, &Mean::Held, 3000)?;
+    let once = assert_goes_on(rt, alloc, program, start, true, &Mean::Quiet, 1500)?;
+    let kept = assert_goes_on(rt, alloc, program, &once, false, &Mean::Held, 3000)?;
     drop(kept);
     let report = Mean::Reported(Values::from_slice(&[3000]));
-    let twice = goes_on(rt, alloc, program, &once, true, &report, 0)?;
+    let twice = assert_goes_on(rt, alloc, program, &once, true, &report, 0)?;
     drop(once);
-    let thrice = goes_on(rt, alloc, program, &twice, true, &Mean::Quiet, 1500)?;
+    let thrice = assert_goes_on(rt, alloc, program, &twice, true, &Mean::Quiet, 1500)?;
     drop(twice);
-    is_unwritten(rt, &thrice);
+    assert_unwritten(rt, &thrice);
     drop(thrice);
     Ok(())
 }
@@ -93,7 +93,7 @@ fn counts(rt: &impl Abort, alloc: Global, program: &Program, start: &Env) -> Res
 fn two_acknowledgements_make_a_report(rt: HostRuntime) -> Result<(), Fail> {
     let program = program(rt.alloc(), COUNTING)?;
     let start = started(rt.alloc(), &program, &Fields::new(), 0, 0, 0)?;
-    counts(&rt, rt.alloc(), &program, &start)
+    assert_counts(&rt, rt.alloc(), &program, &start)
 }
 
 #[test]

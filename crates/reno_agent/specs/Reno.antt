@@ -17,7 +17,7 @@
 -- - loss events are distinguished by time: what is lost or marked within one round-trip time of the last event belongs
 --   to it; a timeout ends that time;
 -- - the window isn't inflated while packets are retransmitted, nor deflated afterwards (steps 3 to 6 of 3.2);
--- - each timeout works the threshold out anew, also where the timer had retransmitted the same segment before;
+-- - each timeout works the threshold out anew, also if the timer had retransmitted the same segment before;
 -- - the datapath's program moves the window in slow start, up to the cap that a change names;
 -- - a fault of that program is answered by starting it anew with the agent's window, and a report or notice of
 --   another epoch is ignored.
@@ -93,7 +93,7 @@ after_loss r s =
       change_to Avoidance s.course cut cut,
     )
 
--- slow start ends where the window has reached the threshold (RFC 5681, section 3.1)
+-- slow start ends if the window has reached the threshold (RFC 5681, section 3.1)
 abbrev pub in_slow_start : Measurement → RenoState → Turn
 in_slow_start r s =
     if nat_le s.ssthresh r.cwnd then (record s { course = course_after Avoidance s.course }, change_to Avoidance s.course s.window s.ssthresh)

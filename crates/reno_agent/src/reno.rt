@@ -31,11 +31,23 @@ impl Model for Reno {
 
     ghost Value = { RenoState };
 
-    ghost view = { λ r. record { mss = r.mss; course = r.course; window = r.window; ssthresh = r.ssthresh; calm = r.calm } };
+    ghost view = { λ r. record {
+      mss = r.mss;
+      course = r.course;
+      window = r.window;
+      ssthresh = r.ssthresh;
+      calm = r.calm;
+    } };
 
     ghost invariant = { λ r. IsInRange r.mss r.window };
 
-    ghost inverse = { λ s. record { mss = s.mss; course = s.course; window = s.window; ssthresh = s.ssthresh; calm = s.calm } };
+    ghost inverse = { λ s. record {
+      mss = s.mss;
+      course = s.course;
+      window = s.window;
+      ssthresh = s.ssthresh;
+      calm = s.calm;
+    } };
 }
 
 impl Reno {
@@ -197,7 +209,7 @@ impl Reno {
             .change(Phase::Avoidance, self.window, self.ssthresh)
     }
 
-    /// Slow start ends where the window has reached the threshold (RFC 5681, section 3.1).
+    /// Slow start ends if the window has reached the threshold (RFC 5681, section 3.1).
     fn in_slow_start(&mut self, measurement: Measurement) -> Reply
         ensures { (self.new, result) ≡ in_slow_start measurement self.old }
     {

@@ -29,6 +29,6 @@ end_tail fields end =
     span_text end ⧺ codes " stopped=" ⧺ yes_or_no end.stopped
     ⧺ window_text end.cwnd end.rate ⧺ fields_text fields end.fields ⧺ codes "\n"
 
--- the line where nothing stands between its two parts
+-- the line if nothing stands between its two parts
 abbrev pub end_line : List Decl → ℕ → End → List ℕ
 end_line fields reports end = end_head reports end ⧺ end_tail fields end

@@ -1,4 +1,4 @@
--- The definitions of report_lines, a file each.
+-- The definitions of report_lines, a file each. Public contracts cite all.
 pub mod FieldsText
 pub mod FlowLine
 pub mod ReportLine

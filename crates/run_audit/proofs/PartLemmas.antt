@@ -1,4 +1,4 @@
--- What is left after a part is so exactly where the text begins with the part of a legal and complete word.
+-- What is left after a part is so exactly if the text begins with the part of a legal and complete word.
 use Rattle.std.proofs.Common.{◌≡◌, ℕ, ◌^◌, ◌<◌, Bool, true, false, ◌&&◌, Option, Some, None, List, ◌++◌, refl, ap, sym, ◌∙◌, arith, cond, append_assoc}
 use Rattle.flow_core.specs.declared.case.Case.{Case}
 use Rattle.flow_core.specs.declared.letter.Letter.{Letter}
@@ -14,7 +14,7 @@ use Rattle.run_audit.proofs.FrontLemmas.{after-front, after-is}
 use Rattle.run_audit.proofs.LineReadings.{HasPlainNames, account-marks}
 use Rattle.run_audit.proofs.WorldMarks.{forced_tickets, tickets-within}
 
-some_same : {X : Type 0} {a b : X} → Some a ≡ Some b → a ≡ b
+pub some_same : {X : Type 0} {a b : X} → Some a ≡ Some b → a ≡ b
 some_same e = cc
 
 module _ (sources : Sources) (case : Case) where

@@ -8,7 +8,7 @@ use Rattle.run_audit.specs.declared.verdict.Verdict.TheVariants.{Yes, No}
 use Rattle.run_audit.specs.Audit.{AreWordsOf, with_words, IsLiveText, BeginsWithLiveText, IsNot, IsVerdict}
 use Rattle.run_audit.specs.PartLeft.{part_left, judged}
 use Rattle.run_audit.proofs.LineReadings.{HasPlainNames}
-use Rattle.run_audit.proofs.PartLemmas.{HasPart, part_of_word, left-of_part, part-of_left}
+use Rattle.run_audit.proofs.PartLemmas.{some_same, HasPart, part_of_word, left-of_part, part-of_left}
 
 module _ (sources : Sources) (named : HasPlainNames sources) where
   -- after this many parts
@@ -19,9 +19,6 @@ module _ (sources : Sources) (named : HasPlainNames sources) where
   -- what of a text that begins with the parts of a case and more is left after the first
   left_first : (case : Case) (text left rest : List ℕ) → part_left sources case text ≡ Some left → HasPart sources case text rest → left ≡ rest
   left_first case text left rest is has = some_same (sym is ∙ left-of_part sources case named text rest has)
-    where
-      some_same : {X : Type 0} {a b : X} → Some a ≡ Some b → a ≡ b
-      some_same e = cc
 
   none_left : (case : Case) (text rest : List ℕ) → part_left sources case text ≡ None → HasPart sources case text rest → ⊥
   none_left case text rest is has = none_some (sym is ∙ left-of_part sources case named text rest has)

@@ -1,5 +1,5 @@
 -- The words are determined by the text, and so is the verdict.
-use Rattle.std.proofs.Common.{◌≡◌, ℕ, ◌≤◌, Some, List, [], ◌∷◌, ◌++◌, refl, ap, sym, ◌∙◌, arith, append_assoc}
+use Rattle.std.proofs.Common.{◌≡◌, ℕ, ◌≤◌, List, [], ◌∷◌, ◌++◌, refl, ap, sym, ◌∙◌, arith, append_assoc}
 use Rattle.flow_core.specs.declared.case.Case.{Case}
 use Rattle.flow_core.specs.declared.letter.Letter.{Letter}
 use Rattle.flow_core.specs.Words.{world}
@@ -13,10 +13,7 @@ use Rattle.run_audit.specs.Marks.{text_marks}
 use Rattle.run_audit.specs.PartLeft.{body_text}
 use Rattle.run_audit.proofs.FrontLemmas.{after-front}
 use Rattle.run_audit.proofs.LineReadings.{HasPlainNames}
-use Rattle.run_audit.proofs.PartLemmas.{part_of_word, word_read}
-
-some_same : {X : Type 0} {a b : X} → Some a ≡ Some b → a ≡ b
-some_same e = cc
+use Rattle.run_audit.proofs.PartLemmas.{some_same, part_of_word, word_read}
 
 -- one text follows a front
 same_rest : (front rest other : List ℕ) → front ++ rest ≡ front ++ other → rest ≡ other

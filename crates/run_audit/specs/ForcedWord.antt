@@ -1,4 +1,4 @@
--- The word that the letters of tickets force, where each stands at a number of acknowledgements.
+-- The word that the letters of tickets force if each stands at a number of acknowledgements.
 use Rattle.std.specs.Prelude.{ℕ, ◌-◌, ◌&&◌, nat_le, Option, Some, None, if◌then◌else◌, List, [], ◌∷◌, ◌++◌, replicate}
 use Rattle.flow_core.specs.declared.letter.Letter.{Letter}
 use Rattle.flow_core.specs.declared.letter.Letter.TheVariants.{A}

@@ -20,7 +20,7 @@ ticket_marks (ticket ∷ rest) = marks_at ticket.taken ticket.answered ++ ticket
 
 -- ---- of lines
 
--- what follows the first place where a line has this name
+-- what follows the first place at which a line has this name
 abbrev pub past : List ℕ → List ℕ → Option (List ℕ)
 past name [] = None
 past name (byte ∷ rest) =
@@ -44,7 +44,7 @@ marks_if (Some taken) (Some answered) = marks_at taken answered
 marks_if (Some taken) None = []
 marks_if None answered = []
 
--- where a line says when a ticket was taken and answered, these two
+-- if a line says when a ticket was taken and answered, these two
 abbrev pub marks_in : List ℕ → List Mark
 marks_in line = marks_if (number_by (codes "taken=") line) (number_by (codes "answered=") line)
 

@@ -39,7 +39,7 @@ abbrev pub body_left : Sources → Case → Option (List ℕ) → Option (List �
 body_left sources case None = None
 body_left sources case (Some body) = word_left sources case body (forced_word case.acks (text_marks body))
 
--- what is left of a text after the part of a case; None where it doesn't begin with one
+-- what is left of a text after the part of a case; None if it doesn't begin with one
 abbrev pub part_left : Sources → Case → List ℕ → Option (List ℕ)
 part_left sources case text = body_left sources case (text_after (flow_line case.flow case.name case.agent) text)
 

@@ -49,7 +49,8 @@ fn strip_from_tickets<'a>(
     programs: &[(u32, Built)],
     account: &FlowAccount,
 ) -> Result<Option<&'a [u8]>, NoMemory>
-    ensures { IfOk result (IsLeftAfter (text_from_tickets (sources_of programs.now) (account_in account.now)) text.now) }
+    ensures { IfOk result
+        (IsLeftAfter (text_from_tickets (sources_of programs.now) (account_in account.now)) text.now) }
 {
     match strip_tickets(alloc, text, programs, account.tickets.as_slice())? {
         None => Ok(None),

@@ -18,7 +18,7 @@ use scenario_json::Scenario;
 use std::alloc::Global;
 
 /// Judges a text as the live text of a scenario, by the meaning of the programs' sources. The scenario has at most 64
-/// cases, and each program that a case's roles name is among its programs, where that role's code simulates it.
+/// cases, and each program that a case's roles name is among its programs, and that role's code simulates it.
 pub fn audit(alloc: Global, scene: &Scenario, text: &[u8]) -> Result<Verdict, NoMemory>
     requires few { length scene.now.cases ≤ most_flows }
     requires sourced { All (IsSourced scene.now.programs) scene.now.cases }

@@ -50,7 +50,7 @@ fn put_marks(marks: &mut Marks, line: &[u8]) -> Result<(), NoMemory>
 fn number_by(line: &[u8], name: &[u8]) -> Option<u64>
     ensures { result ≡ number_by name.now line.now }
 {
-    first_number(past(line, name)?)
+    first_number(after_name(line, name)?)
 }
 
 /// The first word of a text as a number.
@@ -64,8 +64,8 @@ fn first_number(text: &[u8]) -> Option<u64>
     numeral(word)
 }
 
-/// What follows the first place where a line has this name.
-fn past<'a>(line: &'a [u8], name: &[u8]) -> Option<&'a [u8]>
+/// What follows the first place at which a line has this name.
+fn after_name<'a>(line: &'a [u8], name: &[u8]) -> Option<&'a [u8]>
     ensures { bytes_found result ≡ past name.now line.now }
 {
     let mut left = line;

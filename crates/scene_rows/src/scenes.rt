@@ -49,7 +49,7 @@ fn numbered(alloc: Global, more: &str) -> Result<String, Fail> {
     first_programs(alloc, text.as_bytes())
 }
 
-/// Members of a case, and the numbers of its programs where `z` and `b` are named in this order.
+/// Members of a case, and the numbers of its programs if `z` and `b` are named in this order.
 const NUMBERED: [(&str, &str); 5] = [
     ("", "0 1"),
     (",\"agent\":\"cubic\"", "0 2"),
@@ -90,7 +90,7 @@ fn is_copied(alloc: Global, case: &OpenCase) -> Result<bool, Fail> {
 }
 
 /// Asserts what a case says, and that its copy is equal to it.
-fn says(rt: &impl Abort, alloc: Global, case: &OpenCase, want: &str) -> Result<(), Fail> {
+fn assert_says(rt: &impl Abort, alloc: Global, case: &OpenCase, want: &str) -> Result<(), Fail> {
     let word = open_word(alloc, case)?;
     assert!(rt; word.as_str() == want);
     assert!(rt; is_copied(alloc, case)?);
@@ -98,12 +98,12 @@ fn says(rt: &impl Abort, alloc: Global, case: &OpenCase, want: &str) -> Result<(
 }
 
 /// Asserts what the two cases of `STEPS` say, and that one isn't equal to the other.
-fn say_steps(rt: &impl Abort, alloc: Global, cases: &[OpenCase]) -> Result<(), Fail> {
+fn assert_steps(rt: &impl Abort, alloc: Global, cases: &[OpenCase]) -> Result<(), Fail> {
     let [first, second] = cases else {
         return Err(Fail::from("two cases"));
     };
-    says(rt, alloc, first, "0 a 0 4344 1448|(def)|(def) (when x)")?;
-    says(rt, alloc, second, "1 b 2 0 1448|(def) (when x)")?;
+    assert_says(rt, alloc, first, "0 a 0 4344 1448|(def)|(def) (when x)")?;
+    assert_says(rt, alloc, second, "1 b 2 0 1448|(def) (when x)")?;
     assert!(rt; !first.same(second));
     Ok(())
 }
@@ -114,7 +114,7 @@ const STEPS: &str =
 #[test]
 fn a_rollout_has_the_texts_of_its_steps(rt: HostRuntime) -> Result<(), Fail> {
     match rollout_scene(rt.alloc(), STEPS.as_bytes()) {
-        Ok(cases) => say_steps(&rt, rt.alloc(), cases.as_slice()),
+        Ok(cases) => assert_steps(&rt, rt.alloc(), cases.as_slice()),
         Err(_) => Err(Fail::from("cases")),
     }
 }

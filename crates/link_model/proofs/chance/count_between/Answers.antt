@@ -1,6 +1,6 @@
 use Rattle.std.proofs.Common.{◌*◌, length, ap, arith}
 use Rattle.link_model.proofs.ChanceLemmas.{turns_rise, turns_between}
-use Rattle.link_model.proofs.chance.between.Goals as goal
+use Rattle.link_model.proofs.chance.count_between.Goals as goal
 
 pub overflow_sub-result : goal.overflow_sub-result
 overflow_sub-result c =

@@ -1,7 +1,7 @@
 use Rattle.std.proofs.Common.{ap, arith}
 use Rattle.link_model.specs.Chances.{chance_time}
 use Rattle.link_model.proofs.LineLemmas.{due_soon}
-use Rattle.link_model.proofs.trace.Trace.searched.Goals as goal
+use Rattle.link_model.proofs.trace.Trace.search.Goals as goal
 
 pub time_of-at-requires-clause-fits : goal.time_of-at-requires-clause-fits
 time_of-at-requires-clause-fits c =

@@ -2,7 +2,7 @@ use Rattle.std.proofs.Common.{◌<◌, ◌≤◌, ◌+◌, length, ap, arith}
 use Rattle.link_model.specs.Chances.{chance_number, chance_time}
 use Rattle.link_model.proofs.ChanceLemmas.{chance_time_rises}
 use Rattle.link_model.proofs.LineLemmas.{turn_far_below, inside_number, inside_time, wrapped_number, wrapped_time}
-use Rattle.link_model.proofs.chance.coming_after.Goals as goal
+use Rattle.link_model.proofs.chance.next_chance.Goals as goal
 
 pub overflow_add-result : goal.overflow_add-result
 overflow_add-result c =
