@@ -24,6 +24,7 @@ use Rattle.flow_core.specs.Outbox.{OutboxState, report_words, ReportFits, AreSto
 use Rattle.flow_core.specs.Readings.{Flow, env_of, code_at, by_code, over_codes}
 use Rattle.flow_core.specs.ReportWords.{narrow, report_in}
 use Rattle.flow_core.specs.States.{outcome_by, some_count}
+use Rattle.flow_core.specs.World.{reporter}
 use Rattle.flow_core.specs.Summaries.{Summary, step_outcome, outcome_at, step_ack, next_telling, with_told, step_take, can_tell}
 use Rattle.flow_core.specs.Bares.{reports_in, summary_by, InRange, IsBare, step_note, step_machine, step_count, NotesBare, instructions_at}
 use Rattle.flow_core.specs.Cores.{acked_as, ran_by}
@@ -211,7 +212,7 @@ range-met case flow ack stopped env s left range =
 range-met case flow ack held env s left range =
     range-more case s (step_outcome flow ack (held, env) s) refl left (omega (arith, length-append s.waiting [])) (omega arith) (omega arith) range
 range-met case flow ack (reported fields) env s left range =
-    let report = report_of (record { flow = flow.number; program = s.program; number = s.epoch }) s.track ack env fields in
+    let report = report_of (reporter flow.number s.program s.epoch) s.track ack env fields in
     range-more case s (step_outcome flow ack (reported fields, env) s) refl left (omega (arith, length-append s.waiting (report ∷ []))) (omega arith) (omega arith) range
 range-met case flow ack (failed fault) env s left range =
     range-more case s (step_outcome flow ack (failed fault, env) s) refl left (omega (arith, length-append s.waiting [])) (omega arith) (omega arith) range
@@ -221,7 +222,7 @@ module _ (s : BareParts) (ack : Ack) (machine : MachineState) (outbox : OutboxSt
     (framed : machine ≡ record s.machine { further = machine.further })
     (lies : Lies machine.further outbox.slots (reports_in s.machine.further s.outbox.slots ++ report ∷ []))
     (untold : outbox.untold ≡ s.outbox.untold)
-    (is_report : report ≡ report_of (record { flow = s.case.flow; program = s.program; number = s.epoch }) (summary_by s).track ack (summary_by s).track.env s.machine.report)
+    (is_report : report ≡ report_of (reporter s.case.flow s.program s.epoch) (summary_by s).track ack (summary_by s).track.env s.machine.report)
     (is_first : first ≡ s.acks + 1) where
   abbrev pub put : BareParts
   put = record s { machine = machine; outbox = outbox; first = first }

@@ -17,7 +17,7 @@ use Rattle.link_model.specs.Link.{ack_after}
 use Rattle.flow_core.specs.declared.letter.Letter.{Letter}
 use Rattle.flow_core.specs.declared.letter.Letter.TheVariants.{A, T, C}
 use Rattle.flow_core.specs.Readings.{Flow}
-use Rattle.flow_core.specs.World.{Failure, Taken, World, track_of, has_room, with_met, after_ack, takeable, with_taken, after_take, told_as, with_turn, answer_applied, after_answer}
+use Rattle.flow_core.specs.World.{Failure, Taken, World, reporter, track_of, has_room, with_met, after_ack, takeable, with_taken, after_take, told_as, with_turn, answer_applied, after_answer}
 use Rattle.flow_core.specs.Words.{from_link, after_letter, can_take, is_legal}
 use Rattle.flow_core.specs.States.{some_count}
 use Rattle.flow_core.specs.LettersLeft.{letters_left}
@@ -32,7 +32,7 @@ module _ {X : Type 0} (flow : Flow X) where
   left-met ack room track quiet env w more =
       omega (arith, more, length-append w.acks (ack ∷ []), length-append w.waiting [])
   left-met ack room track (reported fields) env w more =
-      omega (arith, more, length-append w.acks (ack ∷ []), length-append w.waiting (report_of (record { flow = flow.number; program = w.present.program; number = length w.past }) track ack env fields ∷ []))
+      omega (arith, more, length-append w.acks (ack ∷ []), length-append w.waiting (report_of (reporter flow.number w.present.program (length w.past)) track ack env fields ∷ []))
   left-met ack room track held env w more =
       omega (arith, more, length-append w.acks (ack ∷ []), length-append w.waiting [])
   left-met ack room track (failed fault) env w more =

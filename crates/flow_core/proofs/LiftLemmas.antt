@@ -22,7 +22,7 @@ use Rattle.agent_core.specs.Agents.{opening_change, replied, course_of, values_o
 use Rattle.agent_core.proofs.ReplyLemmas.{replied-site}
 use Rattle.flow_core.specs.declared.case.Case.{Case}
 use Rattle.flow_core.specs.Readings.{Flow, by_number, code_at, over_codes, over_sources}
-use Rattle.flow_core.specs.World.{Failure, Content, of_report, of_failure, Era, Taken, Answered, World, time_of, track_in, track_of, era_of, opening, failures_met, untold_after, with_met, has_room, after_ack, takeable, with_taken, with_reply, notice_of, told_as, with_turn, answer_applied, after_answer}
+use Rattle.flow_core.specs.World.{Failure, Content, of_report, of_failure, Era, Taken, Answered, World, time_of, track_in, track_of, era_of, opening, reporter, failures_met, untold_after, with_met, has_room, after_ack, takeable, with_taken, with_reply, notice_of, told_as, with_turn, answer_applied, after_answer}
 use Rattle.flow_core.specs.Lift.{Placing, place_in, map_failure, map_content, map_taken, map_answered, map_world}
 use Rattle.flow_core.proofs.SimulatedEpochs.{met_placed, heard-simulated, after-simulated, IsEnvOf-after, declared-simulated}
 use Rattle.flow_core.specs.declared.letter.Letter.{Letter}
@@ -98,7 +98,7 @@ module _ (case : Case) (ss ca : Form) (ss_places ca_places : List Place)
       ≡ with_met sources ack room track (met_placed (place w.present.program) (outcome, env)) (map_world place w)
   with_met-lifts ack room track outcome env w =
       let program = w.present.program in
-      let epoch : Epoch = record { flow = case.flow; program = program; number = length w.past } in
+      let epoch : Epoch = reporter case.flow program (length w.past) in
       let failures = failures_met program (length w.past) track.count ack (outcome, env) in
       let placed = failures-placed place program (length w.past) track.count ack outcome env in
       let untold = untold-placed place failures w.untold

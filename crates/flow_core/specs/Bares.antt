@@ -21,7 +21,7 @@ use Rattle.flow_core.specs.declared.bare.BareParts.{BareParts}
 use Rattle.flow_core.specs.declared.case.Case.{Case}
 use Rattle.flow_core.specs.declared.bare.Issued.{Issued}
 use Rattle.flow_core.specs.Readings.{Flow, env_of, code_at, over_codes}
-use Rattle.flow_core.specs.World.{notice_of}
+use Rattle.flow_core.specs.World.{reporter, failure_with, notice_of}
 use Rattle.flow_core.specs.Cores.{ran_by}
 use Rattle.flow_core.specs.declared.bare.First.{First}
 use Rattle.flow_core.specs.Opening.{opened_machine}
@@ -91,10 +91,10 @@ step_note flow ack stopped s = s
 step_note flow ack held s = record s { held = s.held + 1 }
 step_note flow ack (reported fields) s = record s {
   track = record s.track { first = s.track.count + 1 };
-  waiting = s.waiting ++ report_of (record { flow = flow.number; program = s.program; number = s.epoch }) s.track ack s.track.env fields ∷ [];
+  waiting = s.waiting ++ report_of (reporter flow.number s.program s.epoch) s.track ack s.track.env fields ∷ [];
 }
 step_note flow ack (failed fault) s = record s {
-  untold = Some (notice_of flow (record { program = s.program; epoch = s.epoch; at = s.track.count; kind = fault.0; site = fault.1; now = ack.now; cwnd = s.track.env.cwnd }));
+  untold = Some (notice_of flow (failure_with s.program s.epoch s.track.count ack s.track.env.cwnd fault));
   faults = s.faults + 1;
 }
 

@@ -1,6 +1,7 @@
 -- The definitions of flow_core, a file each; files named ..Laws have what follows from them.
 pub mod Readings
 pub mod World
+pub mod Turns
 pub mod Cases
 pub mod Words
 pub mod Roomy

@@ -17,7 +17,7 @@ use Rattle.flow_core.specs.declared.letter.Letter.{Letter}
 use Rattle.flow_core.specs.declared.letter.Letter.TheVariants.{A, T, C}
 use Rattle.flow_core.specs.declared.bare.Issued.{Issued}
 use Rattle.flow_core.specs.Readings.{Flow}
-use Rattle.flow_core.specs.World.{Failure, World, track_of, time_of, failures_met, held_met, notice_of}
+use Rattle.flow_core.specs.World.{Failure, World, track_of, time_of, reporter, failures_met, held_met, notice_of}
 use Rattle.flow_core.specs.States.{issued_as}
 use Rattle.flow_core.specs.LiveText.{reports_told, report_count}
 use Rattle.flow_core.specs.Books.{ticket_line}
@@ -73,7 +73,7 @@ step_outcome flow ack met s =
       track = after_outcome met s.track;
       acks = s.acks + 1;
       time = ack.now;
-      waiting = s.waiting ++ reports_met (record { flow = flow.number; program = s.program; number = s.epoch }) s.track ack met.0 met.1;
+      waiting = s.waiting ++ reports_met (reporter flow.number s.program s.epoch) s.track ack met.0 met.1;
       untold = notice_after flow failures s.untold;
       faults = s.faults + length failures;
       held = s.held + held_met met.0;

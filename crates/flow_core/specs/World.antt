@@ -11,7 +11,7 @@ use Rattle.ccp_base.specs.declared.exchange.Told.TheVariants as told
 use Rattle.ccp_base.specs.FieldReg.{Pair}
 use Rattle.portus_core.specs.declared.env.Env.{Env}
 use Rattle.portus_core.specs.Epoch.{Event, acknowledged, updated, Outcome, quiet, reported, held, failed, stopped, Track, track_at, heard, after, with_values}
-use Rattle.portus_core.specs.Reports.{reports_met}
+use Rattle.portus_core.specs.Reports.{Epoch, reports_met}
 use Rattle.agent_core.specs.declared.agent.Agent.{Agent}
 use Rattle.agent_core.specs.Agents.{opening_change, replied, course_of, values_of}
 use Rattle.flow_core.specs.Readings.{Flow}
@@ -111,10 +111,18 @@ opening flow = record {
 
 -- ---- an acknowledgement
 
+-- whose reports those of a flow's epoch are
+abbrev pub reporter : ℕ → ℕ → ℕ → Epoch
+reporter flow program number = record { flow = flow; program = program; number = number }
+
+-- the fault of an acknowledgement with this window, in an epoch with this program and this number
+abbrev pub failure_with : {X : Type 0} → ℕ → ℕ → ℕ → Ack → ℕ → FaultKind × X → Failure X
+failure_with program epoch at ack cwnd fault =
+    record { program = program; epoch = epoch; at = at; kind = fault.0; site = fault.1; now = ack.now; cwnd = cwnd }
+
 -- the fault of an acknowledgement, or none
 abbrev pub failures_met : {X : Type 0} → ℕ → ℕ → ℕ → Ack → Outcome (FaultKind × X) × Env → List (Failure X)
-failures_met program epoch at ack (failed fault, env) =
-    record { program = program; epoch = epoch; at = at; kind = fault.0; site = fault.1; now = ack.now; cwnd = env.cwnd } ∷ []
+failures_met program epoch at ack (failed fault, env) = failure_with program epoch at ack env.cwnd fault ∷ []
 failures_met program epoch at ack (quiet, env) = []
 failures_met program epoch at ack (reported fields, env) = []
 failures_met program epoch at ack (held, env) = []
@@ -140,7 +148,7 @@ with_met flow ack room track met w =
       acks = w.acks ++ ack ∷ [];
       windows = w.windows ++ track.env.cwnd ∷ [];
       present = with_event (acknowledged ack room) w.present;
-      waiting = w.waiting ++ reports_met (record { flow = flow.number; program = w.present.program; number = length w.past }) track ack met.0 met.1;
+      waiting = w.waiting ++ reports_met (reporter flow.number w.present.program (length w.past)) track ack met.0 met.1;
       untold = untold_after failures w.untold;
       faults = w.faults ++ failures;
       held = w.held + held_met met.0;
@@ -188,18 +196,21 @@ with_reply flow agent (Change program cwnd cap) w =
       untold = None;
     }
 
--- a failure as its notice
-abbrev pub notice_of : {X : Type 0} → Flow X → Failure X → Notice
-notice_of flow failure = record {
-  flow = flow.number;
+-- a failure as its notice, for the flow with this number and by the index of each site
+abbrev pub notice_with : {X : Type 0} → ℕ → (X → ℕ) → Failure X → Notice
+notice_with flow index failure = record {
+  flow = flow;
   program = failure.program;
   epoch = failure.epoch;
   at = failure.at;
   kind = failure.kind;
-  index = flow.index failure.site;
+  index = index failure.site;
   now = failure.now;
   cwnd = failure.cwnd;
 }
+
+abbrev pub notice_of : {X : Type 0} → Flow X → Failure X → Notice
+notice_of flow failure = notice_with flow.number flow.index failure
 
 -- what the agent gets; a fault's site decides nothing
 abbrev pub told_as : {X : Type 0} → Flow X → Content X → Told

@@ -21,8 +21,9 @@ use crate::letter::Letter;
 use crate::machine_calls::{pop_told, put_report, run};
 use crate::opening::opening_machine;
 use crate::outbox::Outbox;
+use crate::turn::Turn;
 use agent_core::{Agent, Answer, Ticket};
-use ccp_base::{Ack, FaultKind, FieldReg, Fields, NoMemory, Notice, Reply, Report, Told};
+use ccp_base::{Ack, FaultKind, FieldReg, Fields, NoMemory, Notice, Reply, Told};
 use fold_machine::{Acked, Machine, Steps};
 use std::alloc::Global;
 use std::marker::{Brand, Model};
@@ -30,9 +31,9 @@ use std::sync::ledger::{Blank, Ledger};
 
 /// What the ticket that is out tells, and at how many acknowledgements it was taken.
 #[derive(Clone, Copy, Drop)]
-pub(crate) struct Issued {
-    pub(crate) told: Told,
-    pub(crate) taken: u32,
+pub struct Issued {
+    pub told: Told,
+    pub taken: u32,
 }
 
 /// What later letters depend on, part by part.
@@ -214,6 +215,18 @@ impl BareParts {
         }
     }
 
+    /// The place of the acknowledgement that is heard.
+    fn turn(&self) -> Turn
+        ensures { result ≡ record { flow = self.now.case.flow; program = self.now.program; epoch = self.now.epoch; at = self.now.acks } }
+    {
+        Turn {
+            flow: self.case.flow,
+            program: self.program,
+            epoch: self.epoch,
+            at: self.acks,
+        }
+    }
+
     /// Records the report that the machine made.
     fn put_down_report(&mut self, ack: &Ack)
         requires can { CanNote self.old }
@@ -222,20 +235,12 @@ impl BareParts {
         requires free { 0 < free_of self.old.machine.further }
         ensures { NotesBare self.old self.new ack.entry.now (reported self.old.machine.report) }
     {
-        let end = u64::from(self.acks) + 1;
-        let report = Report {
-            flow: self.case.flow,
-            program: self.program,
-            epoch: self.epoch,
-            first: self.first,
-            end,
-            now: ack.now,
-            cwnd: self.machine.cwnd(),
-            rate: self.machine.rate(),
-            fields: self.machine.reported(),
-        };
+        let turn = self.turn();
+        let fields = self.machine.reported();
+        let cwnd = self.machine.cwnd();
+        let report = turn.report(self.first, ack, cwnd, self.machine.rate(), &fields);
         put_report(&mut self.machine, &mut self.outbox, &report);
-        self.first = end;
+        self.first = report.end;
     }
 
     /// Records a fault of this kind at the instruction with this index.
@@ -243,16 +248,8 @@ impl BareParts {
         requires { CanNote self.old }
         ensures { NotesBare self.old self.new ack.entry.now (failed (kind, index)) }
     {
-        let notice = Notice {
-            flow: self.case.flow,
-            program: self.program,
-            epoch: self.epoch,
-            at: u64::from(self.acks),
-            kind,
-            index,
-            now: ack.now,
-            cwnd: self.machine.cwnd(),
-        };
+        let turn = self.turn();
+        let notice = turn.notice(ack, self.machine.cwnd(), kind, index);
         self.faults += 1;
         self.outbox.note(notice);
     }

@@ -14,8 +14,9 @@ mod opening;
 mod outbox;
 mod report_words;
 mod roomy;
+mod turn;
 
-pub use bare::Bare;
+pub use bare::{Bare, Issued};
 pub use book::{Book, EpochLine, Given, TicketLine};
 pub use case::{Case, Coded};
 pub use cell::Cell;
@@ -24,3 +25,4 @@ pub use letter::{Letter, Words};
 pub use outbox::Outbox;
 pub use report_words::REPORT_WORDS;
 pub use roomy::Roomy;
+pub use turn::Turn;
