@@ -27,7 +27,9 @@ impl CaseResult for Row {
 
     fn make(alloc: Global, case: Case) -> Result<Row, NoMemory> {
         let run = run_to_end(alloc, Linked::new(alloc, case)?)?;
-        Ok(run.row())
+        let row = run.row();
+        drop(run);
+        Ok(row)
     }
 }
 
@@ -47,6 +49,8 @@ impl CaseResult for Sequence<Ack> {
 
     fn make(alloc: Global, case: Case) -> Result<Acks, NoMemory> {
         let run = run_to_end(alloc, Listed::new(alloc, case)?)?;
-        Ok(run.flow.acks)
+        let Listed { linked, acks } = run.flow;
+        drop(linked);
+        Ok(acks)
     }
 }

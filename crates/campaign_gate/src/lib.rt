@@ -16,6 +16,7 @@ mod sums;
 mod workers;
 
 pub use calls::{Books, CaseAcks, Cases};
+pub use case_run::is_due;
 pub use laws::row_law;
 pub use row::{Column, Row, Rows};
 pub use sums::Sums;

@@ -22,9 +22,17 @@ impl Listed {
     pub(crate) fn new(alloc: Global, case: Case) -> Result<Listed, NoMemory>
         ensures { IfOk result (λ listed. listed ≡ listed_at (opened case)) }
     {
-        let acks = Acks::from_vec(Vec::with_capacity(alloc, case.acks as usize)?);
         let linked = Linked::new(alloc, case)?;
-        Ok(Listed { linked, acks })
+        match Vec::with_capacity(alloc, linked.bare.case().acks as usize) {
+            Ok(places) => Ok(Listed {
+                linked,
+                acks: Acks::from_vec(places),
+            }),
+            Err(_) => {
+                drop(linked);
+                Err(NoMemory)
+            }
+        }
     }
 }
 

@@ -9,6 +9,38 @@ use Rattle.shared_link.specs.Kept.{flow_under_way, with_one, fate_now, IsFlowKep
 use Rattle.shared_link.proofs.FlowsLemmas.{ready-set, room-set, follows-sent}
 use Rattle.shared_link.proofs.flows.Flows.send_one.Goals as goal
 
+pub returns-then-not-lacks-clause-ready : goal.returns-then-not-lacks-clause-ready
+returns-then-not-lacks-clause-ready c = c.requires.ready
+
+pub returns-then-not-lacks-clause-room : goal.returns-then-not-lacks-clause-room
+returns-then-not-lacks-clause-room c = c.requires.room
+
+pub returns-then-not-lacks-clause-follows : goal.returns-then-not-lacks-clause-follows
+returns-then-not-lacks-clause-follows c = λ sent givens follows.
+    let case = c.args.case.now in
+    let before = c.args.sending.now in
+    let none : false ≡ c.lacks.result = search rules in
+    subst (λ b. Follows case c.args.self.now.traffic.items before (cond b (with_packet case before.now c.args.flow sent) sent) givens)
+    (none ∙ c.lacks.ensures.lacks sent givens follows.traffic) follows
+
+pub send-requires-clause-kept : goal.send-requires-clause-kept
+send-requires-clause-kept c =
+    let case = c.args.case.now in
+    let f = c.args.flow in
+    let old = c.index_mut.result.now in
+    let ready = subst (λ (x : FlowTraffic). IsFlowReady (flow_link_at case f) c.args.sending.now.rounds x) (sym c.index_mut.ensures.value) (c.requires.ready.each f old c.requires.flow) in
+    subst (λ (l : FlowLink). IsFlowKept l old) (sym c.link_of.ensures) ready.kept
+
+pub send-requires-clause-sent : goal.send-requires-clause-sent
+send-requires-clause-sent c =
+    let case = c.args.case.now in
+    let f = c.args.flow in
+    let old = c.index_mut.result.now in
+    let ready = subst (λ (x : FlowTraffic). IsFlowReady (flow_link_at case f) c.args.sending.now.rounds x) (sym c.index_mut.ensures.value) (c.requires.ready.each f old c.requires.flow) in
+    let sent = ready.sent in
+    let few = ready.kept.few in
+    omega (arith, sent, few, c.requires.sending.rounds)
+
 pub send-requires-clause-room : goal.send-requires-clause-room
 send-requires-clause-room c =
     let t = c.index_mut.result.now in
