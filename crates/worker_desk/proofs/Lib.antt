@@ -1,5 +1,6 @@
 -- The lemmas of worker_desk, a file each.
 pub mod AttendingLemmas
+pub mod EquippingLawLemmas
 pub mod EquippingLemmas
 pub mod LocksLawLemmas
 pub mod ServingLawLemmas

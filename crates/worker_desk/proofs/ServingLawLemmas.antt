@@ -30,11 +30,11 @@ asks-served worker (flow ∷ row) (answer ∷ answers) =
 
 -- ---- how often a flow stands in a row
 
-abbrev one : Bool → ℕ
+abbrev pub one : Bool → ℕ
 one true = 1
 one false = 0
 
-abbrev times : ℕ → List ℕ → ℕ
+abbrev pub times : ℕ → List ℕ → ℕ
 times flow [] = 0
 times flow (head ∷ row) = one (head == flow) + times flow row
 
@@ -152,7 +152,7 @@ cons-tail x y xs ys same = cc
 no-cons : {X : Type 0} → (x : X) (xs : List X) → [] ≡ x ∷ xs → ⊥
 no-cons x xs same = cc
 
-most-one : (own : Bool) → one own ≤ 1
+pub most-one : (own : Bool) → one own ≤ 1
 most-one true = omega arith
 most-one false = omega arith
 
@@ -255,7 +255,7 @@ times-one : (flow number : ℕ) (here : Bool) → times flow (cond here (number 
 times-one flow number true = omega arith
 times-one flow number false = refl
 
-below-other : (flow number : ℕ) (below : Bool) → nat_lt flow number ≡ below → (number == flow) ≡ false → nat_lt flow (suc number) ≡ below
+pub below-other : (flow number : ℕ) (below : Bool) → nat_lt flow number ≡ below → (number == flow) ≡ false → nat_lt flow (suc number) ≡ below
 below-other flow number true is other = grind (arith, nat_tests)
 below-other flow number false is other = grind (arith, nat_tests)
 
@@ -270,7 +270,7 @@ one-more worker datapaths number flow false is =
     after-other (nat_lt flow number) ((flow % datapaths) == worker) ((number % datapaths) == worker) (number == flow) is
     ∙ ap (λ (below : Bool). one (below && ((flow % datapaths) == worker))) (sym (below-other flow number (nat_lt flow number) refl is))
 
-times-flows : (worker datapaths flows flow : ℕ) → times flow (flows_of_worker worker datapaths flows) ≡ one (is_of worker datapaths flows flow)
+pub times-flows : (worker datapaths flows flow : ℕ) → times flow (flows_of_worker worker datapaths flows) ≡ one (is_of worker datapaths flows flow)
 times-flows worker datapaths zero flow =
     let none : nat_lt flow 0 ≡ false = grind (arith, nat_tests) in
     ap (λ (below : Bool). one (below && ((flow % datapaths) == worker))) (sym none)

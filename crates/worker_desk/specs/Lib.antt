@@ -1,6 +1,7 @@
 -- The definitions of worker_desk, a file each.
 pub mod Attending
 pub mod Equipping
+pub mod EquippingLaw
 pub mod LocksLaw
 pub mod Logs
 pub mod Serving

@@ -1,4 +1,6 @@
-//! The laws of workers: which flows a datapath worker asks, and that each worker holds one lock at a time.
+//! The laws of workers: which flows a datapath worker asks, which texts an installer builds, and that each worker holds one
+//! lock at a time.
+ghost use Rattle.worker_desk.specs.EquippingLaw.{EquippingLaw};
 ghost use Rattle.worker_desk.specs.LocksLaw.{ServingKeepsLocks, AttendingKeepsLocks, EquippingKeepsLocks};
 ghost use Rattle.worker_desk.specs.ServingLaw.{ServingLaw};
 
@@ -7,6 +9,12 @@ ghost use Rattle.worker_desk.specs.ServingLaw.{ServingLaw};
 /// worker is sent a nudge after each report and each fault and at no other time.
 pub fn serving_law()
     ensures { ServingLaw }
+{}
+
+/// What an installer did, whatever came of the texts: it builds each step of each of its flows once, no step of another
+/// flow and no later step, and after a step it builds no earlier one, of whatever flow.
+pub fn equipping_law()
+    ensures { EquippingLaw }
 {}
 
 /// What each kind of worker did, whatever the answers were: it holds one lock at a time, does what it does to a flow under

@@ -19,5 +19,5 @@ pub use desk::Desk;
 pub use event::{Event, Heard};
 pub use install_desk::InstallDesk;
 pub use installer::run_installer;
-pub use laws::{locks_law, serving_law};
+pub use laws::{equipping_law, locks_law, serving_law};
 pub use receipt::{Attended, Duty, Equipped, Post, Served};
