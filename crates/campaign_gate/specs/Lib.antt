@@ -1,5 +1,5 @@
 -- The definitions of campaign_gate, a file each. Public contracts cite CampaignWord, CampaignRow, CampaignBooks, LiftedRow and
--- ReportsMade. Only the crate's own steps and their proofs need CaseRuns, LinkedFlows, Shares and Parts.
+-- ReportsMade, and `is_due` cites CaseRuns too. Only the crate's own steps and their proofs need LinkedFlows, Shares and Parts.
 pub mod CampaignWord
 pub mod CampaignRow
 pub mod CaseRuns

@@ -1,7 +1,6 @@
 -- The lemmas of shared_run, a file a topic.
 pub mod PeakLemmas
 pub mod TurnLemmas
-pub mod DueLemmas
 pub mod OnWayLemmas
 pub mod LikeFlows
 pub mod LiftedFlowLemmas

@@ -1,4 +1,4 @@
--- One more letter may raise the greatest window, and acknowledgements past those that a word takes don't.
+-- Acknowledgements past those that a word takes don't raise its greatest window.
 use Rattle.std.specs.Prelude.{◌≡◌, ◌≤◌, ℕ, max, Option, Some, List, [], ◌∷◌, ◌++◌, length, refl}
 use Rattle.std.proofs.Common.{arith, ap, sym, ◌∙◌, append_assoc}
 use Rattle.ccp_base.specs.declared.ack.Ack.{Ack}
@@ -6,26 +6,12 @@ use Rattle.flow_core.specs.declared.letter.Letter.{Letter}
 use Rattle.flow_core.specs.declared.letter.Letter.TheVariants.{A, T, C}
 use Rattle.flow_core.specs.Readings.{Flow}
 use Rattle.flow_core.specs.World.{World, opening, after_ack, after_take, after_answer}
-use Rattle.flow_core.specs.Words.{Giving, from_list, with_given, after_letter, world_from}
+use Rattle.flow_core.specs.Words.{from_list, with_given, after_letter}
 use Rattle.flow_core.specs.WordLaws.{acks_in}
 use Rattle.flow_core.proofs.WordLemmas.{take-keeps, answer-keeps, next-given}
 use Rattle.campaign_gate.specs.CampaignRow.{window_of, peak_from}
 
-max-assoc : (a b c : ℕ) → max a (max b c) ≡ max (max a b) c
-max-assoc a b c = omega arith
-
 module _ {X : Type 0} (flow : Flow X) where
-  -- the greatest window of a word and one more letter
-  pub peak-append : (giving : Giving X) (word : List Letter) (letter : Letter) (w : World X)
-      → peak_from flow giving w (word ++ letter ∷ [])
-      ≡ max (peak_from flow giving w word) (window_of flow (world_from flow giving w (word ++ letter ∷ [])))
-  peak-append giving [] letter w = refl
-  peak-append giving (first ∷ word) letter w =
-      let next = after_letter flow giving w first in
-      ap (λ (n : ℕ). max (window_of flow w) n) (peak-append giving word letter next)
-      ∙ max-assoc (window_of flow w) (peak_from flow giving next word)
-      (window_of flow (world_from flow giving next (word ++ letter ∷ [])))
-
   peak-more-from : (acks more : List Ack) (word : List Letter) (w : World X) (rest : List Ack)
       → acks ≡ w.acks ++ rest → acks_in word ≤ length rest
       → peak_from flow (from_list (acks ++ more)) w word ≡ peak_from flow (from_list acks) w word

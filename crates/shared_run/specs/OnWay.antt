@@ -1,22 +1,18 @@
 -- A flow between two letters: what is kept beside it, and what a turn changes of it.
 use Rattle.std.specs.Prelude.{◌≡◌, ◌≤◌, ℕ, Bool, true, false, Some, None, length}
-use Rattle.std.specs.Option.{ForSome}
 use Rattle.flow_core.specs.declared.letter.Letter.{Letter}
 use Rattle.flow_core.specs.declared.letter.Letter.TheVariants.{T}
 use Rattle.flow_core.specs.Words.{is_legal}
 use Rattle.flow_core.specs.Readings.{over_codes}
-use Rattle.flow_core.specs.World.{Taken}
 use Rattle.flow_core.specs.WordLaws.{acks_in}
 use Rattle.flow_core.specs.Cores.{CoreState}
 use Rattle.shared_run.specs.RoundLetters.{world_of_core, with_letter, settling_letter}
 use Rattle.shared_run.specs.FlowRow.{peak_of}
 
--- the word has all acknowledgements, which are no more than the case's; where a ticket is out it was taken at this count
--- of them; and this was the greatest window
-pub record IsOnWay (core : CoreState) (count greatest : ℕ) : Type 0 where
+-- the word has all acknowledgements, which are no more than the case's, and this was the greatest window
+pub record IsOnWay (core : CoreState) (greatest : ℕ) : Type 0 where
   pub all : acks_in core.word ≡ length core.acks
   pub within : length core.acks ≤ core.case.acks
-  pub taken : ForSome (world_of_core over_codes core).out (λ (ticket : Taken ℕ). ticket.taken ≡ count)
   pub peak : greatest ≡ peak_of over_codes core
 
 -- a ticket was taken where it is legal, and else nothing was changed

@@ -10,7 +10,7 @@ ghost use Rattle.shared_run.specs.LiftedFlow.{FlowHoldsForSources};
 ghost use Rattle.shared_run.specs.OnWay.{MakesNext, Took};
 
 use agent_core::calls::answer;
-use campaign_gate::{Row, Sums};
+use campaign_gate::{Row, Sums, is_due};
 use ccp_base::{Ack, NoMemory};
 use flow_core::{Case, Core, Given, Letter};
 use std::alloc::Global;
@@ -21,8 +21,6 @@ use std::marker::Model;
 #[derive(Drop)]
 pub(crate) struct SharedFlow {
     core: Core,
-    /// How many acknowledgements were in when the ticket that is out was taken.
-    taken: u32,
     /// The greatest window so far, in bytes.
     peak: u64,
 }
@@ -35,7 +33,7 @@ impl Model for SharedFlow {
 
     ghost view = { λ f. f.core };
 
-    ghost invariant = { λ f. IsOnWay f.core f.taken f.peak };
+    ghost invariant = { λ f. IsOnWay f.core f.peak };
 }
 
 impl SharedFlow {
@@ -46,11 +44,7 @@ impl SharedFlow {
     {
         let core = Core::new(alloc, case)?;
         let peak = core.cwnd();
-        Ok(SharedFlow {
-            core,
-            taken: 0,
-            peak,
-        })
+        Ok(SharedFlow { core, peak })
     }
 
     /// The number of the flow.
@@ -129,12 +123,10 @@ impl SharedFlow {
     fn is_answered(&self, at_end: bool) -> bool
         ensures { result ≡ is_answered at_end over_codes self.now }
     {
-        let is_out = self.core.has_out();
-        if at_end || self.has_all() {
-            return is_out;
+        if at_end {
+            return self.core.has_out();
         }
-        let lag = self.core.case().lag;
-        is_out && u64::from(self.taken) + u64::from(lag) <= u64::from(self.core.acks())
+        is_due(self.core.bare())
     }
 
     /// Takes an acknowledgement.
@@ -183,7 +175,6 @@ impl SharedFlow {
     {
         match self.core.take(alloc) {
             Ok(_) => {
-                self.taken = self.core.acks();
                 self.peak = self.peak.max(self.core.cwnd());
                 Ok(())
             }

@@ -15,5 +15,5 @@ invariant_of-self c =
     let ok : c.hear.new.self ≡ heard = c.in-Ok.ensures.ok in
     let peak : c.max-self-inside.result ≡ max c.self.inside.peak (window_of (over_codes core.case) (world_of_core over_codes heard)) =
     c.max-self-inside.ensures ∙ ap (max c.self.inside.peak) (c.cwnd.ensures ∙ ap (λ (s : CoreState). window_of (over_codes s.case) (world_of_core over_codes s)) ok) in
-    subst (λ (s : CoreState). IsOnWay s c.self.inside.taken c.max-self-inside.result) (sym ok)
-    (on-ack core c.self.inside.taken c.self.inside.peak c.self.invariant c.args.ack.now c.max-self-inside.result more peak)
+    subst (λ (s : CoreState). IsOnWay s c.max-self-inside.result) (sym ok)
+    (on-ack core c.self.inside.peak c.self.invariant c.args.ack.now c.max-self-inside.result more peak)
