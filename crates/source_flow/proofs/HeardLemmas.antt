@@ -18,7 +18,7 @@ use Rattle.source_flow.specs.declared.state.Present.{Present}
 use Rattle.source_flow.specs.declared.state.State.{State}
 use Rattle.source_flow.specs.SourceAccounts.{failure_of}
 use Rattle.source_flow.specs.SourceStates.{form_at, flow_over_sources, KeptFlow, kept_flow_in, kept_flow_of, IsAt}
-use Rattle.source_flow.specs.SourceSteps.{present_track, failures_heard, untold_by, PutDown}
+use Rattle.source_flow.specs.SourceSteps.{present_track, failures_heard, untold_by, RecordsOutcome}
 use Rattle.source_flow.proofs.StateLemmas.{epoch_lines-last, time-append}
 
 -- ---- the record of an outcome depends only on where the span begins and on the count
@@ -89,7 +89,7 @@ module _ (source : SourceCase) (s : State) (w : World Place) (at : IsAt (flow_ov
         after-append (flow.reading w.present.program) w.present.events (acknowledged ack (has_room flow w) ∷ []) _
         ∙ ap (λ (m : Outcome Cause × Env). after_outcome m (track_of flow w)) (sym (met-same room ack is_room) ∙ met)
 
-    module _ (down : PutDown source.case.now.flow between put ack outcome) where
+    module _ (down : RecordsOutcome source.case.now.flow between put ack outcome) where
       abbrev pub final : State
       final = record put { acks = put.acks + 1; time = ack.now }
 

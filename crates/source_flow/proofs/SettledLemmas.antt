@@ -13,15 +13,15 @@ use Rattle.agent_core.specs.declared.agent.Agent.{Agent}
 use Rattle.agent_core.specs.Agents.{course_of, replied, values_of}
 use Rattle.agent_core.specs.RoleLaws.{AreRoles}
 use Rattle.agent_core.proofs.ReplyLemmas.{roles-kept}
+use Rattle.flow_core.specs.declared.bare.Issued.{Issued}
 use Rattle.flow_core.specs.Readings.{Flow}
 use Rattle.flow_core.specs.World.{Taken, Answered, World, track_of, with_reply, answer_applied, after_answer, told_as}
-use Rattle.flow_core.specs.States.{some_count}
+use Rattle.flow_core.specs.States.{issued_as, some_count}
 use Rattle.flow_core.specs.Books.{ticket_line, epoch_line}
 use Rattle.source_flow.specs.declared.source_case.SourceCase.{SourceCase}
-use Rattle.source_flow.specs.declared.state.Issued.{Issued}
 use Rattle.source_flow.specs.declared.state.Present.{Present}
 use Rattle.source_flow.specs.declared.state.State.{State}
-use Rattle.source_flow.specs.SourceStates.{form_at, flow_over_sources, KeptFlow, kept_flow_in, kept_flow_of, issued_as, IsAt, IsSourceSound}
+use Rattle.source_flow.specs.SourceStates.{form_at, flow_over_sources, KeptFlow, kept_flow_in, kept_flow_of, IsAt, IsSourceSound}
 use Rattle.source_flow.specs.SourceSteps.{Changed, Obeyed}
 use Rattle.source_flow.proofs.StateLemmas.{epoch_lines-last, epoch_lines-more}
 

@@ -15,14 +15,14 @@ use Rattle.portus_core.specs.Epoch.{Outcome, stopped, outcome_of}
 use Rattle.agent_core.specs.declared.agent.Agent.{Agent}
 use Rattle.agent_core.specs.Agents.{course_of}
 use Rattle.agent_core.specs.RoleLaws.{AreRoles}
+use Rattle.flow_core.specs.declared.bare.Issued.{Issued}
 use Rattle.flow_core.specs.declared.book.EpochLine.{EpochLine}
 use Rattle.flow_core.specs.declared.book.TicketLine.{TicketLine}
 use Rattle.flow_core.specs.Readings.{Flow, by_number, over_sources}
-use Rattle.flow_core.specs.World.{Failure, Taken, World, track_of, time_of, notice_of, told_as}
+use Rattle.flow_core.specs.World.{Failure, World, track_of, time_of, notice_of}
 use Rattle.flow_core.specs.Books.{ticket_line, epoch_line}
-use Rattle.flow_core.specs.States.{some_count}
+use Rattle.flow_core.specs.States.{issued_as, some_count}
 use Rattle.source_flow.specs.declared.source_case.SourceCase.{SourceCase}
-use Rattle.source_flow.specs.declared.state.Issued.{Issued}
 use Rattle.source_flow.specs.declared.state.State.{State}
 use Rattle.source_flow.specs.SourceAccounts.{failure_of}
 
@@ -77,9 +77,6 @@ kept_flow_in s = record {
   faults = map failure_of s.faults;
   held = s.held;
 }
-
-abbrev pub issued_as : {X : Type 0} → Flow X → Taken X → Issued
-issued_as flow ticket = record { told = told_as flow ticket.told; taken = ticket.taken }
 
 abbrev pub kept_flow_of : Flow Place → World Place → KeptFlow
 kept_flow_of flow w = record {

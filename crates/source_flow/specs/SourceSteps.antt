@@ -14,21 +14,17 @@ use Rattle.portus_core.specs.Value.{Cause}
 use Rattle.portus_core.specs.Programs.{Form}
 use Rattle.portus_core.specs.OneAcknowledgement.{IsEnvOf}
 use Rattle.portus_core.specs.Epoch.{Outcome, Track, heard, by_source, stops, next_first, with_values, declared_env}
-use Rattle.portus_core.specs.Reports.{Epoch, reports_met}
+use Rattle.portus_core.specs.Reports.{reports_met}
 use Rattle.agent_core.specs.declared.agent.Agent.{Agent}
 use Rattle.agent_core.specs.Agents.{values_of}
+use Rattle.flow_core.specs.declared.bare.Issued.{Issued}
 use Rattle.flow_core.specs.declared.book.TicketLine.{TicketLine}
-use Rattle.flow_core.specs.World.{Failure, failures_met, held_met}
-use Rattle.source_flow.specs.declared.state.Issued.{Issued}
+use Rattle.flow_core.specs.World.{Failure, reporter, failures_met, notice_with, held_met}
 use Rattle.source_flow.specs.declared.state.Present.{Present}
 use Rattle.source_flow.specs.declared.state.State.{State}
 use Rattle.source_flow.specs.declared.source_case.SourceCase.{SourceCase}
 use Rattle.source_flow.specs.SourceAccounts.{failure_of}
 use Rattle.source_flow.specs.SourceStates.{form_at, outcome_met}
-
--- whose reports the present epoch's are
-abbrev pub reporter : ℕ → State → Epoch
-reporter flow s = record { flow = flow; program = s.present.program; number = s.present.number }
 
 -- how the present epoch stands
 abbrev pub present_track : State → Track
@@ -38,26 +34,13 @@ present_track s = record { env = s.present.env; is_stopped = s.present.is_stoppe
 abbrev pub failures_heard : State → Ack → Outcome Cause → List (Failure Place)
 failures_heard s ack outcome = failures_met s.present.program s.present.number s.acks ack (outcome, s.present.env)
 
--- what the notice of a fault of a flow says; a place has no index
-abbrev pub notice_by : ℕ → Failure Place → Notice
-notice_by flow failure = record {
-  flow = flow;
-  program = failure.program;
-  epoch = failure.epoch;
-  at = failure.at;
-  kind = failure.kind;
-  index = 0;
-  now = failure.now;
-  cwnd = failure.cwnd;
-}
-
--- a fault leaves its notice untold
+-- a fault leaves its notice untold; a place has no index
 abbrev pub untold_by : ℕ → List (Failure Place) → Option Notice → Option Notice
 untold_by flow [] untold = untold
-untold_by flow (failure ∷ rest) untold = Some (notice_by flow failure)
+untold_by flow (failure ∷ rest) untold = Some (notice_with flow (λ (place : Place). 0) failure)
 
 -- the counts are in range
-pub record CanPut (s : State) : Type 0 where
+pub record CanRecord (s : State) : Type 0 where
   pub acks : s.acks < most_acks
   pub held : s.held < most_acks
 
@@ -69,7 +52,7 @@ pub record HasRun (form : Form) (ack : Ack) (room : Bool) (old new : Present) (m
   pub frame : new ≡ record old { env = new.env; is_stopped = new.is_stopped }
 
 -- what an outcome changes
-pub record PutDown (flow : ℕ) (old new : State) (ack : Ack) (outcome : Outcome Cause) : Type 0 where
+pub record RecordsOutcome (flow : ℕ) (old new : State) (ack : Ack) (outcome : Outcome Cause) : Type 0 where
   pub frame : new ≡ record old {
     present = new.present;
     waiting = new.waiting;
@@ -80,7 +63,7 @@ pub record PutDown (flow : ℕ) (old new : State) (ack : Ack) (outcome : Outcome
   pub present : new.present ≡ record old.present { first = next_first outcome (present_track old) }
   pub waiting :
       new.waiting.items
-      ≡ old.waiting.items ++ reports_met (reporter flow old) (present_track old) ack outcome old.present.env
+      ≡ old.waiting.items ++ reports_met (reporter flow old.present.program old.present.number) (present_track old) ack outcome old.present.env
   pub untold : new.untold ≡ untold_by flow (failures_heard old ack outcome) old.untold
   pub faults : map failure_of new.faults ≡ map failure_of old.faults ++ failures_heard old ack outcome
   pub held : new.held ≡ old.held + held_met outcome

@@ -6,13 +6,13 @@ ghost use Rattle.portus_core.specs.ProgramForm.{form_of};
 ghost use Rattle.flow_core.specs.declared.letter.Letter.TheVariants.{A};
 ghost use Rattle.source_flow.specs.SourceStates.{outcome_met, IsSourceSound};
 ghost use Rattle.source_flow.specs.SourceMoves.{Makes};
-ghost use Rattle.source_flow.specs.SourceAccounts.{failure_of};
-ghost use Rattle.source_flow.specs.SourceSteps.{notice_by, CanPut, HasRun, PutDown};
+ghost use Rattle.source_flow.specs.SourceSteps.{CanRecord, HasRun, RecordsOutcome};
 
 use crate::flow_account::SourceFault;
 use crate::source_case::SourceCase;
 use crate::state::{Present, State};
-use ccp_base::{Ack, FaultKind, NoMemory, Notice, Place, Report, Values};
+use ccp_base::{Ack, FaultKind, NoMemory, Place, Values};
+use flow_core::Turn;
 use portus_core::{Mean, Program};
 use std::alloc::Global;
 
@@ -61,98 +61,90 @@ impl State {
         let room = self.waiting.len() < source.case.slots as usize;
         let program = source.program(self.present.program);
         let mean = self.present.run(alloc, program, &ack, room)?;
-        self.put_down(source.case.flow, &ack, &mean)?;
+        self.record_outcome(source.case.flow, &ack, &mean)?;
         self.acks += 1;
         self.time = ack.now;
         Ok(())
     }
 
     /// Records the outcome of an acknowledgement.
-    fn put_down(&mut self, flow: u32, ack: &Ack, mean: &Option<Mean>) -> Result<(), NoMemory>
-        requires { CanPut self.old }
-        ensures { OnOk result (PutDown flow self.old self.new ack.entry.now (outcome_met mean.now)) }
+    fn record_outcome(&mut self, flow: u32, ack: &Ack, mean: &Option<Mean>) -> Result<(), NoMemory>
+        requires { CanRecord self.old }
+        ensures { OnOk result (RecordsOutcome flow self.old self.new ack.entry.now (outcome_met mean.now)) }
     {
         match mean {
             None => Ok(()),
-            Some(mean) => self.put_mean(flow, ack, mean),
+            Some(mean) => self.record_mean(flow, ack, mean),
         }
     }
 
     /// Records the outcome of an acknowledgement that was run.
-    fn put_mean(&mut self, flow: u32, ack: &Ack, mean: &Mean) -> Result<(), NoMemory>
-        requires { CanPut self.old }
-        ensures { OnOk result (PutDown flow self.old self.new ack.entry.now (outcome_of mean.now)) }
+    fn record_mean(&mut self, flow: u32, ack: &Ack, mean: &Mean) -> Result<(), NoMemory>
+        requires { CanRecord self.old }
+        ensures { OnOk result (RecordsOutcome flow self.old self.new ack.entry.now (outcome_of mean.now)) }
     {
         match mean {
             Mean::Quiet => Ok(()),
-            Mean::Reported(fields) => self.put_report(flow, ack, fields),
+            Mean::Reported(fields) => self.record_report(flow, ack, fields),
             Mean::Held => {
                 self.held += 1;
                 Ok(())
             }
-            Mean::Fault(kind, place) => self.put_fault(flow, ack, *kind, *place),
+            Mean::Fault(kind, place) => self.record_fault(flow, ack, *kind, *place),
+        }
+    }
+
+    /// The place of the acknowledgement that is heard, in the flow with this number.
+    fn turn(&self, flow: u32) -> Turn
+        ensures { result ≡ record { flow = flow; program = self.now.present.program; epoch = self.now.present.number; at = self.now.acks } }
+    {
+        Turn {
+            flow,
+            program: self.present.program,
+            epoch: self.present.number,
+            at: self.acks,
         }
     }
 
     /// Records a report with these fields.
-    fn put_report(&mut self, flow: u32, ack: &Ack, fields: &Values) -> Result<(), NoMemory>
-        requires { CanPut self.old }
-        ensures { OnOk result (PutDown flow self.old self.new ack.entry.now (outcome_of (Mean.Reported fields.now))) }
+    fn record_report(&mut self, flow: u32, ack: &Ack, fields: &Values) -> Result<(), NoMemory>
+        requires { CanRecord self.old }
+        ensures { OnOk result (RecordsOutcome flow self.old self.new ack.entry.now (outcome_of (Mean.Reported fields.now))) }
     {
-        let end = u64::from(self.acks) + 1;
-        self.waiting.push_back(Report {
-            flow,
-            program: self.present.program,
-            epoch: self.present.number,
-            first: self.present.first,
-            end,
-            now: ack.now,
-            cwnd: self.present.env.cwnd,
-            rate: self.present.env.rate,
-            fields: *fields,
-        })?;
+        let turn = self.turn(flow);
+        let first = self.present.first;
+        let cwnd = self.present.env.cwnd;
+        let rate = self.present.env.rate;
+        let report = turn.report(first, ack, cwnd, rate, fields);
+        let end = report.end;
+        self.waiting.push_back(report)?;
         self.present.first = end;
         Ok(())
     }
 
-    /// Records a fault of this kind at this place, and leaves its notice undelivered.
-    fn put_fault(
+    /// Records a fault of this kind at this place, and leaves its notice undelivered. A place has no index.
+    fn record_fault(
         &mut self,
         flow: u32,
         ack: &Ack,
         kind: FaultKind,
         place: Place,
     ) -> Result<(), NoMemory>
-        requires { CanPut self.old }
-        ensures { OnOk result (PutDown flow self.old self.new ack.entry.now (outcome_of (Mean.Fault kind place))) }
+        requires { CanRecord self.old }
+        ensures { OnOk result (RecordsOutcome flow self.old self.new ack.entry.now (outcome_of (Mean.Fault kind place))) }
     {
-        let fault = SourceFault {
-            program: self.present.program,
-            epoch: self.present.number,
-            at: u64::from(self.acks),
+        let turn = self.turn(flow);
+        let cwnd = self.present.env.cwnd;
+        self.faults.push(SourceFault {
+            program: turn.program,
+            epoch: turn.epoch,
+            at: u64::from(turn.at),
             kind,
             place,
             time: ack.now,
-            cwnd: self.present.env.cwnd,
-        };
-        self.faults.push(fault)?;
-        self.untold = Some(notice(flow, &fault));
+            cwnd,
+        })?;
+        self.untold = Some(turn.notice(ack, cwnd, kind, 0));
         Ok(())
-    }
-}
-
-/// What the notice of a fault says. A place has no index.
-fn notice(flow: u32, fault: &SourceFault) -> Notice
-    ensures { result ≡ notice_by flow (failure_of fault.now) }
-{
-    Notice {
-        flow,
-        program: fault.program,
-        epoch: fault.epoch,
-        at: fault.at,
-        kind: fault.kind,
-        index: 0,
-        now: fault.time,
-        cwnd: fault.cwnd,
     }
 }

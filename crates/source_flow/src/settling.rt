@@ -11,10 +11,10 @@ ghost use Rattle.source_flow.specs.SourceMoves.{Makes};
 ghost use Rattle.source_flow.specs.SourceSteps.{AreGood, Changed, Closed, Obeyed};
 
 use crate::source_case::SourceCase;
-use crate::state::{Issued, Present, State};
+use crate::state::{Present, State};
 use agent_core::Agent;
 use ccp_base::{Fields, NoMemory, Reply};
-use flow_core::{EpochLine, TicketLine};
+use flow_core::{EpochLine, Issued, TicketLine};
 use portus_core::{Env, Program, StartFault};
 use std::alloc::Global;
 

@@ -1,8 +1,8 @@
 //! The state of a flow by its programs' sources: the epoch that runs, what waits, and the ticket that is out.
 use crate::flow_account::SourceFault;
 use agent_core::Agent;
-use ccp_base::{Notice, Report, Sequence, Told};
-use flow_core::{EpochLine, TicketLine};
+use ccp_base::{Notice, Report, Sequence};
+use flow_core::{EpochLine, Issued, TicketLine};
 use link_model::Link;
 use portus_core::Env;
 use std::collections::VecDeque;
@@ -18,13 +18,6 @@ pub(crate) struct Present {
     pub(crate) is_stopped: bool,
     /// The number of acknowledgements at which the unreported span begins.
     pub(crate) first: u64,
-}
-
-/// What the ticket that is out tells, and at how many acknowledgements it was taken.
-#[derive(Clone, Copy, Drop)]
-pub(crate) struct Issued {
-    pub(crate) told: Told,
-    pub(crate) taken: u32,
 }
 
 /// All that is kept of a flow.

@@ -10,9 +10,9 @@ ghost use Rattle.source_flow.specs.SourceWalks.{IsPermitted};
 ghost use Rattle.source_flow.specs.SourceSteps.{untold_left};
 
 use crate::source_case::SourceCase;
-use crate::state::{Issued, State};
+use crate::state::State;
 use ccp_base::Told;
-use flow_core::Letter;
+use flow_core::{Issued, Letter};
 
 impl State {
     /// Whether a report waits or a notice is untold.
@@ -23,7 +23,7 @@ impl State {
     }
 
     /// Whether a letter is legal now.
-    pub(crate) fn may(&self, source: &SourceCase<'_>, letter: Letter) -> bool
+    pub(crate) fn may_make(&self, source: &SourceCase<'_>, letter: Letter) -> bool
         ensures legal { Shows source.now self.now (λ w. is_legal (flow_over_sources source.now) w letter) result }
         ensures permitted { OnTrue result (IsPermitted source.now letter self.now) }
     {

@@ -68,7 +68,7 @@ fn walk(alloc: Global, source: &SourceCase<'_>, word: &[Letter]) -> Result<Optio
 {
     let mut state = State::open(alloc, source)?;
     for letter in word {
-        if !state.may(source, *letter) {
+        if !state.may_make(source, *letter) {
             return Ok(None);
         }
         state.make(alloc, source, *letter)?;

@@ -7,8 +7,8 @@ use Rattle.source_flow.specs.SourceStates.{flow_over_sources, IsAt}
 use Rattle.source_flow.proofs.WalkedLemmas.{world-next, legal-next, illegal-front}
 use Rattle.source_flow.proofs.walk.walk.Goals as goal
 
-pub returns-then-not-may : goal.returns-then-not-may
-returns-then-not-may c =
+pub returns-then-not-may_make : goal.returns-then-not-may_make
+returns-then-not-may_make c =
     let source = c.args.source.now in
     let flow = flow_over_sources source in
     let link = source.case.now.link in
@@ -17,8 +17,8 @@ returns-then-not-may c =
     let invariant = c.loop-letter.invariant in
     let next : legal flow link (take (i + 1) word) ≡ false =
     legal-next flow link word i A c.loop-letter-test.true invariant.legal
-    ∙ sym (c.may.ensures.legal (world flow link (take i word)) invariant.at)
-    ∙ c.if-not-may.true in
+    ∙ sym (c.may_make.ensures.legal (world flow link (take i word)) invariant.at)
+    ∙ c.if-not-may_make.true in
     illegal-front flow link word (i + 1) next
 
 pub loop-letter-preserved : goal.loop-letter-preserved
@@ -33,8 +33,8 @@ loop-letter-preserved c =
     record {
       legal =
           legal-next flow link word i A c.loop-letter-test.true invariant.legal
-          ∙ sym (c.may.ensures.legal before invariant.at)
-          ∙ c.if-not-may.false;
+          ∙ sym (c.may_make.ensures.legal before invariant.at)
+          ∙ c.if-not-may_make.false;
       sound = c.in_ok-make.ensures.sound;
       at = subst (λ (w : World Place). IsAt flow c.make.new.self w) (sym (world-next flow link word i A c.loop-letter-test.true)) (c.in_ok-make.ensures.at before invariant.at);
     }

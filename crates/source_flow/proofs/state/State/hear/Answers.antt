@@ -6,7 +6,7 @@ use Rattle.portus_core.specs.Epoch.{by_source, heard, stops}
 use Rattle.flow_core.specs.World.{after_ack}
 use Rattle.source_flow.specs.declared.state.Present.{Present}
 use Rattle.source_flow.specs.SourceStates.{flow_over_sources, outcome_met, KeptFlow, IsAt}
-use Rattle.source_flow.specs.SourceSteps.{PutDown}
+use Rattle.source_flow.specs.SourceSteps.{RecordsOutcome}
 use Rattle.source_flow.proofs.HeardLemmas.{at-heard}
 use Rattle.source_flow.proofs.state.State.hear.Goals as goal
 
@@ -18,7 +18,7 @@ returns-clause-at c = λ w at.
     let ack : Ack = c.next-ack.result in
     let outcome = outcome_met c.in_ok-mean.mean in
     let env = c.run.new.self.env in
-    let put = c.put_down.new.self in
+    let put = c.record_outcome.new.self in
     let room = nat_lt c.len.result source.case.now.slots in
     let is_room = ap (λ (n : ℕ). nat_lt n source.case.now.slots) (c.len.ensures ∙ s.waiting.ok.0) in
     let met =
@@ -26,7 +26,7 @@ returns-clause-at c = λ w at.
     let present : c.run.new.self ≡ record s.present { env = env; is_stopped = stops outcome } =
     c.in_ok-mean.ensures.frame ∙ (λ i. record s.present { env = env; is_stopped = c.in_ok-mean.ensures.stopped i }) in
     let down =
-    subst (λ (p : Present). PutDown source.case.now.flow (record s { link = link; present = p }) put ack outcome) present c.in_ok-put_down.ensures in
+    subst (λ (p : Present). RecordsOutcome source.case.now.flow (record s { link = link; present = p }) put ack outcome) present c.in_ok-record_outcome.ensures in
     let stands = subst (λ (n : ℕ). Stands link (w.windows ++ n ∷ [])) (ap (λ (k : KeptFlow). k.env.cwnd) at.kept) (c.next-ack.ensures.stands w.windows at.stands) in
     let is_ack =
     c.next-ack.ensures.ack w.windows at.stands ∙ (λ i. ack_after (c.requires.sound.link i) w.windows (at.kept i).env.cwnd) in
