@@ -22,13 +22,13 @@ use Rattle.link_model.specs.Standing.{LinkState, Stands}
 use Rattle.flow_core.specs.declared.book.EpochLine.{EpochLine}
 use Rattle.flow_core.specs.Readings.{env_of}
 use Rattle.flow_core.specs.Roomy.{RoomyState}
-use Rattle.flow_core.specs.World.{Failure, with_event, failures_met}
+use Rattle.flow_core.specs.World.{Failure, with_event, reporter, failures_met}
 use Rattle.flow_core.specs.Books.{epoch_line}
 use Rattle.flow_core.proofs.SimulatedEpochs.{IsEnvOf-after, declared-simulated}
 use Rattle.portus_build.specs.TextWalk.{program_of}
 use Rattle.live_install.specs.declared.account.Account.{Account}
 use Rattle.live_install.specs.declared.entry.Entry.{Entry}
-use Rattle.live_install.specs.Accounts.{reporter, met_in, HasRun}
+use Rattle.live_install.specs.Accounts.{met_in, HasRun}
 use Rattle.live_install.specs.declared.letter.OpenLetter.{OpenLetter}
 use Rattle.live_install.specs.declared.state.State.{State}
 use Rattle.live_install.specs.OpenWorld.{Installed, Running, OpenWorld, track_of, cwnd_of, bare, met_by, after_ack, eras_of, with_entry, with_next_entry, next_entry, running_of, with_change, after_change}
@@ -90,8 +90,8 @@ module _ (s : State) (base : OpenWorld) (link : LinkState) (ack : Ack) (word : R
         ap length keeps.epochs ∙ length-map (base.past ++ running.era ∷ []) epoch_line ∙ length-append base.past (running.era ∷ []) in
         omega (arith, long)
 
-    reporter-same : reporter (turn_of s step) ≡ record { flow = s.case.flow; program = running.era.program; number = length base.past }
-    reporter-same = λ i. record { flow = s.case.flow; program = sym runs.program i; number = epoch-number i }
+    reporter-same : reporter s.case.flow step (epoch_of s) ≡ reporter s.case.flow running.era.program (length base.past)
+    reporter-same = λ i. reporter s.case.flow (sym runs.program i) (epoch-number i)
 
     met-same : met_in running.form (kept_track s) ack ≡ met_by running ack
     met-same = ap (λ (t : Track). met_in running.form t ack) keeps.track

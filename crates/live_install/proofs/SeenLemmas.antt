@@ -24,12 +24,11 @@ use Rattle.fold_machine.specs.declared.acked.Acked.{Acked}
 use Rattle.fold_machine.specs.declared.acked.Acked.TheVariants as acked
 use Rattle.flow_core.specs.Readings.{env_of, outcome_of, by_code}
 use Rattle.flow_core.specs.States.{outcome_by}
-use Rattle.flow_core.specs.World.{failures_met}
+use Rattle.flow_core.specs.World.{failures_met, notice_with}
 use Rattle.live_install.specs.declared.entry.Entry.{Entry}
 use Rattle.live_install.specs.Entries.{built_at, entry_place}
 use Rattle.live_install.specs.OpenBooks.{Seen, seen_of, seen_as}
 use Rattle.live_install.specs.OpenCells.{HasOutcome}
-use Rattle.live_install.specs.Accounts.{notice_by}
 
 -- an outcome of the code with the place of a fault, None where there is none
 abbrev pub placed : List Place → Outcome (FaultKind × ℕ) → Option (Outcome Cause)
@@ -133,7 +132,7 @@ module _ (entries : List Entry) (flow step number at : ℕ) (ack : Ack) (env : E
 
   pub failures-placed : (built : Built) → built_at entries step ≡ Some built
       → (outcome : Outcome (FaultKind × ℕ)) (out : Outcome Cause) → placed built.places outcome ≡ Some out
-      → map (seen_of entries) (map (notice_by flow) (failures_met step number at ack (outcome, env))) ≡ map (seen_as flow) (failures_met step number at ack (out, env))
+      → map (seen_of entries) (map (notice_with flow (λ (site : ℕ). site)) (failures_met step number at ack (outcome, env))) ≡ map (seen_as flow) (failures_met step number at ack (out, env))
   failures-placed built is quiet out same = ap (by_some [] told) same
   failures-placed built is (reported fields) out same = ap (by_some [] told) same
   failures-placed built is held out same = ap (by_some [] told) same

@@ -2,22 +2,21 @@
 use Rattle.std.specs.Prelude.{◌≡◌, ℕ, ◌+◌, ◌<◌, ◌≤◌, Bool, true, false, List, ◌++◌, length, map}
 use Rattle.ccp_base.specs.declared.ack.Ack.{Ack}
 use Rattle.ccp_base.specs.declared.arithmetic.FaultKind.{FaultKind}
-use Rattle.ccp_base.specs.declared.exchange.Notice.{Notice}
 use Rattle.portus_core.specs.declared.env.Env.{Env}
 use Rattle.portus_core.specs.Programs.{Form}
 use Rattle.portus_core.specs.Value.{Cause}
 use Rattle.portus_core.specs.Epoch.{Outcome, Track, by_source, heard, stops, next_first}
-use Rattle.portus_core.specs.Reports.{Epoch, reports_met}
+use Rattle.portus_core.specs.Reports.{reports_met}
 use Rattle.reg_code.specs.declared.code.Code.{Code}
 use Rattle.fold_machine.specs.declared.acked.Acked.{Acked}
 use Rattle.fold_machine.specs.declared.acked.Acked.TheVariants as acked
 use Rattle.fold_machine.specs.MachineState.{MachineState}
+use Rattle.flow_core.specs.declared.turn.Turn.{Turn}
 use Rattle.flow_core.specs.Readings.{by_code, env_of}
 use Rattle.flow_core.specs.Cores.{ran_by}
 use Rattle.flow_core.specs.States.{outcome_by}
-use Rattle.flow_core.specs.World.{Failure, failures_met}
+use Rattle.flow_core.specs.World.{reporter, failures_met, notice_with}
 use Rattle.live_install.specs.declared.account.Account.{Account}
-use Rattle.live_install.specs.declared.account.Turn.{Turn}
 use Rattle.live_install.specs.declared.entry.Entry.{Entry}
 use Rattle.live_install.specs.OpenBooks.{seen_of, seen_as}
 
@@ -43,29 +42,12 @@ HasPlaceFor answer account =
 
 -- ---- what is recorded
 
--- whose reports they are
-abbrev pub reporter : Turn → Epoch
-reporter turn = record { flow = turn.flow; program = turn.step; number = turn.epoch }
-
--- a fault of the code as its notice
-abbrev pub notice_by : ℕ → Failure ℕ → Notice
-notice_by flow failure = record {
-  flow = flow;
-  program = failure.program;
-  epoch = failure.epoch;
-  at = failure.at;
-  kind = failure.kind;
-  index = failure.site;
-  now = failure.now;
-  cwnd = failure.cwnd;
-}
-
 -- what an outcome of the code with this env changes
 pub record RecordsOutcome (turn : Turn) (old new : Account) (ack : Ack) (met : Outcome (FaultKind × ℕ) × Env) : Type 0 where
   pub first : (track : Track) → track.first ≡ old.first → track.count ≡ turn.at → new.first ≡ next_first met.0 track
   pub reports : (track : Track) → track.first ≡ old.first → track.count ≡ turn.at
-      → new.reports.items ≡ old.reports.items ++ reports_met (reporter turn) track ack met.0 met.1
-  pub faults : new.faults.items ≡ old.faults.items ++ map (notice_by turn.flow) (failures_met turn.step turn.epoch turn.at ack met)
+      → new.reports.items ≡ old.reports.items ++ reports_met (reporter turn.flow turn.program turn.epoch) track ack met.0 met.1
+  pub faults : new.faults.items ≡ old.faults.items ++ map (notice_with turn.flow (λ (site : ℕ). site)) (failures_met turn.program turn.epoch turn.at ack met)
   pub reports_room : new.reports.room ≡ old.reports.room
   pub faults_room : new.faults.room ≡ old.faults.room
 
@@ -88,9 +70,9 @@ pub record HasRun (entries : List Entry) (form : Form) (turn : Turn) (machine : 
   pub stopping : new_machine.is_stopped ≡ stops (met_in form (track_by turn machine old) ack).0
   pub first : new.first ≡ next_first (met_in form (track_by turn machine old) ack).0 (track_by turn machine old)
   pub reports : new.reports.items
-      ≡ old.reports.items ++ reports_met (reporter turn) (track_by turn machine old) ack (met_in form (track_by turn machine old) ack).0 (met_in form (track_by turn machine old) ack).1
+      ≡ old.reports.items ++ reports_met (reporter turn.flow turn.program turn.epoch) (track_by turn machine old) ack (met_in form (track_by turn machine old) ack).0 (met_in form (track_by turn machine old) ack).1
   pub faults : map (seen_of entries) new.faults.items
-      ≡ map (seen_of entries) old.faults.items ++ map (seen_as turn.flow) (failures_met turn.step turn.epoch turn.at ack (met_in form (track_by turn machine old) ack))
+      ≡ map (seen_of entries) old.faults.items ++ map (seen_as turn.flow) (failures_met turn.program turn.epoch turn.at ack (met_in form (track_by turn machine old) ack))
   pub reports_most : length new.reports.items ≤ length old.reports.items + 1
   pub faults_most : length new.faults.items + faults_of new_machine.is_stopped
       ≤ length old.faults.items + faults_of machine.is_stopped

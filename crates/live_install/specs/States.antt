@@ -7,12 +7,12 @@ use Rattle.portus_core.specs.Epoch.{Track}
 use Rattle.reg_compiler.specs.declared.built.Built.{Built}
 use Rattle.fold_machine.specs.MachineState.{MachineState, Fits}
 use Rattle.link_model.specs.Standing.{Stands}
+use Rattle.flow_core.specs.declared.turn.Turn.{Turn}
 use Rattle.flow_core.specs.Readings.{env_of}
 use Rattle.flow_core.specs.World.{Era, time_of}
 use Rattle.flow_core.specs.Books.{epoch_line}
 use Rattle.live_install.specs.declared.entry.Entry.{Entry}
 use Rattle.live_install.specs.declared.state.State.{State}
-use Rattle.live_install.specs.declared.account.Turn.{Turn}
 use Rattle.live_install.specs.Accounts.{faults_of}
 use Rattle.live_install.specs.OpenWorld.{Installed, Running, OpenWorld, track_of, track_now, eras_of, was_started}
 use Rattle.live_install.specs.OpenWords.{install_world, legal}
@@ -143,4 +143,4 @@ epoch_of s = length s.epochs.items - 1
 
 -- the next acknowledgement's place in the flow, where this step's program runs
 abbrev pub turn_of : State → ℕ → Turn
-turn_of s step = record { flow = s.case.flow; step = step; epoch = epoch_of s; at = s.acks }
+turn_of s step = record { flow = s.case.flow; program = step; epoch = epoch_of s; at = s.acks }

@@ -7,7 +7,7 @@ ghost use Rattle.flow_core.specs.States.{outcome_by};
 ghost use Rattle.live_install.specs.Accounts.{met_as, IsMet, ran_on, HasPlaceFor, RecordsOutcome};
 
 use ccp_base::{Ack, FaultKind, Notice, Report};
-use flow_core::Roomy;
+use flow_core::{Roomy, Turn};
 use fold_machine::{Acked, Machine, Steps};
 use reg_code::Checked;
 use std::sync::ledger::Ledger;
@@ -19,16 +19,6 @@ pub(crate) struct Account {
     pub(crate) first: u64,
     pub(crate) reports: Roomy<Report>,
     pub(crate) faults: Roomy<Notice>,
-}
-
-/// An acknowledgement's place in a flow: the running step, its epoch's number, and how many acknowledgements came
-/// before.
-#[derive(Clone, Copy)]
-pub(crate) struct Turn {
-    pub(crate) flow: u32,
-    pub(crate) step: u32,
-    pub(crate) epoch: u32,
-    pub(crate) at: u32,
 }
 
 /// Runs an acknowledgement on the machine, with room for a report.
@@ -66,20 +56,13 @@ impl Account {
         requires { length self.old.reports.items < self.old.reports.room }
         ensures { RecordsOutcome turn self.old self.new ack.entry.now (reported machine.now.report, env_of machine.now.kept) }
     {
-        let end = u64::from(turn.at) + 1;
-        let report = Report {
-            flow: turn.flow,
-            program: turn.step,
-            epoch: turn.epoch,
-            first: self.first,
-            end,
-            now: ack.now,
-            cwnd: machine.cwnd(),
-            rate: machine.rate(),
-            fields: machine.reported(),
-        };
+        let first = self.first;
+        let cwnd = machine.cwnd();
+        let rate = machine.rate();
+        let fields = machine.reported();
+        let report = turn.report(first, ack, cwnd, rate, &fields);
+        self.first = report.end;
         self.reports.push(report);
-        self.first = end;
     }
 
     /// Records a fault of this kind at the instruction with this index.
@@ -94,16 +77,7 @@ impl Account {
         requires { length self.old.faults.items < self.old.faults.room }
         ensures { RecordsOutcome turn self.old self.new ack.entry.now (failed (kind, index), env_of machine.now.kept) }
     {
-        let notice = Notice {
-            flow: turn.flow,
-            program: turn.step,
-            epoch: turn.epoch,
-            at: u64::from(turn.at),
-            kind,
-            index,
-            now: ack.now,
-            cwnd: machine.cwnd(),
-        };
-        self.faults.push(notice);
+        let cwnd = machine.cwnd();
+        self.faults.push(turn.notice(ack, cwnd, kind, index));
     }
 }

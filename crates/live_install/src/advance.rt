@@ -4,10 +4,11 @@ ghost use Rattle.live_install.specs.Entries.{built_at};
 ghost use Rattle.live_install.specs.OpenCells.{ran_at, AnswersAck};
 ghost use Rattle.live_install.specs.States.{cell_of, world_of, running_step, IsOpen};
 
-use crate::account::{Turn, run_ack};
+use crate::account::run_ack;
 use crate::entry::Entry;
 use crate::letter::OpenLetter;
 use crate::state::State;
+use flow_core::Turn;
 use fold_machine::{Acked, Steps};
 use reg_compiler::Built;
 use std::sync::ledger::Ledger;
@@ -83,7 +84,7 @@ impl State {
         let ack = self.link.next(window);
         let turn = Turn {
             flow: self.case.flow,
-            step,
+            program: step,
             epoch: (self.epochs.len() - 1) as u32,
             at: self.acks,
         };

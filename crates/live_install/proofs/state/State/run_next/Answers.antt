@@ -1,6 +1,6 @@
 use Rattle.std.proofs.Common.{ap, sym, ◌∙◌, subst, ◌+◌, ◌-◌, ◌≡◌, ℕ, Some, List}
 use Rattle.live_install.specs.declared.entry.Entry.{Entry}
-use Rattle.live_install.specs.declared.account.Turn.{Turn}
+use Rattle.flow_core.specs.declared.turn.Turn.{Turn}
 use Rattle.flow_core.specs.Readings.{env_of}
 use Rattle.flow_core.specs.States.{outcome_by}
 use Rattle.live_install.specs.Accounts.{RecordsOutcome}
@@ -21,7 +21,7 @@ returns-clause-open_state g c =
     ap (λ (entries : List Entry). built_at entries c.args.step) (sym c.as_slice.ensures) ∙ sym c.in-Some.ensures in
     let down : RecordsOutcome (turn_of s c.args.step) s.account account c.next-ack.result (outcome_by answer machine.report, env_of machine.kept) =
     subst (λ (t : Turn). RecordsOutcome t s.account account c.next-ack.result (outcome_by answer machine.report, env_of machine.kept))
-    (λ i. record { flow = s.case.flow; step = c.args.step; epoch = c.len.ensures.len i - 1; at = s.acks }) c.record_outcome.ensures in
+    (λ i. record { flow = s.case.flow; program = c.args.step; epoch = c.len.ensures.len i - 1; at = s.acks }) c.record_outcome.ensures in
     open-run s c.requires.open_state c.requires.left c.cwnd-window.result c.cwnd-window.ensures
     c.next-ack.new.self c.next-ack.result c.push.new.self c.next-ack.ensures.ack c.next-ack.ensures.stands c.next-ack.ensures.case c.next-ack.ensures.calls
     c.push.ensures.items c.push.ensures.room
@@ -41,7 +41,7 @@ returns-clause-answered g c =
     ap (λ (entries : List Entry). built_at entries c.args.step) (sym c.as_slice.ensures) ∙ sym c.in-Some.ensures in
     let down : RecordsOutcome (turn_of s c.args.step) s.account account c.next-ack.result (outcome_by answer machine.report, env_of machine.kept) =
     subst (λ (t : Turn). RecordsOutcome t s.account account c.next-ack.result (outcome_by answer machine.report, env_of machine.kept))
-    (λ i. record { flow = s.case.flow; step = c.args.step; epoch = c.len.ensures.len i - 1; at = s.acks }) c.record_outcome.ensures in
+    (λ i. record { flow = s.case.flow; program = c.args.step; epoch = c.len.ensures.len i - 1; at = s.acks }) c.record_outcome.ensures in
     told-run s c.requires.open_state c.requires.left c.cwnd-window.result c.cwnd-window.ensures
     c.next-ack.new.self c.next-ack.result c.push.new.self c.next-ack.ensures.ack c.next-ack.ensures.stands c.next-ack.ensures.case c.next-ack.ensures.calls
     c.push.ensures.items c.push.ensures.room
@@ -61,7 +61,7 @@ returns-clause-steps g c =
     ap (λ (entries : List Entry). built_at entries c.args.step) (sym c.as_slice.ensures) ∙ sym c.in-Some.ensures in
     let down : RecordsOutcome (turn_of s c.args.step) s.account account c.next-ack.result (outcome_by answer machine.report, env_of machine.kept) =
     subst (λ (t : Turn). RecordsOutcome t s.account account c.next-ack.result (outcome_by answer machine.report, env_of machine.kept))
-    (λ i. record { flow = s.case.flow; step = c.args.step; epoch = c.len.ensures.len i - 1; at = s.acks }) c.record_outcome.ensures in
+    (λ i. record { flow = s.case.flow; program = c.args.step; epoch = c.len.ensures.len i - 1; at = s.acks }) c.record_outcome.ensures in
     c.run_ack-acked.ensures.steps
     ∙ ap (λ (n : ℕ). c.args.steps.now + n) (ran-run s c.requires.open_state c.requires.left c.cwnd-window.result c.cwnd-window.ensures
     c.next-ack.new.self c.next-ack.result c.push.new.self c.next-ack.ensures.ack c.next-ack.ensures.stands c.next-ack.ensures.case c.next-ack.ensures.calls
