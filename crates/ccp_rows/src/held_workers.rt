@@ -214,9 +214,52 @@ fn two_workers_make_a_timeline(rt: HostRuntime) -> Result<(), Fail> {
     Ok(())
 }
 
-/// Three flows of Reno's, with four acknowledgements, two and one.
+/// In `acks` as well.
+#[test]
+fn two_workers_write_acknowledgements(rt: HostRuntime) -> Result<(), Fail> {
+    let gate = held_before_a_case();
+    assert!(rt; is_one_output(&rt, rt.alloc(), "acks", &gate)?);
+    assert!(rt; gate.held() == Some(1));
+    assert!(rt; gate.passed(Point::InCase) == 2);
+    Ok(())
+}
+
+/// Three flows of Reno's, with four acknowledgements, two and one, which in `shared` run over one bottleneck.
 const THREE_FLOWS: &[u8] =
-    b"{\"version\":1,\"traces\":{\"t\":\"10\\n\"},\"cases\":[{\"name\":\"a\",\"agent\":\"reno\",\"trace\":\"t\",\"mss\":1448,\"queue\":10,\"delay_us\":20000,\"timeout_us\":1000000,\"acks\":4},{\"name\":\"b\",\"agent\":\"reno\",\"trace\":\"t\",\"mss\":1448,\"queue\":10,\"delay_us\":20000,\"timeout_us\":1000000,\"acks\":2},{\"name\":\"c\",\"agent\":\"reno\",\"trace\":\"t\",\"mss\":1448,\"queue\":10,\"delay_us\":20000,\"timeout_us\":1000000,\"acks\":1}]}";
+    b"{\"version\":1,\"traces\":{\"t\":\"10\\n\"},\"cases\":[{\"name\":\"a\",\"agent\":\"reno\",\"trace\":\"t\",\"mss\":1448,\"queue\":10,\"delay_us\":20000,\"timeout_us\":1000000,\"acks\":4},{\"name\":\"b\",\"agent\":\"reno\",\"trace\":\"t\",\"mss\":1448,\"queue\":10,\"delay_us\":20000,\"timeout_us\":1000000,\"acks\":2},{\"name\":\"c\",\"agent\":\"reno\",\"trace\":\"t\",\"mss\":1448,\"queue\":10,\"delay_us\":20000,\"timeout_us\":1000000,\"acks\":1}],\"shared\":{\"trace\":\"t\",\"queue\":10,\"quantum_us\":100000,\"rounds\":100}}";
+
+/// Worker 0 has cases 0 and 2. It is held before its second case until worker 1 has done its own, and after it until
+/// worker 1 has begun one.
+fn held_at_the_second_case() -> HoldGate {
+    let before = Hold {
+        at: moment(0, Point::InCase, 2, 2),
+        until: moment(1, Point::AfterCase, 1, 1),
+    };
+    let after = Hold {
+        at: moment(0, Point::AfterCase, 2, 2),
+        until: moment(1, Point::InCase, 1, 1),
+    };
+    HoldGate::new(before, after)
+}
+
+#[test]
+fn a_worker_runs_two_cases(rt: HostRuntime) -> Result<(), Fail> {
+    let gate = held_at_the_second_case();
+    let words = ["ccp", "campaign", "--workers", "2"];
+    assert!(rt; shows_on(&rt, rt.alloc(), &words, THREE_FLOWS, &gate, b"\nc reno 1 ")?);
+    assert!(rt; gate.held() == Some(2));
+    assert!(rt; gate.passed(Point::InCase) == 3);
+    Ok(())
+}
+
+#[test]
+fn a_worker_does_parts_of_two_flows(rt: HostRuntime) -> Result<(), Fail> {
+    let gate = held_at_the_second_case();
+    let words = ["ccp", "shared", "--workers", "2"];
+    assert!(rt; shows_on(&rt, rt.alloc(), &words, THREE_FLOWS, &gate, b"\nc reno 1 ")?);
+    assert!(rt; gate.held() == Some(2));
+    Ok(())
+}
 
 /// Worker 0 has flows 0 and 2, of which flow 2 ends first. It is held before the acknowledgement of flow 2 until worker 1
 /// has asked flow 1 three times, and again before the last one of flow 0, which is its seventh.
@@ -328,13 +371,13 @@ fn an_agent_settles_twice_between_acknowledgements(rt: HostRuntime) -> Result<()
     Ok(())
 }
 
-/// Two flows with two acknowledgements and two steps each.
+/// Three flows with two acknowledgements and two steps each.
 const TWO_STEPS: &[u8] =
-    b"{\"version\":1,\"programs\":{\"p\":\"(def) (when true (report))\"},\"traces\":{\"t\":\"10\\n\"},\"cases\":[{\"name\":\"a\",\"trace\":\"t\",\"mss\":1448,\"queue\":10,\"delay_us\":20000,\"timeout_us\":1000000,\"acks\":2,\"cwnd\":4344,\"steps\":[\"p\",\"p\"]},{\"name\":\"b\",\"trace\":\"t\",\"mss\":1448,\"queue\":10,\"delay_us\":20000,\"timeout_us\":1000000,\"acks\":2,\"cwnd\":4344,\"steps\":[\"p\",\"p\"]}]}";
+    b"{\"version\":1,\"programs\":{\"p\":\"(def) (when true (report))\"},\"traces\":{\"t\":\"10\\n\"},\"cases\":[{\"name\":\"a\",\"trace\":\"t\",\"mss\":1448,\"queue\":10,\"delay_us\":20000,\"timeout_us\":1000000,\"acks\":2,\"cwnd\":4344,\"steps\":[\"p\",\"p\"]},{\"name\":\"b\",\"trace\":\"t\",\"mss\":1448,\"queue\":10,\"delay_us\":20000,\"timeout_us\":1000000,\"acks\":2,\"cwnd\":4344,\"steps\":[\"p\",\"p\"]},{\"name\":\"c\",\"trace\":\"t\",\"mss\":1448,\"queue\":10,\"delay_us\":20000,\"timeout_us\":1000000,\"acks\":2,\"cwnd\":4344,\"steps\":[\"p\",\"p\"]}]}";
 
 /// Of two datapaths and three installers, which are workers 2 to 4: worker 0 is held before its first acknowledgement
-/// until worker 2 has changed flow 0 to its second step, and worker 3 with the second step of flow 1 until worker 1 has
-/// made an acknowledgement.
+/// until worker 2 has changed flow 0 to its second step, and worker 3 with the second step of flow 1 until worker 4 has
+/// changed flow 2 to its own.
 #[test]
 fn installers_go_through_the_steps_of_their_flows(rt: HostRuntime) -> Result<(), Fail> {
     let datapath = Hold {
@@ -343,7 +386,7 @@ fn installers_go_through_the_steps_of_their_flows(rt: HostRuntime) -> Result<(),
     };
     let installer = Hold {
         at: moment(3, Point::AfterTake, 2, 1),
-        until: moment(1, Point::AfterAck, 1, 1),
+        until: moment(4, Point::AfterSettle, 2, 2),
     };
     let gate = HoldGate::new(datapath, installer);
     let words = ["ccp", "rollout", "--datapaths", "2", "--agents", "3"];
