@@ -11,7 +11,15 @@ use std::process::Abort;
 use std::test::Fail;
 use worker_desk::{Event, InstallDesk, run_installer};
 
-/// A desk whose answers come from a list. An entry is the number of its step.
+/// A text of a flow's step.
+#[derive(Drop)]
+struct StepText {
+    flow: u32,
+    step: u32,
+}
+
+/// A desk whose answers come from a list. Texts are built from the number of the flow, and an entry is the number of its
+/// step.
 #[derive(Drop)]
 struct StepDesk<'a, R: Abort> {
     rt: &'a R,
@@ -26,6 +34,10 @@ struct StepDesk<'a, R: Abort> {
 impl<'a, R: Abort> InstallDesk for StepDesk<'a, R> {
     ghost use Rattle.std.specs.Prelude.{Some};
 
+    type Source = u32;
+
+    type Text = StepText;
+
     type Entry = u32;
 
     ghost log = { λ d. Some d.events.items };
@@ -34,13 +46,26 @@ impl<'a, R: Abort> InstallDesk for StepDesk<'a, R> {
 
     ghost flows = { λ d. d.flows };
 
+    ghost flow_from = { λ flow. flow };
+
+    ghost task_of = { λ text. record { flow = text.flow; step = text.step } };
+
     ghost step_of = { λ step. step };
 
     fn flow_count(&self) -> u32 {
         self.flows
     }
 
-    fn build(&mut self, flow: u32, step: u32) -> Option<u32> {
+    fn source(&self, flow: u32) -> u32 {
+        flow
+    }
+
+    fn build(source: u32, step: u32) -> StepText {
+        StepText { flow: source, step }
+    }
+
+    fn take_entry(&mut self, text: StepText) -> Option<u32> {
+        let StepText { flow, step } = text;
         if next(&mut self.answers) {
             keep(self.rt, &mut self.events, Event::Built(flow, step, true));
             return Some(step);

@@ -1,10 +1,11 @@
 //! The entries of a flow's library: a step's text with its program and code, or with its refusal.
-ghost use Rattle.std.specs.Prelude.{◌≡◌, false, IfOk, option_copied};
+ghost use Rattle.std.specs.Prelude.{◌≡◌, ◌<◌, Some, false, length, slice_get, IfOk, option_copied};
 ghost use Rattle.live_install.specs.BuiltTexts.{was_built, is_no_memory, is_out_of_memory, Answers, IsEntry, built_of};
 
 use ccp_base::{Bytes, NoMemory, Sequence};
 use portus_build::{BuildFault, build};
 use reg_compiler::Built;
+use scene_members::OpenCase;
 use std::alloc::Global;
 use std::marker::Model;
 
@@ -53,6 +54,15 @@ fn build_answer(alloc: Global, text: &[u8]) -> Result<Result<Built, BuildFault>,
         Err(refusal) if is_no_memory(&refusal) => Err(NoMemory),
         Err(refusal) => Ok(Err(refusal)),
     }
+}
+
+/// The entry of a case's step.
+pub(crate) fn entry_of(alloc: Global, case: &OpenCase, step: u32) -> Result<Entry, NoMemory>
+    requires { step < length case.now.steps }
+    ensures step { IfOk result (λ entry. entry.step ≡ step) }
+    ensures text { IfOk result (λ entry. slice_get case.now.steps step ≡ Some entry.text) }
+{
+    Entry::make(alloc, step, case.steps.as_slice()[step as usize].as_slice())
 }
 
 /// The library of a flow: its entries in the order in which they were installed.

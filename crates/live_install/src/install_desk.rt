@@ -1,15 +1,33 @@
 //! The desk of an installer: texts built without a lock, entries and changes under the flow's lock.
 ghost use Rattle.std.specs.Prelude.{◌≡◌, ℕ, ◌<◌, ◌≤◌, Option, Some, None, option_map, [], ◌∷◌, length, is_some, slice_get, IfSome};
+ghost use Rattle.std.proofs.Props.{props};
 ghost use Rattle.worker_desk.specs.Logs.{KnownLog, Logs};
 ghost use Rattle.worker_desk.specs.declared.event.Event.TheVariants.{Passed, Locked, Unlocked, Built, Installed, Changed};
 
 use crate::cell::OpenCell;
-use crate::entry::Entry;
+use crate::entry::{Entry, entry_of};
 use ccp_base::{Gate, Point};
 use flow_table::{FlowTable, Held};
 use scene_members::OpenCase;
 use std::alloc::Global;
 use std::sync::Wait;
+
+/// What the texts of a flow are built from.
+#[derive(Clone, Copy)]
+pub(crate) struct TextSource<'a> {
+    alloc: Global,
+    flow: u32,
+    case: &'a OpenCase,
+}
+
+/// What came of building the text of a flow's step.
+#[derive(Drop)]
+pub(crate) struct BuiltText {
+    flow: u32,
+    step: u32,
+    entry: Option<Entry>,
+    ghost is_step: { IfSome entry (λ made. made.step ≡ step) } by { Prim.hlevel props },
+}
 
 /// The desk of an installer of a rollout.
 #[derive(Drop)]
@@ -24,6 +42,10 @@ pub(crate) struct InstallDesk<'a, R: Wait, G: Gate> {
 impl<'a, R: Wait, G: Gate> worker_desk::InstallDesk for InstallDesk<'a, R, G> {
     ghost use Rattle.std.specs.Prelude.{None, option_map, length};
 
+    type Source = TextSource<'a>;
+
+    type Text = BuiltText;
+
     type Entry = Entry;
 
     ghost log = { λ d. None };
@@ -32,14 +54,34 @@ impl<'a, R: Wait, G: Gate> worker_desk::InstallDesk for InstallDesk<'a, R, G> {
 
     ghost flows = { λ d. length d.table.now };
 
+    ghost flow_from = { λ source. source.flow };
+
+    ghost task_of = { λ text. record { flow = text.flow; step = text.step } };
+
     ghost step_of = { λ entry. entry.step };
 
     fn flow_count(&self) -> u32 {
         self.table.flows()
     }
 
-    fn build(&mut self, flow: u32, step: u32) -> Option<Entry> {
-        entry_of(self.alloc, self.table.case(flow), step)
+    fn source(&self, flow: u32) -> TextSource<'a> {
+        TextSource {
+            alloc: self.alloc,
+            flow,
+            case: self.table.case(flow),
+        }
+    }
+
+    fn build(source: TextSource<'a>, step: u32) -> BuiltText {
+        BuiltText {
+            flow: source.flow,
+            step,
+            entry: entry_at(source.alloc, source.case, step),
+        }
+    }
+
+    fn take_entry(&mut self, text: BuiltText) -> Option<Entry> {
+        text.entry
     }
 
     fn lock(&mut self, flow: u32) {
@@ -75,13 +117,15 @@ impl<'a, R: Wait, G: Gate> worker_desk::InstallDesk for InstallDesk<'a, R, G> {
     }
 }
 
-/// The entry of a case's step; None where the case has no such step, or memory runs out.
-fn entry_of(alloc: Global, case: &OpenCase, step: u32) -> Option<Entry>
+/// The entry of a case's step; None if the case has no such step, or memory runs out.
+fn entry_at(alloc: Global, case: &OpenCase, step: u32) -> Option<Entry>
     ensures step { IfSome result (λ entry. entry.step ≡ step) }
     ensures text { IfSome result (λ entry. slice_get case.now.steps step ≡ Some entry.text) }
 {
-    let text = case.steps.as_slice().get(step as usize)?;
-    match Entry::make(alloc, step, text.as_slice()) {
+    if step as usize >= case.steps.len() {
+        return None;
+    }
+    match entry_of(alloc, case, step) {
         Ok(entry) => Some(entry),
         Err(_) => None,
     }

@@ -1,14 +1,13 @@
 //! The next letter of an incomplete word of a rollout: a change, else the next entry, else an acknowledgement.
-ghost use Rattle.std.specs.Prelude.{◌≡◌, ◌<◌, Ok, Some, true, false, length, slice_get, IfOk, OnOk};
+ghost use Rattle.std.specs.Prelude.{◌≡◌, ◌<◌, Ok, true, false, length, OnOk};
 ghost use Rattle.live_install.specs.declared.letter.OpenLetter.TheVariants as letters;
 ghost use Rattle.live_install.specs.OpenWords.{is_complete};
 ghost use Rattle.live_install.specs.OpenCells.{world_at, is_legal_at};
 ghost use Rattle.live_install.specs.NextLetter.{HasNext, letters_left};
 
 use crate::cell::OpenCell;
-use crate::entry::Entry;
+use crate::entry::entry_of;
 use ccp_base::NoMemory;
-use scene_members::OpenCase;
 use std::alloc::Global;
 
 /// Makes one letter of a word that isn't complete: a change, or else the next entry, or else an acknowledgement.
@@ -70,15 +69,6 @@ fn install_next(alloc: Global, cell: &mut OpenCell, step: u32) -> Result<(), NoM
         unreachable!()
     };
     Ok(())
-}
-
-/// The entry of a case's step.
-fn entry_of(alloc: Global, case: &OpenCase, step: u32) -> Result<Entry, NoMemory>
-    requires { step < length case.now.steps }
-    ensures step { IfOk result (λ entry. entry.step ≡ step) }
-    ensures text { IfOk result (λ entry. slice_get case.now.steps step ≡ Some entry.text) }
-{
-    Entry::make(alloc, step, case.steps.as_slice()[step as usize].as_slice())
 }
 
 /// Takes the next acknowledgement.

@@ -1,6 +1,7 @@
 //! The trait for an installer's desk: texts to build, the flows' locks, entries and changes.
 ghost use Rattle.std.specs.Prelude.{◌≡◌, ℕ, ◌<◌, ◌≤◌, Option, Some, None, List, [], ◌∷◌, is_some, IfSome};
 ghost use Rattle.worker_desk.specs.Logs.{Logs};
+ghost use Rattle.worker_desk.specs.Equipping.{StepTask};
 ghost use Rattle.worker_desk.specs.declared.event.Event.{Event};
 ghost use Rattle.worker_desk.specs.declared.event.Event.TheVariants.{Passed, Locked, Unlocked, Built, Installed, Changed};
 
@@ -9,6 +10,12 @@ use ccp_base::Point;
 
 /// What an installer works on.
 pub trait InstallDesk {
+    /// What the texts of a flow are built from. A lock isn't `Copy`, so none is in it.
+    type Source: Copy;
+
+    /// What came of building a text.
+    type Text: Drop;
+
     /// What the text of a step is built into.
     type Entry: Drop;
 
@@ -21,6 +28,12 @@ pub trait InstallDesk {
     // how many flows there are
     ghost flows: { Self → ℕ };
 
+    // the flow that texts are built for
+    ghost flow_from: { Self.Source → ℕ };
+
+    // the flow and the step of a text
+    ghost task_of: { Self.Text → StepTask };
+
     // the step of an entry
     ghost step_of: { Self.Entry → ℕ };
 
@@ -29,13 +42,20 @@ pub trait InstallDesk {
         ensures flows { result ≡ flows self.now }
         ensures few { result ≤ 64 };
 
-    /// Builds the text of a flow's step, while no lock is held; None where the flow has no such step, or memory runs
-    /// out.
-    fn build(&mut self, flow: u32, step: u32) -> Option<Self::Entry>
-        requires flow { flow < flows self.old }
-        requires free { held self.old ≡ None }
-        ensures log { Logs (log self.old) (log self.new) (Built flow step (is_some result) ∷ []) }
-        ensures step { IfSome result (λ entry. step_of entry ≡ step) }
+    /// What the texts of a flow are built from.
+    fn source(&self, flow: u32) -> Self::Source
+        requires { flow < flows self.now }
+        ensures { flow_from result ≡ flow };
+
+    /// Builds the text of a step. It has no desk, so it can't take a lock.
+    fn build(source: Self::Source, step: u32) -> Self::Text
+        ensures { task_of result ≡ record { flow = flow_from source; step = step } };
+
+    /// The entry of a text, which was built while no lock was held; None if the flow has no such step, or memory ran out.
+    fn take_entry(&mut self, text: Self::Text) -> Option<Self::Entry>
+        requires { held self.old ≡ None }
+        ensures log { Logs (log self.old) (log self.new) (Built (task_of text).flow (task_of text).step (is_some result) ∷ []) }
+        ensures step { IfSome result (λ entry. step_of entry ≡ (task_of text).step) }
         ensures held { held self.new ≡ held self.old }
         ensures flows { flows self.new ≡ flows self.old };
 

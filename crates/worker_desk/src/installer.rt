@@ -1,8 +1,9 @@
 //! What installers do: they build texts without a lock, then install and change under the flow's lock.
-ghost use Rattle.std.specs.Prelude.{◌≡◌, ℕ, ◌<◌, ◌≤◌, None, [], ◌∷◌, slice_index, length};
+ghost use Rattle.std.specs.Prelude.{◌≡◌, ℕ, ◌<◌, ◌≤◌, None, [], ◌∷◌, slice_index, length, is_some, IfSome};
 ghost use Rattle.ccp_base.specs.Limits.{most_steps};
 ghost use Rattle.worker_desk.specs.Logs.{Logs};
 ghost use Rattle.worker_desk.specs.Serving.{flows_of_worker};
+ghost use Rattle.worker_desk.specs.declared.event.Event.TheVariants.{Built};
 ghost use Rattle.worker_desk.specs.Equipping.{installing, changing, StepTask, tasks, tasks_at, Equips};
 
 use crate::install_desk::InstallDesk;
@@ -63,7 +64,7 @@ fn install_step<D: InstallDesk>(desk: &mut D, worker: u32, flow: u32, step: u32)
     ensures free { D.held desk.new ≡ None }
     ensures flows { D.flows desk.new ≡ D.flows desk.old }
 {
-    let Some(entry) = desk.build(flow, step) else {
+    let Some(entry) = build(desk, flow, step) else {
         return;
     };
     if !install(desk, flow, entry) {
@@ -73,6 +74,19 @@ fn install_step<D: InstallDesk>(desk: &mut D, worker: u32, flow: u32, step: u32)
     if change(desk, flow) {
         desk.pass(worker, Point::AfterSettle, flow);
     }
+}
+
+/// Builds the text of a flow's step while no lock is held; None if the flow has no such step, or memory runs out.
+fn build<D: InstallDesk>(desk: &mut D, flow: u32, step: u32) -> Option<D::Entry>
+    requires flow { flow < D.flows desk.old }
+    requires free { D.held desk.old ≡ None }
+    ensures log { Logs (D.log desk.old) (D.log desk.new) (Built flow step (is_some result) ∷ []) }
+    ensures step { IfSome result (λ entry. D.step_of entry ≡ step) }
+    ensures free { D.held desk.new ≡ None }
+    ensures flows { D.flows desk.new ≡ D.flows desk.old }
+{
+    let text = D::build(desk.source(flow), step);
+    desk.take_entry(text)
 }
 
 /// Puts an entry into the flow's library, under the flow's lock, and says whether it was the next one.
