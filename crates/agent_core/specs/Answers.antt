@@ -21,7 +21,7 @@ frame_by flow agent Nothing = []
 frame_by flow agent (Update cwnd) = update_bytes One flow (values_of agent (Update cwnd))
 frame_by flow agent (Change program cwnd cap) = change_bytes One flow program (values_of agent (Change program cwnd cap))
 
--- the frame that tells the datapath
+-- the frame for the datapath
 abbrev pub frame_of : Ticket → List ℕ
 frame_of ticket = frame_by ticket.flow ticket.before (reply_of ticket)
 

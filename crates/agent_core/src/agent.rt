@@ -3,6 +3,7 @@ ghost use Rattle.std.specs.Prelude.{◌≡◌, ◌++◌, ◌+◌, ◌<◌, ◌�
 ghost use Rattle.agent_core.specs.Agents.{opening_change, replied, course_of, mss_of, cap_of, segment_of, window_pair, control_pair, values_of};
 ghost use Rattle.agent_core.specs.Kinds.{kind_of, agent_name};
 ghost use Rattle.std.specs.Option.{ForSome};
+ghost use Rattle.ccp_base.specs.Limits.{most_controls};
 ghost use Rattle.reply_frames.specs.ValueBytes.{AreTargets};
 
 use crate::kind::Kind;
@@ -125,7 +126,7 @@ fn window(cwnd: u64) -> Fields
 /// Puts a control variable's value at the end, if there is such a variable.
 fn put_control(values: &mut Fields, control: Option<u32>, value: u64)
     requires few { length values.old < 3 }
-    requires below { ForSome control (λ n. n < 64) }
+    requires below { ForSome control (λ n. n < most_controls) }
     requires targets { AreTargets values.old }
     ensures values { values.new ≡ values.old ++ control_pair control value }
     ensures targets { AreTargets values.new }
@@ -139,7 +140,7 @@ fn put_control(values: &mut Fields, control: Option<u32>, value: u64)
 /// Where a program keeps the window's cap; None if it is neither of the agent's.
 fn cap_of(course: &Course, program: u32) -> Option<u32>
     ensures value { result ≡ cap_of course.now program }
-    ensures below { ForSome result (λ n. n < 64) }
+    ensures below { ForSome result (λ n. n < most_controls) }
 {
     if course.ss.number == program {
         course.ss.look.cap
@@ -153,7 +154,7 @@ fn cap_of(course: &Course, program: u32) -> Option<u32>
 /// Where a program keeps the segment's size; None if it is neither of the agent's.
 fn segment_of(course: &Course, program: u32) -> Option<u32>
     ensures value { result ≡ segment_of course.now program }
-    ensures below { ForSome result (λ n. n < 64) }
+    ensures below { ForSome result (λ n. n < most_controls) }
 {
     if course.ss.number == program {
         course.ss.look.mss

@@ -8,7 +8,7 @@ use crate::ticket::Ticket;
 use ccp_base::Reply;
 use std::marker::Model;
 
-/// An agent's answer to a ticket: the ticket, the agent after it, its reply, and the frame that tells the datapath.
+/// An agent's answer to a ticket: the ticket, the agent after it, its reply, and the frame for the datapath.
 /// Contracts see an answer as its ticket, which determines the others.
 #[derive(Clone, Copy)]
 pub struct Answer {
@@ -78,7 +78,7 @@ impl Answer {
         self.reply
     }
 
-    /// The frame that tells the datapath, of version 1 and at most 64 bytes; no bytes if the agent replies
+    /// The frame for the datapath, of version 1 and at most 64 bytes; no bytes if the agent replies
     /// nothing.
     pub fn frame(&self) -> &[u8]
         ensures bytes { result.now ≡ frame_of self.now }

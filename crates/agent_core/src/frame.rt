@@ -17,7 +17,7 @@ pub struct Frame {
 
 impl Model for Frame {
     ghost use Rattle.std.specs.Prelude.{ℕ, List, take, length};
-    ghost use Rattle.ccp_base.specs.InPlace.{IsPadded, padded, padded-held, length-held};
+    ghost use Rattle.ccp_base.specs.InPlace.{IsPadded, pad, pad-held, length-held};
 
     ghost Value = { List ℕ };
 
@@ -25,10 +25,10 @@ impl Model for Frame {
 
     ghost invariant = { λ f. IsPadded 64 0 f.bytes f.count };
 
-    ghost inverse = { λ xs. record { bytes = padded 64 0 xs; count = length xs } };
+    ghost inverse = { λ xs. record { bytes = pad 64 0 xs; count = length xs } };
 
     ghost inverse_ok = { λ a h. λ i. record {
-      bytes = padded-held 64 0 a.bytes a.count h i;
+      bytes = pad-held 64 0 a.bytes a.count h i;
       count = length-held 64 0 a.bytes a.count h i;
     } };
 }

@@ -25,7 +25,7 @@ const KINDS: [Kind; 2] = [Kind::Reno, Kind::Cubic];
 
 impl Kind {
     /// The kind of this name; None if no kind has it.
-    pub fn named(name: &[u8]) -> Option<Kind>
+    pub fn from_name(name: &[u8]) -> Option<Kind>
         ensures { result ≡ kind_named name.now }
     {
         KINDS.iter().copied().find(|kind| kind.is_named(name))

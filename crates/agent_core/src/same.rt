@@ -1,16 +1,12 @@
-//! Equality of agents, roles, reports and notices, part by part, by which tickets and cases are compared.
+//! Equality of agents, roles, reports and notices, part by part, by which tickets and cases are compared. What only
+//! compares by `==` is a function of its own: the search turns its `==` into an equation, which the comparisons part by
+//! part take from the clause.
 ghost use Rattle.std.specs.Prelude.{◌≡◌, ◌↔◌, IsTrue};
 
 use crate::agent::Agent;
-use ccp_base::{Course, FaultKind, Look, Notice, Phase, Report, Role, Told, Values};
+use ccp_base::{Course, FaultKind, Look, Notice, Phase, Report, Role, Told, Values, same_number};
 use cubic_agent::{Cubic, Growth};
 use reno_agent::Reno;
-
-fn same_number(this: Option<u32>, other: Option<u32>) -> bool
-    ensures { IsTrue result ↔ (this ≡ other) }
-{
-    this == other
-}
 
 fn same_look(this: &Look, other: &Look) -> bool
     ensures { IsTrue result ↔ (this.now ≡ other.now) }

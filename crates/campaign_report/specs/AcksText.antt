@@ -14,7 +14,7 @@ use Rattle.flow_core.specs.LiveText.{flow_line}
 abbrev pub now_number : ℕ
 now_number = 7
 
--- a primitive is shown where its value isn't 0, and `now` always
+-- a primitive is shown if its value isn't 0, and `now` always
 abbrev pub is_shown : ℕ → ℕ → Bool
 is_shown number value = (number == now_number) || nat_lt 0 value
 
@@ -23,7 +23,7 @@ abbrev pub gap : Bool → List ℕ
 gap true = codes " "
 gap false = []
 
--- the item of a primitive with this number, name and value, where it is shown
+-- the item of a primitive with this number, name and value, if it is shown
 abbrev pub item_text : Bool → ℕ → List ℕ → ℕ → List ℕ
 item_text follows number name value =
     if is_shown number value then gap follows ⧺ name ⧺ codes "=" ⧺ decimal value else []

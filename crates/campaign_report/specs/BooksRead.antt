@@ -16,7 +16,7 @@ use Rattle.flow_core.specs.Words.{world}
 use Rattle.flow_core.specs.World.{Content, of_report, of_failure, Answered, World, track_of}
 use Rattle.campaign_report.specs.BookText.{placed_failure}
 
--- the content of a ticket, where a fault has the place of its instruction
+-- the content of a ticket, if a fault has the place of its instruction
 abbrev pub content_of : List (ℕ × Built) → Case → Told → Content Place
 content_of programs case (Report report) = of_report report
 content_of programs case (Fault notice) = of_failure (placed_failure programs case notice)

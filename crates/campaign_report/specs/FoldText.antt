@@ -9,23 +9,18 @@ use Rattle.reg_compiler.specs.declared.built.Built.{Built}
 use Rattle.report_lines.specs.declared.end_line.End.{End}
 use Rattle.ccp_base.specs.Text.{◌⧺◌}
 use Rattle.report_lines.specs.EndLine.{end_line}
-use Rattle.report_lines.specs.FaultLine.{fault_line}
+use Rattle.report_lines.specs.FaultLine.{placed_line}
 use Rattle.report_lines.specs.ReportLine.{report_lines}
 
--- the line of a fault, where its instruction has a place
-abbrev pub placed_fault_line : Notice → Option Place → List ℕ
-placed_fault_line notice None = []
-placed_fault_line notice (Some place) = fault_line notice.epoch notice.at notice.kind place
-
 -- the line of a fault or none, each instruction having one of these places
-abbrev pub notice_line : List Place → Option Notice → List ℕ
-notice_line places None = []
-notice_line places (Some notice) = placed_fault_line notice (slice_get places notice.index)
+abbrev pub fault_part : List Place → Option Notice → List ℕ
+fault_part places None = []
+fault_part places (Some notice) = placed_line notice (slice_get places notice.index)
 
 -- reports and the fault in order of acknowledgements, which is that order since a fault stops the program, and the end
 abbrev pub fold_text : List Decl → List Place → List Report → Option Notice → End → List ℕ
 fold_text fields places reports fault end =
-    report_lines fields reports ⧺ notice_line places fault ⧺ end_line fields (length reports) end
+    report_lines fields reports ⧺ fault_part places fault ⧺ end_line fields (length reports) end
 
 -- a report shows as many fields as are declared
 abbrev pub ShowsAll : List Decl → Report → Type 0

@@ -1,4 +1,4 @@
--- The definitions of campaign_report, a file each.
+-- The definitions of campaign_report, a file each. Public contracts cite all.
 pub mod FoldText
 pub mod CheckText
 pub mod WireText

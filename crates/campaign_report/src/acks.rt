@@ -68,6 +68,7 @@ fn put_flows(
     Ok(())
 }
 
+// A function of its own: the loop above has one call in each turn, so it needs only its invariant.
 fn put_flow_text(
     alloc: Global,
     text: &mut Bytes,
@@ -110,7 +111,8 @@ fn put_items(
     ack: &Ack,
 ) -> Result<(), NoMemory>
     requires { length names.now ≡ primitive_count }
-    ensures { OnOk result (text.new ≡ text.old ++ items_text false 0 (map (λ n. (n.0.now, n.1.now)) names.now) ack.entry.now) }
+    ensures { OnOk result (text.new
+        ≡ text.old ++ items_text false 0 (map (λ n. (n.0.now, n.1.now)) names.now) ack.entry.now) }
 {
     let mut follows = false;
     for (index, known) in names.iter().enumerate() {

@@ -40,6 +40,7 @@ fn summary(alloc: Global, program: &Program) -> Result<Bytes, NoMemory>
     Ok(text)
 }
 
+// Two functions of their own, this and `count`: they prove that a compiled program is below the caps of `reg_compiler`.
 /// The greatest number of temporaries that an expression of the program needs.
 fn need(program: &Program) -> u32
     requires { refusal_of (form_of program.now) ≡ None }

@@ -3,7 +3,8 @@ ghost use Rattle.std.specs.Prelude.{◌≡◌, ◌++◌, IfOk, OnOk, length, opt
 ghost use Rattle.std.specs.List.{All};
 ghost use Rattle.std.specs.Option.{ForSome};
 ghost use Rattle.portus_core.specs.ProgramForm.{form_of};
-ghost use Rattle.campaign_report.specs.FoldText.{IsPlaced, ShowsAll, notice_line, placed_fault_line, program_text};
+ghost use Rattle.report_lines.specs.FaultLine.{placed_line};
+ghost use Rattle.campaign_report.specs.FoldText.{IsPlaced, ShowsAll, fault_part, program_text};
 
 use ccp_base::{Bytes, NoMemory, Notice, Place, Reports};
 use reg_compiler::Built;
@@ -40,7 +41,7 @@ fn put_notice(
     places: &[Place],
     fault: Option<Notice>,
 ) -> Result<(), NoMemory>
-    ensures { OnOk result (text.new ≡ text.old ++ notice_line places.now fault) }
+    ensures { OnOk result (text.new ≡ text.old ++ fault_part places.now fault) }
 {
     match fault {
         None => Ok(()),
@@ -54,7 +55,7 @@ fn put_placed(
     notice: &Notice,
     place: Option<&Place>,
 ) -> Result<(), NoMemory>
-    ensures { OnOk result (text.new ≡ text.old ++ placed_fault_line notice.entry.now (option_map (λ p. p.now) place.entry)) }
+    ensures { OnOk result (text.new ≡ text.old ++ placed_line notice.entry.now (option_map (λ p. p.now) place.entry)) }
 {
     match place {
         None => Ok(()),

@@ -1,5 +1,5 @@
-//! The texts of modes: of folds, checked programs, live runs and campaigns, of the acknowledgements of flows, and of the
-//! frames that install programs.
+//! The texts of modes: of folds, checked programs, live runs and campaigns, of the acknowledgements of flows, and of
+//! the frames that install programs.
 #![tactic(auto)]
 
 mod acks;

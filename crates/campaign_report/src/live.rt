@@ -21,7 +21,8 @@ use std::alloc::Global;
 /// each book has the state after its word, read over the sources of the programs, it is the live text of these words.
 pub fn live_text(alloc: Global, books: &[Book], programs: &Builts) -> Result<Bytes, NoMemory>
     ensures text { IfOk result (λ text. text ≡ books_text programs.now books.now) }
-    ensures live { All (IsBookRead programs.now) books.now → IfOk result (λ text. text ≡ read_text programs.now books.now) }
+    ensures live { All (IsBookRead programs.now) books.now
+        → IfOk result (λ text. text ≡ read_text programs.now books.now) }
 {
     let mut text = Bytes::new(alloc);
     put_books(alloc, &mut text, programs.as_slice(), books)?;
@@ -108,7 +109,8 @@ fn put_last(
     programs: &[(u32, Built)],
     book: &Book,
 ) -> Result<(), NoMemory>
-    ensures { OnOk result (text.new ≡ text.old ++ account_end_line (sources_of programs.now) (account_in programs.now book.now)) }
+    ensures { OnOk result (text.new
+        ≡ text.old ++ account_end_line (sources_of programs.now) (account_in programs.now book.now)) }
 {
     let counts = Counts {
         reports: report_count(book.tickets.as_slice()),

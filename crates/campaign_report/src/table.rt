@@ -68,7 +68,7 @@ fn put_heading(text: &mut Bytes, columns: &[Column]) -> Result<(), NoMemory>
     Ok(())
 }
 
-/// Puts the words above columns at the end of a text, each after a space.
+/// Appends the words above columns, each after a space.
 fn put_headings(text: &mut Bytes, columns: &[Column]) -> Result<(), NoMemory>
     ensures { OnOk result (text.new ≡ text.old ++ headings columns.now) }
 {
@@ -132,7 +132,7 @@ fn put_row_head(text: &mut Bytes, name: &Name, agent: &Agent) -> Result<(), NoMe
     Ok(())
 }
 
-/// Puts a row's numbers in columns at the end of a text, each after a space.
+/// Appends a row's numbers in columns, each after a space.
 fn put_values(
     alloc: Global,
     text: &mut Bytes,

@@ -8,7 +8,7 @@ use campaign_gate::{Column, Row};
 use ccp_base::{Bytes, NoMemory};
 use std::alloc::Global;
 
-/// Puts the total over all cases at the end of a text.
+/// Appends the total over all cases.
 pub(crate) fn put_total(alloc: Global, text: &mut Bytes, rows: &[Row]) -> Result<(), NoMemory>
     requires { length rows.now ≤ most_cases }
     ensures { OnOk result (text.new ≡ text.old ++ total_line rows.now) }
@@ -21,7 +21,7 @@ pub(crate) fn put_total(alloc: Global, text: &mut Bytes, rows: &[Row]) -> Result
     Ok(())
 }
 
-/// Puts the sums of those columns that the total has at the end of a text.
+/// Appends the sums of those columns that the total has.
 fn put_sums(
     alloc: Global,
     text: &mut Bytes,
@@ -39,7 +39,7 @@ fn put_sums(
     Ok(())
 }
 
-/// Puts the sum of a column with its word at the end of a text, if the total has it.
+/// Appends the sum of a column with its word, if the total has it.
 fn put_sum(alloc: Global, text: &mut Bytes, column: Column, rows: &[Row]) -> Result<(), NoMemory>
     requires { length rows.now ≤ most_cases }
     ensures { OnOk result (text.new ≡ text.old ++ sum_text (is_summed column) column rows.now) }

@@ -47,7 +47,7 @@ module _ (separator : Separator) (text : List ℕ) (i : ℕ) (within : i < lengt
         ∙ ap (λ rest. take i text ++ get_or text i 0 ∷ rest) (sym (take_rest text (i + 1)));
   }
 
-  -- at another byte it goes on
+  -- at another byte it continues
   pub parts_past_byte : separates separator (get_or text i 0) ≡ false → parts_of separator text ≡ prefixed (take i text) (parts_of separator (drop i text)) → parts_of separator text ≡ prefixed (take (i + 1) text) (parts_of separator (drop (i + 1) text))
   parts_past_byte is so_far =
       so_far

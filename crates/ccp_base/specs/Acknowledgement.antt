@@ -27,7 +27,7 @@ flag_number = 14
 abbrev pub is_flag : ℕ → Bool
 is_flag n = n == flag_number
 
--- the acknowledgement with these values, the Bool true where its number isn't 0
+-- the acknowledgement with these values, the Bool true if its number isn't 0
 abbrev pub ack_of : List ℕ → Ack
 ack_of n = record {
   bytes_acked = slice_index n 0;

@@ -11,15 +11,15 @@ pub record IsPadded {A : Type 0} (size : ℕ) (blank : A) (places : List A) (cou
   pub rest : drop count places ≡ replicate (size - count) blank
 
 -- the array that holds the list
-abbrev pub padded : {A : Type 0} → ℕ → A → List A → List A
-padded size blank items = items ++ replicate (size - length items) blank
+abbrev pub pad : {A : Type 0} → ℕ → A → List A → List A
+pad size blank items = items ++ replicate (size - length items) blank
 
 pub length-held : {A : Type 0} (size : ℕ) (blank : A) (places : List A) (count : ℕ) → IsPadded size blank places count → length (take count places) ≡ count
 length-held size blank places count held = let fits : count ≤ length places = omega (arith, held.full) in length-take-le count places fits
 
 -- the list at the front determines the array
-pub padded-held : {A : Type 0} (size : ℕ) (blank : A) (places : List A) (count : ℕ) → IsPadded size blank places count → padded size blank (take count places) ≡ places
-padded-held size blank places count held =
+pub pad-held : {A : Type 0} (size : ℕ) (blank : A) (places : List A) (count : ℕ) → IsPadded size blank places count → pad size blank (take count places) ≡ places
+pad-held size blank places count held =
     ap (λ n. take count places ++ replicate (size - n) blank) (length-held size blank places count held)
     ∙ ap (λ xs. take count places ++ xs) (sym held.rest)
     ∙ take-append-drop count places
@@ -44,8 +44,8 @@ IsPadded-push_held size blank places count item held room =
     IsPadded-push size blank places count item (omega arith) held
 
 -- the array that holds a list holds it
-pub IsPadded-padded : {A : Type 0} (size : ℕ) (blank : A) (items : List A) → length items ≤ size → IsPadded size blank (padded size blank items) (length items)
-IsPadded-padded size blank items fits = record {
+pub IsPadded-pad : {A : Type 0} (size : ℕ) (blank : A) (items : List A) → length items ≤ size → IsPadded size blank (pad size blank items) (length items)
+IsPadded-pad size blank items fits = record {
   full = length-append items (replicate (size - length items) blank) ∙ ap (λ n. length items + n) (length-replicate (size - length items) blank) ∙ omega arith;
   within = fits;
   rest = drop-append_seam items (replicate (size - length items) blank);

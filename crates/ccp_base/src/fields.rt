@@ -40,7 +40,7 @@ pub struct Fields {
 
 impl Model for Fields {
     ghost use Rattle.std.specs.Prelude.{ℕ, List, take, length};
-    ghost use Rattle.ccp_base.specs.InPlace.{IsPadded, padded, padded-held, length-held};
+    ghost use Rattle.ccp_base.specs.InPlace.{IsPadded, pad, pad-held, length-held};
     ghost use Rattle.ccp_base.specs.FieldReg.{Pair, blank};
 
     ghost Value = { List Pair };
@@ -49,9 +49,10 @@ impl Model for Fields {
 
     ghost invariant = { λ f. IsPadded 66 blank f.pairs f.count };
 
-    ghost inverse = { λ xs. record { pairs = padded 66 blank xs; count = length xs } };
+    ghost inverse = { λ xs. record { pairs = pad 66 blank xs; count = length xs } };
 
-    ghost inverse_ok = { λ a h. λ i. record { pairs = padded-held 66 blank a.pairs a.count h i; count = length-held 66 blank a.pairs a.count h i } };
+    ghost inverse_ok = { λ a h. λ i.
+        record { pairs = pad-held 66 blank a.pairs a.count h i; count = length-held 66 blank a.pairs a.count h i } };
 }
 
 impl Fields {

@@ -25,7 +25,7 @@ pub trait Gate {
     fn pass(&self, worker: u32, point: Point, number: u32);
 }
 
-/// The gate that holds nobody.
+/// The gate that holds no worker.
 #[derive(Clone, Copy)]
 pub struct OpenGate;
 

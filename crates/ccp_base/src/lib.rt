@@ -5,6 +5,7 @@
 mod ack;
 mod arithmetic;
 mod course;
+mod equality;
 mod exchange;
 mod fields;
 mod gate;
@@ -27,8 +28,9 @@ mod values;
 mod workers;
 
 pub use ack::{Ack, Acks, PRIMITIVES, ack_of, bool_number, is_flag, is_true, prim, primitives};
-pub use arithmetic::{FaultKind, add, blended, div, mul, sub};
+pub use arithmetic::{FaultKind, add, div, moving_average, mul, sub};
 pub use course::{Course, Phase, initial_segments};
+pub use equality::{same_bytes, same_number};
 pub use exchange::{Notice, Reply, Report, Reports, Told};
 pub use fields::{FieldReg, Fields, PAIRS};
 pub use gate::{Gate, OpenGate, Point};
@@ -52,3 +54,6 @@ pub use workers::Workers;
 
 /// The most report fields that a program declares.
 pub const FIELDS: u32 = 64;
+
+/// The most texts that a flow changes to in turn.
+pub const STEPS: usize = 16;

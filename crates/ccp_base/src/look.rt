@@ -1,6 +1,7 @@
 //! Where a program keeps what agents read and write, and the role in which an agent starts it.
 ghost use Rattle.std.specs.Prelude.{◌<◌};
 ghost use Rattle.std.specs.Option.{ForSome};
+ghost use Rattle.ccp_base.specs.Limits.{most_fields, most_controls};
 
 /// Where a program keeps the fields and control variables that agents read and write: the number of each in
 /// order of declaration, or None if the program doesn't declare it. Each number is below 64.
@@ -22,14 +23,14 @@ pub struct Look {
     pub mss: Option<u32>,
     /// The field of the packets that were marked.
     pub ecn: Option<u32>,
-    ghost acked_below: { ForSome acked (λ n. n < 64) },
-    ghost loss_below: { ForSome loss (λ n. n < 64) },
-    ghost timeout_below: { ForSome timeout (λ n. n < 64) },
-    ghost rtt_below: { ForSome rtt (λ n. n < 64) },
-    ghost inflight_below: { ForSome inflight (λ n. n < 64) },
-    ghost cap_below: { ForSome cap (λ n. n < 64) },
-    ghost mss_below: { ForSome mss (λ n. n < 64) },
-    ghost ecn_below: { ForSome ecn (λ n. n < 64) },
+    ghost acked_below: { ForSome acked (λ n. n < most_fields) },
+    ghost loss_below: { ForSome loss (λ n. n < most_fields) },
+    ghost timeout_below: { ForSome timeout (λ n. n < most_fields) },
+    ghost rtt_below: { ForSome rtt (λ n. n < most_fields) },
+    ghost inflight_below: { ForSome inflight (λ n. n < most_fields) },
+    ghost cap_below: { ForSome cap (λ n. n < most_controls) },
+    ghost mss_below: { ForSome mss (λ n. n < most_controls) },
+    ghost ecn_below: { ForSome ecn (λ n. n < most_fields) },
 }
 
 /// A program that an agent can start: its number, and where it keeps what the agent reads and writes.

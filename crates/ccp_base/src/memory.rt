@@ -88,8 +88,8 @@ impl Source for MemSource<'_> {
     }
 }
 
-/// A sink in memory, whose calls fail at the listed numbers. A `finish` fails only there. A `write` also fails if memory
-/// for its bytes is refused, which `refusals` counts.
+/// A sink in memory, whose calls fail at the listed numbers. A `finish` fails only there. A `write` also fails if
+/// memory for its bytes is refused, which `refusals` counts.
 #[derive(Drop)]
 pub struct MemSink<'a> {
     bytes: Bytes,
@@ -170,7 +170,7 @@ impl Sink for MemSink<'_> {
         ensures within { IfOk result (λ n. n ≤ length bytes.now) }
         ensures appends { IfOk result (λ n. Appends (Some self.old.bytes) (Some self.new.bytes) (take n bytes.now)) }
         ensures listed { Contains self.old.failing.now self.old.calls → IsErr result }
-        // Any other call fails only where it counts a refusal of memory.
+        // Any other call fails only if it counts a refusal of memory.
         ensures unlisted { IsErr result → (Contains self.old.failing.now self.old.calls → ⊥)
             → self.new.refusals ≡ min (self.old.refusals + 1) u64.MAX }
         ensures refusals { OnOk result (self.new.refusals ≡ self.old.refusals) }

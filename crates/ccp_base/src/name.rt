@@ -1,6 +1,6 @@
 //! Short texts held in place: names and words of 1 to 64 bytes.
 ghost use Rattle.std.specs.Prelude.{◌≡◌, ◌≤◌, ◌++◌, drop, length};
-ghost use Rattle.ccp_base.specs.InPlace.{padded};
+ghost use Rattle.ccp_base.specs.InPlace.{pad};
 ghost use Rattle.ccp_base.specs.Limits.{most_name_bytes};
 ghost use Rattle.ccp_base.specs.Named.{as_name};
 
@@ -19,7 +19,7 @@ pub struct Name {
 
 impl Model for Name {
     ghost use Rattle.std.specs.Prelude.{ℕ, List, take, length};
-    ghost use Rattle.ccp_base.specs.InPlace.{padded};
+    ghost use Rattle.ccp_base.specs.InPlace.{pad};
     ghost use Rattle.ccp_base.specs.Named.{IsHeld, bytes-held, count-held};
 
     ghost Value = { List ℕ };
@@ -28,9 +28,10 @@ impl Model for Name {
 
     ghost invariant = { λ n. IsHeld n.bytes n.count };
 
-    ghost inverse = { λ xs. record { bytes = padded 64 0 xs; count = length xs } };
+    ghost inverse = { λ xs. record { bytes = pad 64 0 xs; count = length xs } };
 
-    ghost inverse_ok = { λ a h. λ i. record { bytes = bytes-held a.bytes a.count h i; count = count-held a.bytes a.count h i } };
+    ghost inverse_ok = { λ a h. λ i.
+        record { bytes = bytes-held a.bytes a.count h i; count = count-held a.bytes a.count h i } };
 }
 
 impl Name {
@@ -42,7 +43,7 @@ impl Name {
             return None;
         }
         Some(Name {
-            bytes: padded(text),
+            bytes: pad(text),
             count: text.len(),
         })
     }
@@ -67,9 +68,9 @@ fn write_front(out: &mut [u8], text: &[u8])
 }
 
 /// The text, padded with 0.
-fn padded(text: &[u8]) -> [u8; 64]
+fn pad(text: &[u8]) -> [u8; 64]
     requires { length text.now ≤ most_name_bytes }
-    ensures { result ≡ padded 64 0 text.now }
+    ensures { result ≡ pad 64 0 text.now }
 {
     let mut bytes = [0; 64];
     write_front(&mut bytes, text);

@@ -2,7 +2,7 @@
 ghost use Rattle.std.specs.Prelude.{◌≡◌, Some};
 ghost use Rattle.std.specs.List.{list_any};
 ghost use Rattle.std.specs.Str.{bytes_eq};
-ghost use Rattle.ccp_base.specs.Operations.{written_as, gives_truth, applied, first_where, operation_numbered};
+ghost use Rattle.ccp_base.specs.Operations.{written_as, gives_truth, apply, first_where, operation_numbered};
 ghost use Rattle.ccp_base.specs.Operations.{is_written, operator_of, is_operation_mark};
 
 use crate::ack::{bool_number, is_true};
@@ -52,7 +52,7 @@ const OPERATIONS: [Op2; 11] = [
 
 /// How an operation is written.
 #[derive(Clone, Copy)]
-struct Written {
+struct Notation {
     /// In frames.
     number: u8,
     /// In a listing and in programs.
@@ -64,7 +64,7 @@ struct Written {
 }
 
 impl Op2 {
-    fn written(self) -> Written
+    fn notation(self) -> Notation
         ensures number { result.number ≡ (written_as self).number }
         ensures word { result.word.now ≡ (written_as self).word }
         ensures mark { result.mark.now ≡ (written_as self).mark }
@@ -89,27 +89,27 @@ impl Op2 {
     pub fn number(self) -> u8
         ensures { result ≡ (written_as self).number }
     {
-        self.written().number
+        self.notation().number
     }
 
     /// Its name, which a program may write as well.
     pub fn word(self) -> &'static str
         ensures { result.now ≡ (written_as self).word }
     {
-        self.written().word
+        self.notation().word
     }
 
     /// Whether its result is a Bool.
     pub fn gives_truth(self) -> bool
         ensures { result ≡ gives_truth self }
     {
-        self.written().truth
+        self.notation().truth
     }
 
     /// The operation on two values, or why it has no result.
     #[inline(always)]
-    pub fn applied(self, a: u64, b: u64) -> Result<u64, FaultKind>
-        ensures { result ≡ applied self a b }
+    pub fn apply(self, a: u64, b: u64) -> Result<u64, FaultKind>
+        ensures { result ≡ apply self a b }
     {
         let value = match self {
             Op2::Add => add(a, b)?,
@@ -131,25 +131,25 @@ impl Op2 {
     fn is_written(self, text: &[u8]) -> bool
         ensures { result ≡ is_written text.now self }
     {
-        let written = self.written();
-        text == written.mark.as_bytes() || text == written.word.as_bytes()
+        let notation = self.notation();
+        text == notation.mark.as_bytes() || text == notation.word.as_bytes()
     }
 
     /// Whether this text is its mark.
     fn is_marked(self, text: &[u8]) -> bool
         ensures { result ≡ bytes_eq text.now (written_as self).mark }
     {
-        text == self.written().mark.as_bytes()
+        text == self.notation().mark.as_bytes()
     }
 }
 
-fn row_of(number: u8, word: &'static str, mark: &'static str, truth: bool) -> Written
+fn row_of(number: u8, word: &'static str, mark: &'static str, truth: bool) -> Notation
     ensures number { result.number ≡ number }
     ensures word { result.word.now ≡ word.now }
     ensures mark { result.mark.now ≡ mark.now }
     ensures truth { result.truth ≡ truth }
 {
-    Written {
+    Notation {
         number,
         word,
         mark,

@@ -5,6 +5,8 @@ ghost use Rattle.std.specs.Str.{bytes_eq};
 ghost use Rattle.ccp_base.specs.Limits.{primitive_count};
 ghost use Rattle.ccp_base.specs.PrimitiveNames.{value_named, primitive_named};
 
+use crate::equality::same_bytes;
+
 /// The primitives by their names, in the order of the fields of `Ack`: the prefix, which a program writes before a
 /// dot, and the name.
 pub const PRIMITIVE_NAMES: [(&[u8], &[u8]); 15] = [
@@ -47,7 +49,7 @@ fn place_of_name(known: &[(&[u8], &[u8])], name: &[u8]) -> Option<usize>
     ensures number { result ≡ position (λ k. bytes_eq name.now k.1.now) known.now }
     ensures within { ForSome result (λ n. n < length known.now) }
 {
-    known.iter().position(|known| is_same(name, known.1))
+    known.iter().position(|known| same_bytes(name, known.1))
 }
 
 // As above, for whole words.
@@ -58,12 +60,6 @@ fn place_of_word(known: &[(&[u8], &[u8])], word: &[u8]) -> Option<usize>
     known
         .iter()
         .position(|known| is_word(word, known.0, known.1))
-}
-
-fn is_same(name: &[u8], known: &[u8]) -> bool
-    ensures { result ≡ bytes_eq name.now known.now }
-{
-    name == known
 }
 
 /// Whether a word is this prefix, a dot and this name.
@@ -80,7 +76,7 @@ fn is_dotted(word: &[u8], name: &[u8]) -> bool
     ensures { result ≡ bytes_eq word.now (46 ∷ name.now) }
 {
     match word.split_first() {
-        Some((first, rest)) => *first == b'.' && is_same(rest, name),
+        Some((first, rest)) => *first == b'.' && same_bytes(rest, name),
         None => false,
     }
 }

@@ -16,7 +16,7 @@ pub struct Values {
 
 impl Model for Values {
     ghost use Rattle.std.specs.Prelude.{ℕ, List, take, length};
-    ghost use Rattle.ccp_base.specs.InPlace.{IsPadded, padded, padded-held, length-held};
+    ghost use Rattle.ccp_base.specs.InPlace.{IsPadded, pad, pad-held, length-held};
 
     ghost Value = { List ℕ };
 
@@ -24,9 +24,10 @@ impl Model for Values {
 
     ghost invariant = { λ v. IsPadded 64 0 v.numbers v.count };
 
-    ghost inverse = { λ xs. record { numbers = padded 64 0 xs; count = length xs } };
+    ghost inverse = { λ xs. record { numbers = pad 64 0 xs; count = length xs } };
 
-    ghost inverse_ok = { λ a h. λ i. record { numbers = padded-held 64 0 a.numbers a.count h i; count = length-held 64 0 a.numbers a.count h i } };
+    ghost inverse_ok = { λ a h. λ i.
+        record { numbers = pad-held 64 0 a.numbers a.count h i; count = length-held 64 0 a.numbers a.count h i } };
 }
 
 impl Values {

@@ -103,7 +103,7 @@ decoded-bad bytes field place e =
     let left : b.0 ≡ length bytes - place = omega (arith, b.2, r.left_is, ap length r.parts, length-append r.front (r.byte ∷ r.after)) in
     (subst (IsBadFrom bytes) (sym b.2) (bad_is bytes field b.0 read), read ∙ ap (λ left. Err (stops.Bad field left)) left)
 
--- ---- what a call answers, where there was memory
+-- ---- what a call answers, if there was memory
 
 abbrev pub IsTold : List ℕ → Result Found DecodeFault → Type 0
 IsTold bytes result = IsDecoded result (decoded_of bytes)

@@ -23,7 +23,7 @@ pub fn implicit_number(which: Implicit) -> u8
 }
 
 /// The implicit register of a number below 6.
-pub fn numbered_implicit(number: u64) -> Implicit
+pub fn implicit_numbered(number: u64) -> Implicit
     ensures { result ≡ implicit_of number }
 {
     match number {
@@ -62,7 +62,7 @@ pub fn reg_of(part: Register) -> Reg
         1 => Reg::Prim(number as u8),
         2 => Reg::Report(number as u8),
         3 => Reg::Control(number as u8),
-        4 => Reg::Implicit(numbered_implicit(number)),
+        4 => Reg::Implicit(implicit_numbered(number)),
         5 => Reg::Local(number as u8),
         _ => Reg::Temp(number as u8),
     }

@@ -13,22 +13,22 @@ use crate::fault::{DecodeFault, Halt};
 use crate::message::Message;
 use crate::read_body::body;
 use reply_frames::head::outline;
-use reply_frames::{Stop, Version, needed};
+use reply_frames::{Stop, Version, needed_bytes};
 use std::alloc::Global;
 
 /// Why bytes don't begin with a frame, from where reading stopped.
-fn stopped(bytes: &[u8], stop: Stop) -> DecodeFault
+fn decode_fault(bytes: &[u8], stop: Stop) -> DecodeFault
     ensures { result ≡ decode_fault bytes.now stop }
 {
     match stop {
-        Stop::Cut => DecodeFault::More(needed(bytes)),
+        Stop::Cut => DecodeFault::More(needed_bytes(bytes)),
         Stop::Bad(field, left) => DecodeFault::Bad(field, bytes.len().saturating_sub(left)),
     }
 }
 
 /// The message whose frame begins the bytes, its version and the frame's length.
 #[tactic(auto, unfolding(reply_frames::specs::Frames::frame_at))]
-fn found(alloc: Global, bytes: &[u8]) -> Result<(Message, Version, usize), Halt>
+fn read_message(alloc: Global, bytes: &[u8]) -> Result<(Message, Version, usize), Halt>
     ensures read { ReturnsReading (λ x. x) result (found_from (length bytes.now) (frame_at bytes.now)) }
     ensures memory { result ≡ Err Halt.NoMemory → BeginsInstall bytes.now }
 {
@@ -43,9 +43,9 @@ fn decode_exactly(alloc: Global, bytes: &[u8]) -> Result<(Message, Version, usiz
     ensures told { IsDecoded result (decoded_of bytes.now) }
     ensures memory { result ≡ Err DecodeFault.NoMemory → BeginsInstall bytes.now }
 {
-    match found(alloc, bytes) {
+    match read_message(alloc, bytes) {
         Ok(found) => Ok(found),
-        Err(Halt::Stopped(stop)) => Err(stopped(bytes, stop)),
+        Err(Halt::Stopped(stop)) => Err(decode_fault(bytes, stop)),
         Err(Halt::NoMemory) => Err(DecodeFault::NoMemory),
     }
 }

@@ -78,10 +78,10 @@ fn ack(bytes: &[u8], flow: u32) -> Result<(Message, &[u8]), Stop>
 }
 
 /// A Refused from its body, and the bytes after it.
-fn refused(bytes: &[u8], flow: u32) -> Result<(Message, &[u8]), Stop>
+fn refusal(bytes: &[u8], flow: u32) -> Result<(Message, &[u8]), Stop>
     ensures { Gives (λ x. (x.0, x.1.now)) result (made (message_of flow) (refused_at bytes.now)) }
 {
-    let ((reason, index), rest) = bodies::refused(bytes)?;
+    let ((reason, index), rest) = bodies::refusal(bytes)?;
     Ok((
         Message::Refused {
             flow,
@@ -107,6 +107,6 @@ pub fn body(alloc: Global, bytes: &[u8], head: Outline) -> Result<(Message, &[u8
         FrameKind::Change => Ok(change(bytes, head.flow, first)?),
         FrameKind::Fault => Ok(fault(bytes, head.version, head.flow)?),
         FrameKind::Ack => Ok(ack(bytes, head.flow)?),
-        FrameKind::Refused => Ok(refused(bytes, head.flow)?),
+        FrameKind::Refused => Ok(refusal(bytes, head.flow)?),
     }
 }

@@ -42,7 +42,7 @@ module _ (command : Command) (names : HeldNames) (app : app_of command ≡ comma
   id_of : (j : ℕ) (d : Arg) → j < 6 → (slice_index_or (args_of command) j d).id.now ≡ (slice_index_or (command_line names).top.rules j (rule_of d)).id
   id_of j d lt = ap (λ (r : Rule). r.id) (rule_is j d lt)
 
-  -- the option at a place with this name and range has a value in the range, where no other argument has its name
+  -- the option at a place with this name and range has a value in the range, if no other argument has its name
   number_at : (k : ℕ) (name : Text) (least most : ℕ) → k < 6
       → slice_index_or (command_line names).top.rules k (rule_of some) ≡ number_option name least most
       → ((j : ℕ) (d : Rule) → j < 6 → bytes_eq (slice_index_or (command_line names).top.rules j d).id name ≡ true → j ≡ k)

@@ -31,7 +31,7 @@ mode_argument names = record (new_rule (codes "mode")) {
   required = true;
 }
 
--- an option whose value is a whole number from `least` to `most`, and 1 where it isn't given
+-- an option whose value is a whole number from `least` to `most`, and 1 if it isn't given
 abbrev pub number_option : Text → ℕ → ℕ → Rule
 number_option name least most = record (new_rule name) {
   long = Some name;
@@ -63,7 +63,7 @@ unplaced x = record { ref_ptr = (0, 0); now = x }
 abbrev pub ccp : App
 ccp = command_line (unplaced (map unplaced mode_names))
 
--- words are accepted where the command line names no fault in them; the first is the program's name
+-- words are accepted if the command line names no fault in them; the first is the program's name
 unfoldable pub are_accepted : List Text → Bool
 are_accepted words = is_empty (fault_of ccp words)
 

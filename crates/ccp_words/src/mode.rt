@@ -52,7 +52,7 @@ pub(crate) fn names<'a>() -> &'a [&'a str]
 }
 
 /// The mode of a name.
-fn named(name: &str) -> Option<ToolMode>
+fn mode_named(name: &str) -> Option<ToolMode>
     ensures { result ≡ mode_named name.now }
 {
     match name {
@@ -81,6 +81,6 @@ impl FromStr for ToolMode {
     ghost from_str_gives = { λ name mode. result_ok mode ≡ mode_named name };
 
     fn from_str(name: &str) -> Result<ToolMode, NoMode> {
-        named(name).ok_or(NoMode)
+        mode_named(name).ok_or(NoMode)
     }
 }

@@ -29,7 +29,7 @@ impl From<AllocError> for Unasked {
     }
 }
 
-/// What accepted words ask for: the mode, and the options of all modes, each with its default where it isn't given.
+/// What accepted words ask for: the mode, and the options of all modes, each with its default if it isn't given.
 #[derive(Clone, Copy)]
 pub struct Asked {
     pub mode: ToolMode,
@@ -61,7 +61,7 @@ pub fn read_words(alloc: Global, words: &[String]) -> Result<Asked, Unasked>
     }
 }
 
-/// What matches of the command line say, none where they have no mode.
+/// What matches of the command line say, none if they have no mode.
 fn read_matches(matches: &ArgMatches) -> Option<Asked>
     ensures mode { SaysMode (found_of matches.now) (option_map (λ asked. asked.mode) result) }
     ensures options { IfSome result (HasOptions (found_of matches.now)) }
@@ -77,6 +77,7 @@ fn read_matches(matches: &ArgMatches) -> Option<Asked>
     })
 }
 
+// A function of its own: its clause says of the Option what its caller's says, so the `?` there closes.
 fn read_mode(matches: &ArgMatches) -> Option<ToolMode>
     ensures { SaysMode (found_of matches.now) result }
 {
@@ -127,7 +128,7 @@ fn mode_argument<'a>(alloc: Global, names: &'a [&'a str]) -> Arg<'a>
         .required(true)
 }
 
-/// An option whose value is a whole number from `least` to `most`, and 1 where it isn't given.
+/// An option whose value is a whole number from `least` to `most`, and 1 if it isn't given.
 fn number_option<'a>(alloc: Global, name: &'a str, least: u64, most: u64) -> Arg<'a>
     ensures rule { rule_of result ≡ number_option name.entry.now least most }
     ensures own { result.global ≡ false }

@@ -16,10 +16,10 @@
 -- - a mark is answered as a loss without lost packets, so it too leaves at least 2 segments;
 -- - loss events are distinguished by time: what is lost or marked within one round-trip time of the last event belongs
 --   to it; a timeout ends that time;
--- - each timeout works the threshold out anew, and none is taken back as spurious;
+-- - each timeout works the threshold out again, and none is taken back as spurious;
 -- - the datapath's program moves the window in slow start, up to the cap that a change names, without HyStart;
 -- - slow start that ends without a loss begins the curve as after a timeout, and cwnd_prior stays as it was;
--- - a fault of that program is answered by starting it anew with the agent's window, and a report or notice of
+-- - a fault of that program is answered by starting it again with the agent's window, and a report or notice of
 --   another epoch is ignored.
 use Rattle.std.specs.Prelude.{ℕ, ◌-◌, ◌/◌, ◌^◌, ◌≤◌, ◌==◌, ◌||◌, nat_lt, nat_le, min, max, if◌then◌else◌}
 use Rattle.ccp_base.specs.Limits.{most_segment_bytes}
@@ -92,8 +92,8 @@ pub record IsInRange (mss : ℕ) (growth : Growth) : Type 0 where
   pub w_est_most : growth.w_est ≤ most_window
 
 -- what a state becomes, and the reply
-abbrev pub Turn : Type 0
-Turn = CubicState × Reply
+abbrev pub Replied : Type 0
+Replied = CubicState × Reply
 
 -- an agent in its initial state
 abbrev pub first_cubic : ℕ → Role → Role → CubicState
@@ -111,7 +111,7 @@ first_cubic mss ss ca = record {
 }
 
 -- the retransmission timer ran out: the window is one segment (RFC 9438, section 4.8)
-abbrev pub after_timeout : CubicState → Turn
+abbrev pub after_timeout : CubicState → Replied
 after_timeout s =
     let ssthresh = bytes_of s.mss (decreased s.window) in (
       record s { course = course_after SlowStart s.course; w_prior = s.window; ssthresh = ssthresh; window = 1000; calm = 0 },
@@ -120,7 +120,7 @@ after_timeout s =
 
 -- packets were lost or marked: the window decreases, once in a round-trip time, and a new epoch of congestion
 -- avoidance starts (RFC 9438, sections 4.6 and 4.7)
-abbrev pub after_loss : Measurement → CubicState → Turn
+abbrev pub after_loss : Measurement → CubicState → Replied
 after_loss r s =
     let w_max = converged s.w_max s.window in
     let window = decreased s.window in
@@ -142,7 +142,7 @@ after_loss r s =
 
 -- slow start ends if the window has reached the threshold; the curve then starts at its middle
 -- (RFC 9438, section 4.8)
-abbrev pub in_slow_start : Measurement → CubicState → Turn
+abbrev pub in_slow_start : Measurement → CubicState → Replied
 in_slow_start r s =
     if nat_le s.ssthresh r.cwnd then (
       record s { course = course_after Avoidance s.course; w_max = s.window; w_est = s.window; k = 0; start = r.now },
@@ -177,7 +177,7 @@ grown acked t rtt s =
     else clamped_window (s.window +ˢ min gap ((gap *ˢ acked) / s.window))
 
 -- congestion avoidance: W_est first, then the window
-abbrev pub in_avoidance : Measurement → CubicState → Turn
+abbrev pub in_avoidance : Measurement → CubicState → Replied
 in_avoidance r s =
     let acked = acked_thousandths s.mss r in
     let estimated = record s { w_est = estimate_of acked s } in
@@ -185,12 +185,12 @@ in_avoidance r s =
     if r.acked == 0 then (s, Nothing) else (record estimated { window = window }, Update (bytes_of s.mss window))
 
 -- a report without a timeout, a loss or a mark
-abbrev pub in_phase : Phase → Measurement → CubicState → Turn
+abbrev pub in_phase : Phase → Measurement → CubicState → Replied
 in_phase SlowStart r s = in_slow_start r s
 in_phase Avoidance r s = in_avoidance r s
 
 -- a report is treated by the first case that holds
-abbrev pub after_measurement : Measurement → CubicState → Turn
+abbrev pub after_measurement : Measurement → CubicState → Replied
 after_measurement r s =
     if nat_lt 0 r.timeout then after_timeout s
     else if nat_lt 0 r.loss || nat_lt 0 r.ecn then after_loss r s
@@ -201,19 +201,19 @@ abbrev pub window_told : Phase → Measurement → CubicState → CubicState
 window_told SlowStart r s = record s { window = clamped_window (muldiv r.cwnd 1000 s.mss) }
 window_told Avoidance r s = s
 
--- the program stopped by a fault is started again where the agent stands
-abbrev pub after_fault : CubicState → Turn
+-- the program stopped by a fault is started again with the phase and the window of the agent
+abbrev pub after_fault : CubicState → Replied
 after_fault s =
     let mode = s.course.mode in
     (record s { course = course_after mode s.course }, change_to mode s.course (bytes_of s.mss s.window) s.ssthresh)
 
 -- a report or fault of the agent's epoch
-abbrev pub after_told : Told → CubicState → Turn
+abbrev pub after_told : Told → CubicState → Replied
 after_told (Report report) s =
     let r = measurement_of (role_of s.course.mode s.course).look report in
     after_measurement r (window_told s.course.mode r s)
 after_told (Fault notice) s = after_fault s
 
 -- CUBIC: a report or notice of another epoch is ignored
-abbrev pub cubic : CubicState → Told → Turn
+abbrev pub cubic : CubicState → Told → Replied
 cubic s told = if told_epoch told == s.course.epoch then after_told told s else (s, Nothing)

@@ -4,7 +4,8 @@ use Rattle.ccp_base.specs.Limits.{most_input_bytes}
 use Rattle.ccp_base.specs.Outside.{Known, Takes, Appends}
 use Rattle.feed_core.specs.declared.ending.FeedEnd.TheVariants as ends
 use Rattle.feed_core.specs.Feed.{FeedState, no_flows}
-use Rattle.feed_core.specs.FeedBytes.{left, Fed, with_answers, fed, feed_of, IsFeeding}
+use Rattle.feed_core.specs.FeedBytes.{left, Fed, with_answers, fed, feed_of}
+use Rattle.feed_core.specs.FeedTurns.{IsFeeding}
 use Rattle.feed_core.specs.FeedEnds.{answers_written, end_from, stream, IsFed}
 use Rattle.feed_core.proofs.FrameEnds.{fed-nothing}
 use Rattle.feed_core.proofs.StreamEnds.{takes-nothing, appends-nothing}

@@ -9,7 +9,8 @@ use Rattle.ccp_messages.specs.Messages.{frame_bytes}
 use Rattle.ccp_messages.specs.Decoding.{Begins, decoded_of}
 use Rattle.ccp_messages.proofs.DecodeLaws.{begins-decoded}
 use Rattle.feed_core.specs.Feed.{FeedState, no_flows, answer_message}
-use Rattle.feed_core.specs.FeedBytes.{Fed, answer_bytes, with_answers, fed_on, fed, IsFeeding}
+use Rattle.feed_core.specs.FeedBytes.{Fed, answer_bytes, with_answers, fed_on, fed}
+use Rattle.feed_core.specs.FeedTurns.{IsFeeding}
 
 -- a frame takes some bytes
 pub some-used : (bytes : List ℕ) (message : Message) (version : Version) (used : ℕ) → Begins bytes message version used → (0 < used) × (used ≤ length bytes)

@@ -17,8 +17,8 @@ use Rattle.feed_core.specs.declared.ending.FeedEnd.{FeedEnd}
 use Rattle.feed_core.specs.declared.ending.FeedEnd.TheVariants as ends
 use Rattle.feed_core.specs.declared.flow.Flow.{Flow}
 use Rattle.feed_core.specs.Feed.{FeedState, there, no_flows, refused, created_at, counted, answer_message, TakesMemory}
-use Rattle.feed_core.specs.FeedBytes.{left, bad, Fed, answer_bytes, with_answers, fed_on, fed, feed_of, IsFeeding}
-use Rattle.feed_core.specs.FeedTurns.{BeginsTaking, FailsOne}
+use Rattle.feed_core.specs.FeedBytes.{left, bad, Fed, answer_bytes, with_answers, fed_on, fed, feed_of}
+use Rattle.feed_core.specs.FeedTurns.{BeginsTaking, FailsOne, IsFeeding}
 use Rattle.feed_core.specs.FeedEnds.{answers_written, end_from, feed_end, stream, AnswersInput, MayGoOn, MakesFlow, TakesMemoryAt, IsFed}
 use Rattle.feed_core.specs.FeedLast.{IsLast}
 use Rattle.feed_core.proofs.FrameEnds.{take-front, fed-part, fed-bad, fed-nothing, bad-on}
@@ -73,7 +73,7 @@ module _ (source source' sink sink' : Known) (state : FeedState) (eaten : ℕ) (
       let rest' : List ℕ = take (most_input_bytes - length bytes) more in
       ap (fed most_input_bytes 0 no_flows) (take-front most_input_bytes bytes more fits ∙ append_assoc feeding.front rest rest') ∙ feeding.goes (rest ++ rest')
 
-  -- ---- where the rest is a part of a frame
+  -- ---- if the rest is a part of a frame
 
   module _ (needed : ℕ) (cut : decoded_of rest ≡ Err (More needed)) where
     left-here : feed_of bytes ≡ record { answers = feeding.answers ++ []; tail = left eaten rest }
@@ -159,7 +159,7 @@ module _ (source source' sink sink' : Known) (state : FeedState) (eaten : ℕ) (
           no_more = λ more. answers more ∙ sym now;
         }
 
-  -- ---- where no frame begins so
+  -- ---- if no frame begins so
 
   pub ends-bad : (field : BadKind) (offset place : ℕ) → decoded_of rest ≡ Err (Bad field offset) → offset < length rest → place ≡ eaten + offset
       → IsFed (stream source source' rb rn) (stream sink sink' wb wn) is_finished (ends.Bad field place)
@@ -179,7 +179,7 @@ module _ (source source' sink sink' : Known) (state : FeedState) (eaten : ℕ) (
         no_more = λ more. answers more ∙ sym now;
       }
 
-  -- ---- where a write fails
+  -- ---- if a write fails
 
   pub ends-unwritten : (sink'' : Known) (wm : ℕ) → wb ≤ wm → wm ≤ wn → FailsOne wm wn sink' sink'' state rest
       → IsFed (stream source source' rb rn) (stream sink sink'' wb wn) is_finished ends.WriteFailed

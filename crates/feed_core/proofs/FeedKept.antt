@@ -50,7 +50,7 @@ each-too : {A : Type 0} (P Q : A → Type 0) → ((x : A) → P x → Q x) → (
 each-too P Q too [] all = tt
 each-too P Q too (x ∷ xs) all = (too x all.0, each-too P Q too xs all.1)
 
--- what is there stays where something is put at a free place
+-- what is there stays if something is put at a free place
 there-stays : {A : Type 0} (xs : List (Option A)) (p q : ℕ) (y : Option A) (x : A) → there xs p ≡ None → there xs q ≡ Some x → there (slice_set xs p y) q ≡ Some x
 there-stays [] p q y x free is = is
 there-stays (z ∷ xs) zero zero y x free is = let bad : ⊥ = cc in absurd bad

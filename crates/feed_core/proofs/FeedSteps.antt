@@ -5,8 +5,7 @@ use Rattle.ccp_base.specs.Outside.{Known}
 use Rattle.ccp_messages.specs.declared.fault.DecodeFault.TheVariants.{More}
 use Rattle.ccp_messages.specs.Decoding.{decoded_of}
 use Rattle.feed_core.specs.Feed.{FeedState}
-use Rattle.feed_core.specs.FeedBytes.{IsFeeding}
-use Rattle.feed_core.specs.FeedTurns.{AnswersOne, IsPart}
+use Rattle.feed_core.specs.FeedTurns.{AnswersOne, IsFeeding, IsPart}
 use Rattle.feed_core.specs.Rests.{AddsPiece}
 use Rattle.feed_core.proofs.FeedEats.{eats, takes-more}
 

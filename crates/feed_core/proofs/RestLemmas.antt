@@ -21,7 +21,7 @@ between-drop bytes start end count within =
     ∙ sym (drop-take count (end - (start + count)) (drop start bytes))
     ∙ ap (λ n. drop count (take n (drop start bytes))) (sym parts)
 
--- a piece behind them, where they begin at the front of their place
+-- a piece behind them, if they begin at the front of their place
 between-front : (bytes out : List ℕ) (end room count : ℕ) → end ≤ length bytes → count ≤ length out
     → between (put_mid end room bytes out) 0 (end + count) ≡ between bytes 0 end ++ take count out
 between-front bytes out end room count within fits =

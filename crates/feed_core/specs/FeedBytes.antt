@@ -1,6 +1,5 @@
 -- What a datapath answers to the frames of an input, and how the input ends.
-use Rattle.std.specs.Prelude.{◌≡◌, ℕ, zero, suc, ◌+◌, ◌-◌, ◌≤◌, Some, None, Result, Ok, Err, List, [], ◌++◌, length, take, drop}
-use Rattle.ccp_base.specs.Outside.{Known, Takes, Appends}
+use Rattle.std.specs.Prelude.{ℕ, zero, suc, ◌+◌, Some, None, Result, Ok, Err, List, [], ◌++◌, take, drop}
 use Rattle.ccp_base.specs.Limits.{most_input_bytes}
 use Rattle.reply_frames.specs.declared.fault.BadKind.{BadKind}
 use Rattle.reply_frames.specs.declared.outline.Version.{Version}
@@ -51,14 +50,3 @@ fed (suc frames) place state bytes = fed_on (fed frames) place state bytes (deco
 -- the answers to the frames that the first bytes of an input begin with; these are fewer than its bytes
 unfoldable pub feed_of : List ℕ → Fed
 feed_of bytes = fed most_input_bytes 0 no_flows (take most_input_bytes bytes)
-
--- how far a feed has come: what it took and wrote, its state, and the bytes after the frames that it has answered
-pub record IsFeeding (source source' sink sink' : Known) (state : FeedState) (eaten : ℕ) (rest : List ℕ) : Type 0 where
-  pub front : List ℕ
-  pub answers : List ℕ
-  pub taken : Takes source source' (front ++ rest)
-  pub eaten_is : length front ≡ eaten
-  pub written : Appends sink sink' answers
-  pub goes : (more : List ℕ) → fed most_input_bytes 0 no_flows (front ++ more) ≡ with_answers answers (fed (most_input_bytes - state.messages) eaten state more)
-  pub few : state.messages ≤ eaten
-  pub within : eaten + length rest ≤ most_input_bytes

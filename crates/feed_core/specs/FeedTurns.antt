@@ -1,7 +1,7 @@
--- The outcomes of a feed's next frame.
-use Rattle.std.specs.Prelude.{◌≡◌, ◌⊎◌, ℕ, ◌+◌, ◌<◌, ◌≤◌, List, length, Err}
-use Rattle.ccp_base.specs.Outside.{Known, Rose, Appends, AppendsPrefix}
-use Rattle.ccp_base.specs.Limits.{most_frame_bytes}
+-- The outcomes of a feed's next frame, and the invariant over its frames.
+use Rattle.std.specs.Prelude.{◌≡◌, ◌⊎◌, ℕ, ◌+◌, ◌-◌, ◌<◌, ◌≤◌, Err, List, ◌++◌, length}
+use Rattle.ccp_base.specs.Outside.{Known, Rose, Takes, Appends, AppendsPrefix}
+use Rattle.ccp_base.specs.Limits.{most_frame_bytes, most_input_bytes}
 use Rattle.reply_frames.specs.declared.outline.Version.{Version}
 use Rattle.ccp_messages.specs.declared.message.Message.{Message}
 use Rattle.ccp_messages.specs.declared.fault.DecodeFault.{DecodeFault}
@@ -9,8 +9,8 @@ use Rattle.ccp_messages.specs.declared.fault.DecodeFault.TheVariants.{More, Bad,
 use Rattle.ccp_messages.specs.Decoding.{Begins, BeginsInstall, decoded_of}
 use Rattle.feed_core.specs.declared.turn.Turn.{Turn}
 use Rattle.feed_core.specs.declared.turn.Turn.TheVariants as turn
-use Rattle.feed_core.specs.Feed.{FeedState, answer_message, TakesMemory}
-use Rattle.feed_core.specs.FeedBytes.{answer_bytes}
+use Rattle.feed_core.specs.Feed.{FeedState, no_flows, answer_message, TakesMemory}
+use Rattle.feed_core.specs.FeedBytes.{answer_bytes, with_answers, fed}
 
 -- a frame begins the bytes, and its whole answer was written
 pub record AnswersOne (old new : Known) (state state' : FeedState) (bytes : List ℕ) (used : ℕ) : Type 0 where
@@ -67,3 +67,14 @@ IsTurn before now old new state state' bytes turn.Part = IsPart old new state st
 IsTurn before now old new state state' bytes (turn.Bad field offset) = (decoded_of bytes ≡ Err (Bad field offset)) × (offset < length bytes) × (new ≡ old)
 IsTurn before now old new state state' bytes turn.WriteFailed = FailsOne before now old new state bytes
 IsTurn before now old new state state' bytes turn.NoMemory = LacksMemory old new state bytes
+
+-- how far a feed has come: what it took and wrote, its state, and the bytes after the frames that it has answered
+pub record IsFeeding (source source' sink sink' : Known) (state : FeedState) (eaten : ℕ) (rest : List ℕ) : Type 0 where
+  pub front : List ℕ
+  pub answers : List ℕ
+  pub taken : Takes source source' (front ++ rest)
+  pub eaten_is : length front ≡ eaten
+  pub written : Appends sink sink' answers
+  pub goes : (more : List ℕ) → fed most_input_bytes 0 no_flows (front ++ more) ≡ with_answers answers (fed (most_input_bytes - state.messages) eaten state more)
+  pub few : state.messages ≤ eaten
+  pub within : eaten + length rest ≤ most_input_bytes

@@ -101,8 +101,10 @@ impl Flow {
         requires count { self.old.count + 1 < 2 ^ 64 }
         requires fits { Fits self.old.machine code.now.code }
         ensures after { self.new
-            ≡ flow_after (after_acknowledgement code.now.code ack.entry.now true self.old.machine) ack.entry.now self.old }
-        ensures message { result ≡ message_about (after_acknowledgement code.now.code ack.entry.now true self.old.machine)
+            ≡ flow_after (after_acknowledgement code.now.code ack.entry.now true self.old.machine)
+            ack.entry.now self.old }
+        ensures message { result
+            ≡ message_about (after_acknowledgement code.now.code ack.entry.now true self.old.machine)
             ack.entry.now number epoch self.old }
         ensures fits { Fits self.new.machine code.now.code }
     {

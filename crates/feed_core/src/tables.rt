@@ -85,7 +85,7 @@ fn in_version(version: Version, told: Option<Message>) -> Option<(Message, Versi
 }
 
 /// The answer that refuses a frame, in the frame's version, with a reason from 1 to 9 and an index.
-fn refused(version: Version, flow: u32, reason: u8, index: u32) -> Option<(Message, Version)>
+fn refusal(version: Version, flow: u32, reason: u8, index: u32) -> Option<(Message, Version)>
     ensures { result ≡ Some (Message.Refused flow reason index, version) }
 {
     Some((
@@ -184,10 +184,10 @@ impl Tables {
     {
         let at = n as usize;
         if at >= FLOWS {
-            return Ok(refused(version, n, 1, 0));
+            return Ok(refusal(version, n, 1, 0));
         }
         if self.flows[at].is_some() {
-            return Ok(refused(version, n, 2, 0));
+            return Ok(refusal(version, n, 2, 0));
         }
         self.flows[at] = Some(Flow::new(alloc, version, cwnd)?);
         Ok(None)
@@ -207,13 +207,13 @@ impl Tables {
     {
         let at = program as usize;
         if at >= PROGRAMS {
-            return refused(version, n, 4, program);
+            return refusal(version, n, 4, program);
         }
         if program_at(self.programs.as_slice(), program).is_some() {
-            return refused(version, n, 5, program);
+            return refusal(version, n, 5, program);
         }
         match verify(code) {
-            Err(rejected) => refused(version, n, 7, rejected.index),
+            Err(rejected) => refusal(version, n, 7, rejected.index),
             Ok(checked) => {
                 self.programs[at] = Some(checked);
                 None
@@ -236,23 +236,23 @@ impl Tables {
     {
         let at = n as usize;
         if at >= FLOWS {
-            return refused(version, n, 3, 0);
+            return refusal(version, n, 3, 0);
         }
         let Some(flow) = &mut self.flows[at] else {
-            return refused(version, n, 3, 0);
+            return refusal(version, n, 3, 0);
         };
         if program as usize >= PROGRAMS {
-            return refused(version, n, 4, program);
+            return refusal(version, n, 4, program);
         }
         let Some(code) = program_at(self.programs.as_slice(), program) else {
-            return refused(version, n, 6, program);
+            return refusal(version, n, 6, program);
         };
         if is_too_wide(flow.version, code) {
-            return refused(version, n, 9, program);
+            return refusal(version, n, 9, program);
         }
         match flow.change(program, code, values) {
             Ok(()) => None,
-            Err(BadRegister(place)) => refused(version, n, 8, place),
+            Err(BadRegister(place)) => refusal(version, n, 8, place),
         }
     }
 
@@ -264,17 +264,17 @@ impl Tables {
     {
         let at = n as usize;
         if at >= FLOWS {
-            return refused(version, n, 3, 0);
+            return refusal(version, n, 3, 0);
         }
         let Some(flow) = &mut self.flows[at] else {
-            return refused(version, n, 3, 0);
+            return refusal(version, n, 3, 0);
         };
         let Some((_, code)) = code_of(flow.epoch, self.programs.as_slice()) else {
-            return refused(version, n, 6, 0);
+            return refusal(version, n, 6, 0);
         };
         match flow.update(code, values) {
             Ok(()) => None,
-            Err(BadRegister(place)) => refused(version, n, 8, place),
+            Err(BadRegister(place)) => refusal(version, n, 8, place),
         }
     }
 
@@ -287,10 +287,10 @@ impl Tables {
     {
         let at = n as usize;
         if at >= FLOWS {
-            return refused(version, n, 3, 0);
+            return refusal(version, n, 3, 0);
         }
         let Some(flow) = &mut self.flows[at] else {
-            return refused(version, n, 3, 0);
+            return refusal(version, n, 3, 0);
         };
         let Some((epoch, code)) = code_of(flow.epoch, self.programs.as_slice()) else {
             flow.pass(ack);

@@ -1,4 +1,4 @@
--- A machine fits a code exactly where its program has the code's numbers of registers.
+-- A machine fits a code exactly if its program has the code's numbers of registers.
 use Rattle.std.proofs.Common.{◌≡◌, ℕ, ◌+◌, Bool, true, List, sym, subst, ◌∙◌}
 use Rattle.reg_code.specs.declared.code.Code.{Code}
 use Rattle.reg_code.specs.declared.rule.Sizes.{Sizes}

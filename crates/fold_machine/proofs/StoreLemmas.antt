@@ -110,7 +110,7 @@ own-kept p q a b s held old seen apart ch =
     } in
     e ∙ ap (λ (s : StoreState). record s { further = further_of q a b }) seen
 
--- what holds of what a call answered with, where it answered so
+-- what holds of what a call answered with, if it answered so
 pub IfOk-with : {A E : Type 0} (r : Result A E) (P Q R : A → Type 0) → IfOk r P → IfOk r Q → ((x : A) → P x → Q x → R x) → IfOk r R
 IfOk-with (Ok x) P Q R p q both = both x p q
 IfOk-with (Err e) P Q R p q both = tt

@@ -1,5 +1,6 @@
-//! A machine that runs accepted register code, one acknowledgement after another, in words of its own. Slots of one pool
-//! have the last report and the registers to which a fault goes back; the pool can have further slots for its holder.
+//! A machine that runs accepted register code, one acknowledgement after another, in words of its own. Slots of one
+//! pool have the last report and the registers to which a fault goes back; the pool can have further slots for its
+//! holder.
 #![tactic(auto)]
 
 mod acked;

@@ -2,6 +2,7 @@
 ghost use Rattle.std.specs.Prelude.{◌≡◌, ◌+◌, ◌≤◌, ◌↔◌, Some, None, IsTrue, IsOk, true, IfOk, IfErr, OnOk, OnErr, length};
 ghost use Rattle.reg_code.specs.AcceptedCode.{sizes_of};
 ghost use Rattle.ccp_base.specs.FieldReg.{first_bad_pair};
+ghost use Rattle.ccp_base.specs.Limits.{most_slots};
 ghost use Rattle.fold_machine.specs.MachineState.{fresh_machine, Fits};
 ghost use Rattle.fold_machine.specs.Heard.{started_by, updated_by, after_acknowledgement, is_fault, count_after};
 
@@ -60,7 +61,7 @@ impl Machine {
 
     /// A machine without a program, with room for the largest one and with `slots` further slots.
     pub fn roomy(alloc: Global, cwnd: u64, rate: u64, slots: u32) -> Result<Machine, NoMemory>
-        requires { slots ≤ 64 }
+        requires { slots ≤ most_slots }
         ensures { IfOk result (λ machine. machine ≡ fresh_machine cwnd rate slots) }
     {
         let mut store = Store::new(alloc, slots)?;
@@ -235,7 +236,7 @@ impl Slots for Machine {
     }
 
     fn slot(&self, slot: &Slot) -> &[u64] {
-        self.store.further(slot)
+        self.store.further_words(slot)
     }
 
     fn set_slot(&mut self, slot: &Slot, at: u32, word: u64) {

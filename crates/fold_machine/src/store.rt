@@ -1,5 +1,6 @@
 //! The machine's memory: one pool with the registers, the last report and further slots for its caller.
 ghost use Rattle.std.specs.Prelude.{◌≡◌, ℕ, ◌+◌, ◌<◌, ◌≤◌, ◌≢◌, ◌↔◌, [], length, None, Some, IsErr, IfOk, OnOk, OnErr, replicate, slice_set};
+ghost use Rattle.ccp_base.specs.Limits.{most_slots};
 ghost use Rattle.slot_pool.specs.Pool.{PoolState, words_at, IsOut, free_of, unused, ChangesSlot, TakesZeros, WritesWord, with_run};
 ghost use Rattle.fold_machine.specs.Store.{slot_words};
 ghost use Rattle.fold_machine.specs.Store.{StoreState, fresh_store};
@@ -35,12 +36,12 @@ impl Model for Store {
 impl Store {
     /// A memory with `slots` further slots. Each word is 0.
     pub(crate) fn new(alloc: Global, slots: u32) -> Result<Store, AllocError>
-        requires { slots ≤ 64 }
+        requires { slots ≤ most_slots }
         ensures { IfOk result (λ store. store ≡ fresh_store slots) }
     {
         let mut pool = Pool::new(alloc, slots + OWN_SLOTS, WORDS)?;
-        let registers = own(&mut pool);
-        let report = own(&mut pool);
+        let registers = take_free_slot(&mut pool);
+        let report = take_free_slot(&mut pool);
         Ok(Store {
             pool,
             registers,
@@ -113,7 +114,7 @@ impl Store {
     }
 
     /// The words of a further slot. It must be out.
-    pub(crate) fn further(&self, slot: &Slot) -> &[u64]
+    pub(crate) fn further_words(&self, slot: &Slot) -> &[u64]
         requires { IsOut self.now.further slot.now }
         ensures words { words_at self.now.further slot.now ≡ Some result.now }
         ensures len { length result.now ≡ self.now.further.words }
@@ -135,7 +136,7 @@ impl Store {
 }
 
 /// A slot of a pool that has one left.
-fn own(pool: &mut Pool) -> Slot
+fn take_free_slot(pool: &mut Pool) -> Slot
     requires { 0 < free_of pool.old }
     ensures was_free { words_at pool.old result ≡ None }
     ensures zeros { TakesZeros pool.old pool.new result }

@@ -1,4 +1,4 @@
--- The first word of a text: how the words go on after it, and its name and numeral.
+-- The first word of a text: the words after it, and its name and numeral.
 use Rattle.std.proofs.Common.{◌≡◌, ◌≢◌, ℕ, zero, suc, ◌+◌, ◌<◌, ◌≤◌, Bool, true, false, not, nat_lt, Option, Some, None, option_map, List, [], ◌∷◌, length, take, drop, position, slice_index, refl, ap, sym, subst, ◌∙◌, ◌⊎◌, inl, inr, arith, cond, eqb, add-one}
 use Rattle.std.proofs.lemmas.Bool.Decides.{nat_tests}
 use Rattle.std.proofs.lemmas.Slice.Eq.{bytes_eq-Decides}
@@ -15,7 +15,7 @@ use Rattle.fold_run.specs.FirstPart.{first_of, after_separator, equals_from}
 use Rattle.fold_run.specs.AckLine.{with_line_value, with_named_value, with_one_word, with_each_word}
 use Rattle.fold_run.proofs.FirstLine.{parts-first}
 
--- the words go on after the first one
+-- the words after the first one
 pub words_step : (values : LineValues) (text : List ℕ) → 0 < length text → with_each_word (Some values) (parts_of Blank text) ≡ with_each_word (with_one_word values (first_of Blank text)) (parts_of Blank (after_separator Blank text))
 words_step values text some = ap (with_each_word (Some values)) (parts-first Blank text some)
 
@@ -223,7 +223,7 @@ no-equals i (byte ∷ rest) none =
     go other false blank later = ap (λ b. cond b (Some i) (cond (separates Blank byte) None (equals_from (i + 1) rest))) other ∙ ap (λ b. cond b None (equals_from (i + 1) rest)) blank ∙ later
 
 module _ (text : List ℕ) (at : ℕ) (within : at < length text) (before : (k : ℕ) → 0 ≤ k → k < at → is_equals (slice_index text k) ≢ true) (is : is_equals (slice_index text at) ≡ true) where
-  -- the bytes before the first equals sign are the name of the first word, where a value has that name
+  -- the bytes before the first equals sign are the name of the first word, if a value has that name
   pub equals-known : (n : ℕ) → value_named (take at text) ≡ Some n → equals_from 0 text ≡ Some at
   equals-known n known = go (first-equals 0 text at within before is)
     where
@@ -231,7 +231,7 @@ module _ (text : List ℕ) (at : ℕ) (within : at < length text) (before : (k :
       go (inl found) = found ∙ ap (λ k. Some k) (omega arith)
       go (inr none) = let plain = known-plain (take at text) n known in cc
 
-  -- where no value has that name, the first word gives nothing
+  -- if no value has that name, the first word gives nothing
   pub equals-unknown : (values : LineValues) → separates Blank (slice_index text 0) ≡ false → value_named (take at text) ≡ None → with_one_word values (first_of Blank text) ≡ None
   equals-unknown values other unknown = go (first-equals 0 text at within before is)
     where

@@ -5,7 +5,7 @@ use Rattle.std.proofs.lemmas.Option.{slice_get-get_or}
 use Rattle.ccp_base.specs.declared.exchange.Report.{Report}
 use Rattle.portus_core.specs.Value.{Cause}
 use Rattle.portus_core.specs.Epoch.{Event, Reading, Track, after_event}
-use Rattle.portus_core.specs.Reports.{Epoch, reports, reports_at}
+use Rattle.portus_core.specs.Reports.{Reporter, reports, reports_at}
 
 next-at : {X : Type 0} (n : ℕ) (xs : List X) (x d : X) (rest : List X) → x ∷ rest ≡ drop n xs → (n < length xs) × (get_or xs n d ≡ x)
 next-at zero [] x d rest is = cc
@@ -23,7 +23,7 @@ next-item n xs x rest is =
 pub items-after : {X : Type 0} (n : ℕ) (xs : List X) (x : X) (rest : List X) → x ∷ rest ≡ drop n xs → rest ≡ drop (n + 1) xs
 items-after n xs x rest is = ap (drop 1) is ∙ drop-drop 1 n xs
 
-pub reports-step : (reading : Reading Cause) (epoch : Epoch) (event : Event) (rest : List Event) (before after : Track) (old new all : List Report)
+pub reports-step : (reading : Reading Cause) (epoch : Reporter) (event : Event) (rest : List Event) (before after : Track) (old new all : List Report)
     → new ≡ old ++ reports_at reading epoch event before
     → after ≡ after_event reading event before
     → old ++ reports reading epoch (event ∷ rest) before ≡ all

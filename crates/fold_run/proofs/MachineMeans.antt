@@ -1,5 +1,5 @@
 -- What a machine answers to an acknowledgement, as the meaning of the program that its code simulates.
-use Rattle.std.proofs.Common.{◌≡◌, ◌∙◌, ◌<◌, ℕ, true, false, Option, Some, None, List, [], ◌∷◌, length, map, slice_get, option_map, ap, sym, subst, refl}
+use Rattle.std.proofs.Common.{◌≡◌, ◌∙◌, ◌<◌, ℕ, true, false, Option, Some, None, List, [], ◌∷◌, length, map, slice_get, option_map, unwrap_or, ap, sym, subst, refl}
 use Rattle.ccp_base.specs.declared.ack.Ack.{Ack}
 use Rattle.std.proofs.lemmas.List.{length-map}
 use Rattle.ccp_base.specs.declared.arithmetic.FaultKind.{FaultKind}
@@ -11,7 +11,7 @@ use Rattle.portus_core.specs.declared.env.Mean.TheVariants as mean
 use Rattle.portus_core.specs.declared.program.Decl.{Decl}
 use Rattle.portus_core.specs.Programs.{Form}
 use Rattle.reg_code.specs.declared.code.Start.{Start}
-use Rattle.std.proofs.lemmas.Option.{slice_get_within, get_or_from_slice_get}
+use Rattle.std.proofs.lemmas.Option.{slice_get_within}
 use Rattle.portus_core.specs.OneAcknowledgement.{IsEnvOf, one_of}
 use Rattle.reg_code.specs.declared.code.Code.{Code}
 use Rattle.reg_code.specs.CodeStep.{IsKeptOf, Kept, CodeOutcome, quiet, reported, held, faulted, lost, one_by_code}
@@ -19,10 +19,8 @@ use Rattle.fold_machine.specs.declared.acked.Acked.{Acked}
 use Rattle.fold_machine.specs.declared.acked.Acked.TheVariants as acked
 use Rattle.fold_machine.specs.Heard.{answer_for, after_made, after_acknowledgement, heard_where, report_after}
 use Rattle.fold_machine.specs.MachineState.{MachineState, Fits}
-use Rattle.reg_compiler.specs.Simulation.{Simulates, seen, register_start}
-use Rattle.fold_run.specs.Fold.{place_at}
+use Rattle.reg_compiler.specs.Simulation.{Simulates, env_of, missing_place, place_at, seen, register_start}
 use Rattle.fold_run.specs.AnswerMeaning.{mean_of, HasItsPlace}
-use Rattle.fold_run.specs.Folding.{env_of}
 
 there : (places : List Place) (kind : FaultKind) (index : ℕ) (m : Mean) → option_map (λ place. mean.Fault kind place) (slice_get places index) ≡ Some m
     → (index < length places) × (m ≡ mean.Fault kind (place_at places index))
@@ -33,7 +31,7 @@ there places kind index m e = go (slice_get places index) refl e
     go None found e = cc
     go (Some place) found e =
         let is : m ≡ mean.Fault kind place = cc in
-        (slice_get_within places index place found, is ∙ ap (mean.Fault kind) (sym (get_or_from_slice_get places index place (record { line = 0; column = 0 }) found)))
+        (slice_get_within places index place found, is ∙ ap (mean.Fault kind) (sym (ap (λ o. unwrap_or o missing_place) found)))
 
 -- what an answer says of the meaning, if the last report has these fields
 abbrev pub Tells : List Place → List ℕ → Mean → Acked → Type 0

@@ -69,7 +69,7 @@ begins_blank line = is_blank_at line 0
 abbrev pub ends_blank : List ℕ → Bool
 ends_blank line = is_blank_at line (length line - 1)
 
--- what a line says, without the CR at its end: nothing where it is blank, else a list of `name=numeral` with
+-- what a line says, without the CR at its end: nothing if it is blank, else a list of `name=numeral` with
 -- blanks between alone, each name at most once
 abbrev pub read_ack_line : List ℕ → AckLine
 read_ack_line line =

@@ -5,7 +5,7 @@ use Rattle.portus_core.specs.declared.env.Mean.{Mean}
 use Rattle.portus_core.specs.declared.env.Mean.TheVariants as mean
 use Rattle.fold_machine.specs.declared.acked.Acked.{Acked}
 use Rattle.fold_machine.specs.declared.acked.Acked.TheVariants as acked
-use Rattle.fold_run.specs.Fold.{place_at}
+use Rattle.reg_compiler.specs.Simulation.{place_at}
 
 -- the meaning of an answer, if the last report has these fields; a machine that isn't stopped never answers `Stopped`
 abbrev pub mean_of : List Place → List ℕ → Acked → Mean

@@ -1,5 +1,5 @@
 -- The result of a program's fold over acknowledgements: its reports, its fault and its end.
-use Rattle.std.specs.Prelude.{◌≡◌, ℕ, ◌<◌, true, Option, Some, option_map, List, length, map, slice_get, slice_index_or}
+use Rattle.std.specs.Prelude.{◌≡◌, ℕ, ◌<◌, true, Option, Some, option_map, List, length, map, slice_get}
 use Rattle.ccp_base.specs.declared.ack.Ack.{Ack}
 use Rattle.ccp_base.specs.declared.exchange.Notice.{Notice}
 use Rattle.ccp_base.specs.declared.exchange.Report.{Report}
@@ -7,14 +7,15 @@ use Rattle.ccp_base.specs.declared.place.Place.{Place}
 use Rattle.portus_core.specs.Programs.{Form}
 use Rattle.portus_core.specs.Value.{Cause}
 use Rattle.portus_core.specs.Epoch.{Event, acknowledged, by_source, Track, track_at, declared_env, after}
-use Rattle.portus_core.specs.Reports.{Epoch, reports, epoch_fault}
+use Rattle.portus_core.specs.Reports.{Reporter, reports, epoch_fault}
 use Rattle.portus_core.specs.ProgramForm.{form_of}
 use Rattle.reg_compiler.specs.declared.built.Built.{Built}
+use Rattle.reg_compiler.specs.Simulation.{place_at}
 use Rattle.report_lines.specs.declared.end_line.End.{End}
 
 -- the one epoch of a fold
-abbrev pub fold_epoch : Epoch
-fold_epoch = record { flow = 0; program = 0; number = 0 }
+abbrev pub fold_reporter : Reporter
+fold_reporter = record { flow = 0; program = 0; number = 0 }
 
 -- each acknowledgement finds room for a report
 abbrev pub with_room : Ack → Event
@@ -29,7 +30,7 @@ abbrev pub fold_track : Form → List Ack → Track
 fold_track form acks = after (by_source form) (map with_room acks) (fold_start form)
 
 abbrev pub fold_reports : Form → List Ack → List Report
-fold_reports form acks = reports (by_source form) fold_epoch (map with_room acks) (fold_start form)
+fold_reports form acks = reports (by_source form) fold_reporter (map with_room acks) (fold_start form)
 
 -- the fault that stops the program, with the number of its acknowledgement
 abbrev pub fold_fault : Form → List Ack → Option (ℕ × Cause)
@@ -47,9 +48,6 @@ end_of_track track = record {
 
 abbrev pub fold_end : Form → List Ack → End
 fold_end form acks = end_of_track (fold_track form acks)
-
-abbrev pub place_at : List Place → ℕ → Place
-place_at places index = slice_index_or places index (record { line = 0; column = 0 })
 
 -- the fault of a notice, if these are the places of the code's instructions
 abbrev pub told_fault : List Place → Notice → ℕ × Cause

@@ -16,22 +16,13 @@ use Rattle.portus_core.specs.Value.{Cause}
 use Rattle.reg_code.specs.declared.code.Code.{Code}
 use Rattle.reg_code.specs.CodeStep.{Kept, Made, one_by_code}
 use Rattle.reg_compiler.specs.declared.built.Built.{Built}
+use Rattle.reg_compiler.specs.Simulation.{env_of}
 use Rattle.fold_machine.specs.MachineState.{Fits}
-use Rattle.fold_run.specs.Fold.{IsFoldNotice, fold_epoch, told_fault, with_room}
+use Rattle.fold_run.specs.Fold.{IsFoldNotice, fold_reporter, told_fault, with_room}
 use Rattle.report_lines.specs.declared.end_line.End.{End}
 use Rattle.fold_run.specs.declared.folded.Folded.{Folded}
 use Rattle.fold_run.specs.declared.folding.Folding.{Folding}
 use Rattle.fold_run.specs.Ran.{CodeRun, running_after}
-
--- the env that registers hold
-abbrev pub env_of : Kept → Env
-env_of kept = record {
-  fields = kept.reports;
-  controls = kept.controls;
-  cwnd = kept.cwnd;
-  rate = kept.rate;
-  zero = kept.zero;
-}
 
 -- the state of a fold's epoch
 abbrev pub folding_track : Folding → Track
@@ -102,7 +93,7 @@ code_after built folding ack = running_after built.code.code (folding_code_run f
 
 -- the reports of it
 abbrev pub reports_after : Built → Folding → Ack → List Report
-reports_after built folding ack = reports_at (by_source (form_of built.program)) fold_epoch (with_room ack) (folding_track folding)
+reports_after built folding ack = reports_at (by_source (form_of built.program)) fold_reporter (with_room ack) (folding_track folding)
 
 -- the fault so far
 abbrev pub fault_in : Built → Folding → Option (ℕ × Cause)

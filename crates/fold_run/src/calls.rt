@@ -17,7 +17,7 @@ use std::sync::ledger::{Blank, Ledger};
 
 /// A program's fold over acknowledgements, by running its code. It has one epoch of program 0, which begins with
 /// the window, the rate and the time 0, and each acknowledgement finds room for a report.
-pub fn folded(alloc: Global, built: &Built, acks: &[Ack]) -> Result<Folded, NoMemory>
+pub fn fold_acks(alloc: Global, built: &Built, acks: &[Ack]) -> Result<Folded, NoMemory>
     requires { length acks.now ≤ most_acks }
     ensures reports { IfOk result (λ folded. folded.reports ≡ fold_reports (form_of built.now.program) acks.now) }
     ensures fault { IfOk result (λ folded. TellsFault built.now acks.now folded.fault) }

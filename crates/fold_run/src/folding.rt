@@ -4,9 +4,10 @@ ghost use Rattle.ccp_base.specs.Limits.{most_acks};
 ghost use Rattle.portus_core.specs.ProgramForm.{form_of};
 ghost use Rattle.fold_machine.specs.MachineState.{Fits};
 ghost use Rattle.fold_machine.specs.Heard.{is_fault, stops};
+ghost use Rattle.reg_compiler.specs.Simulation.{env_of};
 ghost use Rattle.fold_run.specs.Fold.{fold_start};
 ghost use Rattle.fold_run.specs.AnswerMeaning.{mean_of, HasItsPlace};
-ghost use Rattle.fold_run.specs.Folding.{env_of, folding_track, folding_code_run, IsFoldOf, KeepsNotice, made_by_code, by_program};
+ghost use Rattle.fold_run.specs.Folding.{folding_track, folding_code_run, IsFoldOf, KeepsNotice, made_by_code, by_program};
 ghost use Rattle.fold_run.specs.Folding.{code_after, end_with, fault_after, fault_in, folding_notice, reported_by};
 ghost use Rattle.fold_run.specs.Folding.{reports_after, track_after};
 ghost use Rattle.fold_run.specs.Ran.{running_start};
@@ -33,8 +34,14 @@ pub struct Folding {
     pub fault: Option<Notice>,
 }
 
+// A function of its own: its clauses are about the machine alone, while its caller changes the rest of the fold.
 /// The machine's answer to an acknowledgement, with room for a report.
-fn meant<L: Ledger>(machine: &mut Machine, built: &Built, ack: &Ack, steps: &mut Steps<L>) -> Acked
+fn machine_answer<L: Ledger>(
+    machine: &mut Machine,
+    built: &Built,
+    ack: &Ack,
+    steps: &mut Steps<L>,
+) -> Acked
     requires fits { Fits machine.old built.now.code.code }
     requires going { machine.old.is_stopped ≡ false }
     ensures mean { (by_program built.now machine.old.kept ack.entry.now).0
@@ -97,7 +104,7 @@ impl Folding {
         if self.fault.is_some() {
             return Ok(());
         }
-        let acked = meant(&mut self.machine, built, ack, steps);
+        let acked = machine_answer(&mut self.machine, built, ack, steps);
         self.ran += u64::from(self.machine.ran());
         match acked {
             Acked::Quiet | Acked::Held | Acked::Stopped => Ok(()),

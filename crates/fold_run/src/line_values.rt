@@ -12,7 +12,7 @@ const VALUES: usize = PRIMITIVES as usize;
 /// The values that a line gives, each at the number of its primitive.
 #[derive(Clone, Copy)]
 pub struct LineValues {
-    /// The values, 0 where the line gives none.
+    /// The values, 0 if the line gives none.
     pub numbers: [u64; VALUES],
     /// Which of them the line gives.
     pub named: [bool; VALUES],

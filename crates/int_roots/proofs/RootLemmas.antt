@@ -9,7 +9,7 @@ use Rattle.int_roots.specs.Roots.{IsCubeRoot, root_up_to, root}
 cube_grows : (a b : ℕ) → a ≤ b → a * a * a ≤ b * b * b
 cube_grows a b h = mul-le-mul (mul-le-mul h h) h
 
--- the search down from `top` finds the root where the next cube is above n
+-- the search down from `top` finds the root if the next cube is above n
 IsCubeRoot-root_up_to : (n top : ℕ) → n < (top + 1) * (top + 1) * (top + 1) → IsCubeRoot n (root_up_to n top)
 unfolding root_up_to
 IsCubeRoot-root_up_to n zero h = record { within = omega arith; greatest = h }

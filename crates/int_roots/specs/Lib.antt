@@ -1,2 +1,2 @@
--- The definitions of int_roots, a file each.
+-- The definitions of int_roots, a file each. Public contracts cite all.
 pub mod Roots

@@ -215,7 +215,7 @@ module _ (case : LinkCase) (packets : List Packet) (givens : List GivenAck) wher
   taking_below flight all_lost below = omega arith
   taking_below flight (arrives number sent_at chance marked) below = below
 
-  -- time goes on, and what stays arrives later
+  -- time passes, and what stays arrives later
   then_arriving : (trace : IsTrace case.trace) (flight : List Numbered) (next : Next) → MatchNext flight 0 0 next
       → LandedFrom case trace (time_of givens) (landing (packets_of flight) 0) (staying (packets_of flight))
       → (time_of givens ≤ (answer_by case packets givens flight next).ack.now) × ArriveFrom case (answer_by case packets givens flight next).ack.now (staying (packets_of flight))

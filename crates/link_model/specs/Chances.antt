@@ -7,7 +7,7 @@ use Rattle.link_model.specs.Traces.{period}
 abbrev pub chance_number : List ℕ → Chance → ℕ
 chance_number times chance = chance.turn * length times + chance.place
 
--- when chance k of a trace comes, in microseconds: after its last time the trace begins anew
+-- when chance k of a trace comes, in microseconds: after its last time the trace begins again
 abbrev pub chance_time : List ℕ → ℕ → ℕ
 chance_time times k = 1000 * (period times * (k / length times) + slice_index times (k % length times))
 

@@ -3,7 +3,7 @@ use Rattle.std.specs.Prelude.{ℕ, ◌+◌, ◌-◌, ◌*◌, ◌<◌, ◌≤◌
 use Rattle.ccp_base.specs.Limits.{most_trace_ms}
 use Rattle.std.specs.List.Sorted.{IsNonDecreasing}
 
--- the last time of a trace, after which it begins anew
+-- the last time of a trace, after which it begins again
 abbrev pub period : List ℕ → ℕ
 period times = slice_index times (length times - 1)
 

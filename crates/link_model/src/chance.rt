@@ -251,6 +251,7 @@ fn is_place(times: &[u32], millis: u64, place: usize) -> bool
 }
 
 /// Searches for the place of the first time that is at least `millis`, in milliseconds, or gives the number of times.
+// A function of its own: `place_from` rarely calls it, and is inlined without it.
 #[inline(never)]
 fn searched_place(times: &[u32], millis: u64) -> usize
     requires { IsTrace times.now }

@@ -5,7 +5,7 @@ ghost use Rattle.ccp_base.specs.Limits.{most_segment_bytes, most_queue, most_mar
 ghost use Rattle.std.specs.List.Sorted.{IsStrictlyIncreasing};
 
 use crate::trace::Trace;
-use ccp_base::{NoMemory, Sequence};
+use ccp_base::{NoMemory, Sequence, same_number};
 use std::alloc::Global;
 
 /// What a link is: its trace, its queue, its delays and which packets it loses.
@@ -67,7 +67,7 @@ impl LinkCase {
         if self.delay_us != other.delay_us || self.timeout_us != other.timeout_us {
             return false;
         }
-        same_mark(self.mark, other.mark)
+        same_number(self.mark, other.mark)
     }
 }
 
@@ -79,14 +79,9 @@ fn copy_of(alloc: Global, numbers: &Sequence<u32>) -> Result<Sequence<u32>, NoMe
     Ok(Sequence::from_vec(items))
 }
 
+// A function of its own: the search turns its `==` into an equation, which `same` takes from the clause.
 fn same_numbers(these: &[u32], others: &[u32]) -> bool
     ensures { IsTrue result ↔ (these.now ≡ others.now) }
 {
     these == others
-}
-
-fn same_mark(this: Option<u32>, other: Option<u32>) -> bool
-    ensures { IsTrue result ↔ (this ≡ other) }
-{
-    this == other
 }

@@ -46,7 +46,7 @@ impl From<AllocFailed<u32>> for TraceFault {
 }
 
 /// The times, in milliseconds, at which a link has a chance to send a packet: some, not falling, the last one
-/// above 0. After the last one the trace begins anew. Contracts see it as the list of its times.
+/// above 0. After the last one the trace begins again. Contracts see it as the list of its times.
 #[derive(Drop)]
 pub struct Trace {
     times: Vec<u32>,

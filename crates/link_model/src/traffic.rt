@@ -168,7 +168,7 @@ impl Traffic {
             at: line.next.at + case.delay_us,
             marked: case.marks(u128::from(line.waiting)),
         };
-        put(&mut self.flight, arrival);
+        put_in_flight(&mut self.flight, arrival);
         self.lost = 0;
         self.in_flight += 1;
         self.sent += 1;
@@ -230,7 +230,7 @@ impl Traffic {
 
 /// Appends a packet to those in flight.
 #[inline]
-fn put(flight: &mut HeapCircularBuffer<Arrival>, arrival: Arrival)
+pub fn put_in_flight(flight: &mut HeapCircularBuffer<Arrival>, arrival: Arrival)
     requires capacity { flight.old.capacity ≡ most_flight }
     requires room { length flight.old.items < most_flight }
     ensures items { flight.new.items ≡ flight.old.items ++ arrival ∷ [] }

@@ -20,7 +20,7 @@ use Rattle.reg_compiler.specs.Refusal.{shown_count, too_long, refusal_of}
 use Rattle.portus_build.specs.declared.fault.BuildFault.{BuildFault}
 use Rattle.portus_build.specs.declared.fault.BuildFault.TheVariants.{Parse, Scope, Compile, NoMemory}
 use Rattle.portus_build.specs.Texts.{StandsFor, IsMisscoped, IsNotCompiled, IsNoProgram, IsBuiltFrom}
-use Rattle.portus_build.specs.Settled.{is_want_of_memory, IsSettled}
+use Rattle.portus_build.specs.Settled.{runs_out_of_memory, IsSettled}
 
 -- the definition of compiling has no refusal for lack of memory
 long_for : (b : Bool) (count : ℕ) → (if b then Some (compile.CodeTooLong (shown_count count)) else None) ≡ Some compile.NoMemory → ⊥
@@ -73,7 +73,7 @@ module _ (text : List ℕ) where
   one_refusal (Compile a) NoMemory h k = absurd k
   one_refusal NoMemory right h k = absurd h
 
-  by_rule : (refusal : BuildFault) → IsNoProgram text refusal → is_want_of_memory refusal ≡ false
+  by_rule : (refusal : BuildFault) → IsNoProgram text refusal → runs_out_of_memory refusal ≡ false
   by_rule NoMemory h = absurd h
   by_rule (Parse parse.NoMemory) h = absurd h
   by_rule (Parse fault) h = refl

@@ -47,7 +47,7 @@ round_line = codes "(when (> Micros Report.rtt) (report) (:= Micros 0))\n"
 abbrev pub half_round_line : List ℕ
 half_round_line = codes "(when (> Micros (/ Report.rtt 2)) (report) (:= Micros 0))\n"
 
--- Reno's slow start, where the datapath moves the window
+-- Reno's slow start, in which the datapath moves the window
 abbrev pub reno_ss_text : List ℕ
 reno_ss_text = fields_part ++ controls_line ++ counting_part ++ loss_line ++ growing_part ++ round_line
 

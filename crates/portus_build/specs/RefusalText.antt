@@ -1,4 +1,4 @@
--- The text that says why a text is built into no code: a name, and the place where there is one.
+-- The text that says why a text is built into no code: a name, and the place if there is one.
 use Rattle.std.specs.Prelude.{ℕ, Option, Some, None, List, [], codes, decimal}
 use Rattle.ccp_base.specs.Text.{◌⧺◌}
 use Rattle.ccp_base.specs.declared.place.Place.{Place}

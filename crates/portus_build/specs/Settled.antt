@@ -9,20 +9,20 @@ use Rattle.portus_build.specs.declared.fault.BuildFault.TheVariants.{Parse, Scop
 use Rattle.portus_build.specs.Texts.{IsNoProgram, IsBuiltFrom}
 
 -- whether memory ran out, in building or in one of its steps
-abbrev pub is_want_of_memory : BuildFault → Bool
-is_want_of_memory NoMemory = true
-is_want_of_memory (Parse parse.NoMemory) = true
-is_want_of_memory (Parse fault) = false
-is_want_of_memory (Scope scope.NoMemory) = true
-is_want_of_memory (Scope fault) = false
-is_want_of_memory (Compile compile.NoMemory) = true
-is_want_of_memory (Compile fault) = false
+abbrev pub runs_out_of_memory : BuildFault → Bool
+runs_out_of_memory NoMemory = true
+runs_out_of_memory (Parse parse.NoMemory) = true
+runs_out_of_memory (Parse fault) = false
+runs_out_of_memory (Scope scope.NoMemory) = true
+runs_out_of_memory (Scope fault) = false
+runs_out_of_memory (Compile compile.NoMemory) = true
+runs_out_of_memory (Compile fault) = false
 
 -- a text stands for one program that is compiled or has one first refusal, which isn't out of memory, and not both
 pub record IsSettled (text : List ℕ) : Type 0 where
   pub one : (left right : Form) → IsBuiltFrom text left → IsBuiltFrom text right → left ≡ right
   pub one_refusal : (left right : BuildFault) → IsNoProgram text left → IsNoProgram text right → left ≡ right
-  pub by_rule : (refusal : BuildFault) → IsNoProgram text refusal → is_want_of_memory refusal ≡ false
+  pub by_rule : (refusal : BuildFault) → IsNoProgram text refusal → runs_out_of_memory refusal ≡ false
   pub apart : (form : Form) (refusal : BuildFault) → IsBuiltFrom text form → IsNoProgram text refusal → ⊥
   pub some : ((form : Form) × IsBuiltFrom text form) ⊎ ((refusal : BuildFault) × IsNoProgram text refusal)
 

@@ -2,6 +2,7 @@
 ghost use Rattle.std.specs.Prelude.{◌≡◌, ◌≤◌, ◌<◌, length, position};
 ghost use Rattle.std.specs.Option.{ForSome};
 ghost use Rattle.std.specs.Str.{bytes_eq};
+ghost use Rattle.ccp_base.specs.Limits.{most_controls, most_fields};
 ghost use Rattle.portus_core.specs.ProgramForm.{form_of};
 ghost use Rattle.portus_build.specs.Looks.{has_name, declaration_number, look_of};
 
@@ -26,23 +27,23 @@ pub fn look(program: &Program) -> Look
 
 fn field_number(program: &Program, name: &[u8]) -> Option<u32>
     ensures number { result ≡ declaration_number name.now (form_of program.now).fields }
-    ensures below { ForSome result (λ n. n < 64) }
+    ensures below { ForSome result (λ n. n < most_fields) }
 {
     number_of(program.fields.as_slice(), name)
 }
 
 fn control_number(program: &Program, name: &[u8]) -> Option<u32>
     ensures number { result ≡ declaration_number name.now (form_of program.now).controls }
-    ensures below { ForSome result (λ n. n < 64) }
+    ensures below { ForSome result (λ n. n < most_controls) }
 {
     number_of(program.controls.as_slice(), name)
 }
 
-/// The number of the declaration with this name, counted from 0.
+/// The number of the declaration with this name, counted from 0. A program has no more control variables than fields.
 fn number_of(decls: &[Decl], name: &[u8]) -> Option<u32>
-    requires { length decls.now ≤ 64 }
+    requires { length decls.now ≤ most_fields }
     ensures number { result ≡ declaration_number name.now decls.now }
-    ensures below { ForSome result (λ n. n < 64) }
+    ensures below { ForSome result (λ n. n < most_fields) }
 {
     let index = index_of(decls, name)?;
     Some(index as u32)

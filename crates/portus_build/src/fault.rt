@@ -7,7 +7,7 @@ use reg_compiler::CompileFault;
 use scope_types::ScopeFault;
 use thiserror::Error;
 
-/// Why a text is built into no code: the first step that refuses it, with its refusal. Want of memory in any step is
+/// Why a text is built into no code: the first step that refuses it, with its refusal. Out of memory in any step is
 /// `NoMemory`.
 #[derive(Clone, Copy, Debug, Error)]
 pub enum BuildFault {

@@ -10,7 +10,7 @@ use reg_compiler::CompileFault;
 use scope_types::{ScopeFault, What};
 use std::alloc::Global;
 
-/// Appends the text that tells this refusal: its name, and its place or its number where it has one.
+/// Appends the refusal's text: its name, and its place or its number if it has one.
 pub fn put_refusal(alloc: Global, text: &mut Bytes, fault: BuildFault) -> Result<(), NoMemory>
     ensures { OnOk result (text.new ≡ text.old ++ refusal_text fault) }
 {

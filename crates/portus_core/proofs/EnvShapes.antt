@@ -11,7 +11,7 @@ use Rattle.portus_core.specs.declared.program.Decl.{Decl}
 use Rattle.portus_core.specs.declared.program.Var.{Var}
 use Rattle.portus_core.specs.declared.program.Var.TheVariants as var
 use Rattle.portus_core.specs.Programs.{Action, set, set_if, set_unless, ewma, zero_micros, report, fall, Part, Form}
-use Rattle.ccp_base.specs.Blending.{blended}
+use Rattle.ccp_base.specs.Blending.{moving_average}
 use Rattle.ccp_base.specs.Chaining.{then_do}
 use Rattle.ccp_base.specs.Truth.{is_true}
 use Rattle.portus_core.specs.Value.{Cause, at_place, read_of}
@@ -82,8 +82,8 @@ IsEnvOf-command form (set_unless place v condition term) ack going shape =
     IfOk-then_do (value_in term ack going) (λ value. Ok (written_where (not (is_true held)) v value going)) (Keeps form) (λ value.
     IsEnvOf-written_where form (not (is_true held)) v value going shape))
 IsEnvOf-command form (ewma place v weight term) ack going shape =
-    IfOk-then_do (value_in term ack going) (λ value. then_do (at_place place (blended weight (read_of v going.env going.locals ack) value)) (λ mixed. Ok (written v mixed going))) (Keeps form) (λ value.
-    IfOk-then_do (at_place place (blended weight (read_of v going.env going.locals ack) value)) (λ mixed. Ok (written v mixed going)) (Keeps form) (λ mixed.
+    IfOk-then_do (value_in term ack going) (λ value. then_do (at_place place (moving_average weight (read_of v going.env going.locals ack) value)) (λ mixed. Ok (written v mixed going))) (Keeps form) (λ value.
+    IfOk-then_do (at_place place (moving_average weight (read_of v going.env going.locals ack) value)) (λ mixed. Ok (written v mixed going)) (Keeps form) (λ mixed.
     IsEnvOf-written form v mixed going shape))
 IsEnvOf-command form zero_micros ack going shape = record { fields = shape.fields; controls = shape.controls }
 IsEnvOf-command form report ack going shape = shape

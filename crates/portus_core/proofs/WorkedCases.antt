@@ -13,7 +13,7 @@ use Rattle.ccp_base.specs.declared.operation.Op2.TheVariants as op
 use Rattle.portus_core.specs.declared.program.Var.TheVariants as var
 use Rattle.portus_core.specs.Programs.{Term, number, truth, name, pair, Action, set, ewma, zero_micros, report, fall, Part, Form}
 use Rattle.portus_core.specs.Epoch.{epoch_start, declared_env, Event, acknowledged, updated, Track, track_at, by_source, after}
-use Rattle.portus_core.specs.Reports.{Epoch, reports, tail, epoch_fault}
+use Rattle.portus_core.specs.Reports.{Reporter, reports, tail, epoch_fault}
 
 abbrev at : ℕ → Place
 at column = record { line = 1; column = column }
@@ -48,14 +48,14 @@ field i = name (var.Field i)
 abbrev prim : ℕ → Term
 prim n = name (var.Prim n)
 
-abbrev first_epoch : Epoch
-first_epoch = record { flow = 0; program = 0; number = 0 }
+abbrev first_reporter : Reporter
+first_reporter = record { flow = 0; program = 0; number = 0 }
 
 abbrev first_track : Form → Track
 first_track form = track_at 0 (declared_env form 0 0 0)
 
 abbrev all_reports : Form → List Event → List Report
-all_reports form events = reports (by_source form) first_epoch events (first_track form)
+all_reports form events = reports (by_source form) first_reporter events (first_track form)
 
 -- a report of the first epoch: its span, the time and the fields
 abbrev spanning : ℕ → ℕ → ℕ → List ℕ → Report

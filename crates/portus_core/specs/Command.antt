@@ -1,7 +1,7 @@
 -- What a command does.
 use Rattle.std.specs.Prelude.{ℕ, ◌-◌, Bool, true, false, not, ◌==◌, if◌then◌else◌, Some, Result, Ok, List, [], ◌∷◌, slice_set}
 use Rattle.ccp_base.specs.declared.ack.Ack.{Ack}
-use Rattle.ccp_base.specs.Blending.{blended}
+use Rattle.ccp_base.specs.Blending.{moving_average}
 use Rattle.ccp_base.specs.Chaining.{then_do}
 use Rattle.ccp_base.specs.Truth.{is_true}
 use Rattle.portus_core.specs.declared.env.Env.{Env}
@@ -47,7 +47,7 @@ command_of (set_unless place v condition term) ack going =
     then_do (value_in condition ack going) (λ held. then_do (value_in term ack going) (λ value. Ok (written_where (not (is_true held)) v value going)))
 command_of (ewma place v weight term) ack going =
     then_do (value_in term ack going) (λ value.
-    then_do (at_place place (blended weight (read_of v going.env going.locals ack) value)) (λ mixed. Ok (written v mixed going)))
+    then_do (at_place place (moving_average weight (read_of v going.env going.locals ack) value)) (λ mixed. Ok (written v mixed going)))
 command_of zero_micros ack going = Ok (record going { env = record going.env { zero = ack.now } })
 command_of report ack going = Ok (record going { asked = true })
 command_of fall ack going = Ok (record going { falls = true })

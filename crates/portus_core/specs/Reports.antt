@@ -6,18 +6,18 @@ use Rattle.ccp_base.specs.declared.exchange.Report.{Report}
 use Rattle.portus_core.specs.declared.env.Env.{Env}
 use Rattle.portus_core.specs.Epoch.{Event, acknowledged, updated, Outcome, quiet, reported, held, failed, stopped, Reading, Track, heard, after_event, after}
 
--- whose reports they are
-pub record Epoch : Type 0 where
+-- what makes the reports of an epoch: its flow, its program and its number
+pub record Reporter : Type 0 where
   pub flow : ℕ
   pub program : ℕ
   pub number : ℕ
 
 -- the report of a span, from where the last one ended to just after the reporting acknowledgement
-abbrev pub report_of : Epoch → Track → Ack → Env → List ℕ → Report
-report_of epoch track ack env fields = record {
-  flow = epoch.flow;
-  program = epoch.program;
-  epoch = epoch.number;
+abbrev pub report_of : Reporter → Track → Ack → Env → List ℕ → Report
+report_of reporter track ack env fields = record {
+  flow = reporter.flow;
+  program = reporter.program;
+  epoch = reporter.number;
   first = track.first;
   end = track.count + 1;
   now = ack.now;
@@ -26,23 +26,23 @@ report_of epoch track ack env fields = record {
   fields = fields;
 }
 
-abbrev pub reports_met : {F : Type 0} → Epoch → Track → Ack → Outcome F → Env → List Report
-reports_met epoch track ack (reported fields) env = report_of epoch track ack env fields ∷ []
-reports_met epoch track ack quiet env = []
-reports_met epoch track ack held env = []
-reports_met epoch track ack (failed fault) env = []
-reports_met epoch track ack stopped env = []
+abbrev pub reports_met : {F : Type 0} → Reporter → Track → Ack → Outcome F → Env → List Report
+reports_met reporter track ack (reported fields) env = report_of reporter track ack env fields ∷ []
+reports_met reporter track ack quiet env = []
+reports_met reporter track ack held env = []
+reports_met reporter track ack (failed fault) env = []
+reports_met reporter track ack stopped env = []
 
 -- the report that an event makes, or none
-abbrev pub reports_at : {F : Type 0} → Reading F → Epoch → Event → Track → List Report
-reports_at reading epoch (acknowledged ack room) track =
-    let met = heard reading track.is_stopped track.env ack room in reports_met epoch track ack met.0 met.1
-reports_at reading epoch (updated values) track = []
+abbrev pub reports_at : {F : Type 0} → Reading F → Reporter → Event → Track → List Report
+reports_at reading reporter (acknowledged ack room) track =
+    let met = heard reading track.is_stopped track.env ack room in reports_met reporter track ack met.0 met.1
+reports_at reading reporter (updated values) track = []
 
 -- the reports of an epoch's events, in order
-abbrev pub reports : {F : Type 0} → Reading F → Epoch → List Event → Track → List Report
-reports reading epoch [] track = []
-reports reading epoch (event ∷ rest) track = reports_at reading epoch event track ++ reports reading epoch rest (after_event reading event track)
+abbrev pub reports : {F : Type 0} → Reading F → Reporter → List Event → Track → List Report
+reports reading reporter [] track = []
+reports reading reporter (event ∷ rest) track = reports_at reading reporter event track ++ reports reading reporter rest (after_event reading event track)
 
 -- the span that isn't reported yet: from the last report, or else from the change, to the count of acknowledgements
 abbrev pub tail : {F : Type 0} → Reading F → List Event → Track → ℕ × ℕ

@@ -5,7 +5,7 @@ use Rattle.ccp_base.specs.declared.place.Place.{Place}
 use Rattle.ccp_base.specs.declared.ack.Ack.{Ack}
 use Rattle.ccp_base.specs.Acknowledgement.{bool_number, prim}
 use Rattle.ccp_base.specs.Chaining.{then_do}
-use Rattle.ccp_base.specs.Operations.{applied}
+use Rattle.ccp_base.specs.Operations.{apply}
 use Rattle.portus_core.specs.declared.env.Env.{Env}
 use Rattle.portus_core.specs.declared.program.Var.{Var}
 use Rattle.portus_core.specs.declared.program.Var.TheVariants as var
@@ -43,4 +43,4 @@ value_of (number n) env locals ack = Ok n
 value_of (truth b) env locals ack = Ok (bool_number b)
 value_of (name v) env locals ack = Ok (read_of v env locals ack)
 value_of (pair o place left right) env locals ack =
-    then_do (value_of left env locals ack) (λ a. then_do (value_of right env locals ack) (λ b. at_place place (applied o a b)))
+    then_do (value_of left env locals ack) (λ a. then_do (value_of right env locals ack) (λ b. at_place place (apply o a b)))

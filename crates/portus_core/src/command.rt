@@ -8,7 +8,7 @@ ghost use Rattle.portus_core.specs.Progress.{going_of, RunsAs};
 use crate::program::Cmd;
 use crate::progress::Progress;
 use crate::value::Fault;
-use ccp_base::{Ack, blended, is_true};
+use ccp_base::{Ack, is_true, moving_average};
 
 /// Runs a command. The condition and the value are both evaluated, whatever the condition is.
 pub fn command(cmd: &Cmd, ack: &Ack, progress: &mut Progress) -> Result<(), Fault>
@@ -36,7 +36,7 @@ pub fn command(cmd: &Cmd, ack: &Ack, progress: &mut Progress) -> Result<(), Faul
         Cmd::Ewma(place, var, weight, expr) => {
             let value = progress.value(expr, ack)?;
             let old = progress.read(*var, ack);
-            let mixed = blended(*weight, old, value).map_err(|kind| (kind, *place))?;
+            let mixed = moving_average(*weight, old, value).map_err(|kind| (kind, *place))?;
             progress.write(*var, mixed);
             Ok(())
         }

@@ -28,7 +28,7 @@ pub fn value(expr: &Expr, env: &Env, locals: &Locals, ack: &Ack) -> Result<u64, 
         Expr::Pair(op, place, left, right) => {
             let a = value(left, env, locals, ack)?;
             let b = value(right, env, locals, ack)?;
-            op.applied(a, b).map_err(|kind| (kind, *place))
+            op.apply(a, b).map_err(|kind| (kind, *place))
         }
     }
 }

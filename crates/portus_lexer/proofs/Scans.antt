@@ -18,7 +18,7 @@ pub with_front-nothing : (outcome : Result (List Token) Place) → with_front []
 with_front-nothing (Ok tokens) = refl
 with_front-nothing (Err place) = refl
 
--- what the scan of the rest found, where the whole scan found tokens
+-- what the scan of the rest found, if the whole scan found tokens
 record Fronted (front : List Token) (outcome : Result (List Token) Place) (tokens : List Token) : Type 0 where
   rest : List Token
   found : outcome ≡ Ok rest

@@ -62,7 +62,7 @@ refusal_of-scan (b ∷ rest) (Atom place start) at i =
     step_refusal (is_allowed b) at (put_by (Atom place start) at i b) (scan next (place_past_byte at b) (i + 1) rest) (stray_from (b == 35) (place_past_byte at b) rest)
     (refusal_of-scan rest next (place_past_byte at b) (i + 1) ∙ ap (λ c. stray_from c (place_past_byte at b) rest) (is_comment-Gap b place start (is_atom_byte b) refl))
 
--- tokens are found exactly where no byte is stray
+-- tokens are found exactly if no byte is stray
 pub stray_of-Ok : (text : List ℕ) (tokens : List Token) → scan Gap first_place 0 text ≡ Ok tokens → stray_of text ≡ None
 stray_of-Ok text tokens h = sym (refusal_of-scan text Gap first_place 0) ∙ ap refusal_of h
 

@@ -57,7 +57,7 @@ walked_kind b rest false e walks = λ at i others blank.
     let opened : (is_space b && is_blank false rest) ≡ true = rw e at blank in
     walked_space b rest (Mark-space b (and_parts (is_space b) (is_blank false rest) opened).0) e walks at i others blank
 
--- a scan passes over a blank text
+-- a scan skips a blank text
 scan-blank : (gap : List ℕ) → Walks gap
 scan-blank [] true at i others blank = absurd (cc)
 scan-blank [] false at i others blank = moved Gap at i (i + 0) others (omega arith)
@@ -66,7 +66,7 @@ scan-blank (b ∷ rest) true at i others blank =
     ∙ walked b rest (not (b == 10)) at i others (scan-blank rest) blank
 scan-blank (b ∷ rest) false at i others blank = walked_kind b rest (b == 35) refl (scan-blank rest) at i others blank
 
--- a scan passes over the bytes of an atom
+-- a scan reads the bytes of an atom
 scan-atom : (text : List ℕ) (place : Place) (start : ℕ) (at : Place) (i : ℕ) (others : List ℕ) → list_all is_atom_byte text ≡ true → scan (Atom place start) at i (text ++ others) ≡ scan (Atom place start) (place_after at text) (i + length text) others
 scan-atom [] place start at i others all = moved (Atom place start) at i (i + 0) others (omega arith)
 scan-atom (b ∷ rest) place start at i others all =

@@ -30,7 +30,7 @@ abbrev pub ends_atom : List ℕ → Bool
 ends_atom [] = true
 ends_atom (b ∷ rest) = not (is_atom_byte b)
 
--- a parenthesis, or an atom that goes on as far as it can
+-- a parenthesis, or an atom that is as long as it can be
 abbrev pub is_lexeme : List ℕ → List ℕ → Bool
 is_lexeme text others = is_parenthesis text || (is_atom text && ends_atom others)
 

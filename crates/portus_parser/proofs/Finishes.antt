@@ -35,7 +35,7 @@ Finishes (opened ∷ opens) parts at bytes forms =
     (closes : Closes (suc (length opens)) at bytes)
     × Finishes opens (opened.before ++ list opened.place (collected (parts ++ closes.nodes)) ∷ []) (place_after (place_after at closes.inner) (41 ∷ [])) closes.others forms
 
--- what follows a node counts only where it is an atom
+-- what follows a node counts only if it is an atom
 node-front : (node : Node) (depth : ℕ) (at : Place) (part inner others : List ℕ) → SpellsNode depth at part (inner ++ others) node → SpellsNode depth at part inner node
 node-front (number place value) depth at part inner others h =
     let atom = and_parts (is_atom part) (ends_atom (inner ++ others)) h.atom in

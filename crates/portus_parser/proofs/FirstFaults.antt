@@ -28,7 +28,7 @@ abbrev innermost : List Opened → Option Place
 innermost [] = None
 innermost (opened ∷ opens) = Some opened.place
 
--- the place of the list that is left open last, where these are open before some lexemes
+-- the place of the list that is left open last, if these are open before some lexemes
 abbrev left_open : List Opened → List Lexeme → Option Place
 left_open opens lexemes = option_or (last_unclosed lexemes) (innermost (drop (unopened lexemes) opens))
 

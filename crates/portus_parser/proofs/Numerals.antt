@@ -10,7 +10,7 @@ abbrev pub decimal_from : ℕ → List ℕ → ℕ
 decimal_from value [] = value
 decimal_from value (b ∷ rest) = decimal_from (value * 10 + (b - 48)) rest
 
--- the same, where the text is digits alone and the number is below 2^64
+-- the same, if the text is digits alone and the number is below 2^64
 abbrev pub numeral_from : ℕ → List ℕ → Option ℕ
 numeral_from value text =
     if list_all is_digit text && nat_lt (decimal_from value text) (2 ^ 64) then Some (decimal_from value text) else None

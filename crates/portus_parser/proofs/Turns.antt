@@ -76,7 +76,7 @@ is_list-atom place text =
     is_list-choice (begins_with_digit text) (numeral_node place (numeral_of text)) (if is_word text then Ok (word place text) else Err (BadName place))
     (is_list-number place (numeral_of text)) (is_list-word (is_word text) place text (BadName place))
 
--- a turn at an opening parenthesis, where fewer than 64 lists are open
+-- a turn at an opening parenthesis, if fewer than 64 lists are open
 pub turn-open : (place : Place) (opens : List Opened) (parts : List Node) → length opens < 64 → reading_after (record { opens = opens; parts = parts }) place (40 ∷ []) ≡ Ok (record { opens = record { place = place; before = parts } ∷ opens; parts = [] })
 turn-open place opens parts room = rw (lt-leb 64 (length opens) room) refl
 

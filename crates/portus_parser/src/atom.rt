@@ -1,11 +1,10 @@
 //! How an atom becomes a numeral or a word of a form, or is refused.
 ghost use Rattle.std.specs.Prelude.{◌≡◌, ◌&&◌, IsTrue, IfOk, IfErr, Ok, Err, Some, None, if◌then◌else◌};
-ghost use Rattle.std.specs.Str.{bytes_eq};
 ghost use Rattle.portus_core.specs.Trees.{node_of};
 ghost use Rattle.portus_parser.specs.Atoms.{is_mark, is_word, begins_with_digit, atom_of};
 
 use crate::fault::ParseFault;
-use ccp_base::{Name, Place, is_operation_mark, numeral};
+use ccp_base::{Name, Place, is_operation_mark, numeral, same_bytes};
 use portus_core::{Tree, is_name_shaped};
 
 /// Whether the text begins with a digit.
@@ -18,18 +17,14 @@ fn begins_with_digit(text: &[u8]) -> bool
     }
 }
 
-/// Whether two texts are equal.
-pub fn same(left: &[u8], right: &[u8]) -> bool
-    ensures { result ≡ bytes_eq left.now right.now }
-{
-    left == right
-}
-
 /// Whether the text is one of the words that aren't shaped as a name.
 fn is_mark(text: &[u8]) -> bool
     ensures { result ≡ is_mark text.now }
 {
-    is_operation_mark(text) || same(text, b":=") || same(text, b"!if") || same(text, b"+infinity")
+    is_operation_mark(text)
+        || same_bytes(text, b":=")
+        || same_bytes(text, b"!if")
+        || same_bytes(text, b"+infinity")
 }
 
 /// The text as a word; None if it isn't one.

@@ -4,10 +4,10 @@ ghost use Rattle.portus_core.specs.Trees.{node_of};
 ghost use Rattle.portus_parser.specs.Refusals.{is_opening, is_closing};
 ghost use Rattle.portus_parser.specs.Readings.{opened_at, closed_over, put_in, reading_after, reading_of, EndsTurn};
 
-use crate::atom::{atom, same};
+use crate::atom::atom;
 use crate::fault::ParseFault;
 use crate::open_list::OpenList;
-use ccp_base::Place;
+use ccp_base::{Place, same_bytes};
 use portus_core::Tree;
 use std::alloc::Global;
 
@@ -97,9 +97,9 @@ pub fn turn(
         ≡ Ok (reading_of open_lists.new.items own.items)) }
     ensures err { IfErr result (EndsTurn (reading_after (reading_of open_lists.old.items parts.items) place text.now)) }
 {
-    if same(text, b"(") {
+    if same_bytes(text, b"(") {
         open(alloc, open_lists, parts, place)
-    } else if same(text, b")") {
+    } else if same_bytes(text, b")") {
         close(open_lists, parts, place)
     } else {
         put(open_lists.as_slice(), parts, place, text)

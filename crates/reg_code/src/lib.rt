@@ -18,6 +18,6 @@ pub use code::{Code, Event, Implicit, Instr, Op, Reg, Start};
 pub use form::Form;
 pub use limits::{CONTROLS, EVENTS, INSTRS, LOCALS, TEMPS, TENTHS, limits_hold};
 pub use op_number::op_numbered;
-pub use packed::{Packed, pack_all};
+pub use packed::Packed;
 pub use rule::{Part, Rule, Sizes};
 pub use text::listing;

@@ -54,9 +54,9 @@ fn put_start(
     Ok(())
 }
 
-/// Puts the lines of events. The index of an event's first instruction is the sum of the events' numbers before it: a
-/// code that isn't accepted may have any number of events, so by the types alone the sum can pass 2^64, and a u128 holds
-/// it.
+/// Appends the lines of events. The index of an event's first instruction is the sum of the events' numbers before it:
+/// a code that isn't accepted may have any number of events, so by the types alone the sum can pass 2^64, and a u128
+/// holds it.
 fn put_events(alloc: Global, text: &mut Bytes, events: &[Event]) -> Result<(), NoMemory>
     ensures { OnOk result (text.new ≡ text.old ++ event_lines 0 0 events.now) }
 {
@@ -103,8 +103,8 @@ fn put_span(alloc: Global, text: &mut Bytes, first: u128, end: u128) -> Result<(
     put_decimal(alloc, text, end)
 }
 
-/// Puts a number. What is below 2^64 is formatted at once; of a greater one, the digits before the last are put first,
-/// as those of a number by themselves, and then the last.
+/// Appends a number. What is below 2^64 is formatted at once; of a greater one, the digits before the last are put
+/// first, as those of a number by themselves, and then the last.
 fn put_decimal(alloc: Global, text: &mut Bytes, n: u128) -> Result<(), NoMemory>
     ensures { OnOk result (text.new ≡ text.old ++ decimal n) }
 {

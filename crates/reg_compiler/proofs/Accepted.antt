@@ -22,11 +22,11 @@ use Rattle.reg_compiler.specs.Known.{known_value}
 use Rattle.reg_compiler.specs.Needs.{deep_term, deep_body, deep_parts, deep_form}
 use Rattle.reg_compiler.specs.Counts.{form_count}
 use Rattle.reg_compiler.specs.Simulation.{register_start}
-use Rattle.reg_compiler.specs.CompiledCode.{code_line, direct, operand, free_after, unless_direct, unless_known, into, body_lines, condition_lines, lines_of, event_of, instr_of, code_of}
+use Rattle.reg_compiler.specs.CompiledCode.{code_line, direct_operand, operand, first_free_after, unless_direct, unless_known, value_lines, body_lines, condition_lines, lines_of, event_of, instr_of, code_of}
 use Rattle.reg_compiler.proofs.Sizes.{length-lines, lean-count}
 use Rattle.reg_compiler.proofs.AllowedLines.{after, or_else-none, condition-none, body-none}
 use Rattle.reg_compiler.proofs.AllowedInstrs.{IsTarget-flag}
-use Rattle.reg_compiler.proofs.AllowedExpressions.{IsScope, into-allowed}
+use Rattle.reg_compiler.proofs.AllowedExpressions.{IsScope, value_lines-allowed}
 use Rattle.reg_compiler.proofs.AllowedCommands.{term-fits, body-allowed}
 
 refusal_where-none : (fails : Bool) (which : Rule) (index : ℕ) → fails ≡ false → refusal_where fails which index ≡ None
@@ -85,7 +85,7 @@ instrs-none (part ∷ rest) form index is none =
     (event-none sizes event index instrs (map instr_of condition) (map instr_of body)
     (take-lines condition (body ++ lines))
     (ap (take (length body)) cut ∙ take-lines body lines)
-    (condition-none condition sizes index no_marks (into-allowed part.condition (reg.Implicit Flag) 0 known sizes Condition true no_marks (IsScope-block form no_marks) term_is (omega (arith, term_fits)) (IsTarget-flag sizes)))
+    (condition-none condition sizes index no_marks (value_lines-allowed part.condition (reg.Implicit Flag) 0 known sizes Condition true no_marks (IsScope-block form no_marks) term_is (omega (arith, term_fits)) (IsTarget-flag sizes)))
     (body-none body sizes (index + event.condition) between (body-allowed part.body known part.locals sizes between (IsScope-block form between) own.1 (none-first (deep_body part.body) _ after_term))))
     (ap (instrs_refusal sizes (map event_of rest) (index + event.condition + event.body)) (ap (drop (length body)) cut ∙ drop-lines body lines)
     ∙ instrs-none rest form (index + event.condition + event.body) split.1 (none-next (deep_body part.body) _ after_term))
@@ -96,14 +96,14 @@ unless_known-some : (value : Option ℕ) (to : Reg) (lines : List Line) → 1 �
 unless_known-some (Some value) to lines some = omega arith
 unless_known-some None to lines some = some
 
-into-some : (term : Term) (to : Reg) (free : ℕ) → 1 ≤ length (into to term free)
-into-some (number n) to free = omega arith
-into-some (truth b) to free = omega arith
-into-some (name v) to free = omega arith
-into-some (pair o place left right) to free =
-    let first = unless_direct (direct left) (into (reg.Temp free) left free) in
-    let second = unless_direct (direct right) (into (reg.Temp (free_after left free)) right (free_after left free)) in
-    let last : List Line = code_line (op.Pair o) to (operand left free) (operand right (free_after left free)) place ∷ [] in
+value_lines-some : (term : Term) (to : Reg) (free : ℕ) → 1 ≤ length (value_lines to term free)
+value_lines-some (number n) to free = omega arith
+value_lines-some (truth b) to free = omega arith
+value_lines-some (name v) to free = omega arith
+value_lines-some (pair o place left right) to free =
+    let first = unless_direct (direct_operand left) (value_lines (reg.Temp free) left free) in
+    let second = unless_direct (direct_operand right) (value_lines (reg.Temp (first_free_after left free)) right (first_free_after left free)) in
+    let last : List Line = code_line (op.Pair o) to (operand left free) (operand right (first_free_after left free)) place ∷ [] in
     unless_known-some (known_value (pair o place left right)) to (first ++ (second ++ last)) (omega (arith, length-append first (second ++ last), length-append second last))
 
 events-none : (parts : List Part) (index : ℕ) → events_refusal (map event_of parts) index (length (lines_of parts)) ≡ None
@@ -114,7 +114,7 @@ events-none (part ∷ rest) index =
     let lines = lines_of rest in
     let all = length (condition ++ (body ++ lines)) in
     let own = length condition + length body in
-    let some = into-some part.condition (reg.Implicit Flag) 0 in
+    let some = value_lines-some part.condition (reg.Implicit Flag) 0 in
     let whole : all ≡ length condition + (length body + length lines) = omega (arith, length-append condition (body ++ lines), length-append body lines) in
     let left : all - own ≡ length lines = omega (arith, whole) in
     or_else-none (refusal_where ((length condition == 0) || nat_lt all own) rule.Events index) _

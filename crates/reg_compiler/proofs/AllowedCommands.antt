@@ -15,11 +15,11 @@ use Rattle.reg_code.specs.declared.rule.Rule.TheVariants as rule
 use Rattle.reg_code.specs.declared.rule.Sizes.{Sizes}
 use Rattle.reg_code.specs.AcceptedCode.{Marks, is_there, missing_value, is_bind, is_ewma, rule_failed}
 use Rattle.reg_code.specs.AcceptedLaws.{none-first, none-next}
-use Rattle.reg_compiler.specs.Needs.{beside, need_of, action_need, deep_at, deep_term, deep_action, deep_body}
-use Rattle.reg_compiler.specs.CompiledCode.{variable_reg, operand, free_after, into, both_into, action_lines, body_lines}
+use Rattle.reg_compiler.specs.Needs.{kept_temporaries, need_of, action_need, deep_at, deep_term, deep_action, deep_body}
+use Rattle.reg_compiler.specs.CompiledCode.{variable_reg, operand, first_free_after, value_lines, both_into, action_lines, body_lines}
 use Rattle.reg_compiler.proofs.AllowedLines.{after, AreAllowed, AreAllowed-append, Grows, after-grows, none-mark}
 use Rattle.reg_compiler.proofs.AllowedInstrs.{IsOperand, IsOperand-grows, IsTarget, IsTarget-temp, conditional-none, ewma-none}
-use Rattle.reg_compiler.proofs.AllowedExpressions.{IsScope, IsScope-grows, IsOperand-name, into-written, operand_lines, free_after-le, operand_lines-allowed, operation_lines-allowed, into-allowed}
+use Rattle.reg_compiler.proofs.AllowedExpressions.{IsScope, IsScope-grows, IsOperand-name, value_lines-written, operand_lines, first_free_after-le, operand_lines-allowed, operation_lines-allowed, value_lines-allowed}
 
 -- what isn't too deep fits into the temporaries
 
@@ -83,23 +83,23 @@ IsTarget-set v term known sizes marks scope is = elim (or_cases (is_target known
 ]
 
 both-allowed : (o : Op) (to : Reg) (place : Place) (left right : Term) (known : KnownNames) (sizes : Sizes) (marks : Marks)
-    → IsScope known sizes marks → is_term known left ≡ true → is_term known right ≡ true → need_of left ≤ 8 → need_of right + beside left ≤ 8
-    → ((later : Marks) → Grows marks later → IsOperand sizes later (operand left 0) → IsOperand sizes later (operand right (free_after left 0))
-    → rule_failed sizes Body false later (record { op = o; to = to; left = operand left 0; right = operand right (free_after left 0) }) ≡ None)
+    → IsScope known sizes marks → is_term known left ≡ true → is_term known right ≡ true → need_of left ≤ 8 → need_of right + kept_temporaries left ≤ 8
+    → ((later : Marks) → Grows marks later → IsOperand sizes later (operand left 0) → IsOperand sizes later (operand right (first_free_after left 0))
+    → rule_failed sizes Body false later (record { op = o; to = to; left = operand left 0; right = operand right (first_free_after left 0) }) ≡ None)
     → AreAllowed sizes Body false marks (both_into o to place left right)
 both-allowed o to place left right known sizes marks scope is_left is_right left_need right_need none =
-    let next = free_after left 0 in
+    let next = first_free_after left 0 in
     let left_fits : need_of left + 0 ≤ 8 = omega (arith, left_need) in
-    let right_fits : need_of right + next ≤ 8 = omega (arith, right_need, free_after-le left 0) in
+    let right_fits : need_of right + next ≤ 8 = omega (arith, right_need, first_free_after-le left 0) in
     let between = after (operand_lines left 0) marks in
     operation_lines-allowed o to place left right known sizes Body false marks 0 scope is_left is_right left_fits right_fits
-    (operand_lines-allowed left sizes Body marks 0 left_fits (λ below. into-allowed left (reg.Temp 0) 0 known sizes Body false marks scope is_left left_fits (IsTarget-temp sizes Body 0 below)))
-    (operand_lines-allowed right sizes Body between next right_fits (λ below. into-allowed right (reg.Temp next) next known sizes Body false between (IsScope-grows known sizes marks between (after-grows (operand_lines left 0) marks) scope) is_right right_fits (IsTarget-temp sizes Body next below)))
+    (operand_lines-allowed left sizes Body marks 0 left_fits (λ below. value_lines-allowed left (reg.Temp 0) 0 known sizes Body false marks scope is_left left_fits (IsTarget-temp sizes Body 0 below)))
+    (operand_lines-allowed right sizes Body between next right_fits (λ below. value_lines-allowed right (reg.Temp next) next known sizes Body false between (IsScope-grows known sizes marks between (after-grows (operand_lines left 0) marks) scope) is_right right_fits (IsTarget-temp sizes Body next below)))
     none
 
 -- `if` and `notif`
 where-allowed : (o : Op) (place : Place) (v : Var) (condition term : Term) (known : KnownNames) (sizes : Sizes) (marks : Marks) → is_bind o ≡ false → is_ewma o ≡ false → IsScope known sizes marks → is_target known v && is_condition known condition && fits_target known v term ≡ true
-    → max (need_of condition) (need_of term + beside condition) ≤ 8 → AreAllowed sizes Body false marks (both_into o (variable_reg v) place condition term)
+    → max (need_of condition) (need_of term + kept_temporaries condition) ≤ 8 → AreAllowed sizes Body false marks (both_into o (variable_reg v) place condition term)
 where-allowed o place v condition term known sizes marks unbound no_ewma scope is fits =
     let value = and_parts (is_target known v && is_condition known condition) (fits_target known v term) is in
     let target = and_parts (is_target known v) (is_condition known condition) value.0 in
@@ -107,7 +107,7 @@ where-allowed o place v condition term known sizes marks unbound no_ewma scope i
     (and_parts (is_term known condition) (term_is_truth known condition) target.1).0
     (and_parts (is_term known term) _ value.1).0
     (omega (arith, fits)) (omega (arith, fits))
-    (λ later grows first second. conditional-none o (variable_reg v) (operand condition 0) (operand term (free_after condition 0)) sizes later unbound no_ewma (IsTarget-name v known sizes marks scope target.0) first second)
+    (λ later grows first second. conditional-none o (variable_reg v) (operand condition 0) (operand term (first_free_after condition 0)) sizes later unbound no_ewma (IsTarget-name v known sizes marks scope target.0) first second)
 
 ewma-allowed : (place : Place) (v : Var) (weight : ℕ) (term : Term) (known : KnownNames) (sizes : Sizes) (marks : Marks) → IsScope known sizes marks → is_action known (ewma place v weight term) ≡ true → need_of term ≤ 8
     → AreAllowed sizes Body false marks (both_into op.Ewma (variable_reg v) place (number weight) term)
@@ -124,7 +124,7 @@ ewma-allowed place v weight term known sizes marks scope is fits =
 action-allowed : (action : Action) (known : KnownNames) (sizes : Sizes) (marks : Marks) → IsScope known sizes marks → is_action known action ≡ true → action_need action ≤ 8 → AreAllowed sizes Body false marks (action_lines action)
 action-allowed (set v term) known sizes marks scope is fits =
     let both = IsTarget-set v term known sizes marks scope is in
-    into-allowed term (variable_reg v) 0 known sizes Body false marks scope both.1 (omega (arith, fits)) both.0
+    value_lines-allowed term (variable_reg v) 0 known sizes Body false marks scope both.1 (omega (arith, fits)) both.0
 action-allowed (set_if place v condition term) known sizes marks scope is fits = where-allowed op.If place v condition term known sizes marks refl refl scope is fits
 action-allowed (set_unless place v condition term) known sizes marks scope is fits = where-allowed op.NotIf place v condition term known sizes marks refl refl scope is fits
 action-allowed (ewma place v weight term) known sizes marks scope is fits = ewma-allowed place v weight term known sizes marks scope is fits
@@ -162,10 +162,10 @@ next-written var.Micros known marks written is = absurd (cc)
 
 IsScope-after : (action : Action) (known : KnownNames) (sizes : Sizes) (marks : Marks) → IsScope known sizes marks → IsScope (known_after known action) sizes (after (action_lines action) marks)
 IsScope-after (set v term) known sizes marks scope =
-    let later = after (into (variable_reg v) term 0) marks in
+    let later = after (value_lines (variable_reg v) term 0) marks in
     IsScope-with_local (is_next_local known v) (term_is_truth known term) known sizes later
-    (IsScope-grows known sizes marks later (after-grows (into (variable_reg v) term 0) marks) scope)
-    (next-written v known later (into-written term (variable_reg v) 0 marks))
+    (IsScope-grows known sizes marks later (after-grows (value_lines (variable_reg v) term 0) marks) scope)
+    (next-written v known later (value_lines-written term (variable_reg v) 0 marks))
 IsScope-after (set_if place v condition term) known sizes marks scope = IsScope-grows known sizes marks _ (after-grows (action_lines (set_if place v condition term)) marks) scope
 IsScope-after (set_unless place v condition term) known sizes marks scope = IsScope-grows known sizes marks _ (after-grows (action_lines (set_unless place v condition term)) marks) scope
 IsScope-after (ewma place v weight term) known sizes marks scope = IsScope-grows known sizes marks _ (after-grows (action_lines (ewma place v weight term)) marks) scope

@@ -17,8 +17,8 @@ use Rattle.reg_code.specs.declared.rule.Sizes.{Sizes}
 use Rattle.reg_code.specs.AcceptedCode.{Marks, missing_value, rule_failed}
 use Rattle.reg_compiler.specs.declared.line.Line.{Line}
 use Rattle.reg_compiler.specs.Known.{known_value}
-use Rattle.reg_compiler.specs.Needs.{beside, need_of}
-use Rattle.reg_compiler.specs.CompiledCode.{variable_reg, code_line, bind_line, direct, operand, next_free, free_after, unless_direct, operation_lines, unless_known, into}
+use Rattle.reg_compiler.specs.Needs.{kept_temporaries, need_of}
+use Rattle.reg_compiler.specs.CompiledCode.{variable_reg, code_line, bind_line, direct_operand, operand, next_free, first_free_after, unless_direct, operation_lines, unless_known, value_lines}
 use Rattle.reg_compiler.proofs.AllowedLines.{after, AreAllowed, after-append, is_end-append, AreAllowed-append, Grows, Grows-trans, after-grows, mark-none, with_target-written, last-written}
 use Rattle.reg_compiler.proofs.AllowedInstrs.{IsOperand, IsOperand-grows, IsOperand-imm, IsTarget, IsTarget-temp, bind-none, pair-none}
 
@@ -54,14 +54,14 @@ unless_known-written : (value : Option ℕ) (to : Reg) (lines : List Line) (mark
 unless_known-written (Some value) to lines marks written = with_target-written to marks
 unless_known-written None to lines marks written = written
 
-pub into-written : (term : Term) (to : Reg) (free : ℕ) (marks : Marks) → missing_value (after (into to term free) marks) to ≡ None
-into-written (number n) to free marks = with_target-written to marks
-into-written (truth b) to free marks = with_target-written to marks
-into-written (name v) to free marks = with_target-written to marks
-into-written (pair o place left right) to free marks =
-    let first = unless_direct (direct left) (into (reg.Temp free) left free) in
-    let second = unless_direct (direct right) (into (reg.Temp (free_after left free)) right (free_after left free)) in
-    let line : Line = code_line (op.Pair o) to (operand left free) (operand right (free_after left free)) place in
+pub value_lines-written : (term : Term) (to : Reg) (free : ℕ) (marks : Marks) → missing_value (after (value_lines to term free) marks) to ≡ None
+value_lines-written (number n) to free marks = with_target-written to marks
+value_lines-written (truth b) to free marks = with_target-written to marks
+value_lines-written (name v) to free marks = with_target-written to marks
+value_lines-written (pair o place left right) to free marks =
+    let first = unless_direct (direct_operand left) (value_lines (reg.Temp free) left free) in
+    let second = unless_direct (direct_operand right) (value_lines (reg.Temp (first_free_after left free)) right (first_free_after left free)) in
+    let line : Line = code_line (op.Pair o) to (operand left free) (operand right (first_free_after left free)) place in
     unless_known-written (known_value (pair o place left right)) to (first ++ (second ++ line ∷ [])) marks
     (ap (λ marks. missing_value marks to) (after-append first (second ++ line ∷ []) marks) ∙ last-written second line (after first marks) refl)
 
@@ -69,28 +69,28 @@ into-written (pair o place left right) to free marks =
 
 -- the lines of an operand
 abbrev pub operand_lines : Term → ℕ → List Line
-operand_lines term free = unless_direct (direct term) (into (reg.Temp free) term free)
+operand_lines term free = unless_direct (direct_operand term) (value_lines (reg.Temp free) term free)
 
-free_after-pair : (value : Option ℕ) (free : ℕ) → next_free (option_map reg.Imm value) free ≤ free + 1
-free_after-pair (Some value) free = omega arith
-free_after-pair None free = omega arith
+first_free_after-pair : (value : Option ℕ) (free : ℕ) → next_free (option_map reg.Imm value) free ≤ free + 1
+first_free_after-pair (Some value) free = omega arith
+first_free_after-pair None free = omega arith
 
-pub free_after-le : (term : Term) (free : ℕ) → free_after term free ≤ free + beside term
-free_after-le (number n) free = omega arith
-free_after-le (truth b) free = omega arith
-free_after-le (name v) free = omega arith
-free_after-le (pair o place left right) free = free_after-pair (known_value (pair o place left right)) free
+pub first_free_after-le : (term : Term) (free : ℕ) → first_free_after term free ≤ free + kept_temporaries term
+first_free_after-le (number n) free = omega arith
+first_free_after-le (truth b) free = omega arith
+first_free_after-le (name v) free = omega arith
+first_free_after-le (pair o place left right) free = first_free_after-pair (known_value (pair o place left right)) free
 
 unless_direct-allowed : (from : Option Reg) (sizes : Sizes) (part : Part) (marks : Marks) (lines : List Line) → AreAllowed sizes part false marks lines → AreAllowed sizes part false marks (unless_direct from lines)
 unless_direct-allowed (Some from) sizes part marks lines allowed = tt
 unless_direct-allowed None sizes part marks lines allowed = allowed
 
-pub operand_lines-allowed : (term : Term) (sizes : Sizes) (part : Part) (marks : Marks) (free : ℕ) → need_of term + free ≤ 8 → (free < 8 → AreAllowed sizes part false marks (into (reg.Temp free) term free)) → AreAllowed sizes part false marks (operand_lines term free)
+pub operand_lines-allowed : (term : Term) (sizes : Sizes) (part : Part) (marks : Marks) (free : ℕ) → need_of term + free ≤ 8 → (free < 8 → AreAllowed sizes part false marks (value_lines (reg.Temp free) term free)) → AreAllowed sizes part false marks (operand_lines term free)
 operand_lines-allowed (number n) sizes part marks free fits allowed = tt
 operand_lines-allowed (truth b) sizes part marks free fits allowed = tt
 operand_lines-allowed (name v) sizes part marks free fits allowed = tt
 operand_lines-allowed (pair o place left right) sizes part marks free fits allowed =
-    unless_direct-allowed (option_map reg.Imm (known_value (pair o place left right))) sizes part marks (into (reg.Temp free) (pair o place left right) free) (allowed (omega (arith, fits)))
+    unless_direct-allowed (option_map reg.Imm (known_value (pair o place left right))) sizes part marks (value_lines (reg.Temp free) (pair o place left right) free) (allowed (omega (arith, fits)))
 
 IsOperand-pair : (value : Option ℕ) (sizes : Sizes) (marks : Marks) (lines : List Line) (free : ℕ) → free < 8 → missing_value (after lines marks) (reg.Temp free) ≡ None
     → IsOperand sizes (after (unless_direct (option_map reg.Imm value) lines) marks) (unwrap_or (option_map reg.Imm value) (reg.Temp free))
@@ -103,7 +103,7 @@ IsOperand-operand (number n) known sizes marks free scope is fits = IsOperand-im
 IsOperand-operand (truth b) known sizes marks free scope is fits = IsOperand-imm sizes marks (bool_number b)
 IsOperand-operand (name v) known sizes marks free scope is fits = IsOperand-name v known sizes marks scope is
 IsOperand-operand (pair o place left right) known sizes marks free scope is fits =
-    IsOperand-pair (known_value (pair o place left right)) sizes marks (into (reg.Temp free) (pair o place left right) free) free (omega (arith, fits)) (into-written (pair o place left right) (reg.Temp free) free marks)
+    IsOperand-pair (known_value (pair o place left right)) sizes marks (value_lines (reg.Temp free) (pair o place left right) free) free (omega (arith, fits)) (value_lines-written (pair o place left right) (reg.Temp free) free marks)
 
 -- the lines of expressions
 
@@ -112,14 +112,14 @@ line-allowed line sizes part true marks none = (none, tt)
 line-allowed line sizes part false marks none = (none, tt)
 
 pub operation_lines-allowed : (o : Op) (to : Reg) (place : Place) (left right : Term) (known : KnownNames) (sizes : Sizes) (part : Part) (ends : Bool) (marks : Marks) (free : ℕ)
-    → IsScope known sizes marks → is_term known left ≡ true → is_term known right ≡ true → need_of left + free ≤ 8 → need_of right + free_after left free ≤ 8
+    → IsScope known sizes marks → is_term known left ≡ true → is_term known right ≡ true → need_of left + free ≤ 8 → need_of right + first_free_after left free ≤ 8
     → AreAllowed sizes part false marks (operand_lines left free)
-    → AreAllowed sizes part false (after (operand_lines left free) marks) (operand_lines right (free_after left free))
-    → ((later : Marks) → Grows marks later → IsOperand sizes later (operand left free) → IsOperand sizes later (operand right (free_after left free))
-    → rule_failed sizes part ends later (record { op = o; to = to; left = operand left free; right = operand right (free_after left free) }) ≡ None)
-    → AreAllowed sizes part ends marks (operation_lines o to place left (into (reg.Temp free) left free) right (into (reg.Temp (free_after left free)) right (free_after left free)) free)
+    → AreAllowed sizes part false (after (operand_lines left free) marks) (operand_lines right (first_free_after left free))
+    → ((later : Marks) → Grows marks later → IsOperand sizes later (operand left free) → IsOperand sizes later (operand right (first_free_after left free))
+    → rule_failed sizes part ends later (record { op = o; to = to; left = operand left free; right = operand right (first_free_after left free) }) ≡ None)
+    → AreAllowed sizes part ends marks (operation_lines o to place left (value_lines (reg.Temp free) left free) right (value_lines (reg.Temp (first_free_after left free)) right (first_free_after left free)) free)
 operation_lines-allowed o to place left right known sizes part ends marks free scope is_left is_right left_fits right_fits left_allowed right_allowed none =
-    let next = free_after left free in
+    let next = first_free_after left free in
     let line : Line = code_line o to (operand left free) (operand right next) place in
     let first = operand_lines left free in
     let second = operand_lines right next in
@@ -141,21 +141,21 @@ unless_known-allowed (Some value) to sizes part ends marks lines target allowed 
     line-allowed (bind_line to (reg.Imm value)) sizes part ends marks (bind-none to (reg.Imm value) sizes part ends marks target (IsOperand-imm sizes marks value))
 unless_known-allowed None to sizes part ends marks lines target allowed = allowed
 
-pub into-allowed : (term : Term) (to : Reg) (free : ℕ) (known : KnownNames) (sizes : Sizes) (part : Part) (ends : Bool) (marks : Marks) → IsScope known sizes marks → is_term known term ≡ true → need_of term + free ≤ 8 → IsTarget sizes part ends to → AreAllowed sizes part ends marks (into to term free)
-into-allowed (number n) to free known sizes part ends marks scope is fits target =
+pub value_lines-allowed : (term : Term) (to : Reg) (free : ℕ) (known : KnownNames) (sizes : Sizes) (part : Part) (ends : Bool) (marks : Marks) → IsScope known sizes marks → is_term known term ≡ true → need_of term + free ≤ 8 → IsTarget sizes part ends to → AreAllowed sizes part ends marks (value_lines to term free)
+value_lines-allowed (number n) to free known sizes part ends marks scope is fits target =
     line-allowed (bind_line to (reg.Imm n)) sizes part ends marks (bind-none to (reg.Imm n) sizes part ends marks target (IsOperand-imm sizes marks n))
-into-allowed (truth b) to free known sizes part ends marks scope is fits target =
+value_lines-allowed (truth b) to free known sizes part ends marks scope is fits target =
     line-allowed (bind_line to (reg.Imm (bool_number b))) sizes part ends marks (bind-none to (reg.Imm (bool_number b)) sizes part ends marks target (IsOperand-imm sizes marks (bool_number b)))
-into-allowed (name v) to free known sizes part ends marks scope is fits target =
+value_lines-allowed (name v) to free known sizes part ends marks scope is fits target =
     line-allowed (bind_line to (variable_reg v)) sizes part ends marks (bind-none to (variable_reg v) sizes part ends marks target (IsOperand-name v known sizes marks scope is))
-into-allowed (pair o place left right) to free known sizes part ends marks scope is fits target =
+value_lines-allowed (pair o place left right) to free known sizes part ends marks scope is fits target =
     let parts = and_parts (is_term known left) (is_term known right) is in
-    let next = free_after left free in
+    let next = first_free_after left free in
     let left_fits : need_of left + free ≤ 8 = omega (arith, fits) in
-    let right_fits : need_of right + next ≤ 8 = omega (arith, fits, free_after-le left free) in
+    let right_fits : need_of right + next ≤ 8 = omega (arith, fits, first_free_after-le left free) in
     let between = after (operand_lines left free) marks in
     unless_known-allowed (known_value (pair o place left right)) to sizes part ends marks _ target
     (operation_lines-allowed (op.Pair o) to place left right known sizes part ends marks free scope parts.0 parts.1 left_fits right_fits
-    (operand_lines-allowed left sizes part marks free left_fits (λ below. into-allowed left (reg.Temp free) free known sizes part false marks scope parts.0 left_fits (IsTarget-temp sizes part free below)))
-    (operand_lines-allowed right sizes part between next right_fits (λ below. into-allowed right (reg.Temp next) next known sizes part false between (IsScope-grows known sizes marks between (after-grows (operand_lines left free) marks) scope) parts.1 right_fits (IsTarget-temp sizes part next below)))
+    (operand_lines-allowed left sizes part marks free left_fits (λ below. value_lines-allowed left (reg.Temp free) free known sizes part false marks scope parts.0 left_fits (IsTarget-temp sizes part free below)))
+    (operand_lines-allowed right sizes part between next right_fits (λ below. value_lines-allowed right (reg.Temp next) next known sizes part false between (IsScope-grows known sizes marks between (after-grows (operand_lines left free) marks) scope) parts.1 right_fits (IsTarget-temp sizes part next below)))
     (λ later grows first second. pair-none o to (operand left free) (operand right next) sizes part ends later target first second))

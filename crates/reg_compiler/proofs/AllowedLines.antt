@@ -16,7 +16,7 @@ use Rattle.reg_compiler.specs.CompiledCode.{instr_of}
 abbrev pub after : List Line → Marks → Marks
 after lines marks = marks_after (map instr_of lines) marks
 
--- no line fails a rule; where these lines end a part, the last one stands at its end
+-- no line fails a rule; if these lines end a part, the last one stands at its end
 abbrev pub AreAllowed : Sizes → Part → Bool → Marks → List Line → Type 0
 AreAllowed sizes part ends marks [] = Unit {0}
 AreAllowed sizes part ends marks (line ∷ rest) =
@@ -129,7 +129,7 @@ condition-none (line ∷ rest) sizes index marks allowed =
     (at_index-none index _ allowed.0)
     (condition-none rest sizes (index + 1) (marked marks line.instr) allowed.1)
 
--- where a body ends is no matter
+-- it doesn't matter where a body ends
 pub body-none : (lines : List Line) (sizes : Sizes) (index : ℕ) (marks : Marks) → AreAllowed sizes Body false marks lines → part_refusal sizes Body index marks (map instr_of lines) ≡ None
 body-none [] sizes index marks allowed = refl
 body-none (line ∷ rest) sizes index marks allowed =

@@ -21,7 +21,7 @@ use Rattle.reg_code.specs.CodeStep as code
 use Rattle.reg_compiler.specs.declared.line.Line.{Line}
 use Rattle.reg_compiler.specs.CompiledCode.{instr_of, line_place, event_of, condition_lines, body_lines, lines_of}
 use Rattle.reg_compiler.proofs.LineRuns.{run_lines}
-use Rattle.reg_compiler.proofs.ExpressionRuns.{Comes-into}
+use Rattle.reg_compiler.proofs.ExpressionRuns.{Comes-value_lines}
 use Rattle.reg_compiler.proofs.BodyShapes.{Fits, Sized, Sized-body}
 use Rattle.reg_compiler.proofs.CommandRuns.{regs_of, Reads-regs_of, Comes-body}
 use Rattle.reg_compiler.proofs.WorkRuns.{Between, WorksAs, WorksAs-then, drop-lines}
@@ -114,7 +114,7 @@ WorksAs-blocks form (part ∷ rest) places index ack ran regs going are sized be
     let after = middle + length body in
     let body_here : drop middle places ≡ map line_place body ++ map line_place (lines_of rest) =
     drop-lines places (map line_place body ++ map line_place (lines_of rest)) index condition (here ∙ places-apart part rest) in
-    let comes = Comes-into known block.env block.locals (reg.Implicit Flag) part.condition 0 ack (regs_of block 0 no_variables) (Reads-regs_of known block 0 no_variables ack fits)
+    let comes = Comes-value_lines known block.env block.locals (reg.Implicit Flag) part.condition 0 ack (regs_of block 0 no_variables) (Reads-regs_of known block 0 no_variables ack fits)
     (and_parts (is_term known part.condition) (term_is_truth known part.condition) (and_parts (is_condition known part.condition) (is_body known part.locals part.body) is).0).0 in
     subst (λ (work : Work). WorksAs places work (blocks_of (part ∷ rest) ack going)) (sym (events-apart part rest index ack ran regs))
     (WorksAs-then condition (map line_place body ++ map line_place (lines_of rest)) (value_in part.condition ack block) (λ held. Unit {0}) (λ held. regs_of block held comes.temps)

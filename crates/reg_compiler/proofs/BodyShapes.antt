@@ -11,7 +11,7 @@ use Rattle.portus_core.specs.Programs.{Action, set, set_if, set_unless, ewma, ze
 use Rattle.ccp_base.specs.Chaining.{then_do}
 use Rattle.ccp_base.specs.Truth.{is_true}
 use Rattle.portus_core.specs.Value.{at_place, read_of}
-use Rattle.ccp_base.specs.Blending.{blended}
+use Rattle.ccp_base.specs.Blending.{moving_average}
 use Rattle.portus_core.specs.Command.{Going, with_local, written, written_where, value_in, command_of, run_commands}
 use Rattle.portus_core.specs.ValidPrograms.{KnownNames, is_next_local, term_is_truth, known_after}
 use Rattle.portus_core.specs.ValidPrograms as names
@@ -86,8 +86,8 @@ Fits-command known (set_unless place v condition term) ack going fits =
     IfOk-then_do (value_in term ack going) (λ value. Ok (written_where (not (is_true held)) v value going)) (Fits known) (λ value.
     Fits-written_where known (not (is_true held)) v value going fits))
 Fits-command known (ewma place v weight term) ack going fits =
-    IfOk-then_do (value_in term ack going) (λ value. then_do (at_place place (blended weight (read_of v going.env going.locals ack) value)) (λ mixed. Ok (written v mixed going))) (Fits known) (λ value.
-    IfOk-then_do (at_place place (blended weight (read_of v going.env going.locals ack) value)) (λ mixed. Ok (written v mixed going)) (Fits known) (λ mixed.
+    IfOk-then_do (value_in term ack going) (λ value. then_do (at_place place (moving_average weight (read_of v going.env going.locals ack) value)) (λ mixed. Ok (written v mixed going))) (Fits known) (λ value.
+    IfOk-then_do (at_place place (moving_average weight (read_of v going.env going.locals ack) value)) (λ mixed. Ok (written v mixed going)) (Fits known) (λ mixed.
     Fits-written known v mixed going fits))
 Fits-command known zero_micros ack going fits = record { sized = record { fields = fits.sized.fields; controls = fits.sized.controls }; locals = fits.locals }
 Fits-command known report ack going fits = record { sized = fits.sized; locals = fits.locals }

@@ -14,7 +14,7 @@ use Rattle.portus_core.specs.Programs.{Term, number, Action, set, set_if, set_un
 use Rattle.ccp_base.specs.Chaining.{then_do as then_value}
 use Rattle.ccp_base.specs.Truth.{is_true}
 use Rattle.portus_core.specs.Value.{Cause, at_place, read_of}
-use Rattle.ccp_base.specs.Blending.{blended}
+use Rattle.ccp_base.specs.Blending.{moving_average}
 use Rattle.portus_core.specs.Command.{Going, written_where, value_in, command_of, run_commands}
 use Rattle.portus_core.specs.Command as source
 use Rattle.portus_core.specs.ValidPrograms.{KnownNames, is_known, is_term, is_truth, is_writable, is_target, is_next_local, is_condition, fits_target, term_is_truth, is_action, known_after, is_body}
@@ -22,14 +22,14 @@ use Rattle.reg_code.specs.declared.code.Op.{Op}
 use Rattle.reg_code.specs.declared.code.Op.TheVariants as op
 use Rattle.ccp_base.specs.Chaining.{then_do}
 use Rattle.reg_code.specs.CodeStep.{Variables, Regs, register_value, written, put, with_operand}
-use Rattle.ccp_base.specs.Blending.{blended as mixed_as}
+use Rattle.ccp_base.specs.Blending.{moving_average as mixed_as}
 use Rattle.reg_code.specs.CodeStep as code
 use Rattle.reg_compiler.specs.declared.line.Line.{Line}
 use Rattle.reg_compiler.specs.Simulation.{kept_of}
-use Rattle.reg_compiler.specs.CompiledCode.{variable_reg, free_after, into, both_into, action_lines, body_lines}
+use Rattle.reg_compiler.specs.CompiledCode.{variable_reg, first_free_after, value_lines, both_into, action_lines, body_lines}
 use Rattle.reg_compiler.proofs.LineRuns.{Halt, placed, run_lines, halting, Comes, run_lines-append}
 use Rattle.reg_compiler.proofs.OperandRuns.{Reads, operated}
-use Rattle.reg_compiler.proofs.ExpressionRuns.{placed-put, told, Comes-as, Comes-both, Comes-into}
+use Rattle.reg_compiler.proofs.ExpressionRuns.{placed-put, told, Comes-as, Comes-both, Comes-value_lines}
 use Rattle.reg_compiler.proofs.BodyShapes.{Fits, Fits-command}
 
 -- the registers that hold the state of a body
@@ -77,7 +77,7 @@ told-went : (result : Result ℕ Cause) (v : Var) (ack : Ack) (going : Going) (f
 told-went (Ok value) v ack going flag before temps is = ap (λ (r : Regs). Ok r) (written-regs_of v value ack going flag temps is)
 told-went (Err cause) v ack going flag before temps is = refl
 
--- an assignment where a condition holds
+-- an assignment if a condition holds
 if-went : (condition result : Result ℕ Cause) (v : Var) (place : Place) (ack : Ack) (going : Going) (flag : ℕ) (before temps : Variables) → is_writable v ≡ true
     → operated op.If (variable_reg v) place condition result ack (regs_of going flag before) temps
     ≡ went (then_value condition (λ held. then_value result (λ value. Ok (written_where (is_true held) v value going)))) flag temps
@@ -96,11 +96,11 @@ unless-went (Err cause) result v place ack going flag before temps is = refl
 ewma-went : (result : Result ℕ Cause) (weight old : ℕ) (v : Var) (place : Place) (ack : Ack) (going : Going) (flag : ℕ) (before temps : Variables) → is_writable v ≡ true
     → register_value (variable_reg v) (regs_of going flag temps) ack ≡ Some old
     → operated op.Ewma (variable_reg v) place (Ok weight) result ack (regs_of going flag before) temps
-    ≡ went (then_value result (λ value. then_value (at_place place (blended weight old value)) (λ mixed. Ok (source.written v mixed going)))) flag temps
+    ≡ went (then_value result (λ value. then_value (at_place place (moving_average weight old value)) (λ mixed. Ok (source.written v mixed going)))) flag temps
 ewma-went (Ok value) weight old v place ack going flag before temps is reads =
     ap (λ register_value. placed place (with_operand register_value (λ old. put (variable_reg v) (mixed_as weight old value) ack (regs_of going flag temps)))) reads
     ∙ placed-put place (variable_reg v) (mixed_as weight old value) ack (regs_of going flag temps)
-    ∙ told-went (at_place place (blended weight old value)) v ack going flag before temps is
+    ∙ told-went (at_place place (moving_average weight old value)) v ack going flag before temps is
 ewma-went (Err cause) weight old v place ack going flag before temps is reads = refl
 
 Comes-operated : (known : KnownNames) (o : Op) (v : Var) (place : Place) (left right : Term) (ack : Ack) (going : Going) (flag : ℕ) (temps : Variables) → Fits known going → is_term known left ≡ true → is_term known right ≡ true
@@ -108,8 +108,8 @@ Comes-operated : (known : KnownNames) (o : Op) (v : Var) (place : Place) (left r
 Comes-operated known o v place left right ack going flag temps fits is_left is_right =
     let reads = Reads-regs_of known going flag temps ack fits in
     Comes-both known going.env going.locals o (variable_reg v) place left right 0 ack (regs_of going flag temps) reads is_left is_right
-    (Comes-into known going.env going.locals _ left 0 ack (regs_of going flag temps) reads is_left)
-    (λ more. Comes-into known going.env going.locals _ right (free_after left 0) ack (regs_of going flag more) (Reads-regs_of known going flag more ack fits) is_right)
+    (Comes-value_lines known going.env going.locals _ left 0 ack (regs_of going flag temps) reads is_left)
+    (λ more. Comes-value_lines known going.env going.locals _ right (first_free_after left 0) ack (regs_of going flag more) (Reads-regs_of known going flag more ack fits) is_right)
 
 target-writable : (known : KnownNames) (v : Var) (rest : Bool) → is_target known v && rest ≡ true → is_writable v ≡ true
 target-writable known v rest is = (and_parts (is_known known v) (is_writable v) (and_parts (is_target known v) rest is).0).1
@@ -124,11 +124,11 @@ next-writable known var.Micros is = cc
 next-writable known (var.Prim n) is = cc
 
 Comes-set : (known : KnownNames) (v : Var) (term : Term) (ack : Ack) (going : Going) (flag : ℕ) (temps : Variables) → Fits known going → is_writable v ≡ true → is_term known term ≡ true
-    → Comes (into (variable_reg v) term 0) 0 ack (regs_of going flag temps) (went (command_of (set v term) ack going) flag)
+    → Comes (value_lines (variable_reg v) term 0) 0 ack (regs_of going flag temps) (went (command_of (set v term) ack going) flag)
 Comes-set known v term ack going flag temps fits writable is =
-    Comes-as (into (variable_reg v) term 0) 0 ack (regs_of going flag temps) (told (value_in term ack going) (variable_reg v) ack (regs_of going flag temps)) (went (command_of (set v term) ack going) flag)
+    Comes-as (value_lines (variable_reg v) term 0) 0 ack (regs_of going flag temps) (told (value_in term ack going) (variable_reg v) ack (regs_of going flag temps)) (went (command_of (set v term) ack going) flag)
     (λ more. told-went (value_in term ack going) v ack going flag temps more writable)
-    (Comes-into known going.env going.locals (variable_reg v) term 0 ack (regs_of going flag temps) (Reads-regs_of known going flag temps ack fits) is)
+    (Comes-value_lines known going.env going.locals (variable_reg v) term 0 ack (regs_of going flag temps) (Reads-regs_of known going flag temps ack fits) is)
 
 pub Comes-command : (known : KnownNames) (action : Action) (ack : Ack) (going : Going) (flag : ℕ) (temps : Variables) → Fits known going → is_action known action ≡ true
     → Comes (action_lines action) 0 ack (regs_of going flag temps) (went (command_of action ack going) flag)

@@ -10,7 +10,7 @@ use Rattle.ccp_base.specs.declared.operation.Op2.{Op2}
 use Rattle.portus_core.specs.Programs.{Term, number, truth, name, pair}
 use Rattle.ccp_base.specs.Chaining.{then_do}
 use Rattle.portus_core.specs.Value.{Cause, Locals, at_place, value_of}
-use Rattle.ccp_base.specs.Operations.{applied}
+use Rattle.ccp_base.specs.Operations.{apply}
 use Rattle.reg_compiler.specs.Known.{known_result, known_pair, known_value, is_nameless, KnownExactly}
 
 known_result-value : (result : Result ℕ FaultKind) (place : Place) (value : ℕ) → known_result result ≡ Some value → at_place place result ≡ Ok value
@@ -19,9 +19,9 @@ known_result-value (Err kind) place other is = cc
 
 known_pair-value : (o : Op2) (place : Place) (left right : Option ℕ) (first second : Result ℕ Cause) (value : ℕ)
     → ((a : ℕ) → left ≡ Some a → first ≡ Ok a) → ((b : ℕ) → right ≡ Some b → second ≡ Ok b)
-    → known_pair o left right ≡ Some value → then_do first (λ a. then_do second (λ b. at_place place (applied o a b))) ≡ Ok value
+    → known_pair o left right ≡ Some value → then_do first (λ a. then_do second (λ b. at_place place (apply o a b))) ≡ Ok value
 known_pair-value o place (Some a) (Some b) first second value left right is =
-    rw (left a refl, right b refl) (known_result-value (applied o a b) place value is)
+    rw (left a refl, right b refl) (known_result-value (apply o a b) place value is)
 known_pair-value o place (Some a) None first second value left right is = cc
 known_pair-value o place None right first second value left other is = cc
 
@@ -55,9 +55,9 @@ value-known_result (Err kind) place other is = cc
 
 value-known_pair : (o : Op2) (place : Place) (left right : Option ℕ) (first second : Result ℕ Cause) (value : ℕ)
     → ((a : ℕ) → first ≡ Ok a → left ≡ Some a) → ((b : ℕ) → second ≡ Ok b → right ≡ Some b)
-    → then_do first (λ a. then_do second (λ b. at_place place (applied o a b))) ≡ Ok value → known_pair o left right ≡ Some value
+    → then_do first (λ a. then_do second (λ b. at_place place (apply o a b))) ≡ Ok value → known_pair o left right ≡ Some value
 value-known_pair o place left right (Ok a) (Ok b) value known_left known_right is =
-    rw (known_left a refl, known_right b refl) (value-known_result (applied o a b) place value is)
+    rw (known_left a refl, known_right b refl) (value-known_result (apply o a b) place value is)
 value-known_pair o place left right (Ok a) (Err cause) value known_left known_right is = cc
 value-known_pair o place left right (Err cause) second value known_left known_right is = cc
 

@@ -44,8 +44,8 @@ same_value : (a b : ℕ) → ◌≡◌ {A = Result ℕ Cause} (Ok a) (Ok b) → 
 same_value a b is = cc
 
 -- a register that has the value without lines
-pub Works-direct : (from : Reg) (value free : ℕ) (ack : Ack) (regs : Regs) → ((more : Variables) → register_value from (with_temps regs more) ack ≡ Some value) → Works (Ok value) [] from free free ack regs
-Works-direct from value free ack regs has = record {
+pub Works-direct_operand : (from : Reg) (value free : ℕ) (ack : Ack) (regs : Regs) → ((more : Variables) → register_value from (with_temps regs more) ack ≡ Some value) → Works (Ok value) [] from free free ack regs
+Works-direct_operand from value free ack regs has = record {
   temps = regs.temps;
   same = λ i below. refl;
   ran = refl;
@@ -54,7 +54,7 @@ Works-direct from value free ack regs has = record {
 
 pub Works-name : (known : KnownNames) (env : Env) (locals : Locals) (v : Var) (free : ℕ) (ack : Ack) (regs : Regs) → Reads known env locals ack regs → is_known known v ≡ true → Works (Ok (read_of v env locals ack)) [] (variable_reg v) free free ack regs
 Works-name known env locals v free ack regs reads is =
-    Works-direct (variable_reg v) (read_of v env locals ack) free ack regs (λ more. Reads-with_temps known env locals ack regs more reads v is)
+    Works-direct_operand (variable_reg v) (read_of v env locals ack) free ack regs (λ more. Reads-with_temps known env locals ack regs more reads v is)
 
 kept-below : (temps : Variables) (free value i : ℕ) → i < free → with_value_at temps free value i ≡ temps i
 kept-below temps free value i below = ap (λ b. cond b (Some value) (temps i)) (ne_eqb i free (λ is. omega (arith, is)))
@@ -63,16 +63,16 @@ written-there : (temps : Variables) (free value : ℕ) → with_value_at temps f
 written-there temps free value = ap (λ b. cond b (Some value) (temps free)) (eq-eqb free free refl)
 
 -- the lines write it into the first free temporary
-pub Works-into : (result : Result ℕ Cause) (lines : List Line) (free : ℕ) (ack : Ack) (regs : Regs)
+pub Works-value_lines : (result : Result ℕ Cause) (lines : List Line) (free : ℕ) (ack : Ack) (regs : Regs)
     → Comes lines free ack regs (λ temps. halting result (λ value. Ok (written (reg.Temp free) value ack (with_temps regs temps))))
     → Works result lines (reg.Temp free) free (free + 1) ack regs
-Works-into (Ok value) lines free ack regs comes = record {
+Works-value_lines (Ok value) lines free ack regs comes = record {
   temps = with_value_at comes.temps free value;
   same = λ i below. kept-below comes.temps free value i below ∙ comes.same i below;
   ran = comes.ran;
   reads = λ other is more same. same free (omega arith) ∙ written-there comes.temps free value ∙ same_value value other is;
 }
-Works-into (Err cause) lines free ack regs comes = record {
+Works-value_lines (Err cause) lines free ack regs comes = record {
   temps = regs.temps;
   same = λ i below. refl;
   ran = comes.ran;
@@ -85,14 +85,14 @@ pub Works-pair : (known : Option ℕ) (result : Result ℕ Cause) (lines : List 
     → Comes lines free ack regs (λ temps. halting result (λ value. Ok (written (reg.Temp free) value ack (with_temps regs temps))))
     → Works result (unless_direct (option_map reg.Imm known) lines) (unwrap_or (option_map reg.Imm known) (reg.Temp free)) free (next_free (option_map reg.Imm known) free) ack regs
 Works-pair (Some value) (Ok other) lines free ack regs is comes =
-    Works-direct (reg.Imm value) other free ack regs (λ more. sym (same_value other value (is value refl)))
+    Works-direct_operand (reg.Imm value) other free ack regs (λ more. sym (same_value other value (is value refl)))
 Works-pair (Some value) (Err cause) lines free ack regs is comes = record {
   temps = regs.temps;
   same = λ i below. refl;
   ran = cc (is value refl);
   reads = λ other none more same. cc;
 }
-Works-pair None result lines free ack regs is comes = Works-into result lines free ack regs comes
+Works-pair None result lines free ack regs is comes = Works-value_lines result lines free ack regs comes
 
 line-reads : (left right : Option ℕ) (a b : ℕ) (o : Op) (to : Reg) (ack : Ack) (regs : Regs) → left ≡ Some a → right ≡ Some b → with_operand left (λ a. with_operand right (λ b. effect o to a b ack regs)) ≡ effect o to a b ack regs
 line-reads left right a b o to ack regs first second = rw (first, second) refl

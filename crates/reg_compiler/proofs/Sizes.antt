@@ -10,18 +10,18 @@ use Rattle.reg_code.specs.declared.code.Reg.TheVariants as reg
 use Rattle.reg_compiler.specs.declared.line.Line.{Line}
 use Rattle.reg_compiler.specs.Known.{known_value}
 use Rattle.reg_compiler.specs.Counts.{term_count, action_count, body_count, parts_count, form_count, lean_where, lean_of, action_lean, body_lean, parts_lean, lean}
-use Rattle.reg_compiler.specs.CompiledCode.{variable_reg, code_line, direct, operand, free_after, unless_direct, operation_lines, unless_known, into, both_into, action_lines, body_lines, condition_lines, lines_of}
+use Rattle.reg_compiler.specs.CompiledCode.{variable_reg, code_line, direct_operand, operand, first_free_after, unless_direct, operation_lines, unless_known, value_lines, both_into, action_lines, body_lines, condition_lines, lines_of}
 
 unless_known-length : (known : Option ℕ) (to : Reg) (lines : List Line) (few : ℕ) → length lines ≤ few → length (unless_known known to lines) ≤ max 1 (lean_where known few)
 unless_known-length (Some value) to lines few within = omega arith
 unless_known-length None to lines few within = omega (arith, within)
 
--- the lines of a pair as an operand: none where it is known
+-- the lines of a pair as an operand: none if it is known
 unless_direct-length : (known : Option ℕ) (lines : List Line) (few : ℕ) → 1 ≤ few → length lines ≤ max 1 (lean_where known few) → length (unless_direct (option_map reg.Imm known) lines) ≤ lean_where known few
 unless_direct-length (Some value) lines few some within = omega arith
 unless_direct-length None lines few some within = omega (arith, some, within)
 
-operand-length : (term : Term) (lines : List Line) → length lines ≤ max 1 (lean_of term) → length (unless_direct (direct term) lines) ≤ lean_of term
+operand-length : (term : Term) (lines : List Line) → length lines ≤ max 1 (lean_of term) → length (unless_direct (direct_operand term) lines) ≤ lean_of term
 operand-length (number n) lines within = omega arith
 operand-length (truth b) lines within = omega arith
 operand-length (name v) lines within = omega arith
@@ -29,25 +29,25 @@ operand-length (pair o place left right) lines within = unless_direct-length (kn
 
 operation_lines-length : (o : Op) (to : Reg) (place : Place) (left : Term) (left_lines : List Line) (right : Term) (right_lines : List Line) (free : ℕ) → length left_lines ≤ max 1 (lean_of left) → length right_lines ≤ max 1 (lean_of right) → length (operation_lines o to place left left_lines right right_lines free) ≤ 1 + (lean_of left + lean_of right)
 operation_lines-length o to place left left_lines right right_lines free left_few right_few =
-    let first = unless_direct (direct left) left_lines in
-    let second = unless_direct (direct right) right_lines in
-    let last : List Line = code_line o to (operand left free) (operand right (free_after left free)) place ∷ [] in
+    let first = unless_direct (direct_operand left) left_lines in
+    let second = unless_direct (direct_operand right) right_lines in
+    let last : List Line = code_line o to (operand left free) (operand right (first_free_after left free)) place ∷ [] in
     omega (arith, length-append first (second ++ last), length-append second last, operand-length left left_lines left_few, operand-length right right_lines right_few)
 
-into-length : (term : Term) (to : Reg) (free : ℕ) → length (into to term free) ≤ max 1 (lean_of term)
-into-length (number n) to free = omega arith
-into-length (truth b) to free = omega arith
-into-length (name v) to free = omega arith
-into-length (pair o place left right) to free =
+value_lines-length : (term : Term) (to : Reg) (free : ℕ) → length (value_lines to term free) ≤ max 1 (lean_of term)
+value_lines-length (number n) to free = omega arith
+value_lines-length (truth b) to free = omega arith
+value_lines-length (name v) to free = omega arith
+value_lines-length (pair o place left right) to free =
     unless_known-length (known_value (pair o place left right)) to _ (1 + (lean_of left + lean_of right))
-    (operation_lines-length (op.Pair o) to place left (into (reg.Temp free) left free) right (into (reg.Temp (free_after left free)) right (free_after left free)) free (into-length left (reg.Temp free) free) (into-length right (reg.Temp (free_after left free)) (free_after left free)))
+    (operation_lines-length (op.Pair o) to place left (value_lines (reg.Temp free) left free) right (value_lines (reg.Temp (first_free_after left free)) right (first_free_after left free)) free (value_lines-length left (reg.Temp free) free) (value_lines-length right (reg.Temp (first_free_after left free)) (first_free_after left free)))
 
 both_into-length : (o : Op) (to : Reg) (place : Place) (left right : Term) → length (both_into o to place left right) ≤ 1 + (lean_of left + lean_of right)
 both_into-length o to place left right =
-    operation_lines-length o to place left (into (reg.Temp 0) left 0) right (into (reg.Temp (free_after left 0)) right (free_after left 0)) 0 (into-length left (reg.Temp 0) 0) (into-length right (reg.Temp (free_after left 0)) (free_after left 0))
+    operation_lines-length o to place left (value_lines (reg.Temp 0) left 0) right (value_lines (reg.Temp (first_free_after left 0)) right (first_free_after left 0)) 0 (value_lines-length left (reg.Temp 0) 0) (value_lines-length right (reg.Temp (first_free_after left 0)) (first_free_after left 0))
 
 action-length : (action : Action) → length (action_lines action) ≤ action_lean action
-action-length (set v term) = into-length term (variable_reg v) 0
+action-length (set v term) = value_lines-length term (variable_reg v) 0
 action-length (set_if place v condition term) = both_into-length op.If (variable_reg v) place condition term
 action-length (set_unless place v condition term) = both_into-length op.NotIf (variable_reg v) place condition term
 action-length (ewma place v weight term) = omega (arith, both_into-length op.Ewma (variable_reg v) place (number weight) term)
@@ -66,7 +66,7 @@ parts-length (part ∷ rest) =
       arith,
       length-append (condition_lines part.condition) (body_lines part.body ++ lines_of rest),
       length-append (body_lines part.body) (lines_of rest),
-      into-length part.condition (reg.Implicit Flag) 0,
+      value_lines-length part.condition (reg.Implicit Flag) 0,
       body-length part.body,
       parts-length rest,
     )

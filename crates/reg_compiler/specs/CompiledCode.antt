@@ -39,23 +39,23 @@ abbrev pub bind_line : Reg → Reg → Line
 bind_line to from = code_line op.Bind to from (reg.Imm 0) no_place
 
 -- the operand of an expression that needs no instruction: a name, or a number that is known
-abbrev pub direct : Term → Option Reg
-direct (number n) = Some (reg.Imm n)
-direct (truth b) = Some (reg.Imm (bool_number b))
-direct (name v) = Some (variable_reg v)
-direct (pair o place left right) = option_map reg.Imm (known_value (pair o place left right))
+abbrev pub direct_operand : Term → Option Reg
+direct_operand (number n) = Some (reg.Imm n)
+direct_operand (truth b) = Some (reg.Imm (bool_number b))
+direct_operand (name v) = Some (variable_reg v)
+direct_operand (pair o place left right) = option_map reg.Imm (known_value (pair o place left right))
 
 -- the operand of an expression: without an instruction, or else the first free temporary
 abbrev pub operand : Term → ℕ → Reg
-operand term free = unwrap_or (direct term) (reg.Temp free)
+operand term free = unwrap_or (direct_operand term) (reg.Temp free)
 
 abbrev pub next_free : Option Reg → ℕ → ℕ
 next_free (Some from) free = free
 next_free None free = free + 1
 
 -- the first temporary that is free after the operand
-abbrev pub free_after : Term → ℕ → ℕ
-free_after term free = next_free (direct term) free
+abbrev pub first_free_after : Term → ℕ → ℕ
+first_free_after term free = next_free (direct_operand term) free
 
 -- lines, unless there is an operand without them
 abbrev pub unless_direct : Option Reg → List Line → List Line
@@ -65,9 +65,9 @@ unless_direct None lines = lines
 -- the lines of two operands, and then the operation on them
 abbrev pub operation_lines : Op → Reg → Place → Term → List Line → Term → List Line → ℕ → List Line
 operation_lines o to place left left_lines right right_lines free =
-    unless_direct (direct left) left_lines
-    ++ (unless_direct (direct right) right_lines
-    ++ (code_line o to (operand left free) (operand right (free_after left free)) place ∷ []))
+    unless_direct (direct_operand left) left_lines
+    ++ (unless_direct (direct_operand right) right_lines
+    ++ (code_line o to (operand left free) (operand right (first_free_after left free)) place ∷ []))
 
 -- a known value is bound; else these are the lines
 abbrev pub unless_known : Option ℕ → Reg → List Line → List Line
@@ -75,31 +75,31 @@ unless_known (Some value) to lines = bind_line to (reg.Imm value) ∷ []
 unless_known None to lines = lines
 
 -- the lines that put an expression's value into a register; the last one writes it
-abbrev pub into : Reg → Term → ℕ → List Line
-into to (number n) free = bind_line to (reg.Imm n) ∷ []
-into to (truth b) free = bind_line to (reg.Imm (bool_number b)) ∷ []
-into to (name v) free = bind_line to (variable_reg v) ∷ []
-into to (pair o place left right) free =
+abbrev pub value_lines : Reg → Term → ℕ → List Line
+value_lines to (number n) free = bind_line to (reg.Imm n) ∷ []
+value_lines to (truth b) free = bind_line to (reg.Imm (bool_number b)) ∷ []
+value_lines to (name v) free = bind_line to (variable_reg v) ∷ []
+value_lines to (pair o place left right) free =
     unless_known (known_value (pair o place left right)) to
-    (operation_lines (op.Pair o) to place left (into (reg.Temp free) left free) right (into (reg.Temp (free_after left free)) right (free_after left free)) free)
+    (operation_lines (op.Pair o) to place left (value_lines (reg.Temp free) left free) right (value_lines (reg.Temp (first_free_after left free)) right (first_free_after left free)) free)
 
 -- the lines that put an expression that is no operand yet into a temporary
 abbrev pub operand_lines : Term → ℕ → List Line
-operand_lines term free = unless_direct (direct term) (into (reg.Temp free) term free)
+operand_lines term free = unless_direct (direct_operand term) (value_lines (reg.Temp free) term free)
 
 -- the lines of an operation on two expressions, into a register, with the temporaries from `free` on
 abbrev pub both_from : Op → Reg → Place → Term → Term → ℕ → List Line
 both_from o to place left right free =
     operand_lines left free
-    ++ (operand_lines right (free_after left free)
-    ++ (code_line o to (operand left free) (operand right (free_after left free)) place ∷ []))
+    ++ (operand_lines right (first_free_after left free)
+    ++ (code_line o to (operand left free) (operand right (first_free_after left free)) place ∷ []))
 
 -- the same with all temporaries
 abbrev pub both_into : Op → Reg → Place → Term → Term → List Line
 both_into o to place left right = both_from o to place left right 0
 
 abbrev pub action_lines : Action → List Line
-action_lines (set v term) = into (variable_reg v) term 0
+action_lines (set v term) = value_lines (variable_reg v) term 0
 action_lines (set_if place v condition term) = both_into op.If (variable_reg v) place condition term
 action_lines (set_unless place v condition term) = both_into op.NotIf (variable_reg v) place condition term
 action_lines (ewma place v weight term) = both_into op.Ewma (variable_reg v) place (number weight) term
@@ -112,7 +112,7 @@ body_lines [] = []
 body_lines (action ∷ rest) = action_lines action ++ body_lines rest
 
 abbrev pub condition_lines : Term → List Line
-condition_lines condition = into (reg.Implicit Flag) condition 0
+condition_lines condition = value_lines (reg.Implicit Flag) condition 0
 
 -- the lines of a block
 abbrev pub block_lines : Term → List Action → List Line

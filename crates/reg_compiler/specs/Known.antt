@@ -7,14 +7,14 @@ use Rattle.portus_core.specs.declared.env.Env.{Env}
 use Rattle.ccp_base.specs.declared.operation.Op2.{Op2}
 use Rattle.portus_core.specs.Programs.{Term, number, truth, name, pair}
 use Rattle.portus_core.specs.Value.{Locals, value_of}
-use Rattle.ccp_base.specs.Operations.{applied}
+use Rattle.ccp_base.specs.Operations.{apply}
 
 abbrev pub known_result : Result ℕ FaultKind → Option ℕ
 known_result (Ok value) = Some value
 known_result (Err kind) = None
 
 abbrev pub known_pair : Op2 → Option ℕ → Option ℕ → Option ℕ
-known_pair op (Some a) (Some b) = known_result (applied op a b)
+known_pair op (Some a) (Some b) = known_result (apply op a b)
 known_pair op (Some a) None = None
 known_pair op None b = None
 

@@ -6,21 +6,21 @@ use Rattle.ccp_base.specs.Limits.{most_temps}
 use Rattle.portus_core.specs.Programs.{Term, number, truth, name, pair, Action, set, set_if, set_unless, ewma, zero_micros, report, fall, Part, Form}
 
 -- a part that is no leaf takes a temporary while the part after it is computed
-abbrev pub beside : Term → ℕ
-beside (number n) = 0
-beside (truth b) = 0
-beside (name v) = 0
-beside (pair op place left right) = 1
+abbrev pub kept_temporaries : Term → ℕ
+kept_temporaries (number n) = 0
+kept_temporaries (truth b) = 0
+kept_temporaries (name v) = 0
+kept_temporaries (pair op place left right) = 1
 
 abbrev pub need_of : Term → ℕ
 need_of (number n) = 0
 need_of (truth b) = 0
 need_of (name v) = 0
-need_of (pair op place left right) = max 1 (max (need_of left) (need_of right + beside left))
+need_of (pair op place left right) = max 1 (max (need_of left) (need_of right + kept_temporaries left))
 
 -- the need of two expressions, if the first one's value is kept while the second is computed
 abbrev pub need_of_both : Term → Term → ℕ
-need_of_both left right = max (need_of left) (need_of right + beside left)
+need_of_both left right = max (need_of left) (need_of right + kept_temporaries left)
 
 -- the need of an assigned value
 abbrev pub action_need : Action → ℕ

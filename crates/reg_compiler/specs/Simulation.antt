@@ -1,5 +1,5 @@
 -- When code is a simulation of a program.
-use Rattle.std.specs.Prelude.{◌≡◌, Bool, Option, Some, None, option_map, List, length, map, slice_get}
+use Rattle.std.specs.Prelude.{◌≡◌, ℕ, Bool, Option, Some, None, option_map, unwrap_or, List, length, map, slice_get}
 use Rattle.ccp_base.specs.declared.ack.Ack.{Ack}
 use Rattle.ccp_base.specs.declared.place.Place.{Place}
 use Rattle.portus_core.specs.declared.env.Env.{Env}
@@ -17,9 +17,21 @@ use Rattle.reg_code.specs.CodeStep.{Kept, CodeOutcome, quiet, reported, held, fa
 abbrev pub kept_of : Env → Kept
 kept_of env = record { reports = env.fields; controls = env.controls; cwnd = env.cwnd; rate = env.rate; zero = env.zero }
 
+-- the env that registers hold
+abbrev pub env_of : Kept → Env
+env_of kept = record { fields = kept.reports; controls = kept.controls; cwnd = kept.cwnd; rate = kept.rate; zero = kept.zero }
+
 -- how the register of a declaration starts
 abbrev pub register_start : Decl → Start
 register_start decl = record { volatile = decl.volatile; value = decl.start }
+
+-- what stands for the place of an instruction that isn't there
+abbrev pub missing_place : Place
+missing_place = record { line = 0; column = 0 }
+
+-- the place of an instruction, if these are the places of the code's instructions
+abbrev pub place_at : List Place → ℕ → Place
+place_at places index = unwrap_or (slice_get places index) missing_place
 
 -- what an outcome of the code means; `places` has the place of each instruction
 abbrev pub seen : List Place → CodeOutcome → Option Mean

@@ -7,7 +7,7 @@ ghost use Rattle.reg_compiler.specs.Numbered.{is_numbered_term, is_numbered_body
 ghost use Rattle.reg_compiler.specs.CompiledCode.{condition_lines, body_lines, block_lines, block_size, lines_of, event_of};
 
 use crate::command::body;
-use crate::expression::into;
+use crate::expression::value_lines;
 use crate::line::Lines;
 use ccp_base::Sequence;
 use portus_core::{Block, Cmd, Expr};
@@ -45,7 +45,7 @@ fn block(condition: &Expr, cmds: &[Cmd], lines: &mut Lines) -> Result<Event, All
         (lines.new ≡ lines.old ++ block_lines (term_of condition.now) (map action_of cmds.now)) }
 {
     let start = lines.len();
-    into(condition, Reg::Implicit(Implicit::Flag), 0, lines)?;
+    value_lines(condition, Reg::Implicit(Implicit::Flag), 0, lines)?;
     let middle = lines.len();
     body(cmds, lines)?;
     Ok(Event {

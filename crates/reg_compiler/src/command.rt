@@ -7,7 +7,7 @@ ghost use Rattle.reg_compiler.specs.Needs.{action_need, body_need};
 ghost use Rattle.reg_compiler.specs.Numbered.{is_numbered_action, is_numbered_body};
 ghost use Rattle.reg_compiler.specs.CompiledCode.{bind_line, action_lines, body_lines};
 
-use crate::expression::{into, operand, operation_lines};
+use crate::expression::{operand, operation_lines, value_lines};
 use crate::line::{Lines, bind_line, operation_line};
 use crate::registers::reg_of;
 use portus_core::Cmd;
@@ -33,7 +33,7 @@ fn command(cmd: &Cmd, lines: &mut Lines) -> Result<(), AllocError>
     ensures { OnOk result (lines.new ≡ lines.old ++ action_lines (action_of cmd.now)) }
 {
     match cmd {
-        Cmd::Set(var, expr) => into(expr, reg_of(*var), 0, lines),
+        Cmd::Set(var, expr) => value_lines(expr, reg_of(*var), 0, lines),
         Cmd::SetIf(place, var, condition, expr) => {
             operation_lines(Op::If, reg_of(*var), *place, condition, expr, 0, lines)
         }

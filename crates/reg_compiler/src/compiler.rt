@@ -9,7 +9,7 @@ use crate::built::Built;
 use crate::count::instruction_count;
 use crate::emission::{Emitted, emit};
 use crate::fault::CompileFault;
-use crate::need::too_deep;
+use crate::need::too_deep_place;
 use portus_core::Program;
 use reg_code::{Checked, INSTRS};
 use std::alloc::Global;
@@ -22,7 +22,7 @@ pub fn compile(alloc: Global, program: Program) -> Result<Built, CompileFault>
     ensures within { IfOk result (λ built. length built.code.code.instrs ≤ form_count (form_of program)) }
     ensures lean { IfOk result (λ built. length built.code.code.instrs ≤ lean (form_of program)) }
 {
-    if let Some(place) = too_deep(&program) {
+    if let Some(place) = too_deep_place(&program) {
         return Err(CompileFault::TooDeep(place));
     }
     let count = instruction_count(&program);

@@ -9,13 +9,13 @@ use portus_core::Expr;
 /// The value of an expression that has no name and doesn't fault: it is the same for every state and every
 /// acknowledgement.
 #[tactic(auto, using(portus_core::specs::Programs::terms))]
-pub fn known(expr: &Expr) -> Option<u64>
+pub fn known_value(expr: &Expr) -> Option<u64>
     ensures { result ≡ known_value (term_of expr.now) }
 {
     match expr {
         Expr::Num(number) => Some(*number),
         Expr::Truth(truth) => Some(bool_number(*truth)),
         Expr::Var(_) => None,
-        Expr::Pair(op, _, left, right) => op.applied(known(left)?, known(right)?).ok(),
+        Expr::Pair(op, _, left, right) => op.apply(known_value(left)?, known_value(right)?).ok(),
     }
 }

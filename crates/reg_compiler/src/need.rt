@@ -4,7 +4,7 @@ ghost use Rattle.std.specs.Option.{option_or};
 ghost use Rattle.ccp_base.specs.Limits.{most_temps};
 ghost use Rattle.portus_core.specs.Programs.{term_of, action_of, part_of};
 ghost use Rattle.portus_core.specs.ProgramForm.{form_of};
-ghost use Rattle.reg_compiler.specs.Needs.{beside, need_of, need_of_both, action_need, body_need, parts_need, form_need, deep_at, deep_term, deep_action, deep_body, deep_block, deep_parts, deep_form};
+ghost use Rattle.reg_compiler.specs.Needs.{kept_temporaries, need_of, need_of_both, action_need, body_need, parts_need, form_need, deep_at, deep_term, deep_action, deep_body, deep_block, deep_parts, deep_form};
 
 use ccp_base::Place;
 use portus_core::{Block, Cmd, Expr, Program};
@@ -64,7 +64,7 @@ fn need(expr: &Expr) -> u32
         Expr::Num(_) | Expr::Truth(_) | Expr::Var(_) => 0,
         Expr::Pair(_, _, left, right) => {
             need(left)
-                .max(need(right) + beside(left))
+                .max(need(right) + kept_temporaries(left))
                 .clamp(1, TOO_MANY)
         }
     }
@@ -74,13 +74,15 @@ fn need(expr: &Expr) -> u32
 fn need_of_both(left: &Expr, right: &Expr) -> u32
     ensures { result ≡ min (need_of_both (term_of left.now) (term_of right.now)) (most_temps + 1) }
 {
-    need(left).max(need(right) + beside(left)).min(TOO_MANY)
+    need(left)
+        .max(need(right) + kept_temporaries(left))
+        .min(TOO_MANY)
 }
 
 /// The temporary that an expression other than a leaf takes while the one after it is computed.
 #[tactic(auto, using(portus_core::specs::Programs::terms))]
-fn beside(expr: &Expr) -> u32
-    ensures { result ≡ beside (term_of expr.now) }
+fn kept_temporaries(expr: &Expr) -> u32
+    ensures { result ≡ kept_temporaries (term_of expr.now) }
 {
     match expr {
         Expr::Num(_) | Expr::Truth(_) | Expr::Var(_) => 0,
@@ -89,7 +91,7 @@ fn beside(expr: &Expr) -> u32
 }
 
 /// The head atom of the first expression of a program, in the order of the text, that needs more than 8 temporaries.
-pub fn too_deep(program: &Program) -> Option<Place>
+pub fn too_deep_place(program: &Program) -> Option<Place>
     ensures { result ≡ deep_form (form_of program.now) }
 {
     for block in &program.blocks {

@@ -1,2 +1,2 @@
--- The definitions of reno_agent, a file each.
+-- The definitions of reno_agent, a file each. Public contracts cite all.
 pub mod Reno

@@ -17,9 +17,9 @@
 -- - loss events are distinguished by time: what is lost or marked within one round-trip time of the last event belongs
 --   to it; a timeout ends that time;
 -- - the window isn't inflated while packets are retransmitted, nor deflated afterwards (steps 3 to 6 of 3.2);
--- - each timeout works the threshold out anew, also if the timer had retransmitted the same segment before;
+-- - each timeout works the threshold out again, also if the timer had retransmitted the same segment before;
 -- - the datapath's program moves the window in slow start, up to the cap that a change names;
--- - a fault of that program is answered by starting it anew with the agent's window, and a report or notice of
+-- - a fault of that program is answered by starting it again with the agent's window, and a report or notice of
 --   another epoch is ignored.
 use Rattle.std.specs.Prelude.{ℕ, ◌-◌, ◌*◌, ◌/◌, ◌^◌, ◌≤◌, ◌==◌, ◌||◌, nat_lt, nat_le, min, max, if◌then◌else◌}
 use Rattle.ccp_base.specs.Limits.{most_segment_bytes, most_flight}
@@ -55,8 +55,8 @@ pub record IsInRange (mss window : ℕ) : Type 0 where
   pub window_most : window ≤ most_flight * mss
 
 -- what a state becomes, and the reply
-abbrev pub Turn : Type 0
-Turn = RenoState × Reply
+abbrev pub Replied : Type 0
+Replied = RenoState × Reply
 
 -- an agent in its initial state
 abbrev pub first_reno : ℕ → Role → Role → RenoState
@@ -77,7 +77,7 @@ abbrev pub halved_flight : ℕ → Measurement → ℕ
 halved_flight mss r = min (max ((r.inflight +ˢ r.loss *ˢ mss) / 2) (2 *ˢ mss)) (most_flight *ˢ mss)
 
 -- the retransmission timer ran out: the window is one segment (RFC 5681, section 3.1)
-abbrev pub after_timeout : Measurement → RenoState → Turn
+abbrev pub after_timeout : Measurement → RenoState → Replied
 after_timeout r s =
     let cut = halved_flight s.mss r in (
       record s { course = course_after SlowStart s.course; window = s.mss; ssthresh = cut; calm = 0 },
@@ -85,7 +85,7 @@ after_timeout r s =
     )
 
 -- packets were lost or marked: the window is the threshold, once in a round-trip time (RFC 5681, section 3.2)
-abbrev pub after_loss : Measurement → RenoState → Turn
+abbrev pub after_loss : Measurement → RenoState → Replied
 after_loss r s =
     let cut = halved_flight s.mss r in
     if nat_lt r.now s.calm then (s, Nothing) else (
@@ -94,25 +94,25 @@ after_loss r s =
     )
 
 -- slow start ends if the window has reached the threshold (RFC 5681, section 3.1)
-abbrev pub in_slow_start : Measurement → RenoState → Turn
+abbrev pub in_slow_start : Measurement → RenoState → Replied
 in_slow_start r s =
     if nat_le s.ssthresh r.cwnd then (record s { course = course_after Avoidance s.course }, change_to Avoidance s.course s.window s.ssthresh)
     else (s, Nothing)
 
 -- congestion avoidance: the window grows by about one segment in a round-trip time, and by at least one byte
 -- (RFC 5681, equation 3, with the bytes of the whole report)
-abbrev pub in_avoidance : Measurement → RenoState → Turn
+abbrev pub in_avoidance : Measurement → RenoState → Replied
 in_avoidance r s =
     let window = clamped_window s.mss (s.window +ˢ max 1 (muldiv s.mss r.acked s.window)) in
     if r.acked == 0 then (s, Nothing) else (record s { window = window }, Update window)
 
 -- a report without a timeout, a loss or a mark
-abbrev pub in_phase : Phase → Measurement → RenoState → Turn
+abbrev pub in_phase : Phase → Measurement → RenoState → Replied
 in_phase SlowStart r s = in_slow_start r s
 in_phase Avoidance r s = in_avoidance r s
 
 -- a report is treated by the first case that holds
-abbrev pub after_measurement : Measurement → RenoState → Turn
+abbrev pub after_measurement : Measurement → RenoState → Replied
 after_measurement r s =
     if nat_lt 0 r.timeout then after_timeout r s
     else if nat_lt 0 r.loss || nat_lt 0 r.ecn then after_loss r s
@@ -123,19 +123,19 @@ abbrev pub window_told : Phase → Measurement → RenoState → RenoState
 window_told SlowStart r s = record s { window = clamped_window s.mss r.cwnd }
 window_told Avoidance r s = s
 
--- the program stopped by a fault is started again where the agent stands
-abbrev pub after_fault : RenoState → Turn
+-- the program stopped by a fault is started again with the phase and the window of the agent
+abbrev pub after_fault : RenoState → Replied
 after_fault s =
     let mode = s.course.mode in
     (record s { course = course_after mode s.course }, change_to mode s.course s.window s.ssthresh)
 
 -- a report or fault of the agent's epoch
-abbrev pub after_told : Told → RenoState → Turn
+abbrev pub after_told : Told → RenoState → Replied
 after_told (Report report) s =
     let r = measurement_of (role_of s.course.mode s.course).look report in
     after_measurement r (window_told s.course.mode r s)
 after_told (Fault notice) s = after_fault s
 
 -- Reno: a report or notice of another epoch is ignored
-abbrev pub reno : RenoState → Told → Turn
+abbrev pub reno : RenoState → Told → Replied
 reno s told = if told_epoch told == s.course.epoch then after_told told s else (s, Nothing)

@@ -232,7 +232,7 @@ impl Reno {
         Reply::Update(self.window)
     }
 
-    /// The program that a fault stopped is started again where the agent stands.
+    /// The program that a fault stopped is started again with the phase and the window of the agent.
     fn on_fault(&mut self) -> Reply
         ensures { (self.new, result) ≡ after_fault self.old }
     {

@@ -124,7 +124,7 @@ begins_read bytes frame b =
     let t = exact-frame.taken b.front frame [] b.whole in
     ap frame_at b.parts ∙ ap (λ xs. frame_at (xs ++ b.rest)) (t.parts ∙ append-nil t.front) ∙ t.again b.rest
 
--- bytes that no frame begins and that none goes on from have a bad byte
+-- bytes that begin with no frame, and with which no frame begins, have a bad byte
 refused-read : (bytes : List ℕ) (read : Read Frame) → frame_at bytes ≡ read → ((frame : Frame) → ¬ BeginsWithFrame bytes frame) → ¬ IsFrameFront bytes → (field : BadKind) × (left : ℕ) × (frame_at bytes ≡ Err (stops.Bad field left))
 refused-read bytes (Ok (frame, rest)) e none whole = absurd (none frame (read_begins bytes frame rest e))
 refused-read bytes (Err stops.Cut) e none whole = absurd (whole (cut_is bytes e))

@@ -37,7 +37,7 @@ is_done part front count i bytes total le so_far =
 
 -- ---- parts that are ignored
 
--- a part that is ignored, before what goes on from the bytes after it alone
+-- a part that is ignored, before what reads the bytes after it alone
 pub passed-then : {A B : Type 0} (read : Read A) (after : List ℕ) (next : A × List ℕ → Read B) (others : List ℕ → Result (List ℕ) Stop)
     → ((x : A × List ℕ) → passed (next x) ≡ others x.1) → passed read ≡ Ok after → passed (read >>= next) ≡ others after
 passed-then (Ok x) after next others same is = same x ∙ ap others (let e : x.1 ≡ after = cc in e)

@@ -11,13 +11,13 @@ use Rattle.reply_frames.specs.declared.outline.FrameKind.TheVariants as kinds
 use Rattle.reply_frames.specs.declared.outline.Outline.{Outline}
 use Rattle.reply_frames.specs.declared.decode.ReplyHead.{ReplyHead}
 use Rattle.reply_frames.specs.Parts.{Read}
-use Rattle.reply_frames.specs.Kinds.{kind_number}
+use Rattle.reply_frames.specs.Kinds.{kind_number, head_bytes}
 use Rattle.reply_frames.specs.Whole.{BeginsWithFrame}
 use Rattle.reply_frames.specs.Frames.{Frame, Body, Update, Change, frame_at}
 
--- how many bytes the front of a frame goes on to: a head's 16, or the length that the head says
+-- how many bytes the front of a frame needs: a head's 16, or the length that the head says
 unfoldable pub needed_of : List ℕ → ℕ
-needed_of bytes = if nat_lt (length bytes) 16 then 16 else from_le_bytes w32 (take 4 (drop 12 bytes))
+needed_of bytes = if nat_lt (length bytes) head_bytes then head_bytes else from_le_bytes w32 (take 4 (drop 12 bytes))
 
 -- why reading stopped
 abbrev pub frame_fault : List ℕ → Stop → FrameFault

@@ -62,14 +62,26 @@ abbrev pub most_n4 : FrameKind → ℕ
 most_n4 Install = most_instrs
 most_n4 kind = 0
 
+-- the length of a head, in bytes
+abbrev pub head_bytes : ℕ
+head_bytes = 16
+
+-- the length of an Update with this many values, in bytes
+abbrev pub update_size : ℕ → ℕ
+update_size count = 16 + 10 * count
+
+-- the length of a Change with this many values, in bytes
+abbrev pub change_size : ℕ → ℕ
+change_size count = 20 + 10 * count
+
 -- the length of the whole frame, in bytes
 abbrev pub size_of : FrameKind → Version → Counts → ℕ
 size_of Create version c = 28
 size_of Measure One c = 56 + 8 * c.n1
 size_of Measure Two c = 64 + 8 * c.n1
 size_of Install version c = 20 + 9 * c.n1 + 9 * c.n2 + 4 * c.n3 + 28 * c.n4
-size_of Update version c = 16 + 10 * c.n1
-size_of Change version c = 20 + 10 * c.n1
+size_of Update version c = update_size c.n1
+size_of Change version c = change_size c.n1
 size_of Fault One c = 47
 size_of Fault Two c = 51
 size_of Ack version c = 16 + 8 * primitive_count

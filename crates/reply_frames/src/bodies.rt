@@ -12,12 +12,15 @@ ghost use Rattle.reply_frames.specs.Frames as body;
 ghost use Rattle.reply_frames.specs.Bodies.{report_body, notice_body, ack_body};
 
 use crate::fault::{BadKind, Stop};
-use crate::fault_kind::numbered_fault;
+use crate::fault_kind::fault_numbered;
 use crate::install_parts::install;
 use crate::outline::{FrameKind, Outline, Version};
-use crate::parts::{byte, limited, number16, number32, number64};
+use crate::parts::{byte, limited_number, number16, number32, number64};
 use crate::values::{change, update};
 use ccp_base::{Ack, Fields, Notice, PRIMITIVES, Report, Values, ack_of};
+
+/// The greatest reason of a Refused.
+pub const MOST_REASON: u8 = 9;
 
 /// Reads `count` numbers of eight bytes into `numbers`, replacing what it has, and gives the bytes after them.
 fn numbers<'a>(bytes: &'a [u8], count: u8, numbers: &mut Values) -> Result<&'a [u8], Stop>
@@ -103,7 +106,7 @@ pub fn fault(bytes: &[u8], version: Version, flow: u32) -> Result<(Notice, &[u8]
     let (epoch, rest) = number32(rest)?;
     let (at, rest) = count(rest, version)?;
     let (kind, rest) = byte(rest, BadKind::FaultKind, 0, 2)?;
-    let kind = numbered_fault(kind);
+    let kind = fault_numbered(kind);
     let (index, rest) = number16(rest)?;
     let (now, rest) = number64(rest)?;
     let (cwnd, rest) = number64(rest)?;
@@ -121,7 +124,7 @@ pub fn fault(bytes: &[u8], version: Version, flow: u32) -> Result<(Notice, &[u8]
 }
 
 /// The acknowledgement with these plain numbers; `was_timeout` is 1 if there was a timeout, else 0.
-fn acknowledged(numbers: &Values, was_timeout: u64) -> Ack
+fn ack_from_plain(numbers: &Values, was_timeout: u64) -> Ack
     requires plain { length numbers.now ≡ flag_number }
     requires flag { was_timeout ≤ 1 }
     ensures { ack_body result ≡ body.Ack numbers.now was_timeout }
@@ -138,22 +141,22 @@ pub fn ack(bytes: &[u8]) -> Result<(Ack, &[u8]), Stop>
 {
     let mut plain = Values::new();
     let rest = numbers(bytes, PRIMITIVES as u8 - 1, &mut plain)?;
-    let (was_timeout, rest) = limited(rest, BadKind::Flag, 8, 1)?;
-    Ok((acknowledged(&plain, was_timeout), rest))
+    let (was_timeout, rest) = limited_number(rest, BadKind::Flag, 8, 1)?;
+    Ok((ack_from_plain(&plain, was_timeout), rest))
 }
 
 /// The reason and the index of a Refused.
 #[tactic(auto, unfolding(crate::specs::Frames::refused_at))]
-pub fn refused(bytes: &[u8]) -> Result<((u8, u32), &[u8]), Stop>
+pub fn refusal(bytes: &[u8]) -> Result<((u8, u32), &[u8]), Stop>
     ensures { Gives (λ x. (Refused x.0.0 x.0.1, x.1.now)) result (refused_at bytes.now) }
 {
-    let (reason, rest) = byte(bytes, BadKind::Kind, 1, 9)?;
+    let (reason, rest) = byte(bytes, BadKind::Kind, 1, u64::from(MOST_REASON))?;
     let (index, rest) = number32(rest)?;
     Ok(((reason, index), rest))
 }
 
 /// The bytes after the body of a frame of any kind, which is skipped.
-pub(crate) fn passed(bytes: &[u8], head: Outline) -> Result<&[u8], Stop>
+pub(crate) fn skip_body(bytes: &[u8], head: Outline) -> Result<&[u8], Stop>
     requires { head.counts.n1 ≤ most_n1 head.kind head.version }
     ensures { Gives (λ rest. rest.now) result (passed (body_at head.kind head.version head.counts bytes.now)) }
 {
@@ -182,7 +185,7 @@ pub(crate) fn passed(bytes: &[u8], head: Outline) -> Result<&[u8], Stop>
             Ok(rest)
         }
         FrameKind::Refused => {
-            let (_, rest) = refused(bytes)?;
+            let (_, rest) = refusal(bytes)?;
             Ok(rest)
         }
     }

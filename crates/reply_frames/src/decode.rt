@@ -8,7 +8,8 @@ ghost use Rattle.reply_frames.specs.Frames.{Frame};
 ghost use Rattle.reply_frames.specs.Whole.{IsFrameFront, IsBadIn, BeginsWithFrame};
 ghost use Rattle.reply_frames.specs.Decoding.{needed_of, frame_fault, head_of, decoded_of, IsOther, IsBad};
 
-use crate::bodies::passed;
+use crate::bodies::skip_body;
+use crate::encode::HEAD;
 use crate::fault::{FrameFault, Stop};
 use crate::head::outline;
 use crate::outline::{FrameKind, Outline, Version, kind_number};
@@ -30,11 +31,11 @@ pub struct ReplyHead {
 
 /// How many bytes are needed to go on: the 16 of a head, or the frame's length once the head is there.
 #[tactic(auto, unfolding(crate::specs::Decoding::needed_of))]
-pub fn needed(bytes: &[u8]) -> usize
+pub fn needed_bytes(bytes: &[u8]) -> usize
     ensures { result ≡ needed_of bytes.now }
 {
-    if bytes.len() < 16 {
-        16
+    if bytes.len() < HEAD {
+        HEAD
     } else {
         let length = &bytes[12..16];
         u32::from_le_bytes([length[0], length[1], length[2], length[3]]) as usize
@@ -42,17 +43,17 @@ pub fn needed(bytes: &[u8]) -> usize
 }
 
 /// Why bytes are no whole frame, from where reading stopped.
-fn stopped(bytes: &[u8], stop: Stop) -> FrameFault
+fn frame_fault(bytes: &[u8], stop: Stop) -> FrameFault
     ensures { result ≡ frame_fault bytes.now stop }
 {
     match stop {
-        Stop::Cut => FrameFault::More(needed(bytes)),
+        Stop::Cut => FrameFault::More(needed_bytes(bytes)),
         Stop::Bad(field, left) => FrameFault::Bad(field, bytes.len().saturating_sub(left)),
     }
 }
 
 /// The head with this program, of a frame after which these bytes stand.
-fn headed(head: Outline, program: Option<u32>, bytes: &[u8], rest: &[u8]) -> ReplyHead
+fn reply_head_of(head: Outline, program: Option<u32>, bytes: &[u8], rest: &[u8]) -> ReplyHead
     ensures { result ≡ head_of head program (length bytes.now - length rest.now) }
 {
     ReplyHead {
@@ -66,31 +67,33 @@ fn headed(head: Outline, program: Option<u32>, bytes: &[u8], rest: &[u8]) -> Rep
 /// Reads the Update or the Change at the front of bytes: the head, and the values into `fields`, which are as before
 /// unless the answer is Ok.
 #[tactic(auto, unfolding(crate::specs::Frames::frame_at))]
-fn found(bytes: &[u8], fields: &mut Fields) -> Result<ReplyHead, FrameFault>
+fn read_reply(bytes: &[u8], fields: &mut Fields) -> Result<ReplyHead, FrameFault>
     ensures found { IfOk result (λ head. decoded_of bytes.now ≡ Ok (head, fields.new)) }
     ensures fault { IfErr result (λ fault. decoded_of bytes.now ≡ Err fault) }
     ensures unchanged { OnErr result (fields.new ≡ fields.old) }
 {
-    let (head, rest) = outline(bytes).map_err(|stop| stopped(bytes, stop))?;
+    let (head, rest) = outline(bytes).map_err(|stop| frame_fault(bytes, stop))?;
     let count = head.counts.n1;
     match head.kind {
         FrameKind::Update => {
-            let rest = update(rest, count, fields).map_err(|stop| stopped(bytes, stop))?;
-            Ok(headed(head, None, bytes, rest))
+            let rest = update(rest, count, fields).map_err(|stop| frame_fault(bytes, stop))?;
+            Ok(reply_head_of(head, None, bytes, rest))
         }
         FrameKind::Change => {
-            let (program, rest) = change(rest, count, fields).map_err(|stop| stopped(bytes, stop))?;
-            Ok(headed(head, Some(program), bytes, rest))
+            let (program, rest) = change(rest, count, fields).map_err(|stop| frame_fault(
+                bytes, stop,
+            ))?;
+            Ok(reply_head_of(head, Some(program), bytes, rest))
         }
         kind => {
-            passed(rest, head).map_err(|stop| stopped(bytes, stop))?;
+            skip_body(rest, head).map_err(|stop| frame_fault(bytes, stop))?;
             Err(FrameFault::Other(kind_number(kind)))
         }
     }
 }
 
-/// Reads the Update or the Change at the front of bytes into `values`, which are as before unless the answer is Ok. The
-/// faults are those of `FrameFault`.
+/// Reads the Update or the Change at the front of bytes into `values`, which are as before unless the answer is Ok.
+/// The faults are those of `FrameFault`.
 pub fn decode_fields(bytes: &[u8], values: &mut Fields) -> Result<ReplyHead, FrameFault>
     ensures found { IfOk result (λ head. decoded_of bytes.now ≡ Ok (head, values.new)) }
     ensures fault { IfErr result (λ fault. decoded_of bytes.now ≡ Err fault) }
@@ -115,5 +118,5 @@ pub fn decode_fields(bytes: &[u8], values: &mut Fields) -> Result<ReplyHead, Fra
     ensures refused { ((frame : Frame) → ¬ BeginsWithFrame bytes.now frame) → ¬ IsFrameFront bytes.now → IsBad result }
     ensures unchanged { OnErr result (values.new ≡ values.old) }
 {
-    found(bytes, values)
+    read_reply(bytes, values)
 }

@@ -3,6 +3,7 @@
 ghost use Rattle.std.specs.Prelude.{◌≡◌, ◌+◌, ◌*◌, ◌<◌, ◌≤◌, ◌↔◌, length, Some, None, IfOk, IfErr, OnOk, OnErr, IsErr};
 ghost use Rattle.ccp_base.specs.FieldReg.{pair_of};
 ghost use Rattle.reply_frames.specs.declared.outline.Version.TheVariants.{One};
+ghost use Rattle.reply_frames.specs.Kinds.{head_bytes, update_size, change_size};
 ghost use Rattle.reply_frames.specs.Replies.{update_bytes, change_bytes, reply_head, IsReply};
 ghost use Rattle.reply_frames.specs.ValueBytes.{target_bytes, value_bytes, values_bytes, AreTargets, ValueFits};
 ghost use Rattle.std.specs.List.{AllByRecursion};
@@ -43,7 +44,7 @@ fn target(reg: FieldReg) -> [u8; 2]
 
 /// Puts a head at the front: kind, version, counts, flow, and the length of the whole frame.
 pub fn put_outline(out: &mut [u8], head: Outline)
-    requires { 16 ≤ length out.old }
+    requires { head_bytes ≤ length out.old }
     ensures { out.new ≡ over (outline_bytes head) out.old }
 {
     let size = frame_size(head.kind, head.version, head.counts);
@@ -88,10 +89,10 @@ pub fn put_values(out: &mut [u8], at: usize, values: &Fields)
 pub fn encode_update(flow: u32, values: &Fields, out: &mut [u8]) -> Result<usize, Short>
     requires { AreTargets values.now }
     ensures ok { IfOk result
-        (WroteFront (16 + 10 * length values.now) (update_bytes One flow values.now) out.old out.new) }
+        (WroteFront (update_size (length values.now)) (update_bytes One flow values.now) out.old out.new) }
     ensures read_back { OnOk result (IsReply out.new (reply_head flow None values.now) values.now) }
-    ensures short { IfErr result (λ short. short ≡ record { 0 = 16 + 10 * length values.now }) }
-    ensures only_short { IsErr result ↔ (length out.old < 16 + 10 * length values.now) }
+    ensures short { IfErr result (λ short. short ≡ record { 0 = update_size (length values.now) }) }
+    ensures only_short { IsErr result ↔ (length out.old < update_size (length values.now)) }
     ensures unchanged { OnErr result (out.new ≡ out.old) }
 {
     let count = values.len();
@@ -117,10 +118,10 @@ pub fn encode_change(
 ) -> Result<usize, Short>
     requires { AreTargets values.now }
     ensures ok { IfOk result
-        (WroteFront (20 + 10 * length values.now) (change_bytes One flow program values.now) out.old out.new) }
+        (WroteFront (change_size (length values.now)) (change_bytes One flow program values.now) out.old out.new) }
     ensures read_back { OnOk result (IsReply out.new (reply_head flow (Some program) values.now) values.now) }
-    ensures short { IfErr result (λ short. short ≡ record { 0 = 20 + 10 * length values.now }) }
-    ensures only_short { IsErr result ↔ (length out.old < 20 + 10 * length values.now) }
+    ensures short { IfErr result (λ short. short ≡ record { 0 = change_size (length values.now) }) }
+    ensures only_short { IsErr result ↔ (length out.old < change_size (length values.now)) }
     ensures unchanged { OnErr result (out.new ≡ out.old) }
 {
     let count = values.len();

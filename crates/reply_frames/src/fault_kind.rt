@@ -17,7 +17,7 @@ pub fn fault_number(kind: FaultKind) -> u8
 }
 
 /// The kind of fault of a number from 0 to 2.
-pub(crate) fn numbered_fault(number: u8) -> FaultKind
+pub(crate) fn fault_numbered(number: u8) -> FaultKind
     requires { number ≤ 2 }
     ensures { fault_number result ≡ number }
 {

@@ -8,9 +8,9 @@ ghost use Rattle.reply_frames.specs.Frames.{counts_at, outline_at};
 use crate::fault::{BadKind, Stop};
 use crate::outline::{
     Counts, FrameKind, Outline, Version, first_limit, frame_size, install_limit, instruction_limit,
-    numbered_kind, numbered_version,
+    kind_numbered, version_numbered,
 };
-use crate::parts::{byte, exactly, limited, number32};
+use crate::parts::{byte, exact_number, limited_number, number32};
 
 /// The counts of a head, and the bytes after them.
 #[tactic(auto, unfolding(crate::specs::Frames::counts_at))]
@@ -26,8 +26,8 @@ fn counts(bytes: &[u8], kind: FrameKind, version: Version) -> Result<(Counts, &[
         u64::from(first_limit(kind, version)),
     )?;
     let (n2, rest) = byte(rest, BadKind::Count, 0, u64::from(most))?;
-    let (n3, rest) = limited(rest, BadKind::Count, 2, u64::from(most))?;
-    let (n4, rest) = limited(rest, BadKind::Count, 2, u64::from(instruction_limit(kind)))?;
+    let (n3, rest) = limited_number(rest, BadKind::Count, 2, u64::from(most))?;
+    let (n4, rest) = limited_number(rest, BadKind::Count, 2, u64::from(instruction_limit(kind)))?;
     let counts = Counts {
         n1,
         n2,
@@ -44,12 +44,12 @@ pub fn outline(bytes: &[u8]) -> Result<(Outline, &[u8]), Stop>
     ensures within { IfOk result (λ x. x.0.counts.n1 ≤ most_n1 x.0.kind x.0.version) }
 {
     let (kind, rest) = byte(bytes, BadKind::Kind, 1, 8)?;
-    let kind = numbered_kind(kind);
+    let kind = kind_numbered(kind);
     let (version, rest) = byte(rest, BadKind::Version, 1, 2)?;
-    let version = numbered_version(version);
+    let version = version_numbered(version);
     let (counts, rest) = counts(rest, kind, version)?;
     let (flow, rest) = number32(rest)?;
-    let (_, rest) = exactly(rest, BadKind::Length, 4, frame_size(kind, version, counts))?;
+    let (_, rest) = exact_number(rest, BadKind::Length, 4, frame_size(kind, version, counts))?;
     let head = Outline {
         kind,
         version,

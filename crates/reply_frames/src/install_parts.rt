@@ -9,7 +9,7 @@ ghost use Rattle.reply_frames.specs.Frames.{register_at, instruction_at, install
 
 use crate::fault::{BadKind, Stop};
 use crate::outline::{Counts, Instruction, Register};
-use crate::parts::{byte, limited, number16, number32, number64};
+use crate::parts::{byte, limited_number, number16, number32, number64};
 
 /// The greatest number of an operation.
 pub const MOST_OPERATION: u8 = 14;
@@ -25,7 +25,8 @@ fn flag(bytes: &[u8]) -> Result<(bool, &[u8]), Stop>
 /// Whether a declared register is volatile and the value that it starts with, and the bytes after them.
 #[tactic(auto, unfolding(crate::specs::Frames::start_at))]
 pub fn start(bytes: &[u8]) -> Result<((bool, u64), &[u8]), Stop>
-    ensures { Gives (λ x. (record { volatile = bool_number x.0.0; value = x.0.1 }, x.1.now)) result (start_at bytes.now) }
+    ensures { Gives (λ x. (record { volatile = bool_number x.0.0; value = x.0.1 }, x.1.now))
+        result (start_at bytes.now) }
 {
     let (volatile, rest) = flag(bytes)?;
     let (value, rest) = number64(rest)?;
@@ -50,8 +51,8 @@ fn register_number(bytes: &[u8], class: u8) -> Result<(u64, &[u8]), Stop>
 {
     match class {
         0 => number64(bytes),
-        4 => limited(bytes, BadKind::Index, 8, 5),
-        _ => limited(bytes, BadKind::Index, 8, 255),
+        4 => limited_number(bytes, BadKind::Index, 8, 5),
+        _ => limited_number(bytes, BadKind::Index, 8, 255),
     }
 }
 

@@ -15,7 +15,7 @@ pub mod outline;
 pub mod parts;
 pub mod values;
 
-pub use decode::{ReplyHead, decode_fields, needed};
+pub use decode::{ReplyHead, decode_fields, needed_bytes};
 pub use encode::{encode_change, encode_update};
 pub use fault::{BadKind, FrameFault, Short, Stop};
 pub use install_parts::MOST_OPERATION;

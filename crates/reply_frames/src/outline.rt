@@ -120,7 +120,7 @@ pub(crate) fn version_number(version: Version) -> u8
 }
 
 /// The kind of a number from 1 to 8.
-pub(crate) fn numbered_kind(number: u8) -> FrameKind
+pub(crate) fn kind_numbered(number: u8) -> FrameKind
     ensures { result ≡ kind_numbered number }
 {
     match number {
@@ -136,7 +136,7 @@ pub(crate) fn numbered_kind(number: u8) -> FrameKind
 }
 
 /// The version of a number, 1 or 2.
-pub(crate) fn numbered_version(number: u8) -> Version
+pub(crate) fn version_numbered(number: u8) -> Version
     ensures { result ≡ version_of number }
 {
     if number == 1 {

@@ -64,7 +64,7 @@ pub(crate) fn number64(bytes: &[u8]) -> Result<(u64, &[u8]), Stop>
 /// A number of `width` bytes that is at most `most`, and the bytes after it. A byte is a bad one of `field` if every
 /// number that continues so is above `most`.
 #[tactic(auto, unfolding(crate::specs::Parts::limited_at))]
-pub(crate) fn limited(
+pub(crate) fn limited_number(
     bytes: &[u8],
     field: BadKind,
     width: u32,
@@ -78,13 +78,13 @@ pub(crate) fn limited(
     }
     let (low, rest) = byte(bytes, field, 0, most)?;
     let low = u64::from(low);
-    let (high, rest) = limited(rest, field, width - 1, (most - low) / 256)?;
+    let (high, rest) = limited_number(rest, field, width - 1, (most - low) / 256)?;
     Ok((low + 256 * high, rest))
 }
 
 /// Only this number, in `width` bytes, and the bytes after it. Another byte is a bad one of `field`.
 #[tactic(auto, unfolding(crate::specs::Parts::exactly_at))]
-pub(crate) fn exactly(
+pub(crate) fn exact_number(
     bytes: &[u8],
     field: BadKind,
     width: u32,
@@ -98,6 +98,6 @@ pub(crate) fn exactly(
     }
     let digit = (number % 256) as u8;
     let (low, rest) = byte(bytes, field, digit, u64::from(digit))?;
-    let (high, rest) = exactly(rest, field, width - 1, number / 256)?;
+    let (high, rest) = exact_number(rest, field, width - 1, number / 256)?;
     Ok((u64::from(low) + 256 * high, rest))
 }

@@ -1,5 +1,5 @@
 -- The line of a fault: the epoch and acknowledgement, and the kind and place.
-use Rattle.std.specs.Prelude.{ℕ, List, codes, decimal}
+use Rattle.std.specs.Prelude.{ℕ, Option, Some, None, List, [], codes, decimal}
 use Rattle.ccp_base.specs.declared.arithmetic.FaultKind.{FaultKind}
 use Rattle.ccp_base.specs.declared.arithmetic.FaultKind.TheVariants.{Overflow, Underflow, ZeroDivisor}
 use Rattle.ccp_base.specs.declared.exchange.Notice.{Notice}
@@ -22,6 +22,11 @@ place_tail place = codes " at=" ⧺ decimal place.line ⧺ codes ":" ⧺ decimal
 abbrev pub fault_line : ℕ → ℕ → FaultKind → Place → List ℕ
 fault_line epoch at kind place = fault_head epoch at ⧺ codes " kind=" ⧺ kind_text kind ⧺ place_tail place
 
--- the line of the fault that a notice tells, whose operation has this place
+-- the line of a notice's fault, whose operation has this place
 abbrev pub notice_line : Notice → Place → List ℕ
 notice_line notice place = fault_line notice.epoch notice.at notice.kind place
+
+-- the line of a notice's fault, if its instruction has a place
+abbrev pub placed_line : Notice → Option Place → List ℕ
+placed_line notice None = []
+placed_line notice (Some place) = notice_line notice place

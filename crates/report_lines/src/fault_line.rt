@@ -5,7 +5,7 @@ ghost use Rattle.report_lines.specs.FaultLine.{fault_head, fault_line, kind_text
 use ccp_base::{Bytes, FaultKind, NoMemory, Notice, Place};
 use std::alloc::Global;
 
-/// Appends the line of the fault that a notice tells, whose operation has this place.
+/// Appends the line of a notice's fault, whose operation has this place.
 pub fn put_fault(
     alloc: Global,
     text: &mut Bytes,

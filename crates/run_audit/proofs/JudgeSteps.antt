@@ -2,7 +2,7 @@
 use Rattle.std.proofs.Common.{◌≡◌, ℕ, suc, ◌+◌, Some, option_map, unwrap_or, List, ◌∷◌, ap, sym, subst, ◌∙◌, arith}
 use Rattle.std.specs.List.{All}
 use Rattle.flow_core.specs.declared.case.Case.{Case}
-use Rattle.flow_core.specs.LiveText.{Sources}
+use Rattle.reg_compiler.specs.Sources.{Sources}
 use Rattle.run_audit.specs.declared.verdict.Verdict.TheVariants.{No}
 use Rattle.run_audit.specs.PartLeft.{part_left, judged}
 

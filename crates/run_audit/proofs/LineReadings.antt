@@ -19,7 +19,8 @@ use Rattle.report_lines.specs.FaultLine.{kind_text, fault_head}
 use Rattle.flow_core.specs.declared.book.EpochLine.{EpochLine}
 use Rattle.flow_core.specs.declared.book.TicketLine.{TicketLine}
 use Rattle.flow_core.specs.World.{Failure}
-use Rattle.flow_core.specs.LiveText.{Sources, fields_at, Account, epoch_lines, fault_lines, reply_text, answer_text, told_text, ticket_lines, ticket_text, account_end_line}
+use Rattle.reg_compiler.specs.Sources.{Sources}
+use Rattle.flow_core.specs.LiveText.{fields_at, Account, epoch_lines, fault_lines, reply_text, answer_text, told_text, ticket_lines, ticket_text, account_end_line}
 use Rattle.run_audit.specs.PartLeft.{body_text}
 use Rattle.run_audit.specs.Marks.{marks_at, ticket_marks, past, first_number, marked_number, number_by, marks_if, marks_in, marks_of_lines, text_marks}
 use Rattle.run_audit.proofs.ForcedLemmas.{AreWithin}

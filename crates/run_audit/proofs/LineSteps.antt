@@ -3,7 +3,8 @@ use Rattle.std.proofs.Common.{◌≡◌, ℕ, ◌+◌, Option, Some, None, List,
 use Rattle.std.specs.Option.{option_and_then}
 use Rattle.flow_core.specs.declared.book.EpochLine.{EpochLine}
 use Rattle.flow_core.specs.declared.book.TicketLine.{TicketLine}
-use Rattle.flow_core.specs.LiveText.{Sources, epoch_lines, epoch_text, failure_line, fault_lines, ticket_lines, ticket_text}
+use Rattle.reg_compiler.specs.Sources.{Sources}
+use Rattle.flow_core.specs.LiveText.{epoch_lines, epoch_text, failure_line, fault_lines, ticket_lines, ticket_text}
 use Rattle.source_flow.specs.declared.flow_account.SourceFault.{SourceFault}
 use Rattle.source_flow.specs.SourceAccounts.{failure_of}
 use Rattle.run_audit.specs.Fronts.{text_after}

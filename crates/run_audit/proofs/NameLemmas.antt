@@ -10,7 +10,7 @@ use Rattle.portus_core.specs.Words.{is_first, is_later, is_name_shaped, is_field
 use Rattle.portus_core.specs.ValidPrograms.{are_declared, is_start, is_named_in}
 use Rattle.reg_compiler.specs.declared.built.Built.{Built}
 use Rattle.flow_core.specs.LiveText.{source_at, fields_at}
-use Rattle.flow_core.specs.LiveText.{sources_of}
+use Rattle.reg_compiler.specs.Sources.{sources_of}
 use Rattle.run_audit.proofs.Pieces.{IsPlain, plain-of}
 use Rattle.run_audit.proofs.LineReadings.{ArePlainly, HasPlainNames}
 

@@ -3,7 +3,8 @@ use Rattle.std.proofs.Common.{◌≡◌, ℕ, ◌^◌, ◌<◌, Bool, true, fals
 use Rattle.flow_core.specs.declared.case.Case.{Case}
 use Rattle.flow_core.specs.declared.letter.Letter.{Letter}
 use Rattle.flow_core.specs.Words.{world, legal, is_complete}
-use Rattle.flow_core.specs.LiveText.{Sources, Account, account_of, flow_from, flow_line, flow_part}
+use Rattle.reg_compiler.specs.Sources.{Sources}
+use Rattle.flow_core.specs.LiveText.{Account, account_of, flow_from, flow_line, flow_part}
 use Rattle.source_flow.specs.SourceAccounts.{account_after}
 use Rattle.run_audit.specs.Audit.{IsWordOf}
 use Rattle.run_audit.specs.Fronts.{text_after}

@@ -2,7 +2,8 @@
 use Rattle.std.proofs.Common.{◌≡◌, ℕ, zero, suc, ◌+◌, ◌≤◌, Option, Some, None, option_map, unwrap_or, List, [], ◌∷◌, ◌++◌, length, take, refl, ap, sym, subst, ◌∙◌, arith, append_assoc}
 use Rattle.flow_core.specs.declared.case.Case.{Case}
 use Rattle.flow_core.specs.declared.letter.Letter.{Letter}
-use Rattle.flow_core.specs.LiveText.{Sources, live_text}
+use Rattle.reg_compiler.specs.Sources.{Sources}
+use Rattle.flow_core.specs.LiveText.{live_text}
 use Rattle.run_audit.specs.declared.verdict.Verdict.{Verdict}
 use Rattle.run_audit.specs.declared.verdict.Verdict.TheVariants.{Yes, No}
 use Rattle.run_audit.specs.Audit.{AreWordsOf, with_words, IsLiveText, BeginsWithLiveText, IsNot, IsVerdict}

@@ -3,7 +3,8 @@ use Rattle.std.proofs.Common.{◌≡◌, ℕ, ◌≤◌, List, [], ◌∷◌, �
 use Rattle.flow_core.specs.declared.case.Case.{Case}
 use Rattle.flow_core.specs.declared.letter.Letter.{Letter}
 use Rattle.flow_core.specs.Words.{world}
-use Rattle.flow_core.specs.LiveText.{Sources, flow_from, flow_line, account_of, live_text}
+use Rattle.reg_compiler.specs.Sources.{Sources}
+use Rattle.flow_core.specs.LiveText.{flow_from, flow_line, account_of, live_text}
 use Rattle.run_audit.specs.declared.verdict.Verdict.{Verdict}
 use Rattle.run_audit.specs.declared.verdict.Verdict.TheVariants.{Yes, No}
 use Rattle.run_audit.specs.Audit.{IsWordOf, AreWordsOf, with_words, IsLiveText, IsNot, IsVerdict}

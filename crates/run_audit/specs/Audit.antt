@@ -5,7 +5,8 @@ use Rattle.ccp_base.specs.declared.outside.NoMemory.{NoMemory}
 use Rattle.flow_core.specs.declared.case.Case.{Case}
 use Rattle.flow_core.specs.declared.letter.Letter.{Letter}
 use Rattle.flow_core.specs.Words.{world, legal, is_complete}
-use Rattle.flow_core.specs.LiveText.{Sources, flow_from, live_text}
+use Rattle.reg_compiler.specs.Sources.{Sources}
+use Rattle.flow_core.specs.LiveText.{flow_from, live_text}
 use Rattle.run_audit.specs.declared.verdict.Verdict.{Verdict}
 use Rattle.run_audit.specs.declared.verdict.Verdict.TheVariants.{Yes, No}
 

@@ -3,7 +3,8 @@ use Rattle.std.specs.Prelude.{ℕ, ◌+◌, Option, Some, None, option_map, unwr
 use Rattle.ccp_base.specs.Text.{◌⧺◌}
 use Rattle.flow_core.specs.declared.case.Case.{Case}
 use Rattle.flow_core.specs.declared.letter.Letter.{Letter}
-use Rattle.flow_core.specs.LiveText.{Sources, Account, flow_from, flow_line, epoch_lines, fault_lines, ticket_lines, account_end_line}
+use Rattle.reg_compiler.specs.Sources.{Sources}
+use Rattle.flow_core.specs.LiveText.{Account, flow_from, flow_line, epoch_lines, fault_lines, ticket_lines, account_end_line}
 use Rattle.source_flow.specs.SourceAccounts.{account_after}
 use Rattle.run_audit.specs.declared.verdict.Verdict.{Verdict}
 use Rattle.run_audit.specs.declared.verdict.Verdict.TheVariants.{Yes, No}

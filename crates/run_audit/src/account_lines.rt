@@ -5,7 +5,7 @@ ghost use Rattle.flow_core.specs.LiveText.{sources_of, ticket_lines, ticket_text
 ghost use Rattle.source_flow.specs.SourceAccounts.{account_in, failure_of};
 ghost use Rattle.run_audit.specs.Fronts.{IsLeftAfter};
 
-use crate::fronts::after;
+use crate::fronts::text_after;
 use ccp_base::{Bytes, NoMemory};
 use flow_core::{Case, EpochLine, TicketLine};
 use live_lines::{
@@ -26,7 +26,7 @@ pub fn strip_flow<'a>(
 {
     let mut line = Bytes::new(alloc);
     put_flow_line(alloc, &mut line, case.flow, &case.name, &case.agent)?;
-    Ok(after(text, line.as_slice()))
+    Ok(text_after(text, line.as_slice()))
 }
 
 /// What follows the lines of epochs, numbered from 0; None exactly if the text doesn't begin with them.
@@ -63,7 +63,7 @@ fn strip_epoch<'a>(
 {
     let mut line = Bytes::new(alloc);
     put_epoch_line(alloc, &mut line, number, epoch)?;
-    Ok(after(text, line.as_slice()))
+    Ok(text_after(text, line.as_slice()))
 }
 
 /// What follows the lines of faults; None exactly if the text doesn't begin with them.
@@ -102,7 +102,7 @@ fn strip_fault<'a>(
         fault.kind,
         fault.place,
     )?;
-    Ok(after(text, line.as_slice()))
+    Ok(text_after(text, line.as_slice()))
 }
 
 /// What follows the lines of tickets, numbered from 0; None exactly if the text doesn't begin with them.
@@ -141,7 +141,7 @@ fn strip_ticket<'a>(
 {
     let mut line = Bytes::new(alloc);
     put_ticket_line(alloc, &mut line, programs, number, ticket)?;
-    Ok(after(text, line.as_slice()))
+    Ok(text_after(text, line.as_slice()))
 }
 
 /// What follows the last line of an account; None exactly if the text doesn't begin with that line.
@@ -161,5 +161,5 @@ pub fn strip_end<'a>(
     };
     let fields = fields_of(programs, account.program);
     put_last_line(alloc, &mut line, fields, counts, &account.end)?;
-    Ok(after(text, line.as_slice()))
+    Ok(text_after(text, line.as_slice()))
 }

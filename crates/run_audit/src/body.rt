@@ -1,6 +1,6 @@
 //! An account's lines after the flow's first one are taken off the front of a text, if the text begins with them.
 ghost use Rattle.std.specs.Prelude.{IfOk};
-ghost use Rattle.flow_core.specs.LiveText.{sources_of};
+ghost use Rattle.reg_compiler.specs.Sources.{sources_of};
 ghost use Rattle.source_flow.specs.SourceAccounts.{account_in};
 ghost use Rattle.run_audit.specs.Fronts.{IsLeftAfter};
 ghost use Rattle.run_audit.specs.PartLeft.{text_from_tickets, body_text, text_from_faults};

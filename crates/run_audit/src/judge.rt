@@ -2,8 +2,7 @@
 ghost use Rattle.std.specs.Prelude.{◌≡◌, ◌≤◌, ℕ, IfOk, length};
 ghost use Rattle.std.specs.List.{All};
 ghost use Rattle.ccp_base.specs.Limits.{most_flows};
-ghost use Rattle.scenario_json.specs.ScenePrograms.{forms_of};
-ghost use Rattle.flow_core.specs.LiveText.{sources_of};
+ghost use Rattle.reg_compiler.specs.Sources.{sources_of};
 ghost use Rattle.source_flow.specs.Sourced.{IsSourced};
 ghost use Rattle.run_audit.specs.declared.verdict.Verdict.TheVariants.{Yes, No};
 ghost use Rattle.run_audit.specs.Audit.{IsLiveText, IsNot, IsVerdict, IsVerdictOf};
@@ -24,11 +23,11 @@ pub fn audit(alloc: Global, scene: &Scenario, text: &[u8]) -> Result<Verdict, No
     requires sourced { All (IsSourced scene.now.programs) scene.now.cases }
 
     // The verdict is true of the text.
-    ensures is { IfOk result (IsVerdict (forms_of scene.now.programs) scene.now.cases text.now) }
+    ensures is { IfOk result (IsVerdict (sources_of scene.now.programs) scene.now.cases text.now) }
 
     // A live text gets Yes, and every other text gets No with its number.
-    ensures yes { IsLiveText (forms_of scene.now.programs) scene.now.cases text.now → IsVerdictOf result Yes }
-    ensures no { (count : ℕ) → IsNot (forms_of scene.now.programs) scene.now.cases text.now count
+    ensures yes { IsLiveText (sources_of scene.now.programs) scene.now.cases text.now → IsVerdictOf result Yes }
+    ensures no { (count : ℕ) → IsNot (sources_of scene.now.programs) scene.now.cases text.now count
         → IsVerdictOf result (No count) }
 {
     judge(alloc, &scene.programs, scene.cases.as_slice(), text)

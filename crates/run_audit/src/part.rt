@@ -1,6 +1,6 @@
 //! What a text leaves after a case's part, if it begins with that of a legal and complete word.
 ghost use Rattle.std.specs.Prelude.{◌≡◌, IfOk};
-ghost use Rattle.flow_core.specs.LiveText.{sources_of};
+ghost use Rattle.reg_compiler.specs.Sources.{sources_of};
 ghost use Rattle.source_flow.specs.Sourced.{IsSourced};
 ghost use Rattle.run_audit.specs.Fronts.{bytes_found};
 ghost use Rattle.run_audit.specs.PartLeft.{part_left};

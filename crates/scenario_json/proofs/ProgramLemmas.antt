@@ -8,15 +8,16 @@ use Rattle.portus_build.specs.TextWalk.{program_of}
 use Rattle.reg_compiler.specs.declared.built.Built.{Built}
 use Rattle.ccp_base.specs.Chaining.{then_do}
 use Rattle.scenario_json.specs.Cases.{AreNumberedFrom}
-use Rattle.scenario_json.specs.ScenePrograms.{named_program, programs_from, forms_of, built_in, built_ins_from}
+use Rattle.reg_compiler.specs.Sources.{sources_of}
+use Rattle.scenario_json.specs.ScenePrograms.{named_program, programs_from, built_in, built_ins_from}
 
 -- a program that is built goes to the end, with the number of those before it
 pub forms_pushed : (builts : List (ℕ × Built)) (built : Built) (name : List ℕ) (value : Data) (rest : Members)
     → named_program name value ≡ Ok (form_of built.program)
-    → programs_from (forms_of builts) (member name value rest) ≡ programs_from (forms_of (builts ++ (length builts, built) ∷ [])) rest
+    → programs_from (sources_of builts) (member name value rest) ≡ programs_from (sources_of (builts ++ (length builts, built) ∷ [])) rest
 forms_pushed builts built name value rest is =
-    ap (λ r. then_do r (λ form. programs_from (forms_of builts ++ (length (forms_of builts), form) ∷ []) rest)) is
-    ∙ ap (λ n. programs_from (forms_of builts ++ (n, form_of built.program) ∷ []) rest) (length-map builts (λ one. (one.0, form_of one.1.program)))
+    ap (λ r. then_do r (λ form. programs_from (sources_of builts ++ (length (sources_of builts), form) ∷ []) rest)) is
+    ∙ ap (λ n. programs_from (sources_of builts ++ (n, form_of built.program) ∷ []) rest) (length-map builts (λ one. (one.0, form_of one.1.program)))
     ∙ ap (λ forms. programs_from forms rest) (sym (map_push (λ one. (one.0, form_of one.1.program)) builts (length builts, built)))
 
 -- one more program with the next number
@@ -39,10 +40,10 @@ next_program (program ∷ rest) from (suc number) below =
 -- one more built-in program is put at the end
 pub built_in_pushed : (builts : List (ℕ × Built)) (number : ℕ) (built : Built) → number < length builtins
     → built_in number (program_of (builtin_text number)) ≡ (number, form_of built.program) ∷ []
-    → forms_of (builts ++ (number, built) ∷ []) ++ built_ins_from (number + 1) (drop (number + 1) builtins)
-    ≡ forms_of builts ++ built_ins_from number (drop number builtins)
+    → sources_of (builts ++ (number, built) ∷ []) ++ built_ins_from (number + 1) (drop (number + 1) builtins)
+    ≡ sources_of builts ++ built_ins_from number (drop number builtins)
 built_in_pushed builts number built below is =
     let later = built_ins_from (number + 1) (drop (number + 1) builtins) in
     ap (λ forms. forms ++ later) (map_push (λ one. (one.0, form_of one.1.program)) builts (number, built))
-    ∙ append_assoc (forms_of builts) ((number, form_of built.program) ∷ []) later
-    ∙ sym (ap (λ forms. forms_of builts ++ forms) (next_program builtins number number below ∙ ap (λ forms. forms ++ later) is))
+    ∙ append_assoc (sources_of builts) ((number, form_of built.program) ∷ []) later
+    ∙ sym (ap (λ forms. sources_of builts ++ forms) (next_program builtins number number below ∙ ap (λ forms. forms ++ later) is))

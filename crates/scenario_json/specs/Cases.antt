@@ -8,6 +8,7 @@ use Rattle.agent_core.specs.Kinds.{agent_of, kind_of}
 use Rattle.flow_core.specs.declared.case.Coded.{Coded}
 use Rattle.flow_core.specs.declared.case.Case.{Case}
 use Rattle.scene_members.specs.declared.plan.Plan.{Plan}
+use Rattle.scene_members.specs.Plans.{numbers_of}
 
 -- a built program as an agent's role has it: its number, where it keeps what agents read and write, and its code
 abbrev pub coded_of : ℕ → ℕ × Built → Coded
@@ -26,13 +27,7 @@ plan_of case = record {
   name = case.name;
   kind = kind_of case.agent;
   trace = case.link.trace;
-  link_numbers = record {
-    mss = case.link.mss;
-    queue = case.link.queue;
-    delay_us = case.link.delay_us;
-    timeout_us = case.link.timeout_us;
-    acks = case.acks;
-  };
+  link_numbers = numbers_of case.link case.acks;
   agent_numbers = record { slots = case.slots; lag = case.lag };
   loss_plan = record { losses = case.link.losses; mark = case.link.mark };
   programs = record { ss = case.ss.role.number; ca = case.ca.role.number };

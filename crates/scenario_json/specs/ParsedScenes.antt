@@ -3,12 +3,12 @@ use Rattle.std.specs.Prelude.{ℕ, List}
 use Rattle.scene_members.specs.Traces.{table_of}
 use Rattle.scenario_json.specs.declared.parsed_scene.ParsedScene.{ParsedScene}
 use Rattle.scenario_json.specs.declared.scene_programs.SceneProgramList.{SceneProgramList}
-use Rattle.scenario_json.specs.Scene.{Parts, parts_with}
-use Rattle.scenario_json.specs.ScenePrograms.{Forms, forms_of}
+use Rattle.scenario_json.specs.Scene.{SceneParts, parts_with}
+use Rattle.reg_compiler.specs.Sources.{Sources, sources_of}
 
 -- programs with their numbers, and the names of those that the scenario names
-abbrev pub programs_said : SceneProgramList → Forms × List (List ℕ)
-programs_said list = (forms_of list.builts, list.names)
+abbrev pub programs_said : SceneProgramList → Sources × List (List ℕ)
+programs_said list = (sources_of list.builts, list.names)
 
-abbrev pub parts_said : ParsedScene → Parts
-parts_said scene = parts_with (forms_of scene.programs.builts) (table_of scene.traces.entries) scene.plans
+abbrev pub parts_said : ParsedScene → SceneParts
+parts_said scene = parts_with (sources_of scene.programs.builts) (table_of scene.traces.entries) scene.plans

@@ -11,27 +11,28 @@ use Rattle.scene_members.specs.Values.{member_of}
 use Rattle.scene_members.specs.Whole.{value_of_bytes, opening_in, cases_in}
 use Rattle.scenario_json.specs.declared.fault.SceneFault.{SceneFault}
 use Rattle.scenario_json.specs.MemberFaults.{in_scene}
-use Rattle.scenario_json.specs.ScenePrograms.{Forms, all_programs}
+use Rattle.reg_compiler.specs.Sources.{Sources}
+use Rattle.scenario_json.specs.ScenePrograms.{all_programs}
 
 -- what a scenario says: its programs with their numbers, its traces by name, and its cases; case i is flow i
-pub record Parts : Type 0 where
-  pub programs : Forms
+pub record SceneParts : Type 0 where
+  pub programs : Sources
   pub traces : Table
   pub cases : List Plan
 
-abbrev pub parts_with : Forms → Table → List Plan → Parts
+abbrev pub parts_with : Sources → Table → List Plan → SceneParts
 parts_with programs traces cases = record { programs = programs; traces = traces; cases = cases }
 
 -- the scene that is run: the cases have their traces
 pub record Scene : Type 0 where
-  pub programs : Forms
+  pub programs : Sources
   pub cases : List Plan
 
-abbrev pub scene_with : Forms → List Plan → Scene
+abbrev pub scene_with : Sources → List Plan → Scene
 scene_with programs cases = record { programs = programs; cases = cases }
 
 -- what a value says
-abbrev pub parts_in : SceneMode → Data → Result Parts SceneFault
+abbrev pub parts_in : SceneMode → Data → Result SceneParts SceneFault
 parts_in mode whole =
     then_do (in_scene (opening_in whole)) (λ version.
     then_do (all_programs (member_of key.Programs whole)) (λ programs.

@@ -1,9 +1,8 @@
 -- The programs of a scenario: the built-in ones, then those that it names, in byte order of their names.
-use Rattle.std.specs.Prelude.{ℕ, ◌+◌, Option, Result, Ok, Err, List, [], ◌∷◌, ◌++◌, length, map}
+use Rattle.std.specs.Prelude.{ℕ, ◌+◌, Option, Result, Ok, Err, List, [], ◌∷◌, ◌++◌, length}
 use Rattle.serde_json.specs.Data.{Data, Members, no_members, member}
 use Rattle.portus_core.specs.Programs.{Form}
-use Rattle.portus_core.specs.ProgramForm.{form_of}
-use Rattle.reg_compiler.specs.declared.built.Built.{Built}
+use Rattle.reg_compiler.specs.Sources.{Sources}
 use Rattle.portus_build.specs.Builtins.{BuiltIn, builtins}
 use Rattle.portus_build.specs.TextWalk.{program_of}
 use Rattle.portus_build.specs.declared.fault.BuildFault.{BuildFault}
@@ -13,10 +12,6 @@ use Rattle.scene_members.specs.NamedMembers.{named_members, named_text}
 use Rattle.scenario_json.specs.declared.fault.SceneFault.{SceneFault}
 use Rattle.scenario_json.specs.declared.fault.SceneFault.TheVariants.{Program}
 use Rattle.scenario_json.specs.MemberFaults.{in_scene}
-
--- programs with their numbers
-abbrev pub Forms : Type 0
-Forms = List (ℕ × Form)
 
 -- a program under its name, or its refusal
 abbrev pub under_name : List ℕ → Result Form BuildFault → Result Form SceneFault
@@ -28,26 +23,26 @@ named_program name value =
     then_do (in_scene (named_text key.Programs name value)) (λ text. under_name name (program_of text))
 
 -- the programs, after those that are done
-abbrev pub programs_from : Forms → Members → Result Forms SceneFault
+abbrev pub programs_from : Sources → Members → Result Sources SceneFault
 programs_from done no_members = Ok done
 programs_from done (member name value rest) =
     then_do (named_program name value) (λ form. programs_from (done ++ (length done, form) ∷ []) rest)
 
 -- a built-in program, if its text has this result; each text is that of a program
-abbrev pub built_in : ℕ → Result Form BuildFault → Forms
+abbrev pub built_in : ℕ → Result Form BuildFault → Sources
 built_in number (Ok form) = (number, form) ∷ []
 built_in number (Err fault) = []
 
 -- the programs of these texts, with the numbers from this one on
-abbrev pub built_ins_from : ℕ → List BuiltIn → Forms
+abbrev pub built_ins_from : ℕ → List BuiltIn → Sources
 built_ins_from number [] = []
 built_ins_from number (program ∷ rest) = built_in number (program_of program.text) ++ built_ins_from (number + 1) rest
 
-abbrev pub built_ins : Forms
+abbrev pub built_ins : Sources
 built_ins = built_ins_from 0 builtins
 
 -- all programs of a scenario that names these
-abbrev pub programs_in : Members → Result Forms SceneFault
+abbrev pub programs_in : Members → Result Sources SceneFault
 programs_in members = programs_from built_ins members
 
 -- the names of members, in order
@@ -56,11 +51,7 @@ names_of no_members = []
 names_of (member name value rest) = name ∷ names_of rest
 
 -- all programs with their numbers, and the names of those that the scenario names
-abbrev pub all_programs : Option Data → Result (Forms × List (List ℕ)) SceneFault
+abbrev pub all_programs : Option Data → Result (Sources × List (List ℕ)) SceneFault
 all_programs programs =
     then_do (in_scene (named_members programs)) (λ named.
     then_do (programs_in named) (λ forms. Ok (forms, names_of named)))
-
--- what built programs stand for, with their numbers
-abbrev pub forms_of : List (ℕ × Built) → Forms
-forms_of builts = map (λ one. (one.0, form_of one.1.program)) builts

@@ -10,7 +10,7 @@ use Rattle.scene_members.specs.SharedMembers.{shares_in}
 use Rattle.scene_members.specs.Whole.{value_of_bytes}
 use Rattle.scenario_json.specs.declared.fault.SceneFault.{SceneFault}
 use Rattle.scenario_json.specs.MemberFaults.{in_scene}
-use Rattle.scenario_json.specs.Scene.{Scene, Parts, scene_with, parts_in}
+use Rattle.scenario_json.specs.Scene.{Scene, SceneParts, scene_with, parts_in}
 
 -- the scene of a live run, the link that its flows share, and the most rounds
 pub record SharedParts : Type 0 where
@@ -44,7 +44,7 @@ shared_case shares plans = record {
 -- ---- the whole
 
 -- the scene with its link
-abbrev pub shared_of : Parts → Shares → SharedParts
+abbrev pub shared_of : SceneParts → Shares → SharedParts
 shared_of parts shares =
     shared_with (scene_with parts.programs parts.cases) (shared_case shares parts.cases) shares.rounds
 

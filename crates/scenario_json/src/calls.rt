@@ -16,7 +16,7 @@ ghost use Rattle.scenario_json.specs.MemberFaults.{in_scene};
 ghost use Rattle.scenario_json.specs.ParsedScenes.{parts_said};
 ghost use Rattle.scenario_json.specs.Rollout.{rollout_of};
 ghost use Rattle.scenario_json.specs.Scene.{scene_with, scene_of, parts_in};
-ghost use Rattle.scenario_json.specs.ScenePrograms.{forms_of};
+ghost use Rattle.reg_compiler.specs.Sources.{sources_of};
 ghost use Rattle.scenario_json.specs.SharedScenes.{flow_link_of, shared_with, shared_of, shared_scene_of};
 ghost use Rattle.scenario_json.specs.Soak.{gen};
 ghost use Rattle.scenario_json.specs.declared.fault.SceneFault.TheVariants as fault;
@@ -43,7 +43,7 @@ pub fn scenario(alloc: Global, text: &[u8], mode: SceneMode) -> Result<Scenario,
 
     // The answer is the scene of the text, and each refusal the text's first one.
     ensures found { IfOk result (λ s.
-        scene_of mode text.now ≡ Ok (scene_with (forms_of s.programs) (map plan_of s.cases))) }
+        scene_of mode text.now ≡ Ok (scene_with (sources_of s.programs) (map plan_of s.cases))) }
     ensures refused { IfErr result (λ e. e ≢ fault.NoMemory → scene_of mode text.now ≡ Err e) }
 
     // The programs' numbers are their places, from 0 on.
@@ -70,7 +70,7 @@ pub fn scenario(alloc: Global, text: &[u8], mode: SceneMode) -> Result<Scenario,
 /// Generates the scenario of a number: 64 cases of the built-in programs, by draws from the number.
 pub fn soak(alloc: Global, number: u32) -> Result<Scenario, NoMemory>
     ensures found { IfOk result (λ s.
-        scene_with (forms_of s.programs) (map plan_of s.cases) ≡ gen number) }
+        scene_with (sources_of s.programs) (map plan_of s.cases) ≡ gen number) }
     ensures numbered { IfOk result (λ s. AreNumberedFrom 0 s.programs) }
     ensures coded { IfOk result (λ s. All (IsCoded s.programs) s.cases) }
     ensures flows { IfOk result (λ s. AreFlowsFrom 0 s.cases) }
@@ -121,7 +121,7 @@ fn shared_parts(alloc: Global, whole: &Value) -> Result<(ParsedScene, Shares), S
 pub fn shared_scene(alloc: Global, text: &[u8]) -> Result<SharedScene, SceneFault>
     // The answer is the scene of the text with its link, and each refusal the text's first one.
     ensures found { IfOk result (λ s. shared_scene_of text.now
-        ≡ Ok (shared_with (scene_with (forms_of s.scene.programs) (map plan_of s.scene.cases)) s.link s.rounds)) }
+        ≡ Ok (shared_with (scene_with (sources_of s.scene.programs) (map plan_of s.scene.cases)) s.link s.rounds)) }
     ensures refused { IfErr result (λ e. e ≢ fault.NoMemory → shared_scene_of text.now ≡ Err e) }
 
     // The programs' numbers are their places, from 0 on.

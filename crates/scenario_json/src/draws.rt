@@ -2,7 +2,7 @@
 ghost use Rattle.std.specs.Prelude.{◌≡◌, ◌≤◌, ◌<◌, ◌+◌, ◌*◌, IfOk, None, [], length, codes, decimal};
 ghost use Rattle.std.specs.List.{All};
 ghost use Rattle.std.specs.List.Sorted.{IsStrictlyIncreasing};
-ghost use Rattle.ccp_base.specs.Limits.{most_flows};
+ghost use Rattle.ccp_base.specs.Limits.{most_flows, most_segment_bytes};
 ghost use Rattle.ccp_base.specs.Text.{◌⧺◌};
 ghost use Rattle.agent_core.specs.Kinds.{avoidance_of, built_in_count};
 ghost use Rattle.scene_members.specs.Plans.{IsPlan, AreLinkNumbers, AreAgentNumbers};
@@ -41,7 +41,7 @@ impl Draws {
 fn segment(choice: u64) -> u32
     ensures size { result ≡ segment choice }
     ensures least { 1 ≤ result }
-    ensures most { result ≤ 65535 }
+    ensures most { result ≤ most_segment_bytes }
 {
     match choice {
         0 => 536,

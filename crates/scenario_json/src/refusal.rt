@@ -8,7 +8,7 @@ use link_model::TraceFault;
 use portus_build::{BuildFault, put_refusal};
 use std::alloc::Global;
 
-/// Appends the text that tells this refusal: a word, and the path, or the name with the refusal of its text.
+/// Appends the refusal's text: a word, and the path, or the name with the refusal of its text.
 pub fn put_scene_refusal(
     alloc: Global,
     text: &mut Bytes,

@@ -1,6 +1,7 @@
 //! The scenario that is run, and how it is put together from programs and plans.
 ghost use Rattle.std.specs.Prelude.{◌≡◌, ◌≤◌, [], IfOk, OnOk, length, map};
 ghost use Rattle.std.specs.List.{All};
+ghost use Rattle.ccp_base.specs.Limits.{most_cases};
 ghost use Rattle.scene_members.specs.Plans.{IsPlan};
 ghost use Rattle.scenario_json.specs.Cases.{plan_of, case_names, IsCoded, AreFlowsFrom};
 
@@ -29,7 +30,7 @@ fn put_cases(
     plans: Plans,
 ) -> Result<(), NoMemory>
     requires within { All (IsPlan (length programs.now)) plans }
-    requires few { length plans ≤ 1024 }
+    requires few { length plans ≤ most_cases }
     requires unnamed { names.old ≡ [] }
     requires empty { cases.old ≡ [] }
     ensures plans { OnOk result (map plan_of cases.new ≡ plans) }
@@ -52,7 +53,7 @@ pub(crate) fn put_together(
     plans: Plans,
 ) -> Result<Scenario, NoMemory>
     requires within { All (IsPlan (length programs)) plans }
-    requires few { length plans ≤ 1024 }
+    requires few { length plans ≤ most_cases }
     ensures programs { IfOk result (λ s. s.programs ≡ programs) }
     ensures plans { IfOk result (λ s. map plan_of s.cases ≡ plans) }
     ensures names { IfOk result (λ s. s.names ≡ case_names s.cases) }

@@ -11,7 +11,8 @@ ghost use Rattle.portus_build.specs.declared.fault.BuildFault.TheVariants as bui
 ghost use Rattle.scenario_json.specs.Cases.{AreNumberedFrom};
 ghost use Rattle.portus_build.specs.TextWalk.{program_of};
 ghost use Rattle.scenario_json.specs.ScenePrograms.{named_program, programs_from, programs_in};
-ghost use Rattle.scenario_json.specs.ScenePrograms.{built_in, built_ins, names_of, forms_of};
+ghost use Rattle.reg_compiler.specs.Sources.{sources_of};
+ghost use Rattle.scenario_json.specs.ScenePrograms.{built_in, built_ins, names_of};
 ghost use Rattle.scenario_json.specs.declared.fault.SceneFault.TheVariants as fault;
 
 use crate::fault::SceneFault;
@@ -61,7 +62,7 @@ fn built_in(alloc: Global, number: u32) -> Result<Built, NoMemory>
 /// Puts the built-in programs into an empty list.
 fn put_built_ins(alloc: Global, builts: &mut Builts) -> Result<(), NoMemory>
     requires { builts.old ≡ [] }
-    ensures forms { OnOk result (forms_of builts.new ≡ built_ins) }
+    ensures forms { OnOk result (sources_of builts.new ≡ built_ins) }
     ensures numbered { OnOk result (AreNumberedFrom 0 builts.new) }
     ensures count { OnOk result (length builts.new ≡ built_in_count) }
 {
@@ -75,7 +76,7 @@ fn put_built_ins(alloc: Global, builts: &mut Builts) -> Result<(), NoMemory>
 
 /// The built-in programs.
 pub(crate) fn built_ins(alloc: Global) -> Result<Builts, NoMemory>
-    ensures forms { IfOk result (λ builts. forms_of builts ≡ built_ins) }
+    ensures forms { IfOk result (λ builts. sources_of builts ≡ built_ins) }
     ensures numbered { IfOk result (AreNumberedFrom 0) }
     ensures count { IfOk result (λ builts. length builts ≡ built_in_count) }
 {
@@ -111,13 +112,13 @@ fn put_programs(
     requires numbered { AreNumberedFrom 0 builts.old }
     requires count { length builts.old ≡ length names.old + built_in_count }
     ensures ok { OnOk result
-        (programs_from (forms_of builts.old) (members_view members.now.entries) ≡ Ok (forms_of builts.new)) }
+        (programs_from (sources_of builts.old) (members_view members.now.entries) ≡ Ok (sources_of builts.new)) }
     ensures names { OnOk result (names.new ≡ names.old ++ names_of (members_view members.now.entries)) }
     ensures numbered { OnOk result (AreNumberedFrom 0 builts.new) }
     ensures count { OnOk result (length builts.new ≡ length names.new + built_in_count) }
     ensures few { OnOk result (length names.new ≤ most_named_programs) }
     ensures err { IfErr result (λ e. e ≢ fault.NoMemory
-        → programs_from (forms_of builts.old) (members_view members.now.entries) ≡ Err e) }
+        → programs_from (sources_of builts.old) (members_view members.now.entries) ≡ Err e) }
 {
     for (name, value) in members.iter() {
         let NamedProgram { name, built } = named_program(alloc, name.as_str(), value)?;
@@ -134,7 +135,7 @@ pub(crate) fn programs_in(
     members: &Map<String, Value>,
 ) -> Result<SceneProgramList, SceneFault>
     requires { members_len (members_view members.now.entries) ≤ most_named_programs }
-    ensures ok { IfOk result (λ p. programs_in (members_view members.now.entries) ≡ Ok (forms_of p.builts)) }
+    ensures ok { IfOk result (λ p. programs_in (members_view members.now.entries) ≡ Ok (sources_of p.builts)) }
     ensures names { IfOk result (λ p. p.names ≡ names_of (members_view members.now.entries)) }
     ensures numbered { IfOk result (λ p. AreNumberedFrom 0 p.builts) }
     ensures count { IfOk result (λ p. length p.builts ≡ length p.names + built_in_count) }

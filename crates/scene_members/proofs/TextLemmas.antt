@@ -1,4 +1,4 @@
--- What a text says as JSON, where it is UTF-8 and where it isn't.
+-- What a text says as JSON, if it is UTF-8 and if it isn't.
 use Rattle.std.proofs.Common.{◌≡◌, ℕ, List, Bool, true, false, Some, None, Ok, Err, if◌then◌else◌, refl, ap, ◌∙◌}
 use Rattle.std.proofs.lemmas.Str.{IsUtf8-from_is_utf8, is_utf8-from_IsUtf8}
 use Rattle.std.specs.Str.{IsUtf8, is_utf8}

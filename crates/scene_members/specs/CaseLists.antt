@@ -1,4 +1,4 @@
--- What JSON values say as cases, where tables and texts are those that the code keeps.
+-- What JSON values say as cases, if tables and texts are those that the code keeps.
 use Rattle.std.specs.Prelude.{ℕ, Result, List, [], String}
 use Rattle.std.specs.declared.alloc.Global.{Global}
 use Rattle.serde_json.specs.View.{items_view}
@@ -11,10 +11,10 @@ use Rattle.scene_members.specs.OpenCases.{texts_of}
 use Rattle.scene_members.specs.Rollout.{OpenPlan, open_cases_from}
 use Rattle.scene_members.specs.Traces.{table_of}
 
--- what values say as cases, where programs have these names, and these are the traces
+-- what values say as cases, if programs have these names, and these are the traces
 abbrev pub plans_in : List (List ℕ) → List (String Global × List ℕ) → List Value → Result (List Plan) MemberFault
 plans_in names traces values = cases_from names (table_of traces) [] (items_view values)
 
--- what values say as cases of a rollout, where these are the programs' texts
+-- what values say as cases of a rollout, if these are the programs' texts
 abbrev pub open_plans : List OpenText → List (String Global × List ℕ) → List Value → Result (List OpenPlan) MemberFault
 open_plans texts traces values = open_cases_from (texts_of texts) (table_of traces) [] (items_view values)

@@ -16,7 +16,7 @@ use Rattle.scene_members.specs.declared.plan.LossPlan.{LossPlan}
 use Rattle.scene_members.specs.declared.plan.Programs.{Programs}
 use Rattle.scene_members.specs.declared.plan.Plan.{Plan}
 use Rattle.scene_members.specs.Paths.{path_of}
-use Rattle.scene_members.specs.Values.{member_of, needed, of_kind, number_in, text_in, list_in, object_in, needed_number, number_or}
+use Rattle.scene_members.specs.Values.{member_of, needed_member, of_kind, number_in, text_in, list_in, object_in, needed_number, number_or}
 use Rattle.scene_members.specs.SceneNames.{name_in}
 
 -- ---- texts
@@ -24,12 +24,12 @@ use Rattle.scene_members.specs.SceneNames.{name_in}
 -- the case's name
 abbrev pub case_name : ℕ → Data → Result (List ℕ) MemberFault
 case_name i whole =
-    then_do (needed (In i key.Name) (member_of key.Name whole)) (λ value. name_in (In i key.Name) value)
+    then_do (needed_member (In i key.Name) (member_of key.Name whole)) (λ value. name_in (In i key.Name) value)
 
 -- the case's agent
 abbrev pub case_kind : ℕ → Data → Result Kind MemberFault
 case_kind i whole =
-    then_do (needed (In i key.Agent) (member_of key.Agent whole)) (λ value.
+    then_do (needed_member (In i key.Agent) (member_of key.Agent whole)) (λ value.
     then_do (text_in (In i key.Agent) value) (λ text. of_kind (In i key.Agent) (kind_named text)))
 
 -- traces by name, each with its times
@@ -46,7 +46,7 @@ trace_in place traces value = then_do (text_in place value) (λ name. of_kind pl
 
 abbrev pub case_trace : Table → ℕ → Data → Result (List ℕ) MemberFault
 case_trace traces i whole =
-    then_do (needed (In i key.Trace) (member_of key.Trace whole)) (λ value. trace_in (In i key.Trace) traces value)
+    then_do (needed_member (In i key.Trace) (member_of key.Trace whole)) (λ value. trace_in (In i key.Trace) traces value)
 
 -- ---- numbers
 
@@ -62,7 +62,7 @@ case_link_numbers i whole =
     then_do (case_number i key.Acks whole) (λ acks.
     Ok (record { mss = mss; queue = queue; delay_us = delay_us; timeout_us = timeout_us; acks = acks }))))))
 
--- 4 slots and no lag where nothing is said
+-- 4 slots and no lag if nothing is said
 abbrev pub case_agent_numbers : ℕ → Data → Result AgentNumbers MemberFault
 case_agent_numbers i whole =
     then_do (number_or (In i key.Slots) key.Slots 4 (member_of key.Slots whole)) (λ slots.
@@ -72,12 +72,12 @@ case_agent_numbers i whole =
 -- ---- what is lost and marked
 
 -- a loss that must be above the one before
-abbrev pub above : JsonPlace → Option ℕ → ℕ → Result ℕ MemberFault
-above place None number = Ok number
-above place (Some before) number = if nat_lt before number then Ok number else Err (Wrong (path_of place))
+abbrev pub loss_above : JsonPlace → Option ℕ → ℕ → Result ℕ MemberFault
+loss_above place None number = Ok number
+loss_above place (Some before) number = if nat_lt before number then Ok number else Err (Wrong (path_of place))
 
 abbrev pub loss_in : JsonPlace → Option ℕ → Data → Result ℕ MemberFault
-loss_in place before value = then_do (number_in place key.Losses value) (λ number. above place before number)
+loss_in place before value = then_do (number_in place key.Losses value) (λ number. loss_above place before number)
 
 abbrev pub last_of : List ℕ → Option ℕ
 last_of numbers = slice_get numbers (length numbers - 1)
@@ -89,12 +89,12 @@ losses_from i done (item value rest) =
     then_do (loss_in (Item i key.Losses (length done)) (last_of done) value) (λ number.
     losses_from i (done ++ number ∷ []) rest)
 
--- no losses where nothing is said
+-- no losses if nothing is said
 abbrev pub losses_or : ℕ → Option Data → Result (List ℕ) MemberFault
 losses_or i None = Ok []
 losses_or i (Some value) = then_do (list_in (In i key.Losses) value) (λ items. losses_from i [] items)
 
--- no marks where nothing is said
+-- no marks if nothing is said
 abbrev pub mark_or : JsonPlace → Option Data → Result (Option ℕ) MemberFault
 mark_or place None = Ok None
 mark_or place (Some value) = then_do (number_in place key.Mark value) (λ number. Ok (Some number))

@@ -19,7 +19,7 @@ abbrev pub of_named : {A : Type 0} → Key → List ℕ → Option A → Result 
 of_named k name (Some value) = Ok value
 of_named k name None = Err (Wrong (named_path k name))
 
--- its text, where its name is one
+-- its text, if its name is one
 abbrev pub named_text : Key → List ℕ → Data → Result (List ℕ) MemberFault
 named_text k name value =
     then_do (of_named k name (scene_name name)) (λ checked. of_named k name (as_str value))
@@ -29,7 +29,7 @@ abbrev pub few_members : Members → Result Members MemberFault
 few_members members =
     if nat_le (members_len members) most_named_programs then Ok members else Err (Range (path_of (Top key.Programs)))
 
--- the members of `programs`: none where the scenario doesn't have it
+-- the members of `programs`: none if the scenario doesn't have it
 abbrev pub named_members : Option Data → Result Members MemberFault
 named_members None = Ok no_members
 named_members (Some value) = then_do (object_in (Top key.Programs) value) (λ members. few_members members)

@@ -2,6 +2,7 @@
 use Rattle.std.specs.Prelude.{◌≡◌, ℕ, ◌+◌, List, [], ◌∷◌, ⊤, map}
 use Rattle.scene_members.specs.declared.open_case.OpenCase.{OpenCase}
 use Rattle.scene_members.specs.declared.open_texts.OpenText.{OpenText}
+use Rattle.scene_members.specs.Plans.{numbers_of}
 use Rattle.scene_members.specs.Rollout.{OpenPlan, Texts}
 
 -- what a case says
@@ -9,13 +10,7 @@ abbrev pub open_plan_of : OpenCase → OpenPlan
 open_plan_of case = record {
   name = case.name;
   trace = case.link.trace;
-  link_numbers = record {
-    mss = case.link.mss;
-    queue = case.link.queue;
-    delay_us = case.link.delay_us;
-    timeout_us = case.link.timeout_us;
-    acks = case.acks;
-  };
+  link_numbers = numbers_of case.link case.acks;
   loss_plan = record { losses = case.link.losses; mark = case.link.mark };
   cwnd = case.cwnd;
   steps = case.steps;

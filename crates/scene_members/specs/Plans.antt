@@ -1,11 +1,22 @@
--- The ranges of what a case says.
+-- What a case says of its link, and the ranges of what it says.
 use Rattle.std.specs.Prelude.{ℕ, ◌≤◌, ◌<◌}
 use Rattle.std.specs.Option.{ForSome}
 use Rattle.std.specs.List.Sorted.{IsStrictlyIncreasing}
 use Rattle.ccp_base.specs.Limits.{most_acks, most_slots, most_lag, most_segment_bytes, most_queue, most_mark, most_delay_us, most_timeout_us}
+use Rattle.link_model.specs.declared.link_case.LinkCase.{LinkCase}
 use Rattle.scene_members.specs.declared.plan.LinkNumbers.{LinkNumbers}
 use Rattle.scene_members.specs.declared.plan.AgentNumbers.{AgentNumbers}
 use Rattle.scene_members.specs.declared.plan.Plan.{Plan}
+
+-- the numbers of a link on which this many acknowledgements come
+abbrev pub numbers_of : LinkCase → ℕ → LinkNumbers
+numbers_of link acks = record {
+  mss = link.mss;
+  queue = link.queue;
+  delay_us = link.delay_us;
+  timeout_us = link.timeout_us;
+  acks = acks;
+}
 
 pub record AreLinkNumbers (m : LinkNumbers) : Type 0 where
   pub mss_least : 1 ≤ m.mss
@@ -22,7 +33,7 @@ pub record AreAgentNumbers (w : AgentNumbers) : Type 0 where
   pub slots_most : w.slots ≤ most_slots
   pub lag_most : w.lag ≤ most_lag
 
--- the ranges of a case where the scenario has this number of programs
+-- the ranges of a case if the scenario has this number of programs
 pub record IsPlan (count : ℕ) (p : Plan) : Type 0 where
   pub link_numbers : AreLinkNumbers p.link_numbers
   pub agent_numbers : AreAgentNumbers p.agent_numbers

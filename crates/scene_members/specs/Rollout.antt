@@ -14,7 +14,7 @@ use Rattle.scene_members.specs.declared.plan.LinkNumbers.{LinkNumbers}
 use Rattle.scene_members.specs.declared.plan.LossPlan.{LossPlan}
 use Rattle.scene_members.specs.declared.mode.SceneMode.TheVariants.{Live}
 use Rattle.scene_members.specs.Paths.{path_of}
-use Rattle.scene_members.specs.Values.{member_of, needed, of_kind, text_in, list_in, object_in}
+use Rattle.scene_members.specs.Values.{member_of, needed_member, of_kind, text_in, list_in, object_in}
 use Rattle.scene_members.specs.CaseWalk.{Table, case_name, case_trace, case_number, case_link_numbers, case_loss_plan}
 use Rattle.scene_members.specs.NamedMembers.{named_text, named_members}
 use Rattle.scene_members.specs.Traces.{traces_in}
@@ -70,7 +70,7 @@ some_steps place items =
 -- the length is checked before the items
 abbrev pub case_steps : Texts → ℕ → Data → Result (List (List ℕ)) MemberFault
 case_steps texts i whole =
-    then_do (needed (In i key.Steps) (member_of key.Steps whole)) (λ value.
+    then_do (needed_member (In i key.Steps) (member_of key.Steps whole)) (λ value.
     then_do (list_in (In i key.Steps) value) (λ items.
     then_do (some_steps (In i key.Steps) items) (λ few. steps_from texts i [] few)))
 
@@ -100,7 +100,7 @@ open_cases_from texts traces done (item value rest) =
 -- at most as many cases as in a live run
 abbrev pub open_cases_in : Texts → Table → Data → Result (List OpenPlan) MemberFault
 open_cases_in texts traces whole =
-    then_do (needed (Top key.Cases) (member_of key.Cases whole)) (λ value.
+    then_do (needed_member (Top key.Cases) (member_of key.Cases whole)) (λ value.
     then_do (list_in (Top key.Cases) value) (λ items.
     then_do (few_items Live items) (λ few. open_cases_from texts traces [] few)))
 

@@ -13,7 +13,7 @@ use Rattle.scene_members.specs.Values.{of_kind, text_in}
 abbrev pub is_name_byte : ℕ → Bool
 is_name_byte byte = is_ascii_alphanumeric byte || byte == 95 || byte == 45 || byte == 46
 
--- a text where it is a name
+-- a text if it is a name
 abbrev pub scene_name : List ℕ → Option (List ℕ)
 scene_name text =
     if nat_le (length text) most_scene_name_bytes && list_all is_name_byte text then as_name text else None

@@ -7,12 +7,12 @@ use Rattle.scene_members.specs.declared.key.Key.{Key}
 use Rattle.scene_members.specs.declared.key.Key.TheVariants as key
 use Rattle.scene_members.specs.declared.json_place.JsonPlace.TheVariants.{Top, Shared}
 use Rattle.scene_members.specs.declared.shared.Shares.{Shares}
-use Rattle.scene_members.specs.Values.{member_of, needed, object_in, needed_number}
+use Rattle.scene_members.specs.Values.{member_of, needed_member, object_in, needed_number}
 use Rattle.scene_members.specs.CaseWalk.{Table, trace_in}
 
 abbrev pub shared_trace : Table → Data → Result (List ℕ) MemberFault
 shared_trace traces value =
-    then_do (needed (Shared key.Trace) (member_of key.Trace value)) (λ name. trace_in (Shared key.Trace) traces name)
+    then_do (needed_member (Shared key.Trace) (member_of key.Trace value)) (λ name. trace_in (Shared key.Trace) traces name)
 
 abbrev pub shared_number : Key → Data → Result ℕ MemberFault
 shared_number k value = needed_number (Shared k) k value
@@ -27,5 +27,5 @@ shared_members traces value =
 
 abbrev pub shares_in : Table → Data → Result Shares MemberFault
 shares_in traces whole =
-    then_do (needed (Top key.Shared) (member_of key.Shared whole)) (λ value.
+    then_do (needed_member (Top key.Shared) (member_of key.Shared whole)) (λ value.
     then_do (object_in (Top key.Shared) value) (λ members. shared_members traces value))

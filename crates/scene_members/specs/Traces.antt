@@ -9,7 +9,7 @@ use Rattle.scene_members.specs.declared.fault.MemberFault.{MemberFault}
 use Rattle.scene_members.specs.declared.fault.MemberFault.TheVariants.{Trace}
 use Rattle.scene_members.specs.declared.key.Key.TheVariants as key
 use Rattle.scene_members.specs.declared.json_place.JsonPlace.TheVariants.{Top}
-use Rattle.scene_members.specs.Values.{member_of, needed, object_in}
+use Rattle.scene_members.specs.Values.{member_of, needed_member, object_in}
 use Rattle.scene_members.specs.NamedMembers.{named_text}
 use Rattle.scene_members.specs.CaseWalk.{Table}
 
@@ -30,7 +30,7 @@ traces_from done (member name value rest) =
 -- the traces of a scenario
 abbrev pub traces_in : Data → Result Table MemberFault
 traces_in whole =
-    then_do (needed (Top key.Traces) (member_of key.Traces whole)) (λ value.
+    then_do (needed_member (Top key.Traces) (member_of key.Traces whole)) (λ value.
     then_do (object_in (Top key.Traces) value) (λ members. traces_from [] members))
 
 -- what a map of traces stands for

@@ -1,4 +1,4 @@
--- What a value must be where a scenario has a member: there, a whole number in its range, a text, a list, an object.
+-- What a value must be if a scenario has a member: there, a whole number in its range, a text, a list, an object.
 use Rattle.std.specs.Prelude.{ℕ, ℤ, ◌&&◌, nat_le, if◌then◌else◌, Option, Some, None, option_and_then, Result, Ok, Err, List}
 use Rattle.serde_json.specs.Data.{Data, Items, Members}
 use Rattle.serde_json.specs.Find.{get, as_number, as_u64, as_i64, as_str, as_array, as_object}
@@ -15,9 +15,9 @@ abbrev pub member_of : Key → Data → Option Data
 member_of key whole = get (key_word key) whole
 
 -- a member that must be there
-abbrev pub needed : {A : Type 0} → JsonPlace → Option A → Result A MemberFault
-needed place (Some value) = Ok value
-needed place None = Err (Missing (path_of place))
+abbrev pub needed_member : {A : Type 0} → JsonPlace → Option A → Result A MemberFault
+needed_member place (Some value) = Ok value
+needed_member place None = Err (Missing (path_of place))
 
 -- a value that must be of the right kind
 abbrev pub of_kind : {A : Type 0} → JsonPlace → Option A → Result A MemberFault
@@ -50,9 +50,9 @@ object_in place value = of_kind place (as_object value)
 
 -- a number that must be there
 abbrev pub needed_number : JsonPlace → Key → Data → Result ℕ MemberFault
-needed_number place key whole = then_do (needed place (member_of key whole)) (λ value. number_in place key value)
+needed_number place key whole = then_do (needed_member place (member_of key whole)) (λ value. number_in place key value)
 
--- a number where there is one, else the default
+-- a number if there is one, else the default
 abbrev pub number_or : JsonPlace → Key → ℕ → Option Data → Result ℕ MemberFault
 number_or place key default None = Ok default
 number_or place key default (Some value) = number_in place key value

@@ -14,7 +14,7 @@ use Rattle.scene_members.specs.declared.plan.Plan.{Plan}
 use Rattle.scene_members.specs.declared.mode.SceneMode.{SceneMode}
 use Rattle.scene_members.specs.declared.mode.SceneMode.TheVariants.{Live, Campaign}
 use Rattle.scene_members.specs.Paths.{path_of}
-use Rattle.scene_members.specs.Values.{member_of, needed, list_in, object_in, needed_number}
+use Rattle.scene_members.specs.Values.{member_of, needed_member, list_in, object_in, needed_number}
 use Rattle.scene_members.specs.CaseWalk.{Table, cases_from}
 
 -- ---- the value
@@ -54,7 +54,7 @@ within_total Live cases = if nat_le (total_acks cases) most_acks_in_all then Ok 
 -- the cases of a scenario whose programs have these names, and whose traces are these
 abbrev pub cases_in : SceneMode → List (List ℕ) → Table → Data → Result (List Plan) MemberFault
 cases_in mode names traces whole =
-    then_do (needed (Top key.Cases) (member_of key.Cases whole)) (λ value.
+    then_do (needed_member (Top key.Cases) (member_of key.Cases whole)) (λ value.
     then_do (list_in (Top key.Cases) value) (λ items.
     then_do (few_items mode items) (λ few.
     then_do (cases_from names traces [] few) (λ cases. within_total mode cases))))

@@ -20,7 +20,7 @@ use crate::key::Key;
 use crate::names::name;
 use crate::plan::{Plan, Plans};
 use crate::traces::{Traces, trace_named};
-use crate::values::{needed, object, text};
+use crate::values::{needed_member, object, text};
 use agent_core::Kind;
 use ccp_base::{Name, Sequence};
 use link_model::Trace;
@@ -32,7 +32,7 @@ pub(crate) fn case_name(alloc: Global, i: usize, whole: &Value) -> Result<Name, 
     ensures err { IfErr result (λ e. e ≢ fault.NoMemory → case_name i (view whole.now) ≡ Err e) }
 {
     let place = JsonPlace::In(i, Key::Name);
-    let value = needed(alloc, place, whole, Key::Name)?;
+    let value = needed_member(alloc, place, whole, Key::Name)?;
     name(alloc, place, value)
 }
 
@@ -41,11 +41,11 @@ fn case_kind(alloc: Global, i: usize, whole: &Value) -> Result<Kind, MemberFault
     ensures err { IfErr result (λ e. e ≢ fault.NoMemory → case_kind i (view whole.now) ≡ Err e) }
 {
     let place = JsonPlace::In(i, Key::Agent);
-    let value = needed(alloc, place, whole, Key::Agent)?;
+    let value = needed_member(alloc, place, whole, Key::Agent)?;
     let text = text(alloc, place, value)?;
-    match Kind::named(text.as_bytes()) {
+    match Kind::from_name(text.as_bytes()) {
         Some(kind) => Ok(kind),
-        None => Err(place.wrong(alloc)),
+        None => Err(place.wrong_fault(alloc)),
     }
 }
 
@@ -63,7 +63,7 @@ pub(crate) fn trace_in(
     let name = text(alloc, place, value)?;
     match trace_named(traces, name) {
         Some(trace) => Ok(trace.copy(alloc)?),
-        None => Err(place.wrong(alloc)),
+        None => Err(place.wrong_fault(alloc)),
     }
 }
 
@@ -78,7 +78,7 @@ pub(crate) fn case_trace(
         → case_trace (table_of traces.now.entries) i (view whole.now) ≡ Err e) }
 {
     let place = JsonPlace::In(i, Key::Trace);
-    let value = needed(alloc, place, whole, Key::Trace)?;
+    let value = needed_member(alloc, place, whole, Key::Trace)?;
     trace_in(alloc, place, traces, value)
 }
 

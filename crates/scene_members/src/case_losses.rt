@@ -5,7 +5,7 @@ ghost use Rattle.std.specs.List.Sorted.{IsStrictlyIncreasing};
 ghost use Rattle.serde_json.specs.View.{view, items_view};
 ghost use Rattle.ccp_base.specs.Limits.{most_mark};
 ghost use Rattle.scene_members.specs.Values.{member_of};
-ghost use Rattle.scene_members.specs.CaseWalk.{above, loss_in, last_of, losses_from, losses_or, mark_or, case_loss_plan};
+ghost use Rattle.scene_members.specs.CaseWalk.{loss_above, loss_in, last_of, losses_from, losses_or, mark_or, case_loss_plan};
 ghost use Rattle.scene_members.specs.declared.fault.MemberFault.TheVariants as fault;
 ghost use Rattle.scene_members.specs.declared.key.Key.TheVariants as key;
 
@@ -19,18 +19,18 @@ use serde_json::Value;
 use std::alloc::Global;
 
 /// A loss that must be above the one before.
-fn above(
+fn loss_above(
     alloc: Global,
     place: JsonPlace,
     before: Option<u32>,
     number: u32,
 ) -> Result<u32, MemberFault>
-    ensures ok { IfOk result (λ n. above place before number ≡ Ok n) }
+    ensures ok { IfOk result (λ n. loss_above place before number ≡ Ok n) }
     ensures above { IfOk result (λ n. ForSome before (λ b. b < n)) }
-    ensures err { IfErr result (λ e. e ≢ fault.NoMemory → above place before number ≡ Err e) }
+    ensures err { IfErr result (λ e. e ≢ fault.NoMemory → loss_above place before number ≡ Err e) }
 {
     match before {
-        Some(before) if before >= number => Err(place.wrong(alloc)),
+        Some(before) if before >= number => Err(place.wrong_fault(alloc)),
         _ => Ok(number),
     }
 }
@@ -46,7 +46,7 @@ fn loss(
     ensures err { IfErr result (λ e. e ≢ fault.NoMemory → loss_in place before (view value.now) ≡ Err e) }
 {
     let number = number(alloc, place, Key::Losses, value)?;
-    above(alloc, place, before, number as u32)
+    loss_above(alloc, place, before, number as u32)
 }
 
 fn last_of(numbers: &[u32]) -> Option<u32>

@@ -62,7 +62,7 @@ fn program_or(
     let name = text(alloc, place, value)?;
     match program_named(names, name.as_bytes()) {
         Some(number) => Ok(number),
-        None => Err(place.wrong(alloc)),
+        None => Err(place.wrong_fault(alloc)),
     }
 }
 

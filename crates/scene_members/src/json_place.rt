@@ -70,7 +70,7 @@ impl JsonPlace {
     }
 
     /// That the value here isn't there.
-    pub fn missing(self, alloc: Global) -> MemberFault
+    pub fn missing_fault(self, alloc: Global) -> MemberFault
         ensures { result ≢ fault.NoMemory → result ≡ fault.Missing (path_of self) }
     {
         match self.path(alloc) {
@@ -80,7 +80,7 @@ impl JsonPlace {
     }
 
     /// That the value here isn't of its kind.
-    pub fn wrong(self, alloc: Global) -> MemberFault
+    pub fn wrong_fault(self, alloc: Global) -> MemberFault
         ensures { result ≢ fault.NoMemory → result ≡ fault.Wrong (path_of self) }
     {
         match self.path(alloc) {
@@ -90,7 +90,7 @@ impl JsonPlace {
     }
 
     /// That the value here isn't in its range.
-    pub fn out_of_range(self, alloc: Global) -> MemberFault
+    pub fn range_fault(self, alloc: Global) -> MemberFault
         ensures { result ≢ fault.NoMemory → result ≡ fault.Range (path_of self) }
     {
         match self.path(alloc) {
@@ -133,7 +133,7 @@ fn named_path(alloc: Global, key: Key, name: &[u8]) -> Result<Path, NoMemory>
 }
 
 /// That a member which the scenario names by itself has no name, or isn't of its kind.
-pub(crate) fn wrong_named(alloc: Global, key: Key, name: &[u8]) -> MemberFault
+pub(crate) fn named_member_fault(alloc: Global, key: Key, name: &[u8]) -> MemberFault
     ensures { result ≢ fault.NoMemory → result ≡ fault.Wrong (named_path key name.now) }
 {
     match named_path(alloc, key, name) {

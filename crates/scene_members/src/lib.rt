@@ -1,5 +1,5 @@
-//! The members of a scenario: what each says in JSON, and why one isn't read. Of the texts of programs only the names and
-//! the bytes are read here.
+//! The members of a scenario: what each says in JSON, and why one isn't read. Of the texts of programs only the names
+//! and the bytes are read here.
 #![tactic(auto)]
 
 mod case;

@@ -7,7 +7,7 @@ ghost use Rattle.scene_members.specs.NamedMembers.{few_members, named_members, n
 ghost use Rattle.scene_members.specs.declared.fault.MemberFault.TheVariants as fault;
 
 use crate::fault::MemberFault;
-use crate::json_place::{JsonPlace, wrong_named};
+use crate::json_place::{JsonPlace, named_member_fault};
 use crate::key::Key;
 use crate::names::scene_name;
 use crate::values::object;
@@ -37,14 +37,14 @@ pub fn named_text<'a>(
     ensures err { IfErr result (λ e. e ≢ fault.NoMemory → named_text key name.now (view value.now) ≡ Err e) }
 {
     let Some(checked) = scene_name(name.as_bytes()) else {
-        return Err(wrong_named(alloc, key, name.as_bytes()));
+        return Err(named_member_fault(alloc, key, name.as_bytes()));
     };
     match value.as_str() {
         Some(text) => Ok(Named {
             name: checked,
             text,
         }),
-        None => Err(wrong_named(alloc, key, name.as_bytes())),
+        None => Err(named_member_fault(alloc, key, name.as_bytes())),
     }
 }
 
@@ -58,7 +58,7 @@ fn few_members(alloc: Global, members: &Map<String, Value>) -> Result<(), Member
     if members.len() <= NAMED_PROGRAMS {
         Ok(())
     } else {
-        Err(JsonPlace::Top(Key::Programs).out_of_range(alloc))
+        Err(JsonPlace::Top(Key::Programs).range_fault(alloc))
     }
 }
 

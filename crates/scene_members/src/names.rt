@@ -27,7 +27,7 @@ fn are_name_bytes(text: &[u8]) -> bool
     text.iter().all(|byte| is_name_byte(*byte))
 }
 
-/// A text where it is a name: 1 to 32 letters, digits, `_`, `-` and `.`.
+/// A text if it is a name: 1 to 32 letters, digits, `_`, `-` and `.`.
 pub(crate) fn scene_name(text: &[u8]) -> Option<Name>
     ensures { result ≡ scene_name text.now }
 {
@@ -46,6 +46,6 @@ pub(crate) fn name(alloc: Global, place: JsonPlace, value: &Value) -> Result<Nam
     let text = text(alloc, place, value)?;
     match scene_name(text.as_bytes()) {
         Some(name) => Ok(name),
-        None => Err(place.wrong(alloc)),
+        None => Err(place.wrong_fault(alloc)),
     }
 }

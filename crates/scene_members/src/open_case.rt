@@ -2,7 +2,7 @@
 ghost use Rattle.std.specs.Prelude.{◌≡◌, ◌≤◌, ◌↔◌, IsTrue, IfOk, length};
 ghost use Rattle.ccp_base.specs.Limits.{most_acks, most_first_window, most_steps};
 
-use ccp_base::{Bytes, Name, NoMemory, Sequence};
+use ccp_base::{Bytes, Name, NoMemory, Sequence, same_bytes};
 use link_model::LinkCase;
 use std::alloc::Global;
 
@@ -81,12 +81,6 @@ pub(crate) fn bytes_of(alloc: Global, text: &[u8]) -> Result<Bytes, NoMemory>
     ensures { IfOk result (λ bytes. bytes ≡ text.now) }
 {
     Ok(Sequence::from_vec(text.to_vec(alloc)?))
-}
-
-fn same_bytes(these: &[u8], others: &[u8]) -> bool
-    ensures { IsTrue result ↔ (these.now ≡ others.now) }
-{
-    these == others
 }
 
 fn same_texts(these: &[Bytes], others: &[Bytes]) -> bool

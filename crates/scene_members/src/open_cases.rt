@@ -20,7 +20,7 @@ use crate::open_case::{OpenCase, OpenCases};
 use crate::open_steps::case_steps;
 use crate::open_texts::{OpenText, texts_in};
 use crate::traces::{Traces, traces_in};
-use crate::values::{list, needed, object};
+use crate::values::{list, needed_member, object};
 use crate::whole::{ACKS_IN_ALL, few_items, opening};
 use ccp_base::Sequence;
 use link_model::LinkCase;
@@ -122,7 +122,7 @@ fn open_cases_in(
         → open_cases_in (texts_of texts.now) (table_of traces.now.entries) (view whole.now) ≡ Err e) }
 {
     let place = JsonPlace::Top(Key::Cases);
-    let value = needed(alloc, place, whole, Key::Cases)?;
+    let value = needed_member(alloc, place, whole, Key::Cases)?;
     let items = list(alloc, place, value)?;
     few_items(alloc, SceneMode::Live, items.as_slice())?;
     open_cases_from(alloc, texts, traces, items.as_slice())

@@ -11,13 +11,10 @@ use crate::json_place::JsonPlace;
 use crate::key::Key;
 use crate::open_case::StepTexts;
 use crate::open_texts::{OpenText, step_in};
-use crate::values::{list, needed};
-use ccp_base::Sequence;
+use crate::values::{list, needed_member};
+use ccp_base::{STEPS, Sequence};
 use serde_json::Value;
 use std::alloc::Global;
-
-/// The most steps of a case.
-const STEPS: usize = 16;
 
 fn steps_from(
     alloc: Global,
@@ -50,7 +47,7 @@ fn some_steps(alloc: Global, place: JsonPlace, items: &[Value]) -> Result<(), Me
     if 1 <= items.len() && items.len() <= STEPS {
         Ok(())
     } else {
-        Err(place.out_of_range(alloc))
+        Err(place.range_fault(alloc))
     }
 }
 
@@ -67,7 +64,7 @@ pub(crate) fn case_steps(
     ensures err { IfErr result (λ e. e ≢ fault.NoMemory → case_steps (texts_of texts.now) i (view whole.now) ≡ Err e) }
 {
     let place = JsonPlace::In(i, Key::Steps);
-    let value = needed(alloc, place, whole, Key::Steps)?;
+    let value = needed_member(alloc, place, whole, Key::Steps)?;
     let items = list(alloc, place, value)?;
     some_steps(alloc, place, items.as_slice())?;
     steps_from(alloc, texts, i, items.as_slice())

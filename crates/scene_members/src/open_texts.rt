@@ -86,6 +86,6 @@ pub(crate) fn step_in(
     let name = text(alloc, place, value)?;
     match text_named(texts, name.as_bytes()) {
         Some(text) => Ok(bytes_of(alloc, text.as_slice())?),
-        None => Err(place.wrong(alloc)),
+        None => Err(place.wrong_fault(alloc)),
     }
 }

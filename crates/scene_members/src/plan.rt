@@ -12,7 +12,7 @@ pub struct LinkNumbers {
     pub queue: u32,
     /// From a packet's chance to its acknowledgement, in microseconds.
     pub delay_us: u64,
-    /// How long the sender waits where every packet in flight is lost, in microseconds.
+    /// How long the sender waits if every packet in flight is lost, in microseconds.
     pub timeout_us: u64,
     /// How many acknowledgements come.
     pub acks: u32,

@@ -12,7 +12,7 @@ use crate::fault::MemberFault;
 use crate::json_place::JsonPlace;
 use crate::key::Key;
 use crate::traces::Traces;
-use crate::values::{needed, needed_number, object};
+use crate::values::{needed_member, needed_number, object};
 use link_model::Trace;
 use serde_json::Value;
 use std::alloc::Global;
@@ -32,7 +32,7 @@ fn shared_trace(alloc: Global, traces: &Traces, value: &Value) -> Result<Trace, 
         → shared_trace (table_of traces.now.entries) (view value.now) ≡ Err e) }
 {
     let place = JsonPlace::Shared(Key::Trace);
-    let name = needed(alloc, place, value, Key::Trace)?;
+    let name = needed_member(alloc, place, value, Key::Trace)?;
     trace_in(alloc, place, traces, name)
 }
 
@@ -75,7 +75,7 @@ pub fn shares_in(alloc: Global, traces: &Traces, whole: &Value) -> Result<Shares
         → shares_in (table_of traces.now.entries) (view whole.now) ≡ Err e) }
 {
     let place = JsonPlace::Top(Key::Shared);
-    let value = needed(alloc, place, whole, Key::Shared)?;
+    let value = needed_member(alloc, place, whole, Key::Shared)?;
     object(alloc, place, value)?;
     shared_members(alloc, traces, value)
 }

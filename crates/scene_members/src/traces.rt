@@ -9,7 +9,7 @@ use crate::fault::MemberFault;
 use crate::json_place::JsonPlace;
 use crate::key::Key;
 use crate::named::named_text;
-use crate::values::{needed, object};
+use crate::values::{needed_member, object};
 use link_model::{Trace, TraceFault};
 use serde_json::{Map, Value};
 use std::alloc::Global;
@@ -48,7 +48,7 @@ pub fn traces_in(alloc: Global, whole: &Value) -> Result<Traces, MemberFault>
     ensures err { IfErr result (λ e. e ≢ fault.NoMemory → traces_in (view whole.now) ≡ Err e) }
 {
     let place = JsonPlace::Top(Key::Traces);
-    let value = needed(alloc, place, whole, Key::Traces)?;
+    let value = needed_member(alloc, place, whole, Key::Traces)?;
     let members = object(alloc, place, value)?;
     traces_from(alloc, members)
 }

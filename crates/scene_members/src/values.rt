@@ -2,7 +2,7 @@
 ghost use Rattle.std.specs.Prelude.{◌≡◌, ◌≢◌, ◌≤◌, IfOk, IfErr, Ok, Err, option_map};
 ghost use Rattle.serde_json.specs.View.{view, items_view, members_view};
 ghost use Rattle.scene_members.specs.Keys.{least_of, greatest_value};
-ghost use Rattle.scene_members.specs.Values.{member_of, needed, in_range, number_in, text_in, list_in, object_in};
+ghost use Rattle.scene_members.specs.Values.{member_of, needed_member, in_range, number_in, text_in, list_in, object_in};
 ghost use Rattle.scene_members.specs.Values.{needed_number, number_or};
 ghost use Rattle.scene_members.specs.declared.fault.MemberFault.TheVariants as fault;
 
@@ -20,18 +20,19 @@ pub fn member(whole: &Value, key: Key) -> Option<&Value>
 }
 
 /// A member that must be there.
-pub(crate) fn needed(
+pub(crate) fn needed_member(
     alloc: Global,
     place: JsonPlace,
     whole: &Value,
     key: Key,
 ) -> Result<&Value, MemberFault>
-    ensures ok { IfOk result (λ v. needed place (member_of key (view whole.now)) ≡ Ok (view v.now)) }
-    ensures err { IfErr result (λ e. e ≢ fault.NoMemory → needed place (member_of key (view whole.now)) ≡ Err e) }
+    ensures ok { IfOk result (λ v. needed_member place (member_of key (view whole.now)) ≡ Ok (view v.now)) }
+    ensures err { IfErr result (λ e. e ≢ fault.NoMemory
+        → needed_member place (member_of key (view whole.now)) ≡ Err e) }
 {
     match member(whole, key) {
         Some(value) => Ok(value),
-        None => Err(place.missing(alloc)),
+        None => Err(place.missing_fault(alloc)),
     }
 }
 
@@ -44,7 +45,7 @@ fn in_range(alloc: Global, place: JsonPlace, key: Key, number: u64) -> Result<u6
     if key.least() <= number && number <= key.most() {
         Ok(number)
     } else {
-        Err(place.out_of_range(alloc))
+        Err(place.range_fault(alloc))
     }
 }
 
@@ -62,8 +63,8 @@ pub(crate) fn number(
 {
     match (value.as_u64(), value.as_i64()) {
         (Some(number), _) => in_range(alloc, place, key, number),
-        (None, Some(_)) => Err(place.out_of_range(alloc)),
-        (None, None) => Err(place.wrong(alloc)),
+        (None, Some(_)) => Err(place.range_fault(alloc)),
+        (None, None) => Err(place.wrong_fault(alloc)),
     }
 }
 
@@ -73,7 +74,7 @@ pub(crate) fn text(alloc: Global, place: JsonPlace, value: &Value) -> Result<&st
 {
     match value.as_str() {
         Some(text) => Ok(text),
-        None => Err(place.wrong(alloc)),
+        None => Err(place.wrong_fault(alloc)),
     }
 }
 
@@ -87,7 +88,7 @@ pub(crate) fn list(
 {
     match value.as_array() {
         Some(list) => Ok(list),
-        None => Err(place.wrong(alloc)),
+        None => Err(place.wrong_fault(alloc)),
     }
 }
 
@@ -101,7 +102,7 @@ pub(crate) fn object(
 {
     match value.as_object() {
         Some(map) => Ok(map),
-        None => Err(place.wrong(alloc)),
+        None => Err(place.wrong_fault(alloc)),
     }
 }
 
@@ -117,11 +118,11 @@ pub(crate) fn needed_number(
     ensures most { IfOk result (λ n. n ≤ greatest_value key) }
     ensures err { IfErr result (λ e. e ≢ fault.NoMemory → needed_number place key (view whole.now) ≡ Err e) }
 {
-    let value = needed(alloc, place, whole, key)?;
+    let value = needed_member(alloc, place, whole, key)?;
     number(alloc, place, key, value)
 }
 
-/// A number where there is one, else the default.
+/// A number if there is one, else the default.
 pub(crate) fn number_or(
     alloc: Global,
     place: JsonPlace,

@@ -2,7 +2,7 @@
 ghost use Rattle.std.specs.Prelude.{◌≡◌, ◌≢◌, ◌≤◌, ◌+◌, ◌*◌, ◌^◌, IfOk, IfErr, OnOk, Ok, Err, length};
 ghost use Rattle.std.specs.List.{All};
 ghost use Rattle.serde_json.specs.View.{view, items_view};
-ghost use Rattle.ccp_base.specs.Limits.{most_named_programs};
+ghost use Rattle.ccp_base.specs.Limits.{most_cases, most_named_programs};
 ghost use Rattle.agent_core.specs.Kinds.{built_in_count};
 ghost use Rattle.scene_members.specs.Plans.{IsPlan};
 ghost use Rattle.scene_members.specs.Traces.{table_of};
@@ -16,7 +16,7 @@ use crate::key::Key;
 use crate::mode::SceneMode;
 use crate::plan::{Plan, Plans};
 use crate::traces::Traces;
-use crate::values::{list, needed, needed_number, object};
+use crate::values::{list, needed_member, needed_number, object};
 use ccp_base::Name;
 use serde_json::Value;
 use std::alloc::Global;
@@ -43,13 +43,13 @@ pub(crate) fn few_items(alloc: Global, mode: SceneMode, items: &[Value]) -> Resu
     if items.len() <= mode.most_cases() {
         Ok(())
     } else {
-        Err(JsonPlace::Top(Key::Cases).out_of_range(alloc))
+        Err(JsonPlace::Top(Key::Cases).range_fault(alloc))
     }
 }
 
 /// The acknowledgements of all cases.
 fn acks_of(plans: &[Plan]) -> u64
-    requires { length plans.now ≤ 1024 }
+    requires { length plans.now ≤ most_cases }
     ensures { result ≡ total_acks plans.now }
 {
     let mut total = 0;
@@ -62,7 +62,7 @@ fn acks_of(plans: &[Plan]) -> u64
 }
 
 fn within_total(mode: SceneMode, plans: Plans) -> Result<Plans, MemberFault>
-    requires { length plans ≤ 1024 }
+    requires { length plans ≤ most_cases }
     ensures ok { IfOk result (λ ps. within_total mode plans ≡ Ok ps) }
     ensures same { IfOk result (λ ps. ps ≡ plans) }
     ensures err { IfErr result (λ e. within_total mode plans ≡ Err e) }
@@ -89,7 +89,7 @@ pub fn cases_in(
         → cases_in mode names.now (table_of traces.now.entries) (view whole.now) ≡ Err e) }
 {
     let place = JsonPlace::Top(Key::Cases);
-    let value = needed(alloc, place, whole, Key::Cases)?;
+    let value = needed_member(alloc, place, whole, Key::Cases)?;
     let items = list(alloc, place, value)?;
     few_items(alloc, mode, items.as_slice())?;
     let plans = cases_from(alloc, names, traces, items.as_slice())?;

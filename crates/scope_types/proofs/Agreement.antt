@@ -24,12 +24,12 @@ refused_only nodes (Misplaced at) h form g = absurd (let f : Ok form ≡ Err (Mi
 refused_only nodes (Micros at) h form g = absurd (let f : Ok form ≡ Err (Micros at) = sym g ∙ h (λ k. cc) in cc)
 refused_only nodes (TooMany at what) h form g = absurd (let f : Ok form ≡ Err (TooMany at what) = sym g ∙ h (λ k. cc) in cc)
 
--- where forms stand for a program, the answer is that program, or there was no memory
+-- if forms stand for a program, the answer is that program, or there was no memory
 pub only_that : {P : Type 0} (nodes : Nodes) (answer : Result P ScopeFault) (shape : P → Form) → IfOk answer (λ p. source_walk nodes ≡ Ok (shape p)) → IfErr answer (λ e. e ≢ NoMemory → source_walk nodes ≡ Err e) → (form : Form) → IsScoped nodes form → MatchResult answer (λ p. shape p ≡ form) (λ e. e ≡ NoMemory)
 only_that nodes (Ok p) shape ok err form h = let f : Ok (shape p) ≡ Ok form = sym ok ∙ source_given nodes form h in cc
 only_that nodes (Err e) shape ok err form h = refused_only nodes e err form (source_given nodes form h)
 
--- the same, where the nodes are named twice
+-- the same, if the nodes are named twice
 pub found_over : {P : Type 0} (answer : Result P ScopeFault) (shape : P → Form) (nodes same : Nodes) → nodes ≡ same → IfOk answer (λ p. source_walk nodes ≡ Ok (shape p)) → IfOk answer (λ p. IsScoped same (shape p))
 found_over answer shape nodes same e ok =
     ok_map answer _ _ ok (λ p f. subst (λ ns. IsScoped ns (shape p)) e (scoped_from nodes (shape p) f))

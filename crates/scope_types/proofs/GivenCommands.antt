@@ -26,7 +26,7 @@ use Rattle.scope_types.proofs.GivenExpressions.{outside_fields, meaning_given, e
 use Rattle.scope_types.proofs.ProperScopes.{fresh_local, fresh_control, fresh_primitive}
 use Rattle.scope_types.proofs.ScopedCommands.{command_proper}
 
--- the second walk goes on from what the first gives
+-- the second walk starts from what the first gives
 pub then_given : {A B E : Type 0} (r : Result A E) (walk : A → Result B E) (a : A) (s : Result B E) → r ≡ Ok a → walk a ≡ s → and_then r walk ≡ s
 then_given r walk a s e f = ap (λ x. and_then x walk) e ∙ f
 
@@ -75,7 +75,7 @@ not_spelt w lit op e h =
     [ true ↦ λ k. absurd (let f : None ≡ Some op = sym e ∙ ap operator_of (sym (spelt w lit k)) ∙ h in cc) | false ↦ λ k. refl ] refl
 
 -- an expression is walked as one
-value_plain : (scope : Scope) (target : Target) (value : Node) (t : Term) (truth : Bool) → IsTerm scope value t truth → walk.value_walk scope target value ≡ walk.plain_walk scope target value
+value_plain : (scope : Scope) (target : Target) (value : Node) (t : Term) (truth : Bool) → IsTerm scope value t truth → walk.value_walk scope target value ≡ walk.plain_assignment_walk scope target value
 value_plain scope target (list at (more (word head w) (more left (more right none)))) t truth h =
     if_false (bytes_eq w (codes "if")) _ _ _ (not_spelt w (codes "if") h.operator refl h.spelt)
     (if_false (bytes_eq w (codes "!if")) _ _ _ (not_spelt w (codes "!if") h.operator refl h.spelt)

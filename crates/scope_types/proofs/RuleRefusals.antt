@@ -95,7 +95,7 @@ micros_rule names (number at n) = if_rule (n == 0) _ _ tt tt
 micros_rule names (word at w) = tt
 micros_rule names (list at parts) = tt
 
-known_rule : (target : Target) → ByRule (cmd.known_walk target)
+known_rule : (target : Target) → ByRule (cmd.known_variable_walk target)
 known_rule (Known at v) = tt
 known_rule (Fresh at w) = tt
 
@@ -104,7 +104,7 @@ kind_rule names wanted at t = if_rule (wanted && not (cmd.is_bool names t)) _ _ 
 
 choice_rule : (names : Scope) (target : Target) (when_true : Bool) (value_at head : Place) (parts : Nodes) → ByRule (cmd.choice_walk names target when_true value_at head parts)
 choice_rule names target when_true value_at head (more condition (more value none)) =
-    then_rule (cmd.known_walk target) _ (known_rule target) (λ v.
+    then_rule (cmd.known_variable_walk target) _ (known_rule target) (λ v.
     then_rule (expression_walk names condition) _ (expression_rule names condition) (λ c.
     then_rule (expression_walk names value) _ (expression_rule names value) (λ e.
     then_rule (cmd.kind_walk names true (node_place condition) c) _ (kind_rule names true (node_place condition) c) (λ c2.
@@ -132,7 +132,7 @@ set_rule names (Known at v) value_at t =
     then_rule (cmd.kind_walk names (cmd.wants_bool names v) value_at t) _ (kind_rule names (cmd.wants_bool names v) value_at t) (λ e. tt)
 set_rule names (Fresh at w) value_at t = if_rule (nat_le 8 (length names.locals)) _ _ tt tt
 
-plain_rule : (names : Scope) (target : Target) (node : Node) → ByRule (cmd.plain_walk names target node)
+plain_rule : (names : Scope) (target : Target) (node : Node) → ByRule (cmd.plain_assignment_walk names target node)
 plain_rule names target node =
     then_rule (expression_walk names node) _ (expression_rule names node) (λ t. set_rule names target (node_place node) t)
 

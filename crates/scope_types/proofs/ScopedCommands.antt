@@ -77,7 +77,7 @@ word_target scope at w (Some v) p h = language_target scope at w v h
 word_target scope at w None p h =
     if_ok (is_reserved w) _ _ _ (λ _. tt) (λ k. meaning_target scope at w (meaning_of scope w) p k refl (meaning_means scope w))
 
--- the expression itself, which is a Bool where one is wanted
+-- the expression itself, which is a Bool if one is wanted
 pub record IsKind (scope : Scope) (wanted : Bool) (term found : Term) : Type 0 where
   pub same : found ≡ term
   pub fits : FitsKind wanted (term_is_truth (known_in scope) term)
@@ -95,14 +95,14 @@ kind_scoped scope wanted at term =
 abbrev IsAssigned : Scope → Var → Node → walk.Step → Type 0
 IsAssigned scope v value step = IsValue scope v (truth_of scope v) value step.0 × (step.1 ≡ scope)
 
-plain_scoped : (scope : Scope) (at : Place) (v : Var) (value : Node) → IfOk (walk.plain_walk scope (Meant at v) value) (λ step. IsPlain scope v (truth_of scope v) value step.0 × (step.1 ≡ scope))
+plain_scoped : (scope : Scope) (at : Place) (v : Var) (value : Node) → IfOk (walk.plain_assignment_walk scope (Meant at v) value) (λ step. IsPlain scope v (truth_of scope v) value step.0 × (step.1 ≡ scope))
 plain_scoped scope at v value =
     then_ok (expression_walk scope value) _ _ _ (expression_scoped scope value) (λ t h.
     then_ok (walk.kind_walk scope (truth_of scope v) _ t) _ _ _ (kind_scoped scope (truth_of scope v) _ t) (λ e k.
     (record { term = t; truth = _; is_value = h; fits = k.fits; command = ap (set v) k.same }, refl)))
 
-plain_assigned : (scope : Scope) (at : Place) (v : Var) (value : Node) → IfOk (walk.plain_walk scope (Meant at v) value) (IsAssigned scope v value)
-plain_assigned scope at v value = ok_map (walk.plain_walk scope (Meant at v) value) _ _ (plain_scoped scope at v value) (λ step h. (inl h.0, h.1))
+plain_assigned : (scope : Scope) (at : Place) (v : Var) (value : Node) → IfOk (walk.plain_assignment_walk scope (Meant at v) value) (IsAssigned scope v value)
+plain_assigned scope at v value = ok_map (walk.plain_assignment_walk scope (Meant at v) value) _ _ (plain_scoped scope at v value) (λ step h. (inl h.0, h.1))
 
 pub kind_true : (scope : Scope) (node : Node) (t found : Term) → IsTerm scope node t (term_is_truth (known_in scope) t) → IsKind scope true t found → IsTerm scope node found true
 kind_true scope node t found h k =
@@ -174,7 +174,7 @@ value_scoped scope at v (number value_at n) = plain_assigned scope at v (number 
 room_fact : (n : ℕ) → nat_le 8 n ≡ false → n < 8
 room_fact n h = grind (arith, nat_tests)
 
-first_scoped : (scope : Scope) (at : Place) (w : List ℕ) (value : Node) → IsFresh scope w → IfOk (walk.plain_walk scope (Fresh at w) value) (λ step. IsFirstAssignment scope w value step.0 step.1)
+first_scoped : (scope : Scope) (at : Place) (w : List ℕ) (value : Node) → IsFresh scope w → IfOk (walk.plain_assignment_walk scope (Fresh at w) value) (λ step. IsFirstAssignment scope w value step.0 step.1)
 first_scoped scope at w value f =
     then_ok (expression_walk scope value) _ _ _ (expression_scoped scope value) (λ t h.
     if_ok (nat_le 8 (length scope.locals)) _ _ _ (λ _. tt) (λ k.

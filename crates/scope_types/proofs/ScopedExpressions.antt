@@ -27,7 +27,7 @@ use Rattle.scope_types.specs.ExpressionWalk.{or_refused, name_walk, variable_wal
 use Rattle.scope_types.specs.ExpressionRules.{IsDeclaredName, IsField, IsLocal, IsPrimitive, Means, NamesVariable, IsName, IsWord, IsPair, IsTerm}
 use Rattle.scope_types.proofs.Results.{if_ok, ok_map}
 
--- a test of two texts tells whether they are one
+-- a test of two texts says whether they are one
 pub spelt : (a b : List ℕ) → bytes_eq a b ≡ true → a ≡ b
 spelt a b h = (bytes_eq-Decides a b).0 h
 

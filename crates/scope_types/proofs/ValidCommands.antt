@@ -66,7 +66,7 @@ pub kind_fits : (names : Scope) (wanted : Bool) (at : Place) (term : Term) → I
 kind_fits names wanted at term h =
     if_ok (wanted && not (walk.is_bool names term)) _ _ _ (λ _. tt) (λ k. both_true _ _ h (fits_from wanted (walk.is_bool names term) k))
 
-known_target : (names : Scope) (target : Target) → IsOther names target → IfOk (walk.known_walk target) (λ v. IsTrue (is_target (known_in names) v))
+known_target : (names : Scope) (target : Target) → IsOther names target → IfOk (walk.known_variable_walk target) (λ v. IsTrue (is_target (known_in names) v))
 known_target names (Meant at v) h = h
 known_target names (Fresh at w) h = tt
 
@@ -76,7 +76,7 @@ choice_step names false head v condition value t c f = (both_true _ _ (both_true
 
 choice_valid : (names : Scope) (target : Target) (when_so : Bool) (value_at head : Place) (parts : Nodes) → IsOther names target → IfOk (walk.choice_walk names target when_so value_at head parts) (IsStep names)
 choice_valid names target when_so value_at head (more condition (more value none)) h =
-    then_ok (walk.known_walk target) _ _ _ (known_target names target h) (λ v t.
+    then_ok (walk.known_variable_walk target) _ _ _ (known_target names target h) (λ v t.
     then_ok (expression_walk names condition) _ _ _ (expression_valid names condition) (λ c p.
     then_ok (expression_walk names value) _ _ _ (expression_valid names value) (λ e q.
     then_ok (walk.kind_walk names true _ c) _ _ _ (kind_fits names true _ c p) (λ c' p'.
@@ -154,7 +154,7 @@ set_valid names (Meant at v) value_at term h t =
 set_valid names (Fresh at w) value_at term h t =
     if_ok (nat_le 8 (length names.locals)) _ _ _ (λ _. tt) (λ room. set_fresh names w term room t)
 
-plain_valid : (names : Scope) (target : Target) (node : Node) → IsOther names target → IfOk (walk.plain_walk names target node) (IsStep names)
+plain_valid : (names : Scope) (target : Target) (node : Node) → IsOther names target → IfOk (walk.plain_assignment_walk names target node) (IsStep names)
 plain_valid names target node h =
     then_ok (expression_walk names node) _ _ _ (expression_valid names node) (λ term t. set_valid names target _ term h t)
 

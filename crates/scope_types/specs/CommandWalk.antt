@@ -51,9 +51,9 @@ abbrev pub wants_bool : Scope → Var → Bool
 wants_bool names v = is_truth (known_in names) v
 
 -- the name has a meaning
-abbrev pub known_walk : Target → Result Var ScopeFault
-known_walk (Known at v) = Ok v
-known_walk (Fresh at w) = Err (fault.Unknown at)
+abbrev pub known_variable_walk : Target → Result Var ScopeFault
+known_variable_walk (Known at v) = Ok v
+known_variable_walk (Fresh at w) = Err (fault.Unknown at)
 
 -- a Bool, if one is required
 abbrev pub kind_walk : Scope → Bool → Place → Term → Result Term ScopeFault
@@ -67,7 +67,7 @@ choice_action false head v condition value = set_unless head v condition value
 -- is a Bool, and so is the second if the target is one
 abbrev pub choice_walk : Scope → Target → Bool → Place → Place → Nodes → Result Step ScopeFault
 choice_walk names target when_true value_at head (more condition (more value none)) =
-    and_then (known_walk target) (λ v.
+    and_then (known_variable_walk target) (λ v.
     and_then (expression_walk names condition) (λ c.
     and_then (expression_walk names value) (λ e.
     and_then (kind_walk names true (node_place condition) c) (λ c'.
@@ -102,8 +102,8 @@ set_walk names (Fresh at w) value_at term =
     if nat_le most_locals (length names.locals) then Err (fault.TooMany at what.Locals)
     else Ok (set (var.Local (length names.locals)) term, with_local_name names w (is_bool names term))
 
-abbrev pub plain_walk : Scope → Target → Node → Result Step ScopeFault
-plain_walk names target node = and_then (expression_walk names node) (λ term. set_walk names target (node_place node) term)
+abbrev pub plain_assignment_walk : Scope → Target → Node → Result Step ScopeFault
+plain_assignment_walk names target node = and_then (expression_walk names node) (λ term. set_walk names target (node_place node) term)
 
 -- what is assigned: `if`, `!if`, `ewma` or an expression
 abbrev pub value_walk : Scope → Target → Node → Result Step ScopeFault
@@ -111,8 +111,8 @@ value_walk names target (list value_at (more (word head w) parts)) =
     if bytes_eq w (codes "if") then choice_walk names target true value_at head parts
     else if bytes_eq w (codes "!if") then choice_walk names target false value_at head parts
     else if bytes_eq w (codes "ewma") then ewma_walk names target value_at head parts
-    else plain_walk names target (list value_at (more (word head w) parts))
-value_walk names target node = plain_walk names target node
+    else plain_assignment_walk names target (list value_at (more (word head w) parts))
+value_walk names target node = plain_assignment_walk names target node
 
 abbrev pub assigned_walk : Scope → Target → Node → Result Step ScopeFault
 assigned_walk names (Known at var.Micros) value = micros_walk names value

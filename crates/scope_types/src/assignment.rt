@@ -3,7 +3,7 @@ ghost use Rattle.std.specs.Prelude.{◌≡◌, ◌≢◌, OnOk, OnErr, IfOk, IfE
 ghost use Rattle.portus_core.specs.Trees.{node_of, nodes_of};
 ghost use Rattle.portus_core.specs.Programs.{action_of, term_of};
 ghost use Rattle.scope_types.specs.CommandWalk.{kind_walk, choice_action, choice_walk, weight_walk, ewma_walk};
-ghost use Rattle.scope_types.specs.CommandWalk.{set_walk, plain_walk, value_walk, assignment_walk};
+ghost use Rattle.scope_types.specs.CommandWalk.{set_walk, plain_assignment_walk, value_walk, assignment_walk};
 ghost use Rattle.scope_types.specs.Cuts.{node_place};
 ghost use Rattle.scope_types.specs.Scope.{scope_of};
 ghost use Rattle.scope_types.specs.WalkResults.{EndsWalk, GivesCommand, GivesSet};
@@ -13,9 +13,8 @@ use crate::expression::expression;
 use crate::fault::{ScopeFault, What};
 use crate::meaning::{is_bool, is_bool_variable};
 use crate::names::{Local, Names};
-use crate::target::{Target, known, number, target_of};
-use crate::words::same;
-use ccp_base::{Name, Place};
+use crate::target::{Target, known_variable, number, target_of};
+use ccp_base::{Name, Place, same_bytes};
 use portus_core::{Cmd, Expr, Parts, Tree, Var, take_apart};
 use std::alloc::Global;
 
@@ -23,7 +22,12 @@ use std::alloc::Global;
 const LOCALS: usize = 8;
 
 /// Refuses an expression that isn't a Bool, if one is required.
-pub(crate) fn of_kind(names: &Names, wanted: bool, at: Place, expr: &Expr) -> Result<(), ScopeFault>
+pub(crate) fn check_kind(
+    names: &Names,
+    wanted: bool,
+    at: Place,
+    expr: &Expr,
+) -> Result<(), ScopeFault>
     ensures ok { OnOk result (kind_walk (scope_of names.now) wanted at (term_of expr.now) ≡ Ok (term_of expr.now)) }
     ensures err { IfErr result (λ e. kind_walk (scope_of names.now) wanted at (term_of expr.now) ≡ Err e) }
 {
@@ -34,7 +38,7 @@ pub(crate) fn of_kind(names: &Names, wanted: bool, at: Place, expr: &Expr) -> Re
 }
 
 /// The command of `if`, or of `!if` if `when_true` is false.
-fn chosen(when_true: bool, head: Place, var: Var, condition: Expr, value: Expr) -> Cmd
+fn choice_command(when_true: bool, head: Place, var: Var, condition: Expr, value: Expr) -> Cmd
     ensures { action_of result ≡ choice_action when_true head var (term_of condition) (term_of value) }
 {
     if when_true {
@@ -62,17 +66,17 @@ fn choice(
     let Parts::Two(first, second) = take_apart(parts) else {
         return Err(ScopeFault::Misplaced(at));
     };
-    let var = known(target)?;
+    let var = known_variable(target)?;
     let condition = expression(alloc, names, first)?;
     let value = expression(alloc, names, second)?;
-    of_kind(names, true, place_of(first), &condition)?;
-    of_kind(
+    check_kind(names, true, place_of(first), &condition)?;
+    check_kind(
         names,
         is_bool_variable(names, var),
         place_of(second),
         &value,
     )?;
-    Ok(chosen(when_true, head, var, condition, value))
+    Ok(choice_command(when_true, head, var, condition, value))
 }
 
 /// A weight in tenths.
@@ -127,7 +131,7 @@ fn assign_target(
 {
     match target {
         Target::Known(_, var) => {
-            of_kind(names, is_bool_variable(names, var), value_at, value)?;
+            check_kind(names, is_bool_variable(names, var), value_at, value)?;
             Ok(var)
         }
         Target::Fresh(at, name) => {
@@ -143,9 +147,15 @@ fn assign_target(
 }
 
 /// The assignment of what must be an expression.
-fn plain(alloc: Global, names: &mut Names, target: Target, value: &Tree) -> Result<Cmd, ScopeFault>
-    ensures ok { IfOk result (GivesCommand (plain_walk (scope_of names.old) target (node_of value.now)) names.new) }
-    ensures err { IfErr result (EndsWalk (plain_walk (scope_of names.old) target (node_of value.now))) }
+fn plain_assignment(
+    alloc: Global,
+    names: &mut Names,
+    target: Target,
+    value: &Tree,
+) -> Result<Cmd, ScopeFault>
+    ensures ok { IfOk result
+        (GivesCommand (plain_assignment_walk (scope_of names.old) target (node_of value.now)) names.new) }
+    ensures err { IfErr result (EndsWalk (plain_assignment_walk (scope_of names.old) target (node_of value.now))) }
 {
     let expr = expression(alloc, names, value)?;
     let var = assign_target(names, target, place_of(value), &expr)?;
@@ -160,20 +170,20 @@ fn assign(alloc: Global, names: &mut Names, target: Target, value: &Tree) -> Res
     match value {
         Tree::List(at, parts) => match cut_first(parts.as_slice()) {
             Cut::First(Tree::Word(head, w), rest) => {
-                if same(w.as_slice(), b"if") {
+                if same_bytes(w.as_slice(), b"if") {
                     choice(alloc, names, target, true, *at, *head, rest)
-                } else if same(w.as_slice(), b"!if") {
+                } else if same_bytes(w.as_slice(), b"!if") {
                     choice(alloc, names, target, false, *at, *head, rest)
-                } else if same(w.as_slice(), b"ewma") {
+                } else if same_bytes(w.as_slice(), b"ewma") {
                     ewma(alloc, names, target, *at, *head, rest)
                 } else {
-                    plain(alloc, names, target, value)
+                    plain_assignment(alloc, names, target, value)
                 }
             }
-            _ => plain(alloc, names, target, value),
+            _ => plain_assignment(alloc, names, target, value),
         },
-        Tree::Num(_, _) => plain(alloc, names, target, value),
-        Tree::Word(_, _) => plain(alloc, names, target, value),
+        Tree::Num(_, _) => plain_assignment(alloc, names, target, value),
+        Tree::Word(_, _) => plain_assignment(alloc, names, target, value),
     }
 }
 

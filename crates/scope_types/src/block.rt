@@ -7,14 +7,13 @@ ghost use Rattle.scope_types.specs.ProgramWalk.{form_walk, blocks_walk};
 ghost use Rattle.scope_types.specs.Scope.{scope_of};
 ghost use Rattle.scope_types.specs.WalkResults.{EndsWalk, GivesBlock, GivesBlocks};
 
-use crate::assignment::of_kind;
+use crate::assignment::check_kind;
 use crate::command::commands;
 use crate::cut::{Cut, cut_first, place_of};
 use crate::expression::expression;
 use crate::fault::{ScopeFault, What};
 use crate::names::Names;
-use crate::words::same;
-use ccp_base::{Place, Sequence};
+use ccp_base::{Place, Sequence, same_bytes};
 use portus_core::{Block, Expr, Tree};
 use std::alloc::Global;
 
@@ -34,7 +33,7 @@ fn condition(alloc: Global, names: &Names, tree: &Tree) -> Result<Expr, ScopeFau
     ensures err { IfErr result (EndsWalk (condition_walk (scope_of names.now) (node_of tree.now))) }
 {
     let expr = expression(alloc, names, tree)?;
-    of_kind(names, true, place_of(tree), &expr)?;
+    check_kind(names, true, place_of(tree), &expr)?;
     Ok(expr)
 }
 
@@ -75,7 +74,7 @@ fn form(alloc: Global, names: &mut Names, count: usize, tree: &Tree) -> Result<B
 {
     if let Tree::List(at, parts) = tree {
         if let Cut::First(Tree::Word(_, w), rest) = cut_first(parts.as_slice()) {
-            if !same(w.as_slice(), b"when") {
+            if !same_bytes(w.as_slice(), b"when") {
                 return Err(ScopeFault::Misplaced(*at));
             }
             if count >= BLOCKS {

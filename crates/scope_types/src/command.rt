@@ -9,7 +9,7 @@ use crate::assignment::assignment;
 use crate::cut::place_of;
 use crate::fault::ScopeFault;
 use crate::names::Names;
-use crate::words::same;
+use ccp_base::same_bytes;
 use portus_core::{Cmd, Parts, Tree, take_apart};
 use std::alloc::Global;
 
@@ -23,16 +23,16 @@ fn command(alloc: Global, names: &mut Names, tree: &Tree) -> Result<Cmd, ScopeFa
     };
     match take_apart(parts.as_slice()) {
         Parts::One(Tree::Word(_, w)) => {
-            if same(w.as_slice(), b"report") {
+            if same_bytes(w.as_slice(), b"report") {
                 Ok(Cmd::Report)
-            } else if same(w.as_slice(), b"fallthrough") {
+            } else if same_bytes(w.as_slice(), b"fallthrough") {
                 Ok(Cmd::Fall)
             } else {
                 Err(ScopeFault::Misplaced(*at))
             }
         }
         Parts::Three(Tree::Word(_, w), target, value) => {
-            if same(w.as_slice(), b":=") || same(w.as_slice(), b"bind") {
+            if same_bytes(w.as_slice(), b":=") || same_bytes(w.as_slice(), b"bind") {
                 assignment(alloc, names, target, value)
             } else {
                 Err(ScopeFault::Misplaced(*at))

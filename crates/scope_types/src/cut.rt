@@ -13,7 +13,7 @@ pub(crate) enum Cut<'a> {
     First(&'a Tree, &'a [Tree]),
 }
 
-/// Tells a list's first part from the rest.
+/// Separates a list's first part from the rest.
 pub(crate) fn cut_first(parts: &[Tree]) -> Cut<'_>
     ensures { CutsInto (nodes_of parts.now) result }
 {

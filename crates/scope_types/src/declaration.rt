@@ -1,5 +1,5 @@
 //! How the parts of `def` declare fields and control variables.
-ghost use Rattle.std.specs.Prelude.{◌≡◌, ◌≢◌, ◌++◌, ◌∷◌, [], OnOk, IfErr, Ok, Err, length};
+ghost use Rattle.std.specs.Prelude.{◌≡◌, ◌++◌, ◌∷◌, [], OnOk, IfErr, length};
 ghost use Rattle.portus_core.specs.Trees.{node_of, nodes_of};
 ghost use Rattle.portus_core.specs.Words.{has_dot, is_field_name, is_control_name};
 ghost use Rattle.scope_types.specs.DeclarationWalk.{declaring_of, GivesDeclared};
@@ -8,13 +8,12 @@ ghost use Rattle.scope_types.specs.DeclarationWalk.{field_walk, control_walk, fi
 ghost use Rattle.scope_types.specs.DeclarationWalk.{control_part_walk, part_walk, parts_walk};
 ghost use Rattle.scope_types.specs.Scope.{scope_of};
 ghost use Rattle.scope_types.specs.WalkResults.{EndsWalk, GivesNames};
-ghost use Rattle.scope_types.specs.declared.fault.ScopeFault.TheVariants.{NoMemory};
 
 use crate::cut::{Cut, cut_first, place_of};
 use crate::fault::{ScopeFault, What};
 use crate::names::Names;
-use crate::words::{is_field_use, is_primitive_use, is_reserved, same};
-use ccp_base::{FIELDS, Place};
+use crate::words::{is_field_use, is_primitive_use, is_reserved};
+use ccp_base::{FIELDS, Place, same_bytes};
 use portus_core::{Decl, Parts, Tree, is_name_shaped, take_apart};
 
 /// The most control variables that a program declares.
@@ -47,17 +46,17 @@ pub(crate) struct Declared {
 fn start_word(w: &[u8]) -> Option<Start>
     ensures { result ≡ start_word w.now }
 {
-    if same(w, b"true") {
+    if same_bytes(w, b"true") {
         Some(Start {
             value: 1,
             truth: true,
         })
-    } else if same(w, b"false") {
+    } else if same_bytes(w, b"false") {
         Some(Start {
             value: 0,
             truth: true,
         })
-    } else if same(w, b"+infinity") {
+    } else if same_bytes(w, b"+infinity") {
         Some(Start {
             value: u64::MAX,
             truth: false,
@@ -90,7 +89,7 @@ fn declaration_of(tree: &Tree) -> Result<Declaration, ScopeFault>
         Tree::List(_, parts) => match take_apart(parts.as_slice()) {
             Parts::Two(Tree::Word(at, name), value) => (false, *at, *name, value),
             Parts::Three(Tree::Word(_, head), Tree::Word(at, name), value) => {
-                if !same(head.as_slice(), b"volatile") {
+                if !same_bytes(head.as_slice(), b"volatile") {
                     return Err(misplaced);
                 }
                 (true, *at, *name, value)
@@ -123,7 +122,10 @@ fn is_field_name(w: &[u8]) -> bool
     ensures { result ≡ is_field_name w.now }
 {
     is_name_shaped(w)
-        && !(has_dot(w) || same(w, b"volatile") || same(w, b"true") || same(w, b"false"))
+        && !(has_dot(w)
+            || same_bytes(w, b"volatile")
+            || same_bytes(w, b"true")
+            || same_bytes(w, b"false"))
 }
 
 /// Whether a control variable may have this word.
@@ -199,9 +201,8 @@ fn group(declared: &mut Declared, head: Place, parts: &[Tree]) -> Result<(), Sco
 /// A part of `def` that declares a control variable.
 fn control_part(declared: &mut Declared, tree: &Tree) -> Result<(), ScopeFault>
     ensures ok { let walk = control_part_walk (declaring_of declared.old) (node_of tree.now) in
-        OnOk result (walk ≡ Ok (declaring_of declared.new)) }
-    ensures err { let walk = control_part_walk (declaring_of declared.old) (node_of tree.now) in
-        IfErr result (λ e. e ≢ NoMemory → walk ≡ Err e) }
+        OnOk result (GivesDeclared walk declared.new) }
+    ensures err { IfErr result (EndsWalk (control_part_walk (declaring_of declared.old) (node_of tree.now))) }
 {
     control(&mut declared.names, declaration_of(tree)?)
 }
@@ -209,14 +210,13 @@ fn control_part(declared: &mut Declared, tree: &Tree) -> Result<(), ScopeFault>
 /// A part of `def`.
 fn part(declared: &mut Declared, tree: &Tree) -> Result<(), ScopeFault>
     ensures ok { let walk = part_walk (declaring_of declared.old) (node_of tree.now) in
-        OnOk result (walk ≡ Ok (declaring_of declared.new)) }
-    ensures err { let walk = part_walk (declaring_of declared.old) (node_of tree.now) in
-        IfErr result (λ e. e ≢ NoMemory → walk ≡ Err e) }
+        OnOk result (GivesDeclared walk declared.new) }
+    ensures err { IfErr result (EndsWalk (part_walk (declaring_of declared.old) (node_of tree.now))) }
 {
     match tree {
         Tree::List(_, parts) => match cut_first(parts.as_slice()) {
             Cut::First(Tree::Word(head, w), rest) => {
-                if same(w.as_slice(), b"Report") {
+                if same_bytes(w.as_slice(), b"Report") {
                     group(declared, *head, rest)
                 } else {
                     control_part(declared, tree)

@@ -5,9 +5,10 @@ ghost use Rattle.std.specs.Hash as fed;
 ghost use Rattle.std.specs.Cmp.Rules.{comparing, hashing};
 ghost use Rattle.std.specs.Cmp.Lexicographic.{bytes_decides, nat_list_eq_equiv};
 ghost use Rattle.std.proofs.Common.{ap, rules};
+ghost use Rattle.ccp_base.specs.Limits.{most_fields};
 ghost use Rattle.scope_types.specs.Names.{decl_from};
 
-use crate::words::same;
+use ccp_base::same_bytes;
 use indexmap::{Equivalent, IndexSet};
 use portus_core::Decl;
 use std::alloc::{AllocError, Global};
@@ -34,7 +35,7 @@ impl PartialEq for Named {
     ghost laws = { Prim.search (comparing, rules) };
 
     fn eq(&self, other: &Named) -> bool {
-        same(self.decl.name.as_slice(), other.decl.name.as_slice())
+        same_bytes(self.decl.name.as_slice(), other.decl.name.as_slice())
     }
 }
 
@@ -61,7 +62,7 @@ impl Equivalent<Named> for &[u8] {
     ghost respects_eq = { λ w a b. nat_list_eq_equiv.congr w.now a.name b.name };
 
     fn equivalent(&self, key: &Named) -> bool {
-        same(*self, key.decl.name.as_slice())
+        same_bytes(*self, key.decl.name.as_slice())
     }
 }
 
@@ -97,9 +98,9 @@ impl Declarations {
         self.all.len()
     }
 
-    /// The number of the declaration that has this name.
+    /// The number of the declaration that has this name. A program has no more control variables than fields.
     pub(crate) fn position(&self, name: &[u8]) -> Option<u32>
-        requires { length self.now ≤ 64 }
+        requires { length self.now ≤ most_fields }
         ensures { result ≡ decl_from 0 self.now name.now }
     {
         let index = self.all.get_index_of(name)?;
@@ -114,7 +115,7 @@ impl Declarations {
         Some(&named.decl)
     }
 
-    /// Puts a declaration of a new name at the end.
+    /// Appends a declaration of a new name.
     pub(crate) fn push(&mut self, decl: Decl) -> Result<(), AllocError>
         requires { decl_from 0 self.old decl.name ≡ None }
         ensures ok { OnOk result (self.new ≡ self.old ++ decl ∷ []) }

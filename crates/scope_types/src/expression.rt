@@ -11,8 +11,8 @@ ghost use Rattle.scope_types.specs.WalkResults.{EndsWalk};
 use crate::fault::ScopeFault;
 use crate::meaning::meaning_of;
 use crate::names::Names;
-use crate::words::{is_reserved, same, variable_of};
-use ccp_base::{Place, operator_of};
+use crate::words::{is_reserved, variable_of};
+use ccp_base::{Place, operator_of, same_bytes};
 use portus_core::{Expr, Op2, Parts, Tree, Var, take_apart};
 use std::alloc::Global;
 
@@ -34,11 +34,11 @@ fn word(names: &Names, at: Place, w: &[u8]) -> Result<Expr, ScopeFault>
     ensures ok { IfOk result (λ e. word_walk (scope_of names.now) at w.now (constant_of w.now) ≡ Ok (term_of e)) }
     ensures err { IfErr result (λ e. word_walk (scope_of names.now) at w.now (constant_of w.now) ≡ Err e) }
 {
-    if same(w, b"true") {
+    if same_bytes(w, b"true") {
         Ok(Expr::Truth(true))
-    } else if same(w, b"false") {
+    } else if same_bytes(w, b"false") {
         Ok(Expr::Truth(false))
-    } else if same(w, b"+infinity") {
+    } else if same_bytes(w, b"+infinity") {
         Ok(Expr::Num(u64::MAX))
     } else {
         Ok(Expr::Var(variable(names, at, w)?))

@@ -1,5 +1,6 @@
 //! The meaning of a declared or local name, and whether a variable or an expression is a Bool.
 ghost use Rattle.std.specs.Prelude.{◌≡◌, ◌≤◌, length, map, slice_get};
+ghost use Rattle.ccp_base.specs.Limits.{most_locals};
 ghost use Rattle.portus_core.specs.Programs.{term_of};
 ghost use Rattle.portus_core.specs.ValidPrograms.{declares_truth, is_bool_there};
 ghost use Rattle.scope_types.specs.declared.names.Local.{Local};
@@ -9,19 +10,19 @@ ghost use Rattle.scope_types.specs.Scope.{scope_of};
 
 use crate::declarations::Declarations;
 use crate::names::{Local, Names};
-use crate::words::{is_field_use, same};
-use ccp_base::{is_flag, primitive_named};
+use crate::words::is_field_use;
+use ccp_base::{is_flag, primitive_named, same_bytes};
 use portus_core::{Expr, Var};
 
 /// The number of the local that has this name.
 fn find_local(locals: &[Local], name: &[u8]) -> Option<u32>
-    requires { length locals.now ≤ 8 }
+    requires { length locals.now ≤ most_locals }
     ensures { result ≡ local_from 0 locals.now name.now }
 {
     let mut i = 0;
     let mut rest = locals;
     while let Some((local, later)) = rest.split_first() {
-        if same(local.name.as_slice(), name) {
+        if same_bytes(local.name.as_slice(), name) {
             return Some(i);
         }
         i += 1;

@@ -17,8 +17,7 @@ use crate::declaration::{Declared, parts};
 use crate::declarations::Declarations;
 use crate::fault::ScopeFault;
 use crate::names::Names;
-use crate::words::same;
-use ccp_base::{Place, Sequence};
+use ccp_base::{Place, Sequence, same_bytes};
 use portus_core::{Block, Program, Source, Tree};
 use std::alloc::{AllocError, Global};
 
@@ -44,7 +43,7 @@ fn def(declared: &mut Declared, tree: &Tree) -> Result<(), ScopeFault>
 {
     if let Tree::List(_, items) = tree {
         if let Cut::First(Tree::Word(_, w), rest) = cut_first(items.as_slice()) {
-            if same(w.as_slice(), b"def") {
+            if same_bytes(w.as_slice(), b"def") {
                 return parts(declared, rest);
             }
         }

@@ -3,7 +3,7 @@ ghost use Rattle.std.specs.Prelude.{◌≡◌};
 ghost use Rattle.portus_core.specs.Trees.{node_of};
 ghost use Rattle.portus_core.specs.Words.{variable_of};
 ghost use Rattle.scope_types.specs.CommandWalk.{named_target_walk, word_target_walk, target_walk};
-ghost use Rattle.scope_types.specs.CommandWalk.{known_walk, number_walk};
+ghost use Rattle.scope_types.specs.CommandWalk.{known_variable_walk, number_walk};
 ghost use Rattle.scope_types.specs.Scope.{scope_of};
 
 use crate::fault::ScopeFault;
@@ -64,8 +64,8 @@ pub(crate) fn target_of(names: &Names, tree: &Tree) -> Result<Target, ScopeFault
 }
 
 /// A target that has a meaning.
-pub(crate) fn known(target: Target) -> Result<Var, ScopeFault>
-    ensures { result ≡ known_walk target }
+pub(crate) fn known_variable(target: Target) -> Result<Var, ScopeFault>
+    ensures { result ≡ known_variable_walk target }
 {
     match target {
         Target::Known(_, var) => Ok(var),

@@ -1,27 +1,20 @@
 //! The words of the language: its variables and constants, and which words no program may declare.
-ghost use Rattle.std.specs.Prelude.{◌≡◌, bytes_eq};
+ghost use Rattle.std.specs.Prelude.{◌≡◌};
 ghost use Rattle.portus_core.specs.Words.{is_constant, variable_of, is_heading, is_reserved};
 ghost use Rattle.portus_core.specs.Words.{is_field_use, is_primitive_use};
 
-use ccp_base::operator_of;
+use ccp_base::{operator_of, same_bytes};
 use portus_core::{Var, is_name_shaped};
-
-/// Whether two texts are equal.
-pub(crate) fn same(a: &[u8], b: &[u8]) -> bool
-    ensures { result ≡ bytes_eq a.now b.now }
-{
-    a == b
-}
 
 /// The variable of the language that a word names.
 pub(crate) fn variable_of(w: &[u8]) -> Option<Var>
     ensures { result ≡ variable_of w.now }
 {
-    if same(w, b"Cwnd") {
+    if same_bytes(w, b"Cwnd") {
         Some(Var::Cwnd)
-    } else if same(w, b"Rate") {
+    } else if same_bytes(w, b"Rate") {
         Some(Var::Rate)
-    } else if same(w, b"Micros") {
+    } else if same_bytes(w, b"Micros") {
         Some(Var::Micros)
     } else {
         None
@@ -32,22 +25,22 @@ pub(crate) fn variable_of(w: &[u8]) -> Option<Var>
 fn is_heading(w: &[u8]) -> bool
     ensures { result ≡ is_heading w.now }
 {
-    same(w, b"def")
-        || same(w, b"when")
-        || same(w, b"Report")
-        || same(w, b"volatile")
-        || same(w, b"if")
-        || same(w, b"ewma")
-        || same(w, b"report")
-        || same(w, b"fallthrough")
-        || same(w, b"bind")
+    same_bytes(w, b"def")
+        || same_bytes(w, b"when")
+        || same_bytes(w, b"Report")
+        || same_bytes(w, b"volatile")
+        || same_bytes(w, b"if")
+        || same_bytes(w, b"ewma")
+        || same_bytes(w, b"report")
+        || same_bytes(w, b"fallthrough")
+        || same_bytes(w, b"bind")
 }
 
 /// Whether the word is a value.
 pub(crate) fn is_constant(w: &[u8]) -> bool
     ensures { result ≡ is_constant w.now }
 {
-    same(w, b"true") || same(w, b"false") || same(w, b"+infinity")
+    same_bytes(w, b"true") || same_bytes(w, b"false") || same_bytes(w, b"+infinity")
 }
 
 /// Whether no program may declare the word.

@@ -24,7 +24,7 @@ held_free false free words e = refl
 held_free true true words e = refl
 held_free true false words e = absurd (true≢false (sym e))
 
--- a number is below the next one where it is below this one, or is this one
+-- a number is below the next one if it is below this one, or is this one
 ltb-suc : (q n : ℕ) → q ≢ n → nat_lt q n ≡ nat_lt q (suc n)
 ltb-suc q n apart =
     elim (cases_lt q n) [
@@ -77,7 +77,7 @@ others_stay words_of now before after slots other same among =
     ∙ ap (held (nat_lt other slots) (is_among other before)) same
     ∙ sym (get-slots_out words_of before slots other)
 
--- another slot is in a longer list where it is in the shorter one
+-- another slot is in a longer list if it is in the shorter one
 among_cons : (slot other : ℕ) (free : List ℕ) → other ≢ slot → is_among other (slot ∷ free) ≡ is_among other free
 among_cons slot other free apart = ap (λ b. b || is_among other free) (ne_eqb other slot apart)
 
@@ -102,7 +102,7 @@ words_at_out words_of slots words first free slot out =
     let parts = out_parts words_of slots words first free slot out in
     out_words words_of (free_slots words_of first free) slots slot parts.0 parts.1
 
--- the first free slot is taken: the list goes on with the next one
+-- the first free slot is taken: the list continues with the next one
 module _ (words_of now : ℕ → List ℕ) (slots words first count : ℕ) (linked : IsLinked words_of slots words first (suc count)) (same : (other : ℕ) → other ≢ first → now other ≡ words_of other) where
   abbrev taken_next : ℕ
   taken_next = get_or (words_of first) 0 0
@@ -210,14 +210,14 @@ AreApart-range : (a n : ℕ) → AreApart (range_with_len a n)
 AreApart-range a zero = tt
 AreApart-range a (suc n) = (below_range a (a + 1) n (omega arith), AreApart-range (a + 1) n)
 
--- where each slot links to the next one, the list has them in order
+-- if each slot links to the next one, the list has them in order
 free_slots-range : (words_of : ℕ → List ℕ) (a n : ℕ) → ((slot : ℕ) → a ≤ slot → slot < a + n → get_or (words_of slot) 0 0 ≡ slot + 1) → free_slots words_of a n ≡ range_with_len a n
 free_slots-range words_of a zero links = refl
 free_slots-range words_of a (suc n) links =
     ap (λ k. a ∷ free_slots words_of k n) (links a (omega arith) (omega arith))
     ∙ ap (λ slots. a ∷ slots) (free_slots-range words_of (a + 1) n (λ slot low high. links slot (omega arith) (omega arith)))
 
--- where all slots are free, none is out
+-- if all slots are free, none is out
 slots_out_none : (words_of : ℕ → List ℕ) (free : List ℕ) (n : ℕ) → ((slot : ℕ) → slot < n → is_among slot free ≡ true) → slots_out words_of free n ≡ map.empty
 slots_out_none words_of free zero all = refl
 slots_out_none words_of free (suc n) all =

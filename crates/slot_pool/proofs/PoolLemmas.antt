@@ -31,7 +31,7 @@ sized_change : (old : PoolState) (words_now : ℕ → List ℕ) (slots words s w
 sized_change old words_now slots words s w first free slot held e f change =
     subst (λ n. ChangesSlot old (pool_of words_now n w first free) slot held) (sym e) (subst (λ n. ChangesSlot old (pool_of words_now slots n first free) slot held) (sym f) change)
 
--- what taking a slot needs: the list goes on with the next free slot, and the pool has zeros at the slot
+-- what taking a slot needs: the list continues with the next free slot, and the pool has zeros at the slot
 pub record TakesSlot (new : Region) (next free : ℕ) (before : PoolState) (slot : ℕ) : Type 0 where
   pub linked : Linked new next free
   pub was_free : words_at before slot ≡ None
@@ -115,7 +115,7 @@ give_step old new first free number slot before linked is out same change =
     (subst (λ b. GivesSlot new number (free + 1) b number) is
     (subst (λ n. GivesSlot new number n (state old first free) number) more (give_back old new first free number linked here change)))
 
--- what writing into a slot needs, where its words become what `f` makes of them: it has these words, and stays out
+-- what writing into a slot needs, if its words become what `f` makes of them: it has these words, and stays out
 pub record WritesSlot (new : Region) (first free : ℕ) (before : PoolState) (slot : ℕ) (f : List ℕ → List ℕ) : Type 0 where
   pub linked : Linked new first free
   pub changes : ChangesSlot before (state new first free) slot (option_map f (words_at before slot))

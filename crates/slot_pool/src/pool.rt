@@ -70,7 +70,7 @@ impl Pool {
         self.first_free = self.region.first_word(number) as usize;
         self.free -= 1;
         self.region.clear(number);
-        Ok(Slot::numbered(number))
+        Ok(Slot::with_number(number))
     }
 
     /// Gives a slot back. It must be out in this pool.

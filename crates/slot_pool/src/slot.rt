@@ -21,7 +21,7 @@ impl Model for Slot {
 
 impl Slot {
     /// The slot of this number, for the pool that hands it out.
-    pub(crate) fn numbered(number: usize) -> Slot
+    pub(crate) fn with_number(number: usize) -> Slot
         ensures { result ≡ number }
     {
         Slot { number }

@@ -1,4 +1,4 @@
--- The root lies from k on, in a stretch that is as long as the bits that are left can tell apart.
+-- The root lies from k on, in a stretch that is as long as the bits that are left can distinguish.
 use Rattle.std.proofs.Common.{◌+◌, ◌*◌, ◌^◌, ◌<◌, ◌≤◌}
 use Rattle.int_roots.proofs.cbrt.Given as goal
 

@@ -2,7 +2,7 @@ use Rattle.std.proofs.Common.{◌≡◌, ℕ, true, false, ◌&&◌, eqb, List, 
 use Rattle.std.specs.Str.{bytes_eq}
 use Rattle.ccp_base.proofs.primitive_names.is_word.Goals as goal
 
--- a list is a front and what follows it where its own front is that front, and what follows is the same
+-- a list is a front and what follows it if its own front is that front, and what follows is the same
 bytes_eq-append : (word front rest : List ℕ) → bytes_eq word (front ++ rest) ≡ (bytes_eq (take (length front) word) front && bytes_eq (drop (length front) word) rest)
 bytes_eq-append word [] rest = refl
 bytes_eq-append [] (y ∷ front) rest = refl

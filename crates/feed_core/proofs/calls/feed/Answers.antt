@@ -1,9 +1,8 @@
 use Rattle.std.proofs.Common.{ℕ, ◌+◌, ◌-◌, List, refl, sym, subst, arith}
 use Rattle.ccp_base.specs.Limits.{most_frame_bytes}
 use Rattle.ccp_base.specs.Outside.{IsAtEnd}
-use Rattle.feed_core.specs.FeedBytes.{IsFeeding}
 use Rattle.feed_core.specs.FeedLast.{IsLast}
-use Rattle.feed_core.specs.FeedTurns.{LacksMemory}
+use Rattle.feed_core.specs.FeedTurns.{IsFeeding, LacksMemory}
 use Rattle.feed_core.specs.Rests.{between}
 use Rattle.feed_core.proofs.RestLemmas.{between-few}
 use Rattle.feed_core.proofs.FeedSteps.{feeds-frame, feeds-part, cut-part, feeds-same, feeds-quiet, feeds-piece}

@@ -1,6 +1,6 @@
 use Rattle.std.proofs.Common.{◌+◌, ◌-◌, ◌≤◌, length}
 use Rattle.ccp_base.specs.Limits.{most_input_bytes}
-use Rattle.feed_core.specs.FeedBytes.{IsFeeding}
+use Rattle.feed_core.specs.FeedTurns.{IsFeeding}
 use Rattle.feed_core.specs.Rests.{between}
 use Rattle.feed_core.proofs.calls.feed.Given as goal
 

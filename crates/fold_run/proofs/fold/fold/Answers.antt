@@ -2,7 +2,7 @@ use Rattle.std.proofs.Common.{rules, ◌≡◌, ◌∙◌, ◌∷◌, ◌++◌, 
 use Rattle.portus_core.specs.ProgramForm.{form_of}
 use Rattle.portus_core.specs.Epoch.{by_source}
 use Rattle.portus_core.specs.Reports.{reports}
-use Rattle.fold_run.specs.Fold.{fold_epoch, with_room, fold_reports}
+use Rattle.fold_run.specs.Fold.{fold_reporter, with_room, fold_reports}
 use Rattle.fold_run.specs.Folding.{folding_track}
 use Rattle.fold_run.proofs.FoldSteps.{next-item, items-after, reports-step}
 use Rattle.fold_run.proofs.fold.fold.Goals as goal
@@ -20,10 +20,10 @@ loop-ack-preserved g c =
       track = search rules;
       running = search rules;
       reports =
-          reports-step (by_source form) fold_epoch (with_room ack) (map with_room rest) (folding_track c.loop-ack.folding) (folding_track c.ack.new.self)
+          reports-step (by_source form) fold_reporter (with_room ack) (map with_room rest) (folding_track c.loop-ack.folding) (folding_track c.ack.new.self)
           c.loop-ack.folding.reports c.ack.new.self.reports (fold_reports form acks)
           c.in_ok-ack.ensures.reports c.in_ok-ack.ensures.track
-          (ap (λ left. c.loop-ack.folding.reports ++ reports (by_source form) fold_epoch (map with_room left) (folding_track c.loop-ack.folding)) left ∙ so_far.reports);
+          (ap (λ left. c.loop-ack.folding.reports ++ reports (by_source form) fold_reporter (map with_room left) (folding_track c.loop-ack.folding)) left ∙ so_far.reports);
       fault = search rules;
       notice = c.in_ok-ack.ensures.notice acks (next-item c.loop-ack.folding.count acks ack rest suffix) so_far.notice;
       fold = c.in_ok-ack.ensures.fold;

@@ -3,8 +3,8 @@ use Rattle.portus_core.specs.Programs.{term_of}
 use Rattle.reg_compiler.specs.Counts.{term_count}
 use Rattle.reg_compiler.proofs.expression.+expression.Given as goal
 
-abbrev pub decreases-into : goal.decreases-into
-decreases-into l = 3 * term_count (term_of l.expr.now)
+abbrev pub decreases-value_lines : goal.decreases-value_lines
+decreases-value_lines l = 3 * term_count (term_of l.expr.now)
 
 abbrev pub decreases-operand : goal.decreases-operand
 decreases-operand l = 3 * term_count (term_of l.expr.now) + 1

@@ -4,4 +4,4 @@ use Rattle.reply_frames.proofs.bodies.ack.Goals as goal
 
 pub returns : goal.returns
 unfolding ack_body_at
-returns c = rw (c.in_ok-rest.ensures.read, c.in_ok-was_timeout.ensures.read, c.acknowledged.ensures) refl
+returns c = rw (c.in_ok-rest.ensures.read, c.in_ok-was_timeout.ensures.read, c.ack_from_plain.ensures) refl

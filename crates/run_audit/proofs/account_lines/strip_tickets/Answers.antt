@@ -1,5 +1,5 @@
 use Rattle.std.proofs.Common.{rules, ◌≡◌, ◌∷◌, Some, None, sym, ◌∙◌}
-use Rattle.flow_core.specs.LiveText.{sources_of}
+use Rattle.reg_compiler.specs.Sources.{sources_of}
 use Rattle.run_audit.specs.Fronts.{text_after}
 use Rattle.flow_core.specs.LiveText.{ticket_text}
 use Rattle.run_audit.proofs.LineSteps.{ticket_there, ticket_missing}

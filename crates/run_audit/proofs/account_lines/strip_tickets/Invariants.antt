@@ -1,6 +1,6 @@
 use Rattle.std.proofs.Common.{◌≡◌, ◌+◌, ◌≤◌, length}
 use Rattle.flow_core.specs.LiveText.{ticket_lines}
-use Rattle.flow_core.specs.LiveText.{sources_of}
+use Rattle.reg_compiler.specs.Sources.{sources_of}
 use Rattle.run_audit.specs.Fronts.{text_after}
 use Rattle.run_audit.proofs.account_lines.strip_tickets.Given as goal
 

@@ -1,6 +1,6 @@
 use Rattle.std.proofs.Common.{rules, ◌≡◌, ℕ, Option, Some, None, List, IfOk, subst, refl}
 use Rattle.flow_core.specs.LiveText.{epoch_lines}
-use Rattle.flow_core.specs.LiveText.{sources_of}
+use Rattle.reg_compiler.specs.Sources.{sources_of}
 use Rattle.source_flow.specs.SourceAccounts.{account_in}
 use Rattle.run_audit.specs.Fronts.{text_after, bytes_found}
 use Rattle.run_audit.specs.PartLeft.{text_from_faults}

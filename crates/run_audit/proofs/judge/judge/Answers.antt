@@ -1,5 +1,5 @@
 use Rattle.std.proofs.Common.{rules, ◌≡◌, ◌∷◌, Some, sym, ◌∙◌}
-use Rattle.flow_core.specs.LiveText.{sources_of}
+use Rattle.reg_compiler.specs.Sources.{sources_of}
 use Rattle.source_flow.specs.Sourced.{IsSourced}
 use Rattle.run_audit.specs.PartLeft.{part_left}
 use Rattle.run_audit.proofs.JudgeSteps.{all_first, all_later, judged_there}

@@ -1,7 +1,7 @@
 use Rattle.std.proofs.Common.{◌≡◌, ◌+◌, ◌≤◌, length}
 use Rattle.std.specs.List.{All}
 use Rattle.ccp_base.specs.Limits.{most_flows}
-use Rattle.flow_core.specs.LiveText.{sources_of}
+use Rattle.reg_compiler.specs.Sources.{sources_of}
 use Rattle.source_flow.specs.Sourced.{IsSourced}
 use Rattle.run_audit.specs.PartLeft.{judged}
 use Rattle.run_audit.proofs.judge.judge.Given as goal

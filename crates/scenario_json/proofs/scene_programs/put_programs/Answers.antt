@@ -3,7 +3,8 @@ use Rattle.std.proofs.lemmas.List.{length-append}
 use Rattle.serde_json.specs.View.{view, members_view}
 use Rattle.serde_json.specs.Events.{members_len}
 use Rattle.portus_core.specs.ProgramForm.{form_of}
-use Rattle.scenario_json.specs.ScenePrograms.{named_program, programs_from, names_of, forms_of}
+use Rattle.reg_compiler.specs.Sources.{sources_of}
+use Rattle.scenario_json.specs.ScenePrograms.{named_program, programs_from, names_of}
 use Rattle.scene_members.proofs.TableLemmas.{Entry}
 use Rattle.reg_compiler.specs.declared.built.Built.{Built}
 use Rattle.scenario_json.specs.Cases.{AreNumberedFrom}
@@ -26,9 +27,9 @@ loop-name-preserved c =
     let built_count : length c.push-in-loop-name.new.self ≡ length l.builts + 1 = ap length builts ∙ length-append l.builts ((length l.builts, built) ∷ []) in
     let is : named_program k (view e.1) ≡ Ok (form_of built.program) = search rules in
     let fewer : members_len (members_view l.name-iterator) ≡ suc (members_len (members_view left)) = ap (λ es. members_len (members_view es)) step in (
-      ap (λ bs. programs_from (forms_of bs) (members_view left)) builts
+      ap (λ bs. programs_from (sources_of bs) (members_view left)) builts
           ∙ sym (forms_pushed l.builts built k (view e.1) (members_view left) is)
-          ∙ sym (ap (λ es. programs_from (forms_of l.builts) (members_view es)) step) ∙ l.invariant.0,
+          ∙ sym (ap (λ es. programs_from (sources_of l.builts) (members_view es)) step) ∙ l.invariant.0,
       ap (λ ns. ns ++ names_of (members_view left)) names_at ∙ append_assoc l.names (k ∷ []) (names_of (members_view left))
           ∙ sym (ap (λ es. l.names ++ names_of (members_view es)) step) ∙ l.invariant.1,
       subst (λ (bs : List (ℕ × Built)). AreNumberedFrom 0 bs) (sym builts) (numbered_pushed 0 l.builts (length l.builts, built) l.invariant.2 (omega arith)),

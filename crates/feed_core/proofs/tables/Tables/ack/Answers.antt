@@ -12,7 +12,7 @@ returns-in_default c =
     record {
       messages = refl;
       handled = ack-absent feed.flows.items (codes_in feed.programs.items) feed.messages c.args.n c.args.version c.index_mut.result.now lt c.index_mut.ensures.value
-          c.args.ack.now c.index_mut.result.now c.refused-in_default.result none refl c.refused-in_default.ensures;
+          c.args.ack.now c.index_mut.result.now c.refusal-in_default.result none refl c.refusal-in_default.ensures;
     }
 
 pub returns-in_default-code_of : goal.returns-in_default-code_of

@@ -14,7 +14,7 @@ returns-in_default c =
     record {
       messages = refl;
       handled = change-absent feed.flows.items (codes_in feed.programs.items) feed.messages c.args.n c.args.version c.index_mut.result.now lt c.index_mut.ensures.value
-          c.args.program c.args.values.now c.index_mut.result.now c.refused-in_default.result none refl c.refused-in_default.ensures;
+          c.args.program c.args.values.now c.index_mut.result.now c.refusal-in_default.result none refl c.refusal-in_default.ensures;
     }
 
 pub returns-then-program-ge-PROGRAMS : goal.returns-then-program-ge-PROGRAMS
@@ -25,7 +25,7 @@ returns-then-program-ge-PROGRAMS c =
     record {
       messages = refl;
       handled = change-above feed.flows.items (codes_in feed.programs.items) feed.messages c.args.n c.args.version c.index_mut.result.now lt c.index_mut.ensures.value
-          c.args.program c.args.values.now c.in-Some.flow c.in-Some.is c.refused-then-program-ge-PROGRAMS.result above c.refused-then-program-ge-PROGRAMS.ensures;
+          c.args.program c.args.values.now c.in-Some.flow c.in-Some.is c.refusal-then-program-ge-PROGRAMS.result above c.refusal-then-program-ge-PROGRAMS.ensures;
     }
 
 pub returns-in_default-program_at : goal.returns-in_default-program_at
@@ -39,7 +39,7 @@ returns-in_default-program_at c =
     record {
       messages = refl;
       handled = change-unknown feed.flows.items (codes_in feed.programs.items) feed.messages c.args.n c.args.version c.index_mut.result.now lt c.index_mut.ensures.value
-          c.args.program c.args.values.now c.in-Some.flow c.in-Some.is below c.refused-in_default-program_at.result here c.refused-in_default-program_at.ensures;
+          c.args.program c.args.values.now c.in-Some.flow c.in-Some.is below c.refusal-in_default-program_at.result here c.refusal-in_default-program_at.ensures;
     }
 
 pub returns-then-is_too_wide : goal.returns-then-is_too_wide
@@ -53,7 +53,7 @@ returns-then-is_too_wide c =
     record {
       messages = refl;
       handled = change-wide feed.flows.items (codes_in feed.programs.items) feed.messages c.args.n c.args.version c.index_mut.result.now lt c.index_mut.ensures.value
-          c.args.program c.args.values.now c.in-Some.flow c.in-Some.is below code here c.refused-then-is_too_wide.result (sym c.is_too_wide.ensures ∙ c.if-is_too_wide.true) c.refused-then-is_too_wide.ensures;
+          c.args.program c.args.values.now c.in-Some.flow c.in-Some.is below code here c.refusal-then-is_too_wide.result (sym c.is_too_wide.ensures ∙ c.if-is_too_wide.true) c.refusal-then-is_too_wide.ensures;
     }
 
 pub returns-in-Ok : goal.returns-in-Ok
@@ -81,5 +81,5 @@ returns-in-Err c =
     record {
       messages = refl;
       handled = change-bad feed.flows.items (codes_in feed.programs.items) feed.messages c.args.n c.args.version c.index_mut.result.now lt c.index_mut.ensures.value
-          c.args.program c.args.values.now c.in-Some.flow c.in-Some.is below code here c.change.new.self c.in-Err.field-0.0 c.refused-in-Err.result (sym c.is_too_wide.ensures ∙ c.if-is_too_wide.false) (search rules) c.in-Err.ensures.unchanged c.refused-in-Err.ensures;
+          c.args.program c.args.values.now c.in-Some.flow c.in-Some.is below code here c.change.new.self c.in-Err.field-0.0 c.refusal-in-Err.result (sym c.is_too_wide.ensures ∙ c.if-is_too_wide.false) (search rules) c.in-Err.ensures.unchanged c.refusal-in-Err.ensures;
     }

@@ -17,7 +17,7 @@ returns-in-Err c =
     ap (λ ps. there (codes_in ps) c.args.program) (sym c.as_slice.ensures.value) ∙ sym c.program_at.ensures ∙ ap (option_map _) none in
     record {
       handled = install-rejected feed.flows.items (codes_in feed.programs.items) feed.messages c.args.n c.args.version c.args.program c.args.code below free
-          (c.in-Err.rejected.rule, c.in-Err.rejected.index) c.refused-in-Err.result c.in-Err.ensures.rejected c.refused-in-Err.ensures;
+          (c.in-Err.rejected.rule, c.in-Err.rejected.index) c.refusal-in-Err.result c.in-Err.ensures.rejected c.refusal-in-Err.ensures;
       messages = refl;
     }
 

@@ -12,7 +12,7 @@ returns-in_default c =
     record {
       messages = refl;
       handled = update-absent feed.flows.items (codes_in feed.programs.items) feed.messages c.args.n c.args.version c.index_mut.result.now lt c.index_mut.ensures.value
-          c.args.values.now c.index_mut.result.now c.refused-in_default.result none refl c.refused-in_default.ensures;
+          c.args.values.now c.index_mut.result.now c.refusal-in_default.result none refl c.refusal-in_default.ensures;
     }
 
 pub returns-in_default-code_of : goal.returns-in_default-code_of
@@ -25,7 +25,7 @@ returns-in_default-code_of c =
     record {
       messages = refl;
       handled = update-idle feed.flows.items (codes_in feed.programs.items) feed.messages c.args.n c.args.version c.index_mut.result.now lt c.index_mut.ensures.value
-          c.args.values.now c.in-Some.flow c.in-Some.is c.refused-in_default-code_of.result runs c.refused-in_default-code_of.ensures;
+          c.args.values.now c.in-Some.flow c.in-Some.is c.refusal-in_default-code_of.result runs c.refusal-in_default-code_of.ensures;
     }
 
 pub returns-in-Ok : goal.returns-in-Ok
@@ -53,5 +53,5 @@ returns-in-Err c =
     record {
       messages = refl;
       handled = update-bad feed.flows.items (codes_in feed.programs.items) feed.messages c.args.n c.args.version c.index_mut.result.now lt c.index_mut.ensures.value
-          c.args.values.now c.in-Some.flow c.in-Some.is epoch code c.update.new.self c.in-Err.field-0.0 c.refused-in-Err.result runs (search rules) c.in-Err.ensures.unchanged c.refused-in-Err.ensures;
+          c.args.values.now c.in-Some.flow c.in-Some.is epoch code c.update.new.self c.in-Err.field-0.0 c.refusal-in-Err.result runs (search rules) c.in-Err.ensures.unchanged c.refusal-in-Err.ensures;
     }

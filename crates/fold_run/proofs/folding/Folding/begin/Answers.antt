@@ -2,7 +2,7 @@ use Rattle.std.proofs.Common.{◌≡◌, ◌∙◌, ap, ap₂}
 use Rattle.portus_core.specs.ProgramForm.{form_of}
 use Rattle.reg_code.specs.CodeStart.{started}
 use Rattle.fold_machine.specs.MachineState.{MachineState}
-use Rattle.fold_run.specs.Folding.{env_of}
+use Rattle.reg_compiler.specs.Simulation.{env_of}
 use Rattle.fold_run.proofs.MachineMeans.{start_shape}
 use Rattle.fold_run.proofs.folding.Folding.begin.Goals as goal
 

@@ -16,8 +16,8 @@ overflow_add-arrival c =
     let same = ap (chance_time case.trace) c.advance_to-line.ensures.next in
     omega (arith, c.advance_to-line.ensures.line.next.at, same, case.delay_within, now_soon case c.requires.kept.valid (standing_in case.trace c.args.self.now) c.requires.kept.timely, c.requires.sent, c.requires.calls)
 
-pub put-requires-clause-room : goal.put-requires-clause-room
-put-requires-clause-room c =
+pub put_in_flight-requires-clause-room : goal.put_in_flight-requires-clause-room
+put_in_flight-requires-clause-room c =
     let old = c.args.self.now in
     omega (arith, length_le_count old.flight.items old.lost, c.requires.kept.count, c.requires.room)
 
@@ -32,8 +32,8 @@ returns-clause-standing c =
     let case = c.args.case.now in
     let old = c.args.self.now in
     let waits = c.advance_to-line.ensures.waiting ∙ waiting_is case.trace c.requires.kept.valid old.time old.line c.requires.kept.line c.requires.moved in
-    served_standing case old c.advance_to-line.result c.marks.result c.put.new.flight.items c.take_chance-self.result.next.chance
-    c.advance_to-line.ensures.line.next.at c.advance_to-line.ensures.next waits (c.marks.ensures ∙ ap (is_marked case.mark) c.from.ensures) c.put.ensures.items c.take_chance-self.ensures.next
+    served_standing case old c.advance_to-line.result c.marks.result c.put_in_flight.new.flight.items c.take_chance-self.result.next.chance
+    c.advance_to-line.ensures.line.next.at c.advance_to-line.ensures.next waits (c.marks.ensures ∙ ap (is_marked case.mark) c.from.ensures) c.put_in_flight.ensures.items c.take_chance-self.ensures.next
 
 pub returns-clause-kept : goal.returns-clause-kept
 returns-clause-kept c =
@@ -44,17 +44,17 @@ returns-clause-kept c =
     let standing = standing_in case.trace old in
     let last : Arrival = record { lost = old.lost; sent_at = old.time; at = line.next.at + case.delay_us; marked = c.marks.result } in
     let waits = c.advance_to-line.ensures.waiting ∙ waiting_is case.trace kept.valid old.time old.line kept.line c.requires.moved in
-    let same = served_standing case old line c.marks.result c.put.new.flight.items c.take_chance-self.result.next.chance
-    c.advance_to-line.ensures.line.next.at c.advance_to-line.ensures.next waits (c.marks.ensures ∙ ap (is_marked case.mark) c.from.ensures) c.put.ensures.items c.take_chance-self.ensures.next in
+    let same = served_standing case old line c.marks.result c.put_in_flight.new.flight.items c.take_chance-self.result.next.chance
+    c.advance_to-line.ensures.line.next.at c.advance_to-line.ensures.next waits (c.marks.ensures ∙ ap (is_marked case.mark) c.from.ensures) c.put_in_flight.ensures.items c.take_chance-self.ensures.next in
     let limit = c.take_chance-self.result.next.at + case.delay_us in
     let after = ArriveInOrder-push old.time (old.line.next.at + case.delay_us) limit old.flight.items last kept.order
     (omega (arith, c.advance_to-line.ensures.late)) (omega (arith, c.advance_to-line.ensures.order)) (omega (arith, c.take_chance-self.ensures.order)) in
     record {
       valid = kept.valid;
-      capacity = c.put.ensures.capacity;
+      capacity = c.put_in_flight.ensures.capacity;
       line = c.take_chance-self.ensures.line;
-      order = subst (λ (xs : List Arrival). ArriveInOrder old.time limit xs) (sym c.put.ensures.items) after;
-      count = omega (arith, kept.count, ap (λ xs. flight_count xs 0) c.put.ensures.items, count-push old.flight.items last old.lost refl);
+      order = subst (λ (xs : List Arrival). ArriveInOrder old.time limit xs) (sym c.put_in_flight.ensures.items) after;
+      count = omega (arith, kept.count, ap (λ xs. flight_count xs 0) c.put_in_flight.ensures.items, count-push old.flight.items last old.lost refl);
       few = c.requires.room;
       passed = λ i below. omega (arith, kept.passed i below);
       timely = subst (λ (s : Standing). IsTimely case s) (sym same) (is_timely-served case c.requires.kept.valid standing kept.timely (is_marked case.mark (waiting_now case standing)));

@@ -3,10 +3,10 @@ use Rattle.slot_pool.proofs.PoolLemmas.{TakesSlot, take_step}
 use Rattle.slot_pool.proofs.pool.Pool.take.Goals as goal
 
 -- the first free slot is taken
-step : (c : goal.After-numbered) → TakesSlot c.clear.new.self c.first_word.result (c.self.inside.free - 1) c.args.self.now c.numbered.result
+step : (c : goal.After-with_number) → TakesSlot c.clear.new.self c.first_word.result (c.self.inside.free - 1) c.args.self.now c.with_number.result
 step c =
-    take_step c.self.inside.region c.clear.new.self c.self.inside.first_free c.self.inside.free c.first_word.result c.numbered.result c.args.self.now
-    c.if-self-eq0.false c.self.invariant c.clear.ensures c.self.view_is c.first_word.ensures c.numbered.ensures
+    take_step c.self.inside.region c.clear.new.self c.self.inside.first_free c.self.inside.free c.first_word.result c.with_number.result c.args.self.now
+    c.if-self-eq0.false c.self.invariant c.clear.ensures c.self.view_is c.first_word.ensures c.with_number.ensures
 
 pub invariant_of-self : goal.invariant_of-self
 invariant_of-self c = (step c).linked

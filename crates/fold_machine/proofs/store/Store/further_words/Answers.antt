@@ -2,7 +2,7 @@ use Rattle.std.proofs.Common.{sym, ap, ◌∙◌, subst}
 use Rattle.slot_pool.specs.Pool.{words_at, IsOut}
 use Rattle.fold_machine.specs.Store.{StoreState}
 use Rattle.fold_machine.proofs.StoreLemmas.{further_apart, further_out, words_at-further}
-use Rattle.fold_machine.proofs.store.Store.further.Goals as goal
+use Rattle.fold_machine.proofs.store.Store.further_words.Goals as goal
 
 pub words-requires : goal.words-requires
 words-requires c =

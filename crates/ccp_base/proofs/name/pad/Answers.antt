@@ -1,6 +1,6 @@
 use Rattle.std.proofs.Common.{◌++◌, length, ap, ◌∙◌}
 use Rattle.std.proofs.lemmas.List.{drop-replicate}
-use Rattle.ccp_base.proofs.name.padded.Goals as goal
+use Rattle.ccp_base.proofs.name.pad.Goals as goal
 
 pub returns : goal.returns
 returns c =

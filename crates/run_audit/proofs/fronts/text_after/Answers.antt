@@ -4,7 +4,7 @@ use Rattle.std.proofs.lemmas.Bool.Decides.{Decides-eqb}
 use Rattle.std.proofs.lemmas.Slice.Eq.{strip_prefix_is}
 use Rattle.run_audit.specs.Fronts.{text_after, bytes_found}
 use Rattle.run_audit.proofs.FrontLemmas.{after-front, after-is}
-use Rattle.run_audit.proofs.fronts.after.Goals as goal
+use Rattle.run_audit.proofs.fronts.text_after.Goals as goal
 
 found : (text front : List ℕ) (r : Option (Bor (List ℕ))) → MatchOption r ((rest : List ℕ) → text ≢ front ++ rest) (λ x. text ≡ front ++ x.now) → bytes_found r ≡ text_after front text
 found text front None none = go (text_after front text) refl

@@ -1,6 +1,6 @@
 use Rattle.portus_core.specs.ProgramForm.{form_of}
 use Rattle.fold_run.proofs.MachineMeans.{env_after, told}
-use Rattle.fold_run.proofs.folding.meant.Goals as goal
+use Rattle.fold_run.proofs.folding.machine_answer.Goals as goal
 
 pub returns-clause-mean : goal.returns-clause-mean
 returns-clause-mean g c =

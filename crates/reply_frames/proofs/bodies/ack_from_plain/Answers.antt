@@ -2,7 +2,7 @@ use Rattle.std.proofs.Common.{ap, ◌∙◌}
 use Rattle.ccp_base.specs.Acknowledgement.{ack_of}
 use Rattle.reply_frames.specs.Bodies.{ack_body}
 use Rattle.reply_frames.proofs.BodyLaws.{ack-again}
-use Rattle.reply_frames.proofs.bodies.acknowledged.Goals as goal
+use Rattle.reply_frames.proofs.bodies.ack_from_plain.Goals as goal
 
 pub returns : goal.returns
 returns c =
