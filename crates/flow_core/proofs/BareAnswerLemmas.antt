@@ -22,6 +22,7 @@ use Rattle.flow_core.specs.declared.bare.Issued.{Issued}
 use Rattle.flow_core.specs.Readings.{env_of, code_at, over_codes}
 use Rattle.flow_core.specs.LiveText.{reports_told}
 use Rattle.flow_core.specs.Outbox.{Lies}
+use Rattle.flow_core.specs.RunningEpochs.{next_epoch}
 use Rattle.flow_core.specs.States.{some_count}
 use Rattle.flow_core.specs.Summaries.{Summary, step_reply, step_out, step_answer}
 use Rattle.flow_core.specs.Bares.{reports_in, summary_by, told_ticket, InRange, IsBare, closed_parts, ObeysBare}
@@ -44,7 +45,7 @@ summary-obeyed s new agent (Change program cwnd cap_value) obeys =
     ap summary_by obeys.frame
     ∙ (λ i. record (summary_by s) {
       program = program;
-      epoch = s.epoch + 1;
+      epoch = s.epoch.number + 1;
       track = record { env = env i; is_stopped = (obeys.machine i).is_stopped; first = s.acks; count = s.acks };
       waiting = reports_in (obeys.machine i).further s.outbox.slots;
       untold = None;
@@ -116,7 +117,7 @@ module _ (s : BareParts) (parts : IsBare s) (issued : Issued) (out : s.out ≡ S
       let literal : BareParts = record (closed s) { machine = record s.machine { kept = with_values values s.machine.kept } } in
       let range = range-after in
       let whole : IsBare literal = record {
-        fits = subst (λ (p : BareParts). Fits p.machine (code_at s.case s.program)) obeys.frame obeys.fits;
+        fits = subst (λ (p : BareParts). Fits p.machine (code_at s.case s.epoch.program)) obeys.frame obeys.fits;
         words = parts.words;
         free = parts.free;
         size = parts.size;
@@ -126,7 +127,7 @@ module _ (s : BareParts) (parts : IsBare s) (issued : Issued) (out : s.out ≡ S
       subst IsBare (sym (ap closed obeys.frame)) whole
   is-closed obeyed (Change program cwnd cap_value) values obeys =
       let further : obeyed.machine.further ≡ s.machine.further = ap (λ (m : MachineState). m.further) obeys.machine in
-      let literal : BareParts = record (closed s) { machine = obeyed.machine; program = program; epoch = s.epoch + 1; first = s.acks; outbox = record s.outbox { untold = None } } in
+      let literal : BareParts = record (closed s) { machine = obeyed.machine; epoch = next_epoch program s.acks s.epoch; outbox = record s.outbox { untold = None } } in
       let range = range-after in
       let epochs = parts.range.epochs in
       let tickets = range.tickets in

@@ -23,6 +23,8 @@ use Rattle.flow_core.specs.declared.bare.BareParts.{BareParts}
 use Rattle.flow_core.specs.Outbox.{OutboxState, report_words, ReportFits, AreStored, Lies, next_told, notice_left}
 use Rattle.flow_core.specs.Readings.{Flow, env_of, code_at, by_code, over_codes}
 use Rattle.flow_core.specs.ReportWords.{narrow, report_in}
+use Rattle.flow_core.specs.declared.running_epoch.RunningEpoch.{RunningEpoch}
+use Rattle.flow_core.specs.RunningEpochs.{report_at, reported_epoch}
 use Rattle.flow_core.specs.States.{outcome_by, some_count}
 use Rattle.flow_core.specs.World.{reporter}
 use Rattle.flow_core.specs.Summaries.{Summary, step_outcome, outcome_at, step_ack, next_telling, with_told, step_take, can_tell}
@@ -156,7 +158,7 @@ module _ (s : BareParts) (machine : MachineState) (outbox : OutboxState) (told :
       → outbox.size ≡ s.outbox.size
       → IsBare taken
   is-taken parts none some words free size = record {
-    fits = subst (λ (m : MachineState). Fits m (code_at s.case s.program)) (sym framed) (record { started = parts.fits.started; kept = parts.fits.kept });
+    fits = subst (λ (m : MachineState). Fits m (code_at s.case s.epoch.program)) (sym framed) (record { started = parts.fits.started; kept = parts.fits.kept });
     words = words;
     free = free ∙ parts.free;
     size = size ∙ parts.size;
@@ -218,14 +220,14 @@ range-met case flow ack (failed fault) env s left range =
     range-more case s (step_outcome flow ack (failed fault, env) s) refl left (omega (arith, length-append s.waiting [])) (omega arith) (omega arith) range
 
 -- a report was put at the outbox's end
-module _ (s : BareParts) (ack : Ack) (machine : MachineState) (outbox : OutboxState) (report : Report) (first : ℕ)
+module _ (s : BareParts) (ack : Ack) (machine : MachineState) (outbox : OutboxState) (report : Report) (epoch : RunningEpoch)
     (framed : machine ≡ record s.machine { further = machine.further })
     (lies : Lies machine.further outbox.slots (reports_in s.machine.further s.outbox.slots ++ report ∷ []))
     (untold : outbox.untold ≡ s.outbox.untold)
-    (is_report : report ≡ report_of (reporter s.case.flow s.program s.epoch) (summary_by s).track ack (summary_by s).track.env s.machine.report)
-    (is_first : first ≡ s.acks + 1) where
+    (is_report : report ≡ report_at s.epoch s.case.flow s.acks ack s.machine.kept.cwnd s.machine.kept.rate s.machine.report)
+    (is_epoch : epoch ≡ reported_epoch s.acks s.epoch) where
   abbrev pub put : BareParts
-  put = record s { machine = machine; outbox = outbox; first = first }
+  put = record s { machine = machine; outbox = outbox; epoch = epoch }
 
   waiting-more : reports_in machine.further outbox.slots ≡ reports_in s.machine.further s.outbox.slots ++ report ∷ []
   waiting-more = reports-stored machine.further outbox.slots (reports_in s.machine.further s.outbox.slots ++ report ∷ []) lies.stored
@@ -235,7 +237,7 @@ module _ (s : BareParts) (ack : Ack) (machine : MachineState) (outbox : OutboxSt
       → outbox.size ≡ s.outbox.size
       → NotesBare s put ack (reported s.machine.report)
   noted-report words free size = record {
-    frame = refl;
+    frame = (λ i. record put { epoch = is_epoch i }) ∙ (λ i. record put { epoch = record s.epoch { first = (sym is_epoch i).first } });
     machine = framed;
     words = words;
     free = free;
@@ -243,7 +245,9 @@ module _ (s : BareParts) (ack : Ack) (machine : MachineState) (outbox : OutboxSt
     lies = subst (λ (rs : List Report). Lies machine.further outbox.slots rs) (sym waiting-more) lies;
     step_note =
         λ i. record (summary_by s) {
-          track = record { env = env_of (framed i).kept; is_stopped = (framed i).is_stopped; first = is_first i; count = s.acks };
+          program = (is_epoch i).program;
+          epoch = (is_epoch i).number;
+          track = record { env = env_of (framed i).kept; is_stopped = (framed i).is_stopped; first = (is_epoch i).first; count = s.acks };
           waiting = (waiting-more ∙ ap (λ (r : Report). reports_in s.machine.further s.outbox.slots ++ r ∷ []) is_report) i;
           untold = untold i;
         };
@@ -257,7 +261,7 @@ module _ (s : BareParts) (parts : IsBare s) (ack : Ack) where
   room-kept : nat_lt (length s.outbox.slots) s.outbox.size ≡ nat_lt (length kept.waiting) s.case.slots
   room-kept = λ i. nat_lt (sym (length-in s.machine.further s.outbox.slots) i) (parts.size i)
 
-  module _ (code : Code) (room : Bool) (is_code : code ≡ code_at s.case s.program) (is_room : room ≡ nat_lt (length s.outbox.slots) s.outbox.size) where
+  module _ (code : Code) (room : Bool) (is_code : code ≡ code_at s.case s.epoch.program) (is_room : room ≡ nat_lt (length s.outbox.slots) s.outbox.size) where
     pub met-kept : heard_on code s.machine ack room ≡ outcome_at (over_codes s.case) ack kept
     met-kept = λ i. heard (by_code (is_code i)) s.machine.is_stopped (env_of s.machine.kept) ack ((is_room ∙ room-kept) i)
 
@@ -285,17 +289,17 @@ module _ (s : BareParts) (parts : IsBare s) (ack : Ack) where
         ∙ sym (put-parts (over_codes s.case) ack outcome (env_of machine.kept) kept)
         ∙ ap (λ (m : Outcome (FaultKind × ℕ) × Env). step_outcome (over_codes s.case) ack m kept) (sym met)
 
-    pub is-heard : s.acks < s.case.acks → Fits machine (code_at s.case s.program) → IsBare heard-parts
+    pub is-heard : s.acks < s.case.acks → Fits machine (code_at s.case s.epoch.program) → IsBare heard-parts
     is-heard left fits =
         let whole : InRange s.case (step_ack (over_codes s.case) ack kept) =
         subst (λ (m : Outcome (FaultKind × ℕ) × Env). InRange s.case (step_outcome (over_codes s.case) ack m kept)) (sym met)
         (range-met s.case (over_codes s.case) ack outcome (env_of machine.kept) kept left parts.range) in
         let case_same : put'.case ≡ s.case = ap (λ (p : BareParts). p.case) down.frame in
-        let program_same : put'.program ≡ s.program = ap (λ (p : BareParts). p.program) down.frame in
+        let program_same : put'.epoch.program ≡ s.epoch.program = ap (λ (p : BareParts). p.epoch.program) down.frame in
         record {
           fits =
               subst (λ (code : Code). Fits put'.machine code) (λ i. code_at (sym case_same i) (sym program_same i))
-              (subst (λ (m : MachineState). Fits m (code_at s.case s.program)) (sym down.machine) (record { started = fits.started; kept = fits.kept }));
+              (subst (λ (m : MachineState). Fits m (code_at s.case s.epoch.program)) (sym down.machine) (record { started = fits.started; kept = fits.kept }));
           words = down.words;
           free = down.free ∙ ap (λ pool. free_of pool + length s.outbox.slots) further ∙ parts.free ∙ ap (λ (case : Case). case.slots) (sym case_same);
           size = down.size ∙ parts.size ∙ ap (λ (case : Case). case.slots) (sym case_same);

@@ -23,9 +23,7 @@ module _ (case : Case) (made : First) (is : IsFirst case made) where
   opened = record {
     case = case;
     machine = made.machine;
-    program = made.program;
-    epoch = 0;
-    first = 0;
+    epoch = made.epoch;
     acks = 0;
     time = 0;
     outbox = made.outbox;
@@ -41,8 +39,8 @@ module _ (case : Case) (made : First) (is : IsFirst case made) where
   env-open =
       let values = values_of case.agent (opening_change case.agent) in
       ap (λ (m : MachineState). env_of m.kept) is.machine
-      ∙ values-alike values (declared_kept (code_at case made.program) 0 0 0)
-      ∙ (λ i. epoch.with_values values (env_of (declared_kept (code_at case (is.program i)) 0 0 0)))
+      ∙ values-alike values (declared_kept (code_at case made.epoch.program) 0 0 0)
+      ∙ (λ i. epoch.with_values values (env_of (declared_kept (code_at case (is.epoch i).program) 0 0 0)))
 
   waits : reports_in made.machine.further made.outbox.slots ≡ []
   waits = ap (λ (o : OutboxState). reports_in made.machine.further o.slots) is.outbox
@@ -50,8 +48,9 @@ module _ (case : Case) (made : First) (is : IsFirst case made) where
   pub summary-open : summary_by opened ≡ summary (over_codes case) (opening (over_codes case))
   summary-open =
       λ i. record (summary_by opened) {
-        program = is.program i;
-        track = record { env = env-open i; is_stopped = (is.machine i).is_stopped; first = 0; count = 0 };
+        program = (is.epoch i).program;
+        epoch = (is.epoch i).number;
+        track = record { env = env-open i; is_stopped = (is.machine i).is_stopped; first = (is.epoch i).first; count = 0 };
         waiting = waits i;
         untold = (is.outbox i).untold;
       }

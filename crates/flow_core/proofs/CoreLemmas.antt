@@ -21,7 +21,7 @@ use Rattle.flow_core.specs.declared.bare.Issued.{Issued}
 use Rattle.flow_core.specs.Readings.{Flow, over_codes}
 use Rattle.flow_core.specs.World.{Taken, World, notice_of, after_ack, after_take, after_answer}
 use Rattle.flow_core.specs.WordLaws.{acks_in-A, acks_in-T, acks_in-C, world_over-append, legal_over-append}
-use Rattle.flow_core.specs.Roomy.{RoomyState}
+use Rattle.flow_core.specs.ReservedLists.{ReservedState}
 use Rattle.flow_core.specs.Books.{ticket_of, out_ticket}
 use Rattle.flow_core.specs.Cores.{acked_as}
 use Rattle.flow_core.specs.States.{issued_as, some_count}
@@ -65,7 +65,7 @@ count-turn flow issued turn s out =
     count-reply flow s.agent turn.1 closed ∙ more
 
 module _ {X : Type 0} where
-  room-some : (item : Option X) (list : RoomyState X) → (with_some item list).room ≡ list.room
+  room-some : (item : Option X) (list : ReservedState X) → (with_some item list).room ≡ list.room
   room-some None list = refl
   room-some (Some item) list = refl
 
@@ -187,7 +187,7 @@ module _ (bare : BareState) (j : Journal) (core : IsCore bare j) where
 
   -- ---- T
 
-  module _ (tickets : RoomyState TicketLine) (epochs : RoomyState EpochLine) (same_tickets : tickets.items ≡ j.tickets.items) (same_epochs : epochs.items ≡ j.epochs.items) where
+  module _ (tickets : ReservedState TicketLine) (epochs : ReservedState EpochLine) (same_tickets : tickets.items ≡ j.tickets.items) (same_epochs : epochs.items ≡ j.epochs.items) where
     -- the journal with more room for lines
     abbrev reserved : Journal
     reserved = record j { tickets = tickets; epochs = epochs }

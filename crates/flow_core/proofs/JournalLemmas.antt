@@ -20,7 +20,7 @@ use Rattle.flow_core.specs.declared.letter.Letter.TheVariants.{C}
 use Rattle.flow_core.specs.declared.bare.Issued.{Issued}
 use Rattle.flow_core.specs.Readings.{Flow}
 use Rattle.flow_core.specs.World.{Failure, Content, Taken, Answered, World, track_of, failures_met, after_ack, takeable, with_taken, after_take, with_reply, notice_of, told_as, with_turn, answer_applied, after_answer}
-use Rattle.flow_core.specs.Roomy.{RoomyState}
+use Rattle.flow_core.specs.ReservedLists.{ReservedState}
 use Rattle.flow_core.specs.Books.{ticket_of, ticket_line, epoch_line}
 use Rattle.flow_core.specs.Cores.{acked_as}
 use Rattle.flow_core.specs.States.{issued_as}
@@ -30,7 +30,7 @@ use Rattle.flow_core.specs.Journals.{with_item, with_some, journal_ack, journal_
 module _ (flow : Flow ℕ) where
   -- ---- A
 
-  faults-met : (program epoch at : ℕ) (ack : Ack) (met : Outcome (FaultKind × ℕ) × Env) (untold : Option Notice) (list : RoomyState Notice)
+  faults-met : (program epoch at : ℕ) (ack : Ack) (met : Outcome (FaultKind × ℕ) × Env) (untold : Option Notice) (list : ReservedState Notice)
       → (with_some (new_notice (acked_as met.0) (notice_after flow (failures_met program epoch at ack met) untold)) list).items
       ≡ list.items ++ map (notice_of flow) (failures_met program epoch at ack met)
   faults-met program epoch at ack (quiet, env) untold list = sym (append-nil list.items)

@@ -15,7 +15,7 @@ use Rattle.portus_core.specs.Value.{Cause}
 use Rattle.portus_core.specs.OneAcknowledgement.{IsEnvOf}
 use Rattle.portus_core.proofs.EnvShapes.{IsEnvOf-declared_env, IsEnvOf-with_values}
 use Rattle.portus_core.specs.Epoch.{Outcome, Track, track_at, heard, with_values}
-use Rattle.portus_core.specs.Reports.{Epoch}
+use Rattle.portus_core.specs.Reports.{Reporter}
 use Rattle.reg_compiler.specs.Simulation.{Simulates}
 use Rattle.agent_core.specs.declared.agent.Agent.{Agent}
 use Rattle.agent_core.specs.Agents.{opening_change, replied, course_of, values_of}
@@ -98,7 +98,7 @@ module _ (case : Case) (ss ca : Form) (ss_places ca_places : List Place)
       ≡ with_met sources ack room track (met_placed (place w.present.program) (outcome, env)) (map_world place w)
   with_met-lifts ack room track outcome env w =
       let program = w.present.program in
-      let epoch : Epoch = reporter case.flow program (length w.past) in
+      let epoch : Reporter = reporter case.flow program (length w.past) in
       let failures = failures_met program (length w.past) track.count ack (outcome, env) in
       let placed = failures-placed place program (length w.past) track.count ack outcome env in
       let untold = untold-placed place failures w.untold

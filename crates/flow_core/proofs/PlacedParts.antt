@@ -6,7 +6,7 @@ use Rattle.ccp_base.specs.declared.place.Place.{Place}
 use Rattle.ccp_base.specs.declared.exchange.Report.{Report}
 use Rattle.portus_core.specs.declared.env.Env.{Env}
 use Rattle.portus_core.specs.Epoch.{Outcome, quiet, reported, held, failed, stopped, Track}
-use Rattle.portus_core.specs.Reports.{Epoch, reports_met}
+use Rattle.portus_core.specs.Reports.{Reporter, reports_met}
 use Rattle.flow_core.specs.World.{Failure, World, failures_met, untold_after, held_met, takeable, with_taken, after_take}
 use Rattle.flow_core.specs.Lift.{Placing, map_failure, map_world}
 use Rattle.flow_core.proofs.SimulatedEpochs.{outcome_placed, met_placed}
@@ -37,7 +37,7 @@ failures-placed place program epoch at ack held env = refl
 failures-placed place program epoch at ack (failed fault) env = refl
 failures-placed place program epoch at ack stopped env = refl
 
-pub reports-placed : (place : ℕ → Place) (epoch : Epoch) (track : Track) (ack : Ack) (outcome : Outcome (FaultKind × ℕ)) (env : Env)
+pub reports-placed : (place : ℕ → Place) (epoch : Reporter) (track : Track) (ack : Ack) (outcome : Outcome (FaultKind × ℕ)) (env : Env)
     → reports_met epoch track ack outcome env ≡ reports_met epoch track ack (outcome_placed place outcome) env
 reports-placed place epoch track ack quiet env = refl
 reports-placed place epoch track ack (reported fields) env = refl

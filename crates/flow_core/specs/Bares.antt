@@ -27,6 +27,7 @@ use Rattle.flow_core.specs.declared.bare.First.{First}
 use Rattle.flow_core.specs.Opening.{opened_machine}
 use Rattle.flow_core.specs.Outbox.{Lies, empty_outbox}
 use Rattle.flow_core.specs.ReportWords.{report_in}
+use Rattle.flow_core.specs.RunningEpochs.{opening_epoch, next_epoch}
 use Rattle.flow_core.specs.States.{some_count}
 use Rattle.flow_core.specs.Summaries.{Summary}
 
@@ -38,9 +39,9 @@ reports_in pool (slot ∷ rest) = report_in (unwrap_or (words_at pool slot) []) 
 -- the summary that is kept
 abbrev pub summary_by : BareParts → Summary
 summary_by s = record {
-  program = s.program;
-  epoch = s.epoch;
-  track = record { env = env_of s.machine.kept; is_stopped = s.machine.is_stopped; first = s.first; count = s.acks };
+  program = s.epoch.program;
+  epoch = s.epoch.number;
+  track = record { env = env_of s.machine.kept; is_stopped = s.machine.is_stopped; first = s.epoch.first; count = s.acks };
   acks = s.acks;
   time = s.time;
   waiting = reports_in s.machine.further s.outbox.slots;
@@ -75,7 +76,7 @@ pub record InRange (case : Case) (s : Summary) : Type 0 where
 
 -- the machine runs the present program, its further slots are for the waiting reports, and there is room
 pub record IsBare (s : BareParts) : Type 0 where
-  pub fits : Fits s.machine (code_at s.case s.program)
+  pub fits : Fits s.machine (code_at s.case s.epoch.program)
   pub words : s.machine.further.words ≡ slot_words
   pub free : free_of s.machine.further + length s.outbox.slots ≡ s.case.slots
   pub size : s.outbox.size ≡ s.case.slots
@@ -118,7 +119,7 @@ HasSpace s = (length s.outbox.slots < s.outbox.size) × (0 < free_of s.machine.f
 
 -- what an outcome changes
 pub record NotesBare (old new : BareParts) (ack : Ack) (outcome : Outcome (FaultKind × ℕ)) : Type 0 where
-  pub frame : new ≡ record old { machine = new.machine; outbox = new.outbox; first = new.first; faults = new.faults; held = new.held }
+  pub frame : new ≡ record old { machine = new.machine; outbox = new.outbox; epoch = record old.epoch { first = new.epoch.first }; faults = new.faults; held = new.held }
   pub machine : new.machine ≡ record old.machine { further = new.machine.further }
   pub words : new.machine.further.words ≡ slot_words
   pub free : free_of new.machine.further + length new.outbox.slots ≡ free_of old.machine.further + length old.outbox.slots
@@ -151,13 +152,13 @@ AreGood case running (Change program cwnd cap) values = first_bad_pair (length (
 -- an update writes its values
 pub record UpdatesBare (old new : BareParts) (values : List Pair) : Type 0 where
   pub frame : new ≡ record old { machine = updated_by values old.machine }
-  pub fits : Fits new.machine (code_at old.case old.program)
+  pub fits : Fits new.machine (code_at old.case old.epoch.program)
 
 -- a change starts the program and an epoch, and makes an untold notice void
 pub record ChangesBare (old new : BareParts) (program : ℕ) (values : List Pair) : Type 0 where
   pub machine : new.machine ≡ started_by (code_at old.case program) values old.time old.machine
   pub fits : Fits new.machine (code_at old.case program)
-  pub frame : new ≡ record old { machine = new.machine; program = program; epoch = old.epoch + 1; first = old.acks; outbox = record old.outbox { untold = None } }
+  pub frame : new ≡ record old { machine = new.machine; epoch = next_epoch program old.acks old.epoch; outbox = record old.outbox { untold = None } }
 
 abbrev pub ObeysBare : BareParts → BareParts → Reply → List Pair → Type 0
 ObeysBare old new Nothing values = new ≡ old
@@ -168,7 +169,7 @@ ObeysBare old new (Change program cwnd cap) values = ChangesBare old new program
 
 -- what a flow of the case has before its first letter
 pub record IsFirst (case : Case) (first : First) : Type 0 where
-  pub machine : first.machine ≡ opened_machine case first.program
-  pub fits : Fits first.machine (code_at case first.program)
-  pub program : first.program ≡ (course_of case.agent).ss.number
+  pub machine : first.machine ≡ opened_machine case first.epoch.program
+  pub fits : Fits first.machine (code_at case first.epoch.program)
+  pub epoch : first.epoch ≡ opening_epoch (course_of case.agent).ss.number 0
   pub outbox : first.outbox ≡ empty_outbox case.slots

@@ -15,7 +15,7 @@ use Rattle.flow_core.specs.Readings.{Flow, over_codes}
 use Rattle.flow_core.specs.World.{World, notice_of}
 use Rattle.flow_core.specs.Words.{world_over, most_letters, legal_over}
 use Rattle.flow_core.specs.WordLaws.{acks_in}
-use Rattle.flow_core.specs.Roomy.{RoomyState}
+use Rattle.flow_core.specs.ReservedLists.{ReservedState}
 use Rattle.flow_core.specs.Books.{ticket_line, epoch_line}
 use Rattle.flow_core.specs.States.{some_count}
 use Rattle.flow_core.specs.Summaries.{Summary, summary}
@@ -24,11 +24,11 @@ use Rattle.flow_core.specs.Bares.{BareState}
 -- ---- what a letter adds
 
 -- the list with one more item
-abbrev pub with_item : {X : Type 0} → X → RoomyState X → RoomyState X
+abbrev pub with_item : {X : Type 0} → X → ReservedState X → ReservedState X
 with_item item list = record list { items = list.items ++ item ∷ [] }
 
 -- the list with one more item, if there is one
-abbrev pub with_some : {X : Type 0} → Option X → RoomyState X → RoomyState X
+abbrev pub with_some : {X : Type 0} → Option X → ReservedState X → ReservedState X
 with_some None list = list
 with_some (Some item) list = with_item item list
 
@@ -68,15 +68,15 @@ line_after epoch s = if nat_lt epoch s.epoch then Some (begun_line s) else None
 
 -- ---- room
 
-abbrev pub HasSpareRoom : {X : Type 0} → RoomyState X → Type 0
+abbrev pub HasSpareRoom : {X : Type 0} → ReservedState X → Type 0
 HasSpareRoom list = length list.items < list.room
 
 -- one ticket and one epoch more have their room
-abbrev pub HaveLineRoom : RoomyState TicketLine → RoomyState EpochLine → Type 0
+abbrev pub HaveLineRoom : ReservedState TicketLine → ReservedState EpochLine → Type 0
 HaveLineRoom tickets epochs = HasSpareRoom tickets × HasSpareRoom epochs
 
 -- there is room for the lines that the answer to the ticket that is out adds
-abbrev pub HasLines : Option Issued → RoomyState TicketLine → RoomyState EpochLine → Type 0
+abbrev pub HasLines : Option Issued → ReservedState TicketLine → ReservedState EpochLine → Type 0
 HasLines None tickets epochs = Unit {0}
 HasLines (Some issued) tickets epochs = HaveLineRoom tickets epochs
 

@@ -1,10 +1,10 @@
 -- The definitions of flow_core, a file each; files named ..Laws have what follows from them.
 pub mod Readings
 pub mod World
-pub mod Turns
+pub mod RunningEpochs
 pub mod Cases
 pub mod Words
-pub mod Roomy
+pub mod ReservedLists
 pub mod Outbox
 pub mod ReportWords
 pub mod Lift

@@ -1,8 +1,9 @@
 -- A flow's state over its codes, as one over its sources: each fault's instruction becomes its place.
-use Rattle.std.specs.Prelude.{◌≡◌, ℕ, option_map, unwrap_or, List, map, slice_get}
+use Rattle.std.specs.Prelude.{◌≡◌, ℕ, option_map, List, map}
 use Rattle.ccp_base.specs.declared.ack.Ack.{Ack}
 use Rattle.ccp_base.specs.declared.place.Place.{Place}
 use Rattle.portus_core.specs.Programs.{Form}
+pub use Rattle.reg_compiler.specs.Simulation.{missing_place, place_at}
 use Rattle.reg_compiler.specs.Simulation.{Simulates}
 use Rattle.link_model.specs.declared.link_case.LinkCase.{LinkCase}
 use Rattle.flow_core.specs.declared.case.Case.{Case}
@@ -10,13 +11,6 @@ use Rattle.flow_core.specs.declared.letter.Letter.{Letter}
 use Rattle.flow_core.specs.Readings.{Flow, by_number, over_codes, over_sources}
 use Rattle.flow_core.specs.World.{Failure, Content, of_report, of_failure, Taken, Answered, World, opening}
 use Rattle.flow_core.specs.Words.{Giving, from_list, from_link, world_from, legal_from, is_complete}
-
--- what stands for the place of an instruction that isn't there
-abbrev pub missing_place : Place
-missing_place = record { line = 0; column = 0 }
-
-abbrev pub place_at : List Place → ℕ → Place
-place_at places index = unwrap_or (slice_get places index) missing_place
 
 -- the place of a program's instruction, by the program's number
 abbrev pub place_in : Case → List Place → List Place → ℕ → ℕ → Place

@@ -6,10 +6,9 @@ use Rattle.ccp_base.specs.declared.exchange.Told.{Told}
 use Rattle.ccp_base.specs.declared.exchange.Told.TheVariants.{Report, Fault}
 use Rattle.ccp_base.specs.declared.place.Place.{Place}
 use Rattle.portus_core.specs.declared.program.Decl.{Decl}
-use Rattle.portus_core.specs.ProgramForm.{form_of}
 use Rattle.portus_core.specs.Programs.{Form}
 use Rattle.portus_core.specs.Epoch.{Track}
-use Rattle.reg_compiler.specs.declared.built.Built.{Built}
+pub use Rattle.reg_compiler.specs.Sources.{Sources, sources_of}
 use Rattle.report_lines.specs.declared.end_line.End.{End}
 use Rattle.ccp_base.specs.Text.{◌⧺◌}
 use Rattle.report_lines.specs.FlowLine.{flow_head}
@@ -28,13 +27,6 @@ use Rattle.flow_core.specs.Words.{world}
 use Rattle.flow_core.specs.Books.{ticket_line, epoch_line}
 
 -- ---- programs by their numbers
-
-abbrev pub Sources : Type 0
-Sources = List (ℕ × Form)
-
--- the sources of built programs, each with its number
-abbrev pub sources_of : List (ℕ × Built) → Sources
-sources_of programs = map (λ (program : ℕ × Built). (program.0, form_of program.1.program)) programs
 
 -- the first program with this number; one without a declaration where there is none
 abbrev pub source_at : Sources → ℕ → Form

@@ -8,13 +8,10 @@ use Rattle.portus_core.specs.Epoch.{Outcome, quiet, reported, held, failed, Read
 use Rattle.reg_code.specs.declared.code.Code.{Code}
 use Rattle.reg_code.specs.CodeStep as steps
 use Rattle.reg_code.specs.CodeStart.{declared_kept}
+pub use Rattle.reg_compiler.specs.Simulation.{env_of}
 use Rattle.reg_compiler.specs.Simulation.{kept_of}
 use Rattle.agent_core.specs.declared.agent.Agent.{Agent}
 use Rattle.flow_core.specs.declared.case.Case.{Case}
-
--- the env that registers hold
-abbrev pub env_of : steps.Kept → Env
-env_of kept = record { fields = kept.reports; controls = kept.controls; cwnd = kept.cwnd; rate = kept.rate; zero = kept.zero }
 
 -- an outcome of the code in an epoch, a fault with its instruction's index; accepted code is never lost
 abbrev pub outcome_of : steps.CodeOutcome → Outcome (FaultKind × ℕ)

@@ -11,7 +11,7 @@ use Rattle.ccp_base.specs.declared.exchange.Told.TheVariants as told
 use Rattle.ccp_base.specs.FieldReg.{Pair}
 use Rattle.portus_core.specs.declared.env.Env.{Env}
 use Rattle.portus_core.specs.Epoch.{Event, acknowledged, updated, Outcome, quiet, reported, held, failed, stopped, Track, track_at, heard, after, with_values}
-use Rattle.portus_core.specs.Reports.{Epoch, reports_met}
+use Rattle.portus_core.specs.Reports.{Reporter, reports_met}
 use Rattle.agent_core.specs.declared.agent.Agent.{Agent}
 use Rattle.agent_core.specs.Agents.{opening_change, replied, course_of, values_of}
 use Rattle.flow_core.specs.Readings.{Flow}
@@ -112,7 +112,7 @@ opening flow = record {
 -- ---- an acknowledgement
 
 -- whose reports those of a flow's epoch are
-abbrev pub reporter : ℕ → ℕ → ℕ → Epoch
+abbrev pub reporter : ℕ → ℕ → ℕ → Reporter
 reporter flow program number = record { flow = flow; program = program; number = number }
 
 -- the fault of an acknowledgement with this window, in an epoch with this program and this number

@@ -15,13 +15,15 @@ ghost use Rattle.flow_core.specs.Summaries.{summary, step_ack, step_take, step_a
 ghost use Rattle.flow_core.specs.Summaries.{can_tell, may_make, is_idle, is_done};
 ghost use Rattle.flow_core.specs.Bares.{IsFirst, AreGood, InRange, closed_parts, UpdatesBare, ChangesBare, ObeysBare};
 ghost use Rattle.flow_core.specs.Bares.{summary_by, told_ticket, instructions_at, IsBare, CanNote, HasSpace, NotesBare};
+ghost use Rattle.flow_core.specs.Journals.{begun_line};
 
+use crate::book::EpochLine;
 use crate::case::Case;
 use crate::letter::Letter;
 use crate::machine_calls::{pop_told, put_report, run};
 use crate::opening::opening_machine;
 use crate::outbox::Outbox;
-use crate::turn::Turn;
+use crate::running_epoch::RunningEpoch;
 use agent_core::{Agent, Answer, Ticket};
 use ccp_base::{Ack, FaultKind, FieldReg, Fields, NoMemory, Notice, Reply, Told};
 use fold_machine::{Acked, Machine, Steps};
@@ -40,14 +42,9 @@ pub struct Issued {
 #[derive(Drop)]
 pub(crate) struct BareParts {
     pub(crate) case: Case,
-    /// It runs the present epoch's program. Its further slots are the outbox's.
+    /// It runs the epoch's program. Its further slots are the outbox's.
     pub(crate) machine: Machine,
-    /// The present epoch's program, by its number.
-    pub(crate) program: u32,
-    /// The present epoch's number, from 0.
-    pub(crate) epoch: u32,
-    /// The number of acknowledgements at which the unreported span begins.
-    pub(crate) first: u64,
+    pub(crate) epoch: RunningEpoch,
     /// How many acknowledgements are in.
     pub(crate) acks: u32,
     /// The time of the last acknowledgement in microseconds, 0 where there is none.
@@ -69,7 +66,7 @@ pub(crate) struct BareParts {
 #[derive(Drop)]
 struct First {
     machine: Machine,
-    program: u32,
+    epoch: RunningEpoch,
     outbox: Outbox,
 }
 
@@ -78,12 +75,12 @@ impl First {
     fn of(alloc: Global, case: &Case) -> Result<First, NoMemory>
         ensures { IfOk result (IsFirst case.now) }
     {
-        let program = case.agent.course().ss.number;
+        let epoch = RunningEpoch::opening(case.agent.course().ss.number, 0);
         let outbox = Outbox::new(alloc, case.slots)?;
-        let machine = opening_machine(alloc, case, program)?;
+        let machine = opening_machine(alloc, case, epoch.program)?;
         Ok(First {
             machine,
-            program,
+            epoch,
             outbox,
         })
     }
@@ -116,9 +113,7 @@ impl BareParts {
         BareParts {
             case,
             machine: first.machine,
-            program: first.program,
-            epoch: 0,
-            first: 0,
+            epoch: first.epoch,
             acks: 0,
             time: 0,
             outbox: first.outbox,
@@ -177,9 +172,9 @@ impl BareParts {
         ensures steps { steps.new ≡ steps.old + instructions_at self.old.case ack.entry.now (summary_by self.old) }
     {
         let room = self.outbox.room();
-        let code = self.case.code(self.program);
+        let code = self.case.code(self.epoch.program);
         let acked = run(&mut self.machine, code, ack, room, steps);
-        self.put_down(ack, acked);
+        self.record_outcome(ack, acked);
         self.acks += 1;
         self.time = ack.now;
         acked
@@ -187,7 +182,7 @@ impl BareParts {
 
     /// Records the outcome of an acknowledgement, by the machine's answer. Most have none.
     #[inline(always)]
-    fn put_down(&mut self, ack: &Ack, acked: Acked)
+    fn record_outcome(&mut self, ack: &Ack, acked: Acked)
         requires can { CanNote self.old }
         requires acks { self.old.acks < most_acks }
         requires room { acked ≡ Acked.Reported → HasSpace self.old }
@@ -196,12 +191,12 @@ impl BareParts {
         if let Acked::Quiet = acked {
             return;
         }
-        self.put_down_any(ack, acked);
+        self.record_any_outcome(ack, acked);
     }
 
     /// Records the outcome of an acknowledgement, by the machine's answer.
     #[inline(never)]
-    fn put_down_any(&mut self, ack: &Ack, acked: Acked)
+    fn record_any_outcome(&mut self, ack: &Ack, acked: Acked)
         requires can { CanNote self.old }
         requires acks { self.old.acks < most_acks }
         requires room { acked ≡ Acked.Reported → HasSpace self.old }
@@ -209,47 +204,36 @@ impl BareParts {
     {
         match acked {
             Acked::Quiet | Acked::Stopped => {}
-            Acked::Reported => self.put_down_report(ack),
+            Acked::Reported => self.record_report(ack),
             Acked::Held => self.held += 1,
-            Acked::Faulted(kind, index) => self.put_down_fault(ack, kind, index),
-        }
-    }
-
-    /// The place of the acknowledgement that is heard.
-    fn turn(&self) -> Turn
-        ensures { result ≡ record { flow = self.now.case.flow; program = self.now.program; epoch = self.now.epoch; at = self.now.acks } }
-    {
-        Turn {
-            flow: self.case.flow,
-            program: self.program,
-            epoch: self.epoch,
-            at: self.acks,
+            Acked::Faulted(kind, index) => self.record_fault(ack, kind, index),
         }
     }
 
     /// Records the report that the machine made.
-    fn put_down_report(&mut self, ack: &Ack)
+    fn record_report(&mut self, ack: &Ack)
         requires can { CanNote self.old }
         requires acks { self.old.acks < most_acks }
         requires room { length self.old.outbox.slots < self.old.outbox.size }
         requires free { 0 < free_of self.old.machine.further }
         ensures { NotesBare self.old self.new ack.entry.now (reported self.old.machine.report) }
     {
-        let turn = self.turn();
+        let flow = self.case.flow;
         let fields = self.machine.reported();
         let cwnd = self.machine.cwnd();
-        let report = turn.report(self.first, ack, cwnd, self.machine.rate(), &fields);
+        let rate = self.machine.rate();
+        let report = self.epoch.report(flow, self.acks, ack, cwnd, rate, &fields);
         put_report(&mut self.machine, &mut self.outbox, &report);
-        self.first = report.end;
     }
 
     /// Records a fault of this kind at the instruction with this index.
-    fn put_down_fault(&mut self, ack: &Ack, kind: FaultKind, index: u16)
+    fn record_fault(&mut self, ack: &Ack, kind: FaultKind, index: u16)
         requires { CanNote self.old }
         ensures { NotesBare self.old self.new ack.entry.now (failed (kind, index)) }
     {
-        let turn = self.turn();
-        let notice = turn.notice(ack, self.machine.cwnd(), kind, index);
+        let flow = self.case.flow;
+        let cwnd = self.machine.cwnd();
+        let notice = self.epoch.notice(flow, self.acks, ack, cwnd, kind, index);
         self.faults += 1;
         self.outbox.note(notice);
     }
@@ -263,8 +247,8 @@ impl BareParts {
         ensures step { summary_by self.new ≡ step_answer (over_codes self.old.case) (summary_by self.old) }
     {
         let reports = reports_told(&answer.ticket().told);
-        self.obey(&answer.reply());
-        self.close(answer.after(), reports);
+        self.apply_reply(&answer.reply());
+        self.record_answer(answer.after(), reports);
     }
 
     /// Has the agent answer the ticket that is out, and applies its answer.
@@ -281,12 +265,12 @@ impl BareParts {
         let mut after = self.agent;
         let reply = after.reply(&issued.told);
         let reports = reports_told(&issued.told);
-        self.obey(&reply);
-        self.close(&after, reports);
+        self.apply_reply(&reply);
+        self.record_answer(&after, reports);
     }
 
     /// Records that the ticket that is out was answered, the agent after that, and how many reports the ticket had.
-    fn close(&mut self, after: &Agent, reports: u32)
+    fn record_answer(&mut self, after: &Agent, reports: u32)
         requires answered { self.old.answered < most_acks }
         requires told { self.old.told < most_acks }
         requires one { reports ≤ 1 }
@@ -299,23 +283,23 @@ impl BareParts {
     }
 
     /// Does what the agent's reply says.
-    fn obey(&mut self, reply: &Reply)
-        requires fits { Fits self.old.machine (code_at self.old.case self.old.program) }
-        requires good { AreGood self.old.case self.old.program reply.now (values_of self.old.agent reply.now) }
-        requires epoch { self.old.epoch < most_acks }
+    fn apply_reply(&mut self, reply: &Reply)
+        requires fits { Fits self.old.machine (code_at self.old.case self.old.epoch.program) }
+        requires good { AreGood self.old.case self.old.epoch.program reply.now (values_of self.old.agent reply.now) }
+        requires epoch { self.old.epoch.number < most_acks }
         ensures { ObeysBare self.old self.new reply.now (values_of self.old.agent reply.now) }
     {
         match *reply {
             Reply::Nothing => {}
             Reply::Update(cwnd) => self.set_window(cwnd),
-            Reply::Change { program, .. } => self.follow(program, reply),
+            Reply::Change { program, .. } => self.start_program(program, reply),
         }
     }
 
     /// Writes the window of an update, in bytes.
     #[inline(never)]
     fn set_window(&mut self, cwnd: u64)
-        requires { Fits self.old.machine (code_at self.old.case self.old.program) }
+        requires { Fits self.old.machine (code_at self.old.case self.old.epoch.program) }
         ensures { UpdatesBare self.old self.new (window_pair cwnd) }
     {
         let mut values = Fields::new();
@@ -325,9 +309,9 @@ impl BareParts {
 
     /// Starts the program with this number, with the values of the reply that is a change to it.
     #[inline(never)]
-    fn follow(&mut self, program: u32, reply: &Reply)
+    fn start_program(&mut self, program: u32, reply: &Reply)
         requires good { first_bad_pair (length (code_at self.old.case program).controls) (values_of self.old.agent reply.now) ≡ None }
-        requires epoch { self.old.epoch < most_acks }
+        requires epoch { self.old.epoch.number < most_acks }
         ensures { ChangesBare self.old self.new program (values_of self.old.agent reply.now) }
     {
         let values = self.agent.values(reply);
@@ -336,11 +320,11 @@ impl BareParts {
 
     /// Writes an update's values.
     fn update(&mut self, values: &Fields)
-        requires fits { Fits self.old.machine (code_at self.old.case self.old.program) }
-        requires good { first_bad_pair (length (code_at self.old.case self.old.program).controls) values.now ≡ None }
+        requires fits { Fits self.old.machine (code_at self.old.case self.old.epoch.program) }
+        requires good { first_bad_pair (length (code_at self.old.case self.old.epoch.program).controls) values.now ≡ None }
         ensures { UpdatesBare self.old self.new values.now }
     {
-        let code = self.case.code(self.program);
+        let code = self.case.code(self.epoch.program);
         let Ok(()) = self.machine.update(code, values) else {
             unreachable!()
         };
@@ -349,16 +333,14 @@ impl BareParts {
     /// Starts the program with this number, and with it an epoch. An untold notice is void then.
     fn change(&mut self, program: u32, values: &Fields)
         requires good { first_bad_pair (length (code_at self.old.case program).controls) values.now ≡ None }
-        requires epoch { self.old.epoch < most_acks }
+        requires epoch { self.old.epoch.number < most_acks }
         ensures { ChangesBare self.old self.new program values.now }
     {
         let code = self.case.code(program);
         let Ok(()) = self.machine.start(code, values, self.time) else {
             unreachable!()
         };
-        self.program = program;
-        self.epoch += 1;
-        self.first = u64::from(self.acks);
+        self.epoch = self.epoch.next(program, self.acks);
         self.outbox.void();
     }
 
@@ -445,7 +427,7 @@ impl Bare {
     pub fn program(&self) -> u32
         ensures { result ≡ self.now.summary.program }
     {
-        self.parts.program
+        self.parts.epoch.program
     }
 
     /// How many reports wait.
@@ -480,14 +462,23 @@ impl Bare {
     pub fn epoch(&self) -> u32
         ensures { result ≡ self.now.summary.epoch }
     {
-        self.parts.epoch
+        self.parts.epoch.number
+    }
+
+    /// The line of an epoch that begins now.
+    pub(crate) fn begun_line(&self) -> EpochLine
+        ensures { result ≡ begun_line self.now.summary }
+    {
+        self.parts
+            .epoch
+            .line(self.parts.acks, self.parts.machine.cwnd())
     }
 
     /// The number of acknowledgements at which the unreported span begins.
     pub fn first(&self) -> u64
         ensures { result ≡ self.now.summary.track.first }
     {
-        self.parts.first
+        self.parts.epoch.first
     }
 
     /// How many answered tickets told a report.

@@ -5,7 +5,7 @@ ghost use Rattle.agent_core.specs.Agents.{course_of};
 ghost use Rattle.flow_core.specs.Cases.{KeepsWithin, AreOne};
 
 use agent_core::{Agent, same_role};
-use ccp_base::{Name, NoMemory, Role};
+use ccp_base::{Name, NoMemory, Role, same_bytes};
 use link_model::{Link, LinkCase};
 use reg_code::{Checked, Code, Event, Instr, Packed, Start};
 use std::alloc::Global;
@@ -89,12 +89,6 @@ fn same_code(this: &Code, other: &Code) -> bool
         return false;
     }
     same_instrs(this.instrs.as_slice(), other.instrs.as_slice())
-}
-
-fn same_bytes(these: &[u8], others: &[u8]) -> bool
-    ensures { IsTrue result ↔ (these.now ≡ others.now) }
-{
-    these == others
 }
 
 fn same_checked(this: &Checked, other: &Checked) -> bool

@@ -5,7 +5,7 @@ ghost use Rattle.flow_core.specs.World.{track_of, after_take, after_answer};
 ghost use Rattle.flow_core.specs.Words.{is_still, is_legal, legal_over};
 ghost use Rattle.flow_core.specs.Books.{IsBookOf};
 ghost use Rattle.flow_core.specs.Summaries.{summary};
-ghost use Rattle.flow_core.specs.Journals.{new_notice, taken_at, begun_line, line_after};
+ghost use Rattle.flow_core.specs.Journals.{new_notice, taken_at, line_after};
 ghost use Rattle.flow_core.specs.Cores.{flow_in, world_in, with_ack, heard_in, acked_with, ran_in, out_in, out_number};
 
 use crate::bare::Bare;
@@ -90,23 +90,12 @@ fn taken_at(bare: &Bare) -> u32
     bare.taken().unwrap_or(0)
 }
 
-/// The line of an epoch that begins now.
-fn begun_line(bare: &Bare) -> EpochLine
-    ensures { result ≡ begun_line bare.now.summary }
-{
-    EpochLine {
-        program: bare.program(),
-        at: bare.acks(),
-        cwnd: bare.cwnd(),
-    }
-}
-
 /// The line of the epoch that began after the one with this number, None exactly where none did.
 fn line_after(epoch: u32, bare: &Bare) -> Option<EpochLine>
     ensures { result ≡ line_after epoch bare.now.summary }
 {
     if epoch < bare.epoch() {
-        Some(begun_line(bare))
+        Some(bare.begun_line())
     } else {
         None
     }
@@ -119,7 +108,7 @@ impl Core {
         ensures { IfOk result (λ core. core ≡ record { case = case; acks = []; word = [] }) }
     {
         let bare = Bare::new(alloc, case)?;
-        match Journal::open(alloc, bare.case().acks, begun_line(&bare)) {
+        match Journal::open(alloc, bare.case().acks, bare.begun_line()) {
             Ok(journal) => Ok(Core { bare, journal }),
             Err(fault) => {
                 drop(bare);

@@ -4,7 +4,7 @@ ghost use Rattle.flow_core.specs.Journals.{OpensJournal, HasSpareRoom, HaveLineR
 
 use crate::book::{EpochLine, TicketLine};
 use crate::letter::Letter;
-use crate::roomy::Roomy;
+use crate::reserved_list::ReservedList;
 use agent_core::Answer;
 use ccp_base::{Ack, NoMemory, Notice};
 use std::alloc::Global;
@@ -13,12 +13,12 @@ use std::alloc::Global;
 #[derive(Drop)]
 pub(crate) struct Journal {
     /// The tickets that were answered.
-    pub(crate) tickets: Roomy<TicketLine>,
+    pub(crate) tickets: ReservedList<TicketLine>,
     /// The epochs, the present one last.
-    pub(crate) epochs: Roomy<EpochLine>,
-    pub(crate) faults: Roomy<Notice>,
-    pub(crate) acks: Roomy<Ack>,
-    pub(crate) word: Roomy<Letter>,
+    pub(crate) epochs: ReservedList<EpochLine>,
+    pub(crate) faults: ReservedList<Notice>,
+    pub(crate) acks: ReservedList<Ack>,
+    pub(crate) word: ReservedList<Letter>,
 }
 
 impl Journal {
@@ -29,11 +29,11 @@ impl Journal {
     {
         let acks = acks as usize;
         let mut journal = Journal {
-            tickets: Roomy::with_room(alloc, 0)?,
-            epochs: Roomy::with_room(alloc, 1)?,
-            faults: Roomy::with_room(alloc, acks)?,
-            acks: Roomy::with_room(alloc, acks)?,
-            word: Roomy::with_room(alloc, 3 * acks)?,
+            tickets: ReservedList::with_room(alloc, 0)?,
+            epochs: ReservedList::with_room(alloc, 1)?,
+            faults: ReservedList::with_room(alloc, acks)?,
+            acks: ReservedList::with_room(alloc, acks)?,
+            word: ReservedList::with_room(alloc, 3 * acks)?,
         };
         journal.epochs.push(epoch);
         Ok(journal)

@@ -13,8 +13,8 @@ mod machine_calls;
 mod opening;
 mod outbox;
 mod report_words;
-mod roomy;
-mod turn;
+mod reserved_list;
+mod running_epoch;
 
 pub use bare::{Bare, Issued};
 pub use book::{Book, EpochLine, Given, TicketLine};
@@ -24,5 +24,5 @@ pub use cores::{Core, Ended, Stale, TakeFault};
 pub use letter::{Letter, Words};
 pub use outbox::Outbox;
 pub use report_words::REPORT_WORDS;
-pub use roomy::Roomy;
-pub use turn::Turn;
+pub use reserved_list::ReservedList;
+pub use running_epoch::RunningEpoch;

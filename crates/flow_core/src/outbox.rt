@@ -7,7 +7,7 @@ ghost use Rattle.slot_pool.specs.Pool.{words_at, free_of, ChangesSlot};
 ghost use Rattle.flow_core.specs.Outbox.{empty_outbox, most_report_words, AreOwned, AreWide, AreAsMany, Gains};
 ghost use Rattle.flow_core.specs.Outbox.{LosesFirst, ChangesOnly, newest, GivesFirst, IsToldNext, notice_left};
 
-use crate::report_words::{store, unload};
+use crate::report_words::{store, take_report};
 use ccp_base::{NoMemory, Notice, Report, Told};
 use circular_buffer::HeapCircularBuffer;
 use slot_pool::{Slot, Slots};
@@ -117,7 +117,7 @@ impl Outbox {
         ensures size { self.new.size ≡ self.old.size }
     {
         if let Some(slot) = self.waiting.pop_front() {
-            return Some(Told::Report(unload(slots, slot)));
+            return Some(Told::Report(take_report(slots, slot)));
         }
         let notice = self.untold.take()?;
         Some(Told::Fault(notice))

@@ -73,7 +73,7 @@ fn write<P: Slots>(slots: &mut P, slot: &Slot, at: u32, words: &[u64])
 }
 
 /// Reads the report of a slot and gives the slot back. It must be out.
-pub(crate) fn unload<P: Slots>(slots: &mut P, slot: Slot) -> Report
+pub(crate) fn take_report<P: Slots>(slots: &mut P, slot: Slot) -> Report
     requires out { IsOut (P.pool slots.old) slot }
     requires words { most_report_words ≤ (P.pool slots.old).words }
     ensures report { (report : Report) → Stores (P.pool slots.old) slot report → result ≡ report }

@@ -9,7 +9,7 @@ use Rattle.portus_core.specs.declared.env.Env.{Env}
 use Rattle.portus_core.specs.Value.{Cause}
 use Rattle.portus_core.specs.Epoch.{Outcome, quiet, reported, held, failed, stopped, Track, acknowledged, by_source, heard, stops, next_first, after_outcome}
 use Rattle.portus_core.proofs.EventLaws.{after-append}
-use Rattle.portus_core.specs.Reports.{Epoch, reports_met}
+use Rattle.portus_core.specs.Reports.{Reporter, reports_met}
 use Rattle.flow_core.specs.Readings.{Flow}
 use Rattle.flow_core.specs.World.{Failure, World, track_of, failures_met, untold_after, held_met, has_room, with_met, after_ack, notice_of}
 use Rattle.flow_core.specs.Cores.{met_in}
@@ -31,7 +31,7 @@ first-same held one other first count = first
 first-same (failed fault) one other first count = first
 first-same stopped one other first count = first
 
-reports-same : (outcome : Outcome Cause) (epoch : Epoch) (ack : Ack) (env : Env) (one other : Track) → one.first ≡ other.first → one.count ≡ other.count
+reports-same : (outcome : Outcome Cause) (epoch : Reporter) (ack : Ack) (env : Env) (one other : Track) → one.first ≡ other.first → one.count ≡ other.count
     → reports_met epoch one ack outcome env ≡ reports_met epoch other ack outcome env
 reports-same quiet epoch ack env one other first count = refl
 reports-same (reported fields) epoch ack env one other first count =
@@ -65,14 +65,14 @@ module _ (source : SourceCase) (s : State) (w : World Place) (at : IsAt (flow_ov
 
   -- what the source makes of an acknowledgement is what the state makes of it
   met-same : (room : Bool) (ack : Ack) → room ≡ nat_lt (length s.waiting.items) source.case.now.slots
-      → heard (by_source (form_at source s.present.program)) s.present.is_stopped s.present.env ack room ≡ met_in flow w ack
+      → heard (by_source (form_at source s.present.epoch.program)) s.present.is_stopped s.present.env ack room ≡ met_in flow w ack
   met-same room ack is_room =
       let at_room : room ≡ has_room flow w = is_room ∙ ap (λ (k : KeptFlow). nat_lt (length k.waiting) source.case.now.slots) at.kept in
       λ i. heard (by_source (form_at source (at.kept i).program)) (at.kept i).is_stopped (at.kept i).env ack (at_room i)
 
   module _ (link : LinkState) (room : Bool) (ack : Ack) (outcome : Outcome Cause) (env : Env) (put : State)
       (is_room : room ≡ nat_lt (length s.waiting.items) source.case.now.slots)
-      (met : heard (by_source (form_at source s.present.program)) s.present.is_stopped s.present.env ack room ≡ (outcome, env)) where
+      (met : heard (by_source (form_at source s.present.epoch.program)) s.present.is_stopped s.present.env ack room ≡ (outcome, env)) where
     -- what is kept between: the env is the next one
     abbrev pub between : State
     between = record s { link = link; present = record s.present { env = env; is_stopped = stops outcome } }
@@ -96,15 +96,15 @@ module _ (source : SourceCase) (s : State) (w : World Place) (at : IsAt (flow_ov
       count-same : s.acks ≡ (track_of flow w).count
       count-same = ap (λ (k : KeptFlow). k.acks) at.kept ∙ sym at.count
 
-      first-old : s.present.first ≡ (track_of flow w).first
+      first-old : s.present.epoch.first ≡ (track_of flow w).first
       first-old = ap (λ (k : KeptFlow). k.first) at.kept
 
       failures-same : failures_heard between ack outcome ≡ failures_met w.present.program (length w.past) (track_of flow w).count ack (outcome, env)
       failures-same = λ i. failures_met (at.kept i).program (at.kept i).epoch (count-same i) ack (outcome, env)
 
-      kept-first : put.present.first ≡ (track_of flow next).first
+      kept-first : put.present.epoch.first ≡ (track_of flow next).first
       kept-first =
-          ap (λ (p : Present). p.first) down.present
+          ap (λ (p : Present). p.epoch.first) down.present
           ∙ first-same outcome (present_track between) (track_of flow w) first-old count-same
           ∙ sym (ap (λ (t : Track). t.first) track-next)
 
@@ -129,8 +129,8 @@ module _ (source : SourceCase) (s : State) (w : World Place) (at : IsAt (flow_ov
 
       kept-heard : kept_flow_in final ≡ kept_flow_of flow next
       kept-heard = λ i. record {
-        program = (ap (λ (p : Present). p.program) down.present ∙ ap (λ (k : KeptFlow). k.program) at.kept) i;
-        epoch = (ap (λ (p : Present). p.number) down.present ∙ ap (λ (k : KeptFlow). k.epoch) at.kept) i;
+        program = (ap (λ (p : Present). p.epoch.program) down.present ∙ ap (λ (k : KeptFlow). k.program) at.kept) i;
+        epoch = (ap (λ (p : Present). p.epoch.number) down.present ∙ ap (λ (k : KeptFlow). k.epoch) at.kept) i;
         env = (ap (λ (p : Present). p.env) down.present ∙ sym (ap (λ (t : Track). t.env) track-next)) i;
         is_stopped = (ap (λ (p : Present). p.is_stopped) down.present ∙ sym (ap (λ (t : Track). t.is_stopped) track-next)) i;
         first = kept-first i;

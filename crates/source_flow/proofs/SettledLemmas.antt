@@ -15,6 +15,7 @@ use Rattle.agent_core.specs.RoleLaws.{AreRoles}
 use Rattle.agent_core.proofs.ReplyLemmas.{roles-kept}
 use Rattle.flow_core.specs.declared.bare.Issued.{Issued}
 use Rattle.flow_core.specs.Readings.{Flow}
+use Rattle.flow_core.specs.RunningEpochs.{next_epoch, line_of}
 use Rattle.flow_core.specs.World.{Taken, Answered, World, track_of, with_reply, answer_applied, after_answer, told_as}
 use Rattle.flow_core.specs.States.{issued_as, some_count}
 use Rattle.flow_core.specs.Books.{ticket_line, epoch_line}
@@ -61,18 +62,18 @@ module _ (source : SourceCase) (s : State) (w : World Place) (at : IsAt (flow_ov
       let values = values_of agent (Change program cwnd cap_value) in
       let first : new.present.env ≡ next.present.first =
       changed.env ∙ (λ i. with_values values (declared_env (form_at source program) (at.kept i).env.cwnd (at.kept i).env.rate (at.kept i).time)) in
-      let line : (record { program = program; at = s.acks; cwnd = new.present.env.cwnd }) ≡ epoch_line next.present =
-      λ i. record { program = program; at = (at.kept i).acks; cwnd = (first i).cwnd } in
+      let line : line_of new.present.epoch s.acks new.present.env.cwnd ≡ epoch_line next.present =
+      λ i. record { program = (changed.present i).epoch.program; at = (at.kept i).acks; cwnd = (first i).cwnd } in
       let epochs : new.epochs ≡ map epoch_line (next.past ++ next.present ∷ []) =
       changed.epochs ∙ (λ i. (at.kept i).epochs ++ line i ∷ []) ∙ sym (epoch_lines-more w.past w.present next.present) in
-      let number : s.present.number + 1 ≡ length next.past =
+      let number : s.present.epoch.number + 1 ≡ length next.past =
       ap (λ (k : KeptFlow). k.epoch + 1) at.kept ∙ sym (more w.past) in
       let kept : kept_flow_in new ≡ kept_flow_of flow next = λ i. record {
-        program = (ap (λ (p : Present). p.program) changed.present) i;
-        epoch = (ap (λ (p : Present). p.number) changed.present ∙ number) i;
+        program = (ap (λ (p : Present). p.epoch.program) changed.present) i;
+        epoch = (ap (λ (p : Present). p.epoch.number) changed.present ∙ number) i;
         env = first i;
         is_stopped = (ap (λ (p : Present). p.is_stopped) changed.present) i;
-        first = (ap (λ (p : Present). p.first) changed.present ∙ ap (λ (k : KeptFlow). k.acks) at.kept) i;
+        first = (ap (λ (p : Present). p.epoch.first) changed.present ∙ ap (λ (k : KeptFlow). k.acks) at.kept) i;
         acks = (ap (λ (p : State). p.acks) changed.frame ∙ ap (λ (k : KeptFlow). k.acks) at.kept) i;
         time = (ap (λ (p : State). p.time) changed.frame ∙ ap (λ (k : KeptFlow). k.time) at.kept) i;
         waiting = (ap (λ (p : State). p.waiting.items) changed.frame ∙ ap (λ (k : KeptFlow). k.waiting) at.kept) i;
@@ -224,7 +225,7 @@ module _ (source : SourceCase) (s : State) (sound : IsSourceSound source s) (iss
       let more = tickets-more in
       let few = tickets-few in
       let literal : State = record done {
-        present = record { program = program; number = s.present.number + 1; env = new.present.env; is_stopped = false; first = s.acks };
+        present = record { epoch = next_epoch program s.acks s.present.epoch; env = new.present.env; is_stopped = false };
         untold = None;
         epochs = new.epochs;
       } in

@@ -61,11 +61,11 @@ pub record KeptFlow : Type 0 where
 
 abbrev pub kept_flow_in : State → KeptFlow
 kept_flow_in s = record {
-  program = s.present.program;
-  epoch = s.present.number;
+  program = s.present.epoch.program;
+  epoch = s.present.epoch.number;
   env = s.present.env;
   is_stopped = s.present.is_stopped;
-  first = s.present.first;
+  first = s.present.epoch.first;
   acks = s.acks;
   time = s.time;
   waiting = s.waiting.items;
@@ -116,11 +116,11 @@ pub record AreMatched (source : SourceCase) : Type 0 where
 -- range: each acknowledgement makes one report or fault at most, and each change is the answer to one
 pub record IsSourceSound (source : SourceCase) (s : State) : Type 0 where
   pub matched : AreMatched source
-  pub shape : IsEnvOf (form_at source s.present.program) s.present.env
+  pub shape : IsEnvOf (form_at source s.present.epoch.program) s.present.env
   pub roles : AreRoles source.case.now.ss.role source.case.now.ca.role (course_of s.agent)
   pub link : s.link.case ≡ source.case.now.link
   pub calls : s.link.standing.calls ≡ s.acks
   pub acks : s.acks ≤ source.case.now.acks
   pub tickets : length s.tickets + (some_count s.out + (length s.waiting.items + some_count s.untold)) ≤ s.acks
-  pub epochs : s.present.number ≤ length s.tickets
+  pub epochs : s.present.epoch.number ≤ length s.tickets
   pub held : s.held ≤ s.acks

@@ -19,6 +19,7 @@ use Rattle.agent_core.specs.declared.agent.Agent.{Agent}
 use Rattle.agent_core.specs.Agents.{values_of}
 use Rattle.flow_core.specs.declared.bare.Issued.{Issued}
 use Rattle.flow_core.specs.declared.book.TicketLine.{TicketLine}
+use Rattle.flow_core.specs.RunningEpochs.{next_epoch, line_of}
 use Rattle.flow_core.specs.World.{Failure, reporter, failures_met, notice_with, held_met}
 use Rattle.source_flow.specs.declared.state.Present.{Present}
 use Rattle.source_flow.specs.declared.state.State.{State}
@@ -28,11 +29,11 @@ use Rattle.source_flow.specs.SourceStates.{form_at, outcome_met}
 
 -- how the present epoch stands
 abbrev pub present_track : State → Track
-present_track s = record { env = s.present.env; is_stopped = s.present.is_stopped; first = s.present.first; count = s.acks }
+present_track s = record { env = s.present.env; is_stopped = s.present.is_stopped; first = s.present.epoch.first; count = s.acks }
 
 -- the fault of an outcome, or none
 abbrev pub failures_heard : State → Ack → Outcome Cause → List (Failure Place)
-failures_heard s ack outcome = failures_met s.present.program s.present.number s.acks ack (outcome, s.present.env)
+failures_heard s ack outcome = failures_met s.present.epoch.program s.present.epoch.number s.acks ack (outcome, s.present.env)
 
 -- a fault leaves its notice untold; a place has no index
 abbrev pub untold_by : ℕ → List (Failure Place) → Option Notice → Option Notice
@@ -60,10 +61,10 @@ pub record RecordsOutcome (flow : ℕ) (old new : State) (ack : Ack) (outcome : 
     faults = new.faults;
     held = new.held;
   }
-  pub present : new.present ≡ record old.present { first = next_first outcome (present_track old) }
+  pub present : new.present ≡ record old.present { epoch = record old.present.epoch { first = next_first outcome (present_track old) } }
   pub waiting :
       new.waiting.items
-      ≡ old.waiting.items ++ reports_met (reporter flow old.present.program old.present.number) (present_track old) ack outcome old.present.env
+      ≡ old.waiting.items ++ reports_met (reporter flow old.present.epoch.program old.present.epoch.number) (present_track old) ack outcome old.present.env
   pub untold : new.untold ≡ untold_by flow (failures_heard old ack outcome) old.untold
   pub faults : map failure_of new.faults ≡ map failure_of old.faults ++ failures_heard old ack outcome
   pub held : new.held ≡ old.held + held_met outcome
@@ -100,14 +101,8 @@ env_at_start source program values s =
 pub record Changed (source : SourceCase) (program : ℕ) (values : List Pair) (old new : State) : Type 0 where
   pub env : new.present.env ≡ env_at_start source program values old
   pub shape : IsEnvOf (form_at source program) new.present.env
-  pub present : new.present ≡ record {
-    program = program;
-    number = old.present.number + 1;
-    env = new.present.env;
-    is_stopped = false;
-    first = old.acks;
-  }
-  pub epochs : new.epochs ≡ old.epochs ++ record { program = program; at = old.acks; cwnd = new.present.env.cwnd } ∷ []
+  pub present : new.present ≡ record { epoch = next_epoch program old.acks old.present.epoch; env = new.present.env; is_stopped = false }
+  pub epochs : new.epochs ≡ old.epochs ++ line_of new.present.epoch old.acks new.present.env.cwnd ∷ []
   pub frame : new ≡ record old { present = new.present; untold = None; epochs = new.epochs }
 
 -- an update writes the window

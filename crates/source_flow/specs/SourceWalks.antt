@@ -3,6 +3,7 @@ use Rattle.std.specs.Prelude.{◌≡◌, ◌<◌, true, false, Option, Some, Non
 use Rattle.ccp_base.specs.FieldReg.{Pair}
 use Rattle.flow_core.specs.declared.letter.Letter.{Letter}
 use Rattle.flow_core.specs.declared.letter.Letter.TheVariants.{A, T, C}
+use Rattle.flow_core.specs.RunningEpochs.{opening_epoch}
 use Rattle.flow_core.specs.Words.{world, legal}
 use Rattle.agent_core.specs.Agents.{opening_change, course_of, values_of}
 use Rattle.portus_core.specs.Epoch.{with_values, declared_env}
@@ -24,12 +25,10 @@ first_values source = values_of source.case.now.agent (opening_change source.cas
 
 -- the epoch that this change starts
 pub record IsOpening (source : SourceCase) (present : Present) : Type 0 where
-  pub program : present.program ≡ (course_of source.case.now.agent).ss.number
-  pub env : present.env ≡ with_values (first_values source) (declared_env (form_at source present.program) 0 0 0)
-  pub shape : IsEnvOf (form_at source present.program) present.env
-  pub number : present.number ≡ 0
+  pub epoch : present.epoch ≡ opening_epoch (course_of source.case.now.agent).ss.number 0
+  pub env : present.env ≡ with_values (first_values source) (declared_env (form_at source present.epoch.program) 0 0 0)
+  pub shape : IsEnvOf (form_at source present.epoch.program) present.env
   pub running : present.is_stopped ≡ false
-  pub first : present.first ≡ 0
 
 -- the state after a legal word
 pub record StandsAfterWord (source : SourceCase) (word : List Letter) (s : State) : Type 0 where

@@ -12,12 +12,11 @@ use crate::flow_account::SourceFault;
 use crate::source_case::SourceCase;
 use crate::state::{Present, State};
 use ccp_base::{Ack, FaultKind, NoMemory, Place, Values};
-use flow_core::Turn;
 use portus_core::{Mean, Program};
 use std::alloc::Global;
 
 /// Whether the outcome of an acknowledgement stops its epoch.
-fn stops(mean: &Mean) -> bool
+fn stops_epoch(mean: &Mean) -> bool
     ensures { result ≡ stops (outcome_of mean.now) }
 {
     match mean {
@@ -44,7 +43,7 @@ impl Present {
         }
         let (mean, env) = program.mean(alloc, &self.env, ack, room)?;
         self.env = env;
-        self.is_stopped = stops(&mean);
+        self.is_stopped = stops_epoch(&mean);
         Ok(Some(mean))
     }
 }
@@ -59,7 +58,7 @@ impl State {
     {
         let ack = self.link.next(self.present.env.cwnd);
         let room = self.waiting.len() < source.case.slots as usize;
-        let program = source.program(self.present.program);
+        let program = source.program(self.present.epoch.program);
         let mean = self.present.run(alloc, program, &ack, room)?;
         self.record_outcome(source.case.flow, &ack, &mean)?;
         self.acks += 1;
@@ -94,31 +93,16 @@ impl State {
         }
     }
 
-    /// The place of the acknowledgement that is heard, in the flow with this number.
-    fn turn(&self, flow: u32) -> Turn
-        ensures { result ≡ record { flow = flow; program = self.now.present.program; epoch = self.now.present.number; at = self.now.acks } }
-    {
-        Turn {
-            flow,
-            program: self.present.program,
-            epoch: self.present.number,
-            at: self.acks,
-        }
-    }
-
     /// Records a report with these fields.
     fn record_report(&mut self, flow: u32, ack: &Ack, fields: &Values) -> Result<(), NoMemory>
         requires { CanRecord self.old }
         ensures { OnOk result (RecordsOutcome flow self.old self.new ack.entry.now (outcome_of (Mean.Reported fields.now))) }
     {
-        let turn = self.turn(flow);
-        let first = self.present.first;
         let cwnd = self.present.env.cwnd;
         let rate = self.present.env.rate;
-        let report = turn.report(first, ack, cwnd, rate, fields);
-        let end = report.end;
+        let epoch = &mut self.present.epoch;
+        let report = epoch.report(flow, self.acks, ack, cwnd, rate, fields);
         self.waiting.push_back(report)?;
-        self.present.first = end;
         Ok(())
     }
 
@@ -133,18 +117,18 @@ impl State {
         requires { CanRecord self.old }
         ensures { OnOk result (RecordsOutcome flow self.old self.new ack.entry.now (outcome_of (Mean.Fault kind place))) }
     {
-        let turn = self.turn(flow);
+        let epoch = self.present.epoch;
         let cwnd = self.present.env.cwnd;
         self.faults.push(SourceFault {
-            program: turn.program,
-            epoch: turn.epoch,
-            at: u64::from(turn.at),
+            program: epoch.program,
+            epoch: epoch.number,
+            at: u64::from(self.acks),
             kind,
             place,
             time: ack.now,
             cwnd,
         })?;
-        self.untold = Some(turn.notice(ack, cwnd, kind, 0));
+        self.untold = Some(epoch.notice(flow, self.acks, ack, cwnd, kind, 0));
         Ok(())
     }
 }

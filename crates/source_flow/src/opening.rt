@@ -4,11 +4,11 @@ ghost use Rattle.flow_core.specs.World.{opening};
 ghost use Rattle.source_flow.specs.SourceStates.{flow_over_sources, AreMatched, IsAt, IsSourceSound};
 ghost use Rattle.source_flow.specs.SourceWalks.{IsOpening};
 
-use crate::settling::started;
+use crate::settling::start_env;
 use crate::source_case::SourceCase;
 use crate::state::{Present, State};
 use ccp_base::{NoMemory, Sequence};
-use flow_core::EpochLine;
+use flow_core::RunningEpoch;
 use link_model::Link;
 use std::alloc::Global;
 use std::collections::VecDeque;
@@ -19,15 +19,13 @@ fn opening_epoch(alloc: Global, source: &SourceCase<'_>) -> Result<Present, NoMe
     ensures { IfOk result (λ present. IsOpening source.now present) }
 {
     let agent = &source.case.agent;
-    let program = agent.course().ss.number;
+    let epoch = RunningEpoch::opening(agent.course().ss.number, 0);
     let values = agent.values(&agent.begin());
-    let env = started(alloc, source.program(program), &values, 0, 0, 0)?;
+    let env = start_env(alloc, source.program(epoch.program), &values, 0, 0, 0)?;
     Ok(Present {
-        program,
-        number: 0,
+        epoch,
         env,
         is_stopped: false,
-        first: 0,
     })
 }
 
@@ -41,11 +39,7 @@ impl State {
         let present = opening_epoch(alloc, source)?;
         let link = Link::new(alloc, source.case.link.copy(alloc)?)?;
         let mut epochs = Sequence::new(alloc);
-        epochs.push(EpochLine {
-            program: present.program,
-            at: 0,
-            cwnd: present.env.cwnd,
-        })?;
+        epochs.push(present.epoch.line(0, present.env.cwnd))?;
         Ok(State {
             link,
             present,

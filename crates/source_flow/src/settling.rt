@@ -14,12 +14,12 @@ use crate::source_case::SourceCase;
 use crate::state::{Present, State};
 use agent_core::Agent;
 use ccp_base::{Fields, NoMemory, Reply};
-use flow_core::{EpochLine, Issued, TicketLine};
+use flow_core::{Issued, TicketLine};
 use portus_core::{Env, Program, StartFault};
 use std::alloc::Global;
 
 /// The env that an epoch starts with. The program has each control variable that the values name.
-pub(crate) fn started(
+pub(crate) fn start_env(
     alloc: Global,
     program: &Program,
     values: &Fields,
@@ -65,13 +65,13 @@ impl State {
     {
         let before = self.agent;
         let reply = self.agent.reply(&issued.told);
-        self.close(issued, reply)?;
-        self.obey(alloc, source, &before, &reply)?;
+        self.record_answer(issued, reply)?;
+        self.apply_reply(alloc, source, &before, &reply)?;
         Ok(())
     }
 
     /// Records this answer to the ticket that is out.
-    fn close(&mut self, issued: &Issued, reply: Reply) -> Result<(), NoMemory>
+    fn record_answer(&mut self, issued: &Issued, reply: Reply) -> Result<(), NoMemory>
         ensures { OnOk result (Closed issued.now reply self.old self.new) }
     {
         self.tickets.push(TicketLine {
@@ -85,7 +85,7 @@ impl State {
     }
 
     /// Does what a reply of this agent says.
-    fn obey(
+    fn apply_reply(
         &mut self,
         alloc: Global,
         source: &SourceCase<'_>,
@@ -93,7 +93,7 @@ impl State {
         reply: &Reply,
     ) -> Result<(), NoMemory>
         requires good { AreGood source.now agent.now reply.now }
-        requires number { self.old.present.number < most_acks }
+        requires number { self.old.present.epoch.number < most_acks }
         ensures { OnOk result (Obeyed source.now agent.now reply.now self.old self.new) }
     {
         match *reply {
@@ -103,13 +103,13 @@ impl State {
                 Ok(())
             }
             Reply::Change { program, .. } => {
-                self.change(alloc, source, program, &agent.values(reply))
+                self.start_program(alloc, source, program, &agent.values(reply))
             }
         }
     }
 
     /// Starts the program with this number, and with it an epoch. An untold notice is void then.
-    fn change(
+    fn start_program(
         &mut self,
         alloc: Global,
         source: &SourceCase<'_>,
@@ -117,23 +117,18 @@ impl State {
         values: &Fields,
     ) -> Result<(), NoMemory>
         requires good { first_bad_pair (length (form_at source.now program).controls) values.now ≡ None }
-        requires number { self.old.present.number < most_acks }
+        requires number { self.old.present.epoch.number < most_acks }
         ensures { OnOk result (Changed source.now program values.now self.old self.new) }
     {
         let form = source.program(program);
         let cwnd = self.present.env.cwnd;
-        let env = started(alloc, form, values, cwnd, self.present.env.rate, self.time)?;
-        self.epochs.push(EpochLine {
-            program,
-            at: self.acks,
-            cwnd: env.cwnd,
-        })?;
+        let env = start_env(alloc, form, values, cwnd, self.present.env.rate, self.time)?;
+        let epoch = self.present.epoch.next(program, self.acks);
+        self.epochs.push(epoch.line(self.acks, env.cwnd))?;
         self.present = Present {
-            program,
-            number: self.present.number + 1,
+            epoch,
             env,
             is_stopped: false,
-            first: u64::from(self.acks),
         };
         self.untold = None;
         Ok(())

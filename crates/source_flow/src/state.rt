@@ -2,22 +2,18 @@
 use crate::flow_account::SourceFault;
 use agent_core::Agent;
 use ccp_base::{Notice, Report, Sequence};
-use flow_core::{EpochLine, Issued, TicketLine};
+use flow_core::{EpochLine, Issued, RunningEpoch, TicketLine};
 use link_model::Link;
 use portus_core::Env;
 use std::collections::VecDeque;
 
-/// The epoch that runs.
+/// The epoch that runs, and how its program stands.
 #[derive(Drop)]
 pub(crate) struct Present {
-    pub(crate) program: u32,
-    /// How many epochs ended before it.
-    pub(crate) number: u32,
+    pub(crate) epoch: RunningEpoch,
     pub(crate) env: Env,
     /// Whether a fault stopped it.
     pub(crate) is_stopped: bool,
-    /// The number of acknowledgements at which the unreported span begins.
-    pub(crate) first: u64,
 }
 
 /// All that is kept of a flow.

@@ -44,7 +44,7 @@ impl State {
     {
         let end = End {
             acks: u64::from(self.acks),
-            first: self.present.first,
+            first: self.present.epoch.first,
             stopped: self.present.is_stopped,
             cwnd: self.present.env.cwnd,
             rate: self.present.env.rate,
@@ -55,7 +55,7 @@ impl State {
             faults: self.faults,
             tickets: self.tickets,
             held: self.held,
-            program: self.present.program,
+            program: self.present.epoch.program,
             end,
         }
     }

@@ -3,20 +3,20 @@ use Rattle.flow_core.proofs.ValueLemmas.{good-values}
 use Rattle.flow_core.proofs.BareAnswerLemmas.{step-settled, is-settled}
 use Rattle.flow_core.proofs.bare.BareParts.consult.Goals as goal
 
-pub obey-requires-clause-good : goal.obey-requires-clause-good
-obey-requires-clause-good c =
+pub apply_reply-requires-clause-good : goal.apply_reply-requires-clause-good
+apply_reply-requires-clause-good c =
     let s = c.args.self.now in
     let range = c.requires.parts.range in
-    good-values s.case s.agent (record { ss_same = range.ss; ca_same = range.ca }) s.program c.reply-reply.result
+    good-values s.case s.agent (record { ss_same = range.ss; ca_same = range.ca }) s.epoch.program c.reply-reply.result
 
 pub returns-clause-parts : goal.returns-clause-parts
 returns-clause-parts c =
     let s = c.args.self.now in
-    is-settled s c.requires.parts c.in-Some.issued.now (search rules) c.obey.new.self c.close.new.self c.reply-reply.new.self c.reply-reply.result
-    c.reports_told-reports.result c.reply-reply.ensures.turn c.reports_told-reports.ensures.told c.obey.ensures c.close.ensures
+    is-settled s c.requires.parts c.in-Some.issued.now (search rules) c.apply_reply.new.self c.record_answer.new.self c.reply-reply.new.self c.reply-reply.result
+    c.reports_told-reports.result c.reply-reply.ensures.turn c.reports_told-reports.ensures.told c.apply_reply.ensures c.record_answer.ensures
 
 pub returns-clause-step : goal.returns-clause-step
 returns-clause-step c =
     let s = c.args.self.now in
-    step-settled s c.requires.parts c.in-Some.issued.now (search rules) c.obey.new.self c.close.new.self c.reply-reply.new.self c.reply-reply.result
-    c.reports_told-reports.result c.reply-reply.ensures.turn c.reports_told-reports.ensures.told c.obey.ensures c.close.ensures
+    step-settled s c.requires.parts c.in-Some.issued.now (search rules) c.apply_reply.new.self c.record_answer.new.self c.reply-reply.new.self c.reply-reply.result
+    c.reports_told-reports.result c.reply-reply.ensures.turn c.reports_told-reports.ensures.told c.apply_reply.ensures c.record_answer.ensures

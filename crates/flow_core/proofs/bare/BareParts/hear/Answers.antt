@@ -12,8 +12,8 @@ returns-clause-parts g c =
     let ack = c.args.ack.now in
     let machine = c.run-acked.new.machine in
     let met = sym (met-kept s c.requires.parts ack c.code-code.result.now.code c.room-room.result c.code-code.ensures c.room-room.ensures) ∙ c.run-acked.ensures.met in
-    is-heard s c.requires.parts ack (outcome_by c.run-acked.result machine.report) machine c.put_down.new.self met
-    c.run-acked.ensures.stopped c.run-acked.ensures.further c.put_down.ensures c.requires.left
+    is-heard s c.requires.parts ack (outcome_by c.run-acked.result machine.report) machine c.record_outcome.new.self met
+    c.run-acked.ensures.stopped c.run-acked.ensures.further c.record_outcome.ensures c.requires.left
     (subst (λ (code : Code). Fits machine code) c.code-code.ensures c.run-acked.ensures.fits)
 
 pub returns-clause-step : goal.returns-clause-step
@@ -22,8 +22,8 @@ returns-clause-step g c =
     let ack = c.args.ack.now in
     let machine = c.run-acked.new.machine in
     let met = sym (met-kept s c.requires.parts ack c.code-code.result.now.code c.room-room.result c.code-code.ensures c.room-room.ensures) ∙ c.run-acked.ensures.met in
-    step-heard s c.requires.parts ack (outcome_by c.run-acked.result machine.report) machine c.put_down.new.self met
-    c.run-acked.ensures.stopped c.run-acked.ensures.further c.put_down.ensures
+    step-heard s c.requires.parts ack (outcome_by c.run-acked.result machine.report) machine c.record_outcome.new.self met
+    c.run-acked.ensures.stopped c.run-acked.ensures.further c.record_outcome.ensures
 
 pub returns-clause-acked : goal.returns-clause-acked
 returns-clause-acked g c =

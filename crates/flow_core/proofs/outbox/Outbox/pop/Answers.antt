@@ -6,18 +6,18 @@ use Rattle.flow_core.proofs.outbox.Outbox.pop.Goals as goal
 
 pub returns-in-Some-clause-owned : goal.returns-in-Some-clause-owned
 returns-in-Some-clause-owned g c =
-    owned-popped (g.P.Slots.pool c.args.slots.now) (g.P.Slots.pool c.unload.new.slots) c.in-Some.slot None
+    owned-popped (g.P.Slots.pool c.args.slots.now) (g.P.Slots.pool c.take_report.new.slots) c.in-Some.slot None
     c.self.inside.waiting.items c.args.self.now.slots c.pop_front.new.self.items
     (ap (λ (o : OutboxState). o.slots) c.self.view_is)
     (sym c.pop_front.ensures.value ∙ c.in-Some.is)
     (ap (λ (b : Buffer ℕ). b.items) c.pop_front.ensures.items)
-    c.unload.ensures.given c.requires.owned
+    c.take_report.ensures.given c.requires.owned
 
 pub returns-in-Some-clause-lies : goal.returns-in-Some-clause-lies
 returns-in-Some-clause-lies g c = λ reports lies.
-    lies-popped (g.P.Slots.pool c.args.slots.now) (g.P.Slots.pool c.unload.new.slots) c.in-Some.slot None
+    lies-popped (g.P.Slots.pool c.args.slots.now) (g.P.Slots.pool c.take_report.new.slots) c.in-Some.slot None
     c.self.inside.waiting.items c.args.self.now.slots c.pop_front.new.self.items
     (ap (λ (o : OutboxState). o.slots) c.self.view_is)
     (sym c.pop_front.ensures.value ∙ c.in-Some.is)
     (ap (λ (b : Buffer ℕ). b.items) c.pop_front.ensures.items)
-    reports c.unload.ensures.given lies
+    reports c.take_report.ensures.given lies

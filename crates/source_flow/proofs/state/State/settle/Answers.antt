@@ -2,17 +2,17 @@ use Rattle.source_flow.proofs.GoodLemmas.{good-reply}
 use Rattle.source_flow.proofs.SettledLemmas.{sound-settled, at-settled}
 use Rattle.source_flow.proofs.state.State.settle.Goals as goal
 
-pub obey-requires-clause-good : goal.obey-requires-clause-good
-obey-requires-clause-good c =
+pub apply_reply-requires-clause-good : goal.apply_reply-requires-clause-good
+apply_reply-requires-clause-good c =
     good-reply c.args.source.now c.args.self.now.agent c.reply-reply.result c.requires.sound.matched c.requires.sound.roles
 
 pub returns-clause-sound : goal.returns-clause-sound
 returns-clause-sound c =
     let s = c.args.self.now in
-    sound-settled c.args.source.now s c.requires.sound c.args.issued.now c.reply-reply.new.self c.reply-reply.result c.close.new.self
-    c.requires.out c.reply-reply.ensures.turn c.in_ok-close.ensures.tickets c.in_ok-close.ensures.frame s.agent c.obey.new.self c.in_ok-obey.ensures
+    sound-settled c.args.source.now s c.requires.sound c.args.issued.now c.reply-reply.new.self c.reply-reply.result c.record_answer.new.self
+    c.requires.out c.reply-reply.ensures.turn c.in_ok-record_answer.ensures.tickets c.in_ok-record_answer.ensures.frame s.agent c.apply_reply.new.self c.in_ok-apply_reply.ensures
 
 pub returns-clause-at : goal.returns-clause-at
 returns-clause-at c = λ w at.
-    at-settled c.args.source.now c.args.self.now w at c.args.issued.now c.reply-reply.new.self c.reply-reply.result c.close.new.self
-    c.requires.out c.reply-reply.ensures.turn c.in_ok-close.ensures.tickets c.in_ok-close.ensures.frame c.obey.new.self c.in_ok-obey.ensures
+    at-settled c.args.source.now c.args.self.now w at c.args.issued.now c.reply-reply.new.self c.reply-reply.result c.record_answer.new.self
+    c.requires.out c.reply-reply.ensures.turn c.in_ok-record_answer.ensures.tickets c.in_ok-record_answer.ensures.frame c.apply_reply.new.self c.in_ok-apply_reply.ensures

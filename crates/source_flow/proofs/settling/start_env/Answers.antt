@@ -4,7 +4,7 @@ use Rattle.portus_core.specs.declared.env.StartFault.{StartFault}
 use Rattle.portus_core.specs.declared.env.StartFault.TheVariants.{BadRegister}
 use Rattle.portus_core.specs.Epoch.{start_from, declared_env, with_values}
 use Rattle.portus_core.specs.ProgramForm.{form_of}
-use Rattle.source_flow.proofs.settling.started.Goals as goal
+use Rattle.source_flow.proofs.settling.start_env.Goals as goal
 
 ok_err : (env : Env) (fault : StartFault) → Ok env ≡ Err fault → ⊥
 ok_err env fault e = cc

@@ -1,4 +1,4 @@
-//! Lists whose room is kept ahead, so that a later push takes no memory.
+//! Lists with reserved room, so that a later push takes no memory.
 ghost use Rattle.std.specs.Prelude.{◌≡◌, ◌+◌, ◌-◌, ◌<◌, ◌≤◌, [], ◌∷◌, ◌++◌, length, slice_get, option_copied, IfOk};
 ghost use Rattle.std.specs.Prelude.{OnOk, OnErr};
 
@@ -8,29 +8,29 @@ use std::marker::Model;
 
 /// A list with reserved memory for its next items, so that pushing them takes none.
 #[derive(Drop)]
-pub struct Roomy<T> {
+pub struct ReservedList<T> {
     items: Vec<T>,
 }
 
-impl<T> Model for Roomy<T> {
+impl<T> Model for ReservedList<T> {
     ghost use Rattle.std.specs.Prelude.{vec_capacity};
-    ghost use Rattle.flow_core.specs.Roomy.{RoomyState, roomy_code};
+    ghost use Rattle.flow_core.specs.ReservedLists.{ReservedState, reserved_code};
 
-    ghost Value = { RoomyState T };
+    ghost Value = { ReservedState T };
 
-    ghost coded = { roomy_code T.code };
+    ghost coded = { reserved_code T.code };
 
     ghost view = { λ r. record { items = r.items.items; room = vec_capacity r.items } };
 }
 
-impl<T> Roomy<T> {
+impl<T> ReservedList<T> {
     /// The empty list, with memory for at least that number of items.
-    pub fn with_room(alloc: Global, n: usize) -> Result<Roomy<T>, NoMemory>
+    pub fn with_room(alloc: Global, n: usize) -> Result<ReservedList<T>, NoMemory>
         ensures items { IfOk result (λ list. list.items ≡ []) }
         ensures room { IfOk result (λ list. n ≤ list.room) }
     {
         let items = Vec::with_capacity(alloc, n)?;
-        Ok(Roomy { items })
+        Ok(ReservedList { items })
     }
 
     /// The items in order.
@@ -63,7 +63,7 @@ impl<T> Roomy<T> {
     }
 }
 
-impl<T: Drop> Roomy<T> {
+impl<T: Drop> ReservedList<T> {
     /// Reserves memory for that number of items more than the list has.
     pub fn reserve(&mut self, n: usize) -> Result<(), NoMemory>
         ensures items { self.new.items ≡ self.old.items }
