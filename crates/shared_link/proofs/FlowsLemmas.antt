@@ -1,5 +1,5 @@
 -- The flows of a shared link, of which one after the other is changed.
-use Rattle.std.proofs.Common.{◌≡◌, ◌≢◌, ℕ, zero, suc, ◌+◌, ◌-◌, ◌<◌, ◌≤◌, true, false, cond, eqb, max, List, [], ◌∷◌, ◌++◌, length, get_or, set, vec_capacity, ap, sym, ◌∙◌, subst, arith, inl, inr, get_or-set_other, get_or-set_same}
+use Rattle.std.proofs.Common.{◌≡◌, ◌≢◌, ℕ, zero, suc, ◌+◌, ◌-◌, ◌<◌, ◌≤◌, true, false, cond, eqb, max, List, [], ◌∷◌, ◌++◌, length, get_or, set, ap, sym, ◌∙◌, subst, arith, inl, inr, get_or-set_other, get_or-set_same}
 use Rattle.std.proofs.lemmas.Bool.{cases_lt}
 use Rattle.std.proofs.lemmas.Bool.Decides.{nat_tests}
 use Rattle.std.proofs.lemmas.List.{length-set, get_or_append_left}
@@ -17,7 +17,7 @@ use Rattle.shared_link.specs.declared.round.Counts.{Counts}
 use Rattle.shared_link.specs.SharedRounds.{Sent, flow_link_at, ask_at, every_packet, own_packets, packet_after, with_packet, with_givens, acks_of_givens, each_flow, sum_over_flows}
 use Rattle.shared_link.specs.SharedStanding.{flow_standing}
 use Rattle.shared_link.specs.Reached.{Settled}
-use Rattle.shared_link.specs.Kept.{flow_under_way, AnsweredFlow, answered_all, with_one, fate_now, IsSending, Follows, IsFlowReady, AreReady, most_answers, HaveRoom, acks_before, AnsweredTo}
+use Rattle.shared_link.specs.Kept.{flow_under_way, AnsweredFlow, answered_all, with_one, fate_now, IsSending, Follows, IsFlowReady, AreReady, IsPrepared, ArePrepared, acks_before, AnsweredTo}
 use Rattle.shared_link.proofs.KeptLemmas.{kept-sent, kept-answers}
 use Rattle.shared_link.proofs.RoundLemmas.{settled-packet}
 
@@ -62,12 +62,12 @@ ready-set case rounds flows at traffic within ready here = record {
       each_set (λ f t. IsFlowReady (flow_link_at case f) rounds t) flows at traffic within (λ f o i apart. ready.each f o i) here flow other (omega (arith, inside, length-set flows at traffic));
 }
 
-pub room-set : (case : SharedCase) (asks : List Ask) (bound more : ℕ) (flows : List FlowTraffic) (at : ℕ) (traffic : FlowTraffic) → at < length flows → more ≤ length flows → HaveRoom case asks bound flows
-    → ((flow : ℕ) → flow < more → flow ≢ at → flow < bound) → most_answers case asks at traffic ≤ vec_capacity traffic.acks
-    → HaveRoom case asks more (set flows at traffic)
-room-set case asks bound more flows at traffic within most room before here flow other below =
-    each_set (λ f t. f < more → most_answers case asks f t ≤ vec_capacity t.acks) flows at traffic within
-    (λ f o i apart under. room f o (before f under apart)) (λ under. here) flow other (omega arith) below
+pub prepared-set : (case : SharedCase) (asks : List Ask) (bound more : ℕ) (flows : List FlowTraffic) (at : ℕ) (traffic : FlowTraffic) → at < length flows → more ≤ length flows → ArePrepared case asks bound flows
+    → ((flow : ℕ) → flow < more → flow ≢ at → flow < bound) → IsPrepared case asks at traffic
+    → ArePrepared case asks more (set flows at traffic)
+prepared-set case asks bound more flows at traffic within most prepared before here flow other below =
+    each_set (λ f t. f < more → IsPrepared case asks f t) flows at traffic within
+    (λ f o i apart under. prepared f o (before f under apart)) (λ under. here) flow other (omega arith) below
 
 -- ---- one more packet
 

@@ -51,9 +51,10 @@ horizon = most_rounds * most_quantum_us + span + most_delay_us
 
 -- what holds of the traffic of a flow at every moment
 pub record IsFlowKept (link : FlowLink) (flow : FlowTraffic) : Type 0 where
-  pub capacity : flow.flight.capacity ≡ most_flight
+  pub places : flow.allowance ≤ flow.flight.capacity
   pub count : flow.in_flight ≡ flight_count flow.flight.items flow.lost
   pub few : flow.in_flight ≤ most_flight
+  pub allowance : flow.allowance ≤ most_flight
   pub passed : (i : ℕ) → i < flow.passed → slice_index link.losses i < flow.sent
   pub arrivals : ArriveWithin horizon flow.flight.items
   pub time : flow.time ≤ horizon
@@ -200,11 +201,16 @@ pub record AreReady (case : SharedCase) (rounds : ℕ) (flows : List FlowTraffic
 abbrev pub most_answers : SharedCase → List Ask → ℕ → FlowTraffic → ℕ
 most_answers case asks flow traffic = min (ask_at asks flow).left (max traffic.in_flight (allowed case asks flow))
 
--- there is room for the acknowledgements of each of the first `first` flows
-abbrev pub HaveRoom : SharedCase → List Ask → ℕ → List FlowTraffic → Type 0
-HaveRoom case asks first flows =
-    (flow : ℕ) (other : FlowTraffic) → flow < first
-    → most_answers case asks flow (get_or flows flow other) ≤ vec_capacity (get_or flows flow other).acks
+-- a flow with this traffic has begun a round: it keeps how many packets it may have in flight, and there is room for its
+-- acknowledgements
+pub record IsPrepared (case : SharedCase) (asks : List Ask) (flow : ℕ) (traffic : FlowTraffic) : Type 0 where
+  pub allowance : traffic.allowance ≡ allowed case asks flow
+  pub room : most_answers case asks flow traffic ≤ vec_capacity traffic.acks
+
+-- each of the first `first` flows has begun the round
+abbrev pub ArePrepared : SharedCase → List Ask → ℕ → List FlowTraffic → Type 0
+ArePrepared case asks first flows =
+    (flow : ℕ) (other : FlowTraffic) → flow < first → IsPrepared case asks flow (get_or flows flow other)
 
 -- some turns of a round's sending were made: from the packets sent so far, `left` more turns lead to the same packets as
 -- all turns do from `sent`

@@ -5,37 +5,44 @@ ghost use Rattle.link_model.specs.Counts.{most_packets};
 ghost use Rattle.shared_link.specs.SharedLimits.{IsFlowWithin};
 ghost use Rattle.shared_link.specs.Kept.{flow_under_way, answered_in, IsFlowKept, with_arrival, timed_out, answered_all};
 
+use crate::flow_sending::PACKETS;
 use crate::flow_traffic::FlowTraffic;
 use crate::shared_case::FlowLink;
 use ccp_base::{Acks, NoMemory, Sequence};
+use circular_buffer::HeapCircularBuffer;
 use link_model::{Arrival, Past, arrival_ack, timeout_ack};
-use std::alloc::Global;
+use std::alloc::{AllocError, Global};
 
 impl FlowTraffic {
-    /// Reserves memory for the acknowledgements of a round, at most `left`. The flow gets at most one for each packet
-    /// that is in flight or that it sends until `may` are in flight.
+    /// Begins a round, in which the flow may have `allowance` packets in flight: reserves memory for them, and for its
+    /// acknowledgements, at most `left`. The flow gets at most one for each packet that is in flight or that it sends
+    /// until `allowance` are.
     pub(crate) fn make_room(
         &mut self,
         alloc: Global,
         link: &FlowLink,
-        may: u64,
+        allowance: u64,
         left: u32,
     ) -> Result<(), NoMemory>
         requires kept { IsFlowKept link.now self.old }
+        requires allowance { allowance ≤ most_flight }
         requires acks { self.old.acks.items ≡ [] }
         ensures kept { IsFlowKept link.now self.new }
         ensures standing { flow_under_way self.new ≡ flow_under_way self.old }
         ensures in_flight { self.new.in_flight ≡ self.old.in_flight }
         ensures sent { self.new.sent ≡ self.old.sent }
         ensures acks { self.new.acks.items ≡ [] }
-        ensures room { OnOk result (min left (max self.new.in_flight may) ≤ vec_capacity self.new.acks) }
+        ensures allowance { OnOk result (self.new.allowance ≡ allowance) }
+        ensures room { OnOk result (min left (max self.new.in_flight allowance) ≤ vec_capacity self.new.acks) }
     {
         // for the contract alone: what holds of a flow depends on its listed losses
         let _ = link;
-        let most = u64::from(left).min(self.in_flight.max(may)) as usize;
+        make_places(&mut self.flight, allowance)?;
+        let most = u64::from(left).min(self.in_flight.max(allowance)) as usize;
         if self.acks.capacity() < most {
             self.acks = Vec::with_capacity(alloc, most)?;
         }
+        self.allowance = allowance;
         Ok(())
     }
 
@@ -179,4 +186,20 @@ impl FlowTraffic {
         self.past = Past::after(&ack);
         self.acks.push_reserved(ack);
     }
+}
+
+/// Reserves memory for `most` packets in flight. A ring that is too short at least doubles, up to 4,096 places, so that
+/// few rounds reserve any.
+fn make_places(flight: &mut HeapCircularBuffer<Arrival>, most: u64) -> Result<(), AllocError>
+    requires most { most ≤ most_flight }
+    ensures items { flight.new.items ≡ flight.old.items }
+    ensures capacity { flight.old.capacity ≤ flight.new.capacity }
+    ensures places { OnOk result (most ≤ flight.new.capacity) }
+{
+    let places = flight.capacity();
+    let most = most as usize;
+    if places < most {
+        flight.resize(most.max(2 * places).min(PACKETS))?;
+    }
+    Ok(())
 }

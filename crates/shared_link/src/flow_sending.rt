@@ -16,11 +16,14 @@ use circular_buffer::HeapCircularBuffer;
 use link_model::{Arrival, Past, Trace, is_at, is_marked, next_loss};
 use std::alloc::{AllocError, Global};
 
+/// How many packets in flight a new flow has memory for. A round that allows more reserves memory for more.
+const FIRST_PLACES: usize = 64;
+
 /// The most packets in flight.
 pub(crate) const PACKETS: usize = 4096;
 
 impl FlowTraffic {
-    /// The traffic of a flow that has sent nothing. Reserves memory for its packets in flight.
+    /// The traffic of a flow that has sent nothing. Reserves memory for 64 packets in flight.
     pub(crate) fn new(alloc: Global) -> Result<FlowTraffic, AllocError>
         ensures kept { IfOk result (λ t. (link : FlowLink) → IsFlowKept link t) }
         ensures standing { IfOk result (λ t. (times : List ℕ) (link : FlowLink)
@@ -28,13 +31,14 @@ impl FlowTraffic {
         ensures sent { IfOk result (λ t. t.sent ≡ 0) }
         ensures acks { IfOk result (λ t. t.acks.items ≡ []) }
     {
-        let flight = HeapCircularBuffer::with_capacity(alloc, PACKETS)?;
+        let flight = HeapCircularBuffer::with_capacity(alloc, FIRST_PLACES)?;
         Ok(FlowTraffic {
             time: 0,
             past: Past::none(),
             flight,
             lost: 0,
             since: 0,
+            allowance: 0,
             in_flight: 0,
             sent: 0,
             acked: 0,
@@ -50,12 +54,13 @@ impl FlowTraffic {
         requires kept { IsFlowKept link.now self.old }
         requires sending { IsSending trace.now sending.old }
         requires queue { room ≤ most_queue }
-        requires room { self.old.in_flight < most_flight }
+        requires room { self.old.in_flight < self.old.allowance }
         requires sent { self.old.sent < most_packets }
         ensures kept { IsFlowKept link.now self.new }
         ensures standing { flow_under_way self.new ≡ with_one trace.now link.now.delay_us sending.old.now
             (fate_now trace.now link.now room self.old.sent sending.old) (flow_under_way self.old) }
         ensures in_flight { self.new.in_flight ≡ self.old.in_flight + 1 }
+        ensures allowance { self.new.allowance ≡ self.old.allowance }
         ensures sent { self.new.sent ≡ self.old.sent + 1 }
         ensures acks { self.new.acks ≡ self.old.acks }
         ensures sending { IsSending trace.now sending.new }
@@ -75,12 +80,13 @@ impl FlowTraffic {
     /// Sends a packet that is lost, at `now`, in microseconds.
     fn lose(&mut self, link: &FlowLink, now: u64)
         requires kept { IsFlowKept link.now self.old }
-        requires room { self.old.in_flight < most_flight }
+        requires room { self.old.in_flight < self.old.allowance }
         requires sent { self.old.sent < most_packets }
         requires now { now ≤ 2 ^ 34 }
         ensures kept { IsFlowKept link.now self.new }
         ensures standing { flow_under_way self.new ≡ with_one [] 0 now Lost (flow_under_way self.old) }
         ensures in_flight { self.new.in_flight ≡ self.old.in_flight + 1 }
+        ensures allowance { self.new.allowance ≡ self.old.allowance }
         ensures sent { self.new.sent ≡ self.old.sent + 1 }
         ensures acks { self.new.acks ≡ self.old.acks }
     {
@@ -98,12 +104,13 @@ impl FlowTraffic {
         requires kept { IsFlowKept link.now self.old }
         requires sending { IsSending trace.now sending.old }
         requires waiting { sending.old.queue.waiting < most_queue }
-        requires room { self.old.in_flight < most_flight }
+        requires room { self.old.in_flight < self.old.allowance }
         requires sent { self.old.sent < most_packets }
         ensures kept { IsFlowKept link.now self.new }
         ensures standing { flow_under_way self.new ≡ with_one trace.now link.now.delay_us sending.old.now
             (served_now trace.now link.now sending.old) (flow_under_way self.old) }
         ensures in_flight { self.new.in_flight ≡ self.old.in_flight + 1 }
+        ensures allowance { self.new.allowance ≡ self.old.allowance }
         ensures sent { self.new.sent ≡ self.old.sent + 1 }
         ensures acks { self.new.acks ≡ self.old.acks }
         ensures sending { IsSending trace.now sending.new }
@@ -137,10 +144,9 @@ fn first_since(lost: u64, since: u64, now: u64) -> u64
 
 /// Appends a packet to those in flight.
 fn put(flight: &mut HeapCircularBuffer<Arrival>, arrival: Arrival)
-    requires capacity { flight.old.capacity ≡ most_flight }
-    requires room { length flight.old.items < most_flight }
+    requires room { length flight.old.items < flight.old.capacity }
     ensures items { flight.new.items ≡ flight.old.items ++ arrival ∷ [] }
-    ensures capacity { flight.new.capacity ≡ most_flight }
+    ensures capacity { flight.new.capacity ≡ flight.old.capacity }
 {
     let _ = flight.push_back(arrival);
 }

@@ -16,6 +16,8 @@ pub(crate) struct FlowTraffic {
     pub(crate) lost: u64,
     /// When the first of these lost packets was sent, in microseconds; 0 if there are none.
     pub(crate) since: u64,
+    /// How many packets it may have in flight in the present round.
+    pub(crate) allowance: u64,
     /// How many of its packets are in flight, with the lost ones.
     pub(crate) in_flight: u64,
     /// How many of its packets were sent.

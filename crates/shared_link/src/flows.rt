@@ -4,7 +4,7 @@ ghost use Rattle.ccp_base.specs.Limits.{most_flight, most_rounds, most_quantum_u
 ghost use Rattle.link_model.specs.Traces.{IsTrace};
 ghost use Rattle.shared_link.specs.SharedLimits.{IsWithin};
 ghost use Rattle.shared_link.specs.SharedRounds.{flow_link_at, ask_at, allowed};
-ghost use Rattle.shared_link.specs.Kept.{flow_under_way, IsSending, FlowsFollow, AreReady, HaveRoom};
+ghost use Rattle.shared_link.specs.Kept.{flow_under_way, IsSending, FlowsFollow, AreReady, ArePrepared};
 ghost use Rattle.shared_link.specs.KeptFlows.{TellsLack, TellsSomeLack, TellsCounts, SendsOne, SendsTurn, SendsAll};
 ghost use Rattle.shared_link.specs.KeptFlows.{IsReadyAt, HasRoomAt, AreOthersKept, AnswersAt, AnswersAll};
 
@@ -57,20 +57,19 @@ pub(crate) struct Flows {
 impl Flows {
     /// Whether a flow has fewer packets in flight than it may have.
     fn lacks(&self, case: &SharedCase, asks: &[Ask], sending: &Sending, flow: usize) -> bool
-        requires case { IsWithin case.now }
         requires ready { AreReady case.now sending.now.rounds self.now.traffic.items }
-        requires asks { length asks.now ≡ length case.now.flows }
+        requires prepared { ArePrepared case.now asks.now (length self.now.traffic.items) self.now.traffic.items }
         requires flow { flow < length self.now.traffic.items }
-        ensures few { IsTrue result
-            → (other : FlowTraffic) → (get_or self.now.traffic.items flow other).in_flight < most_flight }
-        ensures below { IsTrue result
-            → (other : FlowTraffic) → (get_or self.now.traffic.items flow other).in_flight < allowed case.now asks.now flow }
+        ensures below { IsTrue result → (other : FlowTraffic)
+            → (get_or self.now.traffic.items flow other).in_flight < (get_or self.now.traffic.items flow other).allowance }
         ensures lacks { TellsLack case.now asks.now self.now flow result }
     {
-        // for the contract alone: what holds of the flows depends on the rounds so far
+        // for the contract alone: what holds of the flows depends on the case, what they ask for and the rounds so far
+        let _ = case;
+        let _ = asks;
         let _ = sending;
-        let may = allowance_of(case, asks, flow);
-        self.traffic[flow].in_flight < may
+        let traffic = &self.traffic[flow];
+        traffic.in_flight < traffic.allowance
     }
 
     /// A flow sends a packet if it has fewer in flight than it may have. Answers whether it sent one.
@@ -83,12 +82,12 @@ impl Flows {
     ) -> bool
         requires case { IsWithin case.now }
         requires ready { AreReady case.now sending.old.rounds self.old.traffic.items }
-        requires room { HaveRoom case.now asks.now (length self.old.traffic.items) self.old.traffic.items }
+        requires prepared { ArePrepared case.now asks.now (length self.old.traffic.items) self.old.traffic.items }
         requires asks { length asks.now ≡ length case.now.flows }
         requires flow { flow < length self.old.traffic.items }
         requires sending { IsSending case.now.trace sending.old }
         ensures ready { AreReady case.now sending.new.rounds self.new.traffic.items }
-        ensures room { HaveRoom case.now asks.now (length self.new.traffic.items) self.new.traffic.items }
+        ensures prepared { ArePrepared case.now asks.now (length self.new.traffic.items) self.new.traffic.items }
         ensures sending { IsSending case.now.trace sending.new }
         ensures rounds { sending.new.rounds ≡ sending.old.rounds }
         ensures now { sending.new.now ≡ sending.old.now }
@@ -108,11 +107,11 @@ impl Flows {
     fn send_turn(&mut self, case: &SharedCase, asks: &[Ask], sending: &mut Sending) -> bool
         requires case { IsWithin case.now }
         requires ready { AreReady case.now sending.old.rounds self.old.traffic.items }
-        requires room { HaveRoom case.now asks.now (length self.old.traffic.items) self.old.traffic.items }
+        requires prepared { ArePrepared case.now asks.now (length self.old.traffic.items) self.old.traffic.items }
         requires asks { length asks.now ≡ length case.now.flows }
         requires sending { IsSending case.now.trace sending.old }
         ensures ready { AreReady case.now sending.new.rounds self.new.traffic.items }
-        ensures room { HaveRoom case.now asks.now (length self.new.traffic.items) self.new.traffic.items }
+        ensures prepared { ArePrepared case.now asks.now (length self.new.traffic.items) self.new.traffic.items }
         ensures sending { IsSending case.now.trace sending.new }
         ensures rounds { sending.new.rounds ≡ sending.old.rounds }
         ensures now { sending.new.now ≡ sending.old.now }
@@ -132,11 +131,11 @@ impl Flows {
     pub(crate) fn send_all(&mut self, case: &SharedCase, asks: &[Ask], sending: &mut Sending)
         requires case { IsWithin case.now }
         requires ready { AreReady case.now sending.old.rounds self.old.traffic.items }
-        requires room { HaveRoom case.now asks.now (length self.old.traffic.items) self.old.traffic.items }
+        requires prepared { ArePrepared case.now asks.now (length self.old.traffic.items) self.old.traffic.items }
         requires asks { length asks.now ≡ length case.now.flows }
         requires sending { IsSending case.now.trace sending.old }
         ensures ready { AreReady case.now sending.new.rounds self.new.traffic.items }
-        ensures room { HaveRoom case.now asks.now (length self.new.traffic.items) self.new.traffic.items }
+        ensures prepared { ArePrepared case.now asks.now (length self.new.traffic.items) self.new.traffic.items }
         ensures sending { IsSending case.now.trace sending.new }
         ensures rounds { sending.new.rounds ≡ sending.old.rounds }
         ensures now { sending.new.now ≡ sending.old.now }
@@ -165,7 +164,8 @@ impl Flows {
         Ok(Flows { traffic })
     }
 
-    /// Reserves memory for the most acknowledgements that each flow can get in a round.
+    /// Begins a round: sets how many packets each flow may have in flight, and reserves memory for them and for the most
+    /// acknowledgements that it can get.
     pub(crate) fn make_rooms(
         &mut self,
         alloc: Global,
@@ -177,16 +177,16 @@ impl Flows {
         requires ready { AreReady case.now rounds self.old.traffic.items }
         requires asks { length asks.now ≡ length case.now.flows }
         ensures ready { AreReady case.now rounds self.new.traffic.items }
-        ensures room { OnOk result (HaveRoom case.now asks.now (length self.new.traffic.items) self.new.traffic.items) }
+        ensures prepared { OnOk result (ArePrepared case.now asks.now (length self.new.traffic.items) self.new.traffic.items) }
         ensures same { map flow_under_way self.new.traffic.items ≡ map flow_under_way self.old.traffic.items }
     {
         // for the contract alone: what holds of the flows depends on the rounds so far
         let _ = rounds;
         let mut flow = 0;
         while flow < self.traffic.len() {
-            let may = allowance_of(case, asks, flow);
+            let allowance = allowance_of(case, asks, flow);
             let left = ask_of(asks, flow).left;
-            self.traffic[flow].make_room(alloc, link_of(case, flow), may, left)?;
+            self.traffic[flow].make_room(alloc, link_of(case, flow), allowance, left)?;
             flow += 1;
         }
         Ok(())
@@ -249,7 +249,7 @@ impl Flows {
         requires case { IsWithin case.now }
         requires asks { length asks.now ≡ length case.now.flows }
         requires ready { AreReady case.now rounds self.old.traffic.items }
-        requires room { HaveRoom case.now asks.now (length self.old.traffic.items) self.old.traffic.items }
+        requires prepared { ArePrepared case.now asks.now (length self.old.traffic.items) self.old.traffic.items }
         requires end { end ≤ most_rounds * most_quantum_us }
         requires rounds { rounds < most_rounds }
         requires none { answers.old.items ≡ [] }

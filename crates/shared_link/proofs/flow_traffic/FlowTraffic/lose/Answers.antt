@@ -7,7 +7,7 @@ use Rattle.shared_link.proofs.flow_traffic.FlowTraffic.lose.Goals as goal
 pub overflow_add-self : goal.overflow_add-self
 overflow_add-self c =
     let old = c.args.self.now in
-    omega (arith, length_le_count old.flight.items old.lost, c.requires.kept.count, c.requires.room)
+    omega (arith, length_le_count old.flight.items old.lost, c.requires.kept.count, c.requires.kept.allowance, c.requires.room)
 
 pub returns-clause-kept : goal.returns-clause-kept
 returns-clause-kept c =
@@ -15,9 +15,10 @@ returns-clause-kept c =
     let kept = c.requires.kept in
     let now : c.args.now ≤ horizon = omega (arith, c.requires.now) in
     record {
-      capacity = kept.capacity;
+      places = kept.places;
       count = omega (arith, kept.count, count-lost old.flight.items old.lost 1);
-      few = omega (arith, c.requires.room);
+      few = omega (arith, kept.allowance, c.requires.room);
+      allowance = kept.allowance;
       passed = λ i below. omega (arith, kept.passed i below);
       arrivals = kept.arrivals;
       time = kept.time;

@@ -17,10 +17,10 @@ overflow_add-arrival c =
     let is = c.requires.sending in
     omega (arith, own_soon c.args.trace.now is.valid c.args.sending.now is c.requires.waiting, is.now, c.time_of-own.ensures.time, c.requires.link.delay_us)
 
-pub put-requires-clause-room : goal.put-requires-clause-room
-put-requires-clause-room c =
+pub put-requires : goal.put-requires
+put-requires c =
     let old = c.args.self.now in
-    omega (arith, length_le_count old.flight.items old.lost, c.requires.kept.count, c.requires.room)
+    omega (arith, length_le_count old.flight.items old.lost, c.requires.kept.count, c.requires.kept.places, c.requires.room)
 
 pub returns-clause-kept : goal.returns-clause-kept
 returns-clause-kept c =
@@ -33,9 +33,10 @@ returns-clause-kept c =
     let within : last.at ≤ horizon = omega (arith, soon, is.now, c.time_of-own.ensures.time, c.requires.link.delay_us) in
     let order : last.sent_at ≤ last.at = omega (arith, not_before, c.time_of-own.ensures.time) in
     record {
-      capacity = c.put.ensures.capacity;
+      places = omega (arith, kept.places, c.put.ensures.capacity);
       count = omega (arith, kept.count, ap (λ xs. flight_count xs 0) c.put.ensures.items, count-push old.flight.items last old.lost refl);
-      few = omega (arith, c.requires.room);
+      few = omega (arith, kept.allowance, c.requires.room);
+      allowance = kept.allowance;
       passed = λ i below. omega (arith, kept.passed i below);
       arrivals = subst (λ (xs : List Arrival). ArriveWithin horizon xs) (sym c.put.ensures.items) (ArriveWithin-push horizon old.flight.items last kept.arrivals order within);
       time = kept.time;

@@ -1,12 +1,22 @@
-use Rattle.std.proofs.Common.{◌≡◌, ◌≢◌, ℕ, ◌+◌, ◌<◌, List, [], ◌∷◌, length, get_or, subst, ap, sym, ◌∙◌, arith, inl, inr}
+use Rattle.std.proofs.Common.{◌≡◌, ◌≢◌, ℕ, ◌+◌, ◌<◌, ◌≤◌, List, [], ◌∷◌, length, get_or, vec_capacity, subst, ap, sym, ◌∙◌, arith, inl, inr}
 use Rattle.std.proofs.lemmas.Bool.{cases_lt}
 use Rattle.std.proofs.Common.{length-append}
 use Rattle.ccp_base.specs.declared.ack.Ack.{Ack}
 use Rattle.shared_link.specs.declared.flow_traffic.FlowTraffic.{FlowTraffic}
 use Rattle.shared_link.specs.SharedRounds.{flow_link_at}
-use Rattle.shared_link.specs.Kept.{IsFlowReady, AnsweredTo}
+use Rattle.shared_link.specs.Kept.{IsFlowReady, most_answers, AnsweredTo}
 use Rattle.shared_link.proofs.FlowsLemmas.{answered-more}
 use Rattle.shared_link.proofs.flows.Flows.answer_all.Goals as goal
+
+pub answer_one-acks-requires-clause-room : goal.answer_one-acks-requires-clause-room
+answer_one-acks-requires-clause-room c = λ other.
+    let case = c.args.case.now in
+    let f = c.loop-flow.flow in
+    let asks = c.args.asks.now in
+    let inv = c.loop-flow.invariant in
+    let within : f < length c.loop-flow.self.traffic.items = omega (arith, c.loop-flow-test.true, c.len.ensures) in
+    subst (λ (t : FlowTraffic). most_answers case asks f t ≤ vec_capacity t.acks) (sym (inv.5 f other (omega arith) within))
+    (c.requires.prepared f other (omega (arith, within, inv.1))).room
 
 pub loop-flow-preserved : goal.loop-flow-preserved
 loop-flow-preserved c =

@@ -33,7 +33,7 @@ loop-left-preserved c =
     let now = c.loop-left.sending.now in
     let one : suc (left - 1) ≡ left = omega (arith, c.loop-left-test.true) in (
       c.send_turn.ensures.ready,
-      c.send_turn.ensures.room,
+      c.send_turn.ensures.prepared,
       c.send_turn.ensures.sending,
       c.send_turn.ensures.rounds ∙ c.loop-left.invariant.3,
       c.send_turn.ensures.now ∙ c.loop-left.invariant.4,

@@ -1,13 +1,13 @@
 use Rattle.std.proofs.Common.{◌≡◌, ℕ, List, length}
 use Rattle.link_model.specs.Link.{GivenAck}
 use Rattle.shared_link.specs.SharedRounds.{Sent}
-use Rattle.shared_link.specs.Kept.{IsSending, Follows, AreReady, HaveRoom, TurnsMade}
+use Rattle.shared_link.specs.Kept.{IsSending, Follows, AreReady, ArePrepared, TurnsMade}
 use Rattle.shared_link.proofs.flows.Flows.send_all.Given as goal
 
 abbrev pub invariant-loop-left : goal.invariant-loop-left
 invariant-loop-left l =
     AreReady l.case l.sending.rounds l.self.traffic.items
-    × HaveRoom l.case l.asks (length l.self.traffic.items) l.self.traffic.items
+    × ArePrepared l.case l.asks (length l.self.traffic.items) l.self.traffic.items
     × IsSending l.case.trace l.sending
     × (l.sending.rounds ≡ l.fn.sending.rounds)
     × (l.sending.now ≡ l.fn.sending.now)

@@ -5,15 +5,15 @@ use Rattle.shared_link.specs.declared.shared_case.FlowLink.{FlowLink}
 use Rattle.link_model.specs.Link.{chance_past}
 use Rattle.link_model.specs.Chances.{chance_number}
 use Rattle.shared_link.specs.SharedRounds.{flow_link_at, ask_at, allowed, with_packet}
-use Rattle.shared_link.specs.Kept.{flow_under_way, with_one, fate_now, IsFlowKept, IsFlowReady, AreReady, most_answers, Follows}
-use Rattle.shared_link.proofs.FlowsLemmas.{ready-set, room-set, follows-sent}
+use Rattle.shared_link.specs.Kept.{flow_under_way, with_one, fate_now, IsFlowKept, IsFlowReady, AreReady, IsPrepared, Follows}
+use Rattle.shared_link.proofs.FlowsLemmas.{ready-set, prepared-set, follows-sent}
 use Rattle.shared_link.proofs.flows.Flows.send_one.Goals as goal
 
 pub returns-then-not-lacks-clause-ready : goal.returns-then-not-lacks-clause-ready
 returns-then-not-lacks-clause-ready c = c.requires.ready
 
-pub returns-then-not-lacks-clause-room : goal.returns-then-not-lacks-clause-room
-returns-then-not-lacks-clause-room c = c.requires.room
+pub returns-then-not-lacks-clause-prepared : goal.returns-then-not-lacks-clause-prepared
+returns-then-not-lacks-clause-prepared c = c.requires.prepared
 
 pub returns-then-not-lacks-clause-follows : goal.returns-then-not-lacks-clause-follows
 returns-then-not-lacks-clause-follows c = λ sent givens follows.
@@ -44,8 +44,7 @@ send-requires-clause-sent c =
 pub send-requires-clause-room : goal.send-requires-clause-room
 send-requires-clause-room c =
     let t = c.index_mut.result.now in
-    let same = ap (λ (x : FlowTraffic). x.in_flight) c.index_mut.ensures.value in
-    omega (arith, same, c.lacks.ensures.few (search rules) t)
+    subst (λ (x : FlowTraffic). x.in_flight < x.allowance) (sym c.index_mut.ensures.value) (c.lacks.ensures.below (search rules) t)
 
 pub returns-clause-ready : goal.returns-clause-ready
 returns-clause-ready c =
@@ -64,8 +63,8 @@ returns-clause-ready c =
       acks = ap (λ v. v.items) c.send.ensures.acks ∙ ready.acks;
     }))
 
-pub returns-clause-room : goal.returns-clause-room
-returns-clause-room c =
+pub returns-clause-prepared : goal.returns-clause-prepared
+returns-clause-prepared c =
     let case = c.args.case.now in
     let f = c.args.flow in
     let flows = c.args.self.now.traffic.items in
@@ -74,10 +73,12 @@ returns-clause-room c =
     let asks = c.args.asks.now in
     let count = length-set flows f new in
     let may = allowed case asks f in
-    let below : old.in_flight < may = subst (λ (x : FlowTraffic). x.in_flight < may) (sym c.index_mut.ensures.value) (c.lacks.ensures.below (search rules) old) in
-    let kept : min (ask_at asks f).left (max old.in_flight may) ≤ vec_capacity old.acks = subst (λ (x : FlowTraffic). most_answers case asks f x ≤ vec_capacity x.acks) (sym c.index_mut.ensures.value) (c.requires.room f old c.requires.flow) in
-    let here : min (ask_at asks f).left (max new.in_flight may) ≤ vec_capacity new.acks = omega (arith, kept, below, c.send.ensures.in_flight, ap vec_capacity c.send.ensures.acks) in
-    room-set case asks (length flows) (length (set flows f new)) flows f new c.requires.flow (omega (arith, count)) c.requires.room (λ flow under apart. omega (arith, under, count)) here
+    let below : old.in_flight < old.allowance = subst (λ (x : FlowTraffic). x.in_flight < x.allowance) (sym c.index_mut.ensures.value) (c.lacks.ensures.below (search rules) old) in
+    let kept = subst (λ (x : FlowTraffic). IsPrepared case asks f x) (sym c.index_mut.ensures.value) (c.requires.prepared f old c.requires.flow) in
+    let room : min (ask_at asks f).left (max old.in_flight may) ≤ vec_capacity old.acks = kept.room in
+    let here : min (ask_at asks f).left (max new.in_flight may) ≤ vec_capacity new.acks = omega (arith, room, below, kept.allowance, c.send.ensures.in_flight, ap vec_capacity c.send.ensures.acks) in
+    prepared-set case asks (length flows) (length (set flows f new)) flows f new c.requires.flow (omega (arith, count)) c.requires.prepared (λ flow under apart. omega (arith, under, count))
+    (record { allowance = c.send.ensures.allowance ∙ kept.allowance; room = here })
 
 pub returns-clause-follows : goal.returns-clause-follows
 returns-clause-follows c = λ sent givens follows.

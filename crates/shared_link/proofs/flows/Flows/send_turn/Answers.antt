@@ -17,7 +17,7 @@ loop-flow-preserved c =
     let one : suc flow ≡ flow + 1 = omega arith in (
       omega (arith, c.loop-flow-test.true, c.len.ensures, c.loop-flow.invariant.1.count, c.send_one.ensures.ready.count),
       c.send_one.ensures.ready,
-      c.send_one.ensures.room,
+      c.send_one.ensures.prepared,
       c.send_one.ensures.sending,
       c.send_one.ensures.rounds ∙ c.loop-flow.invariant.4,
       c.send_one.ensures.now ∙ c.loop-flow.invariant.5,

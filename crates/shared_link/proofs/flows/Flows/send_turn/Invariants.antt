@@ -1,14 +1,14 @@
 use Rattle.std.proofs.Common.{◌≡◌, ℕ, ◌-◌, ◌≤◌, false, List, length}
 use Rattle.link_model.specs.Link.{GivenAck}
 use Rattle.shared_link.specs.SharedRounds.{Sent, allowed, some_lacks, sending_turn}
-use Rattle.shared_link.specs.Kept.{IsSending, Follows, FlowsFollow, AreReady, HaveRoom}
+use Rattle.shared_link.specs.Kept.{IsSending, Follows, FlowsFollow, AreReady, ArePrepared}
 use Rattle.shared_link.proofs.flows.Flows.send_turn.Given as goal
 
 abbrev pub invariant-loop-flow : goal.invariant-loop-flow
 invariant-loop-flow l =
     (l.flow ≤ length l.self.traffic.items)
     × AreReady l.case l.sending.rounds l.self.traffic.items
-    × HaveRoom l.case l.asks (length l.self.traffic.items) l.self.traffic.items
+    × ArePrepared l.case l.asks (length l.self.traffic.items) l.self.traffic.items
     × IsSending l.case.trace l.sending
     × (l.sending.rounds ≡ l.fn.sending.rounds)
     × (l.sending.now ≡ l.fn.sending.now)
