@@ -1,6 +1,7 @@
 //! The desk of an agent worker: flows' numbers arrive over a channel, and each flow has its lock.
 ghost use Rattle.std.specs.Prelude.{◌≡◌, ℕ, ◌+◌, ◌<◌, ◌≤◌, Option, Some, None, option_map, [], ◌∷◌, length};
 ghost use Rattle.worker_desk.specs.Logs.{KnownLog, Logs};
+ghost use Rattle.agent_loop.specs.Answering.{HasSettled};
 ghost use Rattle.worker_desk.specs.declared.event.Event.TheVariants.{Passed, Locked, Unlocked, Received, Took, Settled};
 
 use agent_core::{Answer, Ticket};
@@ -27,6 +28,8 @@ pub(crate) struct NudgedDesk<'a, R: Wait, G: Gate> {
 
 impl<'a, R: Wait, G: Gate> AgentDesk for NudgedDesk<'a, R, G> {
     ghost use Rattle.std.specs.Prelude.{None, option_map, length};
+    ghost use Rattle.flow_table.specs.HeldFlows.{OfHeld};
+    ghost use Rattle.agent_loop.specs.Answering.{HasTaken, HasSettled};
 
     ghost log = { λ d. None };
 
@@ -35,6 +38,10 @@ impl<'a, R: Wait, G: Gate> AgentDesk for NudgedDesk<'a, R, G> {
     ghost flows = { λ d. length d.table.now };
 
     ghost coming = { λ d. d.left };
+
+    ghost HasTaken = { λ old new taken. OfHeld (λ before after. HasTaken before after taken) old.held new.held };
+
+    ghost HasSettled = { λ old new answer. OfHeld (λ before after. HasSettled before after answer) old.held new.held };
 
     fn flow_count(&self) -> u32 {
         self.table.flows()
@@ -75,12 +82,22 @@ impl<'a, R: Wait, G: Gate> AgentDesk for NudgedDesk<'a, R, G> {
             unreachable!()
         };
         let Held { flow, mut cell } = held;
-        // The answer is the one to the ticket that is out, since nobody else settles that.
-        let _settled = cell.settle(answer);
+        settle_at(&mut cell, answer);
         self.held = Some(Held { flow, cell });
     }
 
     fn pass(&mut self, worker: u32, point: Point, flow: u32) {
         self.gate.pass(worker, point, flow);
+    }
+}
+
+/// Settles the answer to the ticket that is out.
+fn settle_at(cell: &mut Cell, answer: Answer)
+    ensures { HasSettled cell.old cell.new answer }
+{
+    match cell.settle(answer) {
+        Ok(()) => {}
+        // Nobody but the worker that took a ticket settles its answer.
+        Err(stale) => drop(stale),
     }
 }

@@ -13,7 +13,7 @@ use std::sync::Wait;
 use std::thread::Threads;
 
 /// One book a case, in order, whatever the numbers of workers, and in whatever order threads take the flows' locks: each
-/// book has its case and a word that is legal and complete for it. Which such word it is nobody says.
+/// book has its case and a word that is legal and complete for it. No clause says which such word it is.
 ///
 /// Datapath worker `d` takes the acknowledgements of the flows `f` with `f mod datapaths = d`, one of each in turn. It
 /// passes the gate at `BeforeAck` and `AfterAck` without a lock and at `InAck` with the flow's. Agent workers, whose

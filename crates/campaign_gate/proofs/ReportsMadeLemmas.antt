@@ -6,7 +6,7 @@ use Rattle.ccp_base.specs.declared.exchange.Report.{Report}
 use Rattle.ccp_base.specs.declared.exchange.Reply.{Reply}
 use Rattle.ccp_base.specs.declared.exchange.Reply.TheVariants.{Nothing, Update, Change}
 use Rattle.portus_core.specs.Epoch.{Event, acknowledged, updated, Reading, Track, track_at, after_event, after}
-use Rattle.portus_core.specs.Reports.{Epoch, reports, reports_at}
+use Rattle.portus_core.specs.Reports.{Reporter, reports, reports_at}
 use Rattle.agent_core.specs.declared.agent.Agent.{Agent}
 use Rattle.agent_core.specs.Agents.{replied, values_of}
 use Rattle.link_model.specs.declared.link_case.LinkCase.{LinkCase}
@@ -24,7 +24,7 @@ use Rattle.campaign_gate.proofs.PlanLemmas.{plan_over-legal, plan_over-complete}
 
 -- ---- one more event, epoch or ticket
 
-events-append : {F : Type 0} (reading : Reading F) (epoch : Epoch) (events : List Event) (event : Event) (track : Track)
+events-append : {F : Type 0} (reading : Reading F) (epoch : Reporter) (events : List Event) (event : Event) (track : Track)
     → reports reading epoch (events ++ event ∷ []) track
     ≡ reports reading epoch events track ++ reports_at reading epoch event (after reading events track)
 events-append reading epoch [] event track = append-nil (reports_at reading epoch event track)
@@ -86,7 +86,7 @@ module _ {X : Type 0} (flow : Flow X) where
       ++ reports_at (flow.reading w.present.program) (record { flow = flow.number; program = w.present.program; number = length w.past }) event (track_of flow w)
   event-made event w =
       let reading = flow.reading w.present.program in
-      let epoch : Epoch = record { flow = flow.number; program = w.present.program; number = length w.past } in
+      let epoch : Reporter = record { flow = flow.number; program = w.present.program; number = length w.past } in
       let begun = track_at w.present.at w.present.first in
       ap (λ (xs : List Report). reports_from flow 0 w.past ++ xs) (events-append reading epoch w.present.events event begun)
       ∙ sym (append_assoc (reports_from flow 0 w.past) (reports reading epoch w.present.events begun) (reports_at reading epoch event (track_of flow w)))

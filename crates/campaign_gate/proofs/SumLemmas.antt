@@ -8,7 +8,6 @@ use Rattle.flow_core.specs.declared.letter.Letter.{Letter}
 use Rattle.flow_core.specs.Readings.{Flow}
 use Rattle.flow_core.specs.Words.{world}
 use Rattle.flow_core.proofs.LinkWordLemmas.{acks-of-world, length-world, length-windows}
-use Rattle.campaign_gate.specs.declared.sums.Sums.{Sums}
 use Rattle.campaign_gate.specs.CampaignRow.{lost_in, timeouts_in, acked_in, sums_of, sums_with, AreRoomy}
 
 -- ---- one more acknowledgement
@@ -28,14 +27,6 @@ acked-append (first ∷ rest) ack = omega (arith, acked-append rest ack)
 pub sums-append : (acks : List Ack) (ack : Ack) → sums_of (acks ++ ack ∷ []) ≡ sums_with ack (sums_of acks)
 sums-append acks ack =
     λ i. record { lost = lost-append acks ack i; timeouts = timeouts-append acks ack i; acked = acked-append acks ack i }
-
--- where these are the sums over a front of a list, and these acknowledgements are left of it
-abbrev pub AreSumsBefore : List Ack → List Ack → Sums → Type 0
-AreSumsBefore left acks sums =
-    (sums.lost + lost_in left ≡ lost_in acks)
-    × (sums.timeouts + timeouts_in left ≡ timeouts_in acks)
-    × (sums.acked + acked_in left ≡ acked_in acks)
-    × (sums.timeouts + length left ≤ length acks)
 
 -- ---- how many packets a link loses
 

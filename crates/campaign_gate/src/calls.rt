@@ -12,10 +12,11 @@ ghost use Rattle.campaign_gate.specs.CampaignBooks.{acks_of_case, IsCampaignBook
 ghost use Rattle.campaign_gate.specs.LiftedRow.{RowHoldsForSources};
 
 use crate::case_result::CaseResult;
+use crate::entered::Entered;
 use crate::queue::Queue;
 use crate::row::{Row, Rows};
 use crate::workers::make_by_workers;
-use ccp_base::{Acks, Gate, NoMemory, Sequence, Workers};
+use ccp_base::{Acks, Gate, NoMemory, OpenGate, Sequence, Workers};
 use flow_core::{Book, Case, Cell};
 use std::alloc::Global;
 use std::marker::Brand;
@@ -29,7 +30,7 @@ pub fn run_case(alloc: Global, case: Case) -> Result<Row, NoMemory>
     ensures complete { is_complete (over_codes case) (world (over_codes case) case.link (plan case)) ≡ true }
     ensures lifted { RowHoldsForSources case }
 {
-    Row::make(alloc, case)
+    Row::make(alloc, Entered::enter(&OpenGate, 0, 0, case))
 }
 
 /// The cases of a campaign in order.

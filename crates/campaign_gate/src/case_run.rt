@@ -51,12 +51,12 @@ pub(crate) fn next_letter(bare: &Bare) -> Option<Letter>
     None
 }
 
-/// What a run keeps of the letters so far.
+/// What a row needs of the letters so far, beside what later letters depend on.
 #[derive(Clone, Copy)]
-pub(crate) struct Tally {
-    pub(crate) sums: Sums,
+pub struct Tally {
+    pub sums: Sums,
     /// The greatest window so far, in bytes.
-    pub(crate) peak: u64,
+    pub peak: u64,
 }
 
 /// A flow on the way along its campaign word, with its tally.

@@ -6,6 +6,7 @@ mod campaign_flow;
 mod case_result;
 mod case_run;
 mod completion;
+mod entered;
 mod laws;
 mod linked;
 mod listed;
@@ -16,7 +17,7 @@ mod sums;
 mod workers;
 
 pub use calls::{Books, CaseAcks, Cases};
-pub use case_run::is_due;
+pub use case_run::{Tally, is_due};
 pub use laws::row_law;
 pub use row::{Column, Row, Rows};
 pub use sums::Sums;

@@ -5,6 +5,7 @@ ghost use Rattle.flow_core.specs.declared.case.Case.{Case};
 ghost use Rattle.campaign_gate.specs.Shares.{every};
 
 use crate::case_result::CaseResult;
+use crate::entered::Entered;
 use crate::queue::Queue;
 use ccp_base::{Gate, NoMemory, Point, Workers};
 use flow_core::Case;
@@ -70,8 +71,8 @@ fn put_share<M: CaseResult, G: Gate>(
 {
     let mut number = worker;
     while let Some(case) = cases.get(number as usize) {
-        gate.pass(worker, Point::InCase, number);
-        let one = M::make(alloc, case.copy(alloc)?)?;
+        let entered = Entered::enter(gate, worker, number, case.copy(alloc)?);
+        let one = M::make(alloc, entered)?;
         gate.pass(worker, Point::AfterCase, number);
         made.put(one)?;
         number += workers.count();

@@ -1,6 +1,6 @@
 //! The sums of a row over a flow's acknowledgements: lost packets, timeouts and acknowledged bytes.
-ghost use Rattle.std.specs.Prelude.{◌≡◌, ◌<◌, ◌^◌, []};
-ghost use Rattle.campaign_gate.specs.CampaignRow.{lost_in, acked_in, sums_of, sums_with, AreRoomy};
+ghost use Rattle.std.specs.Prelude.{◌≡◌, []};
+ghost use Rattle.campaign_gate.specs.CampaignRow.{sums_of, sums_with, AreRoomy};
 
 use ccp_base::Ack;
 
@@ -16,23 +16,8 @@ pub struct Sums {
 }
 
 impl Sums {
-    /// The sums over acknowledgements, in order. Those of packets and bytes must be below 2^64.
-    pub fn of(acks: &[Ack]) -> Sums
-        requires lost { lost_in acks.now < 2 ^ 64 }
-        requires acked { acked_in acks.now < 2 ^ 64 }
-        ensures { result ≡ sums_of acks.now }
-    {
-        let mut sums = Sums::none();
-        let mut left = acks;
-        while let Some((ack, rest)) = left.split_first() {
-            sums = sums.with(ack);
-            left = rest;
-        }
-        sums
-    }
-
     /// The sums over no acknowledgement.
-    pub(crate) fn none() -> Sums
+    pub fn none() -> Sums
         ensures { result ≡ sums_of [] }
     {
         Sums {
@@ -42,9 +27,9 @@ impl Sums {
         }
     }
 
-    /// The sums with one more acknowledgement.
+    /// The sums with one more acknowledgement. They must be below 2^64.
     #[inline(always)]
-    pub(crate) fn with(self, ack: &Ack) -> Sums
+    pub fn with(self, ack: &Ack) -> Sums
         requires { AreRoomy (sums_with ack.now self) }
         ensures { result ≡ sums_with ack.entry.now self }
     {

@@ -5,10 +5,10 @@ use Rattle.flow_core.specs.declared.book.Book.{Book}
 use Rattle.flow_core.specs.Words.{legal}
 use Rattle.flow_core.specs.Books.{IsBookOf}
 use Rattle.flow_core.specs.Cells.{CellState, flow_at, world_at, IsComplete, StateHoldsForSources}
-use Rattle.flow_table.specs.WholeBooks.{flow_of, IsWhole}
+use Rattle.flow_table.specs.WholeBooks.{flow_of, IsWholeBook}
 
 pub whole : (cell : CellState) (book : Book) → book.case ≡ cell.case → book.word ≡ cell.word → IsComplete cell
-    → legal (flow_at cell) cell.case.link cell.word ≡ true → IsBookOf (flow_at cell) (world_at cell) book → StateHoldsForSources cell → IsWhole book
+    → legal (flow_at cell) cell.case.link cell.word ≡ true → IsBookOf (flow_at cell) (world_at cell) book → StateHoldsForSources cell → IsWholeBook book
 whole cell book case word complete legal_word told lifted =
     let same : cell ≡ flow_of book = sym (λ i. record { case = case i; word = word i }) in
     record {

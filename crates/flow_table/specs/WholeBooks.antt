@@ -11,7 +11,7 @@ flow_of book = record { case = book.case; word = book.word }
 
 -- the word is legal and complete for the case, and the book shows the state after it, read over
 -- the case's codes, and so, for all programs that these simulate, over the programs
-pub record IsWhole (book : Book) : Type 0 where
+pub record IsWholeBook (book : Book) : Type 0 where
   pub legal : legal (flow_at (flow_of book)) book.case.link book.word ≡ true
   pub complete : IsComplete (flow_of book)
   pub told : IsBookOf (flow_at (flow_of book)) (world_at (flow_of book)) book

@@ -1,6 +1,6 @@
 //! The desk of a datapath worker over a table of flows.
 
-ghost use Rattle.std.specs.Prelude.{◌≡◌, ℕ, ◌+◌, ◌<◌, ◌≤◌, Option, Some, None, option_map, [], ◌∷◌, length};
+ghost use Rattle.std.specs.Prelude.{◌≡◌, ℕ, ◌+◌, ◌<◌, ◌≤◌, Option, Some, None, option_map, IfSome, [], ◌∷◌, length};
 ghost use Rattle.worker_desk.specs.Logs.{KnownLog, Logs};
 ghost use Rattle.worker_desk.specs.Serving.{heard_count};
 ghost use Rattle.worker_desk.specs.declared.event.Event.TheVariants.{Passed, Locked, Unlocked, Acked, Nudged};
@@ -27,6 +27,7 @@ pub(crate) struct FlowDesk<'a, F: LockedFlow, N, R, G> {
 
 impl<'a, F: LockedFlow, N: Nudges, R: Wait, G: Gate> Desk for FlowDesk<'a, F, N, R, G> {
     ghost use Rattle.std.specs.Prelude.{None, option_map, length};
+    ghost use Rattle.flow_table.specs.HeldFlows.{OfHeld};
 
     ghost log = { λ d. None };
 
@@ -35,6 +36,8 @@ impl<'a, F: LockedFlow, N: Nudges, R: Wait, G: Gate> Desk for FlowDesk<'a, F, N,
     ghost flows = { λ d. length d.table.now };
 
     ghost coming = { λ d. d.left };
+
+    ghost HasAcked = { λ old new answer. OfHeld (λ before after. F.HasHeard before after answer) old.held new.held };
 
     fn flow_count(&self) -> u32 {
         self.table.flows()

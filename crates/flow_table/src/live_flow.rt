@@ -3,7 +3,7 @@
 ghost use Rattle.std.specs.Prelude.{◌≡◌, ◌↔◌, ◌<◌, true, false, IsTrue, IfOk, OnOk};
 ghost use Rattle.flow_core.specs.Cells.{IsComplete};
 ghost use Rattle.flow_table.specs.Hearings.{heard_as};
-ghost use Rattle.flow_table.specs.WholeBooks.{IsWhole, flow_of};
+ghost use Rattle.flow_table.specs.WholeBooks.{IsWholeBook, flow_of};
 
 use crate::flow::LockedFlow;
 use crate::turn::make_letter;
@@ -18,7 +18,7 @@ impl LockedFlow for Cell {
     ghost use Rattle.flow_core.specs.Words.{is_complete};
     ghost use Rattle.flow_core.specs.Cells.{flow_at, world_at, IsComplete};
     ghost use Rattle.flow_core.specs.LettersLeft.{left_at};
-    ghost use Rattle.flow_table.specs.WholeBooks.{IsWhole, flow_of};
+    ghost use Rattle.flow_table.specs.WholeBooks.{IsWholeBook, flow_of};
     ghost use Rattle.flow_table.specs.Hearings.{hearing_at};
     ghost use Rattle.flow_table.specs.NextLetter.{HasNext};
 
@@ -44,7 +44,7 @@ impl LockedFlow for Cell {
 
     ghost HasNext = { λ old new. HasNext old new };
 
-    ghost IsWhole = { λ book. IsWhole book };
+    ghost IsWhole = { λ book. IsWholeBook book };
 
     fn copy(alloc: Global, case: &Case) -> Result<Case, NoMemory> {
         Ok(case.copy(alloc)?)
@@ -94,7 +94,7 @@ fn whole_book(cell: Cell) -> Book
     requires { IsComplete cell }
     ensures case { result.case ≡ cell.case }
     ensures flow { flow_of result ≡ cell }
-    ensures whole { IsWhole result }
+    ensures whole { IsWholeBook result }
 {
     cell.finish()
 }

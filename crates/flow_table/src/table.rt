@@ -55,14 +55,22 @@ impl<F: LockedFlow> FlowTable<F> {
         requires { flow < length self.now }
         ensures { slice_get self.now flow ≡ Some result.now }
     {
-        &self.flows[flow as usize].case
+        &self.guarded(flow).case
     }
 
     /// The lock of a flow. Whoever holds it makes letters of the flow by the calls of its type.
     pub fn cell(&self, flow: u32) -> &Mutex<F>
         requires { flow < length self.now }
     {
-        &self.flows[flow as usize].flow
+        &self.guarded(flow).flow
+    }
+
+    /// A flow with its lock and its case.
+    fn guarded(&self, flow: u32) -> &GuardedFlow<F>
+        requires { flow < length self.now }
+        ensures { slice_get self.now flow ≡ Some result.now.case }
+    {
+        &self.flows[flow as usize]
     }
 
     /// Takes a flow's lock.
@@ -74,8 +82,8 @@ impl<F: LockedFlow> FlowTable<F> {
         Held { flow, cell }
     }
 
-    /// The flows as their workers left them, each of its case, in order. A lock's type can't tell whose flow it keeps,
-    /// so cases are compared, and a flow of another case would be made anew.
+    /// The flows, each of its case, in order. A lock's type can't tell whose flow it keeps, so cases are compared: a flow
+    /// of its own case is handed on as its workers left it, which tests show, and one of another case is made anew.
     pub fn close(self, alloc: Global) -> Result<Sequence<F>, NoMemory>
         ensures { IfOk result (λ flows. map F.case_of flows ≡ self) }
     {

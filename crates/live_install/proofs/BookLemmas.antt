@@ -17,7 +17,8 @@ use Rattle.live_install.specs.OpenWorld.{OpenWorld, eras_of, track_now}
 use Rattle.live_install.specs.OpenWords.{install_world}
 use Rattle.live_install.specs.RolloutText.{OpenAccount, account_of, account_text, end_of, fault_lines, open_part, rollout_text}
 use Rattle.report_lines.specs.EndLine.{is_faulted}
-use Rattle.live_install.specs.BookText.{account_in, book_text, books_text, end_in, failures_in, failure_if_placed, placed_line}
+use Rattle.report_lines.specs.FaultLine.{placed_line}
+use Rattle.live_install.specs.BookText.{account_in, book_text, books_text, end_in, failures_in, failure_if_placed}
 use Rattle.live_install.specs.WholeBooks.{IsRightBook, flows_of}
 use Rattle.live_install.proofs.StopLemmas.{fails_in, stopped-where}
 

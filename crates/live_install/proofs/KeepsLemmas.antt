@@ -20,22 +20,23 @@ use Rattle.fold_machine.specs.MachineState.{MachineState}
 use Rattle.fold_machine.specs.Heard.{started_by}
 use Rattle.link_model.specs.Standing.{LinkState, Stands}
 use Rattle.flow_core.specs.declared.book.EpochLine.{EpochLine}
+use Rattle.flow_core.specs.declared.running_epoch.RunningEpoch.{RunningEpoch}
 use Rattle.flow_core.specs.Readings.{env_of}
-use Rattle.flow_core.specs.Roomy.{RoomyState}
+use Rattle.flow_core.specs.ReservedLists.{ReservedState}
 use Rattle.flow_core.specs.World.{Failure, with_event, reporter, failures_met}
 use Rattle.flow_core.specs.Books.{epoch_line}
 use Rattle.flow_core.proofs.SimulatedEpochs.{IsEnvOf-after, declared-simulated}
 use Rattle.portus_build.specs.TextWalk.{program_of}
 use Rattle.live_install.specs.declared.account.Account.{Account}
 use Rattle.live_install.specs.declared.entry.Entry.{Entry}
-use Rattle.live_install.specs.Accounts.{met_in, HasRun}
+use Rattle.live_install.specs.Accounts.{met_in, track_by, HasRun}
 use Rattle.live_install.specs.declared.letter.OpenLetter.{OpenLetter}
 use Rattle.live_install.specs.declared.state.State.{State}
 use Rattle.live_install.specs.OpenWorld.{Installed, Running, OpenWorld, track_of, cwnd_of, bare, met_by, after_ack, eras_of, with_entry, with_next_entry, next_entry, running_of, with_change, after_change}
 use Rattle.live_install.specs.BuiltTexts.{form_or_refusal, built_of}
 use Rattle.live_install.specs.Entries.{installed_of, built_entry, built_at, entry_place}
 use Rattle.live_install.specs.OpenBooks.{Seen, failure_at, seen_of, seen_as}
-use Rattle.live_install.specs.States.{kept_track, next_from, Runs, RunsStep, FitsBuilt, FitsAt, epoch_of, turn_of, Keeps}
+use Rattle.live_install.specs.States.{first_in, epochs_in, epoch_after, kept_track, next_from, ArePassed, Runs, RunsEpoch, FitsBuilt, FitsAt, Keeps}
 use Rattle.live_install.proofs.ListLemmas.{slice_get-front, time-push}
 use Rattle.live_install.proofs.NextLemmas.{was_started-same, passed-more, passed-push, next-entry}
 
@@ -46,12 +47,12 @@ counted track = record track { count = track.count + 1 }
 -- ---- an acknowledgement
 
 -- what is kept after an acknowledgement that isn't run
-abbrev pub counted_state : State → LinkState → Ack → RoomyState OpenLetter → State
+abbrev pub counted_state : State → LinkState → Ack → ReservedState OpenLetter → State
 counted_state s link ack word = record s { link = link; acks = s.acks + 1; time = ack.now; word = word }
 
-module _ (s : State) (base : OpenWorld) (link : LinkState) (ack : Ack) (word : RoomyState OpenLetter) where
+module _ (s : State) (base : OpenWorld) (link : LinkState) (ack : Ack) (word : ReservedState OpenLetter) where
   -- before the first change
-  pub keeps-counted : (running : Option ℕ) → s.running ≡ running
+  pub keeps-counted : (running : Option RunningEpoch) → s.running ≡ running
       → Keeps s (record base { present = None })
       → Stands link (base.windows ++ cwnd_of s.case (record base { present = None }) ∷ [])
       → Keeps (counted_state s link ack word) (after_ack s.case ack (record base { present = None }))
@@ -71,9 +72,10 @@ module _ (s : State) (base : OpenWorld) (link : LinkState) (ack : Ack) (word : R
         stands = stands;
       }
 
-  module _ (machine : MachineState) (account : Account) (step : ℕ) (running : Running) (is_running : s.running ≡ Some step)
-      (keeps : Keeps s (record base { present = Some running })) (runs : Runs s.entries.items step running)
-      (heard : HasRun s.entries.items running.form (turn_of s step) s.machine machine s.account account ack) where
+  module _ (machine : MachineState) (account : Account) (epoch later : RunningEpoch) (running : Running) (is_running : s.running ≡ Some epoch)
+      (number : length s.epochs.items ≡ epochs_in s.running)
+      (keeps : Keeps s (record base { present = Some running })) (runs : Runs s.entries.items epoch.program running)
+      (heard : HasRun s.entries.items running.form s.case.flow s.acks epoch later s.machine machine s.account account ack) where
     -- what runs after it
     abbrev next : Running
     next = record running { era = with_event (acknowledged ack true) running.era }
@@ -84,21 +86,28 @@ module _ (s : State) (base : OpenWorld) (link : LinkState) (ack : Ack) (word : R
     track-next : track_of next ≡ after_outcome (met_by running ack) (track_of running)
     track-next = after-append (by_source running.form) running.era.events (acknowledged ack true ∷ []) (track_at running.era.at running.era.first)
 
-    epoch-number : epoch_of s ≡ length base.past
+    track-same : track_by s.acks epoch s.machine ≡ track_of running
+    track-same = (λ i. record (kept_track s) { first = first_in (sym is_running i) }) ∙ keeps.track
+
+    epoch-number : epoch.number ≡ length base.past
     epoch-number =
         let long : length s.epochs.items ≡ length base.past + 1 =
         ap length keeps.epochs ∙ length-map (base.past ++ running.era ∷ []) epoch_line ∙ length-append base.past (running.era ∷ []) in
-        omega (arith, long)
+        let count : length s.epochs.items ≡ epoch.number + 1 = number ∙ ap epochs_in is_running in
+        omega (arith, long, count)
 
-    reporter-same : reporter s.case.flow step (epoch_of s) ≡ reporter s.case.flow running.era.program (length base.past)
+    reporter-same : reporter s.case.flow epoch.program epoch.number ≡ reporter s.case.flow running.era.program (length base.past)
     reporter-same = λ i. reporter s.case.flow (sym runs.program i) (epoch-number i)
 
-    met-same : met_in running.form (kept_track s) ack ≡ met_by running ack
-    met-same = ap (λ (t : Track). met_in running.form t ack) keeps.track
+    met-same : met_in running.form (track_by s.acks epoch s.machine) ack ≡ met_by running ack
+    met-same = ap (λ (t : Track). met_in running.form t ack) track-same
+
+    program-later : epoch.program ≡ later.program
+    program-later = sym (ap (λ (e : RunningEpoch). e.program) heard.frame)
 
     -- what is kept after an acknowledgement that is run
     abbrev pub heard_state : State
-    heard_state = record (counted_state s link ack word) { machine = machine; account = account }
+    heard_state = record (counted_state s link ack word) { machine = machine; account = account; running = Some later }
 
     pub keeps-heard : Stands link (base.windows ++ cwnd_of s.case (record base { present = Some running }) ∷ [])
         → Keeps heard_state after_world
@@ -109,26 +118,28 @@ module _ (s : State) (base : OpenWorld) (link : LinkState) (ack : Ack) (word : R
           installed = keeps.installed;
           epochs = keeps.epochs ∙ map-append epoch_line base.past (running.era ∷ []) ∙ sym (map-append epoch_line base.past (next.era ∷ []));
           reports = heard.reports
-              ∙ (λ i. keeps.reports i ++ reports_met (reporter-same i) (keeps.track i) ack (met-same i).0 (met-same i).1);
+              ∙ (λ i. keeps.reports i ++ reports_met (reporter-same i) (track-same i) ack (met-same i).0 (met-same i).1);
           faults = heard.faults
-              ∙ (λ i. keeps.faults i ++ map (seen_as s.case.flow) (failures_met (sym runs.program i) (epoch-number i) (keeps.track i).count ack (met-same i)))
+              ∙ (λ i. keeps.faults i ++ map (seen_as s.case.flow) (failures_met (sym runs.program i) (epoch-number i) (track-same i).count ack (met-same i)))
               ∙ sym (map-append (seen_as s.case.flow) base.faults _);
           acks = ap (λ (n : ℕ). n + 1) keeps.acks ∙ sym more;
           time = sym (time-push base.acks ack);
           track =
               (λ i. record { env = heard.env i; is_stopped = heard.stopping i; first = heard.first i; count = s.acks + 1 })
-              ∙ (λ i. after_outcome (met-same i) (keeps.track i)) ∙ sym track-next;
-          runs = subst (λ (r : Option ℕ). RunsStep s.entries.items r (Some next)) (sym is_running) (record {
+              ∙ (λ i. after_outcome (met-same i) (track-same i)) ∙ sym track-next;
+          runs = subst (λ (step : ℕ). Runs s.entries.items step next) program-later (record {
             program = runs.program;
             form = runs.form;
             shape = subst (λ (t : Track). IsEnvOf running.form t.env)
                 (sym (after-append (by_source running.form) running.era.events (acknowledged ack true ∷ []) (track_at running.era.at running.era.first)))
                 (IsEnvOf-after running.form (acknowledged ack true ∷ []) (track_of running) runs.shape);
           });
-          passed = record {
-            before = λ i form below ok. sym (was_started-same i base.past running.era next.era refl) ∙ keeps.passed.before i form below ok;
-            after = λ i past. sym (was_started-same i base.past running.era next.era refl) ∙ keeps.passed.after i past;
-          };
+          passed = subst (λ (n : ℕ). ArePassed n (base.past ++ next.era ∷ []) base.entries)
+              (ap next_from is_running ∙ ap (λ (n : ℕ). n + 1) program-later)
+              (record {
+                before = λ i form below ok. sym (was_started-same i base.past running.era next.era refl) ∙ keeps.passed.before i form below ok;
+                after = λ i past. sym (was_started-same i base.past running.era next.era refl) ∙ keeps.passed.after i past;
+              });
           stands = stands;
         }
 
@@ -164,28 +175,28 @@ seen-more entries more flow (notice ∷ rest) (failure ∷ failures) same =
       rest_of [] = []
       rest_of (x ∷ xs) = xs
 
-runs-more : (entries more : List Entry) (running : Option ℕ) (present : Option Running) → next_from running ≤ length entries
-    → RunsStep entries running present → RunsStep (entries ++ more) running present
+runs-more : (entries more : List Entry) (running : Option RunningEpoch) (present : Option Running) → next_from running ≤ length entries
+    → RunsEpoch entries running present → RunsEpoch (entries ++ more) running present
 runs-more entries more None None within runs = tt
 runs-more entries more None (Some r) within runs = runs
-runs-more entries more (Some step) None within runs = runs
-runs-more entries more (Some step) (Some r) within runs = record {
+runs-more entries more (Some epoch) None within runs = runs
+runs-more entries more (Some epoch) (Some r) within runs = record {
   program = runs.program;
-  form = ap (option_map (λ (b : Built). form_of b.program)) (built-front entries more step (omega (arith, within))) ∙ runs.form;
+  form = ap (option_map (λ (b : Built). form_of b.program)) (built-front entries more epoch.program (omega (arith, within))) ∙ runs.form;
   shape = runs.shape;
 }
 
-pub fits-more : (machine : MachineState) (entries more : List Entry) (running : Option ℕ) → next_from running ≤ length entries
+pub fits-more : (machine : MachineState) (entries more : List Entry) (running : Option RunningEpoch) → next_from running ≤ length entries
     → FitsAt machine entries running → FitsAt machine (entries ++ more) running
 fits-more machine entries more None within fits = tt
-fits-more machine entries more (Some step) within fits =
-    subst (FitsBuilt machine) (sym (built-front entries more step (omega (arith, within)))) fits
+fits-more machine entries more (Some epoch) within fits =
+    subst (FitsBuilt machine) (sym (built-front entries more epoch.program (omega (arith, within)))) fits
 
 -- what is kept after an entry
-abbrev pub put_state : State → Entry → RoomyState Entry → RoomyState ℕ → RoomyState OpenLetter → State
+abbrev pub put_state : State → Entry → ReservedState Entry → ReservedState ℕ → ReservedState OpenLetter → State
 put_state s entry entries installed word = record s { entries = entries; installed = installed; word = word }
 
-pub keeps-put : (s : State) (w : OpenWorld) (entry : Entry) (entries : RoomyState Entry) (installed : RoomyState ℕ) (word : RoomyState OpenLetter)
+pub keeps-put : (s : State) (w : OpenWorld) (entry : Entry) (entries : ReservedState Entry) (installed : ReservedState ℕ) (word : ReservedState OpenLetter)
     → Keeps s w → next_from s.running ≤ length s.entries.items
     → entries.items ≡ s.entries.items ++ entry ∷ [] → installed.items ≡ s.installed.items ++ s.acks ∷ []
     → slice_get s.case.steps (length s.entries.items) ≡ Some entry.text → program_of entry.text ≡ installed_of entry
@@ -238,17 +249,29 @@ form-same : (entries : List Entry) (step : ℕ) (built : Built) (form : Form) �
     → slice_get (map installed_of entries) step ≡ Some (Ok form) → form_of built.program ≡ form
 form-same entries step built form is ok = form-found entries step built form (slice_get entries step) refl is ok
 
+-- the epoch that a change begins, whatever ran before it
+pub after-program : (running : Option RunningEpoch) (step acks : ℕ) → (epoch_after running step acks).program ≡ step
+after-program None step acks = refl
+after-program (Some epoch) step acks = refl
+
+after-first : (running : Option RunningEpoch) (step acks : ℕ) → (epoch_after running step acks).first ≡ acks
+after-first None step acks = refl
+after-first (Some epoch) step acks = refl
+
+pub after-number : (running : Option RunningEpoch) (step acks : ℕ) → (epoch_after running step acks).number ≡ epochs_in running
+after-number None step acks = refl
+after-number (Some epoch) step acks = refl
+
 -- what is kept after a change
-abbrev pub started_state : State → ℕ → MachineState → RoomyState EpochLine → RoomyState OpenLetter → State
+abbrev pub started_state : State → ℕ → MachineState → ReservedState EpochLine → ReservedState OpenLetter → State
 started_state s step machine epochs word = record s {
   machine = machine;
-  running = Some step;
-  account = record s.account { first = s.acks };
+  running = Some (epoch_after s.running step s.acks);
   epochs = epochs;
   word = word;
 }
 
-pub keeps-started : (s : State) (w : OpenWorld) (step : ℕ) (form : Form) (built : Built) (machine : MachineState) (epochs : RoomyState EpochLine) (word : RoomyState OpenLetter)
+pub keeps-started : (s : State) (w : OpenWorld) (step : ℕ) (form : Form) (built : Built) (machine : MachineState) (epochs : ReservedState EpochLine) (word : ReservedState OpenLetter)
     → Keeps s w → next_entry w ≡ Some (step, form) → built_at s.entries.items step ≡ Some built
     → machine ≡ started_by built.code.code [] s.time s.machine
     → epochs.items ≡ s.epochs.items ++ record { program = step; at = s.acks; cwnd = machine.kept.cwnd } ∷ []
@@ -265,6 +288,7 @@ keeps-started s w step form built machine epochs word keeps left is started push
     ap (λ (m : MachineState). env_of m.kept) started
     ∙ declared-simulated form built.code.code built.places simulates s.machine.kept.cwnd s.machine.kept.rate s.time
     ∙ (λ i. declared_env form (keeps.track i).env.cwnd (keeps.track i).env.rate (keeps.time i)) in
+    let is_step = after-program s.running step s.acks in
     let line : epoch_line running.era ≡ record { program = step; at = length w.acks; cwnd = running.era.first.cwnd } = refl in
     let whole : Keeps (started_state s step machine epochs word) next = record {
       entries = keeps.entries;
@@ -276,9 +300,10 @@ keeps-started s w step form built machine epochs word keeps left is started push
       faults = keeps.faults;
       acks = keeps.acks;
       time = keeps.time;
-      track = λ i. record { env = env i; is_stopped = ap (λ (m : MachineState). m.is_stopped) started i; first = keeps.acks i; count = keeps.acks i };
-      runs = record { program = refl; form = ap (option_map (λ (b : Built). form_of b.program)) is ∙ ap Some same_form; shape = IsEnvOf-declared_env form _ _ _ };
-      passed = passed-push (next_from s.running) step form (eras_of w) running.era w.entries refl keeps.passed left;
+      track = λ i. record { env = env i; is_stopped = ap (λ (m : MachineState). m.is_stopped) started i; first = (after-first s.running step s.acks ∙ keeps.acks) i; count = keeps.acks i };
+      runs = subst (λ (n : ℕ). Runs s.entries.items n running) (sym is_step) (record { program = refl; form = ap (option_map (λ (b : Built). form_of b.program)) is ∙ ap Some same_form; shape = IsEnvOf-declared_env form _ _ _ });
+      passed = subst (λ (n : ℕ). ArePassed (n + 1) (eras_of w ++ running.era ∷ []) w.entries) (sym is_step)
+          (passed-push (next_from s.running) step form (eras_of w) running.era w.entries refl keeps.passed left);
       stands = keeps.stands;
     } in
     subst (λ (v : OpenWorld). Keeps (started_state s step machine epochs word) v) (sym world_is) whole

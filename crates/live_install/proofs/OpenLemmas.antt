@@ -1,5 +1,5 @@
 -- Each letter leads from a flow of its case and its word to the one of the longer word.
-use Rattle.std.specs.Prelude.{◌≡◌, ℕ, ◌+◌, ◌<◌, ◌≤◌, true, ◌&&◌, is_some, Option, Some, None, Ok, List, [], ◌∷◌, ◌++◌, length, slice_get, refl}
+use Rattle.std.specs.Prelude.{◌≡◌, ℕ, ◌+◌, ◌<◌, ◌≤◌, true, ◌&&◌, is_some, Option, Some, None, unwrap_or, Ok, List, [], ◌∷◌, ◌++◌, length, slice_get, refl}
 use Rattle.std.proofs.Common.{ap, sym, ◌∙◌, subst, arith, length-append}
 use Rattle.std.proofs.lemmas.List.{length-map}
 use Rattle.std.proofs.lemmas.Bool.{lt-ltb}
@@ -15,7 +15,8 @@ use Rattle.fold_machine.specs.declared.acked.Acked.{Acked}
 use Rattle.link_model.specs.Link.{ack_after}
 use Rattle.link_model.specs.Standing.{LinkState, Stands}
 use Rattle.flow_core.specs.declared.book.EpochLine.{EpochLine}
-use Rattle.flow_core.specs.Roomy.{RoomyState}
+use Rattle.flow_core.specs.declared.running_epoch.RunningEpoch.{RunningEpoch}
+use Rattle.flow_core.specs.ReservedLists.{ReservedState}
 use Rattle.flow_core.specs.Cores.{ran_by}
 use Rattle.live_install.specs.declared.account.Account.{Account}
 use Rattle.live_install.specs.declared.entry.Entry.{Entry}
@@ -28,9 +29,9 @@ use Rattle.live_install.specs.OpenWords.{after_letter, install_world, next_ack, 
 use Rattle.live_install.specs.BuiltTexts.{Answers}
 use Rattle.live_install.specs.Entries.{installed_of, built_at, AreStepsFrom}
 use Rattle.live_install.specs.OpenCells.{HasOutcome, AnswersTo, ran_with, ran_in, next_step}
-use Rattle.live_install.specs.States.{cell_of, world_of, kept_track, next_from, RunsStep, Runs, FitsAt, FitsBuilt, faults_left, turn_of, form_at, Keeps, IsFit, IsOpen}
+use Rattle.live_install.specs.States.{cell_of, world_of, kept_track, epochs_in, next_from, RunsEpoch, Runs, FitsAt, FitsBuilt, faults_left, form_at, Keeps, IsFit, IsOpen}
 use Rattle.live_install.proofs.LetterLemmas.{world-append, legal-append}
-use Rattle.live_install.proofs.KeepsLemmas.{counted_state, keeps-counted, keeps-heard, put_state, keeps-put, fits-more, started_state, keeps-started}
+use Rattle.live_install.proofs.KeepsLemmas.{counted_state, keeps-counted, keeps-heard, put_state, keeps-put, fits-more, after-program, after-number, started_state, keeps-started}
 use Rattle.live_install.proofs.ListLemmas.{steps-push}
 use Rattle.live_install.proofs.NextLemmas.{left-found, next-entry, next-late, none-built}
 
@@ -56,7 +57,7 @@ open-letter s new letter opens case word fit keeps is_legal_now = record {
 -- ---- an acknowledgement
 
 module _ (s : State) (opens : IsOpen s) (left : s.acks < s.case.acks) (window : ℕ) (is_window : window ≡ s.machine.kept.cwnd)
-    (link : LinkState) (ack : Ack) (word : RoomyState OpenLetter)
+    (link : LinkState) (ack : Ack) (word : ReservedState OpenLetter)
     (is_ack : (windows : List ℕ) → Stands s.link windows → ack ≡ ack_after s.link.case windows window)
     (stands : (windows : List ℕ) → Stands s.link windows → Stands link (windows ++ window ∷ []))
     (case_same : link.case ≡ s.link.case) (calls : link.standing.calls ≡ s.link.standing.calls + 1)
@@ -96,7 +97,7 @@ module _ (s : State) (opens : IsOpen s) (left : s.acks < s.case.acks) (window : 
         installed_count = f.installed_count;
         running_most = f.running_most;
         epochs_most = f.epochs_most;
-        epochs_some = f.epochs_some;
+        epochs_count = f.epochs_count;
         faults_most = f.faults_most;
         reports_most = omega (arith, f.reports_most);
         letters = omega (arith, f.letters, long);
@@ -109,10 +110,10 @@ module _ (s : State) (opens : IsOpen s) (left : s.acks < s.case.acks) (window : 
       }
 
   -- before the first change
-  none-runs : (running : Option ℕ) → running ≡ None → (present : Option Running) → RunsStep s.entries.items running present → present ≡ None
+  none-runs : (running : Option RunningEpoch) → running ≡ None → (present : Option Running) → RunsEpoch s.entries.items running present → present ≡ None
   none-runs None none None runs = refl
   none-runs None none (Some r) runs = absurd runs
-  none-runs (Some step) none present runs = absurd (none-some step (sym none))
+  none-runs (Some epoch) none present runs = absurd (none-some epoch (sym none))
 
   pub present-none : s.running ≡ None → (world_of s).present ≡ None
   present-none none = none-runs s.running none (world_of s).present opens.keeps.runs
@@ -129,27 +130,24 @@ module _ (s : State) (opens : IsOpen s) (left : s.acks < s.case.acks) (window : 
       legal-now
 
   -- and then
-  some-runs : (running : Option ℕ) (step : ℕ) → running ≡ Some step → (present : Option Running) → RunsStep s.entries.items running present
-      → (r : Running) × ((present ≡ Some r) × Runs s.entries.items step r)
-  some-runs None step some present runs = absurd (none-some step some)
-  some-runs (Some one) step some None runs = absurd runs
-  some-runs (Some one) step some (Some r) runs = (r, (refl, subst (λ (n : ℕ). Runs s.entries.items n r) (ap (number one) some) runs)) where
-    number : ℕ → Option ℕ → ℕ
-    number default None = default
-    number default (Some n) = n
+  some-runs : (running : Option RunningEpoch) (epoch : RunningEpoch) → running ≡ Some epoch → (present : Option Running) → RunsEpoch s.entries.items running present
+      → (r : Running) × ((present ≡ Some r) × Runs s.entries.items epoch.program r)
+  some-runs None epoch some present runs = absurd (none-some epoch some)
+  some-runs (Some one) epoch some None runs = absurd runs
+  some-runs (Some one) epoch some (Some r) runs = (r, (refl, subst (λ (e : RunningEpoch). Runs s.entries.items e.program r) (ap (λ (o : Option RunningEpoch). unwrap_or o one) some) runs))
 
-  module _ (step : ℕ) (some : s.running ≡ Some step) (machine : MachineState) (account : Account) (answer : Acked) (built : Built)
-      (is_built : built_at s.entries.items step ≡ Some built)
-      (fits : FitsBuilt machine (built_at s.entries.items step))
-      (heard : (form : Form) → form_at s.entries.items step ≡ Some form → IsEnvOf form (kept_track s).env
-      → HasRun s.entries.items form (turn_of s step) s.machine machine s.account account ack)
-      (told : (form : Form) → form_at s.entries.items step ≡ Some form → IsEnvOf form (kept_track s).env
-      → HasOutcome (built_at s.entries.items step) answer (met_in form (kept_track s) ack).0) where
-    running-at : (r : Running) × (((world_of s).present ≡ Some r) × Runs s.entries.items step r)
-    running-at = some-runs s.running step some (world_of s).present opens.keeps.runs
+  module _ (epoch later : RunningEpoch) (some : s.running ≡ Some epoch) (machine : MachineState) (account : Account) (answer : Acked) (built : Built)
+      (is_built : built_at s.entries.items epoch.program ≡ Some built)
+      (fits : FitsBuilt machine (built_at s.entries.items epoch.program))
+      (heard : (form : Form) → form_at s.entries.items epoch.program ≡ Some form → IsEnvOf form (kept_track s).env
+      → HasRun s.entries.items form s.case.flow s.acks epoch later s.machine machine s.account account ack)
+      (told : (form : Form) → form_at s.entries.items epoch.program ≡ Some form → IsEnvOf form (kept_track s).env
+      → HasOutcome (built_at s.entries.items epoch.program) answer (met_in form (kept_track s) ack).0) where
+    running-at : (r : Running) × (((world_of s).present ≡ Some r) × Runs s.entries.items epoch.program r)
+    running-at = some-runs s.running epoch some (world_of s).present opens.keeps.runs
 
     abbrev pub run_state : State
-    run_state = record (counted_state s link ack word) { machine = machine; account = account }
+    run_state = record (counted_state s link ack word) { machine = machine; account = account; running = Some later }
 
     abbrev r : Running
     r = running-at.0
@@ -160,7 +158,7 @@ module _ (s : State) (opens : IsOpen s) (left : s.acks < s.case.acks) (window : 
     is_present : w.present ≡ Some r
     is_present = running-at.1.0
 
-    runs : Runs s.entries.items step r
+    runs : Runs s.entries.items epoch.program r
     runs = running-at.1.1
 
     keeps : Keeps s (record w { present = Some r })
@@ -172,29 +170,31 @@ module _ (s : State) (opens : IsOpen s) (left : s.acks < s.case.acks) (window : 
     shape : IsEnvOf r.form (kept_track s).env
     shape = subst (λ (t : Track). IsEnvOf r.form t.env) (sym track_same) runs.shape
 
-    heard-now : HasRun s.entries.items r.form (turn_of s step) s.machine machine s.account account ack
+    heard-now : HasRun s.entries.items r.form s.case.flow s.acks epoch later s.machine machine s.account account ack
     heard-now = heard r.form runs.form shape
 
     fit-with : IsFit run_state
     fit-with =
         let f = fit-counted in
         let h = heard-now in
-        let before = ap (λ (o : Option ℕ). faults_left o s.machine.is_stopped) some in
-        let now = ap (λ (o : Option ℕ). faults_left o machine.is_stopped) some in
+        let before = ap (λ (o : Option RunningEpoch). faults_left o s.machine.is_stopped) some in
+        let program : epoch.program ≡ later.program = sym (ap (λ (e : RunningEpoch). e.program) h.frame) in
+        let from : next_from s.running ≡ later.program + 1 = ap next_from some ∙ ap (λ (n : ℕ). n + 1) program in
+        let count : epochs_in s.running ≡ later.number + 1 = ap epochs_in some ∙ sym (ap (λ (e : RunningEpoch). e.number + 1) h.frame) in
         let faults_old = opens.fit.faults_most in
         let reports_old = opens.fit.reports_most in
         record {
           link = f.link;
           calls = f.calls;
-          fits = subst (FitsAt machine s.entries.items) (sym some) fits;
+          fits = subst (λ (step : ℕ). FitsBuilt machine (built_at s.entries.items step)) program fits;
           steps = f.steps;
           acks_most = f.acks_most;
           entries_most = f.entries_most;
           installed_count = f.installed_count;
-          running_most = f.running_most;
-          epochs_most = f.epochs_most;
-          epochs_some = f.epochs_some;
-          faults_most = omega (arith, faults_old, h.faults_most, before, now);
+          running_most = omega (arith, f.running_most, from);
+          epochs_most = omega (arith, f.epochs_most, from);
+          epochs_count = f.epochs_count ∙ count;
+          faults_most = omega (arith, faults_old, h.faults_most, before);
           reports_most = omega (arith, reports_old, h.reports_most);
           letters = f.letters;
           entries_room = f.entries_room;
@@ -208,15 +208,15 @@ module _ (s : State) (opens : IsOpen s) (left : s.acks < s.case.acks) (window : 
     keeps-with : Keeps run_state (after_ack s.case (next_ack s.case w) w)
     keeps-with =
         let stands_now = subst (λ (p : Option Running). Stands link (w.windows ++ cwnd_of s.case (record w { present = p }) ∷ [])) is_present stands-same in
-        let whole = keeps-heard s w link ack word machine account step r some keeps runs heard-now stands_now in
+        let whole = keeps-heard s w link ack word machine account epoch later r some opens.fit.epochs_count keeps runs heard-now stands_now in
         subst (λ (k : Ack). Keeps run_state (after_ack s.case k w)) ack-same
         (subst (λ (p : Option Running). Keeps run_state (after_ack s.case ack (record w { present = p }))) (sym is_present) whole)
 
     pub told-run : AnswersTo s.entries.items (next_ack s.case w) w.present (Some answer)
     told-run =
         let here = told r.form runs.form shape in
-        let by_track : HasOutcome (built_at s.entries.items step) answer (met_by r ack).0 =
-        subst (λ (t : Track). HasOutcome (built_at s.entries.items step) answer (met_in r.form t ack).0) track_same here in
+        let by_track : HasOutcome (built_at s.entries.items epoch.program) answer (met_by r ack).0 =
+        subst (λ (t : Track). HasOutcome (built_at s.entries.items epoch.program) answer (met_in r.form t ack).0) track_same here in
         let by_step : HasOutcome (built_at s.entries.items r.era.program) answer (met_by r ack).0 =
         subst (λ (n : ℕ). HasOutcome (built_at s.entries.items n) answer (met_by r ack).0) (sym runs.program) by_track in
         subst (λ (k : Ack). AnswersTo s.entries.items k w.present (Some answer)) ack-same
@@ -233,7 +233,7 @@ module _ (s : State) (opens : IsOpen s) (left : s.acks < s.case.acks) (window : 
 
 -- ---- an entry is installed
 
-pub open-put : (s : State) (entry : Entry) (entries : RoomyState Entry) (installed : RoomyState ℕ) (word : RoomyState OpenLetter)
+pub open-put : (s : State) (entry : Entry) (entries : ReservedState Entry) (installed : ReservedState ℕ) (word : ReservedState OpenLetter)
     → IsOpen s → entry.step ≡ length s.entries.items → slice_get s.case.steps entry.step ≡ Some entry.text → Answers entry.text entry.answer
     → entries.items ≡ s.entries.items ++ entry ∷ [] → entries.room ≡ s.entries.room
     → installed.items ≡ s.installed.items ++ s.acks ∷ [] → installed.room ≡ s.installed.room
@@ -256,7 +256,7 @@ open-put s entry entries installed word opens is_step is_text answers pushed roo
       installed_count = omega (arith, f.installed_count, long, counted_long);
       running_most = omega (arith, f.running_most, long);
       epochs_most = f.epochs_most;
-      epochs_some = f.epochs_some;
+      epochs_count = f.epochs_count;
       faults_most = f.faults_most;
       reports_most = f.reports_most;
       letters = omega (arith, f.letters, long, word_long);
@@ -302,7 +302,7 @@ module _ (s : State) (opens : IsOpen s) (step : ℕ) (next : next_step (cell_of 
       let entry = next-entry (eras_of (world_of s)) (world_of s).entries step found.0 found.1 in
       absurd (none-built s.entries.items step found.0 ((λ i. slice_get (keeps.entries i) step) ∙ entry) is)
 
-  module _ (built : Built) (machine : MachineState) (epochs : RoomyState EpochLine) (word : RoomyState OpenLetter)
+  module _ (built : Built) (machine : MachineState) (epochs : ReservedState EpochLine) (word : ReservedState OpenLetter)
       (is_built : built_at s.entries.items step ≡ Some built)
       (started : machine ≡ started_by built.code.code [] s.time s.machine) (fits : Fits machine built.code.code)
       (pushed : epochs.items ≡ s.epochs.items ++ record { program = step; at = s.acks; cwnd = machine.kept.cwnd } ∷ []) (room : epochs.room ≡ s.epochs.room)
@@ -314,18 +314,20 @@ module _ (s : State) (opens : IsOpen s) (step : ℕ) (next : next_step (cell_of 
         let past = late in
         let long = ap length pushed ∙ length-append s.epochs.items (record { program = step; at = s.acks; cwnd = machine.kept.cwnd } ∷ []) in
         let word_long = ap length spelled ∙ length-append s.word.items (G ∷ []) in
+        let program = after-program s.running step s.acks in
+        let number = after-number s.running step s.acks in
         let goes : faults_of machine.is_stopped ≡ 1 = ap (λ (m : MachineState). faults_of m.is_stopped) started in
         record {
           link = f.link;
           calls = f.calls;
-          fits = subst (FitsBuilt machine) (sym is_built) fits;
+          fits = subst (λ (n : ℕ). FitsBuilt machine (built_at s.entries.items n)) (sym program) (subst (FitsBuilt machine) (sym is_built) fits);
           steps = f.steps;
           acks_most = f.acks_most;
           entries_most = f.entries_most;
           installed_count = f.installed_count;
-          running_most = omega (arith, within);
-          epochs_most = omega (arith, f.epochs_most, past, long);
-          epochs_some = omega (arith, long);
+          running_most = omega (arith, within, program);
+          epochs_most = omega (arith, f.epochs_most, past, long, program);
+          epochs_count = omega (arith, f.epochs_count, long, number);
           faults_most = omega (arith, f.faults_most, long, goes);
           reports_most = f.reports_most;
           letters = omega (arith, f.letters, long, word_long);

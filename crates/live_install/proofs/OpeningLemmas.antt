@@ -39,7 +39,7 @@ module _ (case : OpenCase) (made : Opening) (is : IsOpening case made) where
     faults = (λ i. map (seen_of made.entries.items) (is.faults i));
     acks = refl;
     time = refl;
-    track = (λ i. record { env = env_of (is.machine i).kept; is_stopped = (is.machine i).is_stopped; first = is.first i; count = 0 });
+    track = (λ i. record { env = env_of (is.machine i).kept; is_stopped = (is.machine i).is_stopped; first = 0; count = 0 });
     runs = tt;
     passed = record { before = λ i form below ok. absurd (none-some (Ok form) ok); after = λ i past. refl };
     stands = is.stands;
@@ -64,7 +64,7 @@ module _ (case : OpenCase) (made : Opening) (is : IsOpening case made) where
           installed_count = omega (arith, installed_long, entries_long);
           running_most = omega arith;
           epochs_most = omega (arith, epochs_long);
-          epochs_some = omega arith;
+          epochs_count = epochs_long;
           faults_most = omega (arith, faults_long);
           reports_most = omega (arith, reports_long);
           letters = omega (arith, word_long, entries_long, epochs_long);

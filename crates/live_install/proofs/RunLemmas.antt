@@ -10,11 +10,11 @@ use Rattle.portus_core.specs.ProgramForm.{form_of}
 use Rattle.portus_core.specs.OneAcknowledgement.{IsEnvOf}
 use Rattle.portus_core.specs.Value.{Cause}
 use Rattle.portus_core.specs.Epoch.{Outcome, quiet, reported, held, failed, stopped, Track, heard, stops}
-use Rattle.portus_core.specs.Reports.{Epoch, reports_met}
+use Rattle.portus_core.specs.Reports.{Reporter, reports_met}
 use Rattle.reg_compiler.specs.declared.built.Built.{Built}
 use Rattle.fold_machine.specs.declared.acked.Acked.{Acked}
 use Rattle.fold_machine.specs.MachineState.{MachineState}
-use Rattle.flow_core.specs.declared.turn.Turn.{Turn}
+use Rattle.flow_core.specs.declared.running_epoch.RunningEpoch.{RunningEpoch}
 use Rattle.flow_core.specs.Readings.{env_of, by_code}
 use Rattle.flow_core.specs.States.{outcome_by}
 use Rattle.flow_core.specs.World.{reporter, failures_met, notice_with}
@@ -25,19 +25,19 @@ use Rattle.live_install.specs.OpenBooks.{seen_of, seen_as}
 use Rattle.live_install.specs.OpenCells.{HasOutcome}
 use Rattle.live_install.specs.Accounts.{faults_of, track_by, RecordsOutcome, met_in, HasRun}
 use Rattle.live_install.specs.OpenWorld.{Running}
-use Rattle.live_install.specs.States.{RunsStep, running_step, form_at}
+use Rattle.live_install.specs.States.{RunsEpoch, step_of, running_step, form_at}
 use Rattle.live_install.proofs.SeenLemmas.{placed, heard-placed, heard-env, stops-placed, first-placed, reports-placed, failures-placed, tells-placed}
 
 -- the step that is kept is that of the program that runs
-pub running-step : (entries : List Entry) (step : Option ℕ) (present : Option Running) → RunsStep entries step present → step ≡ running_step present
+pub running-step : (entries : List Entry) (epoch : Option RunningEpoch) (present : Option Running) → RunsEpoch entries epoch present → step_of epoch ≡ running_step present
 running-step entries None None runs = refl
 running-step entries None (Some running) runs = absurd runs
-running-step entries (Some step) None runs = absurd runs
-running-step entries (Some step) (Some running) runs = ap Some (sym runs.program)
+running-step entries (Some epoch) None runs = absurd runs
+running-step entries (Some epoch) (Some running) runs = ap Some (sym runs.program)
 
 -- ---- counts
 
-reports-count : (whose : Epoch) (track : Track) (ack : Ack) (outcome : Outcome (FaultKind × ℕ)) (env : Env)
+reports-count : (whose : Reporter) (track : Track) (ack : Ack) (outcome : Outcome (FaultKind × ℕ)) (env : Env)
     → length (reports_met whose track ack outcome env) ≤ 1
 reports-count whose track ack quiet env = omega arith
 reports-count whose track ack (reported fields) env = omega arith
@@ -70,14 +70,14 @@ some-form built form is one same = ap (by form) (sym (ap (option_map (λ (b : Bu
   by default None = default
   by default (Some f) = f
 
-module _ (entries : List Entry) (turn : Turn) (machine new_machine : MachineState) (old new : Account) (built : Built) (ack : Ack) (answer : Acked)
-    (is : built_at entries turn.program ≡ Some built)
+module _ (entries : List Entry) (flow at : ℕ) (epoch next : RunningEpoch) (machine new_machine : MachineState) (old new : Account) (built : Built) (ack : Ack) (answer : Acked)
+    (is : built_at entries epoch.program ≡ Some built)
     (met : heard (by_code built.code.code) machine.is_stopped (env_of machine.kept) ack true ≡ (outcome_by answer new_machine.report, env_of new_machine.kept))
     (stopping : new_machine.is_stopped ≡ stops (outcome_by answer new_machine.report))
-    (down : RecordsOutcome turn old new ack (outcome_by answer new_machine.report, env_of new_machine.kept))
-    (form : Form) (is_form : form_at entries turn.program ≡ Some form) (shape : IsEnvOf form (env_of machine.kept)) where
+    (down : RecordsOutcome flow at epoch next old new ack (outcome_by answer new_machine.report, env_of new_machine.kept))
+    (form : Form) (is_form : form_at entries epoch.program ≡ Some form) (shape : IsEnvOf form (env_of machine.kept)) where
   abbrev track : Track
-  track = track_by turn machine old
+  track = track_by at epoch machine
 
   -- the source's outcome
   abbrev source : Outcome Cause × Env
@@ -87,7 +87,7 @@ module _ (entries : List Entry) (turn : Turn) (machine new_machine : MachineStat
   outcome = outcome_by answer new_machine.report
 
   same_form : form_of built.program ≡ form
-  same_form = some-form (built_at entries turn.program) form is_form built is
+  same_form = some-form (built_at entries epoch.program) form is_form built is
 
   old_shape : IsEnvOf (form_of built.program) (env_of machine.kept)
   old_shape = subst (λ (f : Form). IsEnvOf f (env_of machine.kept)) (sym same_form) shape
@@ -104,32 +104,33 @@ module _ (entries : List Entry) (turn : Turn) (machine new_machine : MachineStat
       ∙ heard-env (form_of built.program) built.code.code built.places built.simulates machine.is_stopped (env_of machine.kept) ack old_shape
       ∙ ap (λ (f : Form). (met_in f track ack).1) same_form
 
-  pub told : HasOutcome (built_at entries turn.program) answer source.0
+  pub told : HasOutcome (built_at entries epoch.program) answer source.0
   told = subst (λ (b : Option Built). HasOutcome b answer source.0) (sym is) (tells-placed built answer new_machine.report source.0 placed-same)
 
-  pub heard-by : HasRun entries form turn machine new_machine old new ack
+  pub heard-by : HasRun entries form flow at epoch next machine new_machine old new ack
   heard-by =
       let env = env_of new_machine.kept in
-      let reports : new.reports.items ≡ old.reports.items ++ reports_met (reporter turn.flow turn.program turn.epoch) track ack outcome env = down.reports track refl refl in
-      let some = reports-count (reporter turn.flow turn.program turn.epoch) track ack outcome env in
-      let more = ap length reports ∙ length-append old.reports.items (reports_met (reporter turn.flow turn.program turn.epoch) track ack outcome env) in
-      let failures = failures_met turn.program turn.epoch turn.at ack (outcome, env) in
-      let faults : new.faults.items ≡ old.faults.items ++ map (notice_with turn.flow (λ (site : ℕ). site)) failures = down.faults in
-      let fault_count = faults-count turn.program turn.epoch turn.at ack (by_code built.code.code) machine.is_stopped (env_of machine.kept) outcome env new_machine.is_stopped met stopping in
-      let fault_more = ap length faults ∙ length-append old.faults.items (map (notice_with turn.flow (λ (site : ℕ). site)) failures) in
-      let fault_long = length-map failures (notice_with turn.flow (λ (site : ℕ). site)) in
+      let reports : new.reports.items ≡ old.reports.items ++ reports_met (reporter flow epoch.program epoch.number) track ack outcome env = down.reports track refl refl in
+      let some = reports-count (reporter flow epoch.program epoch.number) track ack outcome env in
+      let more = ap length reports ∙ length-append old.reports.items (reports_met (reporter flow epoch.program epoch.number) track ack outcome env) in
+      let failures = failures_met epoch.program epoch.number at ack (outcome, env) in
+      let faults : new.faults.items ≡ old.faults.items ++ map (notice_with flow (λ (site : ℕ). site)) failures = down.faults in
+      let fault_count = faults-count epoch.program epoch.number at ack (by_code built.code.code) machine.is_stopped (env_of machine.kept) outcome env new_machine.is_stopped met stopping in
+      let fault_more = ap length faults ∙ length-append old.faults.items (map (notice_with flow (λ (site : ℕ). site)) failures) in
+      let fault_long = length-map failures (notice_with flow (λ (site : ℕ). site)) in
       record {
         env = env-same;
         stopping = stopping ∙ stops-placed built.places outcome source.0 placed-same;
+        frame = down.frame;
         first = down.first track refl refl ∙ first-placed built.places track outcome source.0 placed-same;
         reports = reports
-            ∙ (λ i. old.reports.items ++ reports-placed built.places (reporter turn.flow turn.program turn.epoch) track ack env outcome source.0 placed-same i)
-            ∙ (λ i. old.reports.items ++ reports_met (reporter turn.flow turn.program turn.epoch) track ack source.0 (env-same i));
+            ∙ (λ i. old.reports.items ++ reports-placed built.places (reporter flow epoch.program epoch.number) track ack env outcome source.0 placed-same i)
+            ∙ (λ i. old.reports.items ++ reports_met (reporter flow epoch.program epoch.number) track ack source.0 (env-same i));
         faults =
             ap (map (seen_of entries)) faults
-            ∙ map-append (seen_of entries) old.faults.items (map (notice_with turn.flow (λ (site : ℕ). site)) failures)
-            ∙ (λ i. map (seen_of entries) old.faults.items ++ failures-placed entries turn.flow turn.program turn.epoch turn.at ack env built is outcome source.0 placed-same i)
-            ∙ (λ i. map (seen_of entries) old.faults.items ++ map (seen_as turn.flow) (failures_met turn.program turn.epoch turn.at ack (source.0, env-same i)));
+            ∙ map-append (seen_of entries) old.faults.items (map (notice_with flow (λ (site : ℕ). site)) failures)
+            ∙ (λ i. map (seen_of entries) old.faults.items ++ failures-placed entries flow epoch.program epoch.number at ack env built is outcome source.0 placed-same i)
+            ∙ (λ i. map (seen_of entries) old.faults.items ++ map (seen_as flow) (failures_met epoch.program epoch.number at ack (source.0, env-same i)));
         reports_most = omega (arith, some, more);
         faults_most = omega (arith, fault_count, fault_more, fault_long);
         reports_room = down.reports_room;

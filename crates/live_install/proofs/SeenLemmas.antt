@@ -15,7 +15,7 @@ use Rattle.portus_core.specs.Value.{Cause}
 use Rattle.portus_core.specs.OneAcknowledgement.{IsEnvOf}
 use Rattle.portus_core.specs.Epoch as epoch
 use Rattle.portus_core.specs.Epoch.{Outcome, quiet, reported, held, failed, stopped, Track, by_source, heard, stops, next_first}
-use Rattle.portus_core.specs.Reports.{Epoch, reports_met}
+use Rattle.portus_core.specs.Reports.{Reporter, reports_met}
 use Rattle.reg_code.specs.declared.code.Code.{Code}
 use Rattle.reg_code.specs.CodeStep as steps
 use Rattle.reg_compiler.specs.declared.built.Built.{Built}
@@ -98,7 +98,7 @@ module _ (places : List Place) where
   first-placed track (failed fault) out same = first-fault track fault.0 (slice_get places fault.1) out same
   first-placed track stopped out same = ap (by_some 0 (λ o. next_first o track)) same
 
-  module _ (whose : Epoch) (track : Track) (ack : Ack) (env : Env) where
+  module _ (whose : Reporter) (track : Track) (ack : Ack) (env : Env) where
     abbrev made : Outcome Cause → List Report
     made out = reports_met whose track ack out env
 

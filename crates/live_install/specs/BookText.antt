@@ -4,7 +4,6 @@ use Rattle.ccp_base.specs.declared.exchange.Notice.{Notice}
 use Rattle.ccp_base.specs.declared.place.Place.{Place}
 use Rattle.ccp_base.specs.Text.{◌⧺◌}
 use Rattle.report_lines.specs.declared.end_line.End.{End}
-use Rattle.report_lines.specs.FaultLine.{fault_line}
 use Rattle.report_lines.specs.EndLine.{is_faulted}
 use Rattle.flow_core.specs.World.{Failure}
 use Rattle.live_install.specs.declared.book.OpenBook.{OpenBook}
@@ -50,10 +49,3 @@ book_text book = account_text book.case (account_in book)
 abbrev pub books_text : List OpenBook → List ℕ
 books_text [] = []
 books_text (book ∷ rest) = book_text book ⧺ books_text rest
-
--- ---- lines of it
-
--- the line of a fault, where its instruction has a place
-abbrev pub placed_line : Notice → Option Place → List ℕ
-placed_line notice None = []
-placed_line notice (Some place) = fault_line notice.epoch notice.at notice.kind place

@@ -4,7 +4,7 @@ use Rattle.portus_core.specs.ProgramForm.{form_of}
 use Rattle.reg_compiler.specs.declared.built.Built.{Built}
 use Rattle.portus_build.specs.declared.fault.BuildFault.{BuildFault}
 use Rattle.portus_build.specs.declared.fault.BuildFault.TheVariants.{NoMemory, Parse, Scope, Compile}
-use Rattle.portus_build.specs.Settled.{is_want_of_memory}
+use Rattle.portus_build.specs.Settled.{runs_out_of_memory}
 use Rattle.portus_build.specs.TextWalk.{program_of}
 use Rattle.live_install.specs.OpenWorld.{Installed}
 
@@ -20,7 +20,7 @@ was_built (Err refusal) = false
 -- whether memory ran out
 abbrev pub is_out_of_memory : Result Built BuildFault → Bool
 is_out_of_memory (Ok built) = false
-is_out_of_memory (Err refusal) = is_want_of_memory refusal
+is_out_of_memory (Err refusal) = runs_out_of_memory refusal
 
 -- whether memory ran out outside the steps of building
 abbrev pub is_no_memory : BuildFault → Bool

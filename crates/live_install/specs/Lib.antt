@@ -15,6 +15,7 @@ pub mod BookText
 pub mod WordsShown
 -- those that only private contracts, invariants and proofs cite
 pub mod Accounts
+pub mod Installing
 pub mod States
 pub mod Openings
 pub mod Crews

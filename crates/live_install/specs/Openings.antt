@@ -12,7 +12,6 @@ pub record IsOpening (case : OpenCase) (opening : Opening) : Type 0 where
   pub stands : Stands opening.link []
   pub calls : opening.link.standing.calls ≡ 0
   pub machine : opening.machine ≡ fresh_machine case.cwnd 0 0
-  pub first : opening.account.first ≡ 0
   pub entries : opening.entries.items ≡ []
   pub installed : opening.installed.items ≡ []
   pub epochs : opening.epochs.items ≡ []

@@ -1,5 +1,5 @@
 -- What a flow of a rollout keeps, and what holds of it: it is the state after the flow's word.
-use Rattle.std.specs.Prelude.{◌≡◌, ℕ, ◌+◌, ◌-◌, ◌<◌, ◌≤◌, Bool, true, false, Option, Some, None, option_map, Ok, List, ⊤, length, map, position, slice_get}
+use Rattle.std.specs.Prelude.{◌≡◌, ℕ, ◌+◌, ◌<◌, ◌≤◌, Bool, true, false, Option, Some, None, option_map, Ok, List, ⊤, length, map, position, slice_get}
 use Rattle.portus_core.specs.Programs.{Form}
 use Rattle.portus_core.specs.ProgramForm.{form_of}
 use Rattle.portus_core.specs.OneAcknowledgement.{IsEnvOf}
@@ -7,8 +7,9 @@ use Rattle.portus_core.specs.Epoch.{Track}
 use Rattle.reg_compiler.specs.declared.built.Built.{Built}
 use Rattle.fold_machine.specs.MachineState.{MachineState, Fits}
 use Rattle.link_model.specs.Standing.{Stands}
-use Rattle.flow_core.specs.declared.turn.Turn.{Turn}
+use Rattle.flow_core.specs.declared.running_epoch.RunningEpoch.{RunningEpoch}
 use Rattle.flow_core.specs.Readings.{env_of}
+use Rattle.flow_core.specs.RunningEpochs.{opening_epoch, next_epoch}
 use Rattle.flow_core.specs.World.{Era, time_of}
 use Rattle.flow_core.specs.Books.{epoch_line}
 use Rattle.live_install.specs.declared.entry.Entry.{Entry}
@@ -29,16 +30,37 @@ cell_of s = record { case = s.case; entries = s.entries.items; word = s.word.ite
 abbrev pub world_of : State → OpenWorld
 world_of s = install_world s.case s.word.items
 
+-- ---- the epoch that runs, none before the first change
+
+-- its step
+abbrev pub step_of : Option RunningEpoch → Option ℕ
+step_of running = option_map (λ (epoch : RunningEpoch). epoch.program) running
+
+-- where its unreported span begins
+abbrev pub first_in : Option RunningEpoch → ℕ
+first_in None = 0
+first_in (Some epoch) = epoch.first
+
+-- how many epochs there are with it
+abbrev pub epochs_in : Option RunningEpoch → ℕ
+epochs_in None = 0
+epochs_in (Some epoch) = epoch.number + 1
+
+-- the epoch that a change to a step begins after this many acknowledgements
+abbrev pub epoch_after : Option RunningEpoch → ℕ → ℕ → RunningEpoch
+epoch_after None step acks = opening_epoch step acks
+epoch_after (Some epoch) step acks = next_epoch step acks epoch
+
 -- where the kept flow stands
 abbrev pub kept_track : State → Track
-kept_track s = record { env = env_of s.machine.kept; is_stopped = s.machine.is_stopped; first = s.account.first; count = s.acks }
+kept_track s = record { env = env_of s.machine.kept; is_stopped = s.machine.is_stopped; first = first_in s.running; count = s.acks }
 
 -- ---- steps
 
 -- the first step that no change has looked at
-abbrev pub next_from : Option ℕ → ℕ
+abbrev pub next_from : Option RunningEpoch → ℕ
 next_from None = 0
-next_from (Some step) = step + 1
+next_from (Some epoch) = epoch.program + 1
 
 -- the place of the first accepted one of these entries
 abbrev pub first_accepted : List Entry → Option ℕ
@@ -68,30 +90,26 @@ pub record Runs (entries : List Entry) (step : ℕ) (running : Running) : Type 0
   pub form : form_at entries step ≡ Some running.form
   pub shape : IsEnvOf running.form (track_of running).env
 
-abbrev pub RunsStep : List Entry → Option ℕ → Option Running → Type 0
-RunsStep entries None None = ⊤
-RunsStep entries None (Some running) = ⊥
-RunsStep entries (Some step) None = ⊥
-RunsStep entries (Some step) (Some running) = Runs entries step running
+abbrev pub RunsEpoch : List Entry → Option RunningEpoch → Option Running → Type 0
+RunsEpoch entries None None = ⊤
+RunsEpoch entries None (Some running) = ⊥
+RunsEpoch entries (Some epoch) None = ⊥
+RunsEpoch entries (Some epoch) (Some running) = Runs entries epoch.program running
 
 abbrev pub FitsBuilt : MachineState → Option Built → Type 0
 FitsBuilt machine None = ⊥
 FitsBuilt machine (Some built) = Fits machine built.code.code
 
-abbrev pub FitsAt : MachineState → List Entry → Option ℕ → Type 0
+abbrev pub FitsAt : MachineState → List Entry → Option RunningEpoch → Type 0
 FitsAt machine entries None = ⊤
-FitsAt machine entries (Some step) = FitsBuilt machine (built_at entries step)
+FitsAt machine entries (Some epoch) = FitsBuilt machine (built_at entries epoch.program)
 
 -- ---- counts
 
 -- how many faults the present epoch can still have
-abbrev pub faults_left : Option ℕ → Bool → ℕ
+abbrev pub faults_left : Option RunningEpoch → Bool → ℕ
 faults_left None stopped = 0
-faults_left (Some step) stopped = faults_of stopped
-
-abbrev pub some_one : Option ℕ → ℕ
-some_one None = 0
-some_one (Some step) = 1
+faults_left (Some epoch) stopped = faults_of stopped
 
 -- ---- all that holds
 
@@ -105,7 +123,7 @@ pub record Keeps (s : State) (w : OpenWorld) : Type 0 where
   pub acks : s.acks ≡ length w.acks
   pub time : s.time ≡ time_of w.acks
   pub track : kept_track s ≡ track_now s.case w
-  pub runs : RunsStep s.entries.items s.running w.present
+  pub runs : RunsEpoch s.entries.items s.running w.present
   pub passed : ArePassed (next_from s.running) (eras_of w) w.entries
   pub stands : Stands s.link w.windows
 
@@ -120,7 +138,7 @@ pub record IsFit (s : State) : Type 0 where
   pub installed_count : length s.installed.items ≡ length s.entries.items
   pub running_most : next_from s.running ≤ length s.entries.items
   pub epochs_most : length s.epochs.items ≤ next_from s.running
-  pub epochs_some : some_one s.running ≤ length s.epochs.items
+  pub epochs_count : length s.epochs.items ≡ epochs_in s.running
   pub faults_most : length s.account.faults.items + faults_left s.running s.machine.is_stopped ≤ length s.epochs.items
   pub reports_most : length s.account.reports.items ≤ s.acks
   pub letters : length s.word.items ≡ s.acks + (length s.entries.items + length s.epochs.items)
@@ -136,11 +154,3 @@ pub record IsOpen (s : State) : Type 0 where
   pub fit : IsFit s
   pub keeps : Keeps s (world_of s)
   pub legal : legal s.case s.word.items ≡ true
-
--- the present epoch's number
-abbrev pub epoch_of : State → ℕ
-epoch_of s = length s.epochs.items - 1
-
--- the next acknowledgement's place in the flow, where this step's program runs
-abbrev pub turn_of : State → ℕ → Turn
-turn_of s step = record { flow = s.case.flow; program = step; epoch = epoch_of s; at = s.acks }

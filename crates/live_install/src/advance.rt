@@ -2,13 +2,13 @@
 ghost use Rattle.std.specs.Prelude.{◌≡◌, ◌+◌, ◌<◌, Some, None, option_copied, ◌∷◌, [], ◌++◌};
 ghost use Rattle.live_install.specs.Entries.{built_at};
 ghost use Rattle.live_install.specs.OpenCells.{ran_at, AnswersAck};
-ghost use Rattle.live_install.specs.States.{cell_of, world_of, running_step, IsOpen};
+ghost use Rattle.live_install.specs.States.{cell_of, world_of, step_of, running_step, IsOpen};
 
 use crate::account::run_ack;
 use crate::entry::Entry;
 use crate::letter::OpenLetter;
 use crate::state::State;
-use flow_core::Turn;
+use flow_core::RunningEpoch;
 use fold_machine::{Acked, Steps};
 use reg_compiler::Built;
 use std::sync::ledger::Ledger;
@@ -21,11 +21,11 @@ pub(crate) fn built_at(entries: &[Entry], step: u32) -> Option<&Built>
 }
 
 impl State {
-    /// The step whose program runs; None exactly before the first change.
-    fn running_step(&self) -> Option<u32>
+    /// The epoch that runs; None exactly before the first change.
+    fn running_epoch(&self) -> Option<RunningEpoch>
         requires { IsOpen self.now }
         ensures kept { result ≡ self.now.running }
-        ensures present { result ≡ running_step (world_of self.now).present }
+        ensures present { step_of result ≡ running_step (world_of self.now).present }
     {
         self.running
     }
@@ -41,8 +41,8 @@ impl State {
         ensures answered { AnswersAck (cell_of self.old) result }
         ensures steps { steps.new ≡ steps.old + ran_at (cell_of self.old) }
     {
-        match self.running_step() {
-            Some(step) => Some(self.run_next(step, steps)),
+        match self.running_epoch() {
+            Some(epoch) => Some(self.run_next(epoch, steps)),
             None => {
                 self.count_next();
                 None
@@ -68,11 +68,11 @@ impl State {
         self.word.push(OpenLetter::A);
     }
 
-    /// Takes the link's next acknowledgement, which is run by this step's program.
-    fn run_next<L: Ledger>(&mut self, step: u32, steps: &mut Steps<L>) -> Acked
+    /// Takes the link's next acknowledgement, which is run by this epoch's program.
+    fn run_next<L: Ledger>(&mut self, epoch: RunningEpoch, steps: &mut Steps<L>) -> Acked
         requires open_state { IsOpen self.old }
         requires left { self.old.acks < self.old.case.acks }
-        requires running { self.old.running ≡ Some step }
+        requires running { self.old.running ≡ Some epoch }
         ensures open_state { IsOpen self.new }
         ensures case { self.new.case ≡ self.old.case }
         ensures entries { self.new.entries ≡ self.old.entries }
@@ -82,18 +82,15 @@ impl State {
     {
         let window = self.machine.cwnd();
         let ack = self.link.next(window);
-        let turn = Turn {
-            flow: self.case.flow,
-            program: step,
-            epoch: (self.epochs.len() - 1) as u32,
-            at: self.acks,
-        };
-        let Some(built) = built_at(self.entries.as_slice(), step) else {
+        let Some(built) = built_at(self.entries.as_slice(), epoch.program) else {
             unreachable!()
         };
         let acked = run_ack(&mut self.machine, &built.code, &ack, steps);
+        let flow = self.case.flow;
+        let mut epoch = epoch;
         self.account
-            .record_outcome(turn, &self.machine, &ack, acked);
+            .record_outcome(&mut epoch, flow, self.acks, &self.machine, &ack, acked);
+        self.running = Some(epoch);
         self.acks += 1;
         self.time = ack.now;
         self.word.push(OpenLetter::A);

@@ -6,14 +6,15 @@ ghost use Rattle.live_install.specs.Entries.{installed_of};
 ghost use Rattle.live_install.specs.OpenBooks.{IsOpenBookOf};
 ghost use Rattle.live_install.specs.OpenCells.{world_at, IsAfter, is_legal_at, HasAll, IsComplete, most_letters};
 ghost use Rattle.live_install.specs.OpenCells.{IsNextEntry, with_entry, AnswersAck, ran_at, next_step};
+ghost use Rattle.live_install.specs.States.{first_in};
 
 use crate::account::Account;
 use crate::book::OpenBook;
 use crate::entry::Entry;
 use crate::letter::OpenLetter;
 use crate::state::State;
-use ccp_base::{Bytes, NoMemory};
-use flow_core::Ended;
+use ccp_base::{Bytes, NoMemory, same_bytes};
+use flow_core::{Ended, RunningEpoch};
 use fold_machine::{Acked, Steps};
 use scene_members::OpenCase;
 use std::alloc::Global;
@@ -63,10 +64,14 @@ fn is_text_of(steps: &[Bytes], step: usize, text: &[u8]) -> bool
     }
 }
 
-fn same_bytes(these: &[u8], others: &[u8]) -> bool
-    ensures { IsTrue result ↔ (these.now ≡ others.now) }
+/// The number of acknowledgements at which the unreported span begins, 0 before the first change.
+fn first_in(running: Option<RunningEpoch>) -> u64
+    ensures { result ≡ first_in running }
 {
-    these == others
+    match running {
+        Some(epoch) => epoch.first,
+        None => 0,
+    }
 }
 
 impl OpenCell {
@@ -220,6 +225,7 @@ impl OpenCell {
         let State {
             case,
             machine,
+            running,
             acks,
             account,
             entries,
@@ -228,11 +234,7 @@ impl OpenCell {
             word,
             ..
         } = self.state;
-        let Account {
-            first,
-            reports,
-            faults,
-        } = account;
+        let Account { reports, faults } = account;
         OpenBook {
             case,
             word: word.into_sequence(),
@@ -242,7 +244,7 @@ impl OpenCell {
             reports: reports.into_sequence(),
             faults: faults.into_sequence(),
             acks,
-            first,
+            first: first_in(running),
             machine,
         }
     }

@@ -41,6 +41,8 @@ pub(crate) struct InstallDesk<'a, R: Wait, G: Gate> {
 
 impl<'a, R: Wait, G: Gate> worker_desk::InstallDesk for InstallDesk<'a, R, G> {
     ghost use Rattle.std.specs.Prelude.{None, option_map, length};
+    ghost use Rattle.flow_table.specs.HeldFlows.{OfHeld};
+    ghost use Rattle.live_install.specs.Installing.{HasInstalled, HasChanged};
 
     type Source = TextSource<'a>;
 
@@ -56,9 +58,17 @@ impl<'a, R: Wait, G: Gate> worker_desk::InstallDesk for InstallDesk<'a, R, G> {
 
     ghost flow_from = { λ source. source.flow };
 
+    ghost given_at = { λ source. None };
+
     ghost task_of = { λ text. record { flow = text.flow; step = text.step } };
 
+    ghost source_at = { λ text. None };
+
     ghost step_of = { λ entry. entry.step };
+
+    ghost HasInstalled = { λ old new entry is_next. OfHeld (λ before after. HasInstalled before after entry is_next) old.held new.held };
+
+    ghost HasChanged = { λ old new changed. OfHeld (λ before after. HasChanged before after changed) old.held new.held };
 
     fn flow_count(&self) -> u32 {
         self.table.flows()

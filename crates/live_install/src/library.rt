@@ -4,14 +4,14 @@ ghost use Rattle.std.specs.Option.{ForSome};
 ghost use Rattle.ccp_base.specs.Limits.{most_steps};
 ghost use Rattle.live_install.specs.BuiltTexts.{Answers};
 ghost use Rattle.live_install.specs.OpenCells.{next_step};
-ghost use Rattle.live_install.specs.States.{next_from, first_accepted, accepted_from, cell_of, IsOpen};
+ghost use Rattle.live_install.specs.States.{next_from, epochs_in, epoch_after, first_accepted, accepted_from, cell_of, IsOpen};
 
 use crate::advance::built_at;
 use crate::entry::Entry;
 use crate::letter::OpenLetter;
 use crate::state::State;
 use ccp_base::Fields;
-use flow_core::EpochLine;
+use flow_core::RunningEpoch;
 
 /// The place of the first accepted one of these entries.
 fn first_accepted(entries: &[Entry]) -> Option<usize>
@@ -31,13 +31,24 @@ fn accepted_from(from: u32, entries: &[Entry]) -> Option<u32>
 }
 
 /// The first step that no change has looked at.
-fn next_from(running: Option<u32>) -> u32
+fn next_from(running: Option<RunningEpoch>) -> u32
     requires { next_from running ≤ most_steps }
     ensures { result ≡ next_from running }
 {
     match running {
-        Some(step) => step + 1,
+        Some(epoch) => epoch.program + 1,
         None => 0,
+    }
+}
+
+/// The epoch that a change to this step begins after `acks` acknowledgements.
+fn epoch_after(running: Option<RunningEpoch>, step: u32, acks: u32) -> RunningEpoch
+    requires { epochs_in running ≤ most_steps }
+    ensures { result ≡ epoch_after running step acks }
+{
+    match running {
+        Some(epoch) => epoch.next(step, acks),
+        None => RunningEpoch::opening(step, acks),
     }
 }
 
@@ -66,13 +77,9 @@ impl State {
         let Ok(()) = self.machine.start(&built.code, &Fields::new(), self.time) else {
             unreachable!()
         };
-        self.running = Some(step);
-        self.account.first = u64::from(self.acks);
-        self.epochs.push(EpochLine {
-            program: step,
-            at: self.acks,
-            cwnd: self.machine.cwnd(),
-        });
+        let epoch = epoch_after(self.running, step, self.acks);
+        self.epochs.push(epoch.line(self.acks, self.machine.cwnd()));
+        self.running = Some(epoch);
         self.word.push(OpenLetter::G);
     }
 

@@ -9,7 +9,7 @@ use crate::entry::Entry;
 use crate::letter::OpenLetter;
 use crate::state::State;
 use ccp_base::NoMemory;
-use flow_core::{EpochLine, Roomy};
+use flow_core::{EpochLine, ReservedList};
 use fold_machine::Machine;
 use link_model::{Link, LinkCase};
 use scene_members::OpenCase;
@@ -27,17 +27,12 @@ fn fresh_link(alloc: Global, case: &LinkCase) -> Result<Link, NoMemory>
 
 /// No report and no fault, with room for a report of each acknowledgement and a fault of each step.
 fn fresh_account(alloc: Global, acks: usize, steps: usize) -> Result<Account, NoMemory>
-    ensures first { IfOk result (λ account. account.first ≡ 0) }
     ensures reports { IfOk result (λ account. (account.reports.items ≡ []) × (acks ≤ account.reports.room)) }
     ensures faults { IfOk result (λ account. (account.faults.items ≡ []) × (steps ≤ account.faults.room)) }
 {
-    let reports = Roomy::with_room(alloc, acks)?;
-    let faults = Roomy::with_room(alloc, steps)?;
-    Ok(Account {
-        first: 0,
-        reports,
-        faults,
-    })
+    let reports = ReservedList::with_room(alloc, acks)?;
+    let faults = ReservedList::with_room(alloc, steps)?;
+    Ok(Account { reports, faults })
 }
 
 /// Lists without an entry, a number of acknowledgements before one, an epoch or a letter, with room for one of each step
@@ -48,10 +43,10 @@ fn reserve_lists(
     letters: usize,
 ) -> Result<
     (
-        Roomy<Entry>,
-        Roomy<u32>,
-        Roomy<EpochLine>,
-        Roomy<OpenLetter>,
+        ReservedList<Entry>,
+        ReservedList<u32>,
+        ReservedList<EpochLine>,
+        ReservedList<OpenLetter>,
     ),
     NoMemory,
 >
@@ -60,10 +55,10 @@ fn reserve_lists(
     ensures epochs { IfOk result (λ rooms. (rooms.2.items ≡ []) × (steps ≤ rooms.2.room)) }
     ensures word { IfOk result (λ rooms. (rooms.3.items ≡ []) × (letters ≤ rooms.3.room)) }
 {
-    let entries = Roomy::with_room(alloc, steps)?;
-    let installed = Roomy::with_room(alloc, steps)?;
-    let epochs = Roomy::with_room(alloc, steps)?;
-    let word = Roomy::with_room(alloc, letters)?;
+    let entries = ReservedList::with_room(alloc, steps)?;
+    let installed = ReservedList::with_room(alloc, steps)?;
+    let epochs = ReservedList::with_room(alloc, steps)?;
+    let word = ReservedList::with_room(alloc, letters)?;
     Ok((entries, installed, epochs, word))
 }
 
@@ -73,10 +68,10 @@ struct Opening {
     link: Link,
     machine: Machine,
     account: Account,
-    entries: Roomy<Entry>,
-    installed: Roomy<u32>,
-    epochs: Roomy<EpochLine>,
-    word: Roomy<OpenLetter>,
+    entries: ReservedList<Entry>,
+    installed: ReservedList<u32>,
+    epochs: ReservedList<EpochLine>,
+    word: ReservedList<OpenLetter>,
 }
 
 impl Opening {

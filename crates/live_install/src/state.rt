@@ -2,7 +2,7 @@
 use crate::account::Account;
 use crate::entry::Entry;
 use crate::letter::OpenLetter;
-use flow_core::{EpochLine, Roomy};
+use flow_core::{EpochLine, ReservedList, RunningEpoch};
 use fold_machine::Machine;
 use link_model::Link;
 use scene_members::OpenCase;
@@ -14,16 +14,16 @@ pub(crate) struct State {
     pub(crate) link: Link,
     /// It runs the program that was changed to last.
     pub(crate) machine: Machine,
-    /// The step of that program, None before the first change.
-    pub(crate) running: Option<u32>,
+    /// The epoch that runs, with its step as program; None before the first change.
+    pub(crate) running: Option<RunningEpoch>,
     /// How many acknowledgements are in.
     pub(crate) acks: u32,
     /// The time of the last acknowledgement, in microseconds; 0 where there is none.
     pub(crate) time: u64,
     pub(crate) account: Account,
-    pub(crate) entries: Roomy<Entry>,
+    pub(crate) entries: ReservedList<Entry>,
     /// For each entry, how many acknowledgements were in when it was installed.
-    pub(crate) installed: Roomy<u32>,
-    pub(crate) epochs: Roomy<EpochLine>,
-    pub(crate) word: Roomy<OpenLetter>,
+    pub(crate) installed: ReservedList<u32>,
+    pub(crate) epochs: ReservedList<EpochLine>,
+    pub(crate) word: ReservedList<OpenLetter>,
 }

@@ -1,11 +1,11 @@
 //! The text of a rollout: for each flow its entries, changes, faults, reports and end.
 ghost use Rattle.std.specs.Prelude.{◌≡◌, ◌≤◌, ◌++◌, IfOk, OnOk, map};
 ghost use Rattle.std.specs.List.{All};
+ghost use Rattle.report_lines.specs.FaultLine.{placed_line};
 ghost use Rattle.live_install.specs.Entries.{installed_of, step_place};
 ghost use Rattle.live_install.specs.RolloutText.{fault_lines, fields_at, fields_of, flow_line, last_fields, last_line};
 ghost use Rattle.live_install.specs.RolloutText.{rollout_text, shown_lines};
 ghost use Rattle.live_install.specs.BookText.{account_in, book_text, books_text, end_in, failures_in};
-ghost use Rattle.live_install.specs.BookText.{placed_line};
 ghost use Rattle.live_install.specs.WholeBooks.{IsRightBook, flows_of};
 
 use crate::OpenBooks;

@@ -1,5 +1,6 @@
 //! The trait for an agent worker's desk: numbers of flows that come in, locks, tickets and answers.
 ghost use Rattle.std.specs.Prelude.{◌≡◌, ℕ, ◌+◌, ◌<◌, ◌≤◌, Option, Some, None, List, [], ◌∷◌, IfSome, IsSome};
+ghost use Rattle.agent_core.specs.declared.ticket.Ticket.{Ticket};
 ghost use Rattle.worker_desk.specs.Logs.{Logs};
 ghost use Rattle.worker_desk.specs.declared.event.Event.{Event};
 ghost use Rattle.worker_desk.specs.declared.event.Event.TheVariants.{Passed, Locked, Unlocked, Received, Took, Settled};
@@ -21,6 +22,12 @@ pub trait AgentDesk {
 
     // how many numbers may still come
     ghost coming: { Self → ℕ };
+
+    // what a taking made of the flow whose lock is held, and its ticket
+    ghost HasTaken: { Self → Self → Option Ticket → Type 0 } = { λ old new taken. Unit {0} };
+
+    // what the settling of an answer made of that flow
+    ghost HasSettled: { Self → Self → Ticket → Type 0 } = { λ old new answer. Unit {0} };
 
     /// How many flows there are.
     fn flow_count(&self) -> u32
@@ -54,6 +61,7 @@ pub trait AgentDesk {
     fn take(&mut self, flow: u32) -> Option<Ticket>
         requires { held self.old ≡ Some flow }
         ensures log { Logs (log self.old) (log self.new) (Took flow result ∷ []) }
+        ensures taken { HasTaken self.old self.new result }
         ensures held { held self.new ≡ held self.old }
         ensures flows { flows self.new ≡ flows self.old }
         ensures coming { coming self.new ≡ coming self.old };
@@ -62,6 +70,7 @@ pub trait AgentDesk {
     fn settle(&mut self, flow: u32, answer: Answer)
         requires { held self.old ≡ Some flow }
         ensures log { Logs (log self.old) (log self.new) (Settled flow answer ∷ []) }
+        ensures settled { HasSettled self.old self.new answer }
         ensures held { held self.new ≡ held self.old }
         ensures flows { flows self.new ≡ flows self.old }
         ensures coming { coming self.new ≡ coming self.old };

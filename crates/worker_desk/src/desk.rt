@@ -2,6 +2,7 @@
 ghost use Rattle.std.specs.Prelude.{◌≡◌, ℕ, ◌+◌, ◌<◌, ◌≤◌, Option, Some, None, List, [], ◌∷◌};
 ghost use Rattle.worker_desk.specs.Logs.{Logs};
 ghost use Rattle.worker_desk.specs.Serving.{heard_count};
+ghost use Rattle.worker_desk.specs.declared.event.Heard.{Heard};
 ghost use Rattle.worker_desk.specs.declared.event.Event.{Event};
 ghost use Rattle.worker_desk.specs.declared.event.Event.TheVariants.{Passed, Locked, Unlocked, Acked, Nudged};
 
@@ -21,6 +22,9 @@ pub trait Desk {
 
     // how many acknowledgements may still come
     ghost coming: { Self → ℕ };
+
+    // what an ask made of the flow whose lock is held, and its answer
+    ghost HasAcked: { Self → Self → Heard → Type 0 } = { λ old new answer. Unit {0} };
 
     /// How many flows there are, at most 64.
     fn flow_count(&self) -> u32
@@ -48,6 +52,7 @@ pub trait Desk {
     fn ack(&mut self, worker: u32, flow: u32) -> Heard
         requires { held self.old ≡ Some flow }
         ensures log { Logs (log self.old) (log self.new) (Acked worker flow result ∷ []) }
+        ensures acked { HasAcked self.old self.new result }
         ensures held { held self.new ≡ held self.old }
         ensures flows { flows self.new ≡ flows self.old }
         ensures coming { coming self.new + heard_count result ≤ coming self.old };

@@ -1,5 +1,5 @@
 //! The trait for an installer's desk: texts to build, the flows' locks, entries and changes.
-ghost use Rattle.std.specs.Prelude.{◌≡◌, ℕ, ◌<◌, ◌≤◌, Option, Some, None, List, [], ◌∷◌, is_some, IfSome};
+ghost use Rattle.std.specs.Prelude.{◌≡◌, ℕ, ◌<◌, ◌≤◌, Bool, Option, Some, None, option_map, List, [], ◌∷◌, length, is_some, IfSome};
 ghost use Rattle.worker_desk.specs.Logs.{Logs};
 ghost use Rattle.worker_desk.specs.Equipping.{StepTask};
 ghost use Rattle.worker_desk.specs.declared.event.Event.{Event};
@@ -31,11 +31,23 @@ pub trait InstallDesk {
     // the flow that texts are built for
     ghost flow_from: { Self.Source → ℕ };
 
+    // how much had been done here when a source was given, where the desk keeps that
+    ghost given_at: { Self.Source → Option ℕ };
+
     // the flow and the step of a text
     ghost task_of: { Self.Text → StepTask };
 
+    // when the source of a text was given
+    ghost source_at: { Self.Text → Option ℕ };
+
     // the step of an entry
     ghost step_of: { Self.Entry → ℕ };
+
+    // what an entry made of the flow whose lock is held, and whether it was the next one
+    ghost HasInstalled: { Self → Self → Self.Entry → Bool → Type 0 } = { λ old new entry is_next. Unit {0} };
+
+    // what a change made of that flow, and whether there was one
+    ghost HasChanged: { Self → Self → Bool → Type 0 } = { λ old new changed. Unit {0} };
 
     /// How many flows there are, at most 64.
     fn flow_count(&self) -> u32
@@ -44,16 +56,21 @@ pub trait InstallDesk {
 
     /// What the texts of a flow are built from.
     fn source(&self, flow: u32) -> Self::Source
-        requires { flow < flows self.now }
-        ensures { flow_from result ≡ flow };
+        requires flow { flow < flows self.now }
+        requires free { held self.now ≡ None }
+        ensures flow { flow_from result ≡ flow }
+        ensures at { given_at result ≡ option_map length (log self.now) };
 
     /// Builds the text of a step. It has no desk, so it can't take a lock.
     fn build(source: Self::Source, step: u32) -> Self::Text
-        ensures { task_of result ≡ record { flow = flow_from source; step = step } };
+        ensures task { task_of result ≡ record { flow = flow_from source; step = step } }
+        ensures at { source_at result ≡ given_at source };
 
-    /// The entry of a text, which was built while no lock was held; None if the flow has no such step, or memory ran out.
+    /// The entry of a text; None if the flow has no such step, or memory ran out. Nothing was done since the text's source
+    /// was given, so the text was built while no lock was held.
     fn take_entry(&mut self, text: Self::Text) -> Option<Self::Entry>
-        requires { held self.old ≡ None }
+        requires free { held self.old ≡ None }
+        requires since { source_at text ≡ option_map length (log self.old) }
         ensures log { Logs (log self.old) (log self.new) (Built (task_of text).flow (task_of text).step (is_some result) ∷ []) }
         ensures step { IfSome result (λ entry. step_of entry ≡ (task_of text).step) }
         ensures held { held self.new ≡ held self.old }
@@ -78,6 +95,7 @@ pub trait InstallDesk {
     fn install(&mut self, flow: u32, entry: Self::Entry) -> bool
         requires { held self.old ≡ Some flow }
         ensures log { Logs (log self.old) (log self.new) (Installed flow (step_of entry) result ∷ []) }
+        ensures installed { HasInstalled self.old self.new entry result }
         ensures held { held self.new ≡ held self.old }
         ensures flows { flows self.new ≡ flows self.old };
 
@@ -85,6 +103,7 @@ pub trait InstallDesk {
     fn change(&mut self, flow: u32) -> bool
         requires { held self.old ≡ Some flow }
         ensures log { Logs (log self.old) (log self.new) (Changed flow result ∷ []) }
+        ensures changed { HasChanged self.old self.new result }
         ensures held { held self.new ≡ held self.old }
         ensures flows { flows self.new ≡ flows self.old };
 

@@ -15,7 +15,7 @@ loop-case-preserved g c =
     let whole = every workers c.args.worker (map g.M.CaseResult.of_case cases) in
     let at : slice_get cases c.loop-case.number ≡ Some c.in-Some.case.now =
     slice_get_read cases (length cases) c.loop-case.number c.in-Some.case.now refl c.in-Some.ensures.lookup.3.0 c.in-Some.ensures.lookup.1 in
-    let is = c.in_ok-one.ensures ∙ ap g.M.CaseResult.of_case c.in_ok-copy.ensures in
+    let is = c.in_ok-one.ensures ∙ ap g.M.CaseResult.of_case (c.enter-entered.ensures ∙ c.in_ok-copy.ensures) in
     let some : 0 < workers = omega (arith, c.args.workers.some) in
     subst (λ (n : ℕ). c.put.new.self ++ every workers 0 (drop (c.loop-case.number + n) (map g.M.CaseResult.of_case cases)) ≡ whole) (sym c.count.ensures.count)
     (share-goes-on g.M.CaseResult.of_case workers c.loop-case.number cases c.in-Some.case.now c.loop-case.made c.put.new.self whole c.in_ok-one.one

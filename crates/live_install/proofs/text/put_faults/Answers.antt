@@ -2,7 +2,8 @@ use Rattle.std.proofs.Common.{◌≡◌, ◌++◌, ◌∷◌, ℕ, List, ap, sym
 use Rattle.ccp_base.specs.declared.exchange.Notice.{Notice}
 use Rattle.live_install.specs.Entries.{step_place}
 use Rattle.live_install.specs.RolloutText.{fault_lines}
-use Rattle.live_install.specs.BookText.{failures_in, placed_line}
+use Rattle.report_lines.specs.FaultLine.{placed_line}
+use Rattle.live_install.specs.BookText.{failures_in}
 use Rattle.live_install.proofs.BookLemmas.{placed-line}
 use Rattle.live_install.proofs.text.put_faults.Goals as goal
 

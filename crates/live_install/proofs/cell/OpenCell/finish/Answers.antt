@@ -25,7 +25,7 @@ returns-clause-book c =
       reports = c.into_sequence-5.result;
       faults = c.into_sequence-6.result;
       acks = s.acks;
-      first = s.account.first;
+      first = c.first_in.result;
       machine = s.machine;
     } in
     subst (λ (cell : OpenState). IsOpenBookOf (world_at cell) book) c.self.view_is
@@ -37,7 +37,7 @@ returns-clause-book c =
       reports = c.into_sequence-5.ensures ∙ keeps.reports;
       acks = keeps.acks;
       faults = (λ i. map (seen_of (c.into_sequence-2.ensures i)) (c.into_sequence-6.ensures i)) ∙ keeps.faults;
-      first = ap (λ (t : Track). t.first) keeps.track;
+      first = c.first_in.ensures ∙ ap (λ (t : Track). t.first) keeps.track;
       registers = ap (λ (t : Track). t.env) keeps.track;
       stopped = ap (λ (t : Track). t.is_stopped) keeps.track;
     })

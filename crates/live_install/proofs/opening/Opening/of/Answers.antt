@@ -7,7 +7,6 @@ returns c = record {
   stands = c.in_ok-link.ensures.stands;
   calls = c.in_ok-link.ensures.calls;
   machine = c.in_ok-machine.ensures;
-  first = c.in_ok-account.ensures.first;
   entries = c.in_ok-entries.ensures.entries.0;
   installed = c.in_ok-entries.ensures.installed.0;
   epochs = c.in_ok-entries.ensures.epochs.0;

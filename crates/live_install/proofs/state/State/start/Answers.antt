@@ -1,12 +1,13 @@
-use Rattle.std.proofs.Common.{refl, ap, sym, ◌∙◌, subst, ℕ, ◌≡◌, None, Option, is_some, arith, List, [], ◌∷◌, ◌++◌}
+use Rattle.std.proofs.Common.{refl, ap, sym, ◌∙◌, subst, ◌≡◌, Some, None, Option, is_some, arith, List, [], ◌∷◌, ◌++◌}
 use Rattle.std.proofs.lemmas.Bool.{true≢false}
 use Rattle.ccp_base.specs.FieldReg.{Pair}
 use Rattle.reg_compiler.specs.declared.built.Built.{Built}
 use Rattle.fold_machine.specs.Heard.{started_by}
+use Rattle.flow_core.specs.declared.running_epoch.RunningEpoch.{RunningEpoch}
 use Rattle.live_install.specs.declared.entry.Entry.{Entry}
 use Rattle.live_install.specs.Entries.{built_at}
 use Rattle.live_install.specs.States.{IsOpen}
-use Rattle.live_install.proofs.KeepsLemmas.{started_state}
+use Rattle.live_install.proofs.KeepsLemmas.{after-program, started_state}
 use Rattle.live_install.proofs.OpenLemmas.{below, late, some-built, open-started}
 use Rattle.live_install.proofs.state.State.start.Goals as goal
 
@@ -39,11 +40,15 @@ returns-clause-open_state c =
     let s = c.args.self.now in
     let machine = c.start.new.self in
     let built = c.in-Some.built.now in
-    subst (λ (n : ℕ). IsOpen (record (started_state s c.args.step machine c.push.new.self c.push-2.new.self) { account = record s.account { first = n } }))
-    (sym c.from-self.ensures)
+    let is_epoch = c.epoch_after-epoch.ensures in
+    subst (λ (epoch : RunningEpoch). IsOpen (record (started_state s c.args.step machine c.push.new.self c.push-2.new.self) { running = Some epoch }))
+    (sym is_epoch)
     (open-started s c.requires.open_state c.args.step c.requires.next built machine c.push.new.self c.push-2.new.self
     (ap (λ (entries : List Entry). built_at entries c.args.step) (sym c.as_slice.ensures) ∙ sym c.in-Some.ensures)
     (c.in-Ok.ensures.started ∙ ap (λ (values : List Pair). started_by built.code.code values s.time s.machine) c.new.ensures)
     c.in-Ok.ensures.fits
-    (c.push.ensures.items ∙ (λ i. s.epochs.items ++ record { program = c.args.step; at = s.acks; cwnd = c.cwnd.ensures i } ∷ []))
+    (c.push.ensures.items
+    ∙ (λ i. s.epochs.items ++ c.line.ensures i ∷ [])
+    ∙ (λ i. s.epochs.items ++ record { program = (is_epoch i).program; at = s.acks; cwnd = c.cwnd.ensures i } ∷ [])
+    ∙ (λ i. s.epochs.items ++ record { program = after-program s.running c.args.step s.acks i; at = s.acks; cwnd = machine.kept.cwnd } ∷ []))
     c.push.ensures.room c.push-2.ensures.items c.push-2.ensures.room)

@@ -1,6 +1,6 @@
 use Rattle.live_install.specs.States.{world_of}
 use Rattle.live_install.proofs.RunLemmas.{running-step}
-use Rattle.live_install.proofs.state.State.running_step.Goals as goal
+use Rattle.live_install.proofs.state.State.running_epoch.Goals as goal
 
 pub returns-clause-present : goal.returns-clause-present
 returns-clause-present c =
