@@ -57,7 +57,7 @@ fn words_that_are_no_text_end_with_2(rt: HostRuntime) {
 }
 
 #[test]
-fn want_of_memory_for_the_words_ends_with_6(rt: HostRuntime) {
+fn out_of_memory_for_the_words_ends_with_6(rt: HostRuntime) {
     let line = b"ccp: no memory\n";
     assert!(rt; ends_with(&rt, rt.alloc(), ErrorKind::OutOfMemory, 6, line));
 }

@@ -20,12 +20,12 @@ use Rattle.link_model.specs.declared.link_case.LinkCase.{LinkCase}
 use Rattle.flow_core.specs.declared.case.Case.{Case}
 use Rattle.flow_core.specs.declared.case.Coded.{Coded}
 use Rattle.flow_core.specs.declared.letter.Letter.{Letter}
-use Rattle.flow_core.specs.LiveText.{Sources, source_at, account_of, flow_from, flow_line, live_text}
+use Rattle.reg_compiler.specs.Sources.{Sources, sources_of}
+use Rattle.flow_core.specs.LiveText.{source_at, account_of, flow_from, flow_line, live_text}
 use Rattle.flow_core.specs.Words.{world, legal, is_complete}
 use Rattle.scene_members.specs.declared.plan.Plan.{Plan}
 use Rattle.agent_core.specs.Kinds.{agent_of, kind_of}
 use Rattle.scenario_json.specs.Cases.{coded_of, coded_at, plan_of, IsCoded, AreFlowsFrom}
-use Rattle.scenario_json.specs.ScenePrograms.{Forms, forms_of}
 use Rattle.run_audit.specs.Audit.{IsWordOf, AreWordsOf, with_words}
 use Rattle.run_audit.specs.PartLeft.{body_text}
 use Rattle.ccp_run.specs.Timeline.{source_plan, planned_by}
@@ -123,7 +123,7 @@ module _ (sources : Sources) where
 abbrev role_of : ℕ → ℕ × Form → Role
 role_of number one = record { number = number; look = look_of one.1 }
 
-abbrev role_at : Forms → ℕ → Option Role
+abbrev role_at : Sources → ℕ → Option Role
 role_at forms number = option_map (role_of number) (slice_get forms number)
 
 module _ (programs : List (ℕ × Built)) (number : ℕ) (coded : Coded) where
@@ -134,7 +134,7 @@ module _ (programs : List (ℕ × Built)) (number : ℕ) (coded : Coded) where
   roles None = refl
   roles (Some one) = refl
 
-  role_found : coded_at programs number ≡ Some coded → role_at (forms_of programs) number ≡ Some coded.role
+  role_found : coded_at programs number ≡ Some coded → role_at (sources_of programs) number ≡ Some coded.role
   role_found is =
       ap (option_map (role_of number)) (slice_get-map stands_for programs number)
       ∙ roles (slice_get programs number)
@@ -155,7 +155,7 @@ none_one e = cc
 one_none : {A : Type 0} {a : A} {xs : List A} → a ∷ xs ≡ [] → ⊥
 one_none e = cc
 
-module _ (these those : List (ℕ × Built)) (forms : forms_of these ≡ forms_of those) where
+module _ (these those : List (ℕ × Built)) (forms : sources_of these ≡ sources_of those) where
   one_role : (number other : ℕ) (left right : Coded) → number ≡ other → coded_at these number ≡ Some left → coded_at those other ≡ Some right → left.role ≡ right.role
   one_role number other left right same l r = some_one (
       sym (role_found these number left l)

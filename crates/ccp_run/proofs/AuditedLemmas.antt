@@ -6,14 +6,14 @@ use Rattle.reg_compiler.specs.declared.built.Built.{Built}
 use Rattle.flow_core.specs.declared.book.Book.{Book}
 use Rattle.flow_core.specs.declared.case.Case.{Case}
 use Rattle.flow_core.specs.declared.letter.Letter.{Letter}
-use Rattle.flow_core.specs.LiveText.{Sources, live_text}
+use Rattle.reg_compiler.specs.Sources.{Sources, sources_of}
+use Rattle.flow_core.specs.LiveText.{live_text}
 use Rattle.fold_run.specs.Separated.{Cut, cut_of}
 use Rattle.campaign_report.specs.BooksRead.{flows_of}
 use Rattle.scene_members.specs.declared.mode.SceneMode.TheVariants as scene
 use Rattle.scene_members.specs.declared.plan.Plan.{Plan}
 use Rattle.scenario_json.specs.Cases.{plan_of}
 use Rattle.scenario_json.specs.Scene.{Scene, scene_with, scene_of}
-use Rattle.scenario_json.specs.ScenePrograms.{forms_of}
 use Rattle.run_audit.specs.declared.verdict.Verdict.TheVariants.{Yes}
 use Rattle.run_audit.specs.Audit.{IsWordOf, IsLiveText}
 use Rattle.run_audit.proofs.WordsLemmas.{yes_only}
@@ -40,27 +40,27 @@ one_scene bytes left right l r =
 -- ---- the words of books
 
 flows_right : (programs : List (ℕ × Built)) (books : List Book) → All (IsRightBook programs) books
-    → All (λ (flow : Case × List Letter). IsWordOf (forms_of programs) flow.0 flow.1) (flows_of books)
+    → All (λ (flow : Case × List Letter). IsWordOf (sources_of programs) flow.0 flow.1) (flows_of books)
 flows_right programs books right =
-    All-map (λ (flow : Case × List Letter). IsWordOf (forms_of programs) flow.0 flow.1) (λ (book : Book). (book.case, book.word)) books
+    All-map (λ (flow : Case × List Letter). IsWordOf (sources_of programs) flow.0 flow.1) (λ (book : Book). (book.case, book.word)) books
     (λ k book h. record { legal = (right k book h).legal; complete = (right k book h).complete })
 
 -- the text of a timeline is a live text of its scenario, whatever codes its programs have
 live_text_of : (bytes : List ℕ) (output : ModeOutput) → IsTimelineOutput false bytes output
-    → (those : List (ℕ × Built)) (others : List Case) → IsScenario scene.Live bytes those others → IsLiveText (forms_of those) others output.text
+    → (those : List (ℕ × Built)) (others : List Case) → IsScenario scene.Live bytes those others → IsLiveText (sources_of those) others output.text
 live_text_of bytes output is those others scenario =
     let these : List (ℕ × Built) = output.programs in
-    let said : scene_with (forms_of these) (map plan_of is.cases) ≡ scene_with (forms_of those) (map plan_of others) =
-    one_scene bytes (scene_with (forms_of these) (map plan_of is.cases)) (scene_with (forms_of those) (map plan_of others)) is.scenario.text scenario.text in
-    let forms : forms_of these ≡ forms_of those = ap (λ (s : Scene). s.programs) said in
+    let said : scene_with (sources_of these) (map plan_of is.cases) ≡ scene_with (sources_of those) (map plan_of others) =
+    one_scene bytes (scene_with (sources_of these) (map plan_of is.cases)) (scene_with (sources_of those) (map plan_of others)) is.scenario.text scenario.text in
+    let forms : sources_of these ≡ sources_of those = ap (λ (s : Scene). s.programs) said in
     let plans : map plan_of is.cases ≡ map plan_of others = ap (λ (s : Scene). s.cases) said in
     let alike = all_alike these those forms 0 is.cases others plans is.scenario.flows scenario.flows is.scenario.coded scenario.coded in
-    let right : All (λ (flow : Case × List Letter). IsWordOf (forms_of these) flow.0 flow.1) (planned_by (forms_of these) is.cases) =
-    subst (λ (flows : List (Case × List Letter)). All (λ (flow : Case × List Letter). IsWordOf (forms_of these) flow.0 flow.1) flows) is.tells.books (flows_right these output.books is.tells.right) in
-    let live : IsLiveText (forms_of these) others output.text = record {
-      words = map (source_plan (forms_of these)) is.cases;
-      are = words_alike (forms_of these) is.cases others alike right;
-      whole = is.tells.written ∙ texts_alike (forms_of these) is.cases others alike;
+    let right : All (λ (flow : Case × List Letter). IsWordOf (sources_of these) flow.0 flow.1) (planned_by (sources_of these) is.cases) =
+    subst (λ (flows : List (Case × List Letter)). All (λ (flow : Case × List Letter). IsWordOf (sources_of these) flow.0 flow.1) flows) is.tells.books (flows_right these output.books is.tells.right) in
+    let live : IsLiveText (sources_of these) others output.text = record {
+      words = map (source_plan (sources_of these)) is.cases;
+      are = words_alike (sources_of these) is.cases others alike right;
+      whole = is.tells.written ∙ texts_alike (sources_of these) is.cases others alike;
     } in
     subst (λ (fs : Sources). IsLiveText fs others output.text) forms live
 
@@ -71,6 +71,6 @@ audited bytes output is input cut at program text made audit =
     let text_same : audit.cut.rest ≡ output.text = ap (λ (c : Cut). c.rest) same ∙ text in
     let scenario : IsScenario scene.Live bytes audit.programs audit.cases =
     subst (λ (b : List ℕ). IsScenario scene.Live b audit.programs audit.cases) bytes_same audit.scenario in
-    let live : IsLiveText (forms_of audit.programs) audit.cases audit.cut.rest =
-    subst (λ (t : List ℕ). IsLiveText (forms_of audit.programs) audit.cases t) (sym text_same) (live_text_of bytes output is audit.programs audit.cases scenario) in
-    audit.written ∙ ap verdict_text (yes_only (forms_of audit.programs) audit.cases audit.cut.rest audit.verdict audit.is live)
+    let live : IsLiveText (sources_of audit.programs) audit.cases audit.cut.rest =
+    subst (λ (t : List ℕ). IsLiveText (sources_of audit.programs) audit.cases t) (sym text_same) (live_text_of bytes output is audit.programs audit.cases scenario) in
+    audit.written ∙ ap verdict_text (yes_only (sources_of audit.programs) audit.cases audit.cut.rest audit.verdict audit.is live)

@@ -8,20 +8,20 @@ use Rattle.campaign_gate.specs.CampaignRow.{case_row}
 use Rattle.campaign_gate.specs.LiftedRow.{RowHoldsForSources}
 use Rattle.campaign_report.specs.BookText.{program_places}
 use Rattle.scenario_json.specs.Cases.{IsCoded, AreNumberedFrom}
-use Rattle.scenario_json.specs.ScenePrograms.{forms_of}
+use Rattle.reg_compiler.specs.Sources.{sources_of}
 use Rattle.ccp_run.specs.Campaign.{source_row, source_rows}
 use Rattle.ccp_run.proofs.CodedLemmas.{simulated}
 
 module _ (programs : List (ℕ × Built)) (numbered : AreNumberedFrom 0 programs) (lifted : (case : Case) → RowHoldsForSources case) where
   -- a coded case's row is that of its sources
-  row_over : (case : Case) → IsCoded programs case → case_row case ≡ source_row (forms_of programs) case
+  row_over : (case : Case) → IsCoded programs case → case_row case ≡ source_row (sources_of programs) case
   row_over case coded =
       let ss = case.ss.role.number in
       let ca = case.ca.role.number in
-      lifted case (source_at (forms_of programs) ss) (source_at (forms_of programs) ca) (program_places programs ss) (program_places programs ca)
+      lifted case (source_at (sources_of programs) ss) (source_at (sources_of programs) ca) (program_places programs ss) (program_places programs ca)
       (simulated programs numbered ss case.ss coded.ss) (simulated programs numbered ca case.ca coded.ca)
 
   pub rows_over : (cases : List Case) → All (IsCoded programs) cases → map case_row cases ≡ source_rows programs cases
   rows_over [] coded = refl
   rows_over (case ∷ rest) coded =
-      ap (λ row. row ∷ map case_row rest) (row_over case (coded 0 case (omega arith))) ∙ ap (λ rows. source_row (forms_of programs) case ∷ rows) (rows_over rest (λ k d h. coded (suc k) d (omega (arith, h))))
+      ap (λ row. row ∷ map case_row rest) (row_over case (coded 0 case (omega arith))) ∙ ap (λ rows. source_row (sources_of programs) case ∷ rows) (rows_over rest (λ k d h. coded (suc k) d (omega (arith, h))))

@@ -11,7 +11,7 @@ use Rattle.flow_core.specs.declared.case.Coded.{Coded}
 use Rattle.flow_core.specs.LiveText.{source_at}
 use Rattle.campaign_report.specs.BookText.{program_places}
 use Rattle.scenario_json.specs.Cases.{coded_of, coded_at, AreNumberedFrom}
-use Rattle.scenario_json.specs.ScenePrograms.{forms_of}
+use Rattle.reg_compiler.specs.Sources.{sources_of}
 
 pub one_some : {A : Type 0} (left right : A) → Some left ≡ Some right → left ≡ right
 one_some left right e = cc
@@ -33,7 +33,7 @@ at_zero i = omega arith
 
 -- the program of this number is this one
 record IsAt (programs : List (ℕ × Built)) (number : ℕ) (one : ℕ × Built) : Type 0 where
-  source : source_at (forms_of programs) number ≡ form_of one.1.program
+  source : source_at (sources_of programs) number ≡ form_of one.1.program
   places : program_places programs number ≡ one.1.places
 
 -- the program at a place is the one with the number of the place
@@ -44,15 +44,15 @@ found k (first ∷ rest) numbered zero one is =
     let same : first ≡ one = one_some first one is in
     let here : (first.0 == (k + 0)) ≡ true = eq-eqb first.0 (k + 0) (numbered.0 ∙ sym (at_once k)) in
     record {
-      source = ap (λ b. if b then form_of first.1.program else source_at (forms_of rest) (k + 0)) here ∙ ap (λ o. form_of o.1.program) same;
+      source = ap (λ b. if b then form_of first.1.program else source_at (sources_of rest) (k + 0)) here ∙ ap (λ o. form_of o.1.program) same;
       places = ap (λ b. if b then first.1.places else program_places rest (k + 0)) here ∙ ap (λ o. o.1.places) same;
     }
 found k (first ∷ rest) numbered (suc i) one is =
     let past : (first.0 == (k + suc i)) ≡ false = ne_eqb first.0 (k + suc i) (λ e. later k i (sym numbered.0 ∙ e)) in
     let next = found (k + 1) rest numbered.1 i one is in
     record {
-      source = ap (λ b. if b then form_of first.1.program else source_at (forms_of rest) (k + suc i)) past
-          ∙ ap (λ n. source_at (forms_of rest) n) (shifted k i) ∙ next.source;
+      source = ap (λ b. if b then form_of first.1.program else source_at (sources_of rest) (k + suc i)) past
+          ∙ ap (λ n. source_at (sources_of rest) n) (shifted k i) ∙ next.source;
       places = ap (λ b. if b then first.1.places else program_places rest (k + suc i)) past
           ∙ ap (λ n. program_places rest n) (shifted k i) ∙ next.places;
     }
@@ -62,7 +62,7 @@ found_at : (programs : List (ℕ × Built)) → AreNumberedFrom 0 programs → (
 found_at programs numbered i one is = subst (λ (n : ℕ). IsAt programs n one) (at_zero i) (found 0 programs numbered i one is)
 
 module _ (programs : List (ℕ × Built)) (numbered : AreNumberedFrom 0 programs) (number : ℕ) (coded : Coded) (is : coded_at programs number ≡ Some coded) where
-  simulated_by : (at : Option (ℕ × Built)) → slice_get programs number ≡ at → Simulates (source_at (forms_of programs) number) coded.code.code (program_places programs number)
+  simulated_by : (at : Option (ℕ × Built)) → slice_get programs number ≡ at → Simulates (source_at (sources_of programs) number) coded.code.code (program_places programs number)
   simulated_by None none =
       let bad : None ≡ Some coded = sym (ap (λ o. option_map (coded_of number) o) none) ∙ is in absurd (no_some coded bad)
   simulated_by (Some one) some =
@@ -75,5 +75,5 @@ module _ (programs : List (ℕ × Built)) (numbered : AreNumberedFrom 0 programs
       (subst (λ (code : Code). Simulates (form_of one.1.program) code one.1.places) code one.1.simulates))
 
   -- a case's code simulates the source of its program's number, with the places there
-  pub simulated : Simulates (source_at (forms_of programs) number) coded.code.code (program_places programs number)
+  pub simulated : Simulates (source_at (sources_of programs) number) coded.code.code (program_places programs number)
   simulated = simulated_by (slice_get programs number) refl

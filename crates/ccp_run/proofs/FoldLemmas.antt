@@ -1,5 +1,5 @@
 -- What a fold's reports, fault and end show.
-use Rattle.std.proofs.Common.{◌≡◌, ◌∙◌, ℕ, Bool, true, false, Option, Some, None, option_map, Result, Ok, Err, IfOk, List, [], ◌∷◌, length, map, ap, refl}
+use Rattle.std.proofs.Common.{◌≡◌, ◌∙◌, ℕ, Bool, true, false, Option, Some, None, option_map, unwrap_or, Result, Ok, Err, IfOk, List, [], ◌∷◌, length, map, ap, sym, refl}
 use Rattle.std.specs.List.{All}
 use Rattle.std.specs.Option.{ForSome}
 use Rattle.std.proofs.lemmas.List.Elements.{All-append, All-cons, All-nil}
@@ -18,9 +18,10 @@ use Rattle.portus_core.specs.OneAcknowledgement.{IsEnvOf, answered, settled, one
 use Rattle.portus_core.specs.Programs.{Form}
 use Rattle.portus_core.specs.Reports.{reports, reports_at, reports_met, report_of}
 use Rattle.portus_core.specs.Value.{Cause}
-use Rattle.report_lines.specs.FaultLine.{fault_line}
-use Rattle.campaign_report.specs.FoldText.{ShowsAll, notice_line, placed_fault_line}
-use Rattle.fold_run.specs.Fold.{IsFoldNotice, fold_epoch, fold_reports, fold_end, fold_start, place_at, told_fault, with_room}
+use Rattle.report_lines.specs.FaultLine.{fault_line, placed_line}
+use Rattle.campaign_report.specs.FoldText.{ShowsAll, fault_part}
+use Rattle.reg_compiler.specs.Simulation.{missing_place, place_at}
+use Rattle.fold_run.specs.Fold.{IsFoldNotice, fold_reporter, fold_reports, fold_end, fold_start, told_fault, with_room}
 use Rattle.ccp_run.specs.Fold.{stopping_line}
 
 module _ (form : Form) where
@@ -43,17 +44,17 @@ module _ (form : Form) where
   shows_one : (env : Env) (ack : Ack) → IsEnvOf form env → Shows (one_of form env ack true).0
   shows_one env ack shape = shows_settled env true (blocks_of form.blocks ack (before_blocks env)) (IsEnvOf-blocks form form.blocks ack (before_blocks env) shape)
 
-  shown_outcome : (track : Track) (ack : Ack) (meant : Mean) (env : Env) → Shows meant → All (ShowsAll form.fields) (reports_met fold_epoch track ack (outcome_of meant) env)
+  shown_outcome : (track : Track) (ack : Ack) (meant : Mean) (env : Env) → Shows meant → All (ShowsAll form.fields) (reports_met fold_reporter track ack (outcome_of meant) env)
   shown_outcome track ack mean.Quiet env shows = All-nil (ShowsAll form.fields)
   shown_outcome track ack (mean.Reported fields) env shows =
-      All-cons (ShowsAll form.fields) (report_of fold_epoch track ack env fields) [] shows (All-nil (ShowsAll form.fields))
+      All-cons (ShowsAll form.fields) (report_of fold_reporter track ack env fields) [] shows (All-nil (ShowsAll form.fields))
   shown_outcome track ack mean.Held env shows = All-nil (ShowsAll form.fields)
   shown_outcome track ack (mean.Fault kind place) env shows = All-nil (ShowsAll form.fields)
 
-  shown_at : (track : Track) (ack : Ack) → IsEnvOf form track.env → All (ShowsAll form.fields) (reports_at (by_source form) fold_epoch (with_room ack) track)
+  shown_at : (track : Track) (ack : Ack) → IsEnvOf form track.env → All (ShowsAll form.fields) (reports_at (by_source form) fold_reporter (with_room ack) track)
   shown_at track ack shape = go track.is_stopped
     where
-      go : (stopped : Bool) → All (ShowsAll form.fields) (let met = heard (by_source form) stopped track.env ack true in reports_met fold_epoch track ack met.0 met.1)
+      go : (stopped : Bool) → All (ShowsAll form.fields) (let met = heard (by_source form) stopped track.env ack true in reports_met fold_reporter track ack met.0 met.1)
       go true = All-nil (ShowsAll form.fields)
       go false = shown_outcome track ack (one_of form track.env ack true).0 (one_of form track.env ack true).1 (shows_one track.env ack shape)
 
@@ -64,11 +65,11 @@ module _ (form : Form) where
       go true = shape
       go false = IsEnvOf-one_of form track.env ack true shape
 
-  shown : (acks : List Ack) (track : Track) → IsEnvOf form track.env → All (ShowsAll form.fields) (reports (by_source form) fold_epoch (map with_room acks) track)
+  shown : (acks : List Ack) (track : Track) → IsEnvOf form track.env → All (ShowsAll form.fields) (reports (by_source form) fold_reporter (map with_room acks) track)
   shown [] track shape = All-nil (ShowsAll form.fields)
   shown (ack ∷ rest) track shape =
       let next = after_event (by_source form) (with_room ack) track in
-      All-append (ShowsAll form.fields) (reports_at (by_source form) fold_epoch (with_room ack) track) (reports (by_source form) fold_epoch (map with_room rest) next)
+      All-append (ShowsAll form.fields) (reports_at (by_source form) fold_reporter (with_room ack) track) (reports (by_source form) fold_reporter (map with_room rest) next)
       (shown_at track ack shape) (shown rest next (keeps_shape track ack shape))
 
   shape_after : (acks : List Ack) (track : Track) → IsEnvOf form track.env → IsEnvOf form (after (by_source form) (map with_room acks) track).env
@@ -82,10 +83,11 @@ module _ (form : Form) where
   end_shows_all acks = (shape_after acks (fold_start form) (IsEnvOf-declared_env form 0 0 0)).fields
 
 -- the line of a fold's fault is that of the notice which reports it
-pub line_of_notice : (acks : List Ack) (places : List Place) (window : ℕ) (fault : Option Notice) (told : Option (ℕ × Cause)) → ForSome fault (IsFoldNotice acks places window) → option_map (told_fault places) fault ≡ told → notice_line places fault ≡ stopping_line told
+pub line_of_notice : (acks : List Ack) (places : List Place) (window : ℕ) (fault : Option Notice) (told : Option (ℕ × Cause)) → ForSome fault (IsFoldNotice acks places window) → option_map (told_fault places) fault ≡ told → fault_part places fault ≡ stopping_line told
 line_of_notice acks places window None told notice same = ap stopping_line same
 line_of_notice acks places window (Some n) told notice same =
     let is = notice n refl in
-    ap (placed_fault_line n) (slice_get-get_or places n.index (record { line = 0; column = 0 }) is.placed)
+    let found = slice_get-get_or places n.index missing_place is.placed in
+    ap (placed_line n) (found ∙ ap (λ place. Some place) (sym (ap (λ place. unwrap_or place missing_place) found)))
     ∙ ap (λ epoch. fault_line epoch n.at n.kind (place_at places n.index)) is.epoch
     ∙ ap stopping_line same

@@ -18,13 +18,13 @@ use Rattle.flow_core.specs.Readings.{Flow, over_codes}
 use Rattle.flow_core.specs.Words.{world}
 use Rattle.flow_core.specs.World.{Failure, Content, of_report, of_failure, Answered, World, notice_of, told_as, track_of}
 use Rattle.flow_core.proofs.LiftLemmas.{link-lift, legal-lift, complete-lift}
-use Rattle.flow_table.specs.WholeBooks.{IsWhole}
+use Rattle.flow_table.specs.WholeBooks.{IsWholeBook}
 use Rattle.agent_loop.specs.LiveBooks.{AreBooksOf}
 use Rattle.campaign_gate.proofs.LiftedRowLemmas.{track-lifts}
 use Rattle.campaign_report.specs.BookText.{placed_failure, program_places}
 use Rattle.campaign_report.specs.BooksRead.{content_of, answered_of, read_flow, read_world, IsBookRead}
 use Rattle.scenario_json.specs.Cases.{IsCoded, AreNumberedFrom}
-use Rattle.scenario_json.specs.ScenePrograms.{forms_of}
+use Rattle.reg_compiler.specs.Sources.{sources_of}
 use Rattle.ccp_run.specs.Live.{IsRightBook, book_cases}
 use Rattle.ccp_run.proofs.CodedLemmas.{simulated}
 
@@ -50,15 +50,15 @@ module _ (programs : List (ℕ × Built)) (case : Case) where
   tickets-placed (ticket ∷ rest) =
       λ i. record { told = told-placed ticket.told i; taken = ticket.taken; answered = ticket.answered; reply = ticket.reply } ∷ tickets-placed rest i
 
-module _ (programs : List (ℕ × Built)) (numbered : AreNumberedFrom 0 programs) (book : Book) (whole : IsWhole book) (coded : IsCoded programs book.case) where
+module _ (programs : List (ℕ × Built)) (numbered : AreNumberedFrom 0 programs) (book : Book) (whole : IsWholeBook book) (coded : IsCoded programs book.case) where
   abbrev case : Case
   case = book.case
 
   abbrev ss : Form
-  ss = source_at (forms_of programs) case.ss.role.number
+  ss = source_at (sources_of programs) case.ss.role.number
 
   abbrev ca : Form
-  ca = source_at (forms_of programs) case.ca.role.number
+  ca = source_at (sources_of programs) case.ca.role.number
 
   abbrev ss_places : List Place
   ss_places = program_places programs case.ss.role.number
@@ -102,7 +102,7 @@ module _ (programs : List (ℕ × Built)) (numbered : AreNumberedFrom 0 programs
   }
 
 -- each book of coded cases shows the meaning of its word
-pub right_books : (programs : List (ℕ × Built)) → AreNumberedFrom 0 programs → (books : List Book) → All IsWhole books
+pub right_books : (programs : List (ℕ × Built)) → AreNumberedFrom 0 programs → (books : List Book) → All IsWholeBook books
     → All (IsCoded programs) (book_cases books) → All (IsRightBook programs) books
 right_books programs numbered [] whole coded = All-nil (IsRightBook programs)
 right_books programs numbered (book ∷ rest) whole coded =

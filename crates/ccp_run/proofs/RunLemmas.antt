@@ -142,7 +142,7 @@ module _ (task : Task) (source sink errors : StreamChange) (is_finished : Type 0
       })
       e
 
--- where the mode reads its source to the end before it writes
+-- if the mode reads its source to the end before it writes
 module _ (task : Task) (plain : is_stream task ≡ false) (source sink errors : StreamChange) (is_finished : Type 0) (outcome : Outcome) where
   no_answers : (taken : List ℕ) → sink.new ≡ sink.old → Appends sink.old sink.new (answers_before task taken)
   no_answers taken same = subst (Appends sink.old sink.new) (sym ((is_mode task).plain plain taken).0) (appends_nothing sink.old sink.new same)

@@ -11,7 +11,7 @@ use Rattle.flow_core.specs.LiveText.{source_at, flow_from}
 use Rattle.flow_core.specs.Readings.{over_codes}
 use Rattle.campaign_report.specs.BookText.{program_places}
 use Rattle.scenario_json.specs.Cases.{plan_of, IsCoded, AreNumberedFrom}
-use Rattle.scenario_json.specs.ScenePrograms.{forms_of}
+use Rattle.reg_compiler.specs.Sources.{sources_of}
 use Rattle.scenario_json.specs.SharedScenes.{flow_link_of}
 use Rattle.shared_link.specs.declared.shared_case.SharedCase.{SharedCase}
 use Rattle.shared_link.specs.SharedLimits.{IsFlowWithin, IsWithin}
@@ -29,13 +29,13 @@ no_some : {A : Type 0} (right : A) → None ≡ Some right → ⊥
 no_some right e = cc
 
 module _ (programs : List (ℕ × Built)) (numbered : AreNumberedFrom 0 programs) where
-  case_simulated : (case : Case) → IsCoded programs case → AreSimulated (flow_from (forms_of programs)) case
+  case_simulated : (case : Case) → IsCoded programs case → AreSimulated (flow_from (sources_of programs)) case
   case_simulated case coded =
       let ss = case.ss.role.number in
       let ca = case.ca.role.number in
       record {
-        ss = source_at (forms_of programs) ss;
-        ca = source_at (forms_of programs) ca;
+        ss = source_at (sources_of programs) ss;
+        ca = source_at (sources_of programs) ca;
         ss_places = program_places programs ss;
         ca_places = program_places programs ca;
         read = refl;
@@ -44,10 +44,10 @@ module _ (programs : List (ℕ × Built)) (numbered : AreNumberedFrom 0 programs
       }
 
   pub all_simulated : (cases : List Case) → All (IsCoded programs) cases → (k : ℕ) (case : Case) → slice_get cases k ≡ Some case
-      → AreSimulated (flow_from (forms_of programs)) case
+      → AreSimulated (flow_from (sources_of programs)) case
   all_simulated [] coded k case is = absurd (no_some case is)
   all_simulated (first ∷ rest) coded zero case is =
-      subst (λ (c : Case). AreSimulated (flow_from (forms_of programs)) c) (one_some first case is) (case_simulated first (coded 0 first (omega arith)))
+      subst (λ (c : Case). AreSimulated (flow_from (sources_of programs)) c) (one_some first case is) (case_simulated first (coded 0 first (omega arith)))
   all_simulated (first ∷ rest) coded (suc k) case is =
       all_simulated rest (λ j d h. coded (suc j) d (omega (arith, h))) k case is
 

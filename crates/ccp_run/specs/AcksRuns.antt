@@ -3,12 +3,12 @@ use Rattle.std.specs.Prelude.{◌≡◌, ℕ, List, [], map}
 use Rattle.ccp_base.specs.declared.ack.Ack.{Ack}
 use Rattle.reg_compiler.specs.declared.built.Built.{Built}
 use Rattle.flow_core.specs.declared.case.Case.{Case}
-use Rattle.flow_core.specs.LiveText.{Sources, flow_from}
+use Rattle.reg_compiler.specs.Sources.{Sources, sources_of}
+use Rattle.flow_core.specs.LiveText.{flow_from}
 use Rattle.campaign_gate.specs.CampaignBooks.{acks_read}
 use Rattle.campaign_report.specs.AcksText.{acks_text}
 use Rattle.scene_members.specs.declared.mode.SceneMode.TheVariants as scene
 use Rattle.scenario_json.specs.Cases.{case_names}
-use Rattle.scenario_json.specs.ScenePrograms.{forms_of}
 use Rattle.ccp_run.specs.declared.outcome.ModeOutput.{ModeOutput}
 use Rattle.ccp_run.specs.Campaign.{case_agents}
 use Rattle.ccp_run.specs.Rules.{Rules}
@@ -20,7 +20,7 @@ source_acks sources case = acks_read (flow_from sources case) case.link case.lag
 
 -- the lines of the acknowledgements of cases of these programs
 abbrev pub acks_written : List (ℕ × Built) → List Case → List ℕ
-acks_written programs cases = acks_text (case_names cases) (case_agents cases) (map (source_acks (forms_of programs)) cases)
+acks_written programs cases = acks_text (case_names cases) (case_agents cases) (map (source_acks (sources_of programs)) cases)
 
 -- the output is these lines
 pub record TellsAcks (programs : List (ℕ × Built)) (cases : List Case) (output : ModeOutput) : Type 0 where

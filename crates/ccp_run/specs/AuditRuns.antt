@@ -7,7 +7,7 @@ use Rattle.fold_run.specs.Separated.{Cut, cut_of}
 use Rattle.scenario_json.specs.declared.fault.SceneFault.{SceneFault}
 use Rattle.scene_members.specs.declared.mode.SceneMode.TheVariants as scene
 use Rattle.scenario_json.specs.Scene.{Scene}
-use Rattle.scenario_json.specs.ScenePrograms.{forms_of}
+use Rattle.reg_compiler.specs.Sources.{sources_of}
 use Rattle.run_audit.specs.declared.verdict.Verdict.{Verdict}
 use Rattle.run_audit.specs.declared.verdict.Verdict.TheVariants.{Yes, No}
 use Rattle.run_audit.specs.Audit.{IsVerdict}
@@ -45,7 +45,7 @@ pub record IsAuditOutput (bytes : List ℕ) (output : ModeOutput) : Type 0 where
   pub cases : List Case
   pub scenario : IsScenario scene.Live cut.program programs cases
   pub verdict : Verdict
-  pub is : IsVerdict (forms_of programs) cases cut.rest verdict
+  pub is : IsVerdict (sources_of programs) cases cut.rest verdict
   pub written : output.text ≡ verdict_text verdict
   pub no_books : output.books ≡ []
   pub kept : output.programs ≡ []

@@ -18,8 +18,8 @@ EndsAs end outcome = (outcome.status ≡ status_number end) ⊎ (outcome.status 
 abbrev pub IsNoInput : Task → List ℕ → Type 0
 IsNoInput task bytes = ((is_read task ≡ true) × (limit_of task < length bytes)) ⊎ ((refusal : Refusal) × IsInputRefusal task bytes refusal)
 
--- where no count of faults rose, an input of the mode within the limit is answered by the mode's output, and every
--- other one is refused; the sink's count matters to a refusal only where answers are written before it
+-- if no count of faults rose, an input of the mode within the limit is answered by the mode's output, and every
+-- other one is refused; the sink's count matters to a refusal only if answers are written before it
 pub record AnswersOrRefuses (task : Task) (source sink : StreamChange) (outcome : Outcome) : Type 0 where
   pub answered : (bytes : List ℕ) → source.old ≡ Some bytes → length bytes ≤ limit_of task → IsInput task bytes
       → (Rose source.before source.now → ⊥) → (Rose sink.before sink.now → ⊥)

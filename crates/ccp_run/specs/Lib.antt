@@ -1,4 +1,6 @@
 -- The definitions of ccp_run, a file each.
+
+-- those that contracts of public calls cite: streams and statuses, the rules of each mode, and a whole run
 pub mod Streams
 pub mod Statuses
 pub mod ErrorLine
@@ -16,11 +18,13 @@ pub mod AuditRuns
 pub mod Shared
 pub mod Rollout
 pub mod Modes
-pub mod Attempts
-pub mod Endings
-pub mod FeedEndings
 pub mod Run
 pub mod Complete
 pub mod Settled
 pub mod TextLaws
 pub mod Tool
+-- of these two, the contract of a run cites `MakesOutput` and `RefusesAny`, `Ends` and `WritesAll`; the rest, and the
+-- file after them, only private contracts and proofs cite
+pub mod Attempts
+pub mod Endings
+pub mod FeedEndings

@@ -9,7 +9,7 @@ use Rattle.flow_core.specs.LiveText.{live_text}
 use Rattle.flow_core.specs.Words.{legal, is_complete}
 use Rattle.campaign_report.specs.BooksRead.{IsBookRead, read_flow, read_world, flows_of}
 use Rattle.scene_members.specs.declared.mode.SceneMode.TheVariants as scene
-use Rattle.scenario_json.specs.ScenePrograms.{forms_of}
+use Rattle.reg_compiler.specs.Sources.{sources_of}
 use Rattle.ccp_run.specs.declared.outcome.ModeOutput.{ModeOutput}
 use Rattle.ccp_run.specs.Campaign.{frames_shown}
 use Rattle.ccp_run.specs.Rules.{Rules}
@@ -26,9 +26,9 @@ pub record IsRightBook (programs : List (ℕ × Built)) (book : Book) : Type 0 w
 abbrev pub book_cases : List Book → List Case
 book_cases books = map (λ (book : Book). book.case) books
 
--- the live text of books over the sources of these programs, after the programs' frames where they are asked for
+-- the live text of books over the sources of these programs, after the programs' frames if they are asked for
 abbrev pub books_written : Bool → List (ℕ × Built) → List Book → List ℕ
-books_written wire programs books = frames_shown wire programs ⧺ live_text (forms_of programs) (flows_of books)
+books_written wire programs books = frames_shown wire programs ⧺ live_text (sources_of programs) (flows_of books)
 
 -- there is one book for each of the cases, in order, which has a legal and complete word, and the output is the live
 -- text of these words. Nothing says which words they are.

@@ -84,7 +84,7 @@ is_read task = (rules_of task).is_read
 abbrev pub is_stream : Task → Bool
 is_stream task = (rules_of task).is_stream
 
--- what is written of the output where these bytes were taken, before the input was read to its end
+-- what is written of the output if these bytes were taken, before the input was read to its end
 abbrev pub answers_before : Task → List ℕ → List ℕ
 answers_before task bytes = (rules_of task).answers_before bytes
 

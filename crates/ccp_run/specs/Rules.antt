@@ -11,7 +11,7 @@ pub record Rules : Type 1 where
   pub is_read : Bool
   -- whether answers are written before the input was read to its end
   pub is_stream : Bool
-  -- what is written of the output where these bytes were taken, before the input was read to its end
+  -- what is written of the output if these bytes were taken, before the input was read to its end
   pub answers_before : List ℕ → List ℕ
   -- bytes that were taken aren't refused so far
   pub GoesOn : List ℕ → Type 0

@@ -6,7 +6,7 @@ use Rattle.reg_compiler.specs.declared.built.Built.{Built}
 use Rattle.scene_members.specs.declared.mode.SceneMode.{SceneMode}
 use Rattle.scenario_json.specs.Cases.{plan_of, IsCoded, AreFlowsFrom}
 use Rattle.scenario_json.specs.Scene.{Scene, scene_with, scene_of}
-use Rattle.scenario_json.specs.ScenePrograms.{forms_of}
+use Rattle.reg_compiler.specs.Sources.{sources_of}
 use Rattle.scenario_json.specs.declared.fault.SceneFault.{SceneFault}
 use Rattle.scenario_json.specs.declared.fault.SceneFault.TheVariants as scene
 use Rattle.ccp_run.specs.declared.outcome.ModeOutput.{ModeOutput}
@@ -23,7 +23,7 @@ Says mode bytes scene = scene_of mode bytes ≡ Ok scene
 
 -- bytes are a scenario's text, and these are its programs and cases
 pub record IsScenario (mode : SceneMode) (bytes : List ℕ) (programs : List (ℕ × Built)) (cases : List Case) : Type 0 where
-  pub text : Says mode bytes (scene_with (forms_of programs) (map plan_of cases))
+  pub text : Says mode bytes (scene_with (sources_of programs) (map plan_of cases))
   pub coded : All (IsCoded programs) cases
   pub flows : AreFlowsFrom 0 cases
 
@@ -42,7 +42,7 @@ StopsFor has (stop.Refused refusal) = IsOfScene has refusal
 StopsFor has stop.ReadFailed = ⊥
 StopsFor has stop.NoMemory = Unit {0}
 
--- why a mode has no output, where its text is no scenario for this fault
+-- why a mode has no output, if its text is no scenario for this fault
 abbrev pub scene_stop : SceneFault → Stop
 scene_stop scene.NoMemory = stop.NoMemory
 scene_stop fault = stop.Refused (refusal.Scene fault)

@@ -10,7 +10,7 @@ use Rattle.scenario_json.specs.declared.fault.SceneFault.{SceneFault}
 use Rattle.scenario_json.specs.declared.shared_scene.SharedScene.{SharedScene}
 use Rattle.scenario_json.specs.Cases.{plan_of, case_names, IsCoded, AreFlowsFrom}
 use Rattle.scenario_json.specs.Scene.{scene_with}
-use Rattle.scenario_json.specs.ScenePrograms.{forms_of}
+use Rattle.reg_compiler.specs.Sources.{sources_of}
 use Rattle.scenario_json.specs.SharedScenes.{SharedParts, shared_with, shared_scene_of}
 use Rattle.shared_link.specs.declared.round.Counts.{Counts}
 use Rattle.shared_link.specs.declared.shared_case.SharedCase.{SharedCase}
@@ -30,7 +30,7 @@ SaysShared bytes parts = shared_scene_of bytes ≡ Ok parts
 
 -- bytes are such a text, and these are its programs and cases, its link, and the most rounds
 pub record IsSharedScenario (bytes : List ℕ) (programs : List (ℕ × Built)) (cases : List Case) (link : SharedCase) (rounds : ℕ) : Type 0 where
-  pub text : SaysShared bytes (shared_with (scene_with (forms_of programs) (map plan_of cases)) link rounds)
+  pub text : SaysShared bytes (shared_with (scene_with (sources_of programs) (map plan_of cases)) link rounds)
   pub coded : All (IsCoded programs) cases
   pub flows : AreFlowsFrom 0 cases
 
@@ -53,8 +53,8 @@ link_line counts =
 -- the table of cases of these programs over their link, read over the programs' sources, and the link's line
 abbrev pub shared_text : List (ℕ × Built) → List Case → SharedCase → ℕ → List ℕ
 shared_text programs cases link rounds =
-    table_text (case_names cases) (case_agents cases) (shared_rows link (flow_from (forms_of programs)) cases rounds)
-    ⧺ link_line (shared_counts link (flow_from (forms_of programs)) cases rounds)
+    table_text (case_names cases) (case_agents cases) (shared_rows link (flow_from (sources_of programs)) cases rounds)
+    ⧺ link_line (shared_counts link (flow_from (sources_of programs)) cases rounds)
 
 -- that text of a scenario that was read
 abbrev pub text_of_scene : SharedScene → List ℕ

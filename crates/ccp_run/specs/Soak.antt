@@ -5,7 +5,7 @@ use Rattle.flow_core.specs.declared.case.Case.{Case}
 use Rattle.campaign_report.specs.TableText.{soak_text}
 use Rattle.scenario_json.specs.Cases.{plan_of, IsCoded, AreFlowsFrom}
 use Rattle.scenario_json.specs.Scene.{scene_with}
-use Rattle.scenario_json.specs.ScenePrograms.{forms_of}
+use Rattle.reg_compiler.specs.Sources.{sources_of}
 use Rattle.scenario_json.specs.Soak.{gen}
 use Rattle.ccp_run.specs.declared.outcome.ModeOutput.{ModeOutput}
 use Rattle.ccp_run.specs.declared.refusal.Limit.TheVariants.{Input}
@@ -15,7 +15,7 @@ use Rattle.ccp_run.specs.Rules.{Rules}
 -- the output is the total of the generated cases of this number
 pub record IsSoakOutput (number : ℕ) (output : ModeOutput) : Type 0 where
   pub cases : List Case
-  pub generated : scene_with (forms_of output.programs) (map plan_of cases) ≡ gen number
+  pub generated : scene_with (sources_of output.programs) (map plan_of cases) ≡ gen number
   pub coded : All (IsCoded output.programs) cases
   pub flows : AreFlowsFrom 0 cases
   pub written : output.text ≡ soak_text number (source_rows output.programs cases)

@@ -34,12 +34,12 @@ abbrev pub IsLeft : Bool → StreamChange → Type 0
 IsLeft true source = Unit {0}
 IsLeft false source = IsUntouched source
 
--- these are the bytes of the input, where it says whether there is one
+-- these are the bytes of the input, if it says whether there is one
 abbrev pub HasInput : Bool → StreamChange → List ℕ → Type 0
 HasInput true source bytes = ReadsToEnd source bytes
 HasInput false source bytes = IsUnused source bytes
 
--- the line was put at the end of what was written, or a front of it where the count of faults rose
+-- the line was put at the end of what was written, or a front of it if the count of faults rose
 pub record Tells (errors : StreamChange) (line : List ℕ) : Type 0 where
   pub front : AppendsPrefix errors.old errors.new line
   pub whole : (Rose errors.before errors.now → ⊥) → Appends errors.old errors.new line

@@ -21,7 +21,7 @@ use Rattle.ccp_run.specs.declared.outcome.ModeOutput.{ModeOutput}
 use Rattle.ccp_run.specs.AuditRuns.{IsAuditCut, IsAuditOutput}
 use Rattle.ccp_run.specs.Timeline.{IsTimelineOutput}
 
--- where a scenario and the text of its timeline are given to `audit`, it says yes
+-- if a scenario and the text of its timeline are given to `audit`, it says yes
 abbrev pub AuditsTimelines : Type 0
 AuditsTimelines =
     (bytes : List ℕ) (output : ModeOutput) → IsTimelineOutput false bytes output

@@ -5,11 +5,11 @@ use Rattle.ccp_base.specs.Text.{◌⧺◌}
 use Rattle.reg_compiler.specs.declared.built.Built.{Built}
 use Rattle.flow_core.specs.declared.case.Case.{Case}
 use Rattle.flow_core.specs.declared.letter.Letter.{Letter}
-use Rattle.flow_core.specs.LiveText.{Sources, flow_from, live_text}
+use Rattle.reg_compiler.specs.Sources.{Sources, sources_of}
+use Rattle.flow_core.specs.LiveText.{flow_from, live_text}
 use Rattle.campaign_gate.specs.CampaignWord.{plan_over}
 use Rattle.campaign_report.specs.BooksRead.{flows_of}
 use Rattle.scene_members.specs.declared.mode.SceneMode.TheVariants as scene
-use Rattle.scenario_json.specs.ScenePrograms.{forms_of}
 use Rattle.ccp_run.specs.declared.outcome.ModeOutput.{ModeOutput}
 use Rattle.ccp_run.specs.Campaign.{frames_shown}
 use Rattle.ccp_run.specs.Live.{IsRightBook}
@@ -24,15 +24,15 @@ source_plan sources case = plan_over (flow_from sources case) case.link case.lag
 abbrev pub planned_by : Sources → List Case → List (Case × List Letter)
 planned_by sources cases = map (λ (case : Case). (case, source_plan sources case)) cases
 
--- the live text of the campaign words of cases of these programs, after the programs' frames where they are asked for
+-- the live text of the campaign words of cases of these programs, after the programs' frames if they are asked for
 abbrev pub timeline_text : Bool → List (ℕ × Built) → List Case → List ℕ
 timeline_text wire programs cases =
-    frames_shown wire programs ⧺ live_text (forms_of programs) (planned_by (forms_of programs) cases)
+    frames_shown wire programs ⧺ live_text (sources_of programs) (planned_by (sources_of programs) cases)
 
 -- the output is that text of the cases, and there is one book for each of these, in order, whose word is the campaign
 -- word, which is legal and complete, and which shows what the word means
 pub record TellsTimeline (wire : Bool) (programs : List (ℕ × Built)) (cases : List Case) (output : ModeOutput) : Type 0 where
-  pub books : flows_of output.books ≡ planned_by (forms_of programs) cases
+  pub books : flows_of output.books ≡ planned_by (sources_of programs) cases
   pub right : All (IsRightBook programs) output.books
   pub written : output.text ≡ timeline_text wire programs cases
   pub idle : output.ran ≡ 0

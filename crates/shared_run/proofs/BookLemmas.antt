@@ -1,19 +1,76 @@
--- The books of flows, one after another.
-use Rattle.std.specs.Prelude.{◌≡◌, suc, true, List, [], ◌∷◌, ◌++◌, map}
+-- The rows and the books of flows, one after another.
+use Rattle.std.specs.Prelude.{◌≡◌, zero, suc, true, List, [], ◌∷◌, ◌++◌, map, refl}
 use Rattle.std.specs.List.{All}
-use Rattle.std.proofs.Common.{arith, ap, sym, ◌∙◌, subst, append_assoc}
-use Rattle.std.proofs.lemmas.List.{map-append}
-use Rattle.ccp_base.specs.declared.ack.Ack.{Ack}
+use Rattle.std.proofs.Common.{arith, ap, sym, ◌∙◌, subst, append_assoc, append-nil}
 use Rattle.flow_core.specs.declared.book.Given.{Given}
 use Rattle.flow_core.specs.Readings.{over_codes}
-use Rattle.flow_core.specs.Words.{legal_over, is_still}
-use Rattle.flow_core.specs.Books.{IsBookOf}
+use Rattle.flow_core.specs.Words.{is_still}
 use Rattle.flow_core.specs.Cores.{CoreState}
+use Rattle.campaign_gate.specs.declared.case_run.Tally.{Tally}
 use Rattle.campaign_gate.specs.declared.row.Row.{Row}
 use Rattle.shared_run.specs.RoundLetters.{world_of_core, closed_flow}
-use Rattle.shared_run.specs.FlowRow.{flow_row, AreRoomy}
-use Rattle.shared_run.proofs.TurnLemmas.{settled-acks}
+use Rattle.shared_run.specs.FlowRow.{flow_row}
+use Rattle.shared_run.specs.RoundFlows.{IsWhole, AreWhole, kept_at, IsAfter}
 use Rattle.shared_run.specs.SharedBooks.{IsGivenOf, AreGivensOf}
+use Rattle.shared_run.proofs.CourseLemmas.{no-cons, same-first, same-rest}
+use Rattle.shared_run.proofs.TurnLemmas.{closed-still}
+
+module _ {F : Type 0} (at : CoreState → F) where
+  -- the flow and the tally that are kept are after the history
+  pub after-kept : (core : CoreState) (flow : F) (tally : Tally) → IsWhole core → kept_at at core ≡ (flow, tally) → IsAfter at core flow tally
+  after-kept core flow tally whole is = record { whole = whole; flow_is = ap (λ kept. kept.0) (sym is); tally_is = ap (λ kept. kept.1) (sym is) }
+
+  pub kept-after : (core : CoreState) (flow : F) (tally : Tally) → IsAfter at core flow tally → kept_at at core ≡ (flow, tally)
+  kept-after core flow tally after = λ i. (sym after.flow_is i, sym after.tally_is i)
+
+  -- ---- the rows
+
+  -- these flows are left of those after the histories, and the rows of the others are made
+  abbrev pub RowsLeft : List CoreState → List (F × Tally) → List Row → Type 0
+  RowsLeft cores rest rows =
+      (left : List CoreState) × AreWhole left × (rest ≡ map (kept_at at) left) × (rows ++ map (flow_row over_codes) left ≡ map (flow_row over_codes) cores)
+
+  abbrev pub LeavesRows : List (F × Tally) → List (F × Tally) → List Row → Type 0
+  LeavesRows all rest rows = (cores : List CoreState) → AreWhole cores → all ≡ map (kept_at at) cores → RowsLeft cores rest rows
+
+  pub rows-first : (all : List (F × Tally)) (rows : List Row) → rows ≡ [] → LeavesRows all all rows
+  rows-first all rows none cores whole is = (cores, whole, is, ap (λ (made : List Row). made ++ map (flow_row over_codes) cores) none)
+
+  rows-where : (cores left : List CoreState) (flow : F) (tally : Tally) (later : List (F × Tally)) (rows : List Row) (row : Row)
+      → ((core : CoreState) → IsAfter at core flow tally → row ≡ flow_row over_codes core)
+      → AreWhole left → (flow, tally) ∷ later ≡ map (kept_at at) left → rows ++ map (flow_row over_codes) left ≡ map (flow_row over_codes) cores
+      → RowsLeft cores later (rows ++ row ∷ [])
+  rows-where cores [] flow tally later rows row told whole is made = absurd (no-cons (flow, tally) later is)
+  rows-where cores (core ∷ left) flow tally later rows row told whole is made =
+      let one : row ≡ flow_row over_codes core =
+      told core (after-kept core flow tally whole.0 (sym (same-first (flow, tally) (kept_at at core) later (map (kept_at at) left) is))) in (
+        left,
+        whole.1,
+        same-rest (flow, tally) (kept_at at core) later (map (kept_at at) left) is,
+        append_assoc rows (row ∷ []) (map (flow_row over_codes) left)
+            ∙ ap (λ (r : Row). rows ++ r ∷ map (flow_row over_codes) left) one ∙ made,
+      )
+
+  pub rows-next : (all rest later : List (F × Tally)) (flow : F) (tally : Tally) (rows : List Row) (row : Row) (longer : List Row)
+      → ((core : CoreState) → IsAfter at core flow tally → row ≡ flow_row over_codes core)
+      → rest ≡ (flow, tally) ∷ later → longer ≡ rows ++ row ∷ [] → LeavesRows all rest rows → LeavesRows all later longer
+  rows-next all rest later flow tally rows row longer told split pushed leaves cores whole is =
+      let here = leaves cores whole is in
+      subst (λ (made : List Row). RowsLeft cores later made) (sym pushed)
+      (rows-where cores here.0 flow tally later rows row told here.1 (sym split ∙ here.2) here.3)
+
+  rows-end : (cores left : List CoreState) (rows : List Row) → [] ≡ map (kept_at at) left → rows ++ map (flow_row over_codes) left ≡ map (flow_row over_codes) cores
+      → rows ≡ map (flow_row over_codes) cores
+  rows-end cores [] rows is made = sym (append-nil rows) ∙ made
+  rows-end cores (core ∷ left) rows is made = absurd (no-cons (kept_at at core) (map (kept_at at) left) (sym is))
+
+  pub rows-last : (all rest : List (F × Tally)) (rows : List Row) → rest ≡ [] → LeavesRows all rest rows
+      → (cores : List CoreState) → AreWhole cores → all ≡ map (kept_at at) cores → rows ≡ map (flow_row over_codes) cores
+  rows-last all rest rows none leaves cores whole is =
+      let here = leaves cores whole is in
+      rows-end cores here.0 rows (sym none ∙ here.2) here.3
+
+-- ---- the books
 
 givens-last : (cores : List CoreState) (givens : List Given) (core : CoreState) (given : Given) → AreGivensOf cores givens → IsGivenOf core given
     → AreGivensOf (cores ++ core ∷ []) (givens ++ given ∷ [])
@@ -22,61 +79,60 @@ givens-last [] (one ∷ givens) core given are is = absurd are
 givens-last (first ∷ cores) [] core given are is = absurd are
 givens-last (first ∷ cores) (one ∷ givens) core given are is = (are.0, givens-last cores givens core given are.1 is)
 
--- of all flows those before the rest were closed, and gave their books and rows
-pub record AreDone (all rest : List CoreState) (told : List Given) (made : List Row) : Type 0 where
-  pub done : List CoreState
-  pub split : done ++ map (closed_flow over_codes) rest ≡ map (closed_flow over_codes) all
-  pub givens : AreGivensOf done told
-  pub rows : made ≡ map (flow_row over_codes) done
-  pub roomy : All (λ (core : CoreState). AreRoomy core.acks) rest
+abbrev pub AreStill : List CoreState → Type 0
+AreStill cores = All (λ (core : CoreState). is_still (world_of_core over_codes core) ≡ true) cores
 
-pub done-none : (all rest : List CoreState) (givens : List Given) (rows : List Row) → rest ≡ all → givens ≡ [] → rows ≡ []
-    → All (λ (core : CoreState). AreRoomy core.acks) all → AreDone all rest givens rows
-done-none all rest givens rows is none empty roomy = record {
+-- of all flows those before the rest gave their books, and nothing is left to take or to answer of the rest
+pub record AreDone (all rest : List CoreState) (told : List Given) : Type 0 where
+  pub done : List CoreState
+  pub split : done ++ rest ≡ all
+  pub givens : AreGivensOf done told
+  pub still : AreStill rest
+
+pub done-none : (all rest : List CoreState) (givens : List Given) → rest ≡ all → givens ≡ [] → AreStill all → AreDone all rest givens
+done-none all rest givens is none still = record {
   done = [];
-  split = ap (map (closed_flow over_codes)) is;
+  split = is;
   givens = subst (λ (gs : List Given). AreGivensOf [] gs) (sym none) tt;
-  rows = empty;
-  roomy = subst (λ (xs : List CoreState). All (λ (core : CoreState). AreRoomy core.acks) xs) (sym is) roomy;
+  still = subst AreStill (sym is) still;
 }
 
-pub done-one : (all rest later : List CoreState) (core : CoreState) (givens : List Given) (rows : List Row) (given : Given) (row : Row)
-    → AreDone all rest givens rows → rest ≡ core ∷ later → IsGivenOf (closed_flow over_codes core) given → row ≡ flow_row over_codes (closed_flow over_codes core)
-    → AreDone all later (givens ++ given ∷ []) (rows ++ row ∷ [])
-done-one all rest later core givens rows given row are is told same =
-    let end = closed_flow over_codes core in
-    record {
-      done = are.done ++ end ∷ [];
-      split =
-          append_assoc are.done (end ∷ []) (map (closed_flow over_codes) later)
-          ∙ ap (λ (xs : List CoreState). are.done ++ map (closed_flow over_codes) xs) (sym is) ∙ are.split;
-      givens = givens-last are.done givens end given are.givens told;
-      rows =
-          (λ i. are.rows i ++ same i ∷ [])
-          ∙ sym (map-append (flow_row over_codes) are.done (end ∷ []));
-      roomy =
-          (λ k d less.
-          subst (λ (xs : List CoreState). All (λ (one : CoreState). AreRoomy one.acks) xs) is are.roomy (suc k) d (omega (arith, less)));
-    }
+pub done-one : (all rest later : List CoreState) (core : CoreState) (givens : List Given) (given : Given) (longer : List Given)
+    → AreDone all rest givens → rest ≡ core ∷ later → IsGivenOf core given → longer ≡ givens ++ given ∷ [] → AreDone all later longer
+done-one all rest later core givens given longer are is told pushed = record {
+  done = are.done ++ core ∷ [];
+  split = append_assoc are.done (core ∷ []) later ∙ ap (λ (xs : List CoreState). are.done ++ xs) (sym is) ∙ are.split;
+  givens = subst (λ (gs : List Given). AreGivensOf (are.done ++ core ∷ []) gs) (sym pushed) (givens-last are.done givens core given are.givens told);
+  still =
+      (λ k d less.
+      subst AreStill is are.still (suc k) d (omega (arith, less)));
+}
 
--- the next flow's sums are numbers of 64 bits
-pub roomy-next : (all rest later : List CoreState) (core : CoreState) (givens : List Given) (rows : List Row) → AreDone all rest givens rows → rest ≡ core ∷ later
-    → AreRoomy core.acks
-roomy-next all rest later core givens rows are is =
-    let front : All (λ (one : CoreState). AreRoomy one.acks) (core ∷ later) =
-    subst (λ (xs : List CoreState). All (λ (one : CoreState). AreRoomy one.acks) xs) is are.roomy in
+-- the next flow may finish
+pub still-next : (all rest later : List CoreState) (core : CoreState) (givens : List Given) → AreDone all rest givens → rest ≡ core ∷ later
+    → is_still (world_of_core over_codes core) ≡ true
+still-next all rest later core givens are is =
+    let front : AreStill (core ∷ later) = subst AreStill is are.still in
     front 0 core (omega arith)
 
--- and so they are at its end
-pub roomy-closed : (core end : CoreState) → end ≡ closed_flow over_codes core → AreRoomy core.acks → AreRoomy end.acks
-roomy-closed core end closes here =
-    subst (λ (acks : List Ack). AreRoomy acks) (sym (ap (λ (c : CoreState). c.acks) closes ∙ settled-acks over_codes true core)) here
+pub done-all : (all rest : List CoreState) (givens : List Given) → AreDone all rest givens → rest ≡ [] → AreGivensOf all givens
+done-all all rest givens are none =
+    subst (λ (cores : List CoreState). AreGivensOf cores givens)
+    (sym (append-nil are.done) ∙ ap (λ (xs : List CoreState). are.done ++ xs) (sym none) ∙ are.split) are.givens
 
-pub given-of : (core end : CoreState) (given : Given) → end ≡ closed_flow over_codes core
-    → given.book.case ≡ end.case → given.acks ≡ end.acks → given.book.word ≡ end.word
-    → legal_over (over_codes end.case) end.acks end.word ≡ true → is_still (world_of_core over_codes end) ≡ true
-    → IsBookOf (over_codes end.case) (world_of_core over_codes end) given.book
-    → IsGivenOf (closed_flow over_codes core) given
-given-of core end given closes case acks word legal still book =
-    let of_end : IsGivenOf end given = record { case = case; acks = acks; word = word; legal = legal; still = still; book = book } in
-    subst (λ (one : CoreState). IsGivenOf one given) closes of_end
+-- nothing is left to take or to answer of closed flows
+pub still-closed : (flows : List CoreState) → AreStill (map (closed_flow over_codes) flows)
+still-closed [] k d less = absurd (omega (arith, less))
+still-closed (core ∷ rest) zero d less = closed-still over_codes core
+still-closed (core ∷ rest) (suc k) d less = still-closed rest k d (omega (arith, less))
+
+-- ---- a list of flows with their tallies
+
+module _ {S F : Type 0} (flow_of : S → F) (tally_of_one : S → Tally) where
+  pub firsts : (items : List S) → map flow_of items ≡ map (λ (kept : F × Tally). kept.0) (map (λ (s : S). (flow_of s, tally_of_one s)) items)
+  firsts [] = refl
+  firsts (item ∷ rest) = ap (λ (xs : List F). flow_of item ∷ xs) (firsts rest)
+
+pub kept-firsts : (cores : List CoreState) → map (λ (kept : CoreState × Tally). kept.0) (map (kept_at (λ (core : CoreState). core)) cores) ≡ cores
+kept-firsts [] = refl
+kept-firsts (core ∷ rest) = ap (λ (xs : List CoreState). core ∷ xs) (kept-firsts rest)

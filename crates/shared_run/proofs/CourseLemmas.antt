@@ -15,8 +15,8 @@ use Rattle.shared_link.specs.SharedStanding.{SharedState, Stands}
 use Rattle.shared_run.specs.RoundLetters.{opened, round_part}
 use Rattle.shared_run.specs.SharedHistory.{ask_of, asks_of, parts, have_all, rounds_from, round_limit}
 use Rattle.shared_run.specs.Courses.{run_after, flows_after, asks_in, acks_in_round, none_left, StandsAfter, EndsInTime}
-use Rattle.shared_run.proofs.CountLemmas.{KeepCounts, Within, within-after, no-some, same-some, lists-length}
-use Rattle.shared_run.proofs.RoomyLemmas.{round-keeps, opened-keep}
+use Rattle.shared_run.proofs.CountLemmas.{Within, within-after, no-some, same-some, lists-length}
+use Rattle.shared_run.proofs.RoomyLemmas.{flows-keep}
 
 -- ---- lists
 
@@ -24,14 +24,18 @@ pub on-ok : {A E P : Type 0} (made : Result A E) → P → OnOk made P
 on-ok (Ok a) proof = proof
 on-ok (Err e) proof = tt
 
-no-cons : {A : Type 0} (x : A) (rest : List A) → x ∷ rest ≡ [] → ⊥
+pub no-cons : {A : Type 0} (x : A) (rest : List A) → x ∷ rest ≡ [] → ⊥
 no-cons x rest e = cc
 
-same-first : {A : Type 0} (x y : A) (xs ys : List A) → x ∷ xs ≡ y ∷ ys → x ≡ y
+pub same-first : {A : Type 0} (x y : A) (xs ys : List A) → x ∷ xs ≡ y ∷ ys → x ≡ y
 same-first x y xs ys e = cc
 
-same-rest : {A : Type 0} (x y : A) (xs ys : List A) → x ∷ xs ≡ y ∷ ys → xs ≡ ys
+pub same-rest : {A : Type 0} (x y : A) (xs ys : List A) → x ∷ xs ≡ y ∷ ys → xs ≡ ys
 same-rest x y xs ys e = cc
+
+pub none-of : {A : Type 0} (xs : List A) → length xs ≡ 0 → xs ≡ []
+none-of [] is = refl
+none-of (x ∷ rest) is = absurd (omega (arith, is))
 
 -- one more item of a list
 pub taken_next : {A : Type 0} (xs : List A) (n : ℕ) (x : A) → slice_get xs n ≡ Some x → take (suc n) xs ≡ take n xs ++ x ∷ []
@@ -115,10 +119,6 @@ none_asked (core ∷ rest) = λ i. sub-left core.case.acks (length core.acks) i 
 module _ (link : SharedCase) (cases : List Case) where
   -- ---- in a round
 
-  keeps-after : (rounds : ℕ) → KeepCounts (flows_after link cases rounds)
-  keeps-after zero = opened-keep cases
-  keeps-after (suc rounds) = round-keeps link (run_after link over_codes cases rounds) (keeps-after rounds)
-
   pub flows_count : (rounds : ℕ) → length (flows_after link cases rounds) ≡ length cases
   flows_count zero = length-map cases opened
   flows_count (suc rounds) = parts-length (acks_in_round link cases rounds) (flows_after link cases rounds) ∙ flows_count rounds
@@ -130,17 +130,16 @@ module _ (link : SharedCase) (cases : List Case) where
   acks-count rounds = lists-length link (run_after link over_codes cases rounds).history (asks_in link cases rounds)
 
   -- a flow before the first round
-  pub opened_at : (number : ℕ) (case : Case) (rest : List Case) (flow : CoreState) → case ∷ rest ≡ drop number cases → flow ≡ opened case
-      → slice_get (flows_after link cases 0) number ≡ Some flow
-  opened_at number case rest flow is made =
-      slice_get-map opened cases number ∙ ap (option_map opened) (drop_get cases number case rest is) ∙ ap (λ (c : CoreState). Some c) (sym made)
+  pub opened_at : (number : ℕ) (case : Case) (rest : List Case) → case ∷ rest ≡ drop number cases
+      → slice_get (flows_after link cases 0) number ≡ Some (opened case)
+  opened_at number case rest is = slice_get-map opened cases number ∙ ap (option_map opened) (drop_get cases number case rest is)
 
   -- a flow has as many acknowledgements left as it is given
   pub flow_fits : (rounds number : ℕ) (acks : List Ack) (core : CoreState) → slice_get (acks_in_round link cases rounds) number ≡ Some acks
       → slice_get (flows_after link cases rounds) number ≡ Some core → length core.acks + length acks ≤ core.case.acks
   flow_fits rounds number acks core at there =
       within-at (acks_in_round link cases rounds) (flows_after link cases rounds) number acks core
-      (within-after link (run_after link over_codes cases rounds).history (flows_after link cases rounds) (keeps-after rounds)) at there
+      (within-after link (run_after link over_codes cases rounds).history (flows_after link cases rounds) (flows-keep link cases rounds)) at there
 
   -- a flow after one more round
   pub flow_next : (rounds number : ℕ) (acks : List Ack) (core next : CoreState) → slice_get (acks_in_round link cases rounds) number ≡ Some acks
@@ -193,6 +192,11 @@ module _ (link : SharedCase) (cases : List Case) where
   IsOnWay most rounds =
       rounds_from link over_codes (most - rounds) (run_after link over_codes cases rounds)
       ≡ rounds_from link over_codes most (run_after link over_codes cases 0)
+
+  pub way_begins : (most : ℕ) → IsOnWay most 0
+  way_begins most =
+      let all : most - 0 ≡ most = omega arith in
+      ap (λ (n : ℕ). rounds_from link over_codes n (run_after link over_codes cases 0)) all
 
   left-next : (most rounds : ℕ) → rounds < most → IsOnWay most rounds
       → rounds_from link over_codes (suc (most - (rounds + 1))) (run_after link over_codes cases rounds)

@@ -1,7 +1,7 @@
 -- The lemmas of shared_run, a file a topic.
 pub mod PeakLemmas
 pub mod TurnLemmas
-pub mod OnWayLemmas
+pub mod RoundFlowLemmas
 pub mod LikeFlows
 pub mod LiftedFlowLemmas
 pub mod LiftedRunLemmas
@@ -11,4 +11,5 @@ pub mod OrderLemmas
 pub mod RoomyLemmas
 pub mod CourseLemmas
 pub mod BookLemmas
+pub mod KeptLemmas
 pub mod RunLemmas

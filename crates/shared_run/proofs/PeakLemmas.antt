@@ -6,7 +6,7 @@ use Rattle.flow_core.specs.declared.letter.Letter.{Letter}
 use Rattle.flow_core.specs.declared.letter.Letter.TheVariants.{A, T, C}
 use Rattle.flow_core.specs.Readings.{Flow}
 use Rattle.flow_core.specs.World.{World, opening, after_ack, after_take, after_answer}
-use Rattle.flow_core.specs.Words.{from_list, with_given, after_letter}
+use Rattle.flow_core.specs.Words.{from_list, with_given}
 use Rattle.flow_core.specs.WordLaws.{acks_in}
 use Rattle.flow_core.proofs.WordLemmas.{take-keeps, answer-keeps, next-given}
 use Rattle.campaign_gate.specs.CampaignRow.{window_of, peak_from}

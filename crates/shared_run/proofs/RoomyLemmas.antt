@@ -1,6 +1,5 @@
 -- What a row sums over a flow's acknowledgements are numbers of 64 bits.
-use Rattle.std.specs.Prelude.{◌≡◌, ◌<◌, ◌≤◌, ℕ, zero, suc, ◌+◌, ◌*◌, Bool, true, false, if◌then◌else◌, List, [], ◌∷◌, ◌++◌, length, map}
-use Rattle.std.specs.List.{All}
+use Rattle.std.specs.Prelude.{◌≡◌, ◌<◌, ◌≤◌, ℕ, zero, suc, ◌*◌, true, Some, List, [], ◌∷◌, ◌++◌, length, map, slice_get, refl}
 use Rattle.std.proofs.Common.{arith, ap, sym, subst, length-append}
 use Rattle.ccp_base.specs.declared.ack.Ack.{Ack}
 use Rattle.flow_core.specs.declared.case.Case.{Case}
@@ -10,12 +9,14 @@ use Rattle.campaign_gate.specs.CampaignRow.{lost_in, acked_in}
 use Rattle.shared_link.specs.declared.shared_case.SharedCase.{SharedCase}
 use Rattle.shared_link.specs.SharedLimits.{IsWithin}
 use Rattle.shared_link.specs.SharedRounds.{acks_after}
-use Rattle.shared_run.specs.RoundLetters.{opened}
+use Rattle.shared_run.specs.RoundLetters.{opened, closed_flow}
 use Rattle.shared_run.specs.FlowRow.{AreRoomy}
-use Rattle.shared_run.proofs.TurnLemmas.{part-case, part-acks}
-use Rattle.shared_run.specs.SharedHistory.{Progress, progress, asks_of, parts, after_round, have_all, rounds_from, round_limit, whole_run}
+use Rattle.shared_run.specs.SharedHistory.{Progress, asks_of, parts, after_round}
+use Rattle.shared_run.specs.Courses.{run_after, flows_after}
+use Rattle.shared_run.specs.RoundFlows.{IsWhole, AreWhole}
+use Rattle.shared_run.proofs.TurnLemmas.{part-case, part-acks, part-all, settled-acks, settled-case, settled-all}
 use Rattle.shared_run.proofs.AnswerLemmas.{AreSmall, AreAllSmall, after-all-small}
-use Rattle.shared_run.proofs.CountLemmas.{KeepCounts, Within, within-after}
+use Rattle.shared_run.proofs.CountLemmas.{KeepCounts, Within, within-after, no-some, same-some}
 
 abbrev pub SmallFlows : List CoreState → Type 0
 SmallFlows [] = Unit {0}
@@ -54,28 +55,6 @@ module _ (link : SharedCase) (within : IsWithin link) where
       parts-small (acks_after link run.history (asks_of over_codes run.flows)) run.flows
       (after-all-small link within run.history (asks_of over_codes run.flows) fewer) small
 
-  longer : (run : Progress) → length (after_round link over_codes run).history ≡ length run.history + 1
-  longer run = length-append run.history (asks_of over_codes run.flows ∷ [])
-
-  either : (P : List CoreState → Type 0) (ends : Bool) (now later : Progress) → P now.flows → P later.flows → P (if ends then now else later).flows
-  either P true now later here there = here
-  either P false now later here there = there
-
-  rounds-keep : (n : ℕ) (run : Progress) → KeepCounts run.flows → KeepCounts (rounds_from link over_codes n run).flows
-  rounds-keep zero run keep = keep
-  rounds-keep (suc more) run keep =
-      let next = after_round link over_codes run in
-      let here = round-keeps link run keep in
-      either KeepCounts (have_all next.flows) next (rounds_from link over_codes more next) here (rounds-keep more next here)
-
-  rounds-small : (n : ℕ) (run : Progress) → length run.history + n ≤ 10000 → SmallFlows run.flows → SmallFlows (rounds_from link over_codes n run).flows
-  rounds-small zero run few small = small
-  rounds-small (suc more) run few small =
-      let next = after_round link over_codes run in
-      let here = round-smalls run (omega (arith, few)) small in
-      either SmallFlows (have_all next.flows) next (rounds_from link over_codes more next) here
-      (rounds-small more next (omega (arith, few, longer run)) here)
-
 opened-small : (cases : List Case) → SmallFlows (map opened cases)
 opened-small [] = tt
 opened-small (case ∷ rest) = (tt, opened-small rest)
@@ -105,24 +84,83 @@ roomy-of core small keep =
     let lost = lost-sum core.acks small in
     let acked = acked-sum core.acks small in
     let most : core.case.acks ≤ 65536 = core.case.acks_within in
-    record { lost = omega (arith, lost, keep, most); acked = omega (arith, acked, keep, most) }
+    (omega (arith, lost, keep, most), omega (arith, acked, keep, most))
 
-all-roomy : (flows : List CoreState) → SmallFlows flows → KeepCounts flows → All (λ (core : CoreState). AreRoomy core.acks) flows
-all-roomy [] small keep k d less = absurd (omega (arith, less))
-all-roomy (core ∷ rest) small keep zero d less = roomy-of core small.0 keep.0
-all-roomy (core ∷ rest) small keep (suc k) d less = all-roomy rest small.1 keep.1 k d (omega (arith, less))
+roomy-at : (flows : List CoreState) → SmallFlows flows → KeepCounts flows → (number : ℕ) (core : CoreState) → slice_get flows number ≡ Some core → AreRoomy core.acks
+roomy-at [] small keep number core at = absurd (no-some core at)
+roomy-at (first ∷ rest) small keep zero core at =
+    subst (λ (one : CoreState). AreRoomy one.acks) (same-some first core at) (roomy-of first small.0 keep.0)
+roomy-at (first ∷ rest) small keep (suc number) core at = roomy-at rest small.1 keep.1 number core at
 
-most-few : (cases : List Case) (rounds : ℕ) → rounds ≤ 10000 → round_limit cases rounds ≤ 10000
-most-few [] rounds few = omega arith
-most-few (case ∷ rest) rounds few = few
+module _ (link : SharedCase) (cases : List Case) where
+  pub flows-keep : (rounds : ℕ) → KeepCounts (flows_after link cases rounds)
+  flows-keep zero = opened-keep cases
+  flows-keep (suc rounds) = round-keeps link (run_after link over_codes cases rounds) (flows-keep rounds)
 
--- the flows of a run
-pub run-roomy : (link : SharedCase) → IsWithin link → (cases : List Case) (rounds : ℕ) → rounds ≤ 10000
-    → All (λ (core : CoreState). AreRoomy core.acks) (whole_run link over_codes cases rounds).flows
-run-roomy link within cases rounds few =
-    let most = round_limit cases rounds in
-    let begun = progress [] (map opened cases) in
-    let bound = most-few cases rounds few in
-    all-roomy (whole_run link over_codes cases rounds).flows
-    (rounds-small link within most begun (omega (arith, bound)) (opened-small cases))
-    (rounds-keep link within most begun (opened-keep cases))
+  history-length : (rounds : ℕ) → length (run_after link over_codes cases rounds).history ≡ rounds
+  history-length zero = refl
+  history-length (suc rounds) =
+      let run = run_after link over_codes cases rounds in
+      let before = history-length rounds in
+      omega (arith, before, length-append run.history (asks_of over_codes run.flows ∷ []))
+
+  flows-small : IsWithin link → (rounds : ℕ) → rounds ≤ 10000 → SmallFlows (flows_after link cases rounds)
+  flows-small within zero few = opened-small cases
+  flows-small within (suc rounds) few =
+      round-smalls link within (run_after link over_codes cases rounds) (omega (arith, few, history-length rounds)) (flows-small within rounds (omega (arith, few)))
+
+  -- the flows of a run
+  pub flows-roomy : IsWithin link → (rounds : ℕ) → rounds ≤ 10000 → (number : ℕ) (core : CoreState) → slice_get (flows_after link cases rounds) number ≡ Some core
+      → AreRoomy core.acks
+  flows-roomy within rounds few number core at =
+      roomy-at (flows_after link cases rounds) (flows-small within rounds few) (flows-keep rounds) number core at
+
+-- ---- the words have all acknowledgements
+
+parts-whole : (lists : List (List Ack)) (flows : List CoreState) → Within lists flows → AreWhole flows → AreWhole (parts over_codes lists flows)
+parts-whole [] flows within whole = whole
+parts-whole (acks ∷ others) [] within whole = tt
+parts-whole (acks ∷ others) (core ∷ rest) within whole =
+    let all = ap (λ (xs : List Ack). length xs) (part-acks over_codes acks core) in
+    let case = ap (λ (c : Case). c.acks) (part-case over_codes acks core) in
+    let here = within.0 in (
+      record {
+        all = part-all over_codes acks core whole.0.all;
+        within = omega (arith, all, case, here, length-append core.acks acks);
+      },
+      parts-whole others rest within.1 whole.1,
+    )
+
+opened-whole : (cases : List Case) → AreWhole (map opened cases)
+opened-whole [] = tt
+opened-whole (case ∷ rest) = (record { all = refl; within = omega arith }, opened-whole rest)
+
+closed-whole : (flows : List CoreState) → AreWhole flows → AreWhole (map (closed_flow over_codes) flows)
+closed-whole [] whole = tt
+closed-whole (core ∷ rest) whole =
+    let acks = ap (λ (xs : List Ack). length xs) (settled-acks over_codes true core) in
+    let case = ap (λ (c : Case). c.acks) (settled-case over_codes true core) in
+    let within = whole.0.within in (
+      record { all = settled-all over_codes true core whole.0.all; within = omega (arith, acks, case, within) },
+      closed-whole rest whole.1,
+    )
+
+whole-at : (flows : List CoreState) → AreWhole flows → (number : ℕ) (core : CoreState) → slice_get flows number ≡ Some core → IsWhole core
+whole-at [] whole number core at = absurd (no-some core at)
+whole-at (first ∷ rest) whole zero core at = subst (λ (one : CoreState). IsWhole one) (same-some first core at) whole.0
+whole-at (first ∷ rest) whole (suc number) core at = whole-at rest whole.1 number core at
+
+module _ (link : SharedCase) (cases : List Case) where
+  pub flows-whole : (rounds : ℕ) → AreWhole (flows_after link cases rounds)
+  flows-whole zero = opened-whole cases
+  flows-whole (suc rounds) =
+      let run = run_after link over_codes cases rounds in
+      parts-whole (acks_after link run.history (asks_of over_codes run.flows)) run.flows
+      (within-after link run.history run.flows (flows-keep link cases rounds)) (flows-whole rounds)
+
+  pub flow-whole : (rounds number : ℕ) (core : CoreState) → slice_get (flows_after link cases rounds) number ≡ Some core → IsWhole core
+  flow-whole rounds number core at = whole-at (flows_after link cases rounds) (flows-whole rounds) number core at
+
+  -- at the end of the run
+  pub ends-whole : (rounds : ℕ) → AreWhole (map (closed_flow over_codes) (flows_after link cases rounds))
+  ends-whole rounds = closed-whole (flows_after link cases rounds) (flows-whole rounds)

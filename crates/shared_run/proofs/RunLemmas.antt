@@ -1,11 +1,9 @@
 -- The whole run, after its last round.
-use Rattle.std.specs.Prelude.{◌≡◌, ◌≤◌, ℕ, List, length, map}
-use Rattle.std.specs.List.{All}
-use Rattle.std.proofs.Common.{ap, sym, ◌∙◌, subst}
+use Rattle.std.specs.Prelude.{◌≡◌, ◌≤◌, ℕ, List, [], ◌∷◌, length, map}
+use Rattle.std.proofs.Common.{arith, ap, sym, ◌∙◌, subst}
 use Rattle.std.proofs.lemmas.List.{length-map}
 use Rattle.flow_core.specs.declared.case.Case.{Case}
 use Rattle.flow_core.specs.Readings.{over_codes}
-use Rattle.flow_core.specs.Cores.{CoreState}
 use Rattle.scenario_json.specs.Cases.{plan_of}
 use Rattle.scenario_json.specs.SharedScenes.{flow_link_of}
 use Rattle.shared_link.specs.declared.round.Ask.{Ask}
@@ -13,24 +11,25 @@ use Rattle.shared_link.specs.declared.round.Counts.{Counts}
 use Rattle.shared_link.specs.declared.shared_case.SharedCase.{SharedCase}
 use Rattle.shared_link.specs.SharedRounds.{counts_of}
 use Rattle.shared_link.specs.SharedStanding.{SharedState, Stands}
-use Rattle.shared_link.specs.SharedLimits.{IsWithin}
 use Rattle.shared_run.specs.RoundLetters.{closed_flow}
-use Rattle.shared_run.specs.FlowRow.{AreRoomy}
 use Rattle.shared_run.specs.SharedHistory.{Progress, round_limit, whole_run, flows_at_end, shared_counts}
 use Rattle.shared_run.specs.Courses.{run_after, flows_after, HasEnded}
-use Rattle.shared_run.proofs.RoomyLemmas.{run-roomy}
+use Rattle.shared_run.specs.RoundFlows.{AreWhole}
+use Rattle.shared_run.proofs.BookLemmas.{AreStill, still-closed}
+use Rattle.shared_run.proofs.CourseLemmas.{ends}
+use Rattle.shared_run.proofs.RoomyLemmas.{ends-whole}
 
 -- as many flows as the link has
 pub as-many : (link : SharedCase) (cases : List Case) → link.flows ≡ map flow_link_of (map plan_of cases) → length link.flows ≡ length cases
 as-many link cases links = ap (λ xs. length xs) links ∙ length-map (map plan_of cases) flow_link_of ∙ length-map cases plan_of
 
+pub most-few : (cases : List Case) (most : ℕ) → most ≤ 10000 → round_limit cases most ≤ 10000
+most-few [] most few = omega arith
+most-few (case ∷ rest) most few = few
+
 module _ (link : SharedCase) (cases : List Case) (most rounds : ℕ) (state : SharedState) (ended : HasEnded link cases (round_limit cases most) rounds state) where
   whole : run_after link over_codes cases rounds ≡ whole_run link over_codes cases most
   whole = ended.whole
-
-  pub all-roomy-now : IsWithin link → most ≤ 10000 → All (λ (core : CoreState). AreRoomy core.acks) (flows_after link cases rounds)
-  all-roomy-now within few =
-      subst (λ (run : Progress). All (λ (core : CoreState). AreRoomy core.acks) run.flows) (sym whole) (run-roomy link within cases most few)
 
   -- the flows, closed, and the counts
   pub flows-are : map (closed_flow over_codes) (flows_after link cases rounds) ≡ flows_at_end link over_codes cases most
@@ -43,3 +42,12 @@ module _ (link : SharedCase) (cases : List Case) (most rounds : ℕ) (state : Sh
       tells history ended.stands.stands
       ∙ ap (λ (case : SharedCase). counts_of case history) ended.stands.case
       ∙ ap (λ (run : Progress). counts_of link run.history) whole
+
+-- at the end the words of the flows have all acknowledgements
+pub run-whole : (link : SharedCase) (cases : List Case) (most : ℕ) → AreWhole (flows_at_end link over_codes cases most)
+run-whole link cases most =
+    let end = ends link cases most in
+    subst (λ (run : Progress). AreWhole (map (closed_flow over_codes) run.flows)) (sym end.1.run) (ends-whole link cases end.0)
+
+pub run-still : (link : SharedCase) (cases : List Case) (most : ℕ) → AreStill (flows_at_end link over_codes cases most)
+run-still link cases most = still-closed (whole_run link over_codes cases most).flows

@@ -1,12 +1,12 @@
 -- Letters without an acknowledgement: each leaves fewer to come, and at last none comes.
-use Rattle.std.specs.Prelude.{◌≡◌, ◌<◌, ◌≤◌, ℕ, zero, suc, Bool, true, false, not, ◌&&◌, is_some, is_none, if◌then◌else◌, Option, Some, None, List, [], ◌∷◌, ◌++◌, length, refl}
-use Rattle.std.proofs.Common.{arith, ap, sym, ◌∙◌, subst, append_assoc, append-nil}
+use Rattle.std.specs.Prelude.{◌≡◌, ◌<◌, ◌≤◌, ℕ, zero, suc, ◌+◌, Bool, true, false, not, ◌&&◌, is_some, is_none, if◌then◌else◌, Option, Some, None, List, [], ◌∷◌, ◌++◌, length, refl}
+use Rattle.std.proofs.Common.{arith, ap, sym, ◌∙◌, subst, append_assoc, append-nil, length-append}
 use Rattle.ccp_base.specs.declared.ack.Ack.{Ack}
 use Rattle.flow_core.specs.declared.letter.Letter.{Letter}
 use Rattle.flow_core.specs.declared.letter.Letter.TheVariants.{A, T, C}
 use Rattle.flow_core.specs.World.{Taken, World}
 use Rattle.flow_core.specs.Words.{from_list, after_letter, can_take, is_legal, is_still}
-use Rattle.flow_core.specs.WordLaws.{world_over-append}
+use Rattle.flow_core.specs.WordLaws.{acks_in, acks_in-A, acks_in-T, acks_in-C, world_over-append}
 use Rattle.flow_core.specs.Cores.{CoreState}
 use Rattle.campaign_gate.specs.CampaignWord.{is_late, first_letter}
 use Rattle.flow_core.specs.LettersLeft.{letters_left}
@@ -43,6 +43,10 @@ still : {X : Type 0} (out : Option (Taken X)) (can : Bool) → is_some out ≡ f
     → (is_none out && not can) ≡ true
 still None can out both = ap not both
 still (Some ticket) can out both = absurd (let wrong : true ≡ false = out in (cc))
+
+-- the word has all acknowledgements
+abbrev pub HasAll : CoreState → Type 0
+HasAll core = acks_in core.word ≡ length core.acks
 
 module _ {X : Type 0} (read : CaseReading X) where
   abbrev left_of : CoreState → ℕ
@@ -91,6 +95,28 @@ module _ {X : Type 0} (read : CaseReading X) where
         subst (λ (w : World X). letters_left (read core.case) w < left_of core)
         (sym (world_over-append (read core.case) core.acks core.word letter))
         (fewer-by core letter (next-made core (Some letter) is))
+
+    -- ---- the word has all acknowledgements
+
+    all-by : (core : CoreState) (letter : Letter) → MadeBy (is_answered at_end read core) (is_legal (read core.case) (world_of_core read core) T) letter
+        → acks_in core.word ≡ length core.acks → acks_in (core.word ++ letter ∷ []) ≡ length core.acks
+    all-by core A is all = absurd is
+    all-by core T is all = acks_in-T core.word ∙ all
+    all-by core C is all = acks_in-C core.word ∙ all
+
+    all-where : (m : ℕ) (core : CoreState) (next : Option Letter) → settling_letter at_end read core ≡ next → HasAll core
+        → ((after : CoreState) → HasAll after → HasAll (settled_in at_end read m after))
+        → HasAll (with_next next (settled_in at_end read m) core)
+    all-where m core None is all rest = all
+    all-where m core (Some letter) is all rest = rest (with_letter letter core) (all-by core letter (next-made core (Some letter) is) all)
+
+    settled_in-all : (m : ℕ) (core : CoreState) → HasAll core → HasAll (settled_in at_end read m core)
+    settled_in-all zero core all = all
+    settled_in-all (suc m) core all =
+        all-where m core (settling_letter at_end read core) refl all (λ after done. settled_in-all m after done)
+
+    pub settled-all : (core : CoreState) → HasAll core → HasAll (after_settling at_end read core)
+    settled-all core all = settled_in-all (left_of core) core all
 
     -- ---- how many letters are enough
 
@@ -207,3 +233,9 @@ module _ {X : Type 0} (read : CaseReading X) where
       part-acks rest (with_settled_ack read ack core)
       ∙ ap (λ (xs : List Ack). xs ++ rest) (settled-acks false (with_ack ack core))
       ∙ append_assoc core.acks (ack ∷ []) rest
+
+  pub part-all : (acks : List Ack) (core : CoreState) → HasAll core → HasAll (round_part read acks core)
+  part-all [] core all = all
+  part-all (ack ∷ rest) core all =
+      part-all rest (with_settled_ack read ack core)
+      (settled-all false (with_ack ack core) (acks_in-A core.word ∙ ap (λ (n : ℕ). n + 1) all ∙ sym (length-append core.acks (ack ∷ []))))

@@ -17,6 +17,5 @@ abbrev pub flow_row : {X : Type 0} → CaseReading X → CoreState → Row
 flow_row read core = row_over (read core.case) (world_of_core read core) (peak_of read core)
 
 -- what a row sums over acknowledgements are numbers of 64 bits
-pub record AreRoomy (acks : List Ack) : Type 0 where
-  pub lost : lost_in acks < 2 ^ 64
-  pub acked : acked_in acks < 2 ^ 64
+abbrev pub AreRoomy : List Ack → Type 0
+AreRoomy acks = (lost_in acks < 2 ^ 64) × (acked_in acks < 2 ^ 64)

@@ -1,11 +1,11 @@
 -- The definitions of shared_run, a file each.
 pub mod RoundLetters
 pub mod FlowRow
-pub mod OnWay
 pub mod LiftedFlow
 pub mod SharedHistory
 pub mod SharedBooks
 pub mod WholeRun
 pub mod LiftedRun
 pub mod Courses
+pub mod RoundFlows
 pub mod Orders

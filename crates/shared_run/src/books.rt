@@ -1,16 +1,19 @@
-//! How a shared run ends: each flow closes and gives its book and row, beside the link's counts.
-ghost use Rattle.std.specs.Prelude.{◌≡◌, [], IfOk, OnOk, map};
+//! The results of a shared run: the flows' rows, and their books if they have their history, beside the link's packets.
+ghost use Rattle.std.specs.Prelude.{◌≡◌, true, List, [], map, IfOk};
 ghost use Rattle.std.specs.List.{All};
 ghost use Rattle.flow_core.specs.Readings.{over_codes};
+ghost use Rattle.flow_core.specs.Words.{is_still};
 ghost use Rattle.flow_core.specs.Cores.{CoreState};
-ghost use Rattle.shared_run.specs.FlowRow.{flow_row, AreRoomy};
-ghost use Rattle.shared_run.specs.RoundLetters.{closed_flow};
-ghost use Rattle.shared_run.specs.SharedBooks.{IsGivenOf, AreGivensOf};
+ghost use Rattle.shared_run.specs.FlowRow.{flow_row};
+ghost use Rattle.shared_run.specs.RoundLetters.{world_of_core};
+ghost use Rattle.shared_run.specs.SharedBooks.{AreGivensOf};
+ghost use Rattle.shared_run.specs.RoundFlows.{kept_at, AreWhole};
 
 use crate::flow::SharedFlow;
-use campaign_gate::{Row, Rows};
+use crate::round_flow::RoundFlow;
+use campaign_gate::Rows;
 use ccp_base::{NoMemory, Sequence};
-use flow_core::Given;
+use flow_core::{Core, Given};
 use shared_link::Counts;
 use std::alloc::Global;
 
@@ -26,46 +29,39 @@ pub struct SharedRun {
     pub counts: Counts,
 }
 
-/// The books and rows of the flows, each of which takes and answers until nothing is left.
-pub(crate) fn close_flows(alloc: Global, flows: Vec<SharedFlow>) -> Result<(Givens, Rows), NoMemory>
-    requires { All (λ (core : CoreState). AreRoomy core.acks) flows.items }
-    ensures givens { IfOk result (λ made. AreGivensOf (map (closed_flow over_codes) flows.items) made.0) }
-    ensures rows { IfOk result (λ made. made.1 ≡ map (flow_row over_codes) (map (closed_flow over_codes) flows.items)) }
+/// The result of a run without the flows' books: the flows' rows, in order, and the link's packets.
+#[derive(Drop)]
+pub struct SharedRows {
+    pub rows: Rows,
+    pub counts: Counts,
+}
+
+/// The rows of flows, in order.
+pub(crate) fn rows_of<F: RoundFlow>(
+    alloc: Global,
+    flows: &[SharedFlow<F>],
+) -> Result<Rows, NoMemory>
+    ensures { IfOk result (λ rows. (cores : List CoreState) → AreWhole cores
+        → map (λ shared. (shared.flow, shared.tally)) flows.now ≡ map (kept_at F.at) cores
+        → rows ≡ map (flow_row over_codes) cores) }
+{
+    let mut rows = Rows::new(alloc);
+    let mut rest = flows;
+    while let Some((flow, later)) = rest.split_first() {
+        rows.push(flow.row())?;
+        rest = later;
+    }
+    Ok(rows)
+}
+
+/// The books of flows with their acknowledgements, in order. No ticket of them may be out, and nothing may be left to take.
+pub(crate) fn givens_of(alloc: Global, flows: Vec<SharedFlow<Core>>) -> Result<Givens, NoMemory>
+    requires { All (λ (core : CoreState). is_still (world_of_core over_codes core) ≡ true) (map (λ shared. shared.flow) flows.items) }
+    ensures { IfOk result (AreGivensOf (map (λ shared. shared.flow) flows.items)) }
 {
     let mut givens = Givens::new(alloc);
-    let mut rows = Rows::new(alloc);
-    close_into(alloc, flows, &mut givens, &mut rows)?;
-    Ok((givens, rows))
-}
-
-/// Puts the books and rows of flows into two empty lists.
-fn close_into(
-    alloc: Global,
-    flows: Vec<SharedFlow>,
-    givens: &mut Givens,
-    rows: &mut Rows,
-) -> Result<(), NoMemory>
-    requires roomy { All (λ (core : CoreState). AreRoomy core.acks) flows.items }
-    requires no_givens { givens.old ≡ [] }
-    requires no_rows { rows.old ≡ [] }
-    ensures givens { OnOk result (AreGivensOf (map (closed_flow over_codes) flows.items) givens.new) }
-    ensures rows { OnOk result (rows.new ≡ map (flow_row over_codes) (map (closed_flow over_codes) flows.items)) }
-{
     for flow in flows {
-        let (given, row) = close_flow(alloc, flow)?;
-        givens.push(given)?;
-        rows.push(row)?;
+        givens.push(flow.finish())?;
     }
-    Ok(())
-}
-
-/// The book and row of a flow, which takes and answers until nothing is left.
-fn close_flow(alloc: Global, flow: SharedFlow) -> Result<(Given, Row), NoMemory>
-    requires { AreRoomy flow.acks }
-    ensures given { IfOk result (λ made. IsGivenOf (closed_flow over_codes flow) made.0) }
-    ensures row { IfOk result (λ made. made.1 ≡ flow_row over_codes (closed_flow over_codes flow)) }
-{
-    let mut flow = flow;
-    flow.close(alloc)?;
-    Ok(flow.finish())
+    Ok(givens)
 }

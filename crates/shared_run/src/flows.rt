@@ -1,12 +1,16 @@
 //! The flows of a run side by side, each behind its lock.
-ghost use Rattle.std.specs.Prelude.{◌≡◌, ◌≤◌, length, IfOk, OnOk};
+ghost use Rattle.std.specs.Prelude.{◌≡◌, ◌≤◌, Some, length, map, slice_get, IfOk, OnOk};
 ghost use Rattle.ccp_base.specs.Limits.{most_flows};
+ghost use Rattle.flow_core.specs.Readings.{over_codes};
+ghost use Rattle.shared_run.specs.RoundLetters.{closed_flow};
 ghost use Rattle.shared_run.specs.Courses.{flows_after, asks_in, none_left};
+ghost use Rattle.shared_run.specs.RoundFlows.{kept_at};
 
 use crate::course::Course;
 use crate::flow::SharedFlow;
 use crate::known_flow::KnownFlow;
 use crate::round_acks::RoundAcks;
+use crate::round_flow::RoundFlow;
 use crate::run_flow::{LockedRunFlow, RunFlow};
 use campaign_gate::Cases;
 use ccp_base::NoMemory;
@@ -16,10 +20,10 @@ use std::alloc::Global;
 use std::sync::{Mutex, Wait};
 
 /// The flows of a run's cases before the first round, in order.
-pub(crate) fn open_flows<C: Course>(
+pub(crate) fn open_flows<C: Course, F: RoundFlow>(
     alloc: Global,
     cases: Cases,
-) -> Result<Vec<LockedRunFlow<C>>, NoMemory>
+) -> Result<Vec<LockedRunFlow<C, F>>, NoMemory>
     requires cases { cases ≡ C.cases }
     requires few { length cases ≤ most_flows }
     ensures { IfOk result (λ flows. length flows.items ≡ length C.cases) }
@@ -27,8 +31,8 @@ pub(crate) fn open_flows<C: Course>(
     let mut flows = Vec::new(alloc);
     let mut number = 0;
     for case in cases.into_vec() {
-        let flow = SharedFlow::open(alloc, case)?;
-        let flow = Mutex::new(RunFlow::<C>::begin(flow, number));
+        let flow = SharedFlow::<F>::open(alloc, case)?;
+        let flow = Mutex::new(RunFlow::<C, F>::begin(flow, number));
         flows.push(CachePadded::new(flow))?;
         number += 1;
     }
@@ -36,10 +40,10 @@ pub(crate) fn open_flows<C: Course>(
 }
 
 /// What is known of the flows before the first round, in order.
-pub(crate) fn know_flows<C: Course, R: Wait>(
+pub(crate) fn know_flows<C: Course, F: RoundFlow, R: Wait>(
     rt: &R,
     alloc: Global,
-    flows: &[LockedRunFlow<C>],
+    flows: &[LockedRunFlow<C, F>],
 ) -> Result<Vec<KnownFlow<C>>, NoMemory>
     ensures { IfOk result (λ known. length known.items ≡ length flows.now) }
 {
@@ -53,9 +57,9 @@ pub(crate) fn know_flows<C: Course, R: Wait>(
 }
 
 /// What is known of a flow. If its part ran out of memory, so does this.
-fn know_flow<C: Course, R: Wait>(
+fn know_flow<C: Course, F: RoundFlow, R: Wait>(
     rt: &R,
-    flow: &LockedRunFlow<C>,
+    flow: &LockedRunFlow<C, F>,
 ) -> Result<KnownFlow<C>, NoMemory> {
     flow.lock(rt).known().ok_or(NoMemory)
 }
@@ -119,10 +123,10 @@ pub(crate) fn none_left(asks: &[Ask]) -> bool
 
 /// A flow's part of a round, and what is known of the flow then. If the flow isn't there or runs out of memory, nothing is
 /// known of it.
-pub(crate) fn do_part<C: Course, R: Wait>(
+pub(crate) fn do_part<C: Course, F: RoundFlow, R: Wait>(
     rt: &R,
     alloc: Global,
-    flows: &[LockedRunFlow<C>],
+    flows: &[LockedRunFlow<C, F>],
     acks: &RoundAcks<C>,
 ) -> Option<KnownFlow<C>> {
     let mut flow = flows.get(acks.number as usize)?.lock(rt);
@@ -134,9 +138,9 @@ pub(crate) fn do_part<C: Course, R: Wait>(
 }
 
 /// Brings the flows that rested in the last rounds to the round that the caller knows them after.
-pub(crate) fn rest_flows<C: Course, R: Wait>(
+pub(crate) fn rest_flows<C: Course, F: RoundFlow, R: Wait>(
     rt: &R,
-    flows: &[LockedRunFlow<C>],
+    flows: &[LockedRunFlow<C, F>],
     known: &[KnownFlow<C>],
 ) {
     for rested in known {
@@ -146,22 +150,39 @@ pub(crate) fn rest_flows<C: Course, R: Wait>(
     }
 }
 
-/// The flows after this many rounds, in order. If one of them isn't there, that is reported as out of memory.
-pub(crate) fn take_flows<C: Course>(
+/// The flows of a run that ends after this many rounds, in order, each of which takes and answers until nothing is left. If
+/// one of them isn't there, that is reported as out of memory.
+pub(crate) fn close_flows<C: Course, F: RoundFlow>(
     alloc: Global,
-    flows: Vec<LockedRunFlow<C>>,
+    flows: Vec<LockedRunFlow<C, F>>,
     round: u32,
-) -> Result<Vec<SharedFlow>, NoMemory>
+) -> Result<Vec<SharedFlow<F>>, NoMemory>
     requires flows { length flows.items ≡ length (flows_after C.link C.cases round) }
     requires few { length flows.items ≤ most_flows }
-    ensures { IfOk result (λ flows. flows.items ≡ flows_after C.link C.cases round) }
+    ensures { IfOk result (λ flows. map (λ shared. (shared.flow, shared.tally)) flows.items
+        ≡ map (kept_at F.at) (map (closed_flow over_codes) (flows_after C.link C.cases round))) }
 {
-    let mut taken = Vec::new(alloc);
+    let mut closed = Vec::new(alloc);
     let mut number = 0;
     for flow in flows {
-        let flow = flow.into_inner().into_inner();
-        taken.push(flow.into_flow(number, round)?)?;
+        closed.push(close_flow(alloc, flow, number, round)?)?;
         number += 1;
     }
-    Ok(taken)
+    Ok(closed)
+}
+
+/// That flow of a run that ends after this many rounds: it takes and answers until nothing is left.
+fn close_flow<C: Course, F: RoundFlow>(
+    alloc: Global,
+    flow: LockedRunFlow<C, F>,
+    number: u32,
+    round: u32,
+) -> Result<SharedFlow<F>, NoMemory>
+    ensures { IfOk result (λ shared. slice_get (map (kept_at F.at) (map (closed_flow over_codes) (flows_after C.link C.cases round))) number
+        ≡ Some (shared.flow, shared.tally)) }
+{
+    let flow = flow.into_inner().into_inner();
+    let mut flow = flow.into_flow(number, round)?;
+    flow.close(alloc)?;
+    Ok(flow)
 }

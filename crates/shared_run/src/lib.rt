@@ -11,12 +11,13 @@ mod laws;
 mod line;
 mod order;
 mod round_acks;
+mod round_flow;
 mod rounds;
 mod run;
 mod run_flow;
 mod worker;
 mod worker_handle;
 
-pub use books::{Givens, SharedRun};
+pub use books::{Givens, SharedRows, SharedRun};
 pub use laws::settling_law;
-pub use run::shared;
+pub use run::{shared, shared_rows};

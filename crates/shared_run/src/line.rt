@@ -12,6 +12,10 @@ use std::thread::Parker;
 /// that it waits for, if the machine is busy.
 const LOOKS: u32 = 10_000;
 
+/// How many messages a line has room for. Only one is on its way at a time. With room for more a sender seldom reads how far
+/// the receiver is, and each such read fetches a cache line from the receiver's processor.
+const ROOM: usize = 64;
+
 /// What wakes a thread that sleeps until a message comes. The bells of a run are in one list, and each message rings one,
 /// so each has cache lines of its own.
 pub(crate) type Bell = CachePadded<Parker>;
@@ -29,12 +33,12 @@ pub(crate) struct Receiver<'e, T: Drop> {
     bell: &'e Bell,
 }
 
-/// A line that holds one message. The bell is that of the thread that receives, and of no other.
+/// A line without a message. The bell is that of the thread that receives, and of no other.
 pub(crate) fn line<'e, T: Drop>(
     alloc: Global,
     bell: &'e Bell,
 ) -> Result<(Sender<'e, T>, Receiver<'e, T>), NoMemory> {
-    let (producer, consumer) = RingBuffer::new(alloc, 1)?;
+    let (producer, consumer) = RingBuffer::new(alloc, ROOM)?;
     let sender = Sender {
         ring: producer,
         bell,
@@ -47,7 +51,7 @@ pub(crate) fn line<'e, T: Drop>(
 }
 
 impl<'e, T: Drop> Sender<'e, T> {
-    /// Sends a message, or hands it back if the one before wasn't taken yet.
+    /// Sends a message, or hands it back if the line is full.
     pub(crate) fn send(&mut self, message: T) -> Option<T> {
         match self.ring.push(message) {
             Ok(()) => {

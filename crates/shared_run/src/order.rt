@@ -7,6 +7,7 @@ use crate::course::Course;
 use crate::flows::do_part;
 use crate::known_flow::KnownFlow;
 use crate::round_acks::RoundAcks;
+use crate::round_flow::RoundFlow;
 use crate::run_flow::LockedRunFlow;
 use ccp_base::{Gate, NoMemory, Point};
 use std::alloc::Global;
@@ -87,11 +88,11 @@ impl<C: Course> Order<C> {
     }
 
     /// Does the parts. What is known of their flows then comes back with the order.
-    pub(crate) fn do_parts<R: Wait, G: Gate>(
+    pub(crate) fn do_parts<F: RoundFlow, R: Wait, G: Gate>(
         &mut self,
         rt: &R,
         alloc: Global,
-        flows: &[LockedRunFlow<C>],
+        flows: &[LockedRunFlow<C, F>],
         gate: &G,
     )
         ensures { self.new ≡ self.old }
@@ -116,10 +117,10 @@ impl<C: Course> Order<C> {
 
 /// Does the parts of a worker. It passes the gate at `InCase` before a part and at `AfterCase` after it. A flow for which
 /// there is no memory in the list isn't known then.
-fn do_all<C: Course, R: Wait, G: Gate>(
+fn do_all<C: Course, F: RoundFlow, R: Wait, G: Gate>(
     rt: &R,
     alloc: Global,
-    flows: &[LockedRunFlow<C>],
+    flows: &[LockedRunFlow<C, F>],
     worker: u32,
     parts: &[RoundAcks<C>],
     known: &mut Vec<KnownFlow<C>>,

@@ -1,6 +1,7 @@
 //! The rounds of a shared run: flows ask, the link answers, and workers do the flows' parts.
 ghost use Rattle.std.specs.Prelude.{◌≡◌, ◌+◌, ◌%◌, ◌<◌, ◌≤◌, [], length, IfOk, OnOk};
 ghost use Rattle.ccp_base.specs.Limits.{most_flows, most_rounds, most_workers};
+ghost use Rattle.shared_link.specs.SharedLimits.{IsWithin};
 ghost use Rattle.shared_run.specs.Courses.{asks_in, acks_in_round, StandsAfter, HasEnded};
 ghost use Rattle.shared_run.specs.Orders.{AreDealt, IsDealtBefore, DealsOne};
 
@@ -10,6 +11,7 @@ use crate::flows::{collect_asks, know_flows, none_left, rest_flow, rest_flows, r
 use crate::line::Bell;
 use crate::order::{Order, open_orders};
 use crate::round_acks::RoundAcks;
+use crate::round_flow::RoundFlow;
 use crate::run_flow::LockedRunFlow;
 use crate::worker_handle::{WorkerHandle, do_orders, start_workers};
 use ccp_base::{Gate, NoMemory};
@@ -36,6 +38,7 @@ fn deal<C: Course>(
     workers: u32,
 ) -> Result<(), NoMemory>
     requires workers { 1 ≤ workers }
+    requires within { IsWithin C.link }
     requires lists { lists ≡ acks_in_round C.link C.cases round }
     requires few { length lists ≤ most_flows }
     requires round { round < most_rounds }
@@ -86,10 +89,10 @@ fn worker_of(flow: u32, workers: u32) -> u32
 
 /// One more round, where the flows ask for what the desk has: the link answers, and each flow does its part on its worker.
 /// Then the desk has what they ask for next.
-fn run_round<'e, C: Course, R: Wait, G: Gate>(
+fn run_round<'e, C: Course, F: RoundFlow, R: Wait, G: Gate>(
     rt: &R,
     alloc: Global,
-    flows: &[LockedRunFlow<C>],
+    flows: &[LockedRunFlow<C, F>],
     desk: &mut Desk<C>,
     orders: &mut Vec<Order<C>>,
     handles: &mut [WorkerHandle<'e, C>],
@@ -100,6 +103,7 @@ fn run_round<'e, C: Course, R: Wait, G: Gate>(
     requires few_workers { length handles.old ≤ most_workers }
     requires known { length desk.old.known.items ≡ length C.cases }
     requires few { length C.cases ≤ most_flows }
+    requires within { IsWithin C.link }
     requires links { length C.link.flows ≡ length C.cases }
     requires stands { StandsAfter C.link C.cases done desk.old.link }
     requires asks { desk.old.asks.items ≡ asks_in C.link C.cases done }
@@ -117,10 +121,10 @@ fn run_round<'e, C: Course, R: Wait, G: Gate>(
 }
 
 /// Rounds until all flows have all acknowledgements, at most `most`. Answers how many there were.
-fn run_rounds<'e, C: Course, R: Wait, G: Gate>(
+fn run_rounds<'e, C: Course, F: RoundFlow, R: Wait, G: Gate>(
     rt: &R,
     alloc: Global,
-    flows: &[LockedRunFlow<C>],
+    flows: &[LockedRunFlow<C, F>],
     desk: &mut Desk<C>,
     handles: &mut [WorkerHandle<'e, C>],
     most: u32,
@@ -130,6 +134,7 @@ fn run_rounds<'e, C: Course, R: Wait, G: Gate>(
     requires few_workers { length handles.old ≤ most_workers }
     requires known { length desk.old.known.items ≡ length C.cases }
     requires few { length C.cases ≤ most_flows }
+    requires within { IsWithin C.link }
     requires links { length C.link.flows ≡ length C.cases }
     requires stands { StandsAfter C.link C.cases 0 desk.old.link }
     requires rounds { most ≤ most_rounds }
@@ -152,13 +157,14 @@ fn run_rounds<'e, C: Course, R: Wait, G: Gate>(
 pub(crate) fn run_by_workers<
     'e,
     C: Course + Send + Sync + 'e,
+    F: RoundFlow + Send + 'e,
     R: Threads + Wait + Sync,
     G: Gate + Sync,
 >(
     rt: &'e R,
     alloc: Global,
     link: SharedLink,
-    flows: &'e [LockedRunFlow<C>],
+    flows: &'e [LockedRunFlow<C, F>],
     most: u32,
     bells: &'e [Bell],
     gate: &'e G,
@@ -167,6 +173,7 @@ pub(crate) fn run_by_workers<
     requires few_workers { length bells.now ≤ most_workers }
     requires flows { length flows.now ≡ length C.cases }
     requires few { length flows.now ≤ most_flows }
+    requires within { IsWithin C.link }
     requires links { length C.link.flows ≡ length C.cases }
     requires stands { StandsAfter C.link C.cases 0 link }
     requires rounds { most ≤ most_rounds }
@@ -180,6 +187,7 @@ pub(crate) fn run_by_workers<
             requires few_workers { length bells.now ≤ most_workers }
             requires flows { length flows.now ≡ length C.cases }
             requires few { length flows.now ≤ most_flows }
+            requires within { IsWithin C.link }
             requires links { length C.link.flows ≡ length C.cases }
             requires stands { StandsAfter C.link C.cases 0 link }
             requires rounds { most ≤ most_rounds }

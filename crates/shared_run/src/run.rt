@@ -1,24 +1,28 @@
 //! The run of a scenario's cases over one link.
 ghost use Rattle.std.specs.Prelude.{◌≡◌, ◌≤◌, length, map, IfOk};
 ghost use Rattle.ccp_base.specs.Limits.{most_flows, most_rounds};
+ghost use Rattle.flow_core.specs.Readings.{over_codes};
 ghost use Rattle.scenario_json.specs.Cases.{plan_of, AreFlowsFrom};
 ghost use Rattle.scenario_json.specs.SharedScenes.{flow_link_of};
 ghost use Rattle.shared_link.specs.SharedLimits.{IsWithin};
-ghost use Rattle.shared_run.specs.SharedHistory.{round_limit};
+ghost use Rattle.shared_run.specs.SharedHistory.{flows_at_end, round_limit, shared_rows, shared_counts};
 ghost use Rattle.shared_run.specs.Courses.{EndsInTime};
+ghost use Rattle.shared_run.specs.RoundFlows.{kept_at};
 ghost use Rattle.shared_run.specs.WholeRun.{IsRunOf};
 ghost use Rattle.shared_run.specs.LiftedRun.{RunHoldsForSources};
 
-use crate::books::{SharedRun, close_flows};
+use crate::books::{SharedRows, SharedRun, givens_of, rows_of};
 use crate::course::Course;
-use crate::flows::{open_flows, take_flows};
+use crate::flow::SharedFlow;
+use crate::flows::{close_flows, open_flows};
 use crate::line::Bell;
+use crate::round_flow::RoundFlow;
 use crate::rounds::run_by_workers;
 use campaign_gate::Cases;
 use ccp_base::{Gate, NoMemory, Workers};
-use flow_core::Case;
+use flow_core::{Bare, Case, Core};
 use scenario_json::SharedScene;
-use shared_link::{SharedCase, SharedLink};
+use shared_link::{Counts, SharedCase, SharedLink};
 use std::alloc::Global;
 use std::marker::Brand;
 use std::sync::Wait;
@@ -51,33 +55,83 @@ pub fn shared<R: Threads + Wait + Sync, G: Gate + Sync>(
     // For all programs that the cases' codes simulate, the run is that of these sources.
     ensures lifted { RunHoldsForSources scene.link scene.scene.cases scene.rounds }
 {
-    run(rt, alloc, scene, workers, gate)
+    let run = run::<Core, R, G>(rt, alloc, scene, workers, gate)?;
+    let rows = rows_of(alloc, run.flows.as_slice())?;
+    let counts = run.counts;
+    let givens = givens_of(alloc, run.flows)?;
+    Ok(SharedRun {
+        givens,
+        rows,
+        counts,
+    })
 }
 
-/// The run, over the codes of the cases.
-fn run<R: Threads + Wait + Sync, G: Gate + Sync>(
+/// As `shared`, without the flows' books: no flow keeps its history, so a flow takes no more memory the longer it runs.
+pub fn shared_rows<R: Threads + Wait + Sync, G: Gate + Sync>(
     rt: &R,
     alloc: Global,
     scene: SharedScene,
     workers: Workers,
     gate: &G,
-) -> Result<SharedRun, NoMemory>
+) -> Result<SharedRows, NoMemory>
+    requires few { length scene.scene.cases ≤ most_flows }
+    requires flows { AreFlowsFrom 0 scene.scene.cases }
+    requires link { IsWithin scene.link }
+    requires links { scene.link.flows ≡ map flow_link_of (map plan_of scene.scene.cases) }
+    requires rounds { scene.rounds ≤ most_rounds }
+    ensures rows { IfOk result (λ run. run.rows ≡ shared_rows scene.link over_codes scene.scene.cases scene.rounds) }
+    ensures counts { IfOk result (λ run. run.counts ≡ shared_counts scene.link over_codes scene.scene.cases scene.rounds) }
+    // It ends after the first round in which all flows have all acknowledgements, or else after the last one.
+    ensures ends { EndsInTime scene.link scene.scene.cases scene.rounds }
+    // For all programs that the cases' codes simulate, the run is that of these sources.
+    ensures lifted { RunHoldsForSources scene.link scene.scene.cases scene.rounds }
+{
+    let run = run::<Bare, R, G>(rt, alloc, scene, workers, gate)?;
+    let rows = rows_of(alloc, run.flows.as_slice())?;
+    Ok(SharedRows {
+        rows,
+        counts: run.counts,
+    })
+}
+
+/// A run at its end: its flows, of which nothing is left to take or to answer, in order, and the link's packets.
+#[derive(Drop)]
+struct ClosedRun<F: RoundFlow> {
+    flows: Vec<SharedFlow<F>>,
+    counts: Counts,
+}
+
+/// The run, over the codes of the cases.
+fn run<F: RoundFlow + Send, R: Threads + Wait + Sync, G: Gate + Sync>(
+    rt: &R,
+    alloc: Global,
+    scene: SharedScene,
+    workers: Workers,
+    gate: &G,
+) -> Result<ClosedRun<F>, NoMemory>
     requires few { length scene.scene.cases ≤ most_flows }
     requires link { IsWithin scene.link }
     requires links { scene.link.flows ≡ map flow_link_of (map plan_of scene.scene.cases) }
     requires rounds { scene.rounds ≤ most_rounds }
-    ensures { IfOk result (IsRunOf scene.link scene.scene.cases scene.rounds) }
+    ensures flows { IfOk result (λ run. map (λ shared. (shared.flow, shared.tally)) run.flows.items
+        ≡ map (kept_at F.at) (flows_at_end scene.link over_codes scene.scene.cases scene.rounds)) }
+    ensures counts { IfOk result (λ run. run.counts ≡ shared_counts scene.link over_codes scene.scene.cases scene.rounds) }
 {
     let SharedScene {
         scene,
         link,
         rounds: most,
     } = scene;
-    run_course::<Brand, R, G>(rt, alloc, link, scene.cases, most, workers, gate)
+    run_course::<Brand, F, R, G>(rt, alloc, link, scene.cases, most, workers, gate)
 }
 
 /// The run of these cases over their link for at most `most` rounds. Its parts have types that name it.
-fn run_course<C: Course + Send + Sync, R: Threads + Wait + Sync, G: Gate + Sync>(
+fn run_course<
+    C: Course + Send + Sync,
+    F: RoundFlow + Send,
+    R: Threads + Wait + Sync,
+    G: Gate + Sync,
+>(
     rt: &R,
     alloc: Global,
     link: SharedCase,
@@ -85,18 +139,20 @@ fn run_course<C: Course + Send + Sync, R: Threads + Wait + Sync, G: Gate + Sync>
     most: u32,
     workers: Workers,
     gate: &G,
-) -> Result<SharedRun, NoMemory>
+) -> Result<ClosedRun<F>, NoMemory>
     requires link { link ≡ C.link }
     requires cases { cases ≡ C.cases }
     requires few { length C.cases ≤ most_flows }
     requires within { IsWithin C.link }
     requires links { C.link.flows ≡ map flow_link_of (map plan_of C.cases) }
     requires rounds { most ≤ most_rounds }
-    ensures { IfOk result (IsRunOf C.link C.cases most) }
+    ensures flows { IfOk result (λ run. map (λ shared. (shared.flow, shared.tally)) run.flows.items
+        ≡ map (kept_at F.at) (flows_at_end C.link over_codes C.cases most)) }
+    ensures counts { IfOk result (λ run. run.counts ≡ shared_counts C.link over_codes C.cases most) }
 {
     let most = most_of(cases.as_slice(), most);
     let link = SharedLink::new(alloc, link)?;
-    let flows = open_flows::<C>(alloc, cases)?;
+    let flows = open_flows::<C, F>(alloc, cases)?;
     let bells = make_bells(alloc, workers)?;
     let end = run_by_workers(
         rt,
@@ -108,13 +164,8 @@ fn run_course<C: Course + Send + Sync, R: Threads + Wait + Sync, G: Gate + Sync>
         gate,
     )?;
     let counts = end.link.counts();
-    let taken = take_flows(alloc, flows, end.rounds)?;
-    let (givens, rows) = close_flows(alloc, taken)?;
-    Ok(SharedRun {
-        givens,
-        rows,
-        counts,
-    })
+    let flows = close_flows(alloc, flows, end.rounds)?;
+    Ok(ClosedRun { flows, counts })
 }
 
 /// A bell for each worker of a run.

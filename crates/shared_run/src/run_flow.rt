@@ -1,14 +1,14 @@
 //! A flow of a run between two rounds.
-ghost use Rattle.std.specs.Prelude.{◌≡◌, ◌+◌, ◌↔◌, false, Some, length, slice_get, IfOk, IsSome, IsTrue};
-ghost use Rattle.shared_run.specs.Courses.{flows_after};
+ghost use Rattle.std.specs.Prelude.{◌≡◌, ◌+◌, ◌↔◌, false, Some, length, IfOk, IsSome, IsTrue};
+ghost use Rattle.shared_run.specs.RoundFlows.{kept_in};
 
 use crate::course::Course;
 use crate::flow::SharedFlow;
 use crate::known_flow::KnownFlow;
 use crate::round_acks::RoundAcks;
+use crate::round_flow::RoundFlow;
 use ccp_base::NoMemory;
 use crossbeam_utils::CachePadded;
-use shared_link::Ask;
 use std::alloc::Global;
 use std::marker::PhantomData;
 use std::sync::Mutex;
@@ -16,24 +16,24 @@ use std::sync::Mutex;
 /// A flow of a run, its number, and how many rounds it is through. Unless its part of a round ran out of memory, it is
 /// that flow of the run after these rounds.
 #[derive(Drop)]
-pub(crate) struct RunFlow<C: Course> {
-    flow: SharedFlow,
+pub(crate) struct RunFlow<C: Course, F: RoundFlow> {
+    flow: SharedFlow<F>,
     number: u32,
     round: u32,
     /// Whether its part of the next round ran out of memory.
     lacked_memory: bool,
     of: PhantomData<C>,
-    ghost stands: { lacked_memory ≡ false → slice_get (flows_after C.link C.cases round) number ≡ Some flow },
+    ghost stands: { lacked_memory ≡ false → kept_in F.at C.link C.cases round number ≡ Some (flow.flow, flow.tally) },
 }
 
 /// A flow of a run behind its lock. The flows of a run are in one list, in which each has cache lines of its own: two
 /// threads that write values of one line take it from each other at each write.
-pub(crate) type LockedRunFlow<C> = CachePadded<Mutex<RunFlow<C>>>;
+pub(crate) type LockedRunFlow<C, F> = CachePadded<Mutex<RunFlow<C, F>>>;
 
-impl<C: Course> RunFlow<C> {
+impl<C: Course, F: RoundFlow> RunFlow<C, F> {
     /// A flow before the first round.
-    pub(crate) fn begin(flow: SharedFlow, number: u32) -> Self
-        requires { slice_get (flows_after C.link C.cases 0) number ≡ Some flow }
+    pub(crate) fn begin(flow: SharedFlow<F>, number: u32) -> Self
+        requires { kept_in F.at C.link C.cases 0 number ≡ Some (flow.flow, flow.tally) }
     {
         RunFlow {
             flow,
@@ -52,18 +52,13 @@ impl<C: Course> RunFlow<C> {
     }
 
     /// What the caller is to know of the flow. Nothing is known of a flow whose part ran out of memory.
-    #[tactic(auto, using(crate::proofs::CourseLemmas::flow_asks))]
     pub(crate) fn known(&self) -> Option<KnownFlow<C>>
         ensures { IsSome result ↔ (self.now.lacked_memory ≡ false) }
     {
         if self.lacked_memory {
             return None;
         }
-        let ask = Ask {
-            window: self.flow.window(),
-            left: self.flow.left(),
-        };
-        Some(KnownFlow::new(self.number, self.round, ask))
+        Some(KnownFlow::new(self.number, self.round, self.flow.ask()))
     }
 
     /// The flow's part of a round, in which it has these acknowledgements. It is through the round then, unless memory ran
@@ -90,8 +85,8 @@ impl<C: Course> RunFlow<C> {
     }
 
     /// That flow after this many rounds. If it isn't there, that is reported as out of memory.
-    pub(crate) fn into_flow(self, number: u32, round: u32) -> Result<SharedFlow, NoMemory>
-        ensures { IfOk result (λ flow. slice_get (flows_after C.link C.cases round) number ≡ Some flow) }
+    pub(crate) fn into_flow(self, number: u32, round: u32) -> Result<SharedFlow<F>, NoMemory>
+        ensures { IfOk result (λ shared. kept_in F.at C.link C.cases round number ≡ Some (shared.flow, shared.tally)) }
     {
         if !self.is_at(number, round) {
             return Err(NoMemory);

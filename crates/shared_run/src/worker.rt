@@ -2,16 +2,17 @@
 use crate::course::Course;
 use crate::line::{Receiver, Sender};
 use crate::order::Order;
+use crate::round_flow::RoundFlow;
 use crate::run_flow::LockedRunFlow;
 use ccp_base::Gate;
 use std::alloc::Global;
 use std::sync::Wait;
 
 /// Does the orders that come, and sends each back after its parts, until no more can come.
-pub(crate) fn serve<'e, C: Course, R: Wait, G: Gate>(
+pub(crate) fn serve<'e, C: Course, F: RoundFlow, R: Wait, G: Gate>(
     rt: &R,
     alloc: Global,
-    flows: &[LockedRunFlow<C>],
+    flows: &[LockedRunFlow<C, F>],
     orders: Receiver<'e, Order<C>>,
     done: Sender<'e, Order<C>>,
     gate: &G,

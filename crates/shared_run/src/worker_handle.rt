@@ -5,6 +5,7 @@ use crate::course::Course;
 use crate::desk::Desk;
 use crate::line::{Bell, Receiver, Sender, line};
 use crate::order::Order;
+use crate::round_flow::RoundFlow;
 use crate::run_flow::LockedRunFlow;
 use crate::worker::serve;
 use ccp_base::{Gate, NoMemory};
@@ -32,13 +33,14 @@ pub(crate) fn start_workers<
     's,
     'e,
     C: Course + Send + Sync + 'e,
+    F: RoundFlow + Send + 'e,
     R: Threads + Wait + Sync,
     G: Gate + Sync,
 >(
     scope: &'s Scope<'s, &'e ()>,
     rt: &'e R,
     alloc: Global,
-    flows: &'e [LockedRunFlow<C>],
+    flows: &'e [LockedRunFlow<C, F>],
     bells: &'e [Bell],
     gate: &'e G,
 ) -> Result<Vec<WorkerHandle<'e, C>>, NoMemory>
@@ -57,11 +59,18 @@ pub(crate) fn start_workers<
 
 /// Starts a worker's thread. Worker 0 has none, whose parts the caller does, nor has a worker without a flow, nor one for
 /// which no thread can be started.
-fn start_worker<'s, 'e, C: Course + Send + Sync + 'e, R: Threads + Wait + Sync, G: Gate + Sync>(
+fn start_worker<
+    's,
+    'e,
+    C: Course + Send + Sync + 'e,
+    F: RoundFlow + Send + 'e,
+    R: Threads + Wait + Sync,
+    G: Gate + Sync,
+>(
     scope: &'s Scope<'s, &'e ()>,
     rt: &'e R,
     alloc: Global,
-    flows: &'e [LockedRunFlow<C>],
+    flows: &'e [LockedRunFlow<C, F>],
     bells: &'e [Bell],
     worker: usize,
     gate: &'e G,
@@ -103,10 +112,10 @@ impl<'e, C: Course> WorkerHandle<'e, C> {
 
 /// Does all orders of a round, and leaves none. The caller does the first one that has a part, beside the threads that do
 /// the others: a thread is woken only if two workers have parts.
-pub(crate) fn do_orders<'e, C: Course, R: Wait, G: Gate>(
+pub(crate) fn do_orders<'e, C: Course, F: RoundFlow, R: Wait, G: Gate>(
     rt: &R,
     alloc: Global,
-    flows: &[LockedRunFlow<C>],
+    flows: &[LockedRunFlow<C, F>],
     desk: &mut Desk<C>,
     orders: &mut Vec<Order<C>>,
     handles: &mut [WorkerHandle<'e, C>],
@@ -124,10 +133,10 @@ pub(crate) fn do_orders<'e, C: Course, R: Wait, G: Gate>(
 
 /// Hands the orders that have a part to their workers' threads, the last one first. It keeps the first one and gives it
 /// back.
-fn hand_out_all<'e, C: Course, R: Wait, G: Gate>(
+fn hand_out_all<'e, C: Course, F: RoundFlow, R: Wait, G: Gate>(
     rt: &R,
     alloc: Global,
-    flows: &[LockedRunFlow<C>],
+    flows: &[LockedRunFlow<C, F>],
     desk: &mut Desk<C>,
     orders: &mut Vec<Order<C>>,
     handles: &mut [WorkerHandle<'e, C>],
@@ -148,10 +157,10 @@ fn hand_out_all<'e, C: Course, R: Wait, G: Gate>(
 }
 
 /// Hands an order to its worker's thread. If the worker has none, the order is done here.
-fn hand_out<'e, C: Course, R: Wait, G: Gate>(
+fn hand_out<'e, C: Course, F: RoundFlow, R: Wait, G: Gate>(
     rt: &R,
     alloc: Global,
-    flows: &[LockedRunFlow<C>],
+    flows: &[LockedRunFlow<C, F>],
     desk: &mut Desk<C>,
     order: Order<C>,
     handles: &mut [WorkerHandle<'e, C>],
@@ -170,10 +179,10 @@ fn hand_out<'e, C: Course, R: Wait, G: Gate>(
 }
 
 /// Does an order here.
-fn do_here<C: Course, R: Wait, G: Gate>(
+fn do_here<C: Course, F: RoundFlow, R: Wait, G: Gate>(
     rt: &R,
     alloc: Global,
-    flows: &[LockedRunFlow<C>],
+    flows: &[LockedRunFlow<C, F>],
     desk: &mut Desk<C>,
     order: Order<C>,
     gate: &G,

@@ -3,7 +3,7 @@ ghost use Rattle.std.specs.Prelude.{◌≡◌, ◌≤◌, [], IfOk, OnOk, ◌++�
 ghost use Rattle.std.specs.List.{All};
 ghost use Rattle.ccp_base.specs.Limits.{most_flows};
 ghost use Rattle.scenario_json.specs.Cases.{IsCoded, AreNumberedFrom};
-ghost use Rattle.scenario_json.specs.ScenePrograms.{forms_of};
+ghost use Rattle.reg_compiler.specs.Sources.{sources_of};
 ghost use Rattle.run_audit.specs.Audit.{IsVerdict};
 ghost use Rattle.ccp_run.specs.Attempts.{IsOutputOrRefusal, IsAttempt};
 ghost use Rattle.ccp_run.specs.AuditRuns.{verdict_text};
@@ -47,12 +47,13 @@ fn audit_output(alloc: Global, bytes: &[u8]) -> Result<ModeOutput, Stop>
     Ok(verdict_output(alloc, verdict)?)
 }
 
+// A function of its own: it proves what `audit` requires, from clauses about the scenario alone.
 /// The verdict on a text as the live text of a scenario.
 fn judge(alloc: Global, scene: &Scenario, text: &[u8]) -> Result<Verdict, NoMemory>
     requires few { length scene.now.cases ≤ most_flows }
     requires numbered { AreNumberedFrom 0 scene.now.programs }
     requires coded { All (IsCoded scene.now.programs) scene.now.cases }
-    ensures { IfOk result (IsVerdict (forms_of scene.now.programs) scene.now.cases text.now) }
+    ensures { IfOk result (IsVerdict (sources_of scene.now.programs) scene.now.cases text.now) }
 {
     audit(alloc, scene, text)
 }

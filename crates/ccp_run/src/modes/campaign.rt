@@ -80,7 +80,7 @@ fn run_campaign<R: Threads + Wait + Sync, G: Gate + Sync>(
     Ok(ModeOutput::with_programs(alloc, text, scene.programs))
 }
 
-/// The table of rows, after the programs' frames where they are asked for.
+/// The table of rows, after the programs' frames if they are asked for.
 fn rows_text(
     alloc: Global,
     wire: bool,

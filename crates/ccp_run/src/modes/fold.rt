@@ -16,7 +16,7 @@ use crate::stop::Stop;
 use campaign_report::fold_text;
 use ccp_base::{Ack, NoMemory, Source};
 use ccp_words::Alone;
-use fold_run::calls::folded;
+use fold_run::calls::fold_acks;
 use fold_run::{LineFault, acknowledgements, separate};
 use reg_compiler::Built;
 use std::alloc::Global;
@@ -54,7 +54,7 @@ fn run_fold(alloc: Global, built: Built, acks: &[Ack]) -> Result<ModeOutput, NoM
     ensures programs { IfOk result (λ output. output.programs ≡ (0, built) ∷ []) }
     ensures ran { IfOk result (λ output. output.ran ≡ ran_of built.code.code acks.now) }
 {
-    let folded = folded(alloc, &built, acks)?;
+    let folded = fold_acks(alloc, &built, acks)?;
     let text = fold_text(alloc, &built, &folded.reports, folded.fault, &folded.end)?;
     let programs = numbered_zero(alloc, built)?;
     Ok(ModeOutput {

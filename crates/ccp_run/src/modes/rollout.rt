@@ -19,8 +19,8 @@ use std::alloc::Global;
 use std::sync::Wait;
 use std::thread::Threads;
 
-/// Reads a scenario of a rollout, runs its cases on datapath workers and installers, and makes the text of what came of
-/// it.
+/// Reads a scenario of a rollout, runs its cases on datapath workers and installers, and makes the text of what
+/// happened.
 #[tactic(auto, using(crate::proofs::ReadLemmas::not_read, crate::proofs::ReadLemmas::answered))]
 pub fn read_rollout<R: Threads + Wait + Sync, S: Source, G: Gate + Sync>(
     rt: &R,
@@ -51,6 +51,7 @@ fn rollout_output<R: Threads + Wait + Sync, G: Gate + Sync>(
     Ok(run_rollout(rt, alloc, cases, datapaths, agents, gate)?)
 }
 
+// A function of its own: the lemma about a fault of a scenario is searched with here, and not in the caller.
 /// The cases that the bytes stand for.
 #[tactic(auto, using(crate::proofs::ScenarioInputs::scene_stops))]
 fn open_cases(alloc: Global, bytes: &[u8]) -> Result<OpenCases, Stop>

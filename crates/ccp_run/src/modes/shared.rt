@@ -21,7 +21,7 @@ use ccp_base::{Bytes, Gate, Names, NoMemory, Source, Workers};
 use scenario_json::SharedScene;
 use scenario_json::calls::shared_scene;
 use shared_link::Counts;
-use shared_run::{SharedRun, shared};
+use shared_run::{SharedRows, shared_rows};
 use std::alloc::Global;
 use std::sync::Wait;
 use std::thread::Threads;
@@ -93,7 +93,7 @@ fn run_together<R: Threads + Wait + Sync, G: Gate + Sync>(
 {
     let names = copy_names(alloc, &scene.scene.names)?;
     let agents = agents(alloc, scene.scene.cases.as_slice())?;
-    let made = shared(rt, alloc, scene, workers, gate)?;
+    let made = shared_rows(rt, alloc, scene, workers, gate)?;
     let text = shared_text(alloc, &names, &agents, &made)?;
     Ok(ModeOutput::text(alloc, text))
 }
@@ -103,7 +103,7 @@ fn shared_text(
     alloc: Global,
     names: &Names,
     agents: &Agents,
-    made: &SharedRun,
+    made: &SharedRows,
 ) -> Result<Bytes, NoMemory>
     requires within { length made.now.rows ≤ most_cases }
     requires names { length names.now ≡ length made.now.rows }

@@ -1,15 +1,17 @@
 use Rattle.std.proofs.Common.{◌≡◌, ◌+◌, List, ◌∷◌, length, arith, rules, ap, sym, ◌∙◌}
 use Rattle.std.specs.Vec.Iter.{into_iter_items}
 use Rattle.flow_core.specs.declared.case.Case.{Case}
-use Rattle.shared_run.proofs.CourseLemmas.{opened_at, dropped_on}
+use Rattle.shared_run.proofs.CourseLemmas.{dropped_on}
+use Rattle.shared_run.proofs.KeptLemmas.{kept-opened}
 use Rattle.shared_run.proofs.flows.open_flows.Goals as goal
 
 pub begin-requires : goal.begin-requires
 begin-requires g c =
     let l = c.loop-case in
+    let flow = c.in_ok-flow.flow in
     let rest = into_iter_items c.next.new.self in
     let is : into_iter_items l.case-iterator ≡ c.in-Some.case ∷ rest = c.in-Some.ensures.steps.0 in
-    opened_at g.C.Course.link g.C.Course.cases l.number c.in-Some.case rest c.in_ok-flow.flow (sym is ∙ l.invariant.0) c.in_ok-flow.ensures
+    kept-opened g.F.RoundFlow.at g.C.Course.link g.C.Course.cases l.number c.in-Some.case rest flow.flow flow.tally (sym is ∙ l.invariant.0) c.in_ok-flow.ensures
 
 pub loop-case-preserved : goal.loop-case-preserved
 loop-case-preserved g c =

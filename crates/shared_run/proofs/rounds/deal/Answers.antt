@@ -5,6 +5,7 @@ use Rattle.ccp_base.specs.declared.ack.Ack.{Ack}
 use Rattle.shared_run.specs.Courses.{acks_in_round}
 use Rattle.shared_run.specs.Orders.{AreDealt}
 use Rattle.shared_run.proofs.CourseLemmas.{drop_get, dropped_on, taken_on}
+use Rattle.shared_run.proofs.RoomyLemmas.{flows-roomy}
 use Rattle.shared_run.proofs.rounds.deal.Goals as goal
 
 pub new-part-requires-clause-are : goal.new-part-requires-clause-are
@@ -13,6 +14,11 @@ new-part-requires-clause-are g c =
     let rest = into_iter_items c.next.new.self in
     let is : into_iter_items l.acks-iterator ≡ c.in-Some.acks ∷ rest = c.in-Some.ensures.steps.0 in
     drop_get (acks_in_round g.C.Course.link g.C.Course.cases c.args.round) l.number c.in-Some.acks rest (sym is ∙ l.invariant.0)
+
+pub new-part-requires-clause-roomy : goal.new-part-requires-clause-roomy
+new-part-requires-clause-roomy g c core at =
+    let few = c.requires.round in
+    flows-roomy g.C.Course.link g.C.Course.cases c.requires.within (c.args.round + 1) (omega (arith, few)) c.loop-acks.number core at
 
 pub deal_part-requires-clause-before : goal.deal_part-requires-clause-before
 deal_part-requires-clause-before g c =

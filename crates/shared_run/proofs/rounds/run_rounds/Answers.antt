@@ -2,7 +2,7 @@ use Rattle.std.proofs.Common.{◌≡◌, ◌+◌, ◌<◌, true, false, List, ar
 use Rattle.shared_link.specs.declared.round.Ask.{Ask}
 use Rattle.shared_run.specs.SharedHistory.{have_all}
 use Rattle.shared_run.specs.Courses.{flows_after, asks_in, none_left}
-use Rattle.shared_run.proofs.CourseLemmas.{none_asked, way_on, way_ends}
+use Rattle.shared_run.proofs.CourseLemmas.{none_asked, way_begins, way_on, way_ends, way_over}
 use Rattle.shared_run.proofs.rounds.run_rounds.Goals as goal
 
 pub returns-then-none_left : goal.returns-then-none_left
@@ -35,3 +35,21 @@ loop-done-preserved g c =
       omega (arith, same, l.invariant.4),
       c.in_ok-run_round.ensures.known,
     )
+
+pub loop-done-init : goal.loop-done-init
+loop-done-init g c = (
+  c.requires.stands,
+  c.in_ok-collect_asks.ensures,
+  way_begins g.C.Course.link g.C.Course.cases c.args.most,
+  omega arith,
+  c.requires.workers,
+  c.requires.known,
+)
+
+pub returns : goal.returns
+returns g c =
+    let l = c.loop-done in
+    record {
+      stands = l.invariant.0;
+      whole = way_over g.C.Course.link g.C.Course.cases c.args.most l.done (omega (arith, c.loop-done-test.false)) l.invariant.2;
+    }

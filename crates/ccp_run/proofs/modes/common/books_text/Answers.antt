@@ -3,7 +3,7 @@ use Rattle.std.specs.List.{All}
 use Rattle.flow_core.specs.declared.book.Book.{Book}
 use Rattle.flow_core.specs.LiveText.{live_text}
 use Rattle.campaign_report.specs.BooksRead.{IsBookRead, flows_of}
-use Rattle.scenario_json.specs.ScenePrograms.{forms_of}
+use Rattle.reg_compiler.specs.Sources.{sources_of}
 use Rattle.ccp_run.specs.Campaign.{frames_shown}
 use Rattle.ccp_run.proofs.LiveLemmas.{books_read}
 use Rattle.ccp_run.proofs.modes.common.books_text.Goals as goal
@@ -16,9 +16,9 @@ returns c =
     let same : slice ≡ books = c.as_slice.ensures in
     let read : All (IsBookRead programs) slice = subst (λ (bs : List Book). All (IsBookRead programs) bs) (sym same) (books_read programs books c.requires) in
     let frames : c.in_ok-text.text ≡ frames_shown c.args.wire programs = search rules in
-    let live : c.in_ok-live_text.field-0 ≡ live_text (forms_of programs) (flows_of slice) = c.in_ok-live_text.ensures.live read in
+    let live : c.in_ok-live_text.field-0 ≡ live_text (sources_of programs) (flows_of slice) = c.in_ok-live_text.ensures.live read in
     let whole : c.extend.new.self ≡ c.in_ok-text.text ++ c.in_ok-live_text.field-0 = search rules in
     whole
     ∙ ap (λ text. text ++ c.in_ok-live_text.field-0) frames
     ∙ ap (λ text. frames_shown c.args.wire programs ++ text) live
-    ∙ ap (λ (bs : List Book). frames_shown c.args.wire programs ++ live_text (forms_of programs) (flows_of bs)) same
+    ∙ ap (λ (bs : List Book). frames_shown c.args.wire programs ++ live_text (sources_of programs) (flows_of bs)) same

@@ -5,7 +5,7 @@ use Rattle.campaign_gate.specs.CampaignRow.{case_row}
 use Rattle.campaign_report.specs.TableText.{soak_text}
 use Rattle.scenario_json.specs.Cases.{plan_of, IsCoded}
 use Rattle.scenario_json.specs.Scene.{scene_with}
-use Rattle.scenario_json.specs.ScenePrograms.{forms_of}
+use Rattle.reg_compiler.specs.Sources.{sources_of}
 use Rattle.scenario_json.specs.Soak.{gen}
 use Rattle.ccp_run.specs.Campaign.{source_rows}
 use Rattle.ccp_run.proofs.CampaignLemmas.{rows_over}
@@ -21,7 +21,7 @@ returns g c =
     let text : c.in_ok-text.text ≡ soak_text number c.in_ok-rows.rows = search rules in
     record {
       cases = cases;
-      generated = subst (λ (programs : List (ℕ × Built)). scene_with (forms_of programs) (map plan_of cases) ≡ gen number) (sym made.programs) scene.found;
+      generated = subst (λ (programs : List (ℕ × Built)). scene_with (sources_of programs) (map plan_of cases) ≡ gen number) (sym made.programs) scene.found;
       coded = subst (λ (programs : List (ℕ × Built)). All (IsCoded programs) cases) (sym made.programs) scene.coded;
       flows = scene.flows;
       written = made.text ∙ text ∙ ap (soak_text number) (rows ∙ rows_over c.in_ok-scene.scene.programs scene.numbered c.in_ok-rows.ensures.lifted cases scene.coded)

@@ -4,7 +4,7 @@ use Rattle.flow_core.specs.declared.letter.Letter.{Letter}
 use Rattle.flow_core.specs.LiveText.{live_text}
 use Rattle.ccp_base.specs.Text.{◌⧺◌}
 use Rattle.campaign_report.specs.BooksRead.{flows_of}
-use Rattle.scenario_json.specs.ScenePrograms.{forms_of}
+use Rattle.reg_compiler.specs.Sources.{sources_of}
 use Rattle.ccp_run.specs.Campaign.{frames_shown}
 use Rattle.ccp_run.specs.Live.{books_written}
 use Rattle.ccp_run.specs.Timeline.{planned_by}
@@ -21,11 +21,11 @@ returns-clause-tells g c =
     let scene = c.args.scene in
     let programs = scene.programs in
     let text : c.in_ok-books_text.field-0 ≡ books_written c.args.wire programs c.in_ok-books.books = search rules in
-    let planned : flows_of c.in_ok-books.books ≡ planned_by (forms_of programs) scene.cases =
+    let planned : flows_of c.in_ok-books.books ≡ planned_by (sources_of programs) scene.cases =
     flows_planned programs c.requires.numbered c.in_ok-books.ensures.source scene.cases c.in_ok-books.books c.requires.coded c.in_ok-books.ensures.books in
     record {
       books = planned;
       right = right_of programs c.requires.numbered c.in_ok-books.ensures.source scene.cases c.in_ok-books.books c.requires.coded c.in_ok-books.ensures.books;
-      written = text ∙ ap (λ (flows : List (Case × List Letter)). frames_shown c.args.wire programs ⧺ live_text (forms_of programs) flows) planned;
+      written = text ∙ ap (λ (flows : List (Case × List Letter)). frames_shown c.args.wire programs ⧺ live_text (sources_of programs) flows) planned;
       idle = refl;
     }

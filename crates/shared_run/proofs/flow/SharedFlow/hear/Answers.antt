@@ -1,19 +1,20 @@
-use Rattle.std.proofs.Common.{◌<◌, length, ◌≡◌, max, subst, sym, ap, ◌∙◌}
-use Rattle.flow_core.specs.Readings.{over_codes}
-use Rattle.flow_core.specs.Cores.{CoreState}
-use Rattle.campaign_gate.specs.CampaignRow.{window_of}
-use Rattle.shared_run.specs.RoundLetters.{world_of_core, with_ack}
-use Rattle.shared_run.specs.OnWay.{IsOnWay}
-use Rattle.shared_run.proofs.OnWayLemmas.{on-ack}
+use Rattle.std.proofs.Common.{max, sym, ◌∙◌}
+use Rattle.shared_run.proofs.RoundFlowLemmas.{may-A, roomy-sums, goes-A}
 use Rattle.shared_run.proofs.flow.SharedFlow.hear.Goals as goal
 
-pub invariant_of-self : goal.invariant_of-self
-invariant_of-self c =
-    let core = c.self.inside.core in
-    let heard = with_ack c.args.ack.now core in
-    let more : length core.acks < core.case.acks = subst (λ (s : CoreState). length s.acks < s.case.acks) (sym c.self.view_is) c.requires in
-    let ok : c.hear.new.self ≡ heard = c.in-Ok.ensures.ok in
-    let peak : c.max-self-inside.result ≡ max c.self.inside.peak (window_of (over_codes core.case) (world_of_core over_codes heard)) =
-    c.max-self-inside.ensures ∙ ap (max c.self.inside.peak) (c.cwnd.ensures ∙ ap (λ (s : CoreState). window_of (over_codes s.case) (world_of_core over_codes s)) ok) in
-    subst (λ (s : CoreState). IsOnWay s c.max-self-inside.result) (sym ok)
-    (on-ack core c.self.inside.peak c.self.invariant c.args.ack.now c.max-self-inside.result more peak)
+pub hear-requires : goal.hear-requires
+hear-requires g c = may-A g.F.RoundFlow.at c.args.self.now.flow c.args.self.now.tally c.args.ack.now c.requires
+
+pub with-self-requires : goal.with-self-requires
+with-self-requires g c = roomy-sums g.F.RoundFlow.at c.args.self.now.flow c.args.self.now.tally c.args.ack.now c.requires
+
+pub returns : goal.returns
+returns g c =
+    let flow = g.F.RoundFlow in
+    let old = c.args.self.now in
+    let new = c.raise_peak.new.self in
+    let raised = c.raise_peak.ensures in
+    goes-A flow.at flow.bare_of g.met.F.RoundFlow.bare_law old.flow old.tally new.flow new.tally c.args.ack.now c.requires
+    (λ core whole is. raised.flow ∙ c.hear.ensures core whole is)
+    (raised.sums ∙ c.with-self.ensures)
+    (raised.peak ∙ (λ i. max old.tally.peak (flow.bare_of (sym raised.flow i)).summary.track.env.cwnd))

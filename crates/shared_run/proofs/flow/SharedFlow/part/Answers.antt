@@ -1,27 +1,47 @@
-use Rattle.std.proofs.Common.{◌≡◌, ◌+◌, false, ◌∷◌, [], List, length, arith, sym, ap, ◌∙◌, length-append}
-use Rattle.ccp_base.specs.declared.ack.Ack.{Ack}
+use Rattle.std.proofs.Common.{◌≡◌, ◌∷◌, [], arith, refl}
 use Rattle.flow_core.specs.Readings.{over_codes}
 use Rattle.flow_core.specs.Cores.{CoreState}
-use Rattle.shared_run.specs.RoundLetters.{with_ack, after_settling, round_part}
-use Rattle.shared_run.proofs.TurnLemmas.{settled-acks, settled-case}
+use Rattle.shared_run.specs.RoundLetters.{with_ack, with_settled_ack}
+use Rattle.shared_run.specs.RoundFlows.{IsAfter}
+use Rattle.shared_run.proofs.CourseLemmas.{none-of}
+use Rattle.shared_run.proofs.RoundFlowLemmas.{hears-first, hears-rest, part-on, part-done}
 use Rattle.shared_run.proofs.flow.SharedFlow.part.Goals as goal
 
-pub loop-ack-preserved : goal.loop-ack-preserved
-loop-ack-preserved c =
+pub loop-ack-init : goal.loop-ack-init
+loop-ack-init g c = (c.requires, (λ core after. (core, after, refl)), omega arith)
+
+pub hear-requires : goal.hear-requires
+hear-requires g c =
     let old = c.loop-ack.self in
+    hears-first g.F.RoundFlow.at c.loop-ack.left.now c.in-Some.rest.now c.in-Some.ack.now old.flow old.tally c.in-Some.ensures.cases.0
+    c.loop-ack.invariant.0
+
+pub settle_all-requires : goal.settle_all-requires
+settle_all-requires g c =
+    let old = c.loop-ack.self in
+    let first = hears-first g.F.RoundFlow.at c.loop-ack.left.now c.in-Some.rest.now c.in-Some.ack.now old.flow old.tally c.in-Some.ensures.cases.0 c.loop-ack.invariant.0 in
+    record { core = with_ack c.in-Some.ack.now first.core; after = c.hear.ensures first.core first.after }
+
+pub loop-ack-preserved : goal.loop-ack-preserved
+loop-ack-preserved g c =
+    let at = g.F.RoundFlow.at in
+    let old = c.loop-ack.self in
+    let new = c.settle_all.new.self in
+    let first = c.args.self.now in
     let ack = c.in-Some.ack.now in
     let rest = c.in-Some.rest.now in
-    let left : c.loop-ack.left.now ≡ ack ∷ rest = c.in-Some.ensures.cases.0 in
-    let after : c.settle_all.new.self ≡ after_settling false over_codes (with_ack ack old) =
-    c.in_ok-settle_all.ensures ∙ ap (after_settling false over_codes) c.hear.ensures in
-    let acks : length c.settle_all.new.self.acks ≡ length old.acks + 1 =
-    ap (λ (s : CoreState). length s.acks) after ∙ ap (λ (xs : List Ack). length xs) (settled-acks over_codes false (with_ack ack old))
-    ∙ length-append old.acks (ack ∷ []) in
-    let most : c.settle_all.new.self.case.acks ≡ old.case.acks =
-    ap (λ (s : CoreState). s.case.acks) after ∙ ap (λ case. case.acks) (settled-case over_codes false (with_ack ack old)) in
-    let few = c.loop-ack.invariant.1 in
-    let long = c.in-Some.ensures.cases.1 in (
-      ap (round_part over_codes rest) after ∙ ap (λ (xs : List Ack). round_part over_codes xs old) (sym left) ∙ c.loop-ack.invariant.0,
-      omega (arith, acks, most, few, long),
+    let split : c.loop-ack.left.now ≡ ack ∷ rest = c.in-Some.ensures.cases.0 in
+    let long = c.in-Some.ensures.cases.1 in
+    let goes : (core : CoreState) → IsAfter at core old.flow old.tally → IsAfter at (with_settled_ack over_codes ack core) new.flow new.tally =
+    λ core after. c.in_ok-settle_all.ensures (with_ack ack core) (c.hear.ensures core after) in (
+      hears-rest at c.loop-ack.left.now rest ack old.flow old.tally new.flow new.tally split c.loop-ack.invariant.0 goes,
+      part-on at c.args.acks.now c.loop-ack.left.now rest ack first.flow first.tally old.flow old.tally new.flow new.tally split c.loop-ack.invariant.1 goes,
       omega (arith, long, c.loop-ack.invariant.2),
     )
+
+pub returns-clause-part : goal.returns-clause-part
+returns-clause-part g c =
+    let first = c.args.self.now in
+    let new = c.loop-ack.self in
+    let none : c.loop-ack.left.now ≡ [] = none-of c.loop-ack.left.now c.in_default.ensures.cases in
+    part-done g.F.RoundFlow.at c.args.acks.now c.loop-ack.left.now first.flow first.tally new.flow new.tally none c.loop-ack.invariant.1

@@ -1,20 +1,15 @@
-use Rattle.std.proofs.Common.{◌≡◌, max, subst, sym, ap, ◌∙◌}
+use Rattle.std.proofs.Common.{max, sym, ◌∙◌}
 use Rattle.flow_core.specs.declared.letter.Letter.TheVariants.{C}
-use Rattle.flow_core.specs.Readings.{over_codes}
 use Rattle.flow_core.specs.WordLaws.{acks_in-C}
-use Rattle.flow_core.specs.Cores.{CoreState}
-use Rattle.campaign_gate.specs.CampaignRow.{window_of}
-use Rattle.shared_run.specs.RoundLetters.{world_of_core, with_letter}
-use Rattle.shared_run.specs.OnWay.{IsOnWay}
-use Rattle.shared_run.proofs.OnWayLemmas.{on-letter}
+use Rattle.shared_run.proofs.RoundFlowLemmas.{goes-letter}
 use Rattle.shared_run.proofs.flow.SharedFlow.settle.Goals as goal
 
-pub invariant_of-self : goal.invariant_of-self
-invariant_of-self c =
-    let core = c.self.inside.core in
-    let after = with_letter C core in
-    let ok : c.settle.new.self ≡ after = c.in-Ok.ensures.ok in
-    let peak : c.max-self-inside.result ≡ max c.self.inside.peak (window_of (over_codes core.case) (world_of_core over_codes after)) =
-    c.max-self-inside.ensures ∙ ap (max c.self.inside.peak) (c.cwnd.ensures ∙ ap (λ (s : CoreState). window_of (over_codes s.case) (world_of_core over_codes s)) ok) in
-    subst (λ (s : CoreState). IsOnWay s c.max-self-inside.result) (sym ok)
-    (on-letter core c.self.inside.peak c.self.invariant C c.max-self-inside.result (acks_in-C core.word) peak)
+pub returns : goal.returns
+returns g c =
+    let flow = g.F.RoundFlow in
+    let old = c.args.self.now in
+    let new = c.raise_peak.new.self in
+    let raised = c.raise_peak.ensures in
+    goes-letter flow.at flow.bare_of g.met.F.RoundFlow.bare_law old.flow old.tally C acks_in-C new.flow new.tally
+    (λ core whole is. raised.flow ∙ c.settle.ensures core whole is) raised.sums
+    (raised.peak ∙ (λ i. max old.tally.peak (flow.bare_of (sym raised.flow i)).summary.track.env.cwnd))

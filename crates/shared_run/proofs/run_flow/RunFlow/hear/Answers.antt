@@ -1,35 +1,35 @@
-use Rattle.std.proofs.Common.{◌≡◌, ◌+◌, ◌≤◌, Some, List, ℕ, length, slice_get, sym, ap, ◌∙◌, subst}
+use Rattle.std.proofs.Common.{◌≡◌, ◌+◌, Some, List, ℕ, sym, ap, ◌∙◌, subst}
 use Rattle.ccp_base.specs.declared.ack.Ack.{Ack}
-use Rattle.flow_core.specs.Readings.{over_codes}
-use Rattle.shared_run.specs.RoundLetters.{round_part}
-use Rattle.shared_run.specs.Courses.{flows_after}
-use Rattle.shared_run.proofs.CourseLemmas.{flow_next, flow_fits}
+use Rattle.shared_run.specs.RoundFlows.{kept_in, MayHear}
+use Rattle.shared_run.proofs.KeptLemmas.{may-hear, kept-next}
 use Rattle.shared_run.proofs.run_flow.RunFlow.hear.Goals as goal
 
 pub part-requires : goal.part-requires
 part-requires g c =
+    let at = g.F.RoundFlow.at in
     let run = c.args.self.now in
     let acks = c.args.acks.now in
     let link = g.C.Course.link in
     let cases = g.C.Course.cases in
-    let there : slice_get (flows_after link cases acks.round) acks.number ≡ Some run.flow =
-    sym acks.rests ∙ sym (λ i. slice_get (flows_after link cases (c.requires.since i)) (c.requires.number i)) ∙ run.stands c.requires.whole in
-    subst (λ (list : List Ack). length run.flow.acks + length list ≤ run.flow.case.acks) (sym c.as_slice.ensures)
-    (flow_fits link cases acks.round acks.number acks.acks run.flow acks.are there)
+    let kept : kept_in at link cases acks.since acks.number ≡ Some (run.flow.flow, run.flow.tally) =
+    sym (λ i. kept_in at link cases (c.requires.since i) (c.requires.number i)) ∙ run.stands c.requires.whole in
+    subst (λ (list : List Ack). MayHear at list run.flow.flow run.flow.tally) (sym c.as_slice.ensures)
+    (may-hear at link cases acks.since acks.round acks.number acks.acks run.flow.flow run.flow.tally acks.are acks.rests acks.roomy kept)
 
 pub invariant_of-self : goal.invariant_of-self
 invariant_of-self g c =
+    let at = g.F.RoundFlow.at in
     let run = c.args.self.now in
+    let new = c.part.new.self in
     let acks = c.args.acks.now in
     let link = g.C.Course.link in
     let cases = g.C.Course.cases in
-    let there : slice_get (flows_after link cases acks.round) acks.number ≡ Some run.flow =
-    sym acks.rests ∙ sym (λ i. slice_get (flows_after link cases (c.requires.since i)) (c.requires.number i)) ∙ run.stands c.requires.whole in
-    let is : c.part.new.self ≡ round_part over_codes acks.acks run.flow =
-    c.in-Ok.ensures.part ∙ ap (λ (list : List Ack). round_part over_codes list run.flow) c.as_slice.ensures in
+    let kept : kept_in at link cases acks.since acks.number ≡ Some (run.flow.flow, run.flow.tally) =
+    sym (λ i. kept_in at link cases (c.requires.since i) (c.requires.number i)) ∙ run.stands c.requires.whole in
     record {
       stands =
           (λ well.
-          ap (λ (n : ℕ). slice_get (flows_after link cases (acks.round + 1)) n) c.requires.number
-          ∙ flow_next link cases acks.round acks.number acks.acks run.flow c.part.new.self acks.are there is);
+          ap (λ (n : ℕ). kept_in at link cases (acks.round + 1) n) c.requires.number
+          ∙ kept-next at link cases acks.since acks.round acks.number acks.acks run.flow.flow run.flow.tally acks.are acks.rests kept
+          c.as_slice.result.now new.flow new.tally c.as_slice.ensures c.in-Ok.ensures.part);
     }
