@@ -1,5 +1,5 @@
 //! Each read and each write of a run fails in turn, where a call takes 16 bytes.
-use crate::feeds::{MEASURE, REPORTING, joined};
+use crate::feeds::{MEASURE, REPORTING, join_parts};
 use crate::runs::{FIRST_REPORT, FailingCalls, NONE_FAILS, ONE_CASE, run_on_words};
 use std::alloc::Global;
 use std::process::Abort;
@@ -160,7 +160,7 @@ fn feed_reads_fail<R: Threads + Wait + Sync>(
 
 #[test]
 fn each_read_of_a_feed_fails(rt: HostRuntime) -> Result<(), Fail> {
-    let input = joined(rt.alloc(), &REPORTING)?;
+    let input = join_parts(rt.alloc(), &REPORTING)?;
     feed_reads_fail(&rt, &rt, rt.alloc(), feed_of(input.as_slice()))
 }
 
@@ -182,6 +182,6 @@ fn feed_writes_fail<R: Threads + Wait + Sync>(
 
 #[test]
 fn each_write_of_a_feed_fails(rt: HostRuntime) -> Result<(), Fail> {
-    let input = joined(rt.alloc(), &REPORTING)?;
+    let input = join_parts(rt.alloc(), &REPORTING)?;
     feed_writes_fail(&rt, &rt, rt.alloc(), feed_of(input.as_slice()))
 }

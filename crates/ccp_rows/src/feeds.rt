@@ -112,7 +112,7 @@ fn put_part(input: &mut Bytes, part: &Part) -> Result<(), AllocError> {
 }
 
 /// The input with these parts.
-pub(crate) fn joined(alloc: Global, parts: &[Part]) -> Result<Bytes, AllocError> {
+pub(crate) fn join_parts(alloc: Global, parts: &[Part]) -> Result<Bytes, AllocError> {
     let mut input = Bytes::new(alloc);
     for part in parts {
         put_part(&mut input, part)?;
@@ -128,7 +128,7 @@ fn is_answered<R: Threads + Wait + Sync>(
     most: usize,
 ) -> Result<bool, Fail> {
     let (parts, status, output, errors) = *row;
-    let input = joined(alloc, parts)?;
+    let input = join_parts(alloc, parts)?;
     let calls = FailingCalls { most, ..NONE_FAILS };
     let run = run_on_words(rt, alloc, &["ccp", "feed"], input.as_slice(), calls)?;
     Ok(run.is(status, output, errors) && run.programs == 0 && run.ran == 0)

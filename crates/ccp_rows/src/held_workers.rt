@@ -47,8 +47,8 @@ fn is_one_output<R: Threads + Wait + Sync>(
 fn two_workers_run_cases_at_once(rt: HostRuntime) -> Result<(), Fail> {
     let gate = held_before_a_case();
     assert!(rt; is_one_output(&rt, rt.alloc(), "campaign", &gate)?);
-    assert!(rt; gate.held() == Some(1));
-    assert!(rt; gate.passed(Point::InCase) == 2);
+    assert!(rt; gate.hold_count() == Some(1));
+    assert!(rt; gate.pass_count(Point::InCase) == 2);
     Ok(())
 }
 
@@ -56,8 +56,8 @@ fn two_workers_run_cases_at_once(rt: HostRuntime) -> Result<(), Fail> {
 fn two_workers_do_parts_at_once(rt: HostRuntime) -> Result<(), Fail> {
     let gate = held_before_a_case();
     assert!(rt; is_one_output(&rt, rt.alloc(), "shared", &gate)?);
-    assert!(rt; gate.held() == Some(1));
-    assert!(rt; gate.passed(Point::InCase) > 2);
+    assert!(rt; gate.hold_count() == Some(1));
+    assert!(rt; gate.pass_count(Point::InCase) == 4);
     Ok(())
 }
 
@@ -74,7 +74,7 @@ fn two_workers_do_parts_at_once_in_two_rounds(rt: HostRuntime) -> Result<(), Fai
     };
     let gate = HoldGate::new(first, second);
     assert!(rt; is_one_output(&rt, rt.alloc(), "shared", &gate)?);
-    assert!(rt; gate.held() == Some(2));
+    assert!(rt; gate.hold_count() == Some(2));
     Ok(())
 }
 
@@ -103,7 +103,7 @@ fn two_datapaths_hear_at_once(rt: HostRuntime) -> Result<(), Fail> {
     };
     let gate = HoldGate::new(hold, hold);
     assert!(rt; two_datapaths_write(&rt, rt.alloc(), &gate, TWO_BOOKS)?);
-    assert!(rt; gate.held() == Some(1));
+    assert!(rt; gate.hold_count() == Some(1));
     Ok(())
 }
 
@@ -157,7 +157,7 @@ fn an_agent_settles_between_acknowledgements(rt: HostRuntime) -> Result<(), Fail
     let gate = HoldGate::new(hold, hold);
     let lines: &[u8] = b"ticket 0 report program=3 epoch=0 span=0..1 taken=1 answered=1 ";
     assert!(rt; shows(&rt, rt.alloc(), "live", LOSING, &gate, lines)?);
-    assert!(rt; gate.held() == Some(1));
+    assert!(rt; gate.hold_count() == Some(1));
     Ok(())
 }
 
@@ -176,7 +176,7 @@ fn an_agent_answers_after_the_last_acknowledgement(rt: HostRuntime) -> Result<()
     let lines: &[u8] =
         b"epoch 1 program=3 at=3 cwnd=2896\nticket 0 report program=3 epoch=0 span=0..1 taken=1 answered=3 ";
     assert!(rt; shows(&rt, rt.alloc(), "live", LOSING, &gate, lines)?);
-    assert!(rt; gate.held() == Some(2));
+    assert!(rt; gate.hold_count() == Some(2));
     Ok(())
 }
 
@@ -200,7 +200,7 @@ fn a_program_is_installed_between_acknowledgements(rt: HostRuntime) -> Result<()
     let lines: &[u8] =
         b"epoch 0 step=0 at=1 cwnd=4344\nreport program=0 epoch=0 span=1..2 now=40000 cwnd=4344 rate=0\nend acks=2 reports=1 tail=2..2 stopped=no cwnd=4344 rate=0\n";
     assert!(rt; shows(&rt, rt.alloc(), "rollout", ONE_STEP, &gate, lines)?);
-    assert!(rt; gate.held() == Some(2));
+    assert!(rt; gate.hold_count() == Some(2));
     Ok(())
 }
 
@@ -209,8 +209,8 @@ fn a_program_is_installed_between_acknowledgements(rt: HostRuntime) -> Result<()
 fn two_workers_make_a_timeline(rt: HostRuntime) -> Result<(), Fail> {
     let gate = held_before_a_case();
     assert!(rt; is_one_output(&rt, rt.alloc(), "timeline", &gate)?);
-    assert!(rt; gate.held() == Some(1));
-    assert!(rt; gate.passed(Point::InCase) == 2);
+    assert!(rt; gate.hold_count() == Some(1));
+    assert!(rt; gate.pass_count(Point::InCase) == 2);
     Ok(())
 }
 
@@ -219,8 +219,8 @@ fn two_workers_make_a_timeline(rt: HostRuntime) -> Result<(), Fail> {
 fn two_workers_write_acknowledgements(rt: HostRuntime) -> Result<(), Fail> {
     let gate = held_before_a_case();
     assert!(rt; is_one_output(&rt, rt.alloc(), "acks", &gate)?);
-    assert!(rt; gate.held() == Some(1));
-    assert!(rt; gate.passed(Point::InCase) == 2);
+    assert!(rt; gate.hold_count() == Some(1));
+    assert!(rt; gate.pass_count(Point::InCase) == 2);
     Ok(())
 }
 
@@ -247,8 +247,8 @@ fn a_worker_runs_two_cases(rt: HostRuntime) -> Result<(), Fail> {
     let gate = held_at_the_second_case();
     let words = ["ccp", "campaign", "--workers", "2"];
     assert!(rt; shows_on(&rt, rt.alloc(), &words, THREE_FLOWS, &gate, b"\nc reno 1 ")?);
-    assert!(rt; gate.held() == Some(2));
-    assert!(rt; gate.passed(Point::InCase) == 3);
+    assert!(rt; gate.hold_count() == Some(2));
+    assert!(rt; gate.pass_count(Point::InCase) == 3);
     Ok(())
 }
 
@@ -257,7 +257,7 @@ fn a_worker_does_parts_of_two_flows(rt: HostRuntime) -> Result<(), Fail> {
     let gate = held_at_the_second_case();
     let words = ["ccp", "shared", "--workers", "2"];
     assert!(rt; shows_on(&rt, rt.alloc(), &words, THREE_FLOWS, &gate, b"\nc reno 1 ")?);
-    assert!(rt; gate.held() == Some(2));
+    assert!(rt; gate.hold_count() == Some(2));
     Ok(())
 }
 
@@ -277,7 +277,7 @@ fn a_datapath_serves_two_flows_to_their_ends(rt: HostRuntime) -> Result<(), Fail
     let words = ["ccp", "live", "--datapaths", "2"];
     let lines: &[u8] = b"flow 2 case=c agent=reno\n";
     assert!(rt; shows_on(&rt, rt.alloc(), &words, THREE_FLOWS, &gate, lines)?);
-    assert!(rt; gate.held() == Some(2));
+    assert!(rt; gate.hold_count() == Some(2));
     Ok(())
 }
 
@@ -296,7 +296,7 @@ fn a_fault_is_answered_between_acknowledgements(rt: HostRuntime) -> Result<(), F
     let gate = HoldGate::new(hold, hold);
     let lines: &[u8] = b"epoch 1 program=3 at=1 ";
     assert!(rt; shows(&rt, rt.alloc(), "live", FAULTING, &gate, lines)?);
-    assert!(rt; gate.held() == Some(1));
+    assert!(rt; gate.hold_count() == Some(1));
     Ok(())
 }
 
@@ -329,7 +329,7 @@ fn two_agents_answer_at_once(rt: HostRuntime) -> Result<(), Fail> {
     let words = ["ccp", "live", "--agents", "2"];
     let lines: &[u8] = b"flow 1 case=b agent=reno\n";
     assert!(rt; shows_on(&rt, rt.alloc(), &words, TWO_LOSING, &gate, lines)?);
-    assert!(rt; gate.held() == Some(2));
+    assert!(rt; gate.hold_count() == Some(2));
     Ok(())
 }
 
@@ -348,7 +348,7 @@ fn an_agent_settles_the_flow_that_reported(rt: HostRuntime) -> Result<(), Fail> 
     let gate = HoldGate::new(hold, hold);
     let lines: &[u8] = b"ticket 0 report program=3 epoch=0 span=0..1 taken=1 answered=1 ";
     assert!(rt; shows(&rt, rt.alloc(), "live", SECOND_LOSING, &gate, lines)?);
-    assert!(rt; gate.held() == Some(1));
+    assert!(rt; gate.hold_count() == Some(1));
     Ok(())
 }
 
@@ -367,7 +367,7 @@ fn an_agent_settles_twice_between_acknowledgements(rt: HostRuntime) -> Result<()
     let gate = HoldGate::new(agent, datapath);
     let lines: &[u8] = b"ticket 1 report program=3 epoch=0 span=1..2 taken=2 answered=2 ";
     assert!(rt; shows(&rt, rt.alloc(), "live", LOSING, &gate, lines)?);
-    assert!(rt; gate.held() == Some(2));
+    assert!(rt; gate.hold_count() == Some(2));
     Ok(())
 }
 
@@ -392,6 +392,6 @@ fn installers_go_through_the_steps_of_their_flows(rt: HostRuntime) -> Result<(),
     let words = ["ccp", "rollout", "--datapaths", "2", "--agents", "3"];
     let lines: &[u8] = b"epoch 0 step=0 at=0 cwnd=4344\nepoch 1 step=1 at=0 cwnd=4344\n";
     assert!(rt; shows_on(&rt, rt.alloc(), &words, TWO_STEPS, &gate, lines)?);
-    assert!(rt; gate.held() == Some(2));
+    assert!(rt; gate.hold_count() == Some(2));
     Ok(())
 }

@@ -64,7 +64,7 @@ impl Passed {
     }
 
     /// The count of a point.
-    fn at(&self, point: Point) -> &AtomicU64 {
+    fn count_at(&self, point: Point) -> &AtomicU64 {
         match point {
             Point::BeforeAck => &self.before_ack,
             Point::InAck => &self.in_ack,
@@ -110,7 +110,7 @@ impl HoldGate {
     }
 
     /// How many holds ended in time; None if one did not, or if a worker reached a hold with another number.
-    pub(crate) fn held(&self) -> Option<u64> {
+    pub(crate) fn hold_count(&self) -> Option<u64> {
         if self.failed.load(Ordering::SeqCst) > 0 {
             return None;
         }
@@ -118,12 +118,12 @@ impl HoldGate {
     }
 
     /// How often workers passed this point.
-    pub(crate) fn passed(&self, point: Point) -> u64 {
-        let first = self.first.at(point).load(Ordering::SeqCst);
-        let second = self.second.at(point).load(Ordering::SeqCst);
-        let third = self.third.at(point).load(Ordering::SeqCst);
-        let fourth = self.fourth.at(point).load(Ordering::SeqCst);
-        let others = self.others.at(point).load(Ordering::SeqCst);
+    pub(crate) fn pass_count(&self, point: Point) -> u64 {
+        let first = self.first.count_at(point).load(Ordering::SeqCst);
+        let second = self.second.count_at(point).load(Ordering::SeqCst);
+        let third = self.third.count_at(point).load(Ordering::SeqCst);
+        let fourth = self.fourth.count_at(point).load(Ordering::SeqCst);
+        let others = self.others.count_at(point).load(Ordering::SeqCst);
         first
             .saturating_add(second)
             .saturating_add(third)
@@ -132,7 +132,7 @@ impl HoldGate {
     }
 
     /// The counts of a worker.
-    fn of(&self, worker: u32) -> &Passed {
+    fn passes_of(&self, worker: u32) -> &Passed {
         match worker {
             0 => &self.first,
             1 => &self.second,
@@ -144,7 +144,7 @@ impl HoldGate {
 
     /// Waits until this moment has come.
     fn hold(&self, until: Moment) {
-        let count = self.of(until.worker).at(until.point);
+        let count = self.passes_of(until.worker).count_at(until.point);
         for _ in 0..TURNS {
             if has_come(count, until.time) {
                 self.held.fetch_add(1, Ordering::SeqCst);
@@ -176,7 +176,10 @@ impl HoldGate {
 
 impl Gate for HoldGate {
     fn pass(&self, worker: u32, point: Point, number: u32) {
-        let before = self.of(worker).at(point).fetch_add(1, Ordering::SeqCst);
+        let before = self
+            .passes_of(worker)
+            .count_at(point)
+            .fetch_add(1, Ordering::SeqCst);
         let time = before.saturating_add(1);
         self.compare(self.one.at, worker, point, time, number);
         self.compare(self.one.until, worker, point, time, number);

@@ -4,6 +4,8 @@
 #[cfg(test)]
 mod listings;
 #[cfg(test)]
+mod packing;
+#[cfg(test)]
 mod running;
 #[cfg(test)]
 mod streams;

@@ -1,6 +1,7 @@
 //! Listings of code.
+use crate::packing::pack_all;
 use ccp_base::{NoMemory, Op2, Sequence};
-use reg_code::{Code, Event, Implicit, Instr, Op, Reg, Start, listing, pack_all};
+use reg_code::{Code, Event, Implicit, Instr, Op, Reg, Start, listing};
 use std::alloc::Global;
 use std::test::Fail;
 

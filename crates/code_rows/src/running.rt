@@ -2,10 +2,11 @@
 ghost use Rattle.std.specs.Prelude.{◌≡◌, ◌<◌};
 ghost use Rattle.fold_machine.specs.MachineState.{fresh_machine};
 
+use crate::packing::pack_all;
 use ccp_base::{Ack, FieldReg, Fields};
 use code_verifier::verify;
 use fold_machine::{Acked, BadRegister, Machine, Steps};
-use reg_code::{Checked, Code, Event, Implicit, Instr, Op, Reg, Sequence, pack_all};
+use reg_code::{Checked, Code, Event, Implicit, Instr, Op, Reg, Sequence};
 use slot_pool::Slots;
 use std::alloc::Global;
 use std::marker::Brand;

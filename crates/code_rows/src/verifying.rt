@@ -1,6 +1,7 @@
 //! Code that the verifier refuses, each with the first rule that it fails.
+use crate::packing::pack_all;
 use code_verifier::verify;
-use reg_code::{Code, Event, Implicit, Instr, Op, Op2, Reg, Rule, Sequence, Start, pack_all};
+use reg_code::{Code, Event, Implicit, Instr, Op, Op2, Reg, Rule, Sequence, Start};
 use std::alloc::{AllocError, Global};
 use std::test::Fail;
 

@@ -11,11 +11,19 @@ use std::process::Abort;
 use std::test::Fail;
 use worker_desk::{Event, InstallDesk, run_installer};
 
-/// A text of a flow's step.
+/// A flow's number, and how many events there were when it was given.
+#[derive(Clone, Copy)]
+struct FlowNumber {
+    flow: u32,
+    events: usize,
+}
+
+/// A text of a flow's step, and how many events there were when the flow's number was given.
 #[derive(Drop)]
 struct StepText {
     flow: u32,
     step: u32,
+    events: usize,
 }
 
 /// A desk whose answers come from a list. Texts are built from the number of the flow, and an entry is the number of its
@@ -34,7 +42,7 @@ struct StepDesk<'a, R: Abort> {
 impl<'a, R: Abort> InstallDesk for StepDesk<'a, R> {
     ghost use Rattle.std.specs.Prelude.{Some};
 
-    type Source = u32;
+    type Source = FlowNumber;
 
     type Text = StepText;
 
@@ -46,9 +54,13 @@ impl<'a, R: Abort> InstallDesk for StepDesk<'a, R> {
 
     ghost flows = { λ d. d.flows };
 
-    ghost flow_from = { λ flow. flow };
+    ghost flow_from = { λ source. source.flow };
+
+    ghost given_at = { λ source. Some source.events };
 
     ghost task_of = { λ text. record { flow = text.flow; step = text.step } };
+
+    ghost source_at = { λ text. Some text.events };
 
     ghost step_of = { λ step. step };
 
@@ -56,16 +68,23 @@ impl<'a, R: Abort> InstallDesk for StepDesk<'a, R> {
         self.flows
     }
 
-    fn source(&self, flow: u32) -> u32 {
-        flow
+    fn source(&self, flow: u32) -> FlowNumber {
+        FlowNumber {
+            flow,
+            events: self.events.len(),
+        }
     }
 
-    fn build(source: u32, step: u32) -> StepText {
-        StepText { flow: source, step }
+    fn build(source: FlowNumber, step: u32) -> StepText {
+        StepText {
+            flow: source.flow,
+            step,
+            events: source.events,
+        }
     }
 
     fn take_entry(&mut self, text: StepText) -> Option<u32> {
-        let StepText { flow, step } = text;
+        let StepText { flow, step, .. } = text;
         if next(&mut self.answers) {
             keep(self.rt, &mut self.events, Event::Built(flow, step, true));
             return Some(step);

@@ -1,37 +1,37 @@
-//! Lists with kept room.
+//! Lists with reserved room.
 ghost use Rattle.std.specs.Prelude.{◌<◌, length};
 
-use flow_core::Roomy;
+use flow_core::ReservedList;
 use std::process::Abort;
 use std::test::Fail;
 
 /// Asserts the number of items.
-fn assert_len(rt: &impl Abort, list: &Roomy<u8>, items: usize) {
+fn assert_len(rt: &impl Abort, list: &ReservedList<u8>, items: usize) {
     assert_eq!(rt; list.len(), items);
 }
 
 /// Asserts the items.
-fn assert_items(rt: &impl Abort, list: &Roomy<u8>, items: &[u8]) {
+fn assert_items(rt: &impl Abort, list: &ReservedList<u8>, items: &[u8]) {
     assert_eq!(rt; list.as_slice(), items);
 }
 
 /// The list's last item.
-fn last(list: &Roomy<u8>) -> Option<u8> {
+fn last(list: &ReservedList<u8>) -> Option<u8> {
     list.last().copied()
 }
 
 /// Asserts the last item.
-fn assert_last(rt: &impl Abort, list: &Roomy<u8>, item: u8) {
+fn assert_last(rt: &impl Abort, list: &ReservedList<u8>, item: u8) {
     assert_eq!(rt; last(list), Some(item));
 }
 
 /// Asserts the plain list of the items.
-fn assert_sequence(rt: &impl Abort, list: Roomy<u8>, items: &[u8]) {
+fn assert_sequence(rt: &impl Abort, list: ReservedList<u8>, items: &[u8]) {
     assert_eq!(rt; list.into_sequence().as_slice(), items);
 }
 
 /// Puts two items into a list that has room for one.
-fn put(list: &mut Roomy<u8>) -> Result<(), Fail>
+fn put(list: &mut ReservedList<u8>) -> Result<(), Fail>
     requires { length list.old.items < list.old.room }
 {
     list.push(5);
@@ -41,7 +41,7 @@ fn put(list: &mut Roomy<u8>) -> Result<(), Fail>
 }
 
 /// Puts two items into a list that has room for one, and asserts that it has both.
-fn assert_keeps_both(rt: &impl Abort, mut list: Roomy<u8>) -> Result<(), Fail>
+fn assert_keeps_both(rt: &impl Abort, mut list: ReservedList<u8>) -> Result<(), Fail>
     requires { length list.items < list.room }
 {
     put(&mut list)?;
@@ -53,7 +53,7 @@ fn assert_keeps_both(rt: &impl Abort, mut list: Roomy<u8>) -> Result<(), Fail>
 }
 
 #[test]
-fn items_are_put_into_kept_room(rt: HostRuntime) -> Result<(), Fail> {
-    let list = Roomy::with_room(rt.alloc(), 1)?;
+fn items_are_put_into_reserved_room(rt: HostRuntime) -> Result<(), Fail> {
+    let list = ReservedList::with_room(rt.alloc(), 1)?;
     assert_keeps_both(&rt, list)
 }

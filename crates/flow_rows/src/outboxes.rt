@@ -128,7 +128,7 @@ fn assert_outbox_tells_in_order(rt: &impl Abort, mut pool: Pool, mut outbox: Out
 }
 
 #[test]
-fn a_report_is_told_before_a_notice(rt: HostRuntime) -> Result<(), Fail> {
+fn a_report_comes_before_a_notice(rt: HostRuntime) -> Result<(), Fail> {
     let outbox = Outbox::new(rt.alloc(), 1)?;
     let pool = Pool::new(rt.alloc(), 1, 80)?;
     assert_outbox_tells_in_order(&rt, pool, outbox);
@@ -188,7 +188,7 @@ fn assert_outbox_tells_three(rt: &impl Abort, mut pool: Pool, mut outbox: Outbox
 }
 
 #[test]
-fn the_oldest_of_a_full_outbox_is_told(rt: HostRuntime) -> Result<(), Fail> {
+fn the_oldest_of_a_full_outbox_comes_first(rt: HostRuntime) -> Result<(), Fail> {
     let outbox = Outbox::new(rt.alloc(), 2)?;
     let pool = Pool::new(rt.alloc(), 3, 80)?;
     assert_outbox_tells_three(&rt, pool, outbox);

@@ -17,7 +17,7 @@ pub(crate) const NO_ACK: &[u8] =
 pub(crate) const COUNTING: &[u8] =
     b"{\"version\":1,\"programs\":{\"p\":\"(def (Report (n 0))) (when true (:= Report.n (+ Report.n 1)) (report))\"},\"traces\":{\"t\":\"10\\n\"},\"cases\":[{\"name\":\"a\",\"agent\":\"reno\",\"trace\":\"t\",\"mss\":1448,\"queue\":10,\"delay_us\":20000,\"timeout_us\":1000000,\"acks\":3,\"slots\":1,\"ss\":\"p\",\"ca\":\"p\"}]}";
 
-/// The same, but the count begins anew after each report.
+/// The same, but the count begins again after each report.
 pub(crate) const VOLATILE: &[u8] =
     b"{\"version\":1,\"programs\":{\"p\":\"(def (Report (volatile n 0))) (when true (:= Report.n (+ Report.n 1)) (report))\"},\"traces\":{\"t\":\"10\\n\"},\"cases\":[{\"name\":\"a\",\"agent\":\"reno\",\"trace\":\"t\",\"mss\":1448,\"queue\":10,\"delay_us\":20000,\"timeout_us\":1000000,\"acks\":3,\"slots\":1,\"ss\":\"p\",\"ca\":\"p\"}]}";
 

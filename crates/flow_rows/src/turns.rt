@@ -128,7 +128,7 @@ fn shown_of(report: &Report) -> Shown {
     }
 }
 
-/// What a ticket shows of its report; None if it tells a fault.
+/// What a ticket shows of its report; None if it is about a fault.
 fn shown_by(ticket: &Ticket) -> Option<Shown> {
     match &ticket.told {
         Told::Report(report) => Some(shown_of(report)),

@@ -18,7 +18,7 @@ fn refusal(alloc: Global, bytes: &[u8]) -> Option<DecodeFault> {
     }
 }
 
-/// Whether the front of a frame says what it goes on to.
+/// Whether the refusal of a front of a frame says how many bytes the frame needs.
 fn is_cut(alloc: Global, frame: &[u8], count: usize) -> bool {
     if count > frame.len() {
         return false;
@@ -29,7 +29,7 @@ fn is_cut(alloc: Global, frame: &[u8], count: usize) -> bool {
         && decode_fields(front, &mut Fields::new()) == Err(FrameFault::More(needed))
 }
 
-/// Each proper prefix of a frame says what it goes on to.
+/// The refusal of each proper prefix of a frame says how many bytes the frame needs.
 fn cut_everywhere(rt: &impl Abort, alloc: Global, frame: &[u8]) {
     for count in 0..frame.len() {
         assert!(rt; is_cut(alloc, frame, count), "{count} of {frame:?}");
@@ -43,14 +43,14 @@ const WHOLE: [&[u8]; 9] = [
 ];
 
 #[test]
-fn a_cut_frame_says_what_it_goes_on_to(rt: HostRuntime) {
+fn a_cut_frame_needs_more_bytes(rt: HostRuntime) {
     for frame in &WHOLE {
         cut_everywhere(&rt, rt.alloc(), frame);
     }
 }
 
 #[test]
-fn a_cut_ack_says_what_it_goes_on_to(rt: HostRuntime) -> Result<(), Fail> {
+fn a_cut_ack_needs_more_bytes(rt: HostRuntime) -> Result<(), Fail> {
     let ack = ack_frame(rt.alloc(), 0, 0)?;
     cut_everywhere(&rt, rt.alloc(), ack.as_slice());
     Ok(())

@@ -79,7 +79,7 @@ fn a_change_is_written_and_read(rt: HostRuntime) {
 }
 
 #[test]
-fn a_frame_of_another_kind_is_passed_over(rt: HostRuntime) {
+fn a_frame_of_another_kind_is_ignored(rt: HostRuntime) {
     let mut values = Fields::new();
     assert!(rt; decode_fields(INSTALL_5, &mut values) == Err(FrameFault::Other(3)));
     assert!(rt; values.is_empty());

@@ -70,7 +70,7 @@ fn report(epoch: u32, now: u64, acked: u64, loss: u64, inflight: u64) -> Told {
     })
 }
 
-/// Tells an agent, compares its reply and its frame, and gives the agent after it.
+/// Compares an agent's reply to a report or notice, and its frame, and gives the agent after it.
 fn assert_answer(rt: &impl Abort, before: Agent, told: Told, reply: Reply, frame: &[u8]) -> Agent {
     let ticket = Ticket {
         flow: 3,

@@ -1,6 +1,8 @@
 //! What CUBIC replies to reports and fault notices.
 use crate::long_flow::LONG;
-use crate::steps::{Answer, Event, Fields, NONE, assert_opening, assert_replies, role, told};
+use crate::steps::{
+    Answer, Event, Fields, NONE, assert_opening, assert_replies, role, told_of_event,
+};
 use Reply::{Change, Nothing, Update};
 use agent_core::Agent;
 use ccp_base::Reply;
@@ -264,7 +266,7 @@ fn cubic_answers_a_mark_as_a_loss(rt: HostRuntime) {
 }
 
 #[test]
-fn cubic_is_told_thirty_times(rt: HostRuntime) {
+fn cubic_replies_thirty_times(rt: HostRuntime) {
     assert_replies(
         &rt,
         Agent::Cubic(Cubic::new(1448, role(0), role(2))),
@@ -277,8 +279,8 @@ fn cubic_is_told_thirty_times(rt: HostRuntime) {
 #[test]
 fn cubic_keeps_the_curve_of_a_loss(rt: HostRuntime) {
     let mut agent = Cubic::new(1000, role(0), role(2));
-    let _ = agent.reply(&told(&LOSS[0], 100_000));
+    let _ = agent.reply(&told_of_event(&LOSS[0], 100_000));
     assert!(rt; agent.growth().k == 4217);
-    let _ = agent.reply(&told(&LOSS[1], 70_000));
+    let _ = agent.reply(&told_of_event(&LOSS[1], 70_000));
     assert!(rt; agent.growth().w_est == 70_529);
 }

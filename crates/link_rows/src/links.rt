@@ -22,50 +22,203 @@ struct Numbers {
     mark: Option<u32>,
 }
 
-/// The window of a call, in bytes, and of its acknowledgement the time, the round-trip sample, the packets lost, the
-/// packets marked, the packets in flight, and whether it is a timeout.
-type Call = (u64, u64, u64, u64, u64, u64, bool);
+/// The window of a call, in bytes, and what is compared of its acknowledgement: the time, the round-trip sample, the
+/// packets lost, those marked and those in flight, and whether it is a timeout.
+#[derive(Clone, Copy, PartialEq, Eq)]
+struct Call {
+    window: u64,
+    now: u64,
+    rtt: u64,
+    lost: u64,
+    marked: u64,
+    in_flight: u64,
+    timeout: bool,
+}
+
+/// A call without a window, whose acknowledgement says nothing.
+const NONE: Call = Call {
+    window: 0,
+    now: 0,
+    rtt: 0,
+    lost: 0,
+    marked: 0,
+    in_flight: 0,
+    timeout: false,
+};
 
 /// By the trace of 1, 1 and 3 ms: its chances, which the packets of one call get one after another.
 const CHANCES: [Call; 6] = [
-    (8688, 1000, 1000, 0, 0, 5, false),
-    (1448, 1000, 1000, 0, 0, 4, false),
-    (1448, 3000, 3000, 0, 0, 3, false),
-    (1448, 4000, 4000, 0, 0, 2, false),
-    (1448, 4000, 4000, 0, 0, 1, false),
-    (1448, 6000, 6000, 0, 0, 0, false),
+    Call {
+        window: 8688,
+        now: 1000,
+        rtt: 1000,
+        in_flight: 5,
+        ..NONE
+    },
+    Call {
+        window: 1448,
+        now: 1000,
+        rtt: 1000,
+        in_flight: 4,
+        ..NONE
+    },
+    Call {
+        window: 1448,
+        now: 3000,
+        rtt: 3000,
+        in_flight: 3,
+        ..NONE
+    },
+    Call {
+        window: 1448,
+        now: 4000,
+        rtt: 4000,
+        in_flight: 2,
+        ..NONE
+    },
+    Call {
+        window: 1448,
+        now: 4000,
+        rtt: 4000,
+        in_flight: 1,
+        ..NONE
+    },
+    Call {
+        window: 1448,
+        now: 6000,
+        rtt: 6000,
+        ..NONE
+    },
 ];
 
 /// Packet 0 is listed as lost, and the next one is served.
 const LISTED: [Call; 2] = [
-    (1448, 200_000, 0, 1, 0, 0, true),
-    (1448, 221_000, 21_000, 0, 0, 0, false),
+    Call {
+        window: 1448,
+        now: 200_000,
+        lost: 1,
+        timeout: true,
+        ..NONE
+    },
+    Call {
+        window: 1448,
+        now: 221_000,
+        rtt: 21_000,
+        ..NONE
+    },
 ];
 
 /// Of three packets a queue of one loses two.
 const FULL: [Call; 2] = [
-    (4344, 30_000, 30_000, 0, 0, 2, false),
-    (1448, 1_030_000, 30_000, 2, 0, 0, true),
+    Call {
+        window: 4344,
+        now: 30_000,
+        rtt: 30_000,
+        in_flight: 2,
+        ..NONE
+    },
+    Call {
+        window: 1448,
+        now: 1_030_000,
+        rtt: 30_000,
+        lost: 2,
+        timeout: true,
+        ..NONE
+    },
 ];
 
 /// A packet that comes while another one waits is marked.
 const MARKED: [Call; 2] = [
-    (2896, 21_000, 21_000, 0, 0, 1, false),
-    (2896, 21_000, 21_000, 0, 1, 1, false),
+    Call {
+        window: 2896,
+        now: 21_000,
+        rtt: 21_000,
+        in_flight: 1,
+        ..NONE
+    },
+    Call {
+        window: 2896,
+        now: 21_000,
+        rtt: 21_000,
+        marked: 1,
+        in_flight: 1,
+        ..NONE
+    },
 ];
 
 /// Losses by the queue and by the list, marks and timeouts together.
 const TEN: [Call; 10] = [
-    (1500, 12_000, 12_000, 0, 0, 0, false),
-    (9000, 22_000, 10_000, 0, 0, 5, false),
-    (7500, 24_000, 12_000, 0, 0, 4, false),
-    (3000, 26_000, 14_000, 0, 0, 3, false),
-    (3000, 28_000, 16_000, 0, 1, 2, false),
-    (3000, 128_000, 16_000, 2, 0, 0, true),
-    (1500, 228_000, 16_000, 1, 0, 0, true),
-    (1500, 238_000, 10_000, 0, 0, 0, false),
-    (3000, 248_000, 10_000, 0, 0, 1, false),
-    (3000, 250_000, 12_000, 0, 0, 1, false),
+    Call {
+        window: 1500,
+        now: 12_000,
+        rtt: 12_000,
+        ..NONE
+    },
+    Call {
+        window: 9000,
+        now: 22_000,
+        rtt: 10_000,
+        in_flight: 5,
+        ..NONE
+    },
+    Call {
+        window: 7500,
+        now: 24_000,
+        rtt: 12_000,
+        in_flight: 4,
+        ..NONE
+    },
+    Call {
+        window: 3000,
+        now: 26_000,
+        rtt: 14_000,
+        in_flight: 3,
+        ..NONE
+    },
+    Call {
+        window: 3000,
+        now: 28_000,
+        rtt: 16_000,
+        marked: 1,
+        in_flight: 2,
+        ..NONE
+    },
+    Call {
+        window: 3000,
+        now: 128_000,
+        rtt: 16_000,
+        lost: 2,
+        timeout: true,
+        ..NONE
+    },
+    Call {
+        window: 1500,
+        now: 228_000,
+        rtt: 16_000,
+        lost: 1,
+        timeout: true,
+        ..NONE
+    },
+    Call {
+        window: 1500,
+        now: 238_000,
+        rtt: 10_000,
+        ..NONE
+    },
+    Call {
+        window: 3000,
+        now: 248_000,
+        rtt: 10_000,
+        in_flight: 1,
+        ..NONE
+    },
+    Call {
+        window: 3000,
+        now: 250_000,
+        rtt: 12_000,
+        in_flight: 1,
+        ..NONE
+    },
 ];
 
 /// The acknowledgement of the packet after the one that is listed as lost.
@@ -109,16 +262,16 @@ fn link(alloc: Global, text: &[u8], losses: &[u32], numbers: Numbers) -> Result<
 }
 
 /// What is compared of a call with this window.
-fn shown(window: u64, ack: &Ack) -> Call {
-    (
+fn call_of(window: u64, ack: &Ack) -> Call {
+    Call {
         window,
-        ack.now,
-        ack.rtt_sample_us,
-        ack.lost_pkts_sample,
-        ack.ecn_packets,
-        ack.packets_in_flight,
-        ack.was_timeout,
-    )
+        now: ack.now,
+        rtt: ack.rtt_sample_us,
+        lost: ack.lost_pkts_sample,
+        marked: ack.ecn_packets,
+        in_flight: ack.packets_in_flight,
+        timeout: ack.was_timeout,
+    }
 }
 
 /// Gives a link a window and answers its acknowledgement.
@@ -131,8 +284,8 @@ fn next(rt: &impl Abort, link: &mut Link, window: u64) -> Ack {
 fn assert_answers(rt: &impl Abort, link: Link, calls: &[Call]) {
     let mut link = link;
     for call in calls {
-        let ack = next(rt, &mut link, call.0);
-        assert!(rt; shown(call.0, &ack) == *call);
+        let ack = next(rt, &mut link, call.window);
+        assert!(rt; call_of(call.window, &ack) == *call);
     }
     assert!(rt; (link.calls() as usize) == calls.len());
 }

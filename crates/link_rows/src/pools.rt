@@ -16,7 +16,7 @@ fn a_full_pool_refuses(rt: HostRuntime) -> Result<(), Fail> {
     Ok(())
 }
 
-/// Takes two slots, writes a word of each, reads both back, and takes one of them anew.
+/// Takes two slots, writes a word of each, reads both back, and takes one of them again.
 fn slots_are_apart<P: Slots>(rt: &impl Abort, slots: &mut P) -> Result<(), Full>
     requires { (P.pool slots.old).words ≡ 3 }
 {

@@ -312,7 +312,7 @@ fn reno_answers_a_mark_as_a_loss(rt: HostRuntime) {
 }
 
 #[test]
-fn reno_is_told_thirty_times(rt: HostRuntime) {
+fn reno_replies_thirty_times(rt: HostRuntime) {
     assert_replies(
         &rt,
         Agent::Reno(Reno::new(1448, role(0), role(1))),

@@ -93,8 +93,8 @@ fn notice(epoch: u32, now: u64, cwnd: u64) -> Told {
     })
 }
 
-/// What an event tells at this window.
-pub(crate) fn told(event: &Event, cwnd: u64) -> Told {
+/// The report or notice of an event at this window.
+pub(crate) fn told_of_event(event: &Event, cwnd: u64) -> Told {
     match &event.fields {
         Some(fields) => report(event.epoch, event.now, cwnd, fields),
         None => notice(event.epoch, event.now, cwnd),
@@ -111,7 +111,7 @@ pub(crate) fn assert_opening(rt: &impl Abort, agent: &Agent, cwnd: u64) {
     assert!(rt; agent.begin() == opening);
 }
 
-/// Tells an agent event by event, and compares its replies.
+/// Gives an agent each event, and compares its replies.
 pub(crate) fn assert_replies<const N: usize>(
     rt: &impl Abort,
     agent: Agent,
@@ -122,7 +122,7 @@ pub(crate) fn assert_replies<const N: usize>(
     for place in 0..N {
         let Answer { cwnd, reply } = answers[place];
         assert!(rt;
-            agent.reply(&told(&events[place], cwnd)) == reply,
+            agent.reply(&told_of_event(&events[place], cwnd)) == reply,
             "at {place}"
         );
     }

@@ -32,7 +32,7 @@ fn next_instead(cell: &mut OpenCell, entry: Entry) -> Option<u32> {
 }
 
 /// The flow of a text's first case, without a letter.
-fn opened(alloc: Global, text: &[u8]) -> Result<OpenCell, Fail> {
+fn first_open_cell(alloc: Global, text: &[u8]) -> Result<OpenCell, Fail> {
     let cases = rollout_scene(alloc, text)?;
     let cell = cell(alloc, &cases);
     drop(cases);
@@ -49,7 +49,7 @@ fn refuses(rt: &impl Abort, alloc: Global, cell: &mut OpenCell) -> Result<(), Fa
 
 #[test]
 fn a_late_entry_is_refused(rt: HostRuntime) -> Result<(), Fail> {
-    let mut cell = opened(rt.alloc(), REFUSED)?;
+    let mut cell = first_open_cell(rt.alloc(), REFUSED)?;
     let refused = refuses(&rt, rt.alloc(), &mut cell);
     drop(cell);
     refused

@@ -1,17 +1,12 @@
 //! Tables of flows.
-ghost use Rattle.std.specs.Prelude.{◌≡◌, ◌<◌};
-
 use ccp_base::Sequence;
 use flow_core::Cell;
 use flow_table::FlowTable;
-use fold_machine::Steps;
 use scenario_json::SceneMode;
 use scenario_json::calls::scenario;
 use std::alloc::Global;
-use std::marker::Brand;
 use std::process::Abort;
-use std::sync::ledger::{Blank, Ledger};
-use std::sync::{Mutex, Wait};
+use std::sync::Wait;
 use std::test::Fail;
 
 /// Two flows of Reno's with four acknowledgements, over a trace with one chance each 10 ms.
@@ -24,35 +19,25 @@ fn table(alloc: Global, text: &[u8]) -> Result<FlowTable<Cell>, Fail> {
     Ok(FlowTable::new(alloc, scene.cases)?)
 }
 
-/// Takes an acknowledgement of a flow under its lock.
-fn run_ack<L: Ledger>(rt: &impl Wait, cell: &Mutex<Cell>, blank: Blank) -> bool
-    requires name { blank.name ≡ L.name }
-    requires parts { blank.parts ≡ L.parts }
-    requires some { 0 < blank.parts }
-{
-    let mut steps = Steps::<L>::new(blank);
-    let mut cell = cell.lock(rt);
-    let acked = cell.ack(&mut steps);
-    drop(cell);
-    acked.is_ok()
-}
-
 /// The flow of a cell and how many of its acknowledgements are in.
-fn shown(cells: &Sequence<Cell>, place: usize) -> Option<(u32, u32)> {
+fn flow_and_acks(cells: &Sequence<Cell>, place: usize) -> Option<(u32, u32)> {
     let cell = cells.as_slice().get(place)?;
     Some((cell.case().flow, cell.acks()))
 }
 
-/// Takes an acknowledgement of this flow.
+/// Takes an acknowledgement of this flow under its lock.
 fn acknowledge<R: Abort + Wait>(rt: &R, table: &FlowTable<Cell>, flow: u32) {
     let flows = table.flows();
     assert!(rt; flow < flows);
-    assert!(rt; run_ack::<Brand>(rt, table.cell(flow), Blank::new(1)));
+    let mut held = table.lock(rt, flow);
+    let acked = held.cell.hear();
+    drop(held);
+    assert!(rt; acked.is_ok());
 }
 
 /// At this place stands the flow of its number, with this many acknowledgements.
 fn has_acks(rt: &impl Abort, cells: &Sequence<Cell>, place: u32, acks: u32) {
-    assert!(rt; shown(cells, place as usize) == Some((place, acks)));
+    assert!(rt; flow_and_acks(cells, place as usize) == Some((place, acks)));
 }
 
 /// There are two flows, as they were left.

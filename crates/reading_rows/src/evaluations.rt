@@ -15,7 +15,7 @@ const COUNTING: &[u8] =
     b"(def (Report (volatile acked 0))) (when true (:= Report.acked (+ Report.acked Ack.bytes_acked)) (fallthrough)) (when (> Report.acked 2999) (report))";
 
 /// The environment that a program starts in.
-fn started(
+fn start_env(
     alloc: Global,
     program: &Program,
     values: &Fields,
@@ -29,7 +29,7 @@ fn started(
 }
 
 /// What a program answers an acknowledgement, and the environment after it.
-fn meant(
+fn run_ack(
     alloc: Global,
     program: &Program,
     env: &Env,
@@ -48,7 +48,7 @@ fn assert_met(rt: &impl Abort, mean: &Mean, after: &Env, want: &Mean, field: u64
 }
 
 /// The environment after an acknowledgement of 1,500 bytes. Asserts its answer and the first field.
-fn assert_goes_on(
+fn assert_continues(
     rt: &impl Abort,
     alloc: Global,
     program: &Program,
@@ -62,7 +62,7 @@ fn assert_goes_on(
 {
     let mut ack = Ack::default();
     ack.bytes_acked = 1500;
-    let (mean, after) = meant(alloc, program, env, &ack, room)?;
+    let (mean, after) = run_ack(alloc, program, env, &ack, room)?;
     assert_met(rt, &mean, &after, want, field);
     Ok(after)
 }
@@ -72,17 +72,18 @@ fn assert_unwritten(rt: &impl Abort, env: &Env) {
     assert!(rt; env.cwnd == 0 && env.rate == 0 && env.zero == 0);
 }
 
-/// The second of two acknowledgements is reported, or held if there is no room, and the third one is counted anew.
+/// The second of two acknowledgements is reported, or held if there is no room, and the count begins again with the
+/// third one.
 fn assert_counts(rt: &impl Abort, alloc: Global, program: &Program, start: &Env) -> Result<(), Fail>
     requires { IsEnvOf (form_of program.now) start.now }
 {
-    let once = assert_goes_on(rt, alloc, program, start, true, &Mean::Quiet, 1500)?;
-    let kept = assert_goes_on(rt, alloc, program, &once, false, &Mean::Held, 3000)?;
+    let once = assert_continues(rt, alloc, program, start, true, &Mean::Quiet, 1500)?;
+    let kept = assert_continues(rt, alloc, program, &once, false, &Mean::Held, 3000)?;
     drop(kept);
     let report = Mean::Reported(Values::from_slice(&[3000]));
-    let twice = assert_goes_on(rt, alloc, program, &once, true, &report, 0)?;
+    let twice = assert_continues(rt, alloc, program, &once, true, &report, 0)?;
     drop(once);
-    let thrice = assert_goes_on(rt, alloc, program, &twice, true, &Mean::Quiet, 1500)?;
+    let thrice = assert_continues(rt, alloc, program, &twice, true, &Mean::Quiet, 1500)?;
     drop(twice);
     assert_unwritten(rt, &thrice);
     drop(thrice);
@@ -92,7 +93,7 @@ fn assert_counts(rt: &impl Abort, alloc: Global, program: &Program, start: &Env)
 #[test]
 fn two_acknowledgements_make_a_report(rt: HostRuntime) -> Result<(), Fail> {
     let program = program(rt.alloc(), COUNTING)?;
-    let start = started(rt.alloc(), &program, &Fields::new(), 0, 0, 0)?;
+    let start = start_env(rt.alloc(), &program, &Fields::new(), 0, 0, 0)?;
     assert_counts(&rt, rt.alloc(), &program, &start)
 }
 
@@ -113,16 +114,16 @@ fn values_are_written_at_the_start(rt: HostRuntime) -> Result<(), Fail> {
     let two_names = program(alloc, text)?;
     let mut values = Fields::new();
     values.push(FieldReg::Control(0), 6);
-    let start = started(alloc, &two_names, &values, 10, 20, 30)?;
+    let start = start_env(alloc, &two_names, &values, 10, 20, 30)?;
     assert!(rt; start.fields.as_slice() == [5].as_slice());
     assert!(rt; start.controls.as_slice() == [6].as_slice());
 
     let no_names = program(alloc, b"(def)")?;
-    let refused = started(alloc, &no_names, &values, 10, 20, 30).err();
+    let refused = start_env(alloc, &no_names, &values, 10, 20, 30).err();
     assert!(rt; refused == Some(StartFault::BadRegister(0)));
 
     values.push(FieldReg::Control(1), 6);
-    let refused = started(alloc, &two_names, &values, 10, 20, 30).err();
+    let refused = start_env(alloc, &two_names, &values, 10, 20, 30).err();
     assert!(rt; refused == Some(StartFault::BadRegister(1)));
     Ok(())
 }
@@ -141,8 +142,8 @@ fn a_fault_has_its_place_and_leaves_all(rt: HostRuntime) -> Result<(), Fail> {
     let alloc = rt.alloc();
     let text = b"(def) (when true (:= Rate 1) (:= Cwnd (- 0 1)))";
     let program = program(alloc, text)?;
-    let start = started(alloc, &program, &Fields::new(), 10, 20, 30)?;
-    let (mean, after) = meant(alloc, &program, &start, &Ack::default(), true)?;
+    let start = start_env(alloc, &program, &Fields::new(), 10, 20, 30)?;
+    let (mean, after) = run_ack(alloc, &program, &start, &Ack::default(), true)?;
     assert!(rt; mean == FAULT && after.cwnd == 10 && after.rate == 20);
     Ok(())
 }

@@ -5,7 +5,7 @@ use portus_parser::parse;
 use std::alloc::Global;
 use std::test::Fail;
 
-fn at(line: u32, column: u32) -> Place {
+fn place(line: u32, column: u32) -> Place {
     Place { line, column }
 }
 
@@ -17,9 +17,9 @@ fn are_the_parts(parts: &[Tree]) -> bool {
             Tree::Num(number, value),
             Tree::List(inner, _),
         ] => {
-            let is_word = *head == at(2, 3) && name.as_slice() == b"when".as_slice();
-            let is_number = *number == at(2, 8) && *value == 7;
-            is_word && is_number && *inner == at(2, 12)
+            let is_word = *head == place(2, 3) && name.as_slice() == b"when".as_slice();
+            let is_number = *number == place(2, 8) && *value == 7;
+            is_word && is_number && *inner == place(2, 12)
         }
         _ => false,
     }
@@ -28,7 +28,7 @@ fn are_the_parts(parts: &[Tree]) -> bool {
 fn are_the_forms(forms: &[Tree]) -> bool {
     match forms {
         [Tree::List(first, _), Tree::List(second, parts)] => {
-            *first == at(1, 1) && *second == at(2, 2) && are_the_parts(parts.as_slice())
+            *first == place(1, 1) && *second == place(2, 2) && are_the_parts(parts.as_slice())
         }
         _ => false,
     }

@@ -40,7 +40,7 @@ fn first_programs(alloc: Global, text: &[u8]) -> Result<String, Fail> {
 }
 
 /// The programs of a case with these members, in a text that names `z` first.
-fn numbered(alloc: Global, more: &str) -> Result<String, Fail> {
+fn numbered_programs(alloc: Global, more: &str) -> Result<String, Fail> {
     let case = case(alloc, more)?;
     let text = format!(in alloc;
         "{{\"version\":1,\"programs\":{{\"z\":\"(def)\",\"b\":\"(def)\"}},\"traces\":{{\"t\":\"10\"}},\"cases\":[{}]}}",
@@ -61,7 +61,7 @@ const NUMBERED: [(&str, &str); 5] = [
 #[test]
 fn programs_are_numbered_in_byte_order_of_names(rt: HostRuntime) -> Result<(), Fail> {
     for (more, want) in &NUMBERED {
-        let programs = numbered(rt.alloc(), more)?;
+        let programs = numbered_programs(rt.alloc(), more)?;
         assert!(rt; programs.as_str() == *want, "{more}");
     }
     Ok(())
