@@ -33,8 +33,6 @@ PROGRAM = os.path.join(TOP, "crates", "ccp", "out", "ccp")
 CHECKED = os.path.join(TOP, "crates", "ccp", "out", "checked", "ccp")
 COMPILER = os.path.join(TOP, "tools", "launcher", "checked-program")
 
-COLUMNS = "case agent acks reports held faults epochs lost timeouts acked peak cwnd now tail".split()
-SUMS = "acks reports held faults lost timeouts acked".split()
 LINK = "rounds sent acked lost inflight".split()
 
 
@@ -50,6 +48,23 @@ PRIMITIVES = [word.partition(".")[2] for word in PRIMITIVE_WORDS]
 
 # the agents, each with the number of its built-in program of congestion avoidance
 AGENTS = {name: int(number) for name, number in re.findall(r'name = codes "(\w+)"; avoidance = (\d+)', definition("Kinds.antt", "agent_core"))}
+
+# the built-in programs in the order of their numbers, as the files of examples/ name them
+BUILT_INS = re.findall(r"(\w+)_text\b", re.search(r"^builtins = (.*)$", definition("Builtins.antt", "portus_build"), re.MULTILINE).group(1))
+
+
+def columns_of_rows():
+    """The columns of numbers in a table, in order, each with whether the total has its sum."""
+    text = definition("CampaignRow.antt", "campaign_gate")
+    names = dict(re.findall(r'^heading_of (\w+) = codes "(\w+)"', text, re.MULTILINE))
+    left_out = re.findall(r"^is_summed (\w+) = false", text, re.MULTILINE)
+    order = re.search(r"^columns =\s+(.*?) ∷ \[\]", text, re.MULTILINE | re.DOTALL).group(1)
+    return {names[column]: column not in left_out for column in re.findall(r"\w+", order)}
+
+
+IS_SUMMED = columns_of_rows()
+COLUMNS = ["case", "agent", *IS_SUMMED]
+SUMS = [name for name, is_summed in IS_SUMMED.items() if is_summed]
 
 # what a mode may read, as README's table of modes says it: its kind, and the most cases of a scenario. A kind of scenario
 # has the name of its definition in examples/scenario.schema.json.

@@ -3,12 +3,11 @@
 tools/audit shows with it the line in which a text differs. The verdict itself is the program's."""
 import os
 
-from ccp import AGENTS
-from explaining.links import Cubic, Link, Reno, Trace
+from ccp import AGENTS, BUILT_INS
+from explaining.links import AGENT_NAMED, Link, Trace
 from explaining.meanings import Fault, Meaning
 
 EXAMPLES = os.path.join(os.path.dirname(os.path.dirname(os.path.dirname(os.path.abspath(__file__)))), "examples")
-BUILT_IN = ("reno_ss", "reno_ca", "cubic_ca")
 READ = ("acked", "loss", "timeout", "rtt", "inflight", "ecn")
 
 
@@ -22,14 +21,14 @@ class Programs:
     def __init__(self, scenario):
         self.names = sorted(scenario.get("programs", {}), key=str.encode)
         self.texts = []
-        for name in BUILT_IN:
+        for name in BUILT_INS:
             with open(os.path.join(EXAMPLES, name + ".portus"), encoding="utf-8") as file:
                 self.texts.append(file.read())
         self.texts += [scenario["programs"][name] for name in self.names]
         self.known = {}
 
     def number(self, name):
-        return 3 + self.names.index(name)
+        return len(BUILT_INS) + self.names.index(name)
 
     def __getitem__(self, number):
         if number not in self.known:
@@ -75,7 +74,7 @@ class Flow:
     def __init__(self, number, case, traces, programs, link=None):
         self.number, self.case, self.programs = number, case, programs
         self.link = link or Link(Trace(traces[case["trace"]]), case)
-        self.agent = {"reno": Reno, "cubic": Cubic}[case["agent"]](case["mss"])
+        self.agent = AGENT_NAMED[case["agent"]](case["mss"])
         self.roles = {"ss": programs.number(case["ss"]) if "ss" in case else 0,
                       "ca": programs.number(case["ca"]) if "ca" in case else AGENTS[case["agent"]]}
         self.acks = self.first = self.held = self.made = self.last = 0

@@ -1,4 +1,4 @@
-"""A link over a trace, and the agents Reno and CUBIC, as the pages docs/link.md and docs/agents.md have them.
+"""A link over a trace, and the agents, as the pages docs/link.md and docs/agents.md have them.
 
 tools/audit works a flow out with it to show the line in which a text differs. The verdict itself is the program's."""
 
@@ -214,3 +214,7 @@ class Cubic:
             self.w += min(target - self.w, (target - self.w) * part // self.w)
         self.w = min(max(self.w, 1000), 4096000)
         return "update", self.bytes()
+
+
+# the agents, by the names that cases give them
+AGENT_NAMED = {"reno": Reno, "cubic": Cubic}

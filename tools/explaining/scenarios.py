@@ -3,7 +3,7 @@ import json
 import os
 import re
 
-from ccp import AGENTS, LIMITS, MODES, SPLIT
+from ccp import AGENTS, BUILT_INS, LIMITS, MODES, SPLIT
 from explaining import json_places, programs
 from explaining.shown import Finding, Text, cut, did_you_mean, nearest, pointed
 
@@ -279,7 +279,7 @@ def hints_of_reference(scenario, name, value):
     if value.kind != "text":
         return ["It is the name of a member of `%s`; here is %s." % (of, value.kind_name())]
     names = list(scenario.table(of))
-    if value.is_ in ("reno.ss", "reno.ca", "cubic.ca"):
+    if value.is_ in [built_in.replace("_", ".") for built_in in BUILT_INS]:
         return ["The built-in programs can't be named: leave `%s` out to have one." % name]
     if programs.looks_like_path(value.is_) and "/" in value.is_:
         return ["This is a path. Put the file's text into `%s` under a name, and name it here." % of]

@@ -46,7 +46,7 @@ page_of_help() {
 ccp [OPTION].. MODE [FILE]..
 
 Compares congestion-control programs over recorded link traces: compiles them, verifies them, and runs them over virtual
-links with Reno and CUBIC as agents. Input comes from FILE, or from standard input if there is none.
+links with agents such as Reno and CUBIC. Input comes from FILE, or from standard input if there is none.
 
 Modes:
 END_OF_PAGE

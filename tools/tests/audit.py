@@ -8,6 +8,7 @@ import tempfile
 from harness import PROGRAM, TOOLS, TOP, ccp, expect, tool
 
 sys.path.insert(0, TOOLS)
+from ccp import AGENTS
 from explaining import flows
 
 CASE = {"name": "a", "agent": "reno", "trace": "t", "mss": 1448, "queue": 10, "delay_us": 20000, "timeout_us": 1000000, "acks": 24}
@@ -100,11 +101,12 @@ def test_audit_has_no_verdict():
 
 
 def test_audit_works_flows_out_as_the_program():
-    """The campaign word's flows of tools/explaining are rows of `campaign`, and live texts to the judge."""
+    """The campaign word's flows of tools/explaining are rows of `campaign`, and live texts to the judge, with each agent."""
     for name in ("campaign.json", "live.json"):
         with open(os.path.join(TOP, "examples", name), encoding="utf-8") as file:
             scenario = json.load(file)
-        scenario["cases"] = [{**case, "acks": min(case["acks"], 400)} for case in scenario["cases"][:12]]
+        cases = [{**case, "acks": min(case["acks"], 400)} for case in scenario["cases"][:12]]
+        scenario["cases"] = cases + [{**case, "agent": agent} for case in cases if "losses" in case for agent in AGENTS if agent != case["agent"]]
         text = json.dumps(scenario)
         rows = ccp(["campaign"], text)[0].split("\n")[1:]
         known, lines = flows.Programs(scenario), []

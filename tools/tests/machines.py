@@ -16,7 +16,7 @@ NAME = "campaign-over-machines"
 
 def scenario_file(room, *words):
     path = os.path.join(room, "scenario.json")
-    text, errors, status = tool("scenario", *words)
+    text, errors, status = tool("scenario", "--agents", "reno,cubic", *words)
     expect(status == 0, errors)
     with open(path, "w", encoding="utf-8") as file:
         file.write(text)

@@ -210,7 +210,7 @@ def test_texts_of_other_runs_are_refused():
 
 
 def test_a_campaign():
-    text, errors, status = tool("scenario", "--losses", "rate:0.01", "--seeds", "1..4", "--seconds", 3, *TRACES)
+    text, errors, status = tool("scenario", "--agents", "reno,cubic", "--losses", "rate:0.01", "--seeds", "1..4", "--seconds", 3, *TRACES)
     scenario = json.loads(text)
     table, errors, status = ccp(["campaign"], text)
     expect(status == 0, errors)
@@ -224,7 +224,7 @@ def test_timelines_and_acknowledgements():
     """All three texts of the program are of one run, and the acknowledgements give the table's figures."""
     needs_mode("timeline")
     needs_mode("acks")
-    text, errors, status = tool("scenario", "--for", "acks", "--losses", "none,rate:0.01", "--mark", "none,20", "--seconds", 2, *TRACES)
+    text, errors, status = tool("scenario", "--agents", "reno,cubic", "--for", "acks", "--losses", "none,rate:0.01", "--mark", "none,20", "--seconds", 2, *TRACES)
     scenario = json.loads(text)
     texts = {name: ccp([mode], text)[0] for name, mode in (("table", "campaign"), ("timeline", "timeline"), ("acks", "acks"))}
     found = figures(scenario, **texts)["cases"]

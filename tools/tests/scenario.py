@@ -6,6 +6,9 @@ import tempfile
 
 from harness import TOP, TRACES, ccp, content, expect, needs_mode, tool
 
+# without it the senders are all agents that there are
+TWO_AGENTS = ("--agents", "reno,cubic")
+
 
 def made(*words):
     text, errors, status = tool("scenario", *words)
@@ -121,7 +124,7 @@ def test_seconds():
 def test_directions_of_one_recording_stay_apart():
     with tempfile.TemporaryDirectory() as room:
         paths = [trace_file(room, name, [1, 2]) for name in ("Verizon-LTE-driving.down", "Verizon-LTE-driving.up", "TMobile-LTE-short.down", "a b.trace")]
-        scenario = made("--queue", "10,20", "--delay-ms", "5,10", "--losses", "rate:0.1", "--seeds", "9..11", *paths)
+        scenario = made(*TWO_AGENTS, "--queue", "10,20", "--delay-ms", "5,10", "--losses", "rate:0.1", "--seeds", "9..11", *paths)
         expect(list(scenario["traces"]) == ["Verizon-LTE-driving.down", "Verizon-LTE-driving.up", "TMobile-LTE-short.down", "a-b"], str(list(scenario["traces"])))
         names = names_of(scenario)
         expect(len(set(names)) == 96 and max(map(len, names)) == 32, "names: %s" % names)
@@ -165,10 +168,10 @@ def test_no_trace_is_cut_unless_asked_for():
 
 def test_the_size():
     """--dry-run prints the size in place of the scenario, and refuses what the scenario would be refused for."""
-    printed, errors, status = tool("scenario", "--dry-run", "--queue", "10,20", "--acks", 100, *TRACES[:2])
-    size = len(tool("scenario", "--queue", "10,20", "--acks", 100, *TRACES[:2])[0])
+    printed, errors, status = tool("scenario", *TWO_AGENTS, "--dry-run", "--queue", "10,20", "--acks", 100, *TRACES[:2])
+    size = len(tool("scenario", *TWO_AGENTS, "--queue", "10,20", "--acks", 100, *TRACES[:2])[0])
     expect(status == 0 and not errors and printed.startswith("cases=8 of at most 1024\nbytes=%d of at most 1048576\nacknowledgements=800\ntrace fixed chances=100 seconds=0.1 bytes=" % size), printed)
-    printed, errors, status = tool("scenario", "--dry-run", "--for", "timeline", "--queue", "1:40:1", TRACES[0])
+    printed, errors, status = tool("scenario", *TWO_AGENTS, "--dry-run", "--for", "timeline", "--queue", "1:40:1", TRACES[0])
     expect(status == 1 and printed.startswith("cases=80 of at most 64\n") and "80 cases" in errors, errors)
 
 
@@ -179,12 +182,12 @@ def test_limits():
                   ["--seeds", "1..3"], ["--seeds", "1..3", "--losses", "none,rate:0.1:7"]):
         refused(2, "", *words, TRACES[0])
     refused(1, "no --program", "--agents", "reno:mine", TRACES[0])
-    refused(1, "80 cases", "--for", "live", "--queue", "1:40:1", TRACES[0])
+    refused(1, "80 cases", *TWO_AGENTS, "--for", "live", "--queue", "1:40:1", TRACES[0])
     refused(1, "tools/campaign-over-machines --timeline", "--for", "timeline", "--queue", "1:40:1", TRACES[0])
-    refused(1, "320000 acknowledgements", "--for", "acks", "--queue", "1:8:1", "--acks", 20000, TRACES[0])
-    refused(1, "1200 cases", "--queue", "1:600:1", TRACES[0])
-    expect(len(made("--whole", "--queue", "1:600:1", TRACES[0])["cases"]) == 1200, "--whole")
-    expect(len(made("--for", "timeline", "--whole", "--queue", "1:40:1", TRACES[0])["cases"]) == 80, "--whole of a timeline")
+    refused(1, "320000 acknowledgements", *TWO_AGENTS, "--for", "acks", "--queue", "1:8:1", "--acks", 20000, TRACES[0])
+    refused(1, "1200 cases", *TWO_AGENTS, "--queue", "1:600:1", TRACES[0])
+    expect(len(made(*TWO_AGENTS, "--whole", "--queue", "1:600:1", TRACES[0])["cases"]) == 1200, "--whole")
+    expect(len(made(*TWO_AGENTS, "--for", "timeline", "--whole", "--queue", "1:40:1", TRACES[0])["cases"]) == 80, "--whole of a timeline")
 
 
 def test_standard_input():
@@ -224,6 +227,6 @@ def test_a_shared_link():
 
 def test_a_timeline():
     needs_mode("timeline")
-    scenario = made("--for", "timeline", "--losses", "rate:0.01", "--seeds", "1..4", "--acks", 500, *TRACES)
+    scenario = made(*TWO_AGENTS, "--for", "timeline", "--losses", "rate:0.01", "--seeds", "1..4", "--acks", 500, *TRACES)
     printed, errors, status = ccp(["timeline"], json.dumps(scenario))
     expect(status == 0 and printed.count("\nend ") == 24, errors)
