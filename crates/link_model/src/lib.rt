@@ -8,6 +8,7 @@ mod link;
 mod link_case;
 mod past;
 mod queue;
+mod rates;
 mod rules;
 mod trace;
 mod trace_text;
