@@ -300,6 +300,7 @@ impl BareParts {
         }
     }
 
+    // A function of its own: few replies call it, and it has a list of values in its frame.
     /// Writes the window of an update, in bytes.
     #[inline(never)]
     fn set_window(&mut self, cwnd: u64)
@@ -308,10 +309,15 @@ impl BareParts {
     {
         let mut values = Fields::new();
         values.push(FieldReg::Cwnd, cwnd);
-        self.update(&values);
+        let code = self.case.code(self.epoch.program);
+        let Ok(()) = self.machine.update(code, &values) else {
+            unreachable!()
+        };
     }
 
-    /// Starts the program with this number, with the values of the reply that is a change to it.
+    // A function of its own: few replies call it, and it has a list of values in its frame.
+    /// Starts the program with this number, and with it an epoch, with the values of the reply that is a change to it.
+    /// An untold notice is void then.
     #[inline(never)]
     fn start_program(&mut self, program: u32, reply: &Reply)
         requires good { first_bad_pair (length (code_at self.old.case program).controls)
@@ -320,30 +326,8 @@ impl BareParts {
         ensures { ChangesBare self.old self.new program (values_of self.old.agent reply.now) }
     {
         let values = self.agent.values(reply);
-        self.change(program, &values);
-    }
-
-    /// Writes an update's values.
-    fn update(&mut self, values: &Fields)
-        requires fits { Fits self.old.machine (code_at self.old.case self.old.epoch.program) }
-        requires good { first_bad_pair (length (code_at self.old.case self.old.epoch.program).controls) values.now
-            ≡ None }
-        ensures { UpdatesBare self.old self.new values.now }
-    {
-        let code = self.case.code(self.epoch.program);
-        let Ok(()) = self.machine.update(code, values) else {
-            unreachable!()
-        };
-    }
-
-    /// Starts the program with this number, and with it an epoch. An untold notice is void then.
-    fn change(&mut self, program: u32, values: &Fields)
-        requires good { first_bad_pair (length (code_at self.old.case program).controls) values.now ≡ None }
-        requires epoch { self.old.epoch.number < most_acks }
-        ensures { ChangesBare self.old self.new program values.now }
-    {
         let code = self.case.code(program);
-        let Ok(()) = self.machine.start(code, values, self.time) else {
+        let Ok(()) = self.machine.start(code, &values, self.time) else {
             unreachable!()
         };
         self.epoch = self.epoch.next(program, self.acks);
@@ -594,9 +578,8 @@ impl Bare {
     #[inline(always)]
     pub fn ack<L: Ledger>(&mut self, ack: &Ack, steps: &mut Steps<L>) -> Acked
         requires { may_make (over_codes self.old.case) self.old.summary Letter.A ≡ true }
-        ensures step { self.new ≡ record self.old {
-          summary = step_ack (over_codes self.old.case) ack.entry.now self.old.summary;
-        } }
+        ensures step { self.new
+            ≡ record self.old { summary = step_ack (over_codes self.old.case) ack.entry.now self.old.summary } }
         ensures acked { result ≡ acked_as (outcome_at (over_codes self.old.case) ack.entry.now self.old.summary).0 }
         ensures steps { steps.new ≡ steps.old + instructions_at self.old.case ack.entry.now self.old.summary }
     {
@@ -607,9 +590,8 @@ impl Bare {
     #[inline(always)]
     pub fn hear(&mut self, ack: &Ack) -> Acked
         requires { may_make (over_codes self.old.case) self.old.summary Letter.A ≡ true }
-        ensures step { self.new ≡ record self.old {
-          summary = step_ack (over_codes self.old.case) ack.entry.now self.old.summary;
-        } }
+        ensures step { self.new
+            ≡ record self.old { summary = step_ack (over_codes self.old.case) ack.entry.now self.old.summary } }
         ensures acked { result ≡ acked_as (outcome_at (over_codes self.old.case) ack.entry.now self.old.summary).0 }
     {
         self.hear_in_ledger::<Brand>(ack, Blank::new(1))
@@ -621,9 +603,8 @@ impl Bare {
     fn hear_in_ledger<L: Ledger>(&mut self, ack: &Ack, blank: Blank) -> Acked
         requires ledger { (blank.name ≡ L.name) × (blank.parts ≡ L.parts) × (0 < blank.parts) }
         requires may { may_make (over_codes self.old.case) self.old.summary Letter.A ≡ true }
-        ensures step { self.new ≡ record self.old {
-          summary = step_ack (over_codes self.old.case) ack.entry.now self.old.summary;
-        } }
+        ensures step { self.new
+            ≡ record self.old { summary = step_ack (over_codes self.old.case) ack.entry.now self.old.summary } }
         ensures acked { result ≡ acked_as (outcome_at (over_codes self.old.case) ack.entry.now self.old.summary).0 }
     {
         let mut steps = Steps::<L>::new(blank);
