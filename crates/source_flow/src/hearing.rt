@@ -15,6 +15,7 @@ use ccp_base::{Ack, FaultKind, NoMemory, Place, Values};
 use portus_core::{Mean, Program};
 use std::alloc::Global;
 
+// A function of its own: the proof of `run` cites its clause, in place of a case for each outcome.
 /// Whether the outcome of an acknowledgement stops its epoch.
 fn stops_epoch(mean: &Mean) -> bool
     ensures { result ≡ stops (outcome_of mean.now) }
@@ -26,7 +27,7 @@ fn stops_epoch(mean: &Mean) -> bool
 }
 
 impl Present {
-    /// The outcome of an acknowledgement by the epoch's program, None exactly where the epoch was stopped. The env
+    /// The outcome of an acknowledgement by the epoch's program; None if and only if the epoch was stopped. The env
     /// becomes the one after it.
     fn run(
         &mut self,
@@ -66,6 +67,7 @@ impl State {
         Ok(())
     }
 
+    // A function of its own: in a match on an Option of an enum with a model, the prover covers one level.
     /// Records the outcome of an acknowledgement.
     fn record_outcome(&mut self, flow: u32, ack: &Ack, mean: &Option<Mean>) -> Result<(), NoMemory>
         requires { CanRecord self.old }
@@ -96,7 +98,8 @@ impl State {
     /// Records a report with these fields.
     fn record_report(&mut self, flow: u32, ack: &Ack, fields: &Values) -> Result<(), NoMemory>
         requires { CanRecord self.old }
-        ensures { OnOk result (RecordsOutcome flow self.old self.new ack.entry.now (outcome_of (Mean.Reported fields.now))) }
+        ensures { OnOk result
+            (RecordsOutcome flow self.old self.new ack.entry.now (outcome_of (Mean.Reported fields.now))) }
     {
         let cwnd = self.present.env.cwnd;
         let rate = self.present.env.rate;
@@ -106,7 +109,7 @@ impl State {
         Ok(())
     }
 
-    /// Records a fault of this kind at this place, and leaves its notice undelivered. A place has no index.
+    /// Records a fault of this kind at this place, and leaves its notice untold. A place has no index.
     fn record_fault(
         &mut self,
         flow: u32,
@@ -115,7 +118,8 @@ impl State {
         place: Place,
     ) -> Result<(), NoMemory>
         requires { CanRecord self.old }
-        ensures { OnOk result (RecordsOutcome flow self.old self.new ack.entry.now (outcome_of (Mean.Fault kind place))) }
+        ensures { OnOk result
+            (RecordsOutcome flow self.old self.new ack.entry.now (outcome_of (Mean.Fault kind place))) }
     {
         let epoch = self.present.epoch;
         let cwnd = self.present.env.cwnd;
