@@ -1,6 +1,6 @@
 //! An acknowledgement: its program's source gives its outcome, which is recorded.
 ghost use Rattle.std.specs.Prelude.{◌≡◌, ◌<◌, OnOk, IfOk};
-ghost use Rattle.portus_core.specs.Epoch.{stops, outcome_of};
+ghost use Rattle.portus_core.specs.Epoch.{outcome_of};
 ghost use Rattle.portus_core.specs.OneAcknowledgement.{IsEnvOf};
 ghost use Rattle.portus_core.specs.ProgramForm.{form_of};
 ghost use Rattle.flow_core.specs.declared.letter.Letter.TheVariants.{A};
@@ -14,17 +14,6 @@ use crate::state::{Present, State};
 use ccp_base::{Ack, FaultKind, NoMemory, Place, Values};
 use portus_core::{Mean, Program};
 use std::alloc::Global;
-
-// A function of its own: the proof of `run` cites its clause, in place of a case for each outcome.
-/// Whether the outcome of an acknowledgement stops its epoch.
-fn stops_epoch(mean: &Mean) -> bool
-    ensures { result ≡ stops (outcome_of mean.now) }
-{
-    match mean {
-        Mean::Fault(_, _) => true,
-        Mean::Quiet | Mean::Reported(_) | Mean::Held => false,
-    }
-}
 
 impl Present {
     /// The outcome of an acknowledgement by the epoch's program; None if and only if the epoch was stopped. The env
@@ -44,7 +33,7 @@ impl Present {
         }
         let (mean, env) = program.mean(alloc, &self.env, ack, room)?;
         self.env = env;
-        self.is_stopped = stops_epoch(&mean);
+        self.is_stopped = matches!(mean, Mean::Fault(_, _));
         Ok(Some(mean))
     }
 }
@@ -67,31 +56,19 @@ impl State {
         Ok(())
     }
 
-    // A function of its own: in a match on an Option of an enum with a model, the prover covers one level.
     /// Records the outcome of an acknowledgement.
     fn record_outcome(&mut self, flow: u32, ack: &Ack, mean: &Option<Mean>) -> Result<(), NoMemory>
         requires { CanRecord self.old }
         ensures { OnOk result (RecordsOutcome flow self.old self.new ack.entry.now (outcome_met mean.now)) }
     {
         match mean {
-            None => Ok(()),
-            Some(mean) => self.record_mean(flow, ack, mean),
-        }
-    }
-
-    /// Records the outcome of an acknowledgement that was run.
-    fn record_mean(&mut self, flow: u32, ack: &Ack, mean: &Mean) -> Result<(), NoMemory>
-        requires { CanRecord self.old }
-        ensures { OnOk result (RecordsOutcome flow self.old self.new ack.entry.now (outcome_of mean.now)) }
-    {
-        match mean {
-            Mean::Quiet => Ok(()),
-            Mean::Reported(fields) => self.record_report(flow, ack, fields),
-            Mean::Held => {
+            None | Some(Mean::Quiet) => Ok(()),
+            Some(Mean::Reported(fields)) => self.record_report(flow, ack, fields),
+            Some(Mean::Held) => {
                 self.held += 1;
                 Ok(())
             }
-            Mean::Fault(kind, place) => self.record_fault(flow, ack, *kind, *place),
+            Some(Mean::Fault(kind, place)) => self.record_fault(flow, ack, *kind, *place),
         }
     }
 
