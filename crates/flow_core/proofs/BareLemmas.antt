@@ -3,6 +3,7 @@ use Rattle.std.specs.Prelude.{◌≡◌, ◌↔◌, IsTrue, ℕ, ◌+◌, ◌<�
 use Rattle.std.proofs.Common.{ap, sym, ◌∙◌, subst, arith, length-append, append-nil}
 use Rattle.std.proofs.Math.Seq.{take-append_seam}
 use Rattle.std.proofs.lemmas.List.{take-append-drop}
+use Rattle.ccp_base.specs.Limits.{most_fields}
 use Rattle.ccp_base.specs.declared.exchange.Notice.{Notice}
 use Rattle.ccp_base.specs.declared.exchange.Report.{Report}
 use Rattle.ccp_base.specs.declared.exchange.Told.{Told}
@@ -41,7 +42,7 @@ narrow-small n small = omega (arith, small)
 -- words that begin with a report's
 read-again : (report : Report) (rest : List ℕ) → ReportFits report → report_in (report_words report ++ rest) ≡ report
 read-again report rest range =
-    let few : min (length report.fields) 64 ≡ length report.fields = omega (arith, range.fields) in
+    let few : min (length report.fields) most_fields ≡ length report.fields = omega (arith, range.fields) in
     λ i. record {
       flow = narrow-small report.flow (omega (arith, range.flow)) i;
       program = narrow-small report.program (omega (arith, range.program)) i;
@@ -121,7 +122,7 @@ range-take case s none some range = range-told case s.waiting s.untold s refl re
 plus-none : (n : ℕ) → n + 0 ≡ n
 plus-none n = omega arith
 
--- a report waits or a notice is untold exactly where not both are missing
+-- a report waits or a notice is untold if and only if not both are missing
 pub can-tell : (pool : PoolState) (slots : List ℕ) (untold : Option Notice) (empty : Bool)
     → (IsTrue empty ↔ ((slots ≡ []) × (untold ≡ None))) → not empty ≡ is_some (next_telling (reports_in pool slots) untold)
 can-tell pool slots untold true same =

@@ -1,5 +1,5 @@
 -- A core with the acknowledgements of its link is the state over that link.
-use Rattle.std.specs.Prelude.{Some, Result, Ok, Err, OnOk, OnErr, IfOk, ◌≡◌, ℕ, ◌+◌, ◌<◌, Bool, true, false, ◌&&◌, [], ◌∷◌, ◌++◌, length, refl}
+use Rattle.std.specs.Prelude.{Some, Result, Ok, Err, OnOk, OnErr, IfOk, ◌≡◌, ℕ, ◌+◌, ◌<◌, [], ◌∷◌, ◌++◌, length}
 use Rattle.std.proofs.Common.{ap, sym, ◌∙◌, subst, arith, length-append}
 use Rattle.ccp_base.specs.declared.ack.Ack.{Ack}
 use Rattle.link_model.specs.Link.{ack_after, acks_for_windows}
@@ -109,9 +109,3 @@ pub ticket-at : {E : Type 0} (new : CoreState) (link : LinkState) → IsCell new
     → IfOk result (λ ticket. out_in new ≡ Some ticket) → IfOk result (λ ticket. out_at (cell_of new) ≡ Some ticket)
 ticket-at new link cell (Ok ticket) out = sym (ap (out_ticket (flow_in new)) (same new link cell)) ∙ out
 ticket-at new link cell (Err e) out = tt
-
-pub and-right : (one other : Bool) → (one && other) ≡ true → other ≡ true
-and-right true true both = refl
-and-right true false both = both
-and-right false true both = refl
-and-right false false both = both

@@ -1,5 +1,5 @@
 -- One more letter at the word's end: what holds of a flow and its journal holds of both after it.
-use Rattle.std.specs.Prelude.{◌≡◌, ℕ, ◌+◌, ◌<◌, ◌≤◌, Bool, true, ◌&&◌, nat_le, is_some, is_none, Option, Some, None, option_map, unwrap_or, List, [], ◌∷◌, length, refl}
+use Rattle.std.specs.Prelude.{◌≡◌, ℕ, ◌+◌, ◌<◌, ◌≤◌, true, ◌&&◌, nat_le, is_some, is_none, Option, Some, None, option_map, unwrap_or, List, [], ◌∷◌, length, refl}
 use Rattle.std.proofs.Common.{ap, sym, ◌∙◌, subst, arith, length-append}
 use Rattle.std.proofs.lemmas.Bool.{lt-ltb, true≢false}
 use Rattle.std.proofs.lemmas.List.{length-map}
@@ -28,6 +28,7 @@ use Rattle.flow_core.specs.States.{issued_as, some_count}
 use Rattle.flow_core.specs.Summaries.{Summary, summary, outcome_at, step_ack, next_telling, with_told, step_take, can_tell, step_reply, step_turn, step_out, step_answer, may_make}
 use Rattle.flow_core.specs.Bares.{BareState, told_ticket, InRange}
 use Rattle.flow_core.specs.Journals.{with_item, with_some, journal_ack, journal_take, journal_answer, new_notice, journal_line, taken_at, line_after, HasSpareRoom, HaveLineRoom, HasLines, Records, world_by, letter_count, IsCore}
+use Rattle.flow_core.proofs.BothLemmas.{and-right, none-left}
 use Rattle.flow_core.proofs.WordLemmas.{world_over-A, legal_over-A}
 use Rattle.flow_core.proofs.SummaryLemmas.{summary-ack, summary-take, summary-answer, summary-legal}
 use Rattle.flow_core.proofs.JournalLemmas.{records-ack, records-take, records-answer}
@@ -69,19 +70,10 @@ module _ {X : Type 0} where
   room-some None list = refl
   room-some (Some item) list = refl
 
--- whatever is out has its room where there is room
+-- whatever is out has its room if there is room
 lines-any : (out : Option Issued) (j : Journal) → HaveLineRoom j.tickets j.epochs → HasLines out j.tickets j.epochs
 lines-any None j room = tt
 lines-any (Some issued) j room = room
-
--- what can be taken and what is out
-none-out : {A : Type 0} (out : Option A) (can : Bool) → (is_none out && can) ≡ true → out ≡ None
-none-out None can both = refl
-none-out (Some a) can both = absurd (true≢false (sym both))
-
-can-out : {A : Type 0} (out : Option A) (can : Bool) → (is_none out && can) ≡ true → can ≡ true
-can-out None can both = both
-can-out (Some a) can both = absurd (true≢false (sym both))
 
 -- ---- the ticket that is out
 
@@ -144,8 +136,8 @@ module _ (bare : BareState) (j : Journal) (core : IsCore bare j) where
 
     pub room-T : may_make flow s T ≡ true → HasSpareRoom j.word
     room-T may =
-        let none = ap some_count (none-out s.out (can_tell s) may) in
-        omega (arith, core.letters, none, range.tickets, range.acks, told-some s.waiting s.untold (can-out s.out (can_tell s) may), core.rooms.word)
+        let none = ap some_count (none-left s.out (can_tell s) may) in
+        omega (arith, core.letters, none, range.tickets, range.acks, told-some s.waiting s.untold (and-right (is_none s.out) (can_tell s) may), core.rooms.word)
 
     pub room-C : (ticket : Ticket) → told_ticket bare.case s ≡ Some ticket → HasSpareRoom j.word × HaveLineRoom j.tickets j.epochs
     room-C ticket is = by s.out refl core.lines where
@@ -224,7 +216,7 @@ module _ (bare : BareState) (j : Journal) (core : IsCore bare j) where
           legal_over-append flow j.acks.items j.word.items T (ap (λ (n : ℕ). nat_le n (length j.acks.items)) (acks_in-T j.word.items)) ∙ (λ i. core.legal i && can i);
       all = acks_in-T j.word.items ∙ core.all;
       letters =
-          let more = count-told s.waiting s.untold s (none-out s.out (can_tell s) may) (can-out s.out (can_tell s) may) in
+          let more = count-told s.waiting s.untold s (none-left s.out (can_tell s) may) (and-right (is_none s.out) (can_tell s) may) in
           length-append j.word.items (T ∷ []) ∙ ap (λ (n : ℕ). n + 1) core.letters ∙ sym more;
       rooms = record { faults = core.rooms.faults; acks = core.rooms.acks; word = core.rooms.word };
       lines = lines-any (step_take s).out j room;

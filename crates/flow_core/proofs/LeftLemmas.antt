@@ -21,6 +21,7 @@ use Rattle.flow_core.specs.World.{Failure, Taken, World, reporter, track_of, has
 use Rattle.flow_core.specs.Words.{from_link, after_letter, can_take, is_legal}
 use Rattle.flow_core.specs.States.{some_count}
 use Rattle.flow_core.specs.LettersLeft.{letters_left}
+use Rattle.flow_core.proofs.BothLemmas.{and-right, none-left}
 
 some_count-most : {Y : Type 0} (option : Option Y) → some_count option ≤ 1
 some_count-most None = omega arith
@@ -74,16 +75,10 @@ module _ {X : Type 0} (flow : Flow X) where
   left-applied (Some ticket) w is_out some =
       left-turn ticket (replied w.agent (told_as flow ticket.told)) w (ap some_count is_out)
 
-  none-out : (out : Option (Taken X)) (can : Bool) → (is_none out && can) ≡ true → some_count out ≡ 0
-  none-out None can both = refl
-  none-out (Some ticket) can both = absurd (let wrong : false ≡ true = both in (cc))
-
-  can-out : (out : Option (Taken X)) (can : Bool) → (is_none out && can) ≡ true → can ≡ true
-  can-out None can both = both
-  can-out (Some ticket) can both = absurd (let wrong : false ≡ true = both in (cc))
-
   pub left-take : (w : World X) → (is_none w.out && can_take w) ≡ true → letters_left flow (after_take w) < letters_left flow w
-  left-take w may = left-taking w.waiting w.untold w refl refl (can-out w.out (can_take w) may) (none-out w.out (can_take w) may)
+  left-take w may =
+      left-taking w.waiting w.untold w refl refl (and-right (is_none w.out) (can_take w) may)
+      (ap some_count (none-left w.out (can_take w) may))
 
   pub left-answer : (w : World X) → is_some w.out ≡ true → letters_left flow (after_answer flow w) < letters_left flow w
   left-answer w some = left-applied w.out w refl some

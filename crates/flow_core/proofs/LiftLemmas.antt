@@ -63,7 +63,7 @@ module _ (case : Case) (ss ca : Form) (ss_places ca_places : List Place)
   simulates_at : (number : ℕ) → Simulates (form_at number) (code_at case number) (places_at number)
   simulates_at number = simulates_where (number == case.ss.role.number)
 
-  -- the present epoch stands where it does over the source
+  -- the present epoch stands as it does over the source
   track-lifts : (era : Era) → Shaped era → track_in codes era ≡ track_in sources era
   track-lifts era shape =
       after-simulated (form_at era.program) (code_at case era.program) (places_at era.program) (simulates_at era.program)
@@ -262,7 +262,7 @@ module _ (case : Case) (ss ca : Form) (ss_places ca_places : List Place)
       subst (λ (v : World Place). Shaped v.present) (worlds-lift by_codes giving (λ w shape. refl) word)
       (Shaped-from by_codes word (opening codes) Shaped-opening)
 
-  -- where a state is one over the sources after a word, whoever gives the acknowledgements, the present epochs stand alike
+  -- if a state is one over the sources after a word, whoever gives the acknowledgements, the present epochs stand alike
   pub track-placed : (w : World ℕ) (giving : Giving Place) (word : List Letter)
       → map_world (place_in case ss_places ca_places) w ≡ world_from (over_sources case ss ca) giving (opening (over_sources case ss ca)) word
       → track_of (over_codes case) w ≡ track_of (over_sources case ss ca) (world_from (over_sources case ss ca) giving (opening (over_sources case ss ca)) word)

@@ -68,7 +68,7 @@ module _ {X : Type 0} (flow : Flow X) where
       let window = (track_of flow w).env.cwnd in
       (λ i. linked i ++ same i ∷ []) ∙ sym (acks_of-push link w.windows window)
 
-  -- the next one of a list is the link's, where the windows go on with the present `Cwnd`
+  -- the next one of a list is the link's, if the windows go on with the present `Cwnd`
   next-linked : (link : LinkCase) (acks : List Ack) (w : World X) (windows : List ℕ) → Linked link w
       → GoesOn (w.windows ++ (track_of flow w).env.cwnd ∷ []) windows → acks ≡ acks_for_windows link windows
       → slice_get acks (length w.acks) ≡ Some (ack_after link w.windows (track_of flow w).env.cwnd)

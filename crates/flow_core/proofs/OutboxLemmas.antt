@@ -68,7 +68,7 @@ module _ (old new : PoolState) (slot : ℕ) (stored : Option (List ℕ)) (slots 
   pub owned-pushed_report : (report : Report) → words_at old slot ≡ None → ChangesSlot old new slot stored → Stores new slot report → AreOwned old slots → AreOwned new (slots ++ slot ∷ [])
   owned-pushed_report report free c last owned = owned-pushed free c (Stores-out new slot report last) owned
 
--- where there is room for one more, the ring keeps all its items
+-- if there is room for one more, the ring keeps all its items
 pub kept_whole : (outbox : OutboxState) (items : List ℕ) (size slot : ℕ) (ring : Buffer ℕ) → items ≡ outbox.slots → size ≡ outbox.size → length outbox.slots < outbox.size → ring ≡ buffer (keep_last size (items ++ slot ∷ [])) size → ring.items ≡ outbox.slots ++ slot ∷ []
 kept_whole outbox items size slot ring same sized room pushed =
     let slots = outbox.slots in

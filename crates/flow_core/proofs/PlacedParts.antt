@@ -1,4 +1,4 @@
--- What a step of a flow makes of its state, where each fault's instruction becomes its place.
+-- What a step of a flow makes of its state, with each fault's place for its instruction.
 use Rattle.std.specs.Prelude.{◌≡◌, ℕ, is_some, Option, Some, None, option_map, List, [], ◌∷◌, map, refl}
 use Rattle.ccp_base.specs.declared.ack.Ack.{Ack}
 use Rattle.ccp_base.specs.declared.arithmetic.FaultKind.{FaultKind}

@@ -3,7 +3,7 @@ use Rattle.std.proofs.Common.{◌≡◌, ℕ, ◌+◌, ◌≤◌, List, [], ◌�
 use Rattle.std.proofs.Math.Seq.{set-append_seam, take-append_seam}
 use Rattle.std.proofs.lemmas.List.{append-nil, length-replicate}
 use Rattle.ccp_base.specs.declared.exchange.Report.{Report}
-use Rattle.flow_core.specs.Outbox.{head_words, report_words, ReportFits}
+use Rattle.flow_core.specs.Outbox.{head_word_count, most_report_words, head_words, report_words, ReportFits}
 use Rattle.flow_core.specs.ReportWords.{written_over}
 
 -- one word is written at the place after a front
@@ -23,20 +23,23 @@ written_after (word ∷ words) front (x ∷ rest) at e fits =
     ∙ ap (λ xs. Some (xs ++ drop (length words) rest)) (append_assoc front (word ∷ []) words)
 
 -- a slot of zeros over which the head of a report and then its fields are written
-pub written_report : (size : ℕ) (report : Report) (head fields : List ℕ) (fresh headed written : Option (List ℕ)) → 80 ≤ size → ReportFits report → head ≡ head_words report → fields ≡ report.fields → fresh ≡ Some (replicate size 0) → headed ≡ written_over fresh 0 head → written ≡ written_over headed 9 fields → option_map (take (length (report_words report))) written ≡ Some (report_words report)
+pub written_report : (size : ℕ) (report : Report) (head fields : List ℕ) (fresh headed written : Option (List ℕ))
+    → most_report_words ≤ size → ReportFits report → head ≡ head_words report → fields ≡ report.fields
+    → fresh ≡ Some (replicate size 0) → headed ≡ written_over fresh 0 head → written ≡ written_over headed head_word_count fields
+    → option_map (take (length (report_words report))) written ≡ Some (report_words report)
 written_report size report head fields fresh headed written large range head_is fields_is zeros first second =
     let zeros_all : List ℕ = replicate size 0 in
-    let rest = drop 9 zeros_all in
+    let rest = drop head_word_count zeros_all in
     let with_head : headed ≡ Some (head_words report ++ rest) =
     first
     ∙ ap (written_over fresh 0) head_is
     ∙ ap (λ o. written_over o 0 (head_words report)) zeros
     ∙ written_after (head_words report) [] zeros_all 0 refl (omega (arith, length-replicate {A = ℕ} size 0)) in
-    let room : length report.fields ≤ length rest = omega (arith, range.fields, length-drop 9 zeros_all, length-replicate {A = ℕ} size 0) in
+    let room : length report.fields ≤ length rest = omega (arith, range.fields, length-drop head_word_count zeros_all, length-replicate {A = ℕ} size 0) in
     let with_fields : written ≡ Some (report_words report ++ drop (length report.fields) rest) =
     second
-    ∙ ap (written_over headed 9) fields_is
-    ∙ ap (λ o. written_over o 9 report.fields) with_head
-    ∙ written_after report.fields (head_words report) rest 9 refl room in
+    ∙ ap (written_over headed head_word_count) fields_is
+    ∙ ap (λ o. written_over o head_word_count report.fields) with_head
+    ∙ written_after report.fields (head_words report) rest head_word_count refl room in
     ap (option_map (take (length (report_words report)))) with_fields
     ∙ ap Some (take-append_seam (report_words report) (drop (length report.fields) rest))

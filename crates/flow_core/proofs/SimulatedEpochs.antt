@@ -1,4 +1,4 @@
--- Over code that simulates a program, an epoch stands where it stands over the program.
+-- Over code that simulates a program, an epoch stands as it does over the program.
 use Rattle.std.specs.Prelude.{◌≡◌, ℕ, Bool, true, false, Option, Some, None, option_map, unwrap_or, List, [], ◌∷◌, map, slice_get, refl}
 use Rattle.std.proofs.Common.{ap, sym, ◌∙◌}
 use Rattle.std.proofs.lemmas.Option.{none-some}
@@ -70,7 +70,7 @@ pub heard-simulated : (form : Form) (code : Code) (places : List Place) → Simu
 heard-simulated form code places simulates true env ack room shape = refl
 heard-simulated form code places simulates false env ack room shape = met-simulated form code places simulates env ack room shape
 
--- where an epoch stands after an acknowledgement doesn't depend on a fault's site
+-- how an epoch stands after an acknowledgement doesn't depend on a fault's site
 after_outcome-placed : (place : ℕ → Place) (outcome : Outcome (FaultKind × ℕ)) (env : Env) (track : Track)
     → after_outcome (met_placed place (outcome, env)) track ≡ after_outcome (outcome, env) track
 after_outcome-placed place quiet env track = refl

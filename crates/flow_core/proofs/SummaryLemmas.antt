@@ -23,7 +23,7 @@ use Rattle.flow_core.specs.Summaries.{summary, notice_after, step_ack, next_tell
 use Rattle.flow_core.proofs.MappedLemmas.{some-mapped, none-mapped}
 
 -- the time of the last one of a list
-time-append : (acks : List Ack) (ack : Ack) → time_of (acks ++ ack ∷ []) ≡ ack.now
+pub time-append : (acks : List Ack) (ack : Ack) → time_of (acks ++ ack ∷ []) ≡ ack.now
 time-append [] ack = refl
 time-append (first ∷ []) ack = refl
 time-append (first ∷ next ∷ rest) ack = time-append (next ∷ rest) ack

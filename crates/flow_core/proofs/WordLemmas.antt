@@ -1,4 +1,4 @@
--- Which acknowledgements a word takes, and where two sources of them lead to the same state.
+-- Which acknowledgements a word takes, and when two sources of them lead to the same state.
 use Rattle.std.specs.Prelude.{◌≡◌, ◌≤◌, Bool, true, ◌&&◌, nat_le, Option, Some, None, List, [], ◌∷◌, ◌++◌, length, slice_get, refl}
 use Rattle.std.proofs.Common.{ap, sym, ◌∙◌, subst, arith, append_assoc, append-nil, length-append}
 use Rattle.std.proofs.lemmas.Bool.{le-leb}

@@ -1,5 +1,6 @@
 -- What the code keeps of a flow without its history, and the summary that it stands for.
-use Rattle.std.specs.Prelude.{◌≡◌, nat_lt, ℕ, ◌+◌, ◌<◌, ◌≤◌, ◌++◌, Option, Some, None, option_map, unwrap_or, List, [], ◌∷◌, length}
+use Rattle.std.specs.Prelude.{◌≡◌, nat_lt, ℕ, ◌+◌, ◌<◌, ◌≤◌, ◌++◌, Option, Some, None, option_map, unwrap_or}
+use Rattle.std.specs.Prelude.{List, [], ◌∷◌, length}
 use Rattle.ccp_base.specs.declared.exchange.Report.{Report}
 use Rattle.ccp_base.specs.Limits.{most_acks}
 use Rattle.ccp_base.specs.declared.ack.Ack.{Ack}
@@ -41,7 +42,12 @@ abbrev pub summary_by : BareParts → Summary
 summary_by s = record {
   program = s.epoch.program;
   epoch = s.epoch.number;
-  track = record { env = env_of s.machine.kept; is_stopped = s.machine.is_stopped; first = s.epoch.first; count = s.acks };
+  track = record {
+    env = env_of s.machine.kept;
+    is_stopped = s.machine.is_stopped;
+    first = s.epoch.first;
+    count = s.acks;
+  };
   acks = s.acks;
   time = s.time;
   waiting = reports_in s.machine.further s.outbox.slots;
@@ -61,7 +67,9 @@ pub record BareState : Type 0 where
 -- the ticket that is out, or none
 abbrev pub told_ticket : Case → Summary → Option Ticket
 told_ticket case s =
-    option_map (λ (issued : Issued). record { flow = case.flow; number = s.answered; before = s.agent; told = issued.told }) s.out
+    option_map
+    (λ (issued : Issued). record { flow = case.flow; number = s.answered; before = s.agent; told = issued.told })
+    s.out
 
 -- the agent has the case's roles, and the counts are in range
 pub record InRange (case : Case) (s : Summary) : Type 0 where
@@ -119,10 +127,17 @@ HasSpace s = (length s.outbox.slots < s.outbox.size) × (0 < free_of s.machine.f
 
 -- what an outcome changes
 pub record NotesBare (old new : BareParts) (ack : Ack) (outcome : Outcome (FaultKind × ℕ)) : Type 0 where
-  pub frame : new ≡ record old { machine = new.machine; outbox = new.outbox; epoch = record old.epoch { first = new.epoch.first }; faults = new.faults; held = new.held }
+  pub frame : new ≡ record old {
+    machine = new.machine;
+    outbox = new.outbox;
+    epoch = record old.epoch { first = new.epoch.first };
+    faults = new.faults;
+    held = new.held;
+  }
   pub machine : new.machine ≡ record old.machine { further = new.machine.further }
   pub words : new.machine.further.words ≡ slot_words
-  pub free : free_of new.machine.further + length new.outbox.slots ≡ free_of old.machine.further + length old.outbox.slots
+  pub free :
+      free_of new.machine.further + length new.outbox.slots ≡ free_of old.machine.further + length old.outbox.slots
   pub size : new.outbox.size ≡ old.outbox.size
   pub lies : Lies new.machine.further new.outbox.slots (reports_in new.machine.further new.outbox.slots)
   pub step_note : summary_by new ≡ step_note (over_codes old.case) ack outcome (summary_by old)
@@ -147,7 +162,8 @@ closed_parts after reports s = record s {
 abbrev pub AreGood : Case → ℕ → Reply → List Pair → Type 0
 AreGood case running Nothing values = Unit {0}
 AreGood case running (Update cwnd) values = first_bad_pair (length (code_at case running).controls) values ≡ None
-AreGood case running (Change program cwnd cap) values = first_bad_pair (length (code_at case program).controls) values ≡ None
+AreGood case running (Change program cwnd cap) values =
+    first_bad_pair (length (code_at case program).controls) values ≡ None
 
 -- an update writes its values
 pub record UpdatesBare (old new : BareParts) (values : List Pair) : Type 0 where
@@ -158,7 +174,11 @@ pub record UpdatesBare (old new : BareParts) (values : List Pair) : Type 0 where
 pub record ChangesBare (old new : BareParts) (program : ℕ) (values : List Pair) : Type 0 where
   pub machine : new.machine ≡ started_by (code_at old.case program) values old.time old.machine
   pub fits : Fits new.machine (code_at old.case program)
-  pub frame : new ≡ record old { machine = new.machine; epoch = next_epoch program old.acks old.epoch; outbox = record old.outbox { untold = None } }
+  pub frame : new ≡ record old {
+    machine = new.machine;
+    epoch = next_epoch program old.acks old.epoch;
+    outbox = record old.outbox { untold = None };
+  }
 
 abbrev pub ObeysBare : BareParts → BareParts → Reply → List Pair → Type 0
 ObeysBare old new Nothing values = new ≡ old

@@ -17,6 +17,6 @@ KeepsWithin look code =
     × ForSome look.cap (λ n. n < length code.controls)
     × ForSome look.mss (λ n. n < length code.controls)
 
--- where both programs have one number, they keep all at one place and have one code
+-- if both programs have one number, they keep all at one place and have one code
 abbrev pub AreOne : Coded → Coded → Type 0
 AreOne ss ca = ss.role.number ≡ ca.role.number → (ss.role.look ≡ ca.role.look) × (ss.code.code ≡ ca.code.code)

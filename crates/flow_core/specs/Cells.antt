@@ -70,7 +70,8 @@ StateHoldsForSources cell =
     (ss ca : Form) (ss_places ca_places : List Place)
     → Simulates ss cell.case.ss.code.code ss_places
     → Simulates ca cell.case.ca.code.code ca_places
-    → map_world (place_in cell.case ss_places ca_places) (world_at cell) ≡ world (over_sources cell.case ss ca) cell.case.link cell.word
+    → map_world (place_in cell.case ss_places ca_places) (world_at cell)
+    ≡ world (over_sources cell.case ss ca) cell.case.link cell.word
 
 -- the acknowledgements are the link's, and the link stands for the windows
 pub record IsCell (core : CoreState) (link : LinkState) : Type 0 where

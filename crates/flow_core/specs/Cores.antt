@@ -57,7 +57,7 @@ met_in flow w ack =
 abbrev pub acked_with : CoreState → Ack → Acked
 acked_with core ack = acked_as (met_in (flow_in core) (world_in core) ack).0
 
--- how many instructions an acknowledgement runs; none where the program is stopped
+-- how many instructions an acknowledgement runs; none if the program is stopped
 abbrev pub ran_by : Bool → Code → Env → Ack → Bool → ℕ
 ran_by true code env ack room = 0
 ran_by false code env ack room = (one_by_code code (kept_of env) ack room).ran

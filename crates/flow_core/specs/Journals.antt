@@ -1,5 +1,6 @@
 -- A flow with its history: what a letter adds to the journal, and what holds of both.
-use Rattle.std.specs.Prelude.{◌≡◌, ℕ, ◌+◌, ◌<◌, ◌≤◌, true, nat_lt, if◌then◌else◌, Option, Some, None, option_map, unwrap_or, [], ◌∷◌, ◌++◌, length, map}
+use Rattle.std.specs.Prelude.{◌≡◌, ℕ, ◌+◌, ◌<◌, ◌≤◌, true, nat_lt, if◌then◌else◌, Option, Some, None, option_map}
+use Rattle.std.specs.Prelude.{unwrap_or, [], ◌∷◌, ◌++◌, length, map}
 use Rattle.ccp_base.specs.declared.ack.Ack.{Ack}
 use Rattle.ccp_base.specs.declared.exchange.Notice.{Notice}
 use Rattle.agent_core.specs.declared.ticket.Ticket.{Ticket}
@@ -33,7 +34,8 @@ with_some None list = list
 with_some (Some item) list = with_item item list
 
 abbrev pub journal_ack : Ack → Option Notice → Journal → Journal
-journal_ack ack fault j = record j { faults = with_some fault j.faults; acks = with_item ack j.acks; word = with_item A j.word }
+journal_ack ack fault j =
+    record j { faults = with_some fault j.faults; acks = with_item ack j.acks; word = with_item A j.word }
 
 abbrev pub journal_take : Journal → Journal
 journal_take j = record j { word = with_item T j.word }
@@ -52,9 +54,10 @@ new_notice Stopped untold = None
 
 -- the line of a ticket, with the numbers of acknowledgements at which it was taken and answered
 abbrev pub journal_line : Ticket → ℕ → ℕ → TicketLine
-journal_line ticket taken answered = record { told = ticket.told; taken = taken; answered = answered; reply = reply_of ticket }
+journal_line ticket taken answered =
+    record { told = ticket.told; taken = taken; answered = answered; reply = reply_of ticket }
 
--- at how many acknowledgements the ticket that is out was taken, 0 where none is out
+-- at how many acknowledgements the ticket that is out was taken, 0 if none is out
 abbrev pub taken_at : Summary → ℕ
 taken_at s = unwrap_or (option_map (λ (issued : Issued). issued.taken) s.out) 0
 

@@ -1,4 +1,7 @@
 -- The definitions of flow_core, a file each; files named ..Laws have what follows from them.
+
+-- those that contracts of public calls cite, here and in the crates above: a flow's state and its word, what is kept of
+-- it, its outbox and lists, and the text of a live run
 pub mod Readings
 pub mod World
 pub mod RunningEpochs
@@ -6,17 +9,18 @@ pub mod Cases
 pub mod Words
 pub mod ReservedLists
 pub mod Outbox
-pub mod ReportWords
 pub mod Lift
-pub mod WordLaws
 pub mod Books
 pub mod Cores
-pub mod States
-pub mod Opening
-pub mod MachineCalls
 pub mod Cells
 pub mod LiveText
 pub mod LettersLeft
 pub mod Summaries
 pub mod Bares
+-- those that only private contracts, invariants and proofs cite
+pub mod ReportWords
+pub mod WordLaws
+pub mod States
+pub mod Opening
+pub mod MachineCalls
 pub mod Journals

@@ -65,8 +65,11 @@ map_world place w = record {
 
 -- after a word both readings have the same state, and the word is legal in both or in neither, and complete in both or
 -- in neither
-pub record ReadsAlike (place : Placing) (codes : Flow ℕ) (sources : Flow Place) (by_codes : Giving ℕ) (by_sources : Giving Place) (word : List Letter) : Type 0 where
-  pub state : map_world place (world_from codes by_codes (opening codes) word) ≡ world_from sources by_sources (opening sources) word
+pub record ReadsAlike (place : Placing) (codes : Flow ℕ) (sources : Flow Place)
+    (by_codes : Giving ℕ) (by_sources : Giving Place) (word : List Letter) : Type 0 where
+  pub state :
+      map_world place (world_from codes by_codes (opening codes) word)
+      ≡ world_from sources by_sources (opening sources) word
   pub legal : legal_from codes by_codes (opening codes) word ≡ legal_from sources by_sources (opening sources) word
   pub complete : is_complete codes (world_from codes by_codes (opening codes) word)
       ≡ is_complete sources (world_from sources by_sources (opening sources) word)
@@ -88,4 +91,5 @@ LiftsList case =
     → Simulates ss case.ss.code.code ss_places
     → Simulates ca case.ca.code.code ca_places
     → (acks : List Ack) (word : List Letter)
-    → ReadsAlike (place_in case ss_places ca_places) (over_codes case) (over_sources case ss ca) (from_list acks) (from_list acks) word
+    → ReadsAlike (place_in case ss_places ca_places) (over_codes case) (over_sources case ss ca)
+    (from_list acks) (from_list acks) word

@@ -28,7 +28,7 @@ use Rattle.flow_core.specs.Books.{ticket_line, epoch_line}
 
 -- ---- programs by their numbers
 
--- the first program with this number; one without a declaration where there is none
+-- the first program with this number; one without a declaration if there is none
 abbrev pub source_at : Sources → ℕ → Form
 source_at [] number = record { fields = []; controls = []; blocks = [] }
 source_at (source ∷ rest) number = if source.0 == number then source.1 else source_at rest number
@@ -157,9 +157,10 @@ account_text sources case account =
 
 -- the flow of a case, read over the sources of its programs
 abbrev pub flow_from : Sources → Case → Flow Place
-flow_from sources case = over_sources case (source_at sources case.ss.role.number) (source_at sources case.ca.role.number)
+flow_from sources case =
+    over_sources case (source_at sources case.ss.role.number) (source_at sources case.ca.role.number)
 
--- a flow's part of the text, where this is its state
+-- a flow's part of the text, if this is its state
 abbrev pub flow_part : Sources → Case → World Place → List ℕ
 flow_part sources case w = account_text sources case (account_of (flow_from sources case) w)
 

@@ -15,9 +15,9 @@ use Rattle.flow_core.specs.States.{outcome_by}
 abbrev pub heard_on : Code → MachineState → Ack → Bool → Outcome (FaultKind × ℕ) × Env
 heard_on code machine ack room = heard (by_code code) machine.is_stopped (env_of machine.kept) ack room
 
--- its outcome, by the machine's answer
-abbrev pub met_by : Acked → MachineState → Outcome (FaultKind × ℕ) × Env
-met_by acked machine = (outcome_by acked machine.report, env_of machine.kept)
+-- the same, by the machine's answer and the machine after it
+abbrev pub outcome_and_env : Acked → MachineState → Outcome (FaultKind × ℕ) × Env
+outcome_and_env acked machine = (outcome_by acked machine.report, env_of machine.kept)
 
 -- how many instructions it runs
 abbrev pub ran_on : Code → MachineState → Ack → Bool → ℕ

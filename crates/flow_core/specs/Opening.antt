@@ -9,4 +9,5 @@ use Rattle.flow_core.specs.Readings.{code_at}
 -- the machine that starts the case's program with this number, as the agent's opening change says
 abbrev pub opened_machine : Case → ℕ → MachineState
 opened_machine case program =
-    started_by (code_at case program) (values_of case.agent (opening_change case.agent)) 0 (fresh_machine 0 0 case.slots)
+    started_by (code_at case program) (values_of case.agent (opening_change case.agent)) 0
+    (fresh_machine 0 0 case.slots)

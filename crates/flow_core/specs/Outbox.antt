@@ -1,5 +1,6 @@
 -- What a contract sees of an outbox, and how waiting reports lie in slots.
-use Rattle.std.specs.Prelude.{◌≡◌, ◌≢◌, ℕ, ◌+◌, ◌-◌, ◌^◌, ◌<◌, ◌≤◌, List, [], ◌∷◌, ◌++◌, length, take, drop, slice_index, Option, Some, None, option_map}
+use Rattle.std.specs.Prelude.{◌≡◌, ◌≢◌, ℕ, ◌+◌, ◌-◌, ◌^◌, ◌<◌, ◌≤◌, List, [], ◌∷◌, ◌++◌, length, take, drop}
+use Rattle.std.specs.Prelude.{slice_index, Option, Some, None, option_map}
 use Rattle.ccp_base.specs.Limits.{most_fields}
 use Rattle.ccp_base.specs.declared.exchange.Notice.{Notice}
 use Rattle.ccp_base.specs.declared.exchange.Report.{Report}
@@ -19,9 +20,17 @@ empty_outbox size = record { slots = []; untold = None; size = size }
 
 -- ---- reports in slots
 
--- how many words of a slot the longest report takes
+-- how many words stand before the fields of a report
+abbrev pub head_word_count : ℕ
+head_word_count = 9
+
+-- how many words of a slot no report takes, so that a slot has 80
+abbrev pub spare_word_count : ℕ
+spare_word_count = 7
+
+-- how many words a slot has at least, so that any report fits in
 abbrev pub most_report_words : ℕ
-most_report_words = 80
+most_report_words = head_word_count + most_fields + spare_word_count
 
 -- the numbers of a report, and how many fields it has
 abbrev pub head_words : Report → List ℕ
@@ -70,12 +79,12 @@ abbrev pub AreOwned : PoolState → List ℕ → Type 0
 AreOwned pool [] = Unit {0}
 AreOwned pool (slot ∷ rest) = IsOut pool slot × (AreOther slot rest × AreOwned pool rest)
 
--- where a report waits, its slot has the words that any report fits in
+-- if a report waits, its slot has the words that any report fits in
 abbrev pub AreWide : PoolState → List ℕ → Type 0
 AreWide pool [] = Unit {0}
 AreWide pool (slot ∷ rest) = most_report_words ≤ pool.words
 
--- each waiting report has a slot of its own that is out and whose words begin with the report's
+-- each waiting report has its own slot, which is out and whose words begin with the report's
 pub record Lies (pool : PoolState) (slots : List ℕ) (reports : List Report) : Type 0 where
   pub owned : AreOwned pool slots
   pub stored : AreStored pool slots reports
@@ -106,7 +115,7 @@ ChangesOnly slot old new = ChangesSlot old new slot (words_at new slot)
 abbrev pub newest : List ℕ → ℕ
 newest slots = slice_index slots (length slots - 1)
 
--- the first slot is given back, where there is one, and no other slot changes
+-- the first slot is given back, if there is one, and no other slot changes
 abbrev pub GivesFirst : PoolState → PoolState → List ℕ → Type 0
 GivesFirst old new [] = new ≡ old
 GivesFirst old new (slot ∷ rest) = ChangesSlot old new slot None
@@ -120,7 +129,7 @@ next_told (report ∷ rest) untold = Some (told.Report report)
 abbrev pub IsToldNext : Option Told → Option Notice → PoolState → List ℕ → Type 0
 IsToldNext told untold pool slots = (reports : List Report) → Lies pool slots reports → told ≡ next_told reports untold
 
--- a notice stays untold while a report waits
-abbrev pub notice_left : List ℕ → Option Notice → Option Notice
+-- the notice that a ticket leaves untold: it stays while reports wait, given here or by their slots
+abbrev pub notice_left : {X : Type 0} → List X → Option Notice → Option Notice
 notice_left [] untold = None
-notice_left (slot ∷ rest) untold = untold
+notice_left (waiting ∷ rest) untold = untold

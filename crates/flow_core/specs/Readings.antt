@@ -28,8 +28,8 @@ met_of made = (outcome_of made.outcome, env_of made.kept)
 abbrev pub by_code : Code → Reading (FaultKind × ℕ)
 by_code code env ack room = met_of (steps.one_by_code code (kept_of env) ack room)
 
--- a flow as it is read, where a fault has a site X: its number, its agent, how many acknowledgements come and how many
--- reports may wait; by a program's number, the outcome of an acknowledgement and the env that it starts with where
+-- a flow as it is read, with sites of X for its faults: its number, its agent, how many acknowledgements come and how
+-- many reports may wait; by a program's number, the outcome of an acknowledgement and the env that it starts with if
 -- `Cwnd`, `Rate` and time zero are these; and the index that a fault notice has for a site
 pub record Flow (X : Type 0) : Type 0 where
   pub number : ℕ

@@ -1,7 +1,10 @@
 -- How the words of a report are written and read.
-use Rattle.std.specs.Prelude.{ℕ, ◌+◌, ◌-◌, ◌^◌, min, List, [], ◌∷◌, take, drop, slice_index, slice_set, Option, option_map}
+use Rattle.std.specs.Prelude.{ℕ, ◌+◌, ◌-◌, ◌^◌, min, List, [], ◌∷◌, take, drop, slice_index, slice_set, Option}
+use Rattle.std.specs.Prelude.{option_map}
+use Rattle.ccp_base.specs.Limits.{most_fields}
 use Rattle.ccp_base.specs.declared.exchange.Report.{Report}
 use Rattle.slot_pool.specs.Pool.{PoolState, words_at, ChangesSlot}
+use Rattle.flow_core.specs.Outbox.{head_word_count}
 
 -- the words of a slot, with these written over them from a place on
 abbrev pub written_over : Option (List ℕ) → ℕ → List ℕ → Option (List ℕ)
@@ -27,5 +30,5 @@ report_in words = record {
   now = slice_index words 5;
   cwnd = slice_index words 6;
   rate = slice_index words 7;
-  fields = take (min (slice_index words 8) 64) (drop 9 words);
+  fields = take (min (slice_index words 8) most_fields) (drop head_word_count words);
 }

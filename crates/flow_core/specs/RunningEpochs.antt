@@ -31,7 +31,8 @@ line_of epoch acks cwnd = record { program = epoch.program; at = acks; cwnd = cw
 abbrev pub report_at : RunningEpoch → ℕ → ℕ → Ack → ℕ → ℕ → List ℕ → Report
 report_at epoch flow at ack cwnd rate fields =
     let env : Env = record { fields = fields; controls = []; cwnd = cwnd; rate = rate; zero = 0 } in
-    report_of (reporter flow epoch.program epoch.number) (record (track_at at env) { first = epoch.first }) ack env fields
+    report_of (reporter flow epoch.program epoch.number) (record (track_at at env) { first = epoch.first })
+    ack env fields
 
 -- after its report the unreported span begins with the next acknowledgement
 abbrev pub reported_epoch : ℕ → RunningEpoch → RunningEpoch

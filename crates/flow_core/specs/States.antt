@@ -19,7 +19,7 @@ outcome_by acked.Stopped report = stopped
 abbrev pub issued_as : {X : Type 0} → Flow X → Taken X → Issued
 issued_as flow ticket = record { told = told_as flow ticket.told; taken = ticket.taken }
 
--- one where there is something, none elsewhere
+-- 1 if there is something, else 0
 abbrev pub some_count : {A : Type 0} → Option A → ℕ
 some_count None = 0
 some_count (Some a) = 1

@@ -1,5 +1,6 @@
 -- A flow without its history: its summary is what later letters depend on, and a letter makes the next summary of it.
-use Rattle.std.specs.Prelude.{ℕ, ◌+◌, Bool, not, ◌&&◌, nat_lt, is_some, is_none, Option, Some, None, option_map, List, [], ◌∷◌, ◌++◌, length, map}
+use Rattle.std.specs.Prelude.{ℕ, ◌+◌, Bool, not, ◌&&◌, nat_lt, is_some, is_none, Option, Some, None, option_map}
+use Rattle.std.specs.Prelude.{List, [], ◌∷◌, ◌++◌, length, map}
 use Rattle.ccp_base.specs.declared.ack.Ack.{Ack}
 use Rattle.ccp_base.specs.declared.arithmetic.FaultKind.{FaultKind}
 use Rattle.ccp_base.specs.declared.exchange.Notice.{Notice}
@@ -81,7 +82,8 @@ step_outcome flow ack met s =
 
 -- the outcome of an acknowledgement, and the env after it
 abbrev pub outcome_at : {X : Type 0} → Flow X → Ack → Summary → Outcome (FaultKind × X) × Env
-outcome_at flow ack s = heard (flow.reading s.program) s.track.is_stopped s.track.env ack (nat_lt (length s.waiting) flow.slots)
+outcome_at flow ack s =
+    heard (flow.reading s.program) s.track.is_stopped s.track.env ack (nat_lt (length s.waiting) flow.slots)
 
 abbrev pub step_ack : {X : Type 0} → Flow X → Ack → Summary → Summary
 step_ack flow ack s = step_outcome flow ack (outcome_at flow ack s) s
@@ -114,7 +116,10 @@ step_reply flow agent (Update cwnd) s =
 step_reply flow agent (Change program cwnd cap) s = record s {
   program = program;
   epoch = s.epoch + 1;
-  track = track_at s.acks (with_values (values_of agent (Change program cwnd cap)) (flow.declared program s.track.env.cwnd s.track.env.rate s.time));
+  track =
+      track_at s.acks
+      (with_values (values_of agent (Change program cwnd cap))
+      (flow.declared program s.track.env.cwnd s.track.env.rate s.time));
   untold = None;
 }
 
@@ -136,7 +141,7 @@ abbrev pub step_given : {X : Type 0} → Flow X → Option Ack → Summary → S
 step_given flow None s = s
 step_given flow (Some ack) s = step_ack flow ack s
 
--- the summary after one more letter, where this is the next acknowledgement
+-- the summary after one more letter, if this is the next acknowledgement
 abbrev pub step_letter : {X : Type 0} → Flow X → Option Ack → Letter → Summary → Summary
 step_letter flow given A s = step_given flow given s
 step_letter flow given T s = step_take s

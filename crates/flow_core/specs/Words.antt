@@ -1,5 +1,6 @@
 -- A flow's history as a word, and the state after a word.
-use Rattle.std.specs.Prelude.{ℕ, ◌+◌, ◌*◌, Bool, true, not, ◌&&◌, nat_lt, nat_le, is_some, is_none, Option, Some, None, List, [], ◌∷◌, length, slice_get}
+use Rattle.std.specs.Prelude.{ℕ, ◌+◌, ◌*◌, Bool, true, not, ◌&&◌, nat_lt, nat_le, is_some, is_none, Option, Some}
+use Rattle.std.specs.Prelude.{None, List, [], ◌∷◌, length, slice_get}
 use Rattle.ccp_base.specs.declared.ack.Ack.{Ack}
 use Rattle.link_model.specs.declared.link_case.LinkCase.{LinkCase}
 use Rattle.link_model.specs.Link.{ack_after}
@@ -47,8 +48,8 @@ world flow link word = world_from flow (from_link flow link) (opening flow) word
 abbrev pub can_take : {X : Type 0} → World X → Bool
 can_take w = is_some (takeable w.waiting w.untold)
 
--- an acknowledgement while fewer than the flow's are in; a taking where no ticket is out and a report waits or a notice
--- is untold; an answer where a ticket is out
+-- an acknowledgement if fewer than the flow's are in; a taking if no ticket is out and a report waits or a notice is
+-- untold; an answer if a ticket is out
 abbrev pub is_legal : {X : Type 0} → Flow X → World X → Letter → Bool
 is_legal flow w A = nat_lt (length w.acks) flow.acks
 is_legal flow w T = is_none w.out && can_take w
@@ -56,7 +57,8 @@ is_legal flow w C = is_some w.out
 
 abbrev pub legal_from : {X : Type 0} → Flow X → Giving X → World X → List Letter → Bool
 legal_from flow giving w [] = true
-legal_from flow giving w (letter ∷ rest) = is_legal flow w letter && legal_from flow giving (after_letter flow giving w letter) rest
+legal_from flow giving w (letter ∷ rest) =
+    is_legal flow w letter && legal_from flow giving (after_letter flow giving w letter) rest
 
 -- the most letters of a word with `acks` acknowledgements: each makes one ticket at most, which is taken and answered
 abbrev pub most_letters : ℕ → ℕ

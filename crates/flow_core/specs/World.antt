@@ -10,7 +10,8 @@ use Rattle.ccp_base.specs.declared.exchange.Told.{Told}
 use Rattle.ccp_base.specs.declared.exchange.Told.TheVariants as told
 use Rattle.ccp_base.specs.FieldReg.{Pair}
 use Rattle.portus_core.specs.declared.env.Env.{Env}
-use Rattle.portus_core.specs.Epoch.{Event, acknowledged, updated, Outcome, quiet, reported, held, failed, stopped, Track, track_at, heard, after, with_values}
+use Rattle.portus_core.specs.Epoch.{Event, acknowledged, updated, Outcome, quiet, reported, held, failed, stopped}
+use Rattle.portus_core.specs.Epoch.{Track, track_at, heard, after, with_values}
 use Rattle.portus_core.specs.Reports.{Reporter, reports_met}
 use Rattle.agent_core.specs.declared.agent.Agent.{Agent}
 use Rattle.agent_core.specs.Agents.{opening_change, replied, course_of, values_of}
@@ -74,8 +75,8 @@ track_in flow era = after (flow.reading era.program) era.events (track_at era.at
 abbrev pub track_of : {X : Type 0} → Flow X → World X → Track
 track_of flow w = track_in flow w.present
 
--- an epoch that starts at that number of acknowledgements with these values, where `Cwnd` and `Rate` are these and the last
--- acknowledgement came at this time
+-- an epoch that starts at that number of acknowledgements with these values, if `Cwnd` and `Rate` are these and the
+-- last acknowledgement came at this time
 abbrev pub era_of : {X : Type 0} → Flow X → ℕ → ℕ → List Pair → ℕ → ℕ → ℕ → Era
 era_of flow program at values cwnd rate now = record {
   program = program;
@@ -87,7 +88,7 @@ era_of flow program at values cwnd rate now = record {
 abbrev pub with_event : Event → Era → Era
 with_event event era = record era { events = era.events ++ event ∷ [] }
 
--- the time of the last acknowledgement, 0 where there is none
+-- the time of the last acknowledgement, 0 if there is none
 abbrev pub time_of : List Ack → ℕ
 time_of [] = 0
 time_of (ack ∷ []) = ack.now
@@ -161,12 +162,14 @@ has_room flow w = nat_lt (length w.waiting) flow.slots
 abbrev pub after_ack : {X : Type 0} → Flow X → Ack → World X → World X
 after_ack flow ack w =
     let track = track_of flow w in
-    with_met flow ack (has_room flow w) track (heard (flow.reading w.present.program) track.is_stopped track.env ack (has_room flow w)) w
+    with_met flow ack (has_room flow w) track
+    (heard (flow.reading w.present.program) track.is_stopped track.env ack (has_room flow w)) w
 
 -- ---- a ticket is taken
 
 -- what can be taken, with what is left then: the oldest report, or else the untold notice
-abbrev pub takeable : {X : Type 0} → List Report → Option (Failure X) → Option (Content X × (List Report × Option (Failure X)))
+abbrev pub takeable : {X : Type 0}
+    → List Report → Option (Failure X) → Option (Content X × (List Report × Option (Failure X)))
 takeable (report ∷ rest) untold = Some (of_report report, (rest, untold))
 takeable [] (Some failure) = Some (of_failure failure, ([], None))
 takeable [] None = None
@@ -187,12 +190,15 @@ after_take w = with_taken (takeable w.waiting w.untold) w
 -- a change ends the epoch, starts one, and makes an untold notice void
 abbrev pub with_reply : {X : Type 0} → Flow X → Agent → Reply → World X → World X
 with_reply flow agent Nothing w = w
-with_reply flow agent (Update cwnd) w = record w { present = with_event (updated (values_of agent (Update cwnd))) w.present }
+with_reply flow agent (Update cwnd) w =
+    record w { present = with_event (updated (values_of agent (Update cwnd))) w.present }
 with_reply flow agent (Change program cwnd cap) w =
     let env = (track_of flow w).env in
     record w {
       past = w.past ++ w.present ∷ [];
-      present = era_of flow program (length w.acks) (values_of agent (Change program cwnd cap)) env.cwnd env.rate (time_of w.acks);
+      present =
+          era_of flow program (length w.acks) (values_of agent (Change program cwnd cap)) env.cwnd env.rate
+          (time_of w.acks);
       untold = None;
     }
 
@@ -223,7 +229,9 @@ with_turn flow ticket turn w =
     with_reply flow w.agent turn.1 (record w {
       agent = turn.0;
       out = None;
-      answered = w.answered ++ record { told = ticket.told; taken = ticket.taken; answered = length w.acks; reply = turn.1 } ∷ [];
+      answered =
+          w.answered
+          ++ record { told = ticket.told; taken = ticket.taken; answered = length w.acks; reply = turn.1 } ∷ [];
     })
 
 abbrev pub answer_applied : {X : Type 0} → Flow X → Option (Taken X) → World X → World X

@@ -47,7 +47,7 @@ pub(crate) struct BareParts {
     pub(crate) epoch: RunningEpoch,
     /// How many acknowledgements are in.
     pub(crate) acks: u32,
-    /// The time of the last acknowledgement in microseconds, 0 where there is none.
+    /// The time of the last acknowledgement in microseconds, 0 if there is none.
     pub(crate) time: u64,
     pub(crate) outbox: Outbox,
     pub(crate) agent: Agent,
@@ -71,6 +71,7 @@ struct First {
 }
 
 impl First {
+    // A function of its own: it has the case by reference, so that none of its exits drops it.
     /// What a flow of this case has.
     fn of(alloc: Global, case: &Case) -> Result<First, NoMemory>
         ensures { IfOk result (IsFirst case.now) }
@@ -102,6 +103,7 @@ impl BareParts {
         }
     }
 
+    // A function of its own: it can't fail, so the proof has the whole flow at one exit.
     /// A flow of this case that has this before its first letter.
     fn opened(case: Case, first: First) -> BareParts
         requires { IsFirst case first }
@@ -143,7 +145,7 @@ impl BareParts {
         self.ticket(&issued.told)
     }
 
-    /// The same, where the ticket isn't read.
+    /// As `take`, without the ticket.
     fn issue(&mut self)
         requires parts { IsBare self.old }
         requires none_out { self.old.out ≡ None }
@@ -168,7 +170,8 @@ impl BareParts {
         ensures parts { IsBare self.new }
         ensures case { self.new.case ≡ self.old.case }
         ensures step { summary_by self.new ≡ step_ack (over_codes self.old.case) ack.entry.now (summary_by self.old) }
-        ensures acked { result ≡ acked_as (outcome_at (over_codes self.old.case) ack.entry.now (summary_by self.old)).0 }
+        ensures acked { result
+            ≡ acked_as (outcome_at (over_codes self.old.case) ack.entry.now (summary_by self.old)).0 }
         ensures steps { steps.new ≡ steps.old + instructions_at self.old.case ack.entry.now (summary_by self.old) }
     {
         let room = self.outbox.room();
@@ -194,6 +197,7 @@ impl BareParts {
         self.record_any_outcome(ack, acked);
     }
 
+    // A function of its own: few acknowledgements call it, and `record_outcome` is inlined without it.
     /// Records the outcome of an acknowledgement, by the machine's answer.
     #[inline(never)]
     fn record_any_outcome(&mut self, ack: &Ack, acked: Acked)
@@ -296,6 +300,7 @@ impl BareParts {
         }
     }
 
+    // A function of its own: few replies call it, and it has a list of values in its frame.
     /// Writes the window of an update, in bytes.
     #[inline(never)]
     fn set_window(&mut self, cwnd: u64)
@@ -304,40 +309,25 @@ impl BareParts {
     {
         let mut values = Fields::new();
         values.push(FieldReg::Cwnd, cwnd);
-        self.update(&values);
-    }
-
-    /// Starts the program with this number, with the values of the reply that is a change to it.
-    #[inline(never)]
-    fn start_program(&mut self, program: u32, reply: &Reply)
-        requires good { first_bad_pair (length (code_at self.old.case program).controls) (values_of self.old.agent reply.now) ≡ None }
-        requires epoch { self.old.epoch.number < most_acks }
-        ensures { ChangesBare self.old self.new program (values_of self.old.agent reply.now) }
-    {
-        let values = self.agent.values(reply);
-        self.change(program, &values);
-    }
-
-    /// Writes an update's values.
-    fn update(&mut self, values: &Fields)
-        requires fits { Fits self.old.machine (code_at self.old.case self.old.epoch.program) }
-        requires good { first_bad_pair (length (code_at self.old.case self.old.epoch.program).controls) values.now ≡ None }
-        ensures { UpdatesBare self.old self.new values.now }
-    {
         let code = self.case.code(self.epoch.program);
-        let Ok(()) = self.machine.update(code, values) else {
+        let Ok(()) = self.machine.update(code, &values) else {
             unreachable!()
         };
     }
 
-    /// Starts the program with this number, and with it an epoch. An untold notice is void then.
-    fn change(&mut self, program: u32, values: &Fields)
-        requires good { first_bad_pair (length (code_at self.old.case program).controls) values.now ≡ None }
+    // A function of its own: few replies call it, and it has a list of values in its frame.
+    /// Starts the program with this number, and with it an epoch, with the values of the reply that is a change to it.
+    /// An untold notice is void then.
+    #[inline(never)]
+    fn start_program(&mut self, program: u32, reply: &Reply)
+        requires good { first_bad_pair (length (code_at self.old.case program).controls)
+            (values_of self.old.agent reply.now) ≡ None }
         requires epoch { self.old.epoch.number < most_acks }
-        ensures { ChangesBare self.old self.new program values.now }
+        ensures { ChangesBare self.old self.new program (values_of self.old.agent reply.now) }
     {
+        let values = self.agent.values(reply);
         let code = self.case.code(program);
-        let Ok(()) = self.machine.start(code, values, self.time) else {
+        let Ok(()) = self.machine.start(code, &values, self.time) else {
             unreachable!()
         };
         self.epoch = self.epoch.next(program, self.acks);
@@ -353,7 +343,12 @@ impl BareParts {
 
     /// The ticket that tells this.
     fn ticket(&self, told: &Told) -> Ticket
-        ensures { result ≡ record { flow = self.now.case.flow; number = self.now.answered; before = self.now.agent; told = told.now } }
+        ensures { result ≡ record {
+          flow = self.now.case.flow;
+          number = self.now.answered;
+          before = self.now.agent;
+          told = told.now;
+        } }
     {
         Ticket {
             flow: self.case.flow,
@@ -376,6 +371,7 @@ fn reports_told(told: &Told) -> u32
 }
 
 /// A flow without its history and its link.
+// A struct around the parts: what holds between letters is its invariant, while a step on the parts may break it.
 #[derive(Drop)]
 pub struct Bare {
     parts: BareParts,
@@ -396,7 +392,8 @@ impl Model for Bare {
 impl Bare {
     /// A flow without a letter. The outbox is reserved here.
     pub fn new(alloc: Global, case: Case) -> Result<Bare, NoMemory>
-        ensures { IfOk result (λ bare. bare ≡ record { case = case; summary = summary (over_codes case) (opening (over_codes case)) }) }
+        ensures { IfOk result (λ bare.
+            bare ≡ record { case = case; summary = summary (over_codes case) (opening (over_codes case)) }) }
     {
         let parts = BareParts::open(alloc, case)?;
         Ok(Bare { parts })
@@ -416,6 +413,7 @@ impl Bare {
         self.parts.acks
     }
 
+    // For the proof alone: the type's invariant, as a clause that callers can cite.
     /// The counts are in range.
     pub(crate) fn range(&self)
         ensures { InRange self.now.case self.now.summary }
@@ -451,7 +449,7 @@ impl Bare {
         self.parts.machine.cwnd()
     }
 
-    /// The time of the last acknowledgement in microseconds, 0 where there is none.
+    /// The time of the last acknowledgement in microseconds, 0 if there is none.
     pub fn time(&self) -> u64
         ensures { result ≡ self.now.summary.time }
     {
@@ -509,7 +507,7 @@ impl Bare {
         self.parts.out.is_some()
     }
 
-    /// At how many acknowledgements the ticket that is out was taken, None exactly where none is out.
+    /// At how many acknowledgements the ticket that is out was taken, if one is out.
     pub fn taken(&self) -> Option<u32>
         ensures { result ≡ option_map (λ issued. issued.taken) self.now.summary.out }
     {
@@ -517,7 +515,7 @@ impl Bare {
         Some(issued.taken)
     }
 
-    /// The ticket that is out, None exactly where none is.
+    /// The ticket that is out, if one is.
     pub fn out(&self) -> Option<Ticket>
         ensures { result ≡ told_ticket self.now.case self.now.summary }
     {
@@ -525,7 +523,7 @@ impl Bare {
         Some(self.parts.ticket(&issued.told))
     }
 
-    /// The number of the ticket that is out, None exactly where none is.
+    /// The number of the ticket that is out, if one is.
     pub fn out_number(&self) -> Option<u32>
         ensures { result ≡ option_map (λ ticket. ticket.number) (told_ticket self.now.case self.now.summary) }
     {
@@ -580,7 +578,8 @@ impl Bare {
     #[inline(always)]
     pub fn ack<L: Ledger>(&mut self, ack: &Ack, steps: &mut Steps<L>) -> Acked
         requires { may_make (over_codes self.old.case) self.old.summary Letter.A ≡ true }
-        ensures step { self.new ≡ record self.old { summary = step_ack (over_codes self.old.case) ack.entry.now self.old.summary } }
+        ensures step { self.new
+            ≡ record self.old { summary = step_ack (over_codes self.old.case) ack.entry.now self.old.summary } }
         ensures acked { result ≡ acked_as (outcome_at (over_codes self.old.case) ack.entry.now self.old.summary).0 }
         ensures steps { steps.new ≡ steps.old + instructions_at self.old.case ack.entry.now self.old.summary }
     {
@@ -591,18 +590,21 @@ impl Bare {
     #[inline(always)]
     pub fn hear(&mut self, ack: &Ack) -> Acked
         requires { may_make (over_codes self.old.case) self.old.summary Letter.A ≡ true }
-        ensures step { self.new ≡ record self.old { summary = step_ack (over_codes self.old.case) ack.entry.now self.old.summary } }
+        ensures step { self.new
+            ≡ record self.old { summary = step_ack (over_codes self.old.case) ack.entry.now self.old.summary } }
         ensures acked { result ≡ acked_as (outcome_at (over_codes self.old.case) ack.entry.now self.old.summary).0 }
     {
         self.hear_in_ledger::<Brand>(ack, Blank::new(1))
     }
 
+    // A function of its own: its two calls have one ledger, which the proof of `hear` picks.
     /// As `ack`, with a counter that nobody reads, which `blank` opens.
     #[inline(always)]
     fn hear_in_ledger<L: Ledger>(&mut self, ack: &Ack, blank: Blank) -> Acked
         requires ledger { (blank.name ≡ L.name) × (blank.parts ≡ L.parts) × (0 < blank.parts) }
         requires may { may_make (over_codes self.old.case) self.old.summary Letter.A ≡ true }
-        ensures step { self.new ≡ record self.old { summary = step_ack (over_codes self.old.case) ack.entry.now self.old.summary } }
+        ensures step { self.new
+            ≡ record self.old { summary = step_ack (over_codes self.old.case) ack.entry.now self.old.summary } }
         ensures acked { result ≡ acked_as (outcome_at (over_codes self.old.case) ack.entry.now self.old.summary).0 }
     {
         let mut steps = Steps::<L>::new(blank);

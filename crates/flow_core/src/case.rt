@@ -39,12 +39,14 @@ impl Coded {
     }
 }
 
+// A function of its own: its proof turns the `==` into an equation, which `same_code` takes from the clause.
 fn same_starts(these: &[Start], others: &[Start]) -> bool
     ensures { IsTrue result ↔ (these.now ≡ others.now) }
 {
     these == others
 }
 
+// A function of its own: its proof turns the `==` into an equation, which `same_code` takes from the clause.
 fn same_events(these: &[Event], others: &[Event]) -> bool
     ensures { IsTrue result ↔ (these.now ≡ others.now) }
 {
@@ -69,6 +71,7 @@ fn same_instrs(these: &[Packed], others: &[Packed]) -> bool
     right.is_empty()
 }
 
+// A function of its own: its proof turns the `==` into an equation, which `same_instrs` takes from the clause.
 fn same_instr(this: &Instr, other: &Instr) -> bool
     ensures { IsTrue result ↔ (this.now ≡ other.now) }
 {
@@ -91,6 +94,7 @@ fn same_code(this: &Code, other: &Code) -> bool
     same_instrs(this.instrs.as_slice(), other.instrs.as_slice())
 }
 
+// A function of its own: its proof shows that programs with one code are equal, which `same` takes from the clause.
 fn same_checked(this: &Checked, other: &Checked) -> bool
     ensures { IsTrue result ↔ (this.now ≡ other.now) }
 {
@@ -148,6 +152,7 @@ impl Case {
         })
     }
 
+    // A function of its own: it makes all that can fail, so `copy` builds the case at one exit.
     /// Equal programs, and an equal link.
     fn parts(&self, alloc: Global) -> Result<(Coded, Coded, LinkCase), NoMemory>
         ensures ss { IfOk result (λ parts. parts.0 ≡ self.now.ss) }

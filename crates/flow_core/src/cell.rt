@@ -55,8 +55,8 @@ impl Cell {
         }
     }
 
-    /// Takes the link's next acknowledgement. Ended exactly where all acknowledgements are in; then nothing has
-    /// changed. `steps` counts the instructions that are run.
+    /// Takes the link's next acknowledgement. Ended if and only if all acknowledgements are in; nothing changes then.
+    /// `steps` counts the instructions that are run.
     pub fn ack<L: Ledger>(&mut self, steps: &mut Steps<L>) -> Result<Acked, Ended>
         ensures ended { IsErr result ↔ (self.old.case.acks ≤ length (world_at self.old).acks) }
         ensures ok { OnOk result (self.new ≡ record self.old { word = self.old.word ++ Letter.A ∷ [] }) }
@@ -89,6 +89,7 @@ impl Cell {
         self.hear_in_ledger::<Brand>(Blank::new(1))
     }
 
+    // A function of its own: its two calls have one ledger, which the proof of `hear` picks.
     /// As `ack`, with a counter that nobody reads, which `blank` opens.
     #[inline(always)]
     fn hear_in_ledger<L: Ledger>(&mut self, blank: Blank) -> Result<Acked, Ended>
@@ -103,8 +104,8 @@ impl Cell {
         self.ack(&mut steps)
     }
 
-    /// Takes the oldest report, or else the untold fault notice, as a ticket. NotYet exactly where no ticket is out and
-    /// nothing can be taken, Out exactly where that ticket is out; nothing has changed then, nor if memory runs out.
+    /// Takes the oldest report, or else the untold fault notice, as a ticket. NotYet if and only if no ticket is out
+    /// and nothing can be taken, Out if and only if that ticket is out; nothing changes then, nor if memory runs out.
     /// What the answer's settling needs is reserved here.
     pub fn take(&mut self, alloc: Global) -> Result<Ticket, TakeFault>
         ensures not_yet { (result ≡ Err TakeFault.NotYet) ↔ (is_still (world_at self.old) ≡ true) }
@@ -117,8 +118,8 @@ impl Cell {
         self.core.take(alloc)
     }
 
-    /// Applies the answer to the ticket that is out. Stale exactly where the answer's ticket isn't that one; then
-    /// nothing has changed.
+    /// Applies the answer to the ticket that is out. Stale if and only if the answer's ticket isn't that one; nothing
+    /// changes then.
     pub fn settle(&mut self, answer: Answer) -> Result<(), Stale>
         ensures settled { IsOk result ↔ (out_at self.old ≡ Some answer) }
         ensures ok { OnOk result (self.new ≡ record self.old { word = self.old.word ++ Letter.C ∷ [] }) }
@@ -174,14 +175,14 @@ impl Cell {
         self.core.case()
     }
 
-    /// The last acknowledgement, None exactly where there is none.
+    /// The last acknowledgement, if there is one.
     pub fn last(&self) -> Option<Ack>
         ensures { result ≡ slice_get (world_at self.now).acks (length (world_at self.now).acks - 1) }
     {
         self.core.last()
     }
 
-    /// The ticket that is out, None exactly where none is.
+    /// The ticket that is out, if one is.
     pub fn out(&self) -> Option<Ticket>
         ensures { result ≡ out_at self.now }
     {

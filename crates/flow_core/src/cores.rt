@@ -72,8 +72,9 @@ impl Model for Core {
     ghost invariant = { λ c. IsCore c.bare c.journal };
 }
 
-/// The notice of an acknowledgement's fault, by the machine's answer and the undelivered notice after it;
-/// None exactly if it had no fault.
+// A function of its own: the proof of `ack` cites its clause, in place of a case for each answer.
+/// The notice of an acknowledgement's fault, by the machine's answer and the untold notice after it; None if it had no
+/// fault.
 fn new_notice(acked: Acked, untold: Option<Notice>) -> Option<Notice>
     ensures { result ≡ new_notice acked untold }
 {
@@ -83,14 +84,16 @@ fn new_notice(acked: Acked, untold: Option<Notice>) -> Option<Notice>
     }
 }
 
-/// At how many acknowledgements the ticket that is out was taken, 0 where none is out.
+// A function of its own: the proof of `apply` cites its clause.
+/// At how many acknowledgements the ticket that is out was taken, 0 if none is out.
 fn taken_at(bare: &Bare) -> u32
     ensures { result ≡ taken_at bare.now.summary }
 {
     bare.taken().unwrap_or(0)
 }
 
-/// The line of the epoch that began after the one with this number, None exactly where none did.
+// A function of its own: the proof of `apply` cites its clause, in place of a case for each branch.
+/// The line of the epoch that began after the one with this number, if one did.
 fn line_after(epoch: u32, bare: &Bare) -> Option<EpochLine>
     ensures { result ≡ line_after epoch bare.now.summary }
 {
@@ -117,8 +120,8 @@ impl Core {
         }
     }
 
-    /// Takes an acknowledgement. Ended exactly where all of the case's acknowledgements are in; then nothing has
-    /// changed. `steps` counts the instructions that are run.
+    /// Takes an acknowledgement. Ended if and only if all of the case's acknowledgements are in; nothing changes then.
+    /// `steps` counts the instructions that are run.
     pub fn ack<L: Ledger>(&mut self, ack: &Ack, steps: &mut Steps<L>) -> Result<Acked, Ended>
         ensures ended { IsErr result ↔ (self.old.case.acks ≤ length self.old.acks) }
         ensures ok { OnOk result (self.new ≡ with_ack self.old ack.entry.now) }
@@ -150,6 +153,7 @@ impl Core {
         self.hear_in_ledger::<Brand>(ack, Blank::new(1))
     }
 
+    // A function of its own: its two calls have one ledger, which the proof of `hear` picks.
     /// As `ack`, with a counter that nobody reads, which `blank` opens.
     #[inline(always)]
     fn hear_in_ledger<L: Ledger>(&mut self, ack: &Ack, blank: Blank) -> Result<Acked, Ended>
@@ -164,8 +168,8 @@ impl Core {
         self.ack(ack, &mut steps)
     }
 
-    /// Takes the oldest report, or else the untold fault notice, as a ticket. NotYet exactly where no ticket is out and
-    /// nothing can be taken, Out exactly where that ticket is out; nothing has changed then, nor if memory ran out.
+    /// Takes the oldest report, or else the untold fault notice, as a ticket. NotYet if and only if no ticket is out
+    /// and nothing can be taken, Out if and only if that ticket is out; nothing changes then, nor if memory runs out.
     /// What the answer's settling needs is reserved here.
     pub fn take(&mut self, _alloc: Global) -> Result<Ticket, TakeFault>
         ensures not_yet { (result ≡ Err TakeFault.NotYet) ↔ (is_still (world_in self.old) ≡ true) }
@@ -188,8 +192,8 @@ impl Core {
         Ok(ticket)
     }
 
-    /// Applies the answer to the ticket that is out. Stale exactly where the answer's ticket isn't that one; then
-    /// nothing has changed.
+    /// Applies the answer to the ticket that is out. Stale if and only if the answer's ticket isn't that one; nothing
+    /// changes then.
     pub fn settle(&mut self, answer: Answer) -> Result<(), Stale>
         ensures settled { IsOk result ↔ (out_in self.old ≡ Some answer) }
         ensures ok { OnOk result (self.new ≡ record self.old { word = self.old.word ++ Letter.C ∷ [] }) }
@@ -223,7 +227,7 @@ impl Core {
         self.journal.put_answer(answer, taken, answered, begun);
     }
 
-    /// The ticket that is out, None exactly where none is.
+    /// The ticket that is out, if one is.
     pub fn out(&self) -> Option<Ticket>
         ensures { result ≡ out_in self.now }
     {
@@ -274,7 +278,7 @@ impl Core {
         self.journal.acks.as_slice()
     }
 
-    /// The last acknowledgement, None exactly where there is none.
+    /// The last acknowledgement, if there is one.
     pub fn last(&self) -> Option<Ack>
         ensures { result ≡ slice_get self.now.acks (length self.now.acks - 1) }
     {

@@ -1,6 +1,7 @@
 //! The history of a flow, as lists that each letter makes longer.
 ghost use Rattle.std.specs.Prelude.{◌≡◌, ◌<◌, length, IfOk, OnOk};
-ghost use Rattle.flow_core.specs.Journals.{OpensJournal, HasSpareRoom, HaveLineRoom, journal_ack, journal_take, journal_answer, journal_line};
+ghost use Rattle.flow_core.specs.Journals.{OpensJournal, HasSpareRoom, HaveLineRoom, journal_ack, journal_take};
+ghost use Rattle.flow_core.specs.Journals.{journal_answer, journal_line};
 
 use crate::book::{EpochLine, TicketLine};
 use crate::letter::Letter;

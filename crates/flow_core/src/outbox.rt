@@ -14,8 +14,8 @@ use slot_pool::{Slot, Slots};
 use std::alloc::Global;
 use std::marker::Model;
 
-/// The reports of a flow that wait, each in a slot of its own, and a fault notice that is untold, or none. The slots
-/// are lent for each call that writes or reads one.
+/// The reports of a flow that wait, each in its own slot, and a fault notice that is untold, or none. A call that
+/// writes or reads a slot borrows the slots.
 #[derive(Drop)]
 pub struct Outbox {
     waiting: HeapCircularBuffer<Slot>,
@@ -85,9 +85,9 @@ impl Outbox {
         ensures slots { self.new.slots ≡ self.old.slots ++ newest self.new.slots ∷ [] }
         ensures was_free { words_at (P.pool slots.old) (newest self.new.slots) ≡ None }
         ensures owned { AreOwned (P.pool slots.new) self.new.slots }
-        ensures lies { Gains report.entry.now (P.pool slots.old) self.old.slots (P.pool slots.new) self.new.slots }
+        ensures gained { Gains report.entry.now (P.pool slots.old) self.old.slots (P.pool slots.new) self.new.slots }
         ensures others { ChangesOnly (newest self.new.slots) (P.pool slots.old) (P.pool slots.new) }
-        ensures counted { AreAsMany (P.pool slots.old) self.old.slots (P.pool slots.new) self.new.slots }
+        ensures as_many { AreAsMany (P.pool slots.old) self.old.slots (P.pool slots.new) self.new.slots }
         ensures number { (P.pool slots.new).slots ≡ (P.pool slots.old).slots }
         ensures words { (P.pool slots.new).words ≡ (P.pool slots.old).words }
         ensures rest { P.rest slots.new ≡ P.rest slots.old }
@@ -98,8 +98,8 @@ impl Outbox {
         self.waiting.push_back(slot);
     }
 
-    /// Takes out the oldest report and gives its slot back, or else the notice, which is void then; None exactly
-    /// where neither is there.
+    /// Takes out the oldest report and gives its slot back, or else takes out the notice, which is void then. None if
+    /// and only if neither is there.
     pub fn pop<P: Slots>(&mut self, slots: &mut P) -> Option<Told>
         requires wide { AreWide (P.pool slots.old) self.old.slots }
         requires owned { AreOwned (P.pool slots.old) self.old.slots }
@@ -107,9 +107,9 @@ impl Outbox {
         ensures none { IsNone result ↔ ((self.old.slots ≡ []) × (self.old.untold ≡ None)) }
         ensures slots { self.new.slots ≡ drop 1 self.old.slots }
         ensures owned { AreOwned (P.pool slots.new) self.new.slots }
-        ensures lies { LosesFirst (P.pool slots.old) self.old.slots (P.pool slots.new) self.new.slots }
+        ensures lost_first { LosesFirst (P.pool slots.old) self.old.slots (P.pool slots.new) self.new.slots }
         ensures others { GivesFirst (P.pool slots.old) (P.pool slots.new) self.old.slots }
-        ensures counted { AreAsMany (P.pool slots.old) self.old.slots (P.pool slots.new) self.new.slots }
+        ensures as_many { AreAsMany (P.pool slots.old) self.old.slots (P.pool slots.new) self.new.slots }
         ensures number { (P.pool slots.new).slots ≡ (P.pool slots.old).slots }
         ensures words { (P.pool slots.new).words ≡ (P.pool slots.old).words }
         ensures rest { P.rest slots.new ≡ P.rest slots.old }

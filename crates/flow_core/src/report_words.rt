@@ -5,16 +5,20 @@ ghost use Rattle.slot_pool.specs.Pool.{words_at, IsOut, free_of, ChangesSlot};
 ghost use Rattle.flow_core.specs.Outbox.{most_report_words, head_words, ReportFits, Stores};
 ghost use Rattle.flow_core.specs.ReportWords.{WritesOver, narrow, report_in};
 
-use ccp_base::{Report, Values};
+use ccp_base::{FIELDS, Report, Values};
 use slot_pool::{Full, Slot, Slots};
 
+/// How many words stand before the fields of a report: its numbers, and how many fields it has.
+const HEAD_WORDS: usize = 9;
+
+/// How many words of a slot no report takes. The longest report takes 73, and a slot of 80 is ten cache lines of 64
+/// bytes.
+const SPARE_WORDS: usize = 7;
+
 /// How many words a slot must have to hold a report.
-pub const REPORT_WORDS: u32 = 80;
+pub const REPORT_WORDS: u32 = (HEAD_WORDS + FIELDS as usize + SPARE_WORDS) as u32;
 
 const _: () = prove!(REPORT_WORDS == 80);
-
-/// How many words stand before the fields of a report.
-const HEAD_WORDS: u32 = 9;
 
 /// Takes a free slot and writes a report into it.
 pub(crate) fn store<P: Slots>(slots: &mut P, report: &Report) -> Slot
@@ -23,7 +27,7 @@ pub(crate) fn store<P: Slots>(slots: &mut P, report: &Report) -> Slot
     ensures was_free { words_at (P.pool slots.old) result ≡ None }
     ensures changed { ChangesSlot (P.pool slots.old) (P.pool slots.new) result (words_at (P.pool slots.new) result) }
     ensures stored { Stores (P.pool slots.new) result report.entry.now }
-    ensures counted { free_of (P.pool slots.new) + 1 ≡ free_of (P.pool slots.old) }
+    ensures free { free_of (P.pool slots.new) + 1 ≡ free_of (P.pool slots.old) }
     ensures rest { P.rest slots.new ≡ P.rest slots.old }
 {
     let slot = match slots.take_slot() {
@@ -31,12 +35,12 @@ pub(crate) fn store<P: Slots>(slots: &mut P, report: &Report) -> Slot
         Err(Full) => unreachable!(),
     };
     write(slots, &slot, 0, &head(report));
-    write(slots, &slot, HEAD_WORDS, report.fields.as_slice());
+    write(slots, &slot, HEAD_WORDS as u32, report.fields.as_slice());
     slot
 }
 
 /// The words of a report that stand before its fields.
-fn head(report: &Report) -> [u64; 9]
+fn head(report: &Report) -> [u64; HEAD_WORDS]
     ensures words { result ≡ head_words report.entry.now }
     ensures in_range { ReportFits report.entry.now }
 {
@@ -60,7 +64,7 @@ fn write<P: Slots>(slots: &mut P, slot: &Slot, at: u32, words: &[u64])
     requires words { most_report_words ≤ (P.pool slots.old).words }
     ensures written { WritesOver slot.now at words.now (P.pool slots.old) (P.pool slots.new) }
     ensures out { IsOut (P.pool slots.new) slot.now }
-    ensures counted { free_of (P.pool slots.new) ≡ free_of (P.pool slots.old) }
+    ensures free { free_of (P.pool slots.new) ≡ free_of (P.pool slots.old) }
     ensures rest { P.rest slots.new ≡ P.rest slots.old }
 {
     let mut at = at;
@@ -78,7 +82,7 @@ pub(crate) fn take_report<P: Slots>(slots: &mut P, slot: Slot) -> Report
     requires words { most_report_words ≤ (P.pool slots.old).words }
     ensures report { (report : Report) → Stores (P.pool slots.old) slot report → result ≡ report }
     ensures given { ChangesSlot (P.pool slots.old) (P.pool slots.new) slot None }
-    ensures counted { free_of (P.pool slots.new) ≡ free_of (P.pool slots.old) + 1 }
+    ensures free { free_of (P.pool slots.new) ≡ free_of (P.pool slots.old) + 1 }
     ensures rest { P.rest slots.new ≡ P.rest slots.old }
 {
     let report = read(slots.slot(&slot));
@@ -91,8 +95,7 @@ fn read(words: &[u64]) -> Report
     requires { most_report_words ≤ length words.now }
     ensures { result ≡ report_in words.now }
 {
-    let first = HEAD_WORDS as usize;
-    let count = words[8].min(64) as usize;
+    let count = words[8].min(u64::from(FIELDS)) as usize;
     Report {
         flow: narrow(words[0]),
         program: narrow(words[1]),
@@ -102,7 +105,7 @@ fn read(words: &[u64]) -> Report
         now: words[5],
         cwnd: words[6],
         rate: words[7],
-        fields: Values::from_slice(&words[first..first + count]),
+        fields: Values::from_slice(&words[HEAD_WORDS..HEAD_WORDS + count]),
     }
 }
 

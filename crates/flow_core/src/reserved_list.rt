@@ -48,7 +48,7 @@ impl<T> ReservedList<T> {
         self.items.len()
     }
 
-    /// The last item, None exactly where the list is empty.
+    /// The last item; None if and only if the list is empty.
     pub fn last(&self) -> Option<&T>
         ensures { option_copied result ≡ slice_get self.now.items (length self.now.items - 1) }
     {
@@ -75,7 +75,7 @@ impl<T: Drop> ReservedList<T> {
         Ok(())
     }
 
-    /// Puts an item at the list's end, where there is room. It takes no memory.
+    /// Puts an item at the list's end, for which there must be room. It takes no memory.
     pub fn push(&mut self, item: T)
         requires { length self.old.items < self.old.room }
         ensures items { self.new.items ≡ self.old.items ++ item ∷ [] }

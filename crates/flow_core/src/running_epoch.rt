@@ -1,7 +1,8 @@
 //! The epoch that runs: what a change makes of it, and what its reports and fault notices say.
 ghost use Rattle.std.specs.Prelude.{◌≡◌, ◌+◌, ◌<◌};
 ghost use Rattle.ccp_base.specs.Limits.{most_acks};
-ghost use Rattle.flow_core.specs.RunningEpochs.{opening_epoch, next_epoch, line_of, report_at, reported_epoch, notice_at};
+ghost use Rattle.flow_core.specs.RunningEpochs.{opening_epoch, next_epoch, line_of, report_at, reported_epoch};
+ghost use Rattle.flow_core.specs.RunningEpochs.{notice_at};
 
 use crate::book::EpochLine;
 use ccp_base::{Ack, FaultKind, Notice, Report, Values};

@@ -13,13 +13,14 @@ use Rattle.portus_core.specs.Reports.{Reporter, reports_met}
 use Rattle.flow_core.specs.Readings.{Flow}
 use Rattle.flow_core.specs.World.{Failure, World, track_of, failures_met, untold_after, held_met, has_room, with_met, after_ack, notice_of}
 use Rattle.flow_core.specs.Cores.{met_in}
+use Rattle.flow_core.proofs.SummaryLemmas.{time-append}
 use Rattle.source_flow.specs.declared.source_case.SourceCase.{SourceCase}
 use Rattle.source_flow.specs.declared.state.Present.{Present}
 use Rattle.source_flow.specs.declared.state.State.{State}
 use Rattle.source_flow.specs.SourceAccounts.{failure_of}
 use Rattle.source_flow.specs.SourceStates.{form_at, flow_over_sources, KeptFlow, kept_flow_in, kept_flow_of, IsAt}
 use Rattle.source_flow.specs.SourceSteps.{present_track, failures_heard, untold_by, RecordsOutcome}
-use Rattle.source_flow.proofs.StateLemmas.{epoch_lines-last, time-append}
+use Rattle.source_flow.proofs.EpochLineLemmas.{epoch_lines-last}
 
 -- ---- the record of an outcome depends only on where the span begins and on the count
 

@@ -1,5 +1,5 @@
 -- The lemmas of source_flow, a file a topic.
-pub mod StateLemmas
+pub mod EpochLineLemmas
 pub mod HeardLemmas
 pub mod SettledLemmas
 pub mod GoodLemmas

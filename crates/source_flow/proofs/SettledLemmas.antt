@@ -24,7 +24,7 @@ use Rattle.source_flow.specs.declared.state.Present.{Present}
 use Rattle.source_flow.specs.declared.state.State.{State}
 use Rattle.source_flow.specs.SourceStates.{form_at, flow_over_sources, KeptFlow, kept_flow_in, kept_flow_of, IsAt, IsSourceSound}
 use Rattle.source_flow.specs.SourceSteps.{Changed, Obeyed}
-use Rattle.source_flow.proofs.StateLemmas.{epoch_lines-last, epoch_lines-more}
+use Rattle.source_flow.proofs.EpochLineLemmas.{epoch_lines-last, epoch_lines-more}
 
 -- ---- a reply is obeyed
 

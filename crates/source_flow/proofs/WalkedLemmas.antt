@@ -21,7 +21,7 @@ module _ (flow : Flow Place) (link : LinkCase) (word : List Letter) (i : ℕ) (d
   pub world-next : world flow link (take (i + 1) word) ≡ after_letter flow (from_link flow link) (world flow link (take i word)) (get_or word i d)
   world-next = ap (world flow link) front ∙ world-append flow link (take i word) (get_or word i d)
 
-  -- one more letter is legal where it is legal at its point
+  -- after a legal word, one more letter is legal if and only if it is legal at its point
   pub legal-next : legal flow link (take i word) ≡ true
       → legal flow link (take (i + 1) word) ≡ is_legal flow (world flow link (take i word)) (get_or word i d)
   legal-next so_far =

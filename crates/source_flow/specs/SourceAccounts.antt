@@ -45,6 +45,6 @@ account_in account = record {
   end = account.end;
 }
 
--- this is found after a word: its account, or nothing where the word isn't legal or not complete
+-- this is found after a word: its account, or nothing if the word isn't legal or isn't complete
 abbrev pub IsAccountAfter : Flow Place → LinkCase → List Letter → Option FlowAccount → Type 0
 IsAccountAfter flow link word found = option_map account_in found ≡ account_after flow link word

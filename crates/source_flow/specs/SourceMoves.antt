@@ -10,12 +10,15 @@ use Rattle.source_flow.specs.SourceStates.{flow_over_sources, IsAt}
 
 -- the state after a letter, with the acknowledgements of the case's link
 abbrev pub after_making : SourceCase → Letter → World Place → World Place
-after_making source letter w = after_letter (flow_over_sources source) (from_link (flow_over_sources source) source.case.now.link) w letter
+after_making source letter w =
+    let flow = flow_over_sources source in
+    after_letter flow (from_link flow source.case.now.link) w letter
 
 -- whatever state the old one is at, the new one is at that state after the letter
 abbrev pub Makes : SourceCase → Letter → State → State → Type 0
 Makes source letter old new =
-    (w : World Place) → IsAt (flow_over_sources source) old w → IsAt (flow_over_sources source) new (after_making source letter w)
+    (w : World Place)
+    → IsAt (flow_over_sources source) old w → IsAt (flow_over_sources source) new (after_making source letter w)
 
 -- this is what the reading says, of whatever state is kept
 abbrev pub Shows : {X : Type 0} → SourceCase → State → (World Place → X) → X → Type 0

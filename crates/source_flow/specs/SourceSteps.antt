@@ -6,7 +6,6 @@ use Rattle.ccp_base.specs.declared.exchange.Notice.{Notice}
 use Rattle.ccp_base.specs.declared.exchange.Reply.{Reply}
 use Rattle.ccp_base.specs.declared.exchange.Reply.TheVariants.{Nothing, Update, Change}
 use Rattle.ccp_base.specs.FieldReg.{Pair, first_bad_pair}
-use Rattle.ccp_base.specs.declared.exchange.Report.{Report}
 use Rattle.ccp_base.specs.declared.place.Place.{Place}
 use Rattle.portus_core.specs.declared.env.Env.{Env}
 use Rattle.portus_core.specs.declared.env.Mean.{Mean}
@@ -29,11 +28,13 @@ use Rattle.source_flow.specs.SourceStates.{form_at, outcome_met}
 
 -- how the present epoch stands
 abbrev pub present_track : State → Track
-present_track s = record { env = s.present.env; is_stopped = s.present.is_stopped; first = s.present.epoch.first; count = s.acks }
+present_track s =
+    record { env = s.present.env; is_stopped = s.present.is_stopped; first = s.present.epoch.first; count = s.acks }
 
 -- the fault of an outcome, or none
 abbrev pub failures_heard : State → Ack → Outcome Cause → List (Failure Place)
-failures_heard s ack outcome = failures_met s.present.epoch.program s.present.epoch.number s.acks ack (outcome, s.present.env)
+failures_heard s ack outcome =
+    failures_met s.present.epoch.program s.present.epoch.number s.acks ack (outcome, s.present.env)
 
 -- a fault leaves its notice untold; a place has no index
 abbrev pub untold_by : ℕ → List (Failure Place) → Option Notice → Option Notice
@@ -61,18 +62,17 @@ pub record RecordsOutcome (flow : ℕ) (old new : State) (ack : Ack) (outcome : 
     faults = new.faults;
     held = new.held;
   }
-  pub present : new.present ≡ record old.present { epoch = record old.present.epoch { first = next_first outcome (present_track old) } }
+  pub present : new.present ≡ record old.present {
+    epoch = record old.present.epoch { first = next_first outcome (present_track old) };
+  }
   pub waiting :
       new.waiting.items
-      ≡ old.waiting.items ++ reports_met (reporter flow old.present.epoch.program old.present.epoch.number) (present_track old) ack outcome old.present.env
+      ≡ old.waiting.items
+      ++ reports_met (reporter flow old.present.epoch.program old.present.epoch.number) (present_track old) ack outcome
+      old.present.env
   pub untold : new.untold ≡ untold_by flow (failures_heard old ack outcome) old.untold
   pub faults : map failure_of new.faults ≡ map failure_of old.faults ++ failures_heard old ack outcome
   pub held : new.held ≡ old.held + held_met outcome
-
--- the notice that is left after a ticket with the oldest report, or else the notice
-abbrev pub untold_left : List Report → Option Notice → Option Notice
-untold_left (report ∷ rest) untold = untold
-untold_left [] untold = None
 
 -- ---- a ticket is answered, and the reply obeyed
 
@@ -101,7 +101,11 @@ env_at_start source program values s =
 pub record Changed (source : SourceCase) (program : ℕ) (values : List Pair) (old new : State) : Type 0 where
   pub env : new.present.env ≡ env_at_start source program values old
   pub shape : IsEnvOf (form_at source program) new.present.env
-  pub present : new.present ≡ record { epoch = next_epoch program old.acks old.present.epoch; env = new.present.env; is_stopped = false }
+  pub present : new.present ≡ record {
+    epoch = next_epoch program old.acks old.present.epoch;
+    env = new.present.env;
+    is_stopped = false;
+  }
   pub epochs : new.epochs ≡ old.epochs ++ line_of new.present.epoch old.acks new.present.env.cwnd ∷ []
   pub frame : new ≡ record old { present = new.present; untold = None; epochs = new.epochs }
 

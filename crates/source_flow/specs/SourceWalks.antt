@@ -23,8 +23,8 @@ IsPermitted source C s = Unit {0}
 abbrev pub first_values : SourceCase → List Pair
 first_values source = values_of source.case.now.agent (opening_change source.case.now.agent)
 
--- the epoch that this change starts
-pub record IsOpening (source : SourceCase) (present : Present) : Type 0 where
+-- the epoch that the agent's opening change starts
+pub record OpensWith (source : SourceCase) (present : Present) : Type 0 where
   pub epoch : present.epoch ≡ opening_epoch (course_of source.case.now.agent).ss.number 0
   pub env : present.env ≡ with_values (first_values source) (declared_env (form_at source present.epoch.program) 0 0 0)
   pub shape : IsEnvOf (form_at source present.epoch.program) present.env

@@ -11,9 +11,9 @@ use flow_core::{Case, Letter};
 use reg_compiler::Builts;
 use std::alloc::Global;
 
-/// The account of a case's flow after a word, by the meaning of the sources of its programs: its account where the
-/// word is legal and complete, None exactly where it isn't. Each program that the case's roles name must be among
-/// these, and be simulated by the role's code.
+/// The account of a case's flow after a word, by the meaning of the sources of its programs; None if and only if the
+/// word isn't legal or isn't complete. Each program that the case's roles name must be among these, and the role's code
+/// must simulate it.
 pub fn account(
     alloc: Global,
     case: &Case,

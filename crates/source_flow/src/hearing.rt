@@ -1,6 +1,6 @@
 //! An acknowledgement: its program's source gives its outcome, which is recorded.
 ghost use Rattle.std.specs.Prelude.{◌≡◌, ◌<◌, OnOk, IfOk};
-ghost use Rattle.portus_core.specs.Epoch.{stops, outcome_of};
+ghost use Rattle.portus_core.specs.Epoch.{outcome_of};
 ghost use Rattle.portus_core.specs.OneAcknowledgement.{IsEnvOf};
 ghost use Rattle.portus_core.specs.ProgramForm.{form_of};
 ghost use Rattle.flow_core.specs.declared.letter.Letter.TheVariants.{A};
@@ -15,18 +15,8 @@ use ccp_base::{Ack, FaultKind, NoMemory, Place, Values};
 use portus_core::{Mean, Program};
 use std::alloc::Global;
 
-/// Whether the outcome of an acknowledgement stops its epoch.
-fn stops_epoch(mean: &Mean) -> bool
-    ensures { result ≡ stops (outcome_of mean.now) }
-{
-    match mean {
-        Mean::Fault(_, _) => true,
-        Mean::Quiet | Mean::Reported(_) | Mean::Held => false,
-    }
-}
-
 impl Present {
-    /// The outcome of an acknowledgement by the epoch's program, None exactly where the epoch was stopped. The env
+    /// The outcome of an acknowledgement by the epoch's program; None if and only if the epoch was stopped. The env
     /// becomes the one after it.
     fn run(
         &mut self,
@@ -43,7 +33,7 @@ impl Present {
         }
         let (mean, env) = program.mean(alloc, &self.env, ack, room)?;
         self.env = env;
-        self.is_stopped = stops_epoch(&mean);
+        self.is_stopped = matches!(mean, Mean::Fault(_, _));
         Ok(Some(mean))
     }
 }
@@ -72,31 +62,21 @@ impl State {
         ensures { OnOk result (RecordsOutcome flow self.old self.new ack.entry.now (outcome_met mean.now)) }
     {
         match mean {
-            None => Ok(()),
-            Some(mean) => self.record_mean(flow, ack, mean),
-        }
-    }
-
-    /// Records the outcome of an acknowledgement that was run.
-    fn record_mean(&mut self, flow: u32, ack: &Ack, mean: &Mean) -> Result<(), NoMemory>
-        requires { CanRecord self.old }
-        ensures { OnOk result (RecordsOutcome flow self.old self.new ack.entry.now (outcome_of mean.now)) }
-    {
-        match mean {
-            Mean::Quiet => Ok(()),
-            Mean::Reported(fields) => self.record_report(flow, ack, fields),
-            Mean::Held => {
+            None | Some(Mean::Quiet) => Ok(()),
+            Some(Mean::Reported(fields)) => self.record_report(flow, ack, fields),
+            Some(Mean::Held) => {
                 self.held += 1;
                 Ok(())
             }
-            Mean::Fault(kind, place) => self.record_fault(flow, ack, *kind, *place),
+            Some(Mean::Fault(kind, place)) => self.record_fault(flow, ack, *kind, *place),
         }
     }
 
     /// Records a report with these fields.
     fn record_report(&mut self, flow: u32, ack: &Ack, fields: &Values) -> Result<(), NoMemory>
         requires { CanRecord self.old }
-        ensures { OnOk result (RecordsOutcome flow self.old self.new ack.entry.now (outcome_of (Mean.Reported fields.now))) }
+        ensures { OnOk result
+            (RecordsOutcome flow self.old self.new ack.entry.now (outcome_of (Mean.Reported fields.now))) }
     {
         let cwnd = self.present.env.cwnd;
         let rate = self.present.env.rate;
@@ -106,7 +86,7 @@ impl State {
         Ok(())
     }
 
-    /// Records a fault of this kind at this place, and leaves its notice undelivered. A place has no index.
+    /// Records a fault of this kind at this place, and leaves its notice untold. A place has no index.
     fn record_fault(
         &mut self,
         flow: u32,
@@ -115,7 +95,8 @@ impl State {
         place: Place,
     ) -> Result<(), NoMemory>
         requires { CanRecord self.old }
-        ensures { OnOk result (RecordsOutcome flow self.old self.new ack.entry.now (outcome_of (Mean.Fault kind place))) }
+        ensures { OnOk result
+            (RecordsOutcome flow self.old self.new ack.entry.now (outcome_of (Mean.Fault kind place))) }
     {
         let epoch = self.present.epoch;
         let cwnd = self.present.env.cwnd;

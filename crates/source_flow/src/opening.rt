@@ -2,7 +2,7 @@
 ghost use Rattle.std.specs.Prelude.{IfOk};
 ghost use Rattle.flow_core.specs.World.{opening};
 ghost use Rattle.source_flow.specs.SourceStates.{flow_over_sources, AreMatched, IsAt, IsSourceSound};
-ghost use Rattle.source_flow.specs.SourceWalks.{IsOpening};
+ghost use Rattle.source_flow.specs.SourceWalks.{OpensWith};
 
 use crate::settling::start_env;
 use crate::source_case::SourceCase;
@@ -16,7 +16,7 @@ use std::collections::VecDeque;
 /// The epoch that the agent's opening change starts.
 fn opening_epoch(alloc: Global, source: &SourceCase<'_>) -> Result<Present, NoMemory>
     requires { AreMatched source.now }
-    ensures { IfOk result (λ present. IsOpening source.now present) }
+    ensures { IfOk result (λ present. OpensWith source.now present) }
 {
     let agent = &source.case.agent;
     let epoch = RunningEpoch::opening(agent.course().ss.number, 0);
@@ -34,7 +34,8 @@ impl State {
     pub(crate) fn open(alloc: Global, source: &SourceCase<'_>) -> Result<State, NoMemory>
         requires { AreMatched source.now }
         ensures sound { IfOk result (λ state. IsSourceSound source.now state) }
-        ensures at { IfOk result (λ state. IsAt (flow_over_sources source.now) state (opening (flow_over_sources source.now))) }
+        ensures at { IfOk result (λ state.
+            IsAt (flow_over_sources source.now) state (opening (flow_over_sources source.now))) }
     {
         let present = opening_epoch(alloc, source)?;
         let link = Link::new(alloc, source.case.link.copy(alloc)?)?;

@@ -51,6 +51,7 @@ impl State {
         }
     }
 
+    // A function of its own: its clauses name the ticket, which `answer` finds by a match.
     /// Applies the agent's answer to this ticket, which is out.
     fn settle(
         &mut self,

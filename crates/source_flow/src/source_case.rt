@@ -31,7 +31,7 @@ impl<'a> SourceCase<'a> {
     }
 }
 
-/// The first program with this number, None exactly where there is none.
+/// The first program with this number, if there is one.
 pub(crate) fn built_at(programs: &[(u32, Built)], number: u32) -> Option<&Built>
     ensures { option_map (λ built. built.now) result ≡ built_numbered programs.now number }
 {

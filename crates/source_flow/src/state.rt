@@ -23,7 +23,7 @@ pub(crate) struct State {
     pub(crate) present: Present,
     /// How many acknowledgements are in.
     pub(crate) acks: u32,
-    /// The time of the last acknowledgement, in microseconds, 0 where there is none.
+    /// The time of the last acknowledgement, in microseconds, 0 if there is none.
     pub(crate) time: u64,
     /// The reports that wait, the oldest first.
     pub(crate) waiting: VecDeque<Report>,

@@ -2,12 +2,11 @@
 ghost use Rattle.std.specs.Prelude.{◌≡◌, None, is_some, drop};
 ghost use Rattle.std.specs.Bool.{OnTrue};
 ghost use Rattle.flow_core.specs.declared.letter.Letter.TheVariants.{T};
-ghost use Rattle.flow_core.specs.Outbox.{next_told};
+ghost use Rattle.flow_core.specs.Outbox.{next_told, notice_left};
 ghost use Rattle.flow_core.specs.Words.{can_take, is_legal, is_complete};
 ghost use Rattle.source_flow.specs.SourceStates.{flow_over_sources, IsSourceSound};
 ghost use Rattle.source_flow.specs.SourceMoves.{Makes, Shows};
 ghost use Rattle.source_flow.specs.SourceWalks.{IsPermitted};
-ghost use Rattle.source_flow.specs.SourceSteps.{untold_left};
 
 use crate::source_case::SourceCase;
 use crate::state::State;
@@ -45,7 +44,7 @@ impl State {
     fn pop(&mut self) -> Option<Told>
         ensures told { result ≡ next_told self.old.waiting.items self.old.untold }
         ensures waiting { self.new.waiting.items ≡ drop 1 self.old.waiting.items }
-        ensures untold { self.new.untold ≡ untold_left self.old.waiting.items self.old.untold }
+        ensures untold { self.new.untold ≡ notice_left self.old.waiting.items self.old.untold }
         ensures frame { self.new ≡ record self.old { waiting = self.new.waiting; untold = self.new.untold } }
     {
         if let Some(report) = self.waiting.pop_front() {

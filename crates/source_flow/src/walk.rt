@@ -61,7 +61,7 @@ impl State {
     }
 }
 
-/// The state after a word, None exactly where some letter isn't legal at its point.
+/// The state after a word; None if and only if some letter isn't legal at its point.
 fn walk(alloc: Global, source: &SourceCase<'_>, word: &[Letter]) -> Result<Option<State>, NoMemory>
     requires { AreMatched source.now }
     ensures { IfOk result (λ state. IsWalked source.now word.now state) }
@@ -76,7 +76,7 @@ fn walk(alloc: Global, source: &SourceCase<'_>, word: &[Letter]) -> Result<Optio
     Ok(Some(state))
 }
 
-/// The account of a word, None exactly where it isn't legal or not complete.
+/// The account of a word; None if and only if it isn't legal or isn't complete.
 pub(crate) fn account_over(
     alloc: Global,
     source: &SourceCase<'_>,

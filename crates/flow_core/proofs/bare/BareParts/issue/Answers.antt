@@ -8,8 +8,8 @@ returns-clause-parts c =
     let lies = c.requires.parts.lies in
     let reports = reports_in s.machine.further s.outbox.slots in
     is-taken s c.pop_told.new.machine c.pop_told.new.outbox c.in-Some.told c.in-Some.ensures.machine
-    (c.in-Some.ensures.told reports lies) (c.in-Some.ensures.lies reports lies) c.in-Some.ensures.untold
-    c.requires.parts c.requires.none_out c.requires.some c.in-Some.ensures.words c.in-Some.ensures.free c.in-Some.ensures.size
+    (c.in-Some.ensures.told reports lies) (c.in-Some.ensures.lost_first reports lies) c.in-Some.ensures.untold
+    c.requires.parts c.requires.none_out c.requires.some c.in-Some.ensures.words c.in-Some.ensures.as_many c.in-Some.ensures.size
 
 pub returns-clause-step : goal.returns-clause-step
 returns-clause-step c =
@@ -17,4 +17,4 @@ returns-clause-step c =
     let lies = c.requires.parts.lies in
     let reports = reports_in s.machine.further s.outbox.slots in
     summary-taken s c.pop_told.new.machine c.pop_told.new.outbox c.in-Some.told c.in-Some.ensures.machine
-    (c.in-Some.ensures.told reports lies) (c.in-Some.ensures.lies reports lies) c.in-Some.ensures.untold
+    (c.in-Some.ensures.told reports lies) (c.in-Some.ensures.lost_first reports lies) c.in-Some.ensures.untold

@@ -13,8 +13,8 @@ returns c =
     ∙ (λ i. report_at s.epoch s.case.flow s.acks c.args.ack.now (c.cwnd-cwnd.ensures i) (c.rate-rate.ensures i) (c.reported-fields.ensures i)) in
     noted-report s c.args.ack.now c.put_report.new.machine c.put_report.new.outbox c.report-report.result c.report-report.new.self
     put.machine
-    (put.lies (reports_in s.machine.further s.outbox.slots) c.requires.can.lies)
+    (put.gained (reports_in s.machine.further s.outbox.slots) c.requires.can.lies)
     put.untold
     report
     c.report-report.ensures.span
-    put.words put.free put.size
+    put.words put.as_many put.size

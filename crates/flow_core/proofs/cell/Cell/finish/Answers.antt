@@ -4,7 +4,8 @@ use Rattle.flow_core.specs.Words.{is_still, legal, is_complete}
 use Rattle.flow_core.specs.Books.{IsBookOf}
 use Rattle.flow_core.specs.Cores.{flow_in}
 use Rattle.flow_core.specs.Cells.{CellState, flow_at, world_at}
-use Rattle.flow_core.proofs.CellLemmas.{cell_of, same, legal-same, lifted, and-right}
+use Rattle.flow_core.proofs.BothLemmas.{and-right}
+use Rattle.flow_core.proofs.CellLemmas.{cell_of, same, legal-same, lifted}
 use Rattle.flow_core.proofs.cell.Cell.finish.Goals as goal
 
 pub finish-requires : goal.finish-requires

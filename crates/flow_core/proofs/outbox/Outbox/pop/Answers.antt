@@ -13,8 +13,8 @@ returns-in-Some-clause-owned g c =
     (ap (λ (b : Buffer ℕ). b.items) c.pop_front.ensures.items)
     c.take_report.ensures.given c.requires.owned
 
-pub returns-in-Some-clause-lies : goal.returns-in-Some-clause-lies
-returns-in-Some-clause-lies g c = λ reports lies.
+pub returns-in-Some-clause-lost_first : goal.returns-in-Some-clause-lost_first
+returns-in-Some-clause-lost_first g c = λ reports lies.
     lies-popped (g.P.Slots.pool c.args.slots.now) (g.P.Slots.pool c.take_report.new.slots) c.in-Some.slot None
     c.self.inside.waiting.items c.args.self.now.slots c.pop_front.new.self.items
     (ap (λ (o : OutboxState). o.slots) c.self.view_is)

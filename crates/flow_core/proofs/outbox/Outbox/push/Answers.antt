@@ -16,8 +16,8 @@ returns-clause-owned g c =
     (owned-pushed_report (g.P.Slots.pool c.args.slots.now) new slot (words_at new slot) c.args.self.now.slots c.args.report.now
     c.store-slot.ensures.was_free c.store-slot.ensures.changed c.store-slot.ensures.stored c.requires.owned)
 
-pub returns-clause-lies : goal.returns-clause-lies
-returns-clause-lies g c = λ reports lies.
+pub returns-clause-gained : goal.returns-clause-gained
+returns-clause-gained g c = λ reports lies.
     let new = g.P.Slots.pool c.store-slot.new.slots in
     let slot = c.store-slot.result in
     let whole : c.push_back.new.self.items ≡ c.args.self.now.slots ++ slot ∷ [] =
