@@ -1,5 +1,6 @@
 -- The lemmas of ccp_messages, a file a topic.
 pub mod CodeLaws
+pub mod ReasonLaws
 pub mod MessageLaws
 pub mod DecodeLaws
 pub mod Encoding

@@ -23,6 +23,7 @@ use Rattle.ccp_messages.specs.declared.message.Message.TheVariants.{Create, Meas
 use Rattle.ccp_messages.specs.declared.message.Message.TheVariants as message
 use Rattle.ccp_messages.specs.CodeParts.{start_part, decoded_start, event_part, decoded_event, instruction_part, decoded_instr}
 use Rattle.ccp_messages.specs.Messages.{IsShortCount, AreFew, IsNarrow, Meets, message_flow, message_body, message_of, IsTyped}
+use Rattle.ccp_messages.proofs.ReasonLaws.{reason-back, reason-within, reason-again}
 use Rattle.ccp_messages.proofs.CodeLaws.{truth-low, starts-back, events-back, instrs-back, starts-again, events-again, instructions-again, starts-fit, events-fit, instructions-fit}
 
 -- ---- from a message and back
@@ -39,7 +40,7 @@ message-back (Update flow values) = refl
 message-back (Change flow program values) = refl
 message-back (Fault n) = ap (λ kind. Fault (record { flow = n.flow; program = n.program; epoch = n.epoch; at = n.at; kind = kind; index = n.index; now = n.now; cwnd = n.cwnd })) (fault-back n.kind)
 message-back (message.Ack flow ack) = ap (λ b. message.Ack flow (record ack { was_timeout = b })) (true-back ack.was_timeout)
-message-back (Refused flow reason index) = refl
+message-back (Refused flow reason index) = ap (λ reason. Refused flow reason index) (reason-back reason)
 
 -- ---- what meets the conditions has a place in a frame
 
@@ -52,7 +53,7 @@ meets-both (Update flow values) meets = (meets, tt)
 meets-both (Change flow program values) meets = (meets, tt)
 meets-both (Fault notice) meets = (tt, meets)
 meets-both (message.Ack flow ack) meets = (tt, tt)
-meets-both (Refused flow reason index) meets = (meets, tt)
+meets-both (Refused flow reason index) meets = (tt, tt)
 
 pub meets-one : (m : Message) → Meets Two m → IsNarrow m → Meets One m
 meets-one (Create flow mss cwnd) meets narrow = tt
@@ -62,7 +63,7 @@ meets-one (Update flow values) meets narrow = meets
 meets-one (Change flow program values) meets narrow = meets
 meets-one (Fault notice) meets narrow = narrow
 meets-one (message.Ack flow ack) meets narrow = tt
-meets-one (Refused flow reason index) meets narrow = meets
+meets-one (Refused flow reason index) meets narrow = tt
 
 pairs-sendable : (values : List Pair) → AreTargets values → AllByRecursion ValueFits values → AllByRecursion IsSendable values
 pairs-sendable [] targets fit = tt
@@ -110,7 +111,9 @@ message-fits version (Update flow values) meets typed = (typed.0, (typed.1.0, om
 message-fits version (Change flow program values) meets typed = (typed.0, (typed.1.1.0, omega arith, omega arith, omega arith), (typed.1.0, pairs-sendable values meets typed.1.1.1))
 message-fits version (Fault n) meets typed = (typed.0, (omega arith, omega arith, omega arith, omega arith), (typed.1.0, typed.1.1, short-count version n.at meets typed.1.2, fault-low n.kind, typed.1.3, typed.1.4, typed.1.5))
 message-fits version (message.Ack flow ack) meets typed = (typed.0, (omega arith, omega arith, omega arith, omega arith), (refl, typed.1, truth-low ack.was_timeout))
-message-fits version (Refused flow reason index) meets typed = (typed.0, (omega arith, omega arith, omega arith, omega arith), (meets.0, meets.1, typed.1))
+message-fits version (Refused flow reason index) meets typed =
+    let within = reason-within reason in
+    (typed.0, (omega arith, omega arith, omega arith, omega arith), (within.0, within.1, typed.1))
 
 -- ---- from a body and back
 
@@ -193,4 +196,9 @@ body-said version flow (body.Ack numbers was_timeout) ok =
       meets = tt;
       typed = (ok.0, subst (λ xs. AllByRecursion IsNumber xs) (sym is) ok.2.1);
     }
-body-said version flow (body.Refused reason index) ok = record { flow_is = refl; body_is = refl; meets = (ok.2.0, ok.2.1); typed = (ok.0, ok.2.2) }
+body-said version flow (body.Refused number index) ok = record {
+  flow_is = refl;
+  body_is = ap (λ n. body.Refused n index) (reason-again number ok.2.0 ok.2.1);
+  meets = tt;
+  typed = (ok.0, ok.2.2);
+}

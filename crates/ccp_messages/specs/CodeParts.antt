@@ -47,9 +47,9 @@ register_part (reg.Temp i) = register 6 i
 
 abbrev pub reg_by : ℕ → ℕ → Reg
 reg_by class number =
-    if class == 0 then reg.Imm number else if class == 1 then reg.Prim number else if class == 2 then reg.Report number else
-    if class == 3 then reg.Control number else if class == 4 then reg.Implicit (implicit_of number) else
-    if class == 5 then reg.Local number else reg.Temp number
+    if class == 0 then reg.Imm number else if class == 1 then reg.Prim number else
+    if class == 2 then reg.Report number else if class == 3 then reg.Control number else
+    if class == 4 then reg.Implicit (implicit_of number) else if class == 5 then reg.Local number else reg.Temp number
 
 abbrev pub decoded_reg : Register → Reg
 decoded_reg r = reg_by r.class r.number
@@ -67,15 +67,26 @@ abbrev pub decoded_event : parts.EventLengths → Event
 decoded_event event = record { condition = event.condition; body = event.block }
 
 abbrev pub instruction_part : Instr → Instruction
-instruction_part i = record { op = op_number i.op; to = register_part i.to; left = register_part i.left; right = register_part i.right }
+instruction_part i = record {
+  op = op_number i.op;
+  to = register_part i.to;
+  left = register_part i.left;
+  right = register_part i.right;
+}
 
 abbrev pub decoded_instr : Instruction → Instr
-decoded_instr i = record { op = op_numbered i.op; to = decoded_reg i.to; left = decoded_reg i.left; right = decoded_reg i.right }
+decoded_instr i = record {
+  op = op_numbered i.op;
+  to = decoded_reg i.to;
+  left = decoded_reg i.left;
+  right = decoded_reg i.right;
+}
 
 -- what an Install says after its head
 abbrev pub code_body : ℕ → Code → Body
 code_body program code =
-    Install program (map start_part code.reports) (map start_part code.controls) (map event_part code.events) (map instruction_part code.instrs)
+    Install program (map start_part code.reports) (map start_part code.controls) (map event_part code.events)
+    (map instruction_part code.instrs)
 
 -- the counts of the head before a code
 abbrev pub code_counts : Code → Counts
@@ -94,4 +105,5 @@ instrs_bytes instrs = flat_map (λ instr. instruction_bytes (instruction_part in
 
 -- how many bytes a program's number and its code are, after the head of their Install
 abbrev pub code_size : Code → ℕ
-code_size code = 4 + 9 * length code.reports + 9 * length code.controls + 4 * length code.events + 28 * length code.instrs
+code_size code =
+    4 + 9 * length code.reports + 9 * length code.controls + 4 * length code.events + 28 * length code.instrs

@@ -65,7 +65,11 @@ install_message_at flow counts bytes = do
   controls ← repeated_at code_start_at counts.n2 reports.1
   events ← repeated_at code_event_at counts.n3 controls.1
   instrs ← repeated_at code_instr_at counts.n4 events.1
-  Ok (Install flow program.0 (record { reports = reports.0; controls = controls.0; events = events.0; instrs = instrs.0 }), instrs.1)
+  Ok (
+    Install flow program.0
+        (record { reports = reports.0; controls = controls.0; events = events.0; instrs = instrs.0 }),
+    instrs.1,
+  )
 
 -- the message whose body follows this head
 abbrev pub message_at : Outline → List ℕ → Read Message
@@ -73,7 +77,8 @@ message_at head bytes = made (message_of head.flow) (body_at head.kind head.vers
 
 -- the message of a frame that is read from the front of bytes of this length
 abbrev pub found_from : ℕ → Read Frame → Result Found Stop
-found_from total (Ok (frame, rest)) = Ok (message_of frame.outline.flow frame.body, frame.outline.version, total - length rest)
+found_from total (Ok (frame, rest)) =
+    Ok (message_of frame.outline.flow frame.body, frame.outline.version, total - length rest)
 found_from total (Err stop) = Err stop
 
 -- why reading stopped

@@ -27,7 +27,8 @@ HasOneFrame version message =
 
 -- a message that meets the conditions of a version has exactly one frame of it
 abbrev pub OneFrame : Type 0
-OneFrame = (version : Version) (message : Message) → IsTyped message → Meets version message → HasOneFrame version message
+OneFrame =
+    (version : Version) (message : Message) → IsTyped message → Meets version message → HasOneFrame version message
 
 -- every other message has none
 abbrev pub NoOther : Type 0
@@ -35,4 +36,5 @@ NoOther = (version : Version) (message : Message) → HasFrame version message �
 
 -- a message has a frame of version 1 exactly if it has one of version 2 and is narrow
 abbrev pub BothVersions : Type 0
-BothVersions = (message : Message) → IsTyped message → (HasFrame One message ↔ (HasFrame Two message × IsNarrow message))
+BothVersions =
+    (message : Message) → IsTyped message → (HasFrame One message ↔ (HasFrame Two message × IsNarrow message))

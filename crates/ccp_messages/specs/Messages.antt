@@ -6,7 +6,7 @@ use Rattle.ccp_base.specs.declared.exchange.Report.{Report}
 use Rattle.ccp_base.specs.declared.exchange.Notice.{Notice}
 use Rattle.ccp_base.specs.Acknowledgement.{primitives, flag_number, ack_of}
 use Rattle.ccp_base.specs.FieldReg.{Pair}
-use Rattle.ccp_base.specs.Limits.{most_fields, most_short_fields, most_controls, most_blocks, most_instrs, most_pairs, most_reason}
+use Rattle.ccp_base.specs.Limits.{most_fields, most_short_fields, most_controls, most_blocks, most_instrs, most_pairs}
 use Rattle.reg_code.specs.declared.code.Code.{Code}
 use Rattle.reg_code.specs.declared.code.Event.{Event}
 use Rattle.reg_code.specs.declared.code.Instr.{Instr}
@@ -23,9 +23,11 @@ use Rattle.reply_frames.specs.ValueBytes.{AreTargets, ValueFits}
 use Rattle.reply_frames.specs.FrameBytes.{kind_of_body, body_counts, spelled, IsNumber, IsCount}
 use Rattle.reply_frames.specs.Writing.{WroteFront}
 use Rattle.ccp_messages.specs.declared.message.Message.{Message}
-use Rattle.ccp_messages.specs.declared.message.Message.TheVariants.{Create, Measure, Install, Update, Change, Fault, Refused}
+use Rattle.ccp_messages.specs.declared.message.Message.TheVariants.{Create, Measure, Install, Update, Change, Fault}
+use Rattle.ccp_messages.specs.declared.message.Message.TheVariants.{Refused}
 use Rattle.ccp_messages.specs.declared.message.Message.TheVariants as message
 use Rattle.ccp_messages.specs.CodeParts.{decoded_start, decoded_event, decoded_instr, code_body}
+use Rattle.ccp_messages.specs.Reasons.{number_of_reason, reason_of}
 
 -- ---- the conditions of the encoder
 
@@ -42,7 +44,8 @@ AreFew Two n = Unit {0}
 -- its counts of acknowledgements, its fields and its reports are narrow enough for the version
 abbrev pub IsNarrowFor : Version → Message → Type 0
 IsNarrowFor version (Create flow mss cwnd) = Unit {0}
-IsNarrowFor version (Measure report) = IsShortCount version report.first × IsShortCount version report.end × AreFew version (length report.fields)
+IsNarrowFor version (Measure report) =
+    IsShortCount version report.first × IsShortCount version report.end × AreFew version (length report.fields)
 IsNarrowFor version (Install flow program code) = AreFew version (length code.reports)
 IsNarrowFor version (Update flow values) = Unit {0}
 IsNarrowFor version (Change flow program values) = Unit {0}
@@ -64,7 +67,7 @@ Meets version (Update flow values) = AreTargets values
 Meets version (Change flow program values) = AreTargets values
 Meets version (Fault notice) = IsNarrowFor version (Fault notice)
 Meets version (message.Ack flow ack) = Unit {0}
-Meets version (Refused flow reason index) = (1 ≤ reason) × (reason ≤ most_reason)
+Meets version (Refused flow reason index) = Unit {0}
 
 -- ---- the frame of a message
 
@@ -87,7 +90,7 @@ message_body (Update flow values) = body.Update values
 message_body (Change flow program values) = body.Change program values
 message_body (Fault notice) = notice_body notice
 message_body (message.Ack flow ack) = ack_body ack
-message_body (Refused flow reason index) = body.Refused reason index
+message_body (Refused flow reason index) = body.Refused (number_of_reason reason) index
 
 -- the length of the message's frame in a version
 abbrev pub size_in : Version → Message → ℕ
@@ -111,15 +114,39 @@ IsFrameOf message version bytes = Meets version message × (bytes ≡ frame_byte
 abbrev pub message_of : ℕ → Body → Message
 message_of flow (body.Create cwnd mss) = Create flow mss cwnd
 message_of flow (body.Measure program epoch first last now cwnd rate fields) =
-    Measure (record { flow = flow; program = program; epoch = epoch; first = first; end = last; now = now; cwnd = cwnd; rate = rate; fields = fields })
+    Measure (record {
+      flow = flow;
+      program = program;
+      epoch = epoch;
+      first = first;
+      end = last;
+      now = now;
+      cwnd = cwnd;
+      rate = rate;
+      fields = fields;
+    })
 message_of flow (body.Install program reports controls events instructions) =
-    Install flow program (record { reports = map decoded_start reports; controls = map decoded_start controls; events = map decoded_event events; instrs = map decoded_instr instructions })
+    Install flow program (record {
+      reports = map decoded_start reports;
+      controls = map decoded_start controls;
+      events = map decoded_event events;
+      instrs = map decoded_instr instructions;
+    })
 message_of flow (body.Update values) = Update flow values
 message_of flow (body.Change program values) = Change flow program values
 message_of flow (body.Fault program epoch place kind index now cwnd) =
-    Fault (record { flow = flow; program = program; epoch = epoch; at = place; kind = fault_kind_of kind; index = index; now = now; cwnd = cwnd })
+    Fault (record {
+      flow = flow;
+      program = program;
+      epoch = epoch;
+      at = place;
+      kind = fault_kind_of kind;
+      index = index;
+      now = now;
+      cwnd = cwnd;
+    })
 message_of flow (body.Ack numbers was_timeout) = message.Ack flow (ack_of (numbers ++ was_timeout ∷ []))
-message_of flow (body.Refused reason index) = Refused flow reason index
+message_of flow (body.Refused number index) = Refused flow (reason_of number) index
 
 -- ---- what types of the language give
 

@@ -89,8 +89,8 @@ fn put_body(out: &mut [u8], message: &Message, version: Version) -> usize
 
 /// Writes the message's one frame of this version at the front of `out`, and gives its length. Short exactly if
 /// `out` is shorter than that; then nothing is written. An Install's code has at most 64 reports, 64 controls, 64
-/// events and 256 instructions; controls that are written to have numbers below 64; a reason is 1 to 9. In version 1
-/// the numbers of acknowledgements are below 2^32, and there are at most 32 fields or reports.
+/// events and 256 instructions; controls that are written to have numbers below 64. In version 1 the numbers of
+/// acknowledgements are below 2^32, and there are at most 32 fields or reports.
 pub fn encode_into(message: &Message, version: Version, out: &mut [u8]) -> Result<usize, Short>
     requires { Meets version message.now }
     ensures ok { IfOk result (WroteFrame version message.now out.old out.new) }

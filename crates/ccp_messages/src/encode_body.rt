@@ -11,7 +11,9 @@ ghost use Rattle.reply_frames.specs.Writing.{Wrote};
 ghost use Rattle.ccp_messages.specs.declared.message.Message.TheVariants as message;
 ghost use Rattle.ccp_messages.specs.Messages.{IsShortCount, message_body, AreTypedPairs};
 ghost use Rattle.ccp_messages.specs.Messages.{IsTypedReport, IsTypedNotice, IsTypedAck};
+ghost use Rattle.ccp_messages.specs.Reasons.{number_of_reason};
 
+use crate::reason::Reason;
 use crate::writing::{put_count, put_numbers, put8, put16, put32, put64};
 use ccp_base::{Ack, Fields, Notice, PRIMITIVES, Report, bool_number, primitives};
 use reply_frames::Version;
@@ -93,11 +95,11 @@ pub fn put_ack(out: &mut [u8], at: usize, ack: Ack) -> usize
 }
 
 /// Puts the body of a Refused.
-pub fn put_refused(out: &mut [u8], at: usize, reason: u8, index: u32) -> usize
+pub fn put_refused(out: &mut [u8], at: usize, reason: Reason, index: u32) -> usize
     requires { at + 5 ≤ length out.old }
-    ensures wrote { Wrote at (body_bytes One (body.Refused reason index)) out.old out.new result }
+    ensures wrote { Wrote at (body_bytes One (body.Refused (number_of_reason reason) index)) out.old out.new result }
     ensures typed { index < 2 ^ 32 }
 {
-    let end = put8(out, at, reason);
+    let end = put8(out, at, reason.number());
     put32(out, end, index)
 }

@@ -12,6 +12,7 @@ mod laws;
 mod message;
 mod read_body;
 mod read_code;
+mod reason;
 mod writing;
 
 pub use decoding::decode;
@@ -19,4 +20,5 @@ pub use encode::encode_into;
 pub use fault::DecodeFault;
 pub use laws::frame_laws;
 pub use message::Message;
+pub use reason::Reason;
 pub use reply_frames::{BadKind, Short, Version};

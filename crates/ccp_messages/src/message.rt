@@ -1,4 +1,5 @@
 //! The messages between agent and datapath, each about one flow.
+use crate::reason::Reason;
 use ccp_base::{Ack, Fields, Notice, Report};
 use reg_code::Code;
 
@@ -42,8 +43,7 @@ pub enum Message {
     /// A frame that was refused.
     Refused {
         flow: u32,
-        /// Why, from 1 to 9.
-        reason: u8,
+        reason: Reason,
         /// What of the frame was refused; by the reason it is a program, an instruction, a value's place or 0.
         index: u32,
     },

@@ -4,13 +4,15 @@ ghost use Rattle.std.specs.Prelude.{◌≡◌, ◌≤◌, Err};
 ghost use Rattle.ccp_base.specs.Limits.{most_fields, most_pairs};
 ghost use Rattle.reply_frames.specs.Kinds.{most_n1};
 ghost use Rattle.reply_frames.specs.Parts.{Gives};
-ghost use Rattle.reply_frames.specs.Frames.{create_at, measure_at, update_at, change_at, fault_body_at, ack_body_at, refused_at};
+ghost use Rattle.reply_frames.specs.Frames.{create_at, measure_at, update_at, change_at};
+ghost use Rattle.reply_frames.specs.Frames.{fault_body_at, ack_body_at, refused_at};
 ghost use Rattle.ccp_messages.specs.Messages.{message_of};
 ghost use Rattle.ccp_messages.specs.Decoding.{ReturnsReading, made, message_at};
 
 use crate::fault::Halt;
 use crate::message::Message;
 use crate::read_code::install;
+use crate::reason::Reason;
 use ccp_base::Fields;
 use reply_frames::{FrameKind, Outline, Stop, Version, bodies};
 use std::alloc::Global;
@@ -81,7 +83,10 @@ fn ack(bytes: &[u8], flow: u32) -> Result<(Message, &[u8]), Stop>
 fn refusal(bytes: &[u8], flow: u32) -> Result<(Message, &[u8]), Stop>
     ensures { Gives (λ x. (x.0, x.1.now)) result (made (message_of flow) (refused_at bytes.now)) }
 {
-    let ((reason, index), rest) = bodies::refusal(bytes)?;
+    let ((number, index), rest) = bodies::refusal(bytes)?;
+    let Some(reason) = Reason::of_number(number) else {
+        unreachable!()
+    };
     Ok((
         Message::Refused {
             flow,

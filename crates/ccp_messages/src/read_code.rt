@@ -1,7 +1,8 @@
 //! A code, read from the body of an Install.
 
 ghost use Rattle.reply_frames.specs.Parts.{Gives, repeated_at};
-ghost use Rattle.ccp_messages.specs.Decoding.{ReturnsReading, code_start_at, code_event_at, code_instr_at, install_message_at};
+ghost use Rattle.ccp_messages.specs.Decoding.{ReturnsReading, code_start_at, code_event_at, code_instr_at};
+ghost use Rattle.ccp_messages.specs.Decoding.{install_message_at};
 
 use crate::code_parts::reg_of;
 use crate::fault::Halt;

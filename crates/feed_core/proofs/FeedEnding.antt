@@ -10,6 +10,7 @@ use Rattle.reply_frames.specs.declared.outline.Version.{Version}
 use Rattle.ccp_messages.specs.declared.message.Message.{Message}
 use Rattle.ccp_messages.specs.declared.message.Message.TheVariants.{Create, Measure, Install, Update, Change, Fault, Refused}
 use Rattle.ccp_messages.specs.declared.message.Message.TheVariants as message
+use Rattle.ccp_messages.specs.declared.reason.Reason.TheVariants.{FlowAbove}
 use Rattle.ccp_messages.specs.Messages.{frame_bytes}
 use Rattle.ccp_messages.specs.Decoding.{Begins, BeginsInstall, decoded_of}
 use Rattle.ccp_messages.proofs.DecodeLaws.{begins-decoded}
@@ -47,7 +48,7 @@ is-open place (byte ∷ rest) = tt
 
 -- a Create of a flow that isn't there has no answer
 created-quiet : (state : FeedState) (version : Version) (n cwnd : ℕ) (b : Bool) (o : Option Flow) → b ≡ true → o ≡ None
-    → answer_bytes (counted (cond b (created_at o state version n cwnd) (refused state version n 1 0))).0 ≡ []
+    → answer_bytes (counted (cond b (created_at o state version n cwnd) (refused state version n FlowAbove 0))).0 ≡ []
 created-quiet state version n cwnd true None below free = refl
 created-quiet state version n cwnd true (Some flow) below free = let bad : ⊥ = cc in absurd bad
 created-quiet state version n cwnd false o below free = let bad : ⊥ = cc in absurd bad

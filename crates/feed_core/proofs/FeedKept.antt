@@ -23,6 +23,10 @@ use Rattle.reply_frames.specs.declared.outline.Version.TheVariants.{One, Two}
 use Rattle.ccp_messages.specs.declared.message.Message.{Message}
 use Rattle.ccp_messages.specs.declared.message.Message.TheVariants.{Create, Measure, Install, Update, Change, Fault, Refused}
 use Rattle.ccp_messages.specs.declared.message.Message.TheVariants as message
+use Rattle.ccp_messages.specs.declared.reason.Reason.{Reason}
+use Rattle.ccp_messages.specs.declared.reason.Reason.TheVariants.{FlowAbove, FlowExists, NoFlow, ProgramAbove}
+use Rattle.ccp_messages.specs.declared.reason.Reason.TheVariants.{ProgramExists, NoProgram, NotAccepted, NoRegister}
+use Rattle.ccp_messages.specs.declared.reason.Reason.TheVariants.{TooWide}
 use Rattle.ccp_messages.specs.Messages.{AreFew, IsShortCount, frame_bytes}
 use Rattle.ccp_messages.proofs.Encoding.{length-frame}
 use Rattle.fold_machine.specs.declared.acked.Acked.{Acked}
@@ -106,7 +110,8 @@ notice-short Two notice =
     let long : length (frame_bytes Two (Fault notice)) ≡ 51 = length-frame Two (Fault notice) in
     omega (arith, long)
 
-refusal-short : (version : Version) (n reason index : ℕ) → length (frame_bytes version (Refused n reason index)) ≤ longest_answer
+refusal-short : (version : Version) (n : ℕ) (reason : Reason) (index : ℕ)
+    → length (frame_bytes version (Refused n reason index)) ≤ longest_answer
 refusal-short version n reason index =
     let long : length (frame_bytes version (Refused n reason index)) ≡ 21 = length-frame version (Refused n reason index) in
     omega (arith, long)
@@ -201,8 +206,10 @@ module _ (state : FeedState) (is_feed : IsFeed state) where
     framed,
   )
 
-  kept-refused : (version : Version) (n reason index : ℕ) → 1 ≤ reason → reason ≤ 9 → IsKept (state.messages + 1) (refused state version n reason index)
-  kept-refused version n reason index least most = kept-same (Some (Refused n reason index, version)) ((least, most), refusal-short version n reason index)
+  kept-refused : (version : Version) (n : ℕ) (reason : Reason) (index : ℕ)
+      → IsKept (state.messages + 1) (refused state version n reason index)
+  kept-refused version n reason index =
+      kept-same (Some (Refused n reason index, version)) (tt, refusal-short version n reason index)
 
   kept-flow : (n : ℕ) (flow : Flow) (answer : Answer) → IsFlow state.programs (state.messages + 1) flow → HasShortFrame answer → IsKept (state.messages + 1) (answer, with_flow state n flow)
   kept-flow n flow answer is framed = (
@@ -225,7 +232,7 @@ module _ (state : FeedState) (is_feed : IsFeed state) where
   -- ---- Create
 
   kept-created : (there : Option Flow) (version : Version) (n cwnd : ℕ) → IsKept (state.messages + 1) (created_at there state version n cwnd)
-  kept-created (Some flow) version n cwnd = kept-refused version n 2 0 (omega arith) (omega arith)
+  kept-created (Some flow) version n cwnd = kept-refused version n FlowExists 0
   kept-created None version n cwnd = kept-flow n (fresh_flow version cwnd) None (record { counted = omega arith; spanned = omega arith; changed = omega arith; runs = tt }) tt
 
   -- ---- Install
@@ -254,7 +261,7 @@ module _ (state : FeedState) (is_feed : IsFeed state) where
 
   kept-as : (version : Version) (n program : ℕ) (code : Code) → there state.programs program ≡ None → (o : Option Refusal) → rejected code ≡ o
       → IsKept (state.messages + 1) (installed_as o state version n program code)
-  kept-as version n program code free (Some refusal) is = kept-refused version n 7 refusal.1 (omega arith) (omega arith)
+  kept-as version n program code free (Some refusal) is = kept-refused version n NotAccepted refusal.1
   kept-as version n program code free None is = (
     record {
       flows_full = is_feed.flows_full;
@@ -267,7 +274,7 @@ module _ (state : FeedState) (is_feed : IsFeed state) where
 
   kept-installed : (version : Version) (n program : ℕ) (code : Code) (o : Option Code) → there state.programs program ≡ o
       → IsKept (state.messages + 1) (installed_at o state version n program code)
-  kept-installed version n program code (Some old) is = kept-refused version n 5 program (omega arith) (omega arith)
+  kept-installed version n program code (Some old) is = kept-refused version n ProgramExists program
   kept-installed version n program code None is = kept-as version n program code is (rejected code) refl
 
   -- ---- Change
@@ -279,7 +286,7 @@ module _ (state : FeedState) (is_feed : IsFeed state) where
   module _ (version : Version) (n program : ℕ) (values : List Pair) (flow : Flow) (is : IsFlow state.programs state.messages flow) where
     kept-with : (code : Code) → there state.programs program ≡ Some code → is_too_wide flow.version code ≡ false → (o : Option ℕ)
         → IsKept (state.messages + 1) (changed_with o state version n program values flow code)
-    kept-with code here fits (Some place) = kept-refused version n 8 place (omega arith) (omega arith)
+    kept-with code here fits (Some place) = kept-refused version n NoRegister place
     kept-with code here fits None = kept-flow n (changed_flow code program values flow) None (record {
       counted = omega (arith, is.counted);
       spanned = omega arith;
@@ -289,21 +296,21 @@ module _ (state : FeedState) (is_feed : IsFeed state) where
     }) tt
 
     kept-narrow : (code : Code) → there state.programs program ≡ Some code → (b : Bool) → is_too_wide flow.version code ≡ b
-        → IsKept (state.messages + 1) (cond b (refused state version n 9 program) (changed_with (first_bad_pair (length code.controls) values) state version n program values flow code))
-    kept-narrow code here true wide = kept-refused version n 9 program (omega arith) (omega arith)
+        → IsKept (state.messages + 1) (cond b (refused state version n TooWide program) (changed_with (first_bad_pair (length code.controls) values) state version n program values flow code))
+    kept-narrow code here true wide = kept-refused version n TooWide program
     kept-narrow code here false wide = kept-with code here wide (first_bad_pair (length code.controls) values)
 
     kept-to : (o : Option Code) → there state.programs program ≡ o → IsKept (state.messages + 1) (changed_to o state version n program values flow)
-    kept-to None here = kept-refused version n 6 program (omega arith) (omega arith)
+    kept-to None here = kept-refused version n NoProgram program
     kept-to (Some code) here = kept-narrow code here (is_too_wide flow.version code) refl
 
   kept-changed : (version : Version) (n program : ℕ) (values : List Pair) (flow : Option Flow) → IsFlowThere state.programs state.messages flow
       → IsKept (state.messages + 1) (changed_at flow state version n program values)
-  kept-changed version n program values None is = kept-refused version n 3 0 (omega arith) (omega arith)
+  kept-changed version n program values None is = kept-refused version n NoFlow 0
   kept-changed version n program values (Some flow) is =
-      kept-if (state.messages + 1) (nat_lt program most_kept_programs) (changed_to (there state.programs program) state version n program values flow) (refused state version n 4 program)
+      kept-if (state.messages + 1) (nat_lt program most_kept_programs) (changed_to (there state.programs program) state version n program values flow) (refused state version n ProgramAbove program)
       (kept-to version n program values flow is (there state.programs program) refl)
-      (kept-refused version n 4 program (omega arith) (omega arith))
+      (kept-refused version n ProgramAbove program)
 
   -- ---- Update and Ack: the program that was started is there
 
@@ -320,7 +327,7 @@ module _ (state : FeedState) (is_feed : IsFeed state) where
     module _ (version : Version) (values : List Pair) where
       kept-written : (epoch : Epoch) (code : Code) → flow.epoch ≡ Some epoch → there state.programs epoch.program ≡ Some code → Fits flow.machine code → AreFew flow.version (length code.reports)
           → (o : Option ℕ) → IsKept (state.messages + 1) (updated_with o state version n values flow)
-      kept-written epoch code e here fits few (Some place) = kept-refused version n 8 place (omega arith) (omega arith)
+      kept-written epoch code e here fits few (Some place) = kept-refused version n NoRegister place
       kept-written epoch code e here fits few None = kept-flow n (updated_flow values flow) None (record {
         counted = omega (arith, is.counted);
         spanned = is.spanned;
@@ -335,7 +342,7 @@ module _ (state : FeedState) (is_feed : IsFeed state) where
       kept-updated-code epoch e (Some code) here runs = kept-written epoch code e here runs.0 runs.1 (first_bad_pair (length code.controls) values)
 
       kept-updated-on : (epoch : Option Epoch) → flow.epoch ≡ epoch → IsKept (state.messages + 1) (updated_on (running_code epoch state.programs) state version n values flow)
-      kept-updated-on None e = kept-refused version n 6 0 (omega arith) (omega arith)
+      kept-updated-on None e = kept-refused version n NoProgram 0
       kept-updated-on (Some epoch) e = kept-updated-code epoch e (there state.programs epoch.program) refl (runs-now (Some epoch) e)
 
     module _ (small : state.messages < most_messages) (ack : Ack) where
@@ -365,21 +372,21 @@ module _ (state : FeedState) (is_feed : IsFeed state) where
 
   kept-updated : (version : Version) (n : ℕ) (values : List Pair) (flow : Option Flow) → IsFlowThere state.programs state.messages flow
       → IsKept (state.messages + 1) (updated_at flow state version n values)
-  kept-updated version n values None is = kept-refused version n 3 0 (omega arith) (omega arith)
+  kept-updated version n values None is = kept-refused version n NoFlow 0
   kept-updated version n values (Some flow) is = kept-updated-on n flow is version values flow.epoch refl
 
   kept-acked : (version : Version) (n : ℕ) (ack : Ack) → state.messages < most_messages → (flow : Option Flow) → IsFlowThere state.programs state.messages flow
       → IsKept (state.messages + 1) (flow_acked flow state version n ack)
-  kept-acked version n ack small None is = kept-refused version n 3 0 (omega arith) (omega arith)
+  kept-acked version n ack small None is = kept-refused version n NoFlow 0
   kept-acked version n ack small (Some flow) is = kept-acked-on n flow is small ack flow.epoch refl
 
   pub handled-kept : (message : Message) (version : Version) → state.messages < most_messages → IsKept (state.messages + 1) (handled state message version)
   handled-kept (Create n mss cwnd) version small =
-      kept-if (state.messages + 1) (nat_lt n most_flows) (created_at (there state.flows n) state version n cwnd) (refused state version n 1 0)
-      (kept-created (there state.flows n) version n cwnd) (kept-refused version n 1 0 (omega arith) (omega arith))
+      kept-if (state.messages + 1) (nat_lt n most_flows) (created_at (there state.flows n) state version n cwnd) (refused state version n FlowAbove 0)
+      (kept-created (there state.flows n) version n cwnd) (kept-refused version n FlowAbove 0)
   handled-kept (Install n program code) version small =
-      kept-if (state.messages + 1) (nat_lt program most_kept_programs) (installed_at (there state.programs program) state version n program code) (refused state version n 4 program)
-      (kept-installed version n program code (there state.programs program) refl) (kept-refused version n 4 program (omega arith) (omega arith))
+      kept-if (state.messages + 1) (nat_lt program most_kept_programs) (installed_at (there state.programs program) state version n program code) (refused state version n ProgramAbove program)
+      (kept-installed version n program code (there state.programs program) refl) (kept-refused version n ProgramAbove program)
   handled-kept (Change n program values) version small = kept-changed version n program values (there state.flows n) (flow-there n)
   handled-kept (Update n values) version small = kept-updated version n values (there state.flows n) (flow-there n)
   handled-kept (message.Ack n ack) version small = kept-acked version n ack small (there state.flows n) (flow-there n)

@@ -9,6 +9,9 @@ use Rattle.reg_code.specs.declared.code.Code.{Code}
 use Rattle.reg_code.specs.AcceptedCode.{Refusal, rejected}
 use Rattle.reply_frames.specs.declared.outline.Version.{Version}
 use Rattle.ccp_messages.specs.declared.message.Message.TheVariants.{Refused}
+use Rattle.ccp_messages.specs.declared.reason.Reason.{Reason}
+use Rattle.ccp_messages.specs.declared.reason.Reason.TheVariants.{NoFlow, ProgramAbove, NoProgram, NotAccepted}
+use Rattle.ccp_messages.specs.declared.reason.Reason.TheVariants.{NoRegister, TooWide}
 use Rattle.fold_machine.specs.Heard.{after_acknowledgement, updated_by}
 use Rattle.feed_core.specs.declared.flow.Epoch.{Epoch}
 use Rattle.feed_core.specs.declared.flow.Flow.{Flow}
@@ -31,16 +34,16 @@ module _ (flows : List (Option Flow)) (programs : List (Option Code)) (messages 
   put-same : (y : Option Flow) → y ≡ x → put y ≡ old
   put-same y e = ap put e ∙ ap (λ fs. record { flows = fs; programs = programs; messages = messages }) (same_there flows n x is)
 
-  refuses : (reason index : ℕ) (y : Option Flow) (r : Answer) → y ≡ x → r ≡ Some (Refused n reason index, version)
+  refuses : (reason : Reason) (index : ℕ) (y : Option Flow) (r : Answer) → y ≡ x → r ≡ Some (Refused n reason index, version)
       → ◌≡◌ {A = MessageAnswer} (r, put y) (Some (Refused n reason index, version), old)
   refuses reason index y r e answer = λ i. (answer i, put-same y e i)
 
   -- ---- acknowledgements
 
-  pub ack-absent : (ack : Ack) (y : Option Flow) (r : Answer) → x ≡ None → y ≡ x → r ≡ Some (Refused n 3 0, version)
+  pub ack-absent : (ack : Ack) (y : Option Flow) (r : Answer) → x ≡ None → y ≡ x → r ≡ Some (Refused n NoFlow 0, version)
       → ◌≡◌ {A = MessageAnswer} (r, put y) (answer_to_ack old version n ack)
   ack-absent ack y r none e answer =
-      refuses 3 0 y r e answer ∙ sym (ap (λ f. flow_acked f old version n ack) (is_there flows n x lt is ∙ none))
+      refuses NoFlow 0 y r e answer ∙ sym (ap (λ f. flow_acked f old version n ack) (is_there flows n x lt is ∙ none))
 
   pub ack-counted : (ack : Ack) (flow flow' : Flow) → x ≡ Some flow → running_code flow.epoch programs ≡ None → flow' ≡ counted_flow ack flow
       → ◌≡◌ {A = MessageAnswer} (None, put (Some flow')) (answer_to_ack old version n ack)
@@ -58,25 +61,25 @@ module _ (flows : List (Option Flow)) (programs : List (Option Code)) (messages 
 
   -- ---- updates
 
-  pub update-absent : (values : List Pair) (y : Option Flow) (r : Answer) → x ≡ None → y ≡ x → r ≡ Some (Refused n 3 0, version)
+  pub update-absent : (values : List Pair) (y : Option Flow) (r : Answer) → x ≡ None → y ≡ x → r ≡ Some (Refused n NoFlow 0, version)
       → ◌≡◌ {A = MessageAnswer} (r, put y) (updated old version n values)
   update-absent values y r none e answer =
-      refuses 3 0 y r e answer ∙ sym (ap (λ f. updated_at f old version n values) (is_there flows n x lt is ∙ none))
+      refuses NoFlow 0 y r e answer ∙ sym (ap (λ f. updated_at f old version n values) (is_there flows n x lt is ∙ none))
 
   module _ (values : List Pair) (flow : Flow) (some : x ≡ Some flow) where
     update-there : updated old version n values ≡ updated_on (running_code flow.epoch programs) old version n values flow
     update-there = ap (λ f. updated_at f old version n values) (is_there flows n x lt is ∙ some)
 
-    pub update-idle : (r : Answer) → running_code flow.epoch programs ≡ None → r ≡ Some (Refused n 6 0, version)
+    pub update-idle : (r : Answer) → running_code flow.epoch programs ≡ None → r ≡ Some (Refused n NoProgram 0, version)
         → ◌≡◌ {A = MessageAnswer} (r, put (Some flow)) (updated old version n values)
     update-idle r none answer =
-        refuses 6 0 (Some flow) r (sym some) answer ∙ sym (update-there ∙ ap (λ c. updated_on c old version n values flow) none)
+        refuses NoProgram 0 (Some flow) r (sym some) answer ∙ sym (update-there ∙ ap (λ c. updated_on c old version n values flow) none)
 
     pub update-bad : (epoch : Epoch) (code : Code) (flow' : Flow) (place : ℕ) (r : Answer) → running_code flow.epoch programs ≡ Some (epoch, code)
-        → first_bad_pair (length code.controls) values ≡ Some place → flow' ≡ flow → r ≡ Some (Refused n 8 place, version)
+        → first_bad_pair (length code.controls) values ≡ Some place → flow' ≡ flow → r ≡ Some (Refused n NoRegister place, version)
         → ◌≡◌ {A = MessageAnswer} (r, put (Some flow')) (updated old version n values)
     update-bad epoch code flow' place r runs bad e answer =
-        refuses 8 place (Some flow') r (ap Some e ∙ sym some) answer
+        refuses NoRegister place (Some flow') r (ap Some e ∙ sym some) answer
         ∙ sym (update-there ∙ ap (λ c. updated_on c old version n values flow) runs ∙ ap (λ b. updated_with b old version n values flow) bad)
 
     pub update-written : (epoch : Epoch) (code : Code) (flow' : Flow) → running_code flow.epoch programs ≡ Some (epoch, code)
@@ -88,47 +91,47 @@ module _ (flows : List (Option Flow)) (programs : List (Option Code)) (messages 
 
   -- ---- changes
 
-  pub change-absent : (program : ℕ) (values : List Pair) (y : Option Flow) (r : Answer) → x ≡ None → y ≡ x → r ≡ Some (Refused n 3 0, version)
+  pub change-absent : (program : ℕ) (values : List Pair) (y : Option Flow) (r : Answer) → x ≡ None → y ≡ x → r ≡ Some (Refused n NoFlow 0, version)
       → ◌≡◌ {A = MessageAnswer} (r, put y) (changed old version n program values)
   change-absent program values y r none e answer =
-      refuses 3 0 y r e answer ∙ sym (ap (λ f. changed_at f old version n program values) (is_there flows n x lt is ∙ none))
+      refuses NoFlow 0 y r e answer ∙ sym (ap (λ f. changed_at f old version n program values) (is_there flows n x lt is ∙ none))
 
   module _ (program : ℕ) (values : List Pair) (flow : Flow) (some : x ≡ Some flow) where
     change-at : changed old version n program values ≡ changed_at (Some flow) old version n program values
     change-at = ap (λ f. changed_at f old version n program values) (is_there flows n x lt is ∙ some)
 
-    pub change-above : (r : Answer) → nat_lt program most_kept_programs ≡ false → r ≡ Some (Refused n 4 program, version)
+    pub change-above : (r : Answer) → nat_lt program most_kept_programs ≡ false → r ≡ Some (Refused n ProgramAbove program, version)
         → ◌≡◌ {A = MessageAnswer} (r, put (Some flow)) (changed old version n program values)
     change-above r above answer =
-        refuses 4 program (Some flow) r (sym some) answer
-        ∙ sym (change-at ∙ ap (λ b. cond b (changed_to (there programs program) old version n program values flow) (Some (Refused n 4 program, version), old)) above)
+        refuses ProgramAbove program (Some flow) r (sym some) answer
+        ∙ sym (change-at ∙ ap (λ b. cond b (changed_to (there programs program) old version n program values flow) (Some (Refused n ProgramAbove program, version), old)) above)
 
     module _ (below : nat_lt program most_kept_programs ≡ true) where
       change-to : changed old version n program values ≡ changed_to (there programs program) old version n program values flow
-      change-to = change-at ∙ ap (λ b. cond b (changed_to (there programs program) old version n program values flow) (Some (Refused n 4 program, version), old)) below
+      change-to = change-at ∙ ap (λ b. cond b (changed_to (there programs program) old version n program values flow) (Some (Refused n ProgramAbove program, version), old)) below
 
-      pub change-unknown : (r : Answer) → there programs program ≡ None → r ≡ Some (Refused n 6 program, version)
+      pub change-unknown : (r : Answer) → there programs program ≡ None → r ≡ Some (Refused n NoProgram program, version)
           → ◌≡◌ {A = MessageAnswer} (r, put (Some flow)) (changed old version n program values)
       change-unknown r none answer =
-          refuses 6 program (Some flow) r (sym some) answer
+          refuses NoProgram program (Some flow) r (sym some) answer
           ∙ sym (change-to ∙ ap (λ c. changed_to c old version n program values flow) none)
 
       module _ (code : Code) (here : there programs program ≡ Some code) where
         abbrev wide : Bool → MessageAnswer
-        wide b = cond b (Some (Refused n 9 program, version), old) (changed_with (first_bad_pair (length code.controls) values) old version n program values flow code)
+        wide b = cond b (Some (Refused n TooWide program, version), old) (changed_with (first_bad_pair (length code.controls) values) old version n program values flow code)
 
         change-here : changed old version n program values ≡ wide (is_too_wide flow.version code)
         change-here = change-to ∙ ap (λ c. changed_to c old version n program values flow) here
 
-        pub change-wide : (r : Answer) → is_too_wide flow.version code ≡ true → r ≡ Some (Refused n 9 program, version)
+        pub change-wide : (r : Answer) → is_too_wide flow.version code ≡ true → r ≡ Some (Refused n TooWide program, version)
             → ◌≡◌ {A = MessageAnswer} (r, put (Some flow)) (changed old version n program values)
-        change-wide r is_wide answer = refuses 9 program (Some flow) r (sym some) answer ∙ sym (change-here ∙ ap wide is_wide)
+        change-wide r is_wide answer = refuses TooWide program (Some flow) r (sym some) answer ∙ sym (change-here ∙ ap wide is_wide)
 
         pub change-bad : (flow' : Flow) (place : ℕ) (r : Answer) → is_too_wide flow.version code ≡ false → first_bad_pair (length code.controls) values ≡ Some place
-            → flow' ≡ flow → r ≡ Some (Refused n 8 place, version)
+            → flow' ≡ flow → r ≡ Some (Refused n NoRegister place, version)
             → ◌≡◌ {A = MessageAnswer} (r, put (Some flow')) (changed old version n program values)
         change-bad flow' place r fits bad e answer =
-            refuses 8 place (Some flow') r (ap Some e ∙ sym some) answer
+            refuses NoRegister place (Some flow') r (ap Some e ∙ sym some) answer
             ∙ sym (change-here ∙ ap wide fits ∙ ap (λ b. changed_with b old version n program values flow code) bad)
 
         pub change-started : (flow' : Flow) → is_too_wide flow.version code ≡ false → first_bad_pair (length code.controls) values ≡ None
@@ -150,10 +153,10 @@ module _ (flows : List (Option Flow)) (programs : List (Option Code)) (messages 
 
   install-free : installed before version n program code ≡ by_rule (rejected code)
   install-free =
-      ap (λ b. cond b (installed_at (there programs program) before version n program code) (Some (Refused n 4 program, version), before)) below
+      ap (λ b. cond b (installed_at (there programs program) before version n program code) (Some (Refused n ProgramAbove program, version), before)) below
       ∙ ap (λ old. installed_at old before version n program code) free
 
-  pub install-rejected : (refusal : Refusal) (r : Answer) → rejected code ≡ Some refusal → r ≡ Some (Refused n 7 refusal.1, version)
+  pub install-rejected : (refusal : Refusal) (r : Answer) → rejected code ≡ Some refusal → r ≡ Some (Refused n NotAccepted refusal.1, version)
       → ◌≡◌ {A = MessageAnswer} (r, before) (installed before version n program code)
   install-rejected refusal r is answer = ap (λ r. (r, before)) answer ∙ sym (install-free ∙ ap by_rule is)
 

@@ -1,5 +1,6 @@
 -- What a datapath over a stream of frames keeps, and its answer to a message.
-use Rattle.std.specs.Prelude.{◌≡◌, ℕ, ◌+◌, ◌<◌, nat_lt, Bool, true, false, if◌then◌else◌, Option, Some, None, option_map, unwrap_or, List, length, slice_get, slice_set, replicate}
+use Rattle.std.specs.Prelude.{◌≡◌, ℕ, ◌+◌, ◌<◌, nat_lt, Bool, true, false, if◌then◌else◌}
+use Rattle.std.specs.Prelude.{Option, Some, None, option_map, unwrap_or, List, length, slice_get, slice_set, replicate}
 use Rattle.ccp_base.specs.declared.ack.Ack.{Ack}
 use Rattle.ccp_base.specs.FieldReg.{Pair, first_bad_pair}
 use Rattle.ccp_base.specs.Limits.{most_flows, most_kept_programs, most_short_fields}
@@ -8,8 +9,13 @@ use Rattle.reg_code.specs.AcceptedCode.{Refusal, rejected}
 use Rattle.reply_frames.specs.declared.outline.Version.{Version}
 use Rattle.reply_frames.specs.declared.outline.Version.TheVariants.{One, Two}
 use Rattle.ccp_messages.specs.declared.message.Message.{Message}
-use Rattle.ccp_messages.specs.declared.message.Message.TheVariants.{Create, Measure, Install, Update, Change, Fault, Refused}
+use Rattle.ccp_messages.specs.declared.message.Message.TheVariants.{Create, Measure, Install, Update, Change, Fault}
+use Rattle.ccp_messages.specs.declared.message.Message.TheVariants.{Refused}
 use Rattle.ccp_messages.specs.declared.message.Message.TheVariants as message
+use Rattle.ccp_messages.specs.declared.reason.Reason.{Reason}
+use Rattle.ccp_messages.specs.declared.reason.Reason.TheVariants.{FlowAbove, FlowExists, NoFlow, ProgramAbove}
+use Rattle.ccp_messages.specs.declared.reason.Reason.TheVariants.{ProgramExists, NoProgram, NotAccepted, NoRegister}
+use Rattle.ccp_messages.specs.declared.reason.Reason.TheVariants.{TooWide}
 use Rattle.fold_machine.specs.declared.acked.Acked.{Acked}
 use Rattle.fold_machine.specs.declared.acked.Acked.TheVariants as acked
 use Rattle.fold_machine.specs.MachineState.{MachineState, fresh_machine}
@@ -40,7 +46,7 @@ abbrev pub MessageAnswer : Type 0
 MessageAnswer = Answer × FeedState
 
 -- a refused frame is answered in its own version, and changes nothing
-abbrev pub refused : FeedState → Version → ℕ → ℕ → ℕ → MessageAnswer
+abbrev pub refused : FeedState → Version → ℕ → Reason → ℕ → MessageAnswer
 refused state version n reason index = (Some (Refused n reason index, version), state)
 
 abbrev pub with_flow : FeedState → ℕ → Flow → FeedState
@@ -49,30 +55,39 @@ with_flow state n flow = record state { flows = slice_set state.flows n (Some fl
 -- ---- Create: a flow with a window, without a program
 
 abbrev pub fresh_flow : Version → ℕ → Flow
-fresh_flow version cwnd = record { version = version; machine = fresh_machine cwnd 0 0; epoch = None; first = 0; count = 0; last = 0 }
+fresh_flow version cwnd = record {
+  version = version;
+  machine = fresh_machine cwnd 0 0;
+  epoch = None;
+  first = 0;
+  count = 0;
+  last = 0;
+}
 
 abbrev pub created_at : Option Flow → FeedState → Version → ℕ → ℕ → MessageAnswer
-created_at (Some flow) state version n cwnd = refused state version n 2 0
+created_at (Some flow) state version n cwnd = refused state version n FlowExists 0
 created_at None state version n cwnd = (None, with_flow state n (fresh_flow version cwnd))
 
 abbrev pub created : FeedState → Version → ℕ → ℕ → MessageAnswer
 created state version n cwnd =
-    if nat_lt n most_flows then created_at (there state.flows n) state version n cwnd else refused state version n 1 0
+    if nat_lt n most_flows then created_at (there state.flows n) state version n cwnd
+    else refused state version n FlowAbove 0
 
 -- ---- Install: an accepted code is kept
 
 abbrev pub installed_as : Option Refusal → FeedState → Version → ℕ → ℕ → Code → MessageAnswer
-installed_as (Some refusal) state version n program code = refused state version n 7 refusal.1
-installed_as None state version n program code = (None, record state { programs = slice_set state.programs program (Some code) })
+installed_as (Some refusal) state version n program code = refused state version n NotAccepted refusal.1
+installed_as None state version n program code =
+    (None, record state { programs = slice_set state.programs program (Some code) })
 
 abbrev pub installed_at : Option Code → FeedState → Version → ℕ → ℕ → Code → MessageAnswer
-installed_at (Some old) state version n program code = refused state version n 5 program
+installed_at (Some old) state version n program code = refused state version n ProgramExists program
 installed_at None state version n program code = installed_as (rejected code) state version n program code
 
 abbrev pub installed : FeedState → Version → ℕ → ℕ → Code → MessageAnswer
 installed state version n program code =
     if nat_lt program most_kept_programs then installed_at (there state.programs program) state version n program code
-    else refused state version n 4 program
+    else refused state version n ProgramAbove program
 
 -- ---- Change: the program starts with the values; the first change of a flow is its epoch 0
 
@@ -93,20 +108,22 @@ is_too_wide One code = nat_lt most_short_fields (length code.reports)
 is_too_wide Two code = false
 
 abbrev pub changed_with : Option ℕ → FeedState → Version → ℕ → ℕ → List Pair → Flow → Code → MessageAnswer
-changed_with (Some place) state version n program values flow code = refused state version n 8 place
-changed_with None state version n program values flow code = (None, with_flow state n (changed_flow code program values flow))
+changed_with (Some place) state version n program values flow code = refused state version n NoRegister place
+changed_with None state version n program values flow code =
+    (None, with_flow state n (changed_flow code program values flow))
 
 abbrev pub changed_to : Option Code → FeedState → Version → ℕ → ℕ → List Pair → Flow → MessageAnswer
-changed_to None state version n program values flow = refused state version n 6 program
+changed_to None state version n program values flow = refused state version n NoProgram program
 changed_to (Some code) state version n program values flow =
-    if is_too_wide flow.version code then refused state version n 9 program
+    if is_too_wide flow.version code then refused state version n TooWide program
     else changed_with (first_bad_pair (length code.controls) values) state version n program values flow code
 
 abbrev pub changed_at : Option Flow → FeedState → Version → ℕ → ℕ → List Pair → MessageAnswer
-changed_at None state version n program values = refused state version n 3 0
+changed_at None state version n program values = refused state version n NoFlow 0
 changed_at (Some flow) state version n program values =
-    if nat_lt program most_kept_programs then changed_to (there state.programs program) state version n program values flow
-    else refused state version n 4 program
+    if nat_lt program most_kept_programs
+    then changed_to (there state.programs program) state version n program values flow
+    else refused state version n ProgramAbove program
 
 abbrev pub changed : FeedState → Version → ℕ → ℕ → List Pair → MessageAnswer
 changed state version n program values = changed_at (there state.flows n) state version n program values
@@ -122,17 +139,18 @@ abbrev pub updated_flow : List Pair → Flow → Flow
 updated_flow values flow = record flow { machine = updated_by values flow.machine }
 
 abbrev pub updated_with : Option ℕ → FeedState → Version → ℕ → List Pair → Flow → MessageAnswer
-updated_with (Some place) state version n values flow = refused state version n 8 place
+updated_with (Some place) state version n values flow = refused state version n NoRegister place
 updated_with None state version n values flow = (None, with_flow state n (updated_flow values flow))
 
 abbrev pub updated_on : Option (Epoch × Code) → FeedState → Version → ℕ → List Pair → Flow → MessageAnswer
-updated_on None state version n values flow = refused state version n 6 0
+updated_on None state version n values flow = refused state version n NoProgram 0
 updated_on (Some (epoch, code)) state version n values flow =
     updated_with (first_bad_pair (length code.controls) values) state version n values flow
 
 abbrev pub updated_at : Option Flow → FeedState → Version → ℕ → List Pair → MessageAnswer
-updated_at None state version n values = refused state version n 3 0
-updated_at (Some flow) state version n values = updated_on (running_code flow.epoch state.programs) state version n values flow
+updated_at None state version n values = refused state version n NoFlow 0
+updated_at (Some flow) state version n values =
+    updated_on (running_code flow.epoch state.programs) state version n values flow
 
 abbrev pub updated : FeedState → Version → ℕ → List Pair → MessageAnswer
 updated state version n values = updated_at (there state.flows n) state version n values
@@ -148,7 +166,12 @@ first_after (Some acked.Reported) flow = flow.count + 1
 first_after _ flow = flow.first
 
 abbrev pub flow_after : Option Acked × MachineState → Ack → Flow → Flow
-flow_after (came, machine) ack flow = record flow { machine = machine; first = first_after came flow; count = flow.count + 1; last = ack.now }
+flow_after (came, machine) ack flow = record flow {
+  machine = machine;
+  first = first_after came flow;
+  count = flow.count + 1;
+  last = ack.now;
+}
 
 -- the message about an acknowledgement: a report, or a fault
 abbrev pub message_about : Option Acked × MachineState → Ack → ℕ → Epoch → Flow → Option Message
@@ -176,7 +199,7 @@ message_about (Some (acked.Faulted kind index), machine) ack n epoch flow = Some
 message_about _ ack n epoch flow = None
 
 abbrev pub in_version : Version → Option Message → Answer
-in_version version told = option_map (λ message. (message, version)) told
+in_version version answer = option_map (λ message. (message, version)) answer
 
 abbrev pub acked_on : Option (Epoch × Code) → FeedState → ℕ → Ack → Flow → MessageAnswer
 acked_on None state n ack flow = (None, with_flow state n (counted_flow ack flow))
@@ -185,7 +208,7 @@ acked_on (Some (epoch, code)) state n ack flow =
     (in_version flow.version (message_about came ack n epoch flow), with_flow state n (flow_after came ack flow))
 
 abbrev pub flow_acked : Option Flow → FeedState → Version → ℕ → Ack → MessageAnswer
-flow_acked None state version n ack = refused state version n 3 0
+flow_acked None state version n ack = refused state version n NoFlow 0
 flow_acked (Some flow) state version n ack = acked_on (running_code flow.epoch state.programs) state n ack flow
 
 abbrev pub answer_to_ack : FeedState → Version → ℕ → Ack → MessageAnswer

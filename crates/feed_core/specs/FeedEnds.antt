@@ -6,15 +6,16 @@ use Rattle.reply_frames.specs.declared.outline.Version.{Version}
 use Rattle.ccp_messages.specs.declared.message.Message.TheVariants.{Create}
 use Rattle.ccp_messages.specs.Decoding.{Begins, BeginsInstall}
 use Rattle.feed_core.specs.declared.ending.FeedEnd.{FeedEnd}
-use Rattle.feed_core.specs.declared.ending.FeedEnd.TheVariants.{Whole, Bad, Cut, TooLong, ReadFailed, WriteFailed, NoMemory}
+use Rattle.feed_core.specs.declared.ending.FeedEnd.TheVariants.{Whole, Bad, Cut, TooLong, ReadFailed, WriteFailed}
+use Rattle.feed_core.specs.declared.ending.FeedEnd.TheVariants.{NoMemory}
 use Rattle.feed_core.specs.FeedBytes.{Tail, left, bad, feed_of}
 
 -- the answers to the frames of an input, as they are written
 abbrev pub answers_written : List ℕ → List ℕ
 answers_written bytes = (feed_of bytes).answers
 
--- the end after these frames, of an input that is too long or isn't: the first that holds of a bad frame, a further
--- byte, a last frame that is cut; else it is whole
+-- the end of an input, by what follows its whole frames and by whether it is too long: the first that holds of a bad
+-- frame, a further byte and a last frame that is cut; else the input is whole
 abbrev pub end_from : Tail → Bool → FeedEnd
 end_from (bad field place) longer = Bad field place
 end_from (left place rest) true = TooLong

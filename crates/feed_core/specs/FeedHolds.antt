@@ -13,7 +13,7 @@ use Rattle.feed_core.specs.declared.flow.Flow.{Flow}
 use Rattle.feed_core.specs.declared.tables.Tables.{Tables}
 use Rattle.feed_core.specs.Feed.{FeedState, Answer, next_epoch, running_code}
 
--- the code of an accepted one
+-- the code that was accepted
 abbrev pub code_in : Option Checked → Option Code
 code_in checked = option_map (λ (c : Checked). c.code) checked
 
@@ -22,7 +22,11 @@ codes_in programs = map code_in programs
 
 -- what contracts see of a feed
 abbrev pub feed_state : Tables → FeedState
-feed_state tables = record { flows = tables.flows.items; programs = codes_in tables.programs.items; messages = tables.messages }
+feed_state tables = record {
+  flows = tables.flows.items;
+  programs = codes_in tables.programs.items;
+  messages = tables.messages;
+}
 
 -- the flow's machine runs the code, whose reports have frames of the flow's version
 abbrev pub RunsOn : Option Epoch → Version → MachineState → Option (Epoch × Code) → Type 0
@@ -61,4 +65,5 @@ longest_answer = 64 + 8 * most_fields
 -- the answer has a frame, which isn't longer than the longest one
 abbrev pub HasShortFrame : Answer → Type 0
 HasShortFrame None = Unit {0}
-HasShortFrame (Some (message, version)) = Meets version message × (length (frame_bytes version message) ≤ longest_answer)
+HasShortFrame (Some (message, version)) =
+    Meets version message × (length (frame_bytes version message) ≤ longest_answer)

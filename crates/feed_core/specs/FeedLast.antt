@@ -4,8 +4,7 @@ use Rattle.ccp_base.specs.Outside.{Rose}
 use Rattle.feed_core.specs.declared.ending.FeedEnd.{FeedEnd}
 use Rattle.feed_core.specs.declared.ending.FeedEnd.TheVariants.{Whole, Cut, WriteFailed}
 
--- its frames are whole and the sink finished or didn't, or a frame is cut whose place this is, of which some bytes are
--- left
+-- no bytes are left, and the sink finished or failed; or some are left, and they are a part of the frame at this place
 abbrev pub IsLast : (before now : ℕ) → (is_finished : Type 0) → (place left : ℕ) → FeedEnd → Type 0
 IsLast before now is_finished place left Whole = (left ≡ 0) × is_finished
 IsLast before now is_finished place left (Cut start) = (0 < left) × (start ≡ place)

@@ -64,7 +64,8 @@ pub record LacksMemory (old new : Known) (state : FeedState) (bytes : List ℕ) 
 abbrev pub IsTurn : (before now : ℕ) (old new : Known) (state state' : FeedState) (bytes : List ℕ) → Turn → Type 0
 IsTurn before now old new state state' bytes (turn.Answered used) = AnswersOne old new state state' bytes used
 IsTurn before now old new state state' bytes turn.Part = IsPart old new state state' bytes
-IsTurn before now old new state state' bytes (turn.Bad field offset) = (decoded_of bytes ≡ Err (Bad field offset)) × (offset < length bytes) × (new ≡ old)
+IsTurn before now old new state state' bytes (turn.Bad field offset) =
+    (decoded_of bytes ≡ Err (Bad field offset)) × (offset < length bytes) × (new ≡ old)
 IsTurn before now old new state state' bytes turn.WriteFailed = FailsOne before now old new state bytes
 IsTurn before now old new state state' bytes turn.NoMemory = LacksMemory old new state bytes
 
@@ -75,6 +76,7 @@ pub record IsFeeding (source source' sink sink' : Known) (state : FeedState) (ea
   pub taken : Takes source source' (front ++ rest)
   pub eaten_is : length front ≡ eaten
   pub written : Appends sink sink' answers
-  pub goes : (more : List ℕ) → fed most_input_bytes 0 no_flows (front ++ more) ≡ with_answers answers (fed (most_input_bytes - state.messages) eaten state more)
+  pub goes : (more : List ℕ) → fed most_input_bytes 0 no_flows (front ++ more)
+      ≡ with_answers answers (fed (most_input_bytes - state.messages) eaten state more)
   pub few : state.messages ≤ eaten
   pub within : eaten + length rest ≤ most_input_bytes

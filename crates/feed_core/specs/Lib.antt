@@ -1,11 +1,13 @@
--- The definitions of feed_core, a file each. Public contracts cite Feed, FeedHolds, FeedEnds (over FeedBytes) and
--- Refusals; FeedLast, FeedStops, FeedTurns and Rests are for private contracts.
+-- The definitions of feed_core, a file each.
+
+-- those that contracts of public calls cite: the answer to a message, an input's answers and end, and the refusals
 pub mod Feed
+pub mod FeedHolds
 pub mod FeedBytes
 pub mod FeedEnds
-pub mod FeedHolds
-pub mod FeedLast
+pub mod Refusals
+-- those that only private contracts, invariants and proofs cite
+pub mod Rests
 pub mod FeedStops
 pub mod FeedTurns
-pub mod Refusals
-pub mod Rests
+pub mod FeedLast

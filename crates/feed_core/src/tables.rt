@@ -5,12 +5,13 @@ ghost use Rattle.std.specs.Prelude.{OnErr, IsTrue, ◌↔◌, true, option_map, 
 ghost use Rattle.ccp_base.specs.Limits.{most_flows, most_messages};
 ghost use Rattle.reg_code.specs.declared.checked.Checked.{Checked};
 ghost use Rattle.feed_core.specs.Feed.{no_flows, there, refused, created, installed, is_too_wide, changed};
-ghost use Rattle.feed_core.specs.Feed.{running_code, updated, in_version, answer_to_ack, handled, answer_message, TakesMemory};
+ghost use Rattle.feed_core.specs.Feed.{running_code, updated, in_version, answer_to_ack, handled};
+ghost use Rattle.feed_core.specs.Feed.{answer_message, TakesMemory};
 ghost use Rattle.feed_core.specs.FeedHolds.{feed_state, codes_in, AreFeedParts, IsFeed, HasShortFrame};
 
 use crate::flow::{Epoch, Flow};
 use ccp_base::{Ack, Fields, NoMemory};
-use ccp_messages::Message;
+use ccp_messages::{Message, Reason};
 use code_verifier::verify;
 use fold_machine::BadRegister;
 use reg_code::{Checked, Code};
@@ -75,17 +76,17 @@ fn is_too_wide(version: Version, code: &Checked) -> bool
 }
 
 /// The message as an answer in a version, if there is one.
-fn in_version(version: Version, told: Option<Message>) -> Option<(Message, Version)>
-    ensures { result ≡ in_version version told }
+fn in_version(version: Version, answer: Option<Message>) -> Option<(Message, Version)>
+    ensures { result ≡ in_version version answer }
 {
-    match told {
+    match answer {
         None => None,
         Some(message) => Some((message, version)),
     }
 }
 
-/// The answer that refuses a frame, in the frame's version, with a reason from 1 to 9 and an index.
-fn refusal(version: Version, flow: u32, reason: u8, index: u32) -> Option<(Message, Version)>
+/// The answer that refuses a frame, in the frame's version.
+fn refusal(version: Version, flow: u32, reason: Reason, index: u32) -> Option<(Message, Version)>
     ensures { result ≡ Some (Message.Refused flow reason index, version) }
 {
     Some((
@@ -184,10 +185,10 @@ impl Tables {
     {
         let at = n as usize;
         if at >= FLOWS {
-            return Ok(refusal(version, n, 1, 0));
+            return Ok(refusal(version, n, Reason::FlowAbove, 0));
         }
         if self.flows[at].is_some() {
-            return Ok(refusal(version, n, 2, 0));
+            return Ok(refusal(version, n, Reason::FlowExists, 0));
         }
         self.flows[at] = Some(Flow::new(alloc, version, cwnd)?);
         Ok(None)
@@ -207,13 +208,13 @@ impl Tables {
     {
         let at = program as usize;
         if at >= PROGRAMS {
-            return refusal(version, n, 4, program);
+            return refusal(version, n, Reason::ProgramAbove, program);
         }
         if program_at(self.programs.as_slice(), program).is_some() {
-            return refusal(version, n, 5, program);
+            return refusal(version, n, Reason::ProgramExists, program);
         }
         match verify(code) {
-            Err(rejected) => refusal(version, n, 7, rejected.index),
+            Err(rejected) => refusal(version, n, Reason::NotAccepted, rejected.index),
             Ok(checked) => {
                 self.programs[at] = Some(checked);
                 None
@@ -236,23 +237,23 @@ impl Tables {
     {
         let at = n as usize;
         if at >= FLOWS {
-            return refusal(version, n, 3, 0);
+            return refusal(version, n, Reason::NoFlow, 0);
         }
         let Some(flow) = &mut self.flows[at] else {
-            return refusal(version, n, 3, 0);
+            return refusal(version, n, Reason::NoFlow, 0);
         };
         if program as usize >= PROGRAMS {
-            return refusal(version, n, 4, program);
+            return refusal(version, n, Reason::ProgramAbove, program);
         }
         let Some(code) = program_at(self.programs.as_slice(), program) else {
-            return refusal(version, n, 6, program);
+            return refusal(version, n, Reason::NoProgram, program);
         };
         if is_too_wide(flow.version, code) {
-            return refusal(version, n, 9, program);
+            return refusal(version, n, Reason::TooWide, program);
         }
         match flow.change(program, code, values) {
             Ok(()) => None,
-            Err(BadRegister(place)) => refusal(version, n, 8, place),
+            Err(BadRegister(place)) => refusal(version, n, Reason::NoRegister, place),
         }
     }
 
@@ -264,17 +265,17 @@ impl Tables {
     {
         let at = n as usize;
         if at >= FLOWS {
-            return refusal(version, n, 3, 0);
+            return refusal(version, n, Reason::NoFlow, 0);
         }
         let Some(flow) = &mut self.flows[at] else {
-            return refusal(version, n, 3, 0);
+            return refusal(version, n, Reason::NoFlow, 0);
         };
         let Some((_, code)) = code_of(flow.epoch, self.programs.as_slice()) else {
-            return refusal(version, n, 6, 0);
+            return refusal(version, n, Reason::NoProgram, 0);
         };
         match flow.update(code, values) {
             Ok(()) => None,
-            Err(BadRegister(place)) => refusal(version, n, 8, place),
+            Err(BadRegister(place)) => refusal(version, n, Reason::NoRegister, place),
         }
     }
 
@@ -287,10 +288,10 @@ impl Tables {
     {
         let at = n as usize;
         if at >= FLOWS {
-            return refusal(version, n, 3, 0);
+            return refusal(version, n, Reason::NoFlow, 0);
         }
         let Some(flow) = &mut self.flows[at] else {
-            return refusal(version, n, 3, 0);
+            return refusal(version, n, Reason::NoFlow, 0);
         };
         let Some((epoch, code)) = code_of(flow.epoch, self.programs.as_slice()) else {
             flow.pass(ack);

@@ -11,7 +11,7 @@ use crate::frames::{
     REFUSED_2, UPDATE, ack_frame,
 };
 use ccp_base::{Bytes, FaultKind, FieldReg, Fields, Notice, Values};
-use ccp_messages::{Message, Short, Version, decode, encode_into};
+use ccp_messages::{Message, Reason, Short, Version, decode, encode_into};
 use reg_code::{Code, Event, Implicit, Instr, Op, Reg, Sequence, Start};
 use std::alloc::{AllocError, Global};
 use std::test::*;
@@ -207,7 +207,7 @@ fn is_said(message: &Message) -> bool {
             flow,
             reason,
             index,
-        } => *flow == 0 && *reason == 2 && *index == 0,
+        } => *flow == 0 && *reason == Reason::FlowExists && *index == 0,
         _ => false,
     }
 }

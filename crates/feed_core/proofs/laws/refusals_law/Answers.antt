@@ -1,35 +1,33 @@
-use Rattle.feed_core.proofs.RefusalLemmas.{comes-1, comes-2, comes-3, comes-4, comes-5, comes-6, comes-7, comes-8, comes-9, no-other, changes-nothing}
+use Rattle.feed_core.proofs.RefusalLemmas.{flow_above, flow_exists, no_flow, program_above, program_exists}
+use Rattle.feed_core.proofs.RefusalLemmas.{no_program, not_accepted, no_register, too_wide, changes_nothing}
 use Rattle.feed_core.proofs.laws.refusals_law.Goals as goal
 
 pub returns-clause-flow_above : goal.returns-clause-flow_above
-returns-clause-flow_above c = comes-1
+returns-clause-flow_above c = flow_above
 
 pub returns-clause-flow_exists : goal.returns-clause-flow_exists
-returns-clause-flow_exists c = comes-2
+returns-clause-flow_exists c = flow_exists
 
 pub returns-clause-no_flow : goal.returns-clause-no_flow
-returns-clause-no_flow c = comes-3
+returns-clause-no_flow c = no_flow
 
 pub returns-clause-program_above : goal.returns-clause-program_above
-returns-clause-program_above c = comes-4
+returns-clause-program_above c = program_above
 
 pub returns-clause-program_exists : goal.returns-clause-program_exists
-returns-clause-program_exists c = comes-5
+returns-clause-program_exists c = program_exists
 
 pub returns-clause-no_program : goal.returns-clause-no_program
-returns-clause-no_program c = comes-6
+returns-clause-no_program c = no_program
 
 pub returns-clause-not_accepted : goal.returns-clause-not_accepted
-returns-clause-not_accepted c = comes-7
+returns-clause-not_accepted c = not_accepted
 
 pub returns-clause-no_register : goal.returns-clause-no_register
-returns-clause-no_register c = comes-8
+returns-clause-no_register c = no_register
 
 pub returns-clause-too_wide : goal.returns-clause-too_wide
-returns-clause-too_wide c = comes-9
-
-pub returns-clause-no_other : goal.returns-clause-no_other
-returns-clause-no_other c = no-other
+returns-clause-too_wide c = too_wide
 
 pub returns-clause-changes_nothing : goal.returns-clause-changes_nothing
-returns-clause-changes_nothing c = changes-nothing
+returns-clause-changes_nothing c = changes_nothing
