@@ -1,4 +1,4 @@
--- The run of cases round by round: what its flows are, ask for and are given, and where the whole run ends.
+-- The run of cases round by round: what its flows are, ask for and are given, and after which round the whole run ends.
 use Rattle.std.specs.Prelude.{◌≡◌, ◌<◌, ◌≤◌, ℕ, zero, suc, ◌+◌, ◌-◌, ◌==◌, Bool, true, false, ◌&&◌, nat_le, if◌then◌else◌, Some, option_map, Result, Ok, Err, OnOk, List, [], ◌∷◌, ◌++◌, length, take, drop, slice_get, refl}
 use Rattle.std.proofs.Common.{arith, ap, sym, ◌∙◌, subst, add-one, ◌⊎◌, inl, inr}
 use Rattle.std.proofs.lemmas.Bool.{leb-true, leb-false, ne_eqb}
@@ -111,7 +111,7 @@ sub-left a b = left-where (leb_tells a b) where
       ap (λ (n : ℕ). n == 0) none ∙ sym has
   left-where (inr (lacks, more)) = ne_eqb (a - b) 0 (λ none. omega (arith, more, none)) ∙ sym lacks
 
--- no flow asks for more where all have all acknowledgements
+-- no flow asks for more if and only if all have all acknowledgements
 pub none_asked : (flows : List CoreState) → none_left (asks_of over_codes flows) ≡ have_all flows
 none_asked [] = refl
 none_asked (core ∷ rest) = λ i. sub-left core.case.acks (length core.acks) i && none_asked rest i
@@ -233,7 +233,7 @@ module _ (link : SharedCase) (cases : List Case) where
       let none : 0 ≡ most - rounds = omega (arith, over) in
       ap (λ (n : ℕ). rounds_from link over_codes n (run_after link over_codes cases rounds)) none ∙ on
 
-  -- ---- where it ends
+  -- ---- the end
 
   -- from some round on it is that after this many
   record EndsFrom (left done rounds : ℕ) : Type 0 where

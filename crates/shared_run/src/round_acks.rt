@@ -23,8 +23,10 @@ pub(crate) struct RoundAcks<C: Course> {
     of: PhantomData<C>,
     ghost are: { slice_get (acks_in_round C.link C.cases round) number ≡ Some acks },
     ghost few: { round < most_rounds },
-    ghost roomy: { (core : CoreState) → slice_get (flows_after C.link C.cases (round + 1)) number ≡ Some core → AreRoomy core.acks },
-    ghost rests: { slice_get (flows_after C.link C.cases since) number ≡ slice_get (flows_after C.link C.cases round) number },
+    ghost roomy: { (core : CoreState) → slice_get (flows_after C.link C.cases (round + 1)) number ≡ Some core
+        → AreRoomy core.acks },
+    ghost rests: { slice_get (flows_after C.link C.cases since) number
+        ≡ slice_get (flows_after C.link C.cases round) number },
 }
 
 impl<C: Course> RoundAcks<C> {
@@ -32,7 +34,8 @@ impl<C: Course> RoundAcks<C> {
     pub(crate) fn new(acks: Acks, number: u32, round: u32) -> Self
         requires are { slice_get (acks_in_round C.link C.cases round) number ≡ Some acks }
         requires few { round < most_rounds }
-        requires roomy { (core : CoreState) → slice_get (flows_after C.link C.cases (round + 1)) number ≡ Some core → AreRoomy core.acks }
+        requires roomy { (core : CoreState) → slice_get (flows_after C.link C.cases (round + 1)) number ≡ Some core
+            → AreRoomy core.acks }
         ensures acks { result.acks ≡ acks }
         ensures number { result.number ≡ number }
     {
