@@ -1,5 +1,5 @@
 //! The results of a shared run: the flows' rows, and their books if they have their history, beside the link's packets.
-ghost use Rattle.std.specs.Prelude.{◌≡◌, true, List, [], map, IfOk};
+ghost use Rattle.std.specs.Prelude.{◌≡◌, true, List, map, IfOk};
 ghost use Rattle.std.specs.List.{All};
 ghost use Rattle.flow_core.specs.Readings.{over_codes};
 ghost use Rattle.flow_core.specs.Words.{is_still};

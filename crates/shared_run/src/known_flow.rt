@@ -1,5 +1,5 @@
 //! What the caller of a run knows of a flow between two rounds.
-ghost use Rattle.std.specs.Prelude.{◌≡◌, ◌↔◌, Some, length, slice_get, refl, IfOk, IsTrue};
+ghost use Rattle.std.specs.Prelude.{◌≡◌, ◌↔◌, Some, length, slice_get, IfOk, IsTrue};
 ghost use Rattle.shared_run.specs.Courses.{flows_after, asks_in};
 
 use crate::course::Course;

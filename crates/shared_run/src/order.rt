@@ -1,5 +1,5 @@
 //! What a worker is to do in a round: the parts of its flows.
-ghost use Rattle.std.specs.Prelude.{◌≡◌, ◌%◌, List, [], map, OnOk};
+ghost use Rattle.std.specs.Prelude.{◌≡◌, ◌%◌, [], map, OnOk};
 ghost use Rattle.std.specs.List.{All};
 ghost use Rattle.shared_run.specs.Orders.{FlowPart, OrderState, with_flow_part, AreDealt};
 

@@ -1,5 +1,5 @@
 //! What a flow of a run is given in a round.
-ghost use Rattle.std.specs.Prelude.{◌≡◌, ◌+◌, ◌<◌, Some, slice_get, refl};
+ghost use Rattle.std.specs.Prelude.{◌≡◌, ◌+◌, ◌<◌, Some, slice_get};
 ghost use Rattle.ccp_base.specs.Limits.{most_rounds};
 ghost use Rattle.flow_core.specs.Cores.{CoreState};
 ghost use Rattle.shared_run.specs.FlowRow.{AreRoomy};
