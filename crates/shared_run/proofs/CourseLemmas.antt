@@ -15,7 +15,8 @@ use Rattle.shared_link.specs.SharedStanding.{SharedState, Stands}
 use Rattle.shared_run.specs.RoundLetters.{opened, round_part}
 use Rattle.shared_run.specs.SharedHistory.{ask_of, asks_of, parts, have_all, rounds_from, round_limit}
 use Rattle.shared_run.specs.Courses.{run_after, flows_after, asks_in, acks_in_round, none_left, StandsAfter, EndsInTime}
-use Rattle.shared_run.proofs.CountLemmas.{Within, within-after, no-some, same-some, lists-length}
+use Rattle.shared_run.proofs.AnswerLemmas.{no-some, same-some}
+use Rattle.shared_run.proofs.CountLemmas.{Within, within-after, lists-length}
 use Rattle.shared_run.proofs.RoomyLemmas.{flows-keep}
 
 -- ---- lists

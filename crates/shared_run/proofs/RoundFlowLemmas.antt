@@ -1,5 +1,5 @@
 -- A flow of a run after one more letter, whatever it keeps of its history.
-use Rattle.std.specs.Prelude.{◌≡◌, ◌<◌, ◌≤◌, ℕ, ◌+◌, ◌-◌, ◌*◌, max, Bool, true, false, if◌then◌else◌, Result, Ok, Err, IfOk, List, [], ◌∷◌, ◌++◌, length}
+use Rattle.std.specs.Prelude.{◌≡◌, ◌<◌, ◌≤◌, ℕ, ◌+◌, ◌-◌, ◌*◌, max, Bool, true, false, Result, Ok, Err, IfOk, List, [], ◌∷◌, ◌++◌, length}
 use Rattle.std.proofs.Common.{arith, ap, sym, ◌∙◌, subst, length-append, append_assoc}
 use Rattle.std.proofs.lemmas.Bool.{lt-ltb, ltb-true}
 use Rattle.ccp_base.specs.declared.ack.Ack.{Ack}
@@ -26,7 +26,7 @@ use Rattle.campaign_gate.specs.CampaignRow.{timeouts_in, sums_of, sums_with, row
 use Rattle.campaign_gate.specs.CampaignRow as campaign
 use Rattle.campaign_gate.specs.CaseRuns.{left_in}
 use Rattle.campaign_gate.proofs.PeakLemmas.{peak-append}
-use Rattle.campaign_gate.proofs.SumLemmas.{sums-append}
+use Rattle.campaign_gate.proofs.SumLemmas.{sums-append, timeout-one}
 use Rattle.shared_link.specs.declared.round.Ask.{Ask}
 use Rattle.shared_run.specs.RoundLetters.{world_of_core, with_letter, answers_next, after_settling, with_settled_ack, round_part}
 use Rattle.shared_run.specs.SharedHistory.{ask_of}
@@ -113,10 +113,6 @@ module _ (core : CoreState) where
         λ i. record { sums = sums i; peak = peak i }
 
 -- ---- sums
-
-timeout-one : (b : Bool) → (if b then 1 else 0) ≤ 1
-timeout-one true = omega arith
-timeout-one false = omega arith
 
 timeouts-most : (acks : List Ack) → timeouts_in acks ≤ length acks
 timeouts-most [] = omega arith

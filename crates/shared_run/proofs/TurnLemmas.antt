@@ -1,48 +1,24 @@
 -- Letters without an acknowledgement: each leaves fewer to come, and at last none comes.
-use Rattle.std.specs.Prelude.{◌≡◌, ◌<◌, ◌≤◌, ℕ, zero, suc, ◌+◌, Bool, true, false, not, ◌&&◌, is_some, is_none, if◌then◌else◌, Option, Some, None, List, [], ◌∷◌, ◌++◌, length, refl}
+use Rattle.std.specs.Prelude.{◌≡◌, ◌<◌, ◌≤◌, ℕ, zero, suc, ◌+◌, Bool, true, false, is_some, Option, Some, None, List, [], ◌∷◌, ◌++◌, length, refl}
 use Rattle.std.proofs.Common.{arith, ap, sym, ◌∙◌, subst, append_assoc, append-nil, length-append}
 use Rattle.ccp_base.specs.declared.ack.Ack.{Ack}
 use Rattle.flow_core.specs.declared.letter.Letter.{Letter}
 use Rattle.flow_core.specs.declared.letter.Letter.TheVariants.{A, T, C}
-use Rattle.flow_core.specs.World.{Taken, World}
+use Rattle.flow_core.specs.World.{World}
 use Rattle.flow_core.specs.Words.{from_list, after_letter, can_take, is_legal, is_still}
 use Rattle.flow_core.specs.WordLaws.{acks_in, acks_in-A, acks_in-T, acks_in-C, world_over-append}
 use Rattle.flow_core.specs.Cores.{CoreState, with_ack}
-use Rattle.campaign_gate.specs.CampaignWord.{is_late, first_letter}
+use Rattle.campaign_gate.specs.CampaignWord.{first_letter}
+use Rattle.campaign_gate.proofs.PlanLemmas.{MadeBy, IsMade, made, due-out, still}
 use Rattle.flow_core.specs.LettersLeft.{letters_left}
 use Rattle.flow_core.proofs.LeftLemmas.{left-letter}
 use Rattle.shared_run.specs.RoundLetters.{CaseReading, world_of_core, with_letter, answers_next, settling_letter, with_next, settled_in, after_settling, with_settled_ack, round_part}
 
 -- ---- which letter is next
 
-late-out : {X : Type 0} (lag acks : ℕ) (out : Option (Taken X)) → is_late lag acks out ≡ true → is_some out ≡ true
-late-out lag acks None late = absurd (let wrong : false ≡ true = late in (cc))
-late-out lag acks (Some ticket) late = refl
-
-due-out : {X : Type 0} (lag acks : ℕ) (more : Bool) (out : Option (Taken X))
-    → (if more then is_late lag acks out else is_some out) ≡ true → is_some out ≡ true
-due-out lag acks true out due = late-out lag acks out due
-due-out lag acks false out due = due
-
--- the letter that is due or that may be taken
-abbrev MadeBy : Bool → Bool → Letter → Type 0
-MadeBy due may_take A = ⊥
-MadeBy due may_take T = (due ≡ false) × (may_take ≡ true)
-MadeBy due may_take C = due ≡ true
-
-abbrev IsMade : Bool → Bool → Option Letter → Type 0
-IsMade due may_take None = (due ≡ false) × (may_take ≡ false)
-IsMade due may_take (Some letter) = MadeBy due may_take letter
-
-made : (due may_take : Bool) → IsMade due may_take (first_letter due may_take false)
-made true may_take = refl
-made false true = (refl, refl)
-made false false = (refl, refl)
-
-still : {X : Type 0} (out : Option (Taken X)) (can : Bool) → is_some out ≡ false → (is_none out && can) ≡ false
-    → (is_none out && not can) ≡ true
-still None can out both = ap not both
-still (Some ticket) can out both = absurd (let wrong : true ≡ false = out in (cc))
+-- none of these letters is an acknowledgement
+no-ack : false ≡ true → ⊥
+no-ack is = cc
 
 -- the word has all acknowledgements
 abbrev pub HasAll : CoreState → Type 0
@@ -60,10 +36,10 @@ module _ {X : Type 0} (read : CaseReading X) where
 
   module _ (at_end : Bool) where
     next-made : (core : CoreState) (next : Option Letter) → settling_letter at_end read core ≡ next
-        → IsMade (answers_next at_end read core) (is_legal (read core.case) (world_of_core read core) T) next
+        → IsMade (answers_next at_end read core) (is_legal (read core.case) (world_of_core read core) T) false next
     next-made core next is =
-        subst (λ (n : Option Letter). IsMade (answers_next at_end read core) (is_legal (read core.case) (world_of_core read core) T) n) is
-        (made (answers_next at_end read core) (is_legal (read core.case) (world_of_core read core) T))
+        subst (λ (n : Option Letter). IsMade (answers_next at_end read core) (is_legal (read core.case) (world_of_core read core) T) false n) is
+        (made (answers_next at_end read core) (is_legal (read core.case) (world_of_core read core) T) false)
 
     pub next-C : (core : CoreState) → answers_next at_end read core ≡ true → settling_letter at_end read core ≡ Some C
     next-C core due = ap (λ (b : Bool). first_letter b (is_legal (read core.case) (world_of_core read core) T) false) due
@@ -83,9 +59,9 @@ module _ {X : Type 0} (read : CaseReading X) where
 
     -- ---- fewer are left
 
-    fewer-by : (core : CoreState) (letter : Letter) → MadeBy (answers_next at_end read core) (is_legal (read core.case) (world_of_core read core) T) letter
+    fewer-by : (core : CoreState) (letter : Letter) → MadeBy (answers_next at_end read core) (is_legal (read core.case) (world_of_core read core) T) false letter
         → letters_left (read core.case) (after_letter (read core.case) (from_list core.acks) (world_of_core read core) letter) < left_of core
-    fewer-by core A is = absurd is
+    fewer-by core A is = absurd (no-ack is.2)
     fewer-by core T is = left-letter (read core.case) core.case.link T (world_of_core read core) is.1
     fewer-by core C is = left-letter (read core.case) core.case.link C (world_of_core read core) (answered-out at_end core is)
 
@@ -98,9 +74,9 @@ module _ {X : Type 0} (read : CaseReading X) where
 
     -- ---- the word has all acknowledgements
 
-    all-by : (core : CoreState) (letter : Letter) → MadeBy (answers_next at_end read core) (is_legal (read core.case) (world_of_core read core) T) letter
+    all-by : (core : CoreState) (letter : Letter) → MadeBy (answers_next at_end read core) (is_legal (read core.case) (world_of_core read core) T) false letter
         → acks_in core.word ≡ length core.acks → acks_in (core.word ++ letter ∷ []) ≡ length core.acks
-    all-by core A is all = absurd is
+    all-by core A is all = absurd (no-ack is.2)
     all-by core T is all = acks_in-T core.word ∙ all
     all-by core C is all = acks_in-C core.word ∙ all
 
