@@ -22,7 +22,7 @@ use Rattle.campaign_gate.specs.declared.sums.Sums.{Sums}
 use Rattle.campaign_gate.specs.CampaignWord.{is_late, first_letter, plan_from, plan}
 use Rattle.campaign_gate.specs.CampaignRow.{sums_of, sums_with, AreRoomy, peak_of}
 use Rattle.campaign_gate.specs.CampaignBooks.{planned}
-use Rattle.campaign_gate.specs.CaseRuns.{next_planned, plan_at, opened, longer, left_in, due_to, next_in, MayMake, MayHear, Makes, sums_after, IsOnWay, IsNextLetter, Onward, IsEnded}
+use Rattle.campaign_gate.specs.CaseRuns.{next_planned, plan_at, longer, left_in, due_to, next_in, MayMake, MayHear, Makes, sums_after, IsOnWay, IsNextLetter, Onward, IsEnded}
 use Rattle.campaign_gate.proofs.PlanLemmas.{next-legal, plan-next, plan-none}
 use Rattle.campaign_gate.proofs.PeakLemmas.{peak-append}
 use Rattle.campaign_gate.proofs.SumLemmas.{sums-append, roomy}
@@ -150,7 +150,7 @@ module _ {F : Type 0} (at : CellState → F) (case : Case) (flow : F) (tally : T
       let cell : CellState = record { case = case; word = n.on.word } in
       record { cell = cell; after = n.on.after; legal = may cell letter n.next }
 
-  -- where nothing comes next, the word is the campaign word
+  -- if nothing comes next, the word is the campaign word
   pub on-ended : (on : IsOnWay at case flow tally) → next_planned (record { case = case; word = on.word }) ≡ None → IsEnded at case flow tally
   on-ended on none =
       let cell : CellState = record { case = case; word = on.word } in

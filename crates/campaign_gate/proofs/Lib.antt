@@ -1,6 +1,7 @@
 -- The lemmas of campaign_gate, a file a topic.
 pub mod PlanLemmas
 pub mod PeakLemmas
+pub mod BoundLemmas
 pub mod SumLemmas
 pub mod CaseRunLemmas
 pub mod LinkedLemmas

@@ -1,4 +1,4 @@
--- Where a case's codes simulate two programs, its campaign word, the acknowledgements on it and its row over the codes
+-- If a case's codes simulate two programs, its campaign word, the acknowledgements on it and its row over the codes
 -- are those over the programs.
 use Rattle.std.specs.Prelude.{◌≡◌, ℕ, zero, suc, max, nat_lt, ◌&&◌, if◌then◌else◌, List, [], ◌∷◌, ◌++◌, length, refl}
 use Rattle.std.proofs.Common.{ap, sym, ◌∙◌}

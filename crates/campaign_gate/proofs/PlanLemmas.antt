@@ -1,6 +1,6 @@
 -- The campaign word of a flow is legal, and it is complete.
 use Rattle.std.specs.Prelude.{◌≡◌, ℕ, zero, suc, ◌-◌, ◌<◌, ◌≤◌, Bool, true, false, not, is_some, is_none, ◌&&◌, if◌then◌else◌, Option, Some, None, [], ◌∷◌, length, refl}
-use Rattle.std.proofs.Common.{arith, ap, sym, ◌∙◌, subst}
+use Rattle.std.proofs.Common.{arith, ap, ◌∙◌, subst}
 use Rattle.link_model.specs.declared.link_case.LinkCase.{LinkCase}
 use Rattle.flow_core.specs.declared.case.Case.{Case}
 use Rattle.flow_core.specs.declared.letter.Letter.{Letter}
@@ -15,16 +15,16 @@ use Rattle.flow_core.proofs.LeftLemmas.{left-letter}
 -- ---- the next letter
 
 -- the letter that is due, that may be taken or that may be heard
-abbrev MadeBy : Bool → Bool → Bool → Letter → Type 0
+abbrev pub MadeBy : Bool → Bool → Bool → Letter → Type 0
 MadeBy due may_take may_hear A = (due ≡ false) × (may_take ≡ false) × (may_hear ≡ true)
 MadeBy due may_take may_hear T = (due ≡ false) × (may_take ≡ true)
 MadeBy due may_take may_hear C = due ≡ true
 
-abbrev IsMade : Bool → Bool → Bool → Option Letter → Type 0
+abbrev pub IsMade : Bool → Bool → Bool → Option Letter → Type 0
 IsMade due may_take may_hear None = (due ≡ false) × (may_take ≡ false) × (may_hear ≡ false)
 IsMade due may_take may_hear (Some letter) = MadeBy due may_take may_hear letter
 
-made : (due may_take may_hear : Bool) → IsMade due may_take may_hear (first_letter due may_take may_hear)
+pub made : (due may_take may_hear : Bool) → IsMade due may_take may_hear (first_letter due may_take may_hear)
 made true may_take may_hear = refl
 made false true may_hear = (refl, refl)
 made false false true = (refl, refl, refl)
@@ -34,12 +34,12 @@ late-out : {X : Type 0} (lag acks : ℕ) (out : Option (Taken X)) → is_late la
 late-out lag acks None late = absurd (let wrong : false ≡ true = late in (cc))
 late-out lag acks (Some ticket) late = refl
 
-due-out : {X : Type 0} (lag acks : ℕ) (more : Bool) (out : Option (Taken X))
+pub due-out : {X : Type 0} (lag acks : ℕ) (more : Bool) (out : Option (Taken X))
     → (if more then is_late lag acks out else is_some out) ≡ true → is_some out ≡ true
 due-out lag acks true out due = late-out lag acks out due
 due-out lag acks false out due = due
 
-still : {X : Type 0} (out : Option (Taken X)) (can : Bool) → is_some out ≡ false → (is_none out && can) ≡ false
+pub still : {X : Type 0} (out : Option (Taken X)) (can : Bool) → is_some out ≡ false → (is_none out && can) ≡ false
     → (is_none out && not can) ≡ true
 still None can out both = ap not both
 still (Some ticket) can out both = absurd (let wrong : true ≡ false = out in (cc))
@@ -63,7 +63,7 @@ module _ {X : Type 0} (flow : Flow X) (lag : ℕ) where
   next-legal w T is = (next-made w (Some T) is).1
   next-legal w C is = due-out lag (length w.acks) (is_legal flow w A) w.out (next-made w (Some C) is)
 
-  -- there is none where the word is complete
+  -- if there is none, the word is complete
   pub none-complete : (w : World X) → next_of flow lag w ≡ None → is_complete flow w ≡ true
   none-complete w is =
       let all = next-made w None is in
@@ -113,7 +113,7 @@ module _ {X : Type 0} (flow : Flow X) (lag : ℕ) where
         ap (λ (next : Option Letter). then_rest next (λ l. plan_from flow link lag more (after_letter flow (from_link flow link) w l))) is
         ∙ ap (λ (n : ℕ). letter ∷ plan_from flow link lag n (after_letter flow (from_link flow link) w letter)) less
 
-    -- where no letter comes next, no more come
+    -- if no letter comes next, no more come
     pub plan-none : (most : ℕ) (w : World X) → next_of flow lag w ≡ None → plan_from flow link lag most w ≡ []
     plan-none zero w none = refl
     plan-none (suc more) w none =

@@ -1,4 +1,4 @@
--- Where a case's codes simulate two programs, a state of its flow over the codes and that over the programs agree in all that
+-- If a case's codes simulate two programs, a state of its flow over the codes and that over the programs agree in all that
 -- later letters and rows depend on, whoever gives the acknowledgements.
 use Rattle.std.specs.Prelude.{◌≡◌, ℕ, ◌+◌, is_some, is_none, Option, Some, None, option_map, List, [], ◌∷◌, map, refl}
 use Rattle.std.proofs.Common.{sym, ◌∙◌}

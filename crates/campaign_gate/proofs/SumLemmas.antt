@@ -1,9 +1,10 @@
 -- The sums over the acknowledgements of a link are numbers of 64 bits.
-use Rattle.std.specs.Prelude.{◌≡◌, ℕ, zero, suc, ◌+◌, ◌-◌, ◌*◌, ◌<◌, ◌≤◌, Bool, true, false, ◌&&◌, if◌then◌else◌, List, [], ◌∷◌, ◌++◌, length, refl}
-use Rattle.std.proofs.Common.{arith, sym, ◌∙◌, subst, length-append}
+use Rattle.std.specs.Prelude.{◌≡◌, ℕ, zero, suc, ◌+◌, ◌-◌, ◌*◌, ◌<◌, ◌≤◌, Bool, true, false, if◌then◌else◌, List, [], ◌∷◌, ◌++◌, length}
+use Rattle.std.proofs.Common.{arith, sym, ◌∙◌, subst}
 use Rattle.ccp_base.specs.declared.ack.Ack.{Ack}
 use Rattle.link_model.specs.declared.link_case.LinkCase.{LinkCase}
-use Rattle.link_model.specs.Link.{Packet, Taking, Numbered, GivenAck, Run, packet_and_lost_below, time_of, Next, arrives, all_lost, allowance, is_lost, packet_after, with_sent, takes, left_by, lost_by, numbered, in_flight, next_arrival, answer_by, given_for, sent_by, called, run_from, run_of, acks_in_order, acks_for_windows}
+use Rattle.campaign_gate.proofs.BoundLemmas.{lost-most, flight-most}
+use Rattle.link_model.specs.Link.{Packet, Numbered, GivenAck, Run, packet_and_lost_below, time_of, Next, arrives, all_lost, allowance, packet_after, with_sent, in_flight, next_arrival, answer_by, given_for, sent_by, called, run_from, run_of, acks_in_order, acks_for_windows}
 use Rattle.flow_core.specs.declared.letter.Letter.{Letter}
 use Rattle.flow_core.specs.Readings.{Flow}
 use Rattle.flow_core.specs.Words.{world}
@@ -34,34 +35,6 @@ length-with_sent : (case : LinkCase) (now more : ℕ) (packets : List Packet) �
 length-with_sent case now zero packets = omega arith
 length-with_sent case now (suc more) packets = omega (arith, length-with_sent case now more (packet_after case now packets ∷ packets))
 
-length-numbered : (packets : List Packet) → length (numbered packets) ≡ length packets
-length-numbered [] = refl
-length-numbered (packet ∷ earlier) =
-    omega (arith, length-numbered earlier, length-append (numbered earlier) (record { number = length earlier; packet = packet } ∷ []))
-
-left-one : (b : Bool) (sent : Numbered) (rest : List Numbered) → length (if b then rest else sent ∷ rest) ≤ length rest + 1
-left-one true sent rest = omega arith
-left-one false sent rest = omega arith
-
-left-most : (taking : Taking) (flight : List Numbered) → length (left_by taking flight) ≤ length flight
-left-most taking [] = omega arith
-left-most taking (sent ∷ rest) =
-    omega (arith, left-most taking rest, left-one (takes taking sent) sent (left_by taking rest))
-
-lost-one : (b : Bool) (n : ℕ) → (if b then n + 1 else n) ≤ n + 1
-lost-one true n = omega arith
-lost-one false n = omega arith
-
-lost-most : (taking : Taking) (flight : List Numbered) → lost_by taking flight ≤ length flight
-lost-most taking [] = omega arith
-lost-most taking (sent ∷ rest) =
-    omega (arith, lost-most taking rest, lost-one (takes taking sent && is_lost sent.packet.fate) (lost_by taking rest))
-
-flight-most : (packets : List Packet) (givens : List GivenAck) → length (in_flight packets givens) ≤ length packets
-flight-most packets [] = omega (arith, length-numbered packets)
-flight-most packets (given ∷ earlier) =
-    omega (arith, flight-most packets earlier, left-most given.taking (in_flight packets earlier))
-
 answer-lost : (case : LinkCase) (packets : List Packet) (givens : List GivenAck) (flight : List Numbered) (next : Next)
     → (answer_by case packets givens flight next).ack.lost_pkts_sample ≤ length flight
 answer-lost case packets givens flight (arrives number sent_at chance marked) = lost-most (packet_and_lost_below number) flight
@@ -72,7 +45,7 @@ answer-acked : (case : LinkCase) (packets : List Packet) (givens : List GivenAck
 answer-acked case packets givens flight (arrives number sent_at chance marked) = omega arith
 answer-acked case packets givens flight all_lost = omega arith
 
-timeout-one : (b : Bool) → (if b then 1 else 0) ≤ 1
+pub timeout-one : (b : Bool) → (if b then 1 else 0) ≤ 1
 timeout-one true = omega arith
 timeout-one false = omega arith
 

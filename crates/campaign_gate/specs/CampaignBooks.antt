@@ -1,4 +1,5 @@
--- What a campaign makes of a case beside its row: the book after its campaign word, and the acknowledgements on the way.
+-- What a campaign makes of a case beside its row: the book after its campaign word, and the acknowledgements on the
+-- way.
 use Rattle.std.specs.Prelude.{◌≡◌, ℕ, true, List, map}
 use Rattle.std.specs.List.{All}
 use Rattle.ccp_base.specs.declared.ack.Ack.{Ack}

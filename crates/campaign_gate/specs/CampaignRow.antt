@@ -1,5 +1,5 @@
--- The row of a case: its numbers over the state after its campaign word, and over the acknowledgements on the way; and the
--- columns of the table that shows rows.
+-- The row of a case: its numbers over the state after its campaign word, and over the acknowledgements on the way; and
+-- the columns of the table that shows rows.
 use Rattle.std.specs.Prelude.{ℕ, ◌+◌, ◌-◌, ◌^◌, ◌<◌, max, Bool, true, false, if◌then◌else◌, List, [], ◌∷◌, codes}
 use Rattle.ccp_base.specs.declared.ack.Ack.{Ack}
 use Rattle.link_model.specs.declared.link_case.LinkCase.{LinkCase}
@@ -12,7 +12,8 @@ use Rattle.flow_core.specs.Summaries.{Summary, summary}
 use Rattle.campaign_gate.specs.declared.sums.Sums.{Sums}
 use Rattle.campaign_gate.specs.declared.row.Row.{Row}
 use Rattle.campaign_gate.specs.declared.row.Column.{Column}
-use Rattle.campaign_gate.specs.declared.row.Column.TheVariants.{Acks, Reports, Held, Faults, Epochs, Lost, Timeouts, Acked, Peak, Cwnd, Now, Tail}
+use Rattle.campaign_gate.specs.declared.row.Column.TheVariants.{Acks, Reports, Held, Faults, Epochs, Lost}
+use Rattle.campaign_gate.specs.declared.row.Column.TheVariants.{Timeouts, Acked, Peak, Cwnd, Now, Tail}
 use Rattle.campaign_gate.specs.CampaignWord.{plan_over}
 
 -- ---- sums over acknowledgements
@@ -58,7 +59,8 @@ window_of flow w = (track_of flow w).env.cwnd
 -- the greatest `Cwnd` in a state or after a letter of a word from there on
 abbrev pub peak_from : {X : Type 0} → Flow X → Giving X → World X → List Letter → ℕ
 peak_from flow giving w [] = window_of flow w
-peak_from flow giving w (letter ∷ rest) = max (window_of flow w) (peak_from flow giving (after_letter flow giving w letter) rest)
+peak_from flow giving w (letter ∷ rest) =
+    max (window_of flow w) (peak_from flow giving (after_letter flow giving w letter) rest)
 
 -- the greatest `Cwnd` at the opening or after a letter of a word, with the acknowledgements of a link
 abbrev pub peak_of : {X : Type 0} → Flow X → LinkCase → List Letter → ℕ
@@ -66,8 +68,8 @@ peak_of flow link word = peak_from flow (from_link flow link) (opening flow) wor
 
 -- ---- the row
 
--- by the summary of a flow's state, the sums over its acknowledgements and its greatest window: the reports are the answered
--- tickets that have one, the epochs include the opening one, and the tail is the length of the unreported span
+-- by the summary of a flow's state, the sums over its acknowledgements and its greatest window: the reports are the
+-- answered tickets that have one, the epochs include the opening one, and the tail is the length of the unreported span
 abbrev pub row_in : Summary → Sums → ℕ → Row
 row_in s sums peak = record {
   acks = s.acks;

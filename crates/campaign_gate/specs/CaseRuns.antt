@@ -1,5 +1,6 @@
 -- The run of a case: its flow on the way along the campaign word, its tally, and what a letter changes of both.
-use Rattle.std.specs.Prelude.{◌≡◌, ℕ, ◌+◌, ◌-◌, ◌*◌, ◌<◌, ◌≤◌, max, nat_lt, nat_le, Bool, true, false, not, ◌||◌, Option, Some, None, option_map, List, [], ◌∷◌, ◌++◌, length}
+use Rattle.std.specs.Prelude.{◌≡◌, ℕ, ◌+◌, ◌-◌, ◌*◌, ◌<◌, ◌≤◌, nat_lt, nat_le, Bool, true, false, not, ◌||◌}
+use Rattle.std.specs.Prelude.{Option, Some, None, option_map, List, [], ◌∷◌, ◌++◌, length}
 use Rattle.flow_core.specs.declared.case.Case.{Case}
 use Rattle.flow_core.specs.declared.letter.Letter.{Letter}
 use Rattle.flow_core.specs.declared.letter.Letter.TheVariants.{A, T, C}
@@ -23,7 +24,8 @@ next_planned cell = next_of (flow_at cell) cell.case.lag (world_at cell)
 -- the rest of the campaign word
 abbrev pub plan_at : CellState → List Letter
 plan_at cell =
-    plan_from (flow_at cell) cell.case.link cell.case.lag (most_letters cell.case.acks - length cell.word) (world_at cell)
+    plan_from (flow_at cell) cell.case.link cell.case.lag (most_letters cell.case.acks - length cell.word)
+    (world_at cell)
 
 -- ---- the way
 
@@ -81,7 +83,8 @@ pub record IsOnWay {F : Type 0} (at : CellState → F) (case : Case) (flow : F) 
   pub peak : tally.peak ≡ peak_of (flow_at (record { case = case; word = word })) case.link word
 
 -- and this letter is the next one of the campaign word
-pub record IsNextLetter {F : Type 0} (at : CellState → F) (case : Case) (flow : F) (tally : Tally) (letter : Letter) : Type 0 where
+pub record IsNextLetter {F : Type 0} (at : CellState → F) (case : Case)
+    (flow : F) (tally : Tally) (letter : Letter) : Type 0 where
   pub on : IsOnWay at case flow tally
   pub next : next_planned (record { case = case; word = on.word }) ≡ Some letter
 
@@ -91,7 +94,8 @@ sums_after T cell sums = sums
 sums_after C cell sums = sums
 
 -- the flow is still on the way of its case, and fewer letters are left
-pub record Onward {F : Type 0} (at : CellState → F) (bare_of : F → BareState) (old new : F) (tally : Tally) : Type 0 where
+pub record Onward {F : Type 0} (at : CellState → F) (bare_of : F → BareState)
+    (old new : F) (tally : Tally) : Type 0 where
   pub on : IsOnWay at (bare_of new).case new tally
   pub case : (bare_of new).case ≡ (bare_of old).case
   pub fewer : left_in (bare_of new) < left_in (bare_of old)

@@ -1,11 +1,13 @@
--- The definitions of campaign_gate, a file each. Public contracts cite CampaignWord, CampaignRow, CampaignBooks, LiftedRow and
--- ReportsMade, and `is_due` cites CaseRuns too. Only the crate's own steps and their proofs need LinkedFlows, Shares and Parts.
+-- The definitions of campaign_gate, a file each.
+
+-- those that contracts of public calls cite: the campaign word, rows, books, and when an answer is due
 pub mod CampaignWord
 pub mod CampaignRow
 pub mod CaseRuns
-pub mod LinkedFlows
+pub mod CampaignBooks
 pub mod LiftedRow
+pub mod ReportsMade
+-- those that only private contracts, invariants and proofs cite
+pub mod LinkedFlows
 pub mod Shares
 pub mod Parts
-pub mod CampaignBooks
-pub mod ReportsMade

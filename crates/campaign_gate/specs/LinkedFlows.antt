@@ -9,7 +9,10 @@ use Rattle.campaign_gate.specs.declared.listed.Listed.{Listed}
 abbrev pub linked_at : CellState → Linked
 linked_at cell = record {
   bare = bare_at cell;
-  link = record { case = cell.case.link; standing = standing_of cell.case.link (run_of cell.case.link (world_at cell).windows) };
+  link = record {
+    case = cell.case.link;
+    standing = standing_of cell.case.link (run_of cell.case.link (world_at cell).windows);
+  };
 }
 
 -- and the acknowledgements so far

@@ -1,5 +1,5 @@
--- The reports that a flow's epochs made, and that a row counts all of them: after the campaign word none waits, and the answered
--- tickets have each one, in order.
+-- The reports that a flow's epochs made, and that a row counts all of them: after the campaign word none waits, and the
+-- answered tickets have each one, in order.
 use Rattle.std.specs.Prelude.{◌≡◌, ℕ, ◌+◌, List, [], ◌∷◌, ◌++◌, length}
 use Rattle.ccp_base.specs.declared.exchange.Report.{Report}
 use Rattle.portus_core.specs.Programs.{Form}
@@ -16,7 +16,8 @@ use Rattle.campaign_gate.specs.CampaignRow.{row_read}
 -- the reports of an epoch with this number
 abbrev pub era_reports : {X : Type 0} → Flow X → ℕ → Era → List Report
 era_reports flow number era =
-    reports (flow.reading era.program) (record { flow = flow.number; program = era.program; number = number }) era.events
+    reports (flow.reading era.program) (record { flow = flow.number; program = era.program; number = number })
+    era.events
     (track_at era.at era.first)
 
 -- the reports of epochs, the first of which has this number
@@ -41,7 +42,8 @@ reports_answered (ticket ∷ rest) = reports_of ticket.told ++ reports_answered 
 pub record CountsReports {X : Type 0} (flow : Flow X) (link : LinkCase) (lag : ℕ) : Type 0 where
   pub answered : reports_answered (world flow link (plan_over flow link lag)).answered
       ≡ reports_made flow (world flow link (plan_over flow link lag))
-  pub counted : (row_read flow link lag).reports ≡ length (reports_made flow (world flow link (plan_over flow link lag)))
+  pub counted :
+      (row_read flow link lag).reports ≡ length (reports_made flow (world flow link (plan_over flow link lag)))
 
 -- over the codes of a case, and over any two programs
 abbrev pub RowCountsReports : Case → Type 0

@@ -22,8 +22,8 @@ use std::alloc::Global;
 use std::marker::Brand;
 use std::thread::Threads;
 
-/// Runs a case along its campaign word, which is legal and complete, and gives its row. For all programs that the case's
-/// codes simulate, this is the row read over their sources.
+/// Runs a case along its campaign word, which is legal and complete, and gives its row. For all programs that the
+/// case's codes simulate, this is the row read over their sources.
 pub fn run_case(alloc: Global, case: Case) -> Result<Row, NoMemory>
     ensures row { IfOk result (λ row. row ≡ case_row case) }
     ensures legal { legal (over_codes case) case.link (plan case) ≡ true }
@@ -36,9 +36,10 @@ pub fn run_case(alloc: Global, case: Case) -> Result<Row, NoMemory>
 /// The cases of a campaign in order.
 pub type Cases = Sequence<Case>;
 
-/// The rows of at most 1,024 cases, in their order. They don't depend on `workers`. Worker `w` runs the cases
-/// `i` with `i mod workers = w`, in order, and drops each flow after its case. It passes `gate` at `InCase` before a case and at
-/// `AfterCase` after it. If a thread can't be started, the caller does its work. The row of each case is that of its programs.
+/// The rows of at most 1,024 cases, in their order. They don't depend on `workers`. Worker `w` runs the cases `i` with
+/// `i mod workers = w`, in order, and drops each flow after its case. It passes `gate` at `InCase` before a case and at
+/// `AfterCase` after it. If a thread can't be started, the caller does its work. The row of each case is that of its
+/// programs.
 pub fn rows<R: Threads + Sync, G: Gate + Sync>(
     rt: &R,
     alloc: Global,
@@ -59,7 +60,8 @@ pub type Books = Sequence<Book>;
 /// The books of flows that are after their campaign words.
 fn books_of(alloc: Global, cells: Sequence<Cell>) -> Result<Books, NoMemory>
     requires { All (λ (cell : CellState). cell.word ≡ plan cell.case) cells }
-    ensures cases { IfOk result (λ books. map (λ (book : Book). book.case) books ≡ map (λ (cell : CellState). cell.case) cells) }
+    ensures cases { IfOk result (λ books. map (λ (book : Book). book.case) books
+        ≡ map (λ (cell : CellState). cell.case) cells) }
     ensures books { IfOk result (All IsCampaignBook) }
 {
     let mut cells = Queue::from_vec(cells.into_vec());
@@ -70,7 +72,7 @@ fn books_of(alloc: Global, cells: Sequence<Cell>) -> Result<Books, NoMemory>
     Ok(books)
 }
 
-/// The book of a flow that is after its campaign word.
+/// The book of a flow that is after its campaign word. It is separate since the proof of its caller cites its clauses.
 fn book_of(cell: Cell) -> Book
     requires { cell.word ≡ plan cell.case }
     ensures case { result.case ≡ cell.case }
@@ -79,8 +81,8 @@ fn book_of(cell: Cell) -> Book
     cell.finish()
 }
 
-/// The book of each of at most 1,024 cases after its campaign word, in the order of the cases. The workers are those of `rows`:
-/// the same number of them runs the same cases and passes the same gates.
+/// The book of each of at most 1,024 cases after its campaign word, in the order of the cases. The workers are those of
+/// `rows`: the same number of them runs the same cases and passes the same gates.
 pub fn books<R: Threads + Sync, G: Gate + Sync>(
     rt: &R,
     alloc: Global,
@@ -99,8 +101,8 @@ pub fn books<R: Threads + Sync, G: Gate + Sync>(
 /// The acknowledgements of each case of a campaign, in the order of the cases.
 pub type CaseAcks = Sequence<Acks>;
 
-/// The acknowledgements that each of at most 1,024 cases gets on its campaign word, in the order of the cases. The workers are
-/// those of `rows`: the same number of them runs the same cases and passes the same gates.
+/// The acknowledgements that each of at most 1,024 cases gets on its campaign word, in the order of the cases. The
+/// workers are those of `rows`: the same number of them runs the same cases and passes the same gates.
 pub fn acks<R: Threads + Sync, G: Gate + Sync>(
     rt: &R,
     alloc: Global,

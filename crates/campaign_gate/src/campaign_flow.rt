@@ -9,11 +9,11 @@ ghost use Rattle.campaign_gate.specs.CaseRuns.{longer, MayMake, MayHear, Makes};
 use crate::sums::Sums;
 use agent_core::calls::answer;
 use ccp_base::{Ack, NoMemory};
-use flow_core::{Bare, Cell, Letter};
+use flow_core::{Bare, Cell, Letter, TakeFault};
 use std::alloc::Global;
 
-/// A flow that makes letters of its campaign word. Its type says what it keeps of a word: the whole history, or only what later
-/// letters depend on.
+/// A flow that makes letters of its campaign word. Its type says what it keeps of a word: the whole history, or only
+/// what later letters depend on.
 pub(crate) trait CampaignFlow: Drop {
     /// The flow of a case after a word.
     ghost at: { CellState → Self };
@@ -39,12 +39,14 @@ pub(crate) trait CampaignFlow: Drop {
     fn hear(&mut self, sums: &mut Sums) -> Result<(), NoMemory>
         requires { MayHear at self.old sums.old }
         ensures made { OnOk result (Makes at Letter.A self.old self.new) }
-        ensures sums { OnOk result ((cell : CellState) → self.old ≡ at cell → sums.new ≡ sums_with (ack_at cell) sums.old) };
+        ensures sums { OnOk result ((cell : CellState) → self.old ≡ at cell
+            → sums.new ≡ sums_with (ack_at cell) sums.old) };
 
     ghost bare_law: { (cell : CellState) → bare_of (at cell) ≡ bare_at cell };
 }
 
-/// Takes the next acknowledgement of a flow with its history, and gives it.
+/// Takes the next acknowledgement of a flow with its history, and gives it. It is separate since the proof of `hear`
+/// cites its clauses.
 fn take_ack(cell: &mut Cell) -> Ack
     requires { is_legal (flow_at cell.old) (world_at cell.old) Letter.A ≡ true }
     ensures made { cell.new ≡ longer Letter.A cell.old }
@@ -72,7 +74,9 @@ impl CampaignFlow for Cell {
     fn take(&mut self, alloc: Global) -> Result<(), NoMemory> {
         match Cell::take(self, alloc) {
             Ok(_) => Ok(()),
-            Err(_) => Err(NoMemory),
+            Err(TakeFault::NoMemory) => Err(NoMemory),
+            // A ticket is legal here.
+            Err(TakeFault::NotYet) | Err(TakeFault::Out(_)) => unreachable!(),
         }
     }
 

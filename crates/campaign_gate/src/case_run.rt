@@ -1,4 +1,5 @@
-//! The run of a case: its flow on the way along the campaign word, and beside it what its row needs of the letters so far.
+//! The run of a case: its flow on the way along the campaign word, and beside it what its row needs of the letters so
+//! far.
 ghost use Rattle.std.specs.Prelude.{◌≡◌, ℕ, OnOk};
 ghost use Rattle.flow_core.specs.Readings.{over_codes};
 ghost use Rattle.flow_core.specs.World.{World};
@@ -6,7 +7,8 @@ ghost use Rattle.flow_core.specs.Summaries.{summary};
 ghost use Rattle.flow_core.specs.Cells.{CellState};
 ghost use Rattle.campaign_gate.specs.CampaignWord.{is_answer_due};
 ghost use Rattle.campaign_gate.specs.CampaignRow.{case_row};
-ghost use Rattle.campaign_gate.specs.CaseRuns.{opened, is_due_in, next_in, IsOnWay, IsNextLetter, Makes, sums_after, Onward, IsEnded};
+ghost use Rattle.campaign_gate.specs.CaseRuns.{opened, is_due_in, next_in, sums_after};
+ghost use Rattle.campaign_gate.specs.CaseRuns.{IsOnWay, IsNextLetter, Makes, Onward, IsEnded};
 ghost use Rattle.campaign_gate.specs.LinkedFlows.{linked_at};
 
 use crate::campaign_flow::CampaignFlow;
@@ -98,7 +100,8 @@ impl<F: CampaignFlow> CaseRun<F> {
     fn grow(&mut self, alloc: Global, letter: Letter) -> Result<(), NoMemory>
         requires { IsNextLetter F.at (F.bare_of self.old.flow).case self.old.flow self.old.tally letter }
         ensures made { OnOk result (Makes F.at letter self.old.flow self.new.flow) }
-        ensures sums { OnOk result ((cell : CellState) → self.old.flow ≡ F.at cell → self.new.tally.sums ≡ sums_after letter cell self.old.tally.sums) }
+        ensures sums { OnOk result ((cell : CellState) → self.old.flow ≡ F.at cell
+            → self.new.tally.sums ≡ sums_after letter cell self.old.tally.sums) }
         ensures peak { self.new.tally.peak ≡ self.old.tally.peak }
     {
         match letter {

@@ -22,7 +22,7 @@ pub(crate) fn run_to_end<F: CampaignFlow>(alloc: Global, flow: F) -> Result<Case
     }
 }
 
-/// Makes every letter that is left.
+/// Makes every letter that is left. It takes the run by reference: each exit with an owned flow makes the proof long.
 fn complete<F: CampaignFlow>(alloc: Global, run: &mut CaseRun<F>) -> Result<(), NoMemory>
     requires { IsOnWay F.at (F.bare_of run.old.flow).case run.old.flow run.old.tally }
     ensures { OnOk result (IsEnded F.at (F.bare_of run.old.flow).case run.new.flow run.new.tally) }

@@ -7,10 +7,11 @@ ghost use Rattle.campaign_gate.specs.ReportsMade.{RowCountsReports};
 
 use flow_core::Case;
 
-/// A law: the campaign word of a case is legal and complete. After it the answered tickets have all reports that the flow made,
-/// in order, and the row has their number.
+/// A law: the campaign word of a case is legal and complete. After it the answered tickets have all reports that the
+/// flow made, in order, and the row has their number.
 pub fn row_law(case: &Case)
     ensures legal { legal (over_codes case.now) case.now.link (plan case.now) ≡ true }
-    ensures complete { is_complete (over_codes case.now) (world (over_codes case.now) case.now.link (plan case.now)) ≡ true }
+    ensures complete { is_complete (over_codes case.now)
+        (world (over_codes case.now) case.now.link (plan case.now)) ≡ true }
     ensures reports { RowCountsReports case.now }
 {}

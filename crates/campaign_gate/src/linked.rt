@@ -1,7 +1,5 @@
 //! A flow without its history, with its link: the flow of a row.
 ghost use Rattle.std.specs.Prelude.{◌≡◌, refl, IfOk};
-ghost use Rattle.flow_core.specs.Readings.{over_codes};
-ghost use Rattle.flow_core.proofs.SummaryLemmas.{summary-legal};
 ghost use Rattle.flow_core.specs.Cells.{CellState, ack_at};
 ghost use Rattle.campaign_gate.specs.CaseRuns.{opened, MayMake, Makes};
 ghost use Rattle.campaign_gate.specs.LinkedFlows.{linked_at};

@@ -36,8 +36,8 @@ pub struct Row {
 }
 
 impl Row {
-    /// The row of a flow, by what its later letters depend on, the sums over its acknowledgements, and its greatest window, in
-    /// bytes.
+    /// The row of a flow, by what its later letters depend on, the sums over its acknowledgements, and its greatest
+    /// window, in bytes.
     pub fn of(bare: &Bare, sums: Sums, peak: u64) -> Row
         ensures { result ≡ row_in bare.now.summary sums peak }
     {

@@ -21,7 +21,8 @@ impl Campaign for Brand {
     ghost cases = { [] };
 }
 
-/// The results of worker `worker` of `workers`: one for each case `i` with `i mod workers = worker`, in order, and nothing else.
+/// The results of worker `worker` of `workers`: one for each case `i` with `i mod workers = worker`, in order, and
+/// nothing else.
 #[derive(Drop)]
 pub(crate) struct Share<C: Campaign, M: CaseResult> {
     pub(crate) worker: u32,

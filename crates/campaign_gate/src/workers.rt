@@ -1,5 +1,5 @@
 //! How workers run a campaign's cases side by side, and how their items are merged in the order of the cases.
-ghost use Rattle.std.specs.Prelude.{◌≡◌, ℕ, ◌<◌, ◌≤◌, [], map, length, IfOk, OnOk, IfSome, slice_get};
+ghost use Rattle.std.specs.Prelude.{◌≡◌, ℕ, ◌<◌, ◌≤◌, map, length, IfOk, OnOk, IfSome, slice_get};
 ghost use Rattle.ccp_base.specs.Limits.{most_cases};
 ghost use Rattle.campaign_gate.specs.Parts.{HasPart};
 ghost use Rattle.campaign_gate.specs.Shares.{shares, front_of, turned};
@@ -13,8 +13,8 @@ use std::alloc::Global;
 use std::thread;
 use std::thread::Threads;
 
-/// The result of each case of a campaign, in the order of the cases. `workers` workers make them, and run each case once. If a
-/// worker runs out of memory, so does the call.
+/// The result of each case of a campaign, in the order of the cases. `workers` workers make them, and run each case
+/// once. If a worker runs out of memory, so does the call.
 pub(crate) fn make_by_workers<
     C: Campaign + Send + Sync,
     M: CaseResult + Send,
@@ -48,7 +48,8 @@ fn queues_of<C: Campaign, M: CaseResult>(
     workers: Workers,
 ) -> Result<Queue<Queue<M>>, NoMemory>
     requires len { length parts ≡ workers.count }
-    requires each { (worker : ℕ) → IfSome (slice_get parts worker) (λ part. IfOk part (λ share. (share.worker ≡ worker) × (share.workers ≡ workers))) }
+    requires each { (worker : ℕ) → IfSome (slice_get parts worker) (λ part.
+        IfOk part (λ share. (share.worker ≡ worker) × (share.workers ≡ workers))) }
     ensures { IfOk result (λ queues. queues ≡ shares workers.count (map M.of_case C.cases)) }
 {
     let mut parts = parts;

@@ -3,7 +3,8 @@ use Rattle.std.specs.Prelude.{◌≡◌, ◌<◌, ◌≤◌, ℕ, zero, suc, ◌
 use Rattle.std.specs.List.{All}
 use Rattle.std.proofs.Common.{arith, ap, sym, ◌∙◌, length-append}
 use Rattle.ccp_base.specs.declared.ack.Ack.{Ack}
-use Rattle.link_model.specs.Link.{Packet, GivenAck, Taking, packet_and_lost_below, Numbered, Next, arrives, all_lost, is_lost, takes, left_by, lost_by, numbered, in_flight}
+use Rattle.campaign_gate.proofs.BoundLemmas.{lost-most, flight-most}
+use Rattle.link_model.specs.Link.{Packet, GivenAck, packet_and_lost_below, Numbered, Next, arrives, all_lost, in_flight}
 use Rattle.shared_link.specs.declared.round.Ask.{Ask}
 use Rattle.shared_link.specs.declared.shared_case.FlowLink.{FlowLink}
 use Rattle.shared_link.specs.declared.shared_case.SharedCase.{SharedCase}
@@ -29,33 +30,6 @@ IsSmall most ack = (ack.lost_pkts_sample ≤ most) × (ack.bytes_acked ≤ 65535
 abbrev pub AreSmall : ℕ → List Ack → Type 0
 AreSmall most [] = Unit {0}
 AreSmall most (ack ∷ rest) = IsSmall most ack × AreSmall most rest
-
-length-numbered : (packets : List Packet) → length (numbered packets) ≡ length packets
-length-numbered [] = refl
-length-numbered (packet ∷ earlier) =
-    omega (arith, length-numbered earlier, length-append (numbered earlier) (record { number = length earlier; packet = packet } ∷ []))
-
-left-one : (b : Bool) (sent : Numbered) (rest : List Numbered) → length (if b then rest else sent ∷ rest) ≤ length rest + 1
-left-one true sent rest = omega arith
-left-one false sent rest = omega arith
-
-left-most : (taking : Taking) (flight : List Numbered) → length (left_by taking flight) ≤ length flight
-left-most taking [] = omega arith
-left-most taking (sent ∷ rest) =
-    omega (arith, left-most taking rest, left-one (takes taking sent) sent (left_by taking rest))
-
-lost-one : (b : Bool) (n : ℕ) → (if b then n + 1 else n) ≤ n + 1
-lost-one true n = omega arith
-lost-one false n = omega arith
-
-lost-most : (taking : Taking) (flight : List Numbered) → lost_by taking flight ≤ length flight
-lost-most taking [] = omega arith
-lost-most taking (sent ∷ rest) =
-    omega (arith, lost-most taking rest, lost-one (takes taking sent && is_lost sent.packet.fate) (lost_by taking rest))
-
-flight-most : (packets : List Packet) (givens : List GivenAck) → length (in_flight packets givens) ≤ length packets
-flight-most packets [] = omega (arith, length-numbered packets)
-flight-most packets (given ∷ earlier) = omega (arith, flight-most packets earlier, left-most given.taking (in_flight packets earlier))
 
 module _ (times : List ℕ) (link : FlowLink) (end : ℕ) (packets : List Packet) where
   timeouts-few : (givens : List GivenAck) (flight : List Numbered) → length (timeouts link end packets givens flight) ≤ 1
@@ -188,10 +162,10 @@ pub each-length : (n : ℕ) (acks : ℕ → List Ack) → length (each_flow n ac
 each-length zero acks = refl
 each-length (suc flow) acks = omega (arith, each-length flow acks, length-append (each_flow flow acks) (acks flow ∷ []))
 
-same-some : {A : Type 0} (left right : A) → Some left ≡ Some right → left ≡ right
+pub same-some : {A : Type 0} (left right : A) → Some left ≡ Some right → left ≡ right
 same-some left right e = cc
 
-no-some : {A : Type 0} (right : A) → None ≡ Some right → ⊥
+pub no-some : {A : Type 0} (right : A) → None ≡ Some right → ⊥
 no-some right e = cc
 
 get-last : {A P : Type 0} (front : List A) (last : A) (i : ℕ) (one : A) → slice_get (front ++ last ∷ []) i ≡ Some one

@@ -40,10 +40,10 @@ module _ {F : Type 0} (at : CoreState → F) where
       → ((core : CoreState) → IsAfter at core flow tally → row ≡ flow_row over_codes core)
       → AreWhole left → (flow, tally) ∷ later ≡ map (kept_at at) left → rows ++ map (flow_row over_codes) left ≡ map (flow_row over_codes) cores
       → RowsLeft cores later (rows ++ row ∷ [])
-  rows-where cores [] flow tally later rows row told whole is made = absurd (no-cons (flow, tally) later is)
-  rows-where cores (core ∷ left) flow tally later rows row told whole is made =
+  rows-where cores [] flow tally later rows row reads whole is made = absurd (no-cons (flow, tally) later is)
+  rows-where cores (core ∷ left) flow tally later rows row reads whole is made =
       let one : row ≡ flow_row over_codes core =
-      told core (after-kept core flow tally whole.0 (sym (same-first (flow, tally) (kept_at at core) later (map (kept_at at) left) is))) in (
+      reads core (after-kept core flow tally whole.0 (sym (same-first (flow, tally) (kept_at at core) later (map (kept_at at) left) is))) in (
         left,
         whole.1,
         same-rest (flow, tally) (kept_at at core) later (map (kept_at at) left) is,
@@ -54,10 +54,10 @@ module _ {F : Type 0} (at : CoreState → F) where
   pub rows-next : (all rest later : List (F × Tally)) (flow : F) (tally : Tally) (rows : List Row) (row : Row) (longer : List Row)
       → ((core : CoreState) → IsAfter at core flow tally → row ≡ flow_row over_codes core)
       → rest ≡ (flow, tally) ∷ later → longer ≡ rows ++ row ∷ [] → LeavesRows all rest rows → LeavesRows all later longer
-  rows-next all rest later flow tally rows row longer told split pushed leaves cores whole is =
+  rows-next all rest later flow tally rows row longer reads split pushed leaves cores whole is =
       let here = leaves cores whole is in
       subst (λ (made : List Row). RowsLeft cores later made) (sym pushed)
-      (rows-where cores here.0 flow tally later rows row told here.1 (sym split ∙ here.2) here.3)
+      (rows-where cores here.0 flow tally later rows row reads here.1 (sym split ∙ here.2) here.3)
 
   rows-end : (cores left : List CoreState) (rows : List Row) → [] ≡ map (kept_at at) left → rows ++ map (flow_row over_codes) left ≡ map (flow_row over_codes) cores
       → rows ≡ map (flow_row over_codes) cores
@@ -83,10 +83,10 @@ abbrev pub AreStill : List CoreState → Type 0
 AreStill cores = All (λ (core : CoreState). is_still (world_of_core over_codes core) ≡ true) cores
 
 -- of all flows those before the rest gave their books, and nothing is left to take or to answer of the rest
-pub record AreDone (all rest : List CoreState) (told : List Given) : Type 0 where
+pub record AreDone (all rest : List CoreState) (books : List Given) : Type 0 where
   pub done : List CoreState
   pub split : done ++ rest ≡ all
-  pub givens : AreGivensOf done told
+  pub givens : AreGivensOf done books
   pub still : AreStill rest
 
 pub done-none : (all rest : List CoreState) (givens : List Given) → rest ≡ all → givens ≡ [] → AreStill all → AreDone all rest givens
@@ -99,10 +99,10 @@ done-none all rest givens is none still = record {
 
 pub done-one : (all rest later : List CoreState) (core : CoreState) (givens : List Given) (given : Given) (longer : List Given)
     → AreDone all rest givens → rest ≡ core ∷ later → IsGivenOf core given → longer ≡ givens ++ given ∷ [] → AreDone all later longer
-done-one all rest later core givens given longer are is told pushed = record {
+done-one all rest later core givens given longer are is gave pushed = record {
   done = are.done ++ core ∷ [];
   split = append_assoc are.done (core ∷ []) later ∙ ap (λ (xs : List CoreState). are.done ++ xs) (sym is) ∙ are.split;
-  givens = subst (λ (gs : List Given). AreGivensOf (are.done ++ core ∷ []) gs) (sym pushed) (givens-last are.done givens core given are.givens told);
+  givens = subst (λ (gs : List Given). AreGivensOf (are.done ++ core ∷ []) gs) (sym pushed) (givens-last are.done givens core given are.givens gave);
   still =
       (λ k d less.
       subst AreStill is are.still (suc k) d (omega (arith, less)));

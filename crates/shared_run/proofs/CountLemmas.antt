@@ -1,5 +1,5 @@
 -- The counts of what flows may have in a round: each has as many acknowledgements left as it is given.
-use Rattle.std.specs.Prelude.{◌≡◌, ◌≤◌, ℕ, zero, suc, ◌+◌, ◌-◌, Some, None, List, [], ◌∷◌, length, slice_get, refl}
+use Rattle.std.specs.Prelude.{◌≡◌, ◌≤◌, ℕ, zero, suc, ◌+◌, ◌-◌, Some, List, [], ◌∷◌, length, slice_get, refl}
 use Rattle.std.proofs.Common.{arith, ap}
 use Rattle.ccp_base.specs.declared.ack.Ack.{Ack}
 use Rattle.flow_core.specs.Readings.{over_codes}
@@ -32,12 +32,6 @@ within-from [] flows each = tt
 within-from (acks ∷ others) [] each = tt
 within-from (acks ∷ others) (core ∷ rest) each =
     (each 0 acks core refl refl, within-from others rest (λ i list one at there. each (suc i) list one at there))
-
-pub no-some : {A : Type 0} (right : A) → None ≡ Some right → ⊥
-no-some right e = cc
-
-pub same-some : {A : Type 0} (left right : A) → Some left ≡ Some right → left ≡ right
-same-some left right e = cc
 
 -- what a flow asks for
 ask-left : (flows : List CoreState) (i : ℕ) (core : CoreState) → slice_get flows i ≡ Some core

@@ -1,4 +1,4 @@
--- The run of cases round by round: what its flows are, ask for and are given, and where the whole run ends.
+-- The run of cases round by round: what its flows are, ask for and are given, and after which round the whole run ends.
 use Rattle.std.specs.Prelude.{◌≡◌, ◌<◌, ◌≤◌, ℕ, zero, suc, ◌+◌, ◌-◌, ◌==◌, Bool, true, false, ◌&&◌, nat_le, if◌then◌else◌, Some, option_map, Result, Ok, Err, OnOk, List, [], ◌∷◌, ◌++◌, length, take, drop, slice_get, refl}
 use Rattle.std.proofs.Common.{arith, ap, sym, ◌∙◌, subst, add-one, ◌⊎◌, inl, inr}
 use Rattle.std.proofs.lemmas.Bool.{leb-true, leb-false, ne_eqb}
@@ -15,7 +15,8 @@ use Rattle.shared_link.specs.SharedStanding.{SharedState, Stands}
 use Rattle.shared_run.specs.RoundLetters.{opened, round_part}
 use Rattle.shared_run.specs.SharedHistory.{ask_of, asks_of, parts, have_all, rounds_from, round_limit}
 use Rattle.shared_run.specs.Courses.{run_after, flows_after, asks_in, acks_in_round, none_left, StandsAfter, EndsInTime}
-use Rattle.shared_run.proofs.CountLemmas.{Within, within-after, no-some, same-some, lists-length}
+use Rattle.shared_run.proofs.AnswerLemmas.{no-some, same-some}
+use Rattle.shared_run.proofs.CountLemmas.{Within, within-after, lists-length}
 use Rattle.shared_run.proofs.RoomyLemmas.{flows-keep}
 
 -- ---- lists
@@ -111,7 +112,7 @@ sub-left a b = left-where (leb_tells a b) where
       ap (λ (n : ℕ). n == 0) none ∙ sym has
   left-where (inr (lacks, more)) = ne_eqb (a - b) 0 (λ none. omega (arith, more, none)) ∙ sym lacks
 
--- no flow asks for more where all have all acknowledgements
+-- no flow asks for more if and only if all have all acknowledgements
 pub none_asked : (flows : List CoreState) → none_left (asks_of over_codes flows) ≡ have_all flows
 none_asked [] = refl
 none_asked (core ∷ rest) = λ i. sub-left core.case.acks (length core.acks) i && none_asked rest i
@@ -233,7 +234,7 @@ module _ (link : SharedCase) (cases : List Case) where
       let none : 0 ≡ most - rounds = omega (arith, over) in
       ap (λ (n : ℕ). rounds_from link over_codes n (run_after link over_codes cases rounds)) none ∙ on
 
-  -- ---- where it ends
+  -- ---- the end
 
   -- from some round on it is that after this many
   record EndsFrom (left done rounds : ℕ) : Type 0 where

@@ -15,7 +15,7 @@ use Rattle.shared_run.specs.FlowRow.{AreRoomy}
 use Rattle.shared_run.specs.Courses.{flows_after, asks_in, acks_in_round}
 use Rattle.shared_run.specs.RoundFlows.{kept_at, kept_in, IsAfter, HasHistory, MayHear, Goes}
 use Rattle.shared_run.proofs.BookLemmas.{after-kept, kept-after}
-use Rattle.shared_run.proofs.CountLemmas.{no-some, same-some}
+use Rattle.shared_run.proofs.AnswerLemmas.{no-some, same-some}
 use Rattle.shared_run.proofs.CourseLemmas.{flow_fits, flow_next, flow_asks, opened_at}
 use Rattle.shared_run.proofs.RoomyLemmas.{flow-whole}
 use Rattle.shared_run.proofs.TurnLemmas.{part-acks}

@@ -1,4 +1,4 @@
--- Where a case's codes simulate two programs, its flow over the codes is alike to that over the programs.
+-- If a case's codes simulate two programs, its flow over the codes is alike to that over the programs.
 use Rattle.std.specs.Prelude.{◌≡◌, ℕ, ◌+◌, ◌-◌, ◌*◌, nat_lt, ◌&&◌, if◌then◌else◌, Option, Some, None, option_map, List, length, refl}
 use Rattle.std.proofs.Common.{ap, sym, ◌∙◌, subst}
 use Rattle.ccp_base.specs.declared.ack.Ack.{Ack}

@@ -1,4 +1,4 @@
--- Where the cases' codes simulate programs, the run over the codes is the run over the programs.
+-- If the cases' codes simulate programs, the run over the codes is the run over the programs.
 use Rattle.std.specs.Prelude.{◌≡◌, ℕ, zero, suc, ◌-◌, Bool, true, false, if◌then◌else◌, Some, List, [], ◌∷◌, length, map, slice_get, refl}
 use Rattle.std.proofs.Common.{ap, sym, ◌∙◌, subst}
 use Rattle.ccp_base.specs.declared.ack.Ack.{Ack}

@@ -9,11 +9,11 @@ use Rattle.flow_core.specs.Readings.{Flow}
 use Rattle.flow_core.specs.World.{World}
 use Rattle.flow_core.specs.Words.{from_list, world_over, is_legal}
 use Rattle.flow_core.specs.WordLaws.{world_over-append}
-use Rattle.flow_core.specs.Cores.{CoreState}
+use Rattle.flow_core.specs.Cores.{CoreState, with_ack}
 use Rattle.campaign_gate.specs.CampaignWord.{is_answer_due, first_letter}
 use Rattle.campaign_gate.specs.CampaignRow.{window_of, peak_from, row_over}
 use Rattle.flow_core.specs.LettersLeft.{letters_left}
-use Rattle.shared_run.specs.RoundLetters.{CaseReading, with_ack, settling_letter, with_next, settled_in, after_settling, with_settled_ack, round_part}
+use Rattle.shared_run.specs.RoundLetters.{CaseReading, settling_letter, with_next, settled_in, after_settling, with_settled_ack, round_part}
 use Rattle.shared_run.specs.FlowRow.{peak_of}
 use Rattle.shared_run.specs.LiftedFlow.{ReadAlike}
 use Rattle.shared_run.proofs.TurnLemmas.{settled-case}
@@ -66,8 +66,8 @@ module _ {X Y : Type 0} (read : CaseReading X) (other : CaseReading Y) (case : C
   part-alike : (acks : List Ack) (core : CoreState) → core.case ≡ case → round_part read acks core ≡ round_part other acks core
   part-alike [] core is = refl
   part-alike (ack ∷ rest) core is =
-      ap (λ (c : CoreState). round_part read rest c) (settled-of false (with_ack ack core) is)
-      ∙ part-alike rest (with_settled_ack other ack core) (settled-case other false (with_ack ack core) ∙ is)
+      ap (λ (c : CoreState). round_part read rest c) (settled-of false (with_ack core ack) is)
+      ∙ part-alike rest (with_settled_ack other ack core) (settled-case other false (with_ack core ack) ∙ is)
 
   peak-alike : (acks : List Ack) (rest front : List Letter)
       → peak_from (read case) (from_list acks) (world_over (read case) acks front) rest

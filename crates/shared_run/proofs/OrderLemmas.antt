@@ -8,7 +8,7 @@ use Rattle.std.proofs.lemmas.Option.{slice_get_within}
 use Rattle.std.proofs.Math.Nat.{mod-lt}
 use Rattle.circular_buffer.proofs.Places.{slice_get-set_same, slice_get-set_other}
 use Rattle.ccp_base.specs.declared.ack.Ack.{Ack}
-use Rattle.shared_run.proofs.CountLemmas.{same-some}
+use Rattle.shared_run.proofs.AnswerLemmas.{same-some}
 use Rattle.shared_run.specs.Orders.{FlowPart, OrderState, with_flow_part, is_done_by, parts_of_worker, order_of, IsDealtBefore, DealsOne}
 
 enumerate-last : {X : Type 0} (n : ℕ) (xs : List X) (x : X) → enumerate_from n (xs ++ x ∷ []) ≡ enumerate_from n xs ++ (n + length xs, x) ∷ []

@@ -15,8 +15,8 @@ use Rattle.shared_run.specs.SharedHistory.{Progress, asks_of, parts, after_round
 use Rattle.shared_run.specs.Courses.{run_after, flows_after}
 use Rattle.shared_run.specs.RoundFlows.{IsWhole, AreWhole}
 use Rattle.shared_run.proofs.TurnLemmas.{part-case, part-acks, part-all, settled-acks, settled-case, settled-all}
-use Rattle.shared_run.proofs.AnswerLemmas.{AreSmall, AreAllSmall, after-all-small}
-use Rattle.shared_run.proofs.CountLemmas.{KeepCounts, Within, within-after, no-some, same-some}
+use Rattle.shared_run.proofs.AnswerLemmas.{AreSmall, AreAllSmall, after-all-small, no-some, same-some}
+use Rattle.shared_run.proofs.CountLemmas.{KeepCounts, Within, within-after}
 
 abbrev pub SmallFlows : List CoreState → Type 0
 SmallFlows [] = Unit {0}

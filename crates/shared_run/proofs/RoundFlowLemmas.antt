@@ -1,5 +1,5 @@
 -- A flow of a run after one more letter, whatever it keeps of its history.
-use Rattle.std.specs.Prelude.{◌≡◌, ◌<◌, ◌≤◌, ℕ, ◌+◌, ◌-◌, ◌*◌, max, Bool, true, false, if◌then◌else◌, Result, Ok, Err, IfOk, List, [], ◌∷◌, ◌++◌, length}
+use Rattle.std.specs.Prelude.{◌≡◌, ◌<◌, ◌≤◌, ℕ, ◌+◌, ◌-◌, ◌*◌, max, Bool, true, false, Result, Ok, Err, IfOk, List, [], ◌∷◌, ◌++◌, length}
 use Rattle.std.proofs.Common.{arith, ap, sym, ◌∙◌, subst, length-append, append_assoc}
 use Rattle.std.proofs.lemmas.Bool.{lt-ltb, ltb-true}
 use Rattle.ccp_base.specs.declared.ack.Ack.{Ack}
@@ -12,7 +12,7 @@ use Rattle.flow_core.specs.Words.{from_list, is_legal, most_letters}
 use Rattle.flow_core.specs.WordLaws.{acks_in, acks_in-A, world_over-append}
 use Rattle.flow_core.specs.LettersLeft.{letters_left}
 use Rattle.flow_core.specs.States.{issued_as}
-use Rattle.flow_core.specs.Cores.{CoreState}
+use Rattle.flow_core.specs.Cores.{CoreState, with_ack}
 use Rattle.flow_core.specs.Summaries.{summary, step_ack, step_take, step_answer, may_make}
 use Rattle.flow_core.specs.Bares.{BareState}
 use Rattle.flow_core.proofs.MappedLemmas.{count-mapped}
@@ -26,9 +26,9 @@ use Rattle.campaign_gate.specs.CampaignRow.{timeouts_in, sums_of, sums_with, row
 use Rattle.campaign_gate.specs.CampaignRow as campaign
 use Rattle.campaign_gate.specs.CaseRuns.{left_in}
 use Rattle.campaign_gate.proofs.PeakLemmas.{peak-append}
-use Rattle.campaign_gate.proofs.SumLemmas.{sums-append}
+use Rattle.campaign_gate.proofs.SumLemmas.{sums-append, timeout-one}
 use Rattle.shared_link.specs.declared.round.Ask.{Ask}
-use Rattle.shared_run.specs.RoundLetters.{world_of_core, with_ack, with_letter, is_answered, after_settling, with_settled_ack, round_part}
+use Rattle.shared_run.specs.RoundLetters.{world_of_core, with_letter, answers_next, after_settling, with_settled_ack, round_part}
 use Rattle.shared_run.specs.SharedHistory.{ask_of}
 use Rattle.shared_run.specs.FlowRow.{peak_of, flow_row, AreRoomy}
 use Rattle.shared_run.specs.RoundFlows.{IsWhole, bare_after, MayMake, Makes, tally_of, IsAfter, HasHistory, MayHear, Goes, Took, MakesNext}
@@ -70,13 +70,13 @@ module _ (core : CoreState) where
     pub acks-world : world.acks ≡ core.acks
     acks-world = acks-of-world_over reading core.acks core.word whole.all
 
-    pub bare-A : (ack : Ack) → bare_after (with_ack ack core) ≡ record (bare_after core) { summary = step_ack reading ack (bare_after core).summary }
+    pub bare-A : (ack : Ack) → bare_after (with_ack core ack) ≡ record (bare_after core) { summary = step_ack reading ack (bare_after core).summary }
     bare-A ack = λ i. record {
       case = core.case;
       summary = (ap (summary reading) (world_over-A reading core.acks ack core.word whole.all) ∙ summary-ack reading ack world) i;
     }
 
-    pub whole-ack : (ack : Ack) → length core.acks < core.case.acks → IsWhole (with_ack ack core)
+    pub whole-ack : (ack : Ack) → length core.acks < core.case.acks → IsWhole (with_ack core ack)
     whole-ack ack more = record {
       all = acks_in-A core.word ∙ ap (λ (n : ℕ). n + 1) whole.all ∙ sym (length-append core.acks (ack ∷ []));
       within = omega (arith, more, length-append core.acks (ack ∷ []));
@@ -87,10 +87,10 @@ module _ (core : CoreState) where
 
     -- the tally with one more acknowledgement
     pub tally-ack : (ack : Ack) (was now : Tally) → was ≡ tally_of core → now.sums ≡ sums_with ack was.sums
-        → now.peak ≡ max was.peak (window_of reading (world_of_core over_codes (with_ack ack core)))
-        → now ≡ tally_of (with_ack ack core)
+        → now.peak ≡ max was.peak (window_of reading (world_of_core over_codes (with_ack core ack)))
+        → now ≡ tally_of (with_ack core ack)
     tally-ack ack was now is summed raised =
-        let heard = with_ack ack core in
+        let heard = with_ack core ack in
         let peak : now.peak ≡ peak_of over_codes heard =
         raised
         ∙ ap (λ (tally : Tally). max tally.peak (window_of reading (world_of_core over_codes heard))) is
@@ -113,10 +113,6 @@ module _ (core : CoreState) where
         λ i. record { sums = sums i; peak = peak i }
 
 -- ---- sums
-
-timeout-one : (b : Bool) → (if b then 1 else 0) ≤ 1
-timeout-one true = omega arith
-timeout-one false = omega arith
 
 timeouts-most : (acks : List Ack) → timeouts_in acks ≤ length acks
 timeouts-most [] = omega arith
@@ -194,9 +190,9 @@ module _ {F : Type 0} (at : CoreState → F) where
       let after = with_settled_ack over_codes ack core in
       let fits = may.fits in
       let long = ap (λ (xs : List Ack). length xs) split in
-      let more : after.acks ≡ core.acks ++ ack ∷ [] = settled-acks over_codes false (with_ack ack core) in
+      let more : after.acks ≡ core.acks ++ ack ∷ [] = settled-acks over_codes false (with_ack core ack) in
       let count = ap (λ (xs : List Ack). length xs) more in
-      let case = ap (λ (c : Case). c.acks) (settled-case over_codes false (with_ack ack core)) in
+      let case = ap (λ (c : Case). c.acks) (settled-case over_codes false (with_ack core ack)) in
       record {
         core = after;
         after = goes core may.after;
@@ -219,9 +215,9 @@ module _ {F : Type 0} (at : CoreState → F) (bare_of : F → BareState) (law : 
   is-bare flow core is = ap bare_of is ∙ law core
 
   module _ (old : F) (was : Tally) where
-    pub goes-A : (new : F) (now : Tally) (ack : Ack) → MayHear at (ack ∷ []) old was → Makes at (with_ack ack) old new
+    pub goes-A : (new : F) (now : Tally) (ack : Ack) → MayHear at (ack ∷ []) old was → Makes at (λ (core : CoreState). with_ack core ack) old new
         → now.sums ≡ sums_with ack was.sums → now.peak ≡ max was.peak (bare_of new).summary.track.env.cwnd
-        → Goes at (with_ack ack) old was new now
+        → Goes at (λ (core : CoreState). with_ack core ack) old was new now
     goes-A new now ack may makes summed raised core after =
         let made = makes core after.whole after.flow_is in
         let mine = is-bare old may.core may.after.flow_is in
@@ -237,7 +233,7 @@ module _ {F : Type 0} (at : CoreState → F) (bare_of : F → BareState) (law : 
           flow_is = made;
           tally_is =
               tally-ack core after.whole ack was now after.tally_is summed
-              (raised ∙ ap (λ (b : BareState). max was.peak b.summary.track.env.cwnd) (is-bare new (with_ack ack core) made));
+              (raised ∙ ap (λ (b : BareState). max was.peak b.summary.track.env.cwnd) (is-bare new (with_ack core ack) made));
         }
 
     pub goes-letter : (letter : Letter) → ((word : List Letter) → acks_in (word ++ letter ∷ []) ≡ acks_in word) → (new : F) (now : Tally)
@@ -278,7 +274,7 @@ module _ {F : Type 0} (at : CoreState → F) (bare_of : F → BareState) (law : 
       -- whether an answer is due
       pub due-is : (due : Bool)
           → ((w : World ℕ) → bare.summary ≡ summary (over_codes bare.case) w → due ≡ is_answer_due (over_codes bare.case) bare.case.lag w)
-          → (core : CoreState) → IsAfter at core old was → due ≡ is_answered false over_codes core
+          → (core : CoreState) → IsAfter at core old was → due ≡ answers_next false over_codes core
       due-is due tells core after =
           let w = world_of_core over_codes core in
           let case : bare.case ≡ core.case = ap (λ (b : BareState). b.case) (bare-at core after) in
@@ -287,8 +283,8 @@ module _ {F : Type 0} (at : CoreState → F) (bare_of : F → BareState) (law : 
 
       -- its row
       pub row-is : (row : Row) → row ≡ row_in bare.summary was.sums was.peak → (core : CoreState) → IsAfter at core old was → row ≡ flow_row over_codes core
-      row-is row told core after =
-          told
+      row-is row read core after =
+          read
           ∙ (λ i. row_in (bare-at core after i).summary (after.tally_is i).sums (after.tally_is i).peak)
           ∙ (λ i. row_in (bare_after core).summary (sums_of (sym (acks-world core after.whole) i)) (peak_of over_codes core))
 
@@ -305,9 +301,9 @@ module _ {F : Type 0} (at : CoreState → F) (bare_of : F → BareState) (law : 
         omega (arith, less, before, later)
 
 module _ {F : Type 0} (at : CoreState → F) where
-  -- where an answer comes next it is legal
+  -- if an answer comes next it is legal
   pub may-C : (at_end : Bool) (flow : F) (tally : Tally) → HasHistory at flow tally
-      → ((core : CoreState) → IsAfter at core flow tally → is_answered at_end over_codes core ≡ true) → MayMake at C flow
+      → ((core : CoreState) → IsAfter at core flow tally → answers_next at_end over_codes core ≡ true) → MayMake at C flow
   may-C at_end flow tally has due =
       let core = has.core in
       record { core = core; whole = has.after.whole; after = has.after.flow_is; legal = answer-legal over_codes at_end core (due core has.after) }
@@ -320,12 +316,12 @@ module _ {F : Type 0} (at : CoreState → F) where
 
   module _ (at_end : Bool) (old : F) (was : Tally) (new : F) (now : Tally) where
     -- the answer that comes next was made
-    pub next-answer : ((core : CoreState) → IsAfter at core old was → is_answered at_end over_codes core ≡ true)
+    pub next-answer : ((core : CoreState) → IsAfter at core old was → answers_next at_end over_codes core ≡ true)
         → Goes at (with_letter C) old was new now → MakesNext at at_end true old was new now
     next-answer due goes core after = (C, next-C over_codes at_end core (due core after), goes core after)
 
     -- no answer comes next, and a ticket was taken if that is legal
-    pub next-taking : (took : Bool) → ((core : CoreState) → IsAfter at core old was → is_answered at_end over_codes core ≡ false)
+    pub next-taking : (took : Bool) → ((core : CoreState) → IsAfter at core old was → answers_next at_end over_codes core ≡ false)
         → Took at took old was new now → MakesNext at at_end took old was new now
     next-taking true due taken =
         (λ core after.
@@ -384,7 +380,7 @@ bare-may letter bare may =
     ∙ sym (summary-legal (over_codes may.core.case) letter (world_of_core over_codes may.core)) ∙ may.legal
 
 pub bare-makes-A : (old new : BareState) (ack : Ack) → new ≡ record old { summary = step_ack (over_codes old.case) ack old.summary }
-    → Makes bare_after (with_ack ack) old new
+    → Makes bare_after (λ (core : CoreState). with_ack core ack) old new
 bare-makes-A old new ack stepped core whole is =
     stepped ∙ ap (λ (b : BareState). record b { summary = step_ack (over_codes b.case) ack b.summary }) is ∙ sym (bare-A core whole ack)
 

@@ -1,48 +1,24 @@
 -- Letters without an acknowledgement: each leaves fewer to come, and at last none comes.
-use Rattle.std.specs.Prelude.{◌≡◌, ◌<◌, ◌≤◌, ℕ, zero, suc, ◌+◌, Bool, true, false, not, ◌&&◌, is_some, is_none, if◌then◌else◌, Option, Some, None, List, [], ◌∷◌, ◌++◌, length, refl}
+use Rattle.std.specs.Prelude.{◌≡◌, ◌<◌, ◌≤◌, ℕ, zero, suc, ◌+◌, Bool, true, false, is_some, Option, Some, None, List, [], ◌∷◌, ◌++◌, length, refl}
 use Rattle.std.proofs.Common.{arith, ap, sym, ◌∙◌, subst, append_assoc, append-nil, length-append}
 use Rattle.ccp_base.specs.declared.ack.Ack.{Ack}
 use Rattle.flow_core.specs.declared.letter.Letter.{Letter}
 use Rattle.flow_core.specs.declared.letter.Letter.TheVariants.{A, T, C}
-use Rattle.flow_core.specs.World.{Taken, World}
+use Rattle.flow_core.specs.World.{World}
 use Rattle.flow_core.specs.Words.{from_list, after_letter, can_take, is_legal, is_still}
 use Rattle.flow_core.specs.WordLaws.{acks_in, acks_in-A, acks_in-T, acks_in-C, world_over-append}
-use Rattle.flow_core.specs.Cores.{CoreState}
-use Rattle.campaign_gate.specs.CampaignWord.{is_late, first_letter}
+use Rattle.flow_core.specs.Cores.{CoreState, with_ack}
+use Rattle.campaign_gate.specs.CampaignWord.{first_letter}
+use Rattle.campaign_gate.proofs.PlanLemmas.{MadeBy, IsMade, made, due-out, still}
 use Rattle.flow_core.specs.LettersLeft.{letters_left}
 use Rattle.flow_core.proofs.LeftLemmas.{left-letter}
-use Rattle.shared_run.specs.RoundLetters.{CaseReading, world_of_core, with_ack, with_letter, is_answered, settling_letter, with_next, settled_in, after_settling, with_settled_ack, round_part}
+use Rattle.shared_run.specs.RoundLetters.{CaseReading, world_of_core, with_letter, answers_next, settling_letter, with_next, settled_in, after_settling, with_settled_ack, round_part}
 
 -- ---- which letter is next
 
-late-out : {X : Type 0} (lag acks : ℕ) (out : Option (Taken X)) → is_late lag acks out ≡ true → is_some out ≡ true
-late-out lag acks None late = absurd (let wrong : false ≡ true = late in (cc))
-late-out lag acks (Some ticket) late = refl
-
-due-out : {X : Type 0} (lag acks : ℕ) (more : Bool) (out : Option (Taken X))
-    → (if more then is_late lag acks out else is_some out) ≡ true → is_some out ≡ true
-due-out lag acks true out due = late-out lag acks out due
-due-out lag acks false out due = due
-
--- the letter that is due or that may be taken
-abbrev MadeBy : Bool → Bool → Letter → Type 0
-MadeBy due may_take A = ⊥
-MadeBy due may_take T = (due ≡ false) × (may_take ≡ true)
-MadeBy due may_take C = due ≡ true
-
-abbrev IsMade : Bool → Bool → Option Letter → Type 0
-IsMade due may_take None = (due ≡ false) × (may_take ≡ false)
-IsMade due may_take (Some letter) = MadeBy due may_take letter
-
-made : (due may_take : Bool) → IsMade due may_take (first_letter due may_take false)
-made true may_take = refl
-made false true = (refl, refl)
-made false false = (refl, refl)
-
-still : {X : Type 0} (out : Option (Taken X)) (can : Bool) → is_some out ≡ false → (is_none out && can) ≡ false
-    → (is_none out && not can) ≡ true
-still None can out both = ap not both
-still (Some ticket) can out both = absurd (let wrong : true ≡ false = out in (cc))
+-- none of these letters is an acknowledgement
+no-ack : false ≡ true → ⊥
+no-ack is = cc
 
 -- the word has all acknowledgements
 abbrev pub HasAll : CoreState → Type 0
@@ -52,7 +28,7 @@ module _ {X : Type 0} (read : CaseReading X) where
   abbrev left_of : CoreState → ℕ
   left_of core = letters_left (read core.case) (world_of_core read core)
 
-  answered-out : (at_end : Bool) (core : CoreState) → is_answered at_end read core ≡ true → is_some (world_of_core read core).out ≡ true
+  answered-out : (at_end : Bool) (core : CoreState) → answers_next at_end read core ≡ true → is_some (world_of_core read core).out ≡ true
   answered-out false core due =
       let w = world_of_core read core in
       due-out core.case.lag (length w.acks) (is_legal (read core.case) w A) w.out due
@@ -60,32 +36,32 @@ module _ {X : Type 0} (read : CaseReading X) where
 
   module _ (at_end : Bool) where
     next-made : (core : CoreState) (next : Option Letter) → settling_letter at_end read core ≡ next
-        → IsMade (is_answered at_end read core) (is_legal (read core.case) (world_of_core read core) T) next
+        → IsMade (answers_next at_end read core) (is_legal (read core.case) (world_of_core read core) T) false next
     next-made core next is =
-        subst (λ (n : Option Letter). IsMade (is_answered at_end read core) (is_legal (read core.case) (world_of_core read core) T) n) is
-        (made (is_answered at_end read core) (is_legal (read core.case) (world_of_core read core) T))
+        subst (λ (n : Option Letter). IsMade (answers_next at_end read core) (is_legal (read core.case) (world_of_core read core) T) false n) is
+        (made (answers_next at_end read core) (is_legal (read core.case) (world_of_core read core) T) false)
 
-    pub next-C : (core : CoreState) → is_answered at_end read core ≡ true → settling_letter at_end read core ≡ Some C
+    pub next-C : (core : CoreState) → answers_next at_end read core ≡ true → settling_letter at_end read core ≡ Some C
     next-C core due = ap (λ (b : Bool). first_letter b (is_legal (read core.case) (world_of_core read core) T) false) due
 
-    pub next-T : (core : CoreState) → is_answered at_end read core ≡ false → is_legal (read core.case) (world_of_core read core) T ≡ true
+    pub next-T : (core : CoreState) → answers_next at_end read core ≡ false → is_legal (read core.case) (world_of_core read core) T ≡ true
         → settling_letter at_end read core ≡ Some T
     next-T core due may = λ i. first_letter (due i) (may i) false
 
-    pub next-none : (core : CoreState) → is_answered at_end read core ≡ false → is_legal (read core.case) (world_of_core read core) T ≡ false
+    pub next-none : (core : CoreState) → answers_next at_end read core ≡ false → is_legal (read core.case) (world_of_core read core) T ≡ false
         → settling_letter at_end read core ≡ None
     next-none core due may = λ i. first_letter (due i) (may i) false
 
-    -- an answer is legal where it comes next
-    pub answer-legal : (core : CoreState) → is_answered at_end read core ≡ true
+    -- an answer is legal if it comes next
+    pub answer-legal : (core : CoreState) → answers_next at_end read core ≡ true
         → is_legal (read core.case) (world_of_core read core) C ≡ true
     answer-legal core due = answered-out at_end core due
 
     -- ---- fewer are left
 
-    fewer-by : (core : CoreState) (letter : Letter) → MadeBy (is_answered at_end read core) (is_legal (read core.case) (world_of_core read core) T) letter
+    fewer-by : (core : CoreState) (letter : Letter) → MadeBy (answers_next at_end read core) (is_legal (read core.case) (world_of_core read core) T) false letter
         → letters_left (read core.case) (after_letter (read core.case) (from_list core.acks) (world_of_core read core) letter) < left_of core
-    fewer-by core A is = absurd is
+    fewer-by core A is = absurd (no-ack is.2)
     fewer-by core T is = left-letter (read core.case) core.case.link T (world_of_core read core) is.1
     fewer-by core C is = left-letter (read core.case) core.case.link C (world_of_core read core) (answered-out at_end core is)
 
@@ -98,9 +74,9 @@ module _ {X : Type 0} (read : CaseReading X) where
 
     -- ---- the word has all acknowledgements
 
-    all-by : (core : CoreState) (letter : Letter) → MadeBy (is_answered at_end read core) (is_legal (read core.case) (world_of_core read core) T) letter
+    all-by : (core : CoreState) (letter : Letter) → MadeBy (answers_next at_end read core) (is_legal (read core.case) (world_of_core read core) T) false letter
         → acks_in core.word ≡ length core.acks → acks_in (core.word ++ letter ∷ []) ≡ length core.acks
-    all-by core A is all = absurd is
+    all-by core A is all = absurd (no-ack is.2)
     all-by core T is all = acks_in-T core.word ∙ all
     all-by core C is all = acks_in-C core.word ∙ all
 
@@ -212,7 +188,7 @@ module _ {X : Type 0} (read : CaseReading X) where
   pub settled-case : (at_end : Bool) (core : CoreState) → (after_settling at_end read core).case ≡ core.case
   settled-case at_end core = settled_in-case at_end (left_of core) core
 
-  -- where no letter comes at the end, nothing is out and nothing can be taken
+  -- if no letter comes at the end, nothing is out and nothing can be taken
   pub still-ended : (core : CoreState) → settling_letter true read core ≡ None → is_still (world_of_core read core) ≡ true
   still-ended core is =
       let w = world_of_core read core in
@@ -225,17 +201,17 @@ module _ {X : Type 0} (read : CaseReading X) where
   -- a part of a round leaves the case, and adds the acknowledgements
   pub part-case : (acks : List Ack) (core : CoreState) → (round_part read acks core).case ≡ core.case
   part-case [] core = refl
-  part-case (ack ∷ rest) core = part-case rest (with_settled_ack read ack core) ∙ settled-case false (with_ack ack core)
+  part-case (ack ∷ rest) core = part-case rest (with_settled_ack read ack core) ∙ settled-case false (with_ack core ack)
 
   pub part-acks : (acks : List Ack) (core : CoreState) → (round_part read acks core).acks ≡ core.acks ++ acks
   part-acks [] core = sym (append-nil core.acks)
   part-acks (ack ∷ rest) core =
       part-acks rest (with_settled_ack read ack core)
-      ∙ ap (λ (xs : List Ack). xs ++ rest) (settled-acks false (with_ack ack core))
+      ∙ ap (λ (xs : List Ack). xs ++ rest) (settled-acks false (with_ack core ack))
       ∙ append_assoc core.acks (ack ∷ []) rest
 
   pub part-all : (acks : List Ack) (core : CoreState) → HasAll core → HasAll (round_part read acks core)
   part-all [] core all = all
   part-all (ack ∷ rest) core all =
       part-all rest (with_settled_ack read ack core)
-      (settled-all false (with_ack ack core) (acks_in-A core.word ∙ ap (λ (n : ℕ). n + 1) all ∙ sym (length-append core.acks (ack ∷ []))))
+      (settled-all false (with_ack core ack) (acks_in-A core.word ∙ ap (λ (n : ℕ). n + 1) all ∙ sym (length-append core.acks (ack ∷ []))))

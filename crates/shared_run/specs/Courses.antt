@@ -9,7 +9,8 @@ use Rattle.shared_link.specs.declared.shared_case.SharedCase.{SharedCase}
 use Rattle.shared_link.specs.SharedRounds.{acks_after}
 use Rattle.shared_link.specs.SharedStanding.{SharedState, Stands}
 use Rattle.shared_run.specs.RoundLetters.{CaseReading, opened}
-use Rattle.shared_run.specs.SharedHistory.{Progress, progress, asks_of, after_round, have_all, rounds_from, round_limit, whole_run}
+use Rattle.shared_run.specs.SharedHistory.{Progress, progress, asks_of, after_round, have_all}
+use Rattle.shared_run.specs.SharedHistory.{rounds_from, round_limit, whole_run}
 
 -- the run after this many rounds
 abbrev pub run_after : {X : Type 0} → SharedCase → CaseReading X → List Case → ℕ → Progress
@@ -26,7 +27,8 @@ asks_in link cases rounds = asks_of over_codes (flows_after link cases rounds)
 
 -- and each flow's acknowledgements in it
 abbrev pub acks_in_round : SharedCase → List Case → ℕ → List (List Ack)
-acks_in_round link cases rounds = acks_after link (run_after link over_codes cases rounds).history (asks_in link cases rounds)
+acks_in_round link cases rounds =
+    acks_after link (run_after link over_codes cases rounds).history (asks_in link cases rounds)
 
 -- no flow asks for an acknowledgement
 abbrev pub none_left : List Ask → Bool

@@ -1,11 +1,14 @@
 -- The definitions of shared_run, a file each.
+
+-- those that contracts of public calls cite: the letters and the row of a flow, and the run with its end and its result
 pub mod RoundLetters
 pub mod FlowRow
-pub mod LiftedFlow
 pub mod SharedHistory
+pub mod Courses
 pub mod SharedBooks
 pub mod WholeRun
 pub mod LiftedRun
-pub mod Courses
+-- those that only private contracts, invariants and proofs cite
 pub mod RoundFlows
+pub mod LiftedFlow
 pub mod Orders

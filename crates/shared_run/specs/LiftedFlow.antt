@@ -12,15 +12,16 @@ use Rattle.campaign_gate.specs.CampaignRow.{window_of}
 use Rattle.shared_run.specs.RoundLetters.{CaseReading, world_of_core, round_part, closed_flow}
 use Rattle.shared_run.specs.FlowRow.{flow_row}
 
--- two readings of a case are alike: whatever acknowledgements its flow has, it has one window, does one part of a round,
--- closes with one word and has one row in both
+-- two readings of a case are alike: whatever acknowledgements its flow has, it has one window, does one part of a
+-- round, closes with one word and has one row in both
 pub record ReadAlike {X Y : Type 0} (read : CaseReading X) (other : CaseReading Y) (core : CoreState) : Type 0 where
-  pub window : window_of (read core.case) (world_of_core read core) ≡ window_of (other core.case) (world_of_core other core)
+  pub window :
+      window_of (read core.case) (world_of_core read core) ≡ window_of (other core.case) (world_of_core other core)
   pub part : (acks : List Ack) → round_part read acks core ≡ round_part other acks core
   pub closed : closed_flow read core ≡ closed_flow other core
   pub row : flow_row read core ≡ flow_row other core
 
--- where a case's codes simulate the two programs that this reading has for it, both readings are alike
+-- if a case's codes simulate the two programs that this reading has for it, both readings are alike
 abbrev pub FlowHoldsForSources : Case → Type 0
 FlowHoldsForSources case =
     (sources : CaseReading Place) (ss ca : Form) (ss_places ca_places : List Place)

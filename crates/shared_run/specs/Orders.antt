@@ -1,5 +1,6 @@
 -- Which parts of a round each worker does.
-use Rattle.std.specs.Prelude.{◌≡◌, ℕ, ◌%◌, ◌==◌, Bool, true, false, ◌&&◌, ◌<◌, Some, List, [], ◌∷◌, ◌++◌, length, slice_get}
+use Rattle.std.specs.Prelude.{◌≡◌, ℕ, ◌%◌, ◌==◌, ◌<◌, Bool, true, false, ◌&&◌, Some}
+use Rattle.std.specs.Prelude.{List, [], ◌∷◌, ◌++◌, length, slice_get}
 use Rattle.std.specs.List.{filter, enumerate_from}
 use Rattle.ccp_base.specs.declared.ack.Ack.{Ack}
 
@@ -20,7 +21,7 @@ abbrev pub has_any : List Ack → Bool
 has_any [] = false
 has_any (ack ∷ rest) = true
 
--- the flow has acknowledgements in the round, and its number leaves the worker's when divided by the number of workers
+-- flow `f` has acknowledgements in the round, and `f mod workers = worker`
 abbrev pub is_done_by : ℕ → ℕ → FlowPart → Bool
 is_done_by workers worker part = has_any part.1 && (part.0 % workers == worker)
 
@@ -29,17 +30,21 @@ abbrev pub parts_of_worker : ℕ → ℕ → List (List Ack) → List FlowPart
 parts_of_worker workers worker lists = filter (is_done_by workers worker) (enumerate_from 0 lists)
 
 abbrev pub order_of : ℕ → ℕ → List (List Ack) → OrderState
-order_of workers worker lists = record { worker = worker; workers = workers; parts = parts_of_worker workers worker lists }
+order_of workers worker lists =
+    record { worker = worker; workers = workers; parts = parts_of_worker workers worker lists }
 
 -- the workers' orders, in order: each has the parts of its worker, and all lists that aren't empty are in one of them
 abbrev pub AreDealt : ℕ → List (List Ack) → List OrderState → Type 0
-AreDealt workers lists orders = (worker : ℕ) → worker < workers → slice_get orders worker ≡ Some (order_of workers worker lists)
+AreDealt workers lists orders =
+    (worker : ℕ) → worker < workers → slice_get orders worker ≡ Some (order_of workers worker lists)
 
 -- the orders have the parts of the flows before this one
 abbrev pub IsDealtBefore : ℕ → ℕ → List OrderState → Type 0
-IsDealtBefore workers number orders = (lists : List (List Ack)) × (length lists ≡ number) × AreDealt workers lists orders
+IsDealtBefore workers number orders =
+    (lists : List (List Ack)) × (length lists ≡ number) × AreDealt workers lists orders
 
 -- and then that of this one too
 abbrev pub DealsOne : ℕ → FlowPart → List OrderState → List OrderState → Type 0
 DealsOne workers part old new =
-    (lists : List (List Ack)) → length lists ≡ part.0 → AreDealt workers lists old → AreDealt workers (lists ++ part.1 ∷ []) new
+    (lists : List (List Ack)) → length lists ≡ part.0 → AreDealt workers lists old
+    → AreDealt workers (lists ++ part.1 ∷ []) new

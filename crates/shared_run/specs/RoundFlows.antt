@@ -1,5 +1,6 @@
 -- A flow of a run, whatever it keeps of its history: what it is after a history, and what a letter changes of it.
-use Rattle.std.specs.Prelude.{◌≡◌, ◌+◌, ◌≤◌, ℕ, Bool, true, false, Option, Some, None, option_map, List, [], ◌∷◌, ◌++◌, length, slice_get}
+use Rattle.std.specs.Prelude.{◌≡◌, ◌+◌, ◌≤◌, ℕ, Bool, true, false, Option, Some, None, option_map}
+use Rattle.std.specs.Prelude.{List, [], ◌∷◌, ◌++◌, length, slice_get}
 use Rattle.ccp_base.specs.declared.ack.Ack.{Ack}
 use Rattle.flow_core.specs.declared.case.Case.{Case}
 use Rattle.flow_core.specs.declared.letter.Letter.{Letter}
@@ -79,19 +80,23 @@ pub record MayHear {F : Type 0} (at : CoreState → F) (acks : List Ack) (flow :
 abbrev pub Goes : {F : Type 0} → (CoreState → F) → (CoreState → CoreState) → F → Tally → F → Tally → Type 0
 Goes at step old was new now = (core : CoreState) → IsAfter at core old was → IsAfter at (step core) new now
 
--- a ticket was taken where it is legal, and else nothing was changed
+-- a ticket was taken if that is legal, and else nothing was changed
 abbrev pub Took : {F : Type 0} → (CoreState → F) → Bool → F → Tally → F → Tally → Type 0
 Took at true old was new now =
     (core : CoreState) → IsAfter at core old was
-    → (is_legal (over_codes core.case) (world_of_core over_codes core) T ≡ true) × IsAfter at (with_letter T core) new now
+    → (is_legal (over_codes core.case) (world_of_core over_codes core) T ≡ true)
+    × IsAfter at (with_letter T core) new now
 Took at false old was new now =
     (core : CoreState) → IsAfter at core old was
-    → (is_legal (over_codes core.case) (world_of_core over_codes core) T ≡ false) × IsAfter at core new now
+    → (is_legal (over_codes core.case) (world_of_core over_codes core) T ≡ false)
+    × IsAfter at core new now
 
--- the next letter without an acknowledgement was made, and where there is none nothing was changed
+-- the next letter without an acknowledgement was made; if there is none, nothing was changed
 abbrev pub MakesNext : {F : Type 0} → (CoreState → F) → Bool → Bool → F → Tally → F → Tally → Type 0
 MakesNext at at_end true old was new now =
     (core : CoreState) → IsAfter at core old was
-    → (letter : Letter) × (settling_letter at_end over_codes core ≡ Some letter) × IsAfter at (with_letter letter core) new now
+    → (letter : Letter) × (settling_letter at_end over_codes core ≡ Some letter)
+    × IsAfter at (with_letter letter core) new now
 MakesNext at at_end false old was new now =
-    (core : CoreState) → IsAfter at core old was → (settling_letter at_end over_codes core ≡ None) × IsAfter at core new now
+    (core : CoreState) → IsAfter at core old was
+    → (settling_letter at_end over_codes core ≡ None) × IsAfter at core new now

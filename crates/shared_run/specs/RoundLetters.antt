@@ -3,11 +3,11 @@ use Rattle.std.specs.Prelude.{◌≡◌, ℕ, zero, suc, Bool, true, false, Opti
 use Rattle.ccp_base.specs.declared.ack.Ack.{Ack}
 use Rattle.flow_core.specs.declared.case.Case.{Case}
 use Rattle.flow_core.specs.declared.letter.Letter.{Letter}
-use Rattle.flow_core.specs.declared.letter.Letter.TheVariants.{A, T, C}
+use Rattle.flow_core.specs.declared.letter.Letter.TheVariants.{T, C}
 use Rattle.flow_core.specs.Readings.{Flow}
 use Rattle.flow_core.specs.World.{World}
 use Rattle.flow_core.specs.Words.{world_over, is_legal}
-use Rattle.flow_core.specs.Cores.{CoreState}
+use Rattle.flow_core.specs.Cores.{CoreState, with_ack}
 use Rattle.campaign_gate.specs.CampaignWord.{is_answer_due, first_letter}
 use Rattle.flow_core.specs.LettersLeft.{letters_left}
 
@@ -23,26 +23,22 @@ world_of_core read core = world_over (read core.case) core.acks core.word
 abbrev pub opened : Case → CoreState
 opened case = record { case = case; acks = []; word = [] }
 
--- the flow with one more acknowledgement
-abbrev pub with_ack : Ack → CoreState → CoreState
-with_ack ack core = record { case = core.case; acks = core.acks ++ ack ∷ []; word = core.word ++ A ∷ [] }
-
 -- the flow with one more letter that takes no acknowledgement
 abbrev pub with_letter : Letter → CoreState → CoreState
 with_letter letter core = record { case = core.case; acks = core.acks; word = core.word ++ letter ∷ [] }
 
 -- ---- taking and answering
 
--- whether an answer comes next: on the way where it is due, as in the campaign word, and at the run's end where a ticket
--- is out
-abbrev pub is_answered : {X : Type 0} → Bool → CaseReading X → CoreState → Bool
-is_answered false read core = is_answer_due (read core.case) core.case.lag (world_of_core read core)
-is_answered true read core = is_legal (read core.case) (world_of_core read core) C
+-- whether an answer comes next: on the way if it is due, as in the campaign word, and at the run's end if a ticket is
+-- out
+abbrev pub answers_next : {X : Type 0} → Bool → CaseReading X → CoreState → Bool
+answers_next false read core = is_answer_due (read core.case) core.case.lag (world_of_core read core)
+answers_next true read core = is_legal (read core.case) (world_of_core read core) C
 
--- the next letter without an acknowledgement: C where an answer comes next, else T where it is legal
+-- the next letter without an acknowledgement: C if an answer comes next, else T if it is legal
 abbrev pub settling_letter : {X : Type 0} → Bool → CaseReading X → CoreState → Option Letter
 settling_letter at_end read core =
-    first_letter (is_answered at_end read core) (is_legal (read core.case) (world_of_core read core) T) false
+    first_letter (answers_next at_end read core) (is_legal (read core.case) (world_of_core read core) T) false
 
 abbrev pub with_next : Option Letter → (CoreState → CoreState) → CoreState → CoreState
 with_next None rest core = core
@@ -60,13 +56,14 @@ after_settling at_end read core = settled_in at_end read (letters_left (read cor
 
 -- after them no such letter comes, on the way and at the run's end
 abbrev pub SettlingEnds : {X : Type 0} → CaseReading X → Type 0
-SettlingEnds read = (at_end : Bool) (core : CoreState) → settling_letter at_end read (after_settling at_end read core) ≡ None
+SettlingEnds read =
+    (at_end : Bool) (core : CoreState) → settling_letter at_end read (after_settling at_end read core) ≡ None
 
 -- ---- a part
 
 -- an acknowledgement, and what is taken and answered after it
 abbrev pub with_settled_ack : {X : Type 0} → CaseReading X → Ack → CoreState → CoreState
-with_settled_ack read ack core = after_settling false read (with_ack ack core)
+with_settled_ack read ack core = after_settling false read (with_ack core ack)
 
 -- a flow's part of a round, in which it has these acknowledgements
 abbrev pub round_part : {X : Type 0} → CaseReading X → List Ack → CoreState → CoreState

@@ -1,5 +1,6 @@
 -- The run of flows over one link: its history, in which each ask is that of its flow's state after the rounds before.
-use Rattle.std.specs.Prelude.{ℕ, zero, suc, ◌-◌, Bool, true, ◌&&◌, nat_le, if◌then◌else◌, List, [], ◌∷◌, ◌++◌, length, map}
+use Rattle.std.specs.Prelude.{ℕ, zero, suc, ◌-◌, Bool, true, ◌&&◌, nat_le, if◌then◌else◌}
+use Rattle.std.specs.Prelude.{List, [], ◌∷◌, ◌++◌, length, map}
 use Rattle.ccp_base.specs.declared.ack.Ack.{Ack}
 use Rattle.flow_core.specs.declared.case.Case.{Case}
 use Rattle.flow_core.specs.Cores.{CoreState}
@@ -53,7 +54,7 @@ abbrev pub have_all : List CoreState → Bool
 have_all [] = true
 have_all (core ∷ rest) = nat_le core.case.acks (length core.acks) && have_all rest
 
--- the run ends where all flows have all acknowledgements, and else it goes on
+-- the run ends if all flows have all acknowledgements, and else it goes on
 abbrev pub ends_or : (Progress → Progress) → Progress → Progress
 ends_or rest run = if have_all run.flows then run else rest run
 
@@ -62,7 +63,7 @@ abbrev pub rounds_from : {X : Type 0} → SharedCase → CaseReading X → ℕ �
 rounds_from link read zero run = run
 rounds_from link read (suc more) run = ends_or (rounds_from link read more) (after_round link read run)
 
--- where there are no flows no round is run
+-- without flows no round is run
 abbrev pub round_limit : List Case → ℕ → ℕ
 round_limit [] rounds = 0
 round_limit (case ∷ rest) rounds = rounds

@@ -1,5 +1,5 @@
 //! The results of a shared run: the flows' rows, and their books if they have their history, beside the link's packets.
-ghost use Rattle.std.specs.Prelude.{◌≡◌, true, List, [], map, IfOk};
+ghost use Rattle.std.specs.Prelude.{◌≡◌, true, List, map, IfOk};
 ghost use Rattle.std.specs.List.{All};
 ghost use Rattle.flow_core.specs.Readings.{over_codes};
 ghost use Rattle.flow_core.specs.Words.{is_still};
@@ -20,8 +20,8 @@ use std::alloc::Global;
 /// The books of a run's flows with their acknowledgements, in order.
 pub type Givens = Sequence<Given>;
 
-/// The result of a run: the flows' books with their acknowledgements and the flows' rows, both in the order of the flows,
-/// and the link's packets.
+/// The result of a run: the flows' books with their acknowledgements and the flows' rows, both in the order of the
+/// flows, and the link's packets.
 #[derive(Drop)]
 pub struct SharedRun {
     pub givens: Givens,
@@ -54,9 +54,11 @@ pub(crate) fn rows_of<F: RoundFlow>(
     Ok(rows)
 }
 
-/// The books of flows with their acknowledgements, in order. No ticket of them may be out, and nothing may be left to take.
+/// The books of flows with their acknowledgements, in order. No ticket of them may be out, and nothing may be left to
+/// take.
 pub(crate) fn givens_of(alloc: Global, flows: Vec<SharedFlow<Core>>) -> Result<Givens, NoMemory>
-    requires { All (λ (core : CoreState). is_still (world_of_core over_codes core) ≡ true) (map (λ shared. shared.flow) flows.items) }
+    requires { All (λ (core : CoreState). is_still (world_of_core over_codes core) ≡ true)
+        (map (λ shared. shared.flow) flows.items) }
     ensures { IfOk result (AreGivensOf (map (λ shared. shared.flow) flows.items)) }
 {
     let mut givens = Givens::new(alloc);

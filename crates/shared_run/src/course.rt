@@ -5,8 +5,8 @@ ghost use Rattle.shared_link.specs.declared.shared_case.SharedCase.{SharedCase};
 
 use std::marker::Brand;
 
-/// The link and the cases of a run. By them a type says what a value is of a run: what comes from another thread is known
-/// by its type alone.
+/// The link and the cases of a run. By them a type says what a value is of a run: what comes from another thread is
+/// known by its type alone.
 pub(crate) trait Course {
     ghost link: { SharedCase };
 

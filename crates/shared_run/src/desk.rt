@@ -3,8 +3,7 @@ ghost use Rattle.std.specs.Prelude.{◌≡◌, length};
 
 use crate::course::Course;
 use crate::known_flow::KnownFlow;
-use crate::order::{Order, OrderLists};
-use crate::round_acks::RoundAcks;
+use crate::order::{Order, Part};
 use shared_link::{Ask, SharedLink};
 use std::alloc::Global;
 
@@ -16,8 +15,8 @@ pub(crate) struct Desk<C: Course> {
     pub(crate) known: Vec<KnownFlow<C>>,
     /// What the flows ask the link for, in order.
     pub(crate) asks: Vec<Ask>,
-    /// The lists of the orders that are done.
-    pub(crate) spare: Vec<OrderLists<C>>,
+    /// The lists of the orders that are done. Their memory serves one round after another.
+    pub(crate) spare: Vec<Vec<Part<C>>>,
 }
 
 impl<C: Course> Desk<C> {
@@ -34,16 +33,28 @@ impl<C: Course> Desk<C> {
         }
     }
 
-    /// Takes an order in whose parts are done: the link gets the lists of the parts back, and what is known of their flows
-    /// is kept. If there is no memory to keep the order's lists, the next order takes new ones.
+    /// Takes in an order whose parts are done. If there is no memory to keep its list, a later order takes a new one.
     pub(crate) fn take_in(&mut self, order: Order<C>)
         ensures link { self.new.link ≡ self.old.link }
         ensures known { length self.new.known.items ≡ length self.old.known.items }
     {
-        let mut lists = order.into_lists();
-        give_lists_back(&mut self.link, &mut lists.parts);
-        keep_all(self.known.as_mut_slice(), &mut lists.known);
-        let _unkept = self.spare.push(lists);
+        let mut parts = order.into_parts();
+        while let Some(part) = parts.pop() {
+            self.take_part(part);
+        }
+        let _unkept = self.spare.push(parts);
+    }
+
+    /// Keeps what is known of a part's flow, and gives the link the list of its acknowledgements back.
+    fn take_part(&mut self, part: Part<C>)
+        ensures link { self.new.link ≡ self.old.link }
+        ensures known { length self.new.known.items ≡ length self.old.known.items }
+    {
+        let Part { acks, known } = part;
+        if let Some(flow) = known {
+            keep(self.known.as_mut_slice(), flow);
+        }
+        self.link.give_back(acks.number, acks.into_acks());
     }
 
     /// The link.
@@ -54,24 +65,7 @@ impl<C: Course> Desk<C> {
     }
 }
 
-/// Gives the link the lists of parts back.
-fn give_lists_back<C: Course>(link: &mut SharedLink, parts: &mut Vec<RoundAcks<C>>)
-    ensures { link.new ≡ link.old }
-{
-    while let Some(part) = parts.pop() {
-        let flow = part.number;
-        link.give_back(flow, part.into_acks());
-    }
-}
-
-/// Keeps what is known of flows, each in its place.
-fn keep_all<C: Course>(places: &mut [KnownFlow<C>], known: &mut Vec<KnownFlow<C>>) {
-    while let Some(flow) = known.pop() {
-        keep(places, flow);
-    }
-}
-
-/// Keeps what is known of a flow in its place.
+/// Keeps what is known of a flow in its place. It takes a slice, whose length a proof knows without a clause.
 fn keep<C: Course>(places: &mut [KnownFlow<C>], flow: KnownFlow<C>) {
     if let Some(place) = places.get_mut(flow.number as usize) {
         *place = flow;

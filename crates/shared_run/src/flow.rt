@@ -2,8 +2,9 @@
 ghost use Rattle.std.specs.Prelude.{◌≡◌, true, max, [], ◌∷◌, length, OnOk, IfOk, IsOk};
 ghost use Rattle.flow_core.specs.Readings.{over_codes};
 ghost use Rattle.flow_core.specs.Words.{is_still};
-ghost use Rattle.flow_core.specs.Cores.{CoreState};
-ghost use Rattle.shared_run.specs.RoundLetters.{world_of_core, opened, with_ack, with_letter, is_answered, after_settling, round_part, closed_flow};
+ghost use Rattle.flow_core.specs.Cores.{CoreState, with_ack};
+ghost use Rattle.shared_run.specs.RoundLetters.{world_of_core, opened, with_letter, answers_next};
+ghost use Rattle.shared_run.specs.RoundLetters.{after_settling, round_part, closed_flow};
 ghost use Rattle.shared_run.specs.SharedHistory.{ask_of};
 ghost use Rattle.shared_run.specs.FlowRow.{flow_row};
 ghost use Rattle.shared_run.specs.LiftedFlow.{FlowHoldsForSources};
@@ -40,9 +41,11 @@ impl<F: RoundFlow> SharedFlow<F> {
         })
     }
 
-    /// What the flow asks the link for: its present congestion window, and the acknowledgements of its case that are left.
+    /// What the flow asks the link for: its present congestion window, and the acknowledgements of its case that are
+    /// left.
     pub(crate) fn ask(&self) -> Ask
-        ensures { (core : CoreState) → IsAfter F.at core self.now.flow self.now.tally → result ≡ ask_of over_codes core }
+        ensures { (core : CoreState) → IsAfter F.at core self.now.flow self.now.tally
+            → result ≡ ask_of over_codes core }
     {
         let bare = self.flow.bare();
         Ask {
@@ -51,11 +54,12 @@ impl<F: RoundFlow> SharedFlow<F> {
         }
     }
 
-    /// The flow's part of a round: each of these acknowledgements, and what is taken and answered after it. If memory runs
-    /// out, no clause says which of its letters were made; without an acknowledgement it can't run out.
+    /// The flow's part of a round: each of these acknowledgements, and what is taken and answered after it. If memory
+    /// runs out, no clause says which of its letters were made; without an acknowledgement it can't run out.
     pub(crate) fn part(&mut self, alloc: Global, acks: &[Ack]) -> Result<(), NoMemory>
         requires { MayHear F.at acks.now self.old.flow self.old.tally }
-        ensures part { OnOk result (Goes F.at (round_part over_codes acks.now) self.old.flow self.old.tally self.new.flow self.new.tally) }
+        ensures part { OnOk result (Goes F.at (round_part over_codes acks.now)
+            self.old.flow self.old.tally self.new.flow self.new.tally) }
         ensures nothing { length acks.now ≡ 0 → IsOk result }
     {
         let mut left = acks;
@@ -70,7 +74,8 @@ impl<F: RoundFlow> SharedFlow<F> {
     /// The run's end: takes and answers until nothing is out and nothing is left to take.
     pub(crate) fn close(&mut self, alloc: Global) -> Result<(), NoMemory>
         requires { HasHistory F.at self.old.flow self.old.tally }
-        ensures { OnOk result (Goes F.at (closed_flow over_codes) self.old.flow self.old.tally self.new.flow self.new.tally) }
+        ensures { OnOk result (Goes F.at (closed_flow over_codes)
+            self.old.flow self.old.tally self.new.flow self.new.tally) }
     {
         self.settle_all(alloc, true)
     }
@@ -78,7 +83,8 @@ impl<F: RoundFlow> SharedFlow<F> {
     /// Takes and answers until nothing comes next.
     fn settle_all(&mut self, alloc: Global, at_end: bool) -> Result<(), NoMemory>
         requires { HasHistory F.at self.old.flow self.old.tally }
-        ensures { OnOk result (Goes F.at (after_settling at_end over_codes) self.old.flow self.old.tally self.new.flow self.new.tally) }
+        ensures { OnOk result (Goes F.at (after_settling at_end over_codes)
+            self.old.flow self.old.tally self.new.flow self.new.tally) }
     {
         while self.turn(alloc, at_end)? {}
         Ok(())
@@ -87,9 +93,10 @@ impl<F: RoundFlow> SharedFlow<F> {
     /// Makes the next letter that takes no acknowledgement, and says whether there is one.
     fn turn(&mut self, alloc: Global, at_end: bool) -> Result<bool, NoMemory>
         requires { HasHistory F.at self.old.flow self.old.tally }
-        ensures { IfOk result (λ made. MakesNext F.at at_end made self.old.flow self.old.tally self.new.flow self.new.tally) }
+        ensures { IfOk result (λ made. MakesNext F.at at_end made
+            self.old.flow self.old.tally self.new.flow self.new.tally) }
     {
-        if self.is_answered(at_end) {
+        if self.answers_next(at_end) {
             self.settle();
             return Ok(true);
         }
@@ -97,8 +104,9 @@ impl<F: RoundFlow> SharedFlow<F> {
     }
 
     /// Whether an answer comes next.
-    fn is_answered(&self, at_end: bool) -> bool
-        ensures { (core : CoreState) → IsAfter F.at core self.now.flow self.now.tally → result ≡ is_answered at_end over_codes core }
+    fn answers_next(&self, at_end: bool) -> bool
+        ensures { (core : CoreState) → IsAfter F.at core self.now.flow self.now.tally
+            → result ≡ answers_next at_end over_codes core }
     {
         let bare = self.flow.bare();
         if at_end { bare.has_out() } else { is_due(bare) }
@@ -107,7 +115,8 @@ impl<F: RoundFlow> SharedFlow<F> {
     /// Takes an acknowledgement.
     fn hear(&mut self, ack: &Ack)
         requires { MayHear F.at (ack.now ∷ []) self.old.flow self.old.tally }
-        ensures { Goes F.at (with_ack ack.entry.now) self.old.flow self.old.tally self.new.flow self.new.tally }
+        ensures { Goes F.at (λ core. with_ack core ack.entry.now)
+            self.old.flow self.old.tally self.new.flow self.new.tally }
     {
         self.flow.hear(ack);
         self.tally.sums = self.tally.sums.with(ack);
@@ -124,7 +133,7 @@ impl<F: RoundFlow> SharedFlow<F> {
         self.raise_peak();
     }
 
-    /// Takes a ticket where it is legal, and says whether it did.
+    /// Takes a ticket if that is legal, and says whether it did.
     fn take(&mut self, alloc: Global) -> Result<bool, NoMemory>
         requires { HasHistory F.at self.old.flow self.old.tally }
         ensures { IfOk result (λ took. Took F.at took self.old.flow self.old.tally self.new.flow self.new.tally) }
@@ -141,7 +150,8 @@ impl<F: RoundFlow> SharedFlow<F> {
     #[inline(never)]
     fn take_ticket(&mut self, alloc: Global) -> Result<(), NoMemory>
         requires { MayMake F.at Letter.T self.old.flow }
-        ensures { OnOk result (Goes F.at (with_letter Letter.T) self.old.flow self.old.tally self.new.flow self.new.tally) }
+        ensures { OnOk result (Goes F.at (with_letter Letter.T)
+            self.old.flow self.old.tally self.new.flow self.new.tally) }
     {
         self.flow.take(alloc)?;
         self.raise_peak();
@@ -159,15 +169,16 @@ impl<F: RoundFlow> SharedFlow<F> {
 
     /// The flow's row.
     pub(crate) fn row(&self) -> Row
-        ensures { (core : CoreState) → IsAfter F.at core self.now.flow self.now.tally → result ≡ flow_row over_codes core }
+        ensures { (core : CoreState) → IsAfter F.at core self.now.flow self.now.tally
+            → result ≡ flow_row over_codes core }
     {
         Row::of(self.flow.bare(), self.tally.sums, self.tally.peak)
     }
 }
 
 impl SharedFlow<Core> {
-    /// The flow's book with its acknowledgements. No ticket may be out, and nothing may be left to take. For all programs that
-    /// the case's codes simulate, the flow does the same over these sources.
+    /// The flow's book with its acknowledgements. No ticket may be out, and nothing may be left to take. For all
+    /// programs that the case's codes simulate, the flow does the same over these sources.
     pub(crate) fn finish(self) -> Given
         requires { is_still (world_of_core over_codes self.flow) ≡ true }
         ensures given { IsGivenOf self.flow result }

@@ -73,20 +73,21 @@ pub(crate) fn rest_flow<C: Course>(known: &mut [KnownFlow<C>], acks: &RoundAcks<
     }
 }
 
-/// A flow's part of a round, with the rounds that the flow has rested through.
-pub(crate) fn rest_part<C: Course>(known: &[KnownFlow<C>], part: RoundAcks<C>) -> RoundAcks<C>
-    ensures acks { result.acks ≡ part.acks }
-    ensures number { result.number ≡ part.number }
+/// A flow's acknowledgements in a round, with the rounds that the flow has rested through. It is separate since a proof
+/// loses what it knows of them after an `if let`.
+pub(crate) fn with_rest<C: Course>(known: &[KnownFlow<C>], acks: RoundAcks<C>) -> RoundAcks<C>
+    ensures acks { result.acks ≡ acks.acks }
+    ensures number { result.number ≡ acks.number }
 {
-    let mut part = part;
-    if let Some(flow) = known.get(part.number as usize) {
-        part.rest_since(flow);
+    let mut acks = acks;
+    if let Some(flow) = known.get(acks.number as usize) {
+        acks.rest_since(flow);
     }
-    part
+    acks
 }
 
-/// Puts what the flows ask the link for after this many rounds into a list, in order. If that isn't known of one of them,
-/// since its part ran out of memory or its worker didn't do it, that is reported as out of memory.
+/// Puts what the flows ask the link for after this many rounds into a list, in order. If that isn't known of one of
+/// them, since its part ran out of memory or its worker didn't do it, that is reported as out of memory.
 pub(crate) fn collect_asks<C: Course>(
     known: &[KnownFlow<C>],
     round: u32,
@@ -121,8 +122,8 @@ pub(crate) fn none_left(asks: &[Ask]) -> bool
     true
 }
 
-/// A flow's part of a round, and what is known of the flow then. If the flow isn't there or runs out of memory, nothing is
-/// known of it.
+/// A flow's part of a round, and what is known of the flow then. If the flow isn't there or runs out of memory, nothing
+/// is known of it.
 pub(crate) fn do_part<C: Course, F: RoundFlow, R: Wait>(
     rt: &R,
     alloc: Global,
@@ -150,8 +151,8 @@ pub(crate) fn rest_flows<C: Course, F: RoundFlow, R: Wait>(
     }
 }
 
-/// The flows of a run that ends after this many rounds, in order, each of which takes and answers until nothing is left. If
-/// one of them isn't there, that is reported as out of memory.
+/// The flows of a run that ends after this many rounds, in order, each of which takes and answers until nothing is
+/// left. If one of them isn't there, that is reported as out of memory.
 pub(crate) fn close_flows<C: Course, F: RoundFlow>(
     alloc: Global,
     flows: Vec<LockedRunFlow<C, F>>,
@@ -178,7 +179,8 @@ fn close_flow<C: Course, F: RoundFlow>(
     number: u32,
     round: u32,
 ) -> Result<SharedFlow<F>, NoMemory>
-    ensures { IfOk result (λ shared. slice_get (map (kept_at F.at) (map (closed_flow over_codes) (flows_after C.link C.cases round))) number
+    ensures { IfOk result (λ shared.
+        slice_get (map (kept_at F.at) (map (closed_flow over_codes) (flows_after C.link C.cases round))) number
         ≡ Some (shared.flow, shared.tally)) }
 {
     let flow = flow.into_inner().into_inner();

@@ -1,5 +1,5 @@
 //! What the caller of a run knows of a flow between two rounds.
-ghost use Rattle.std.specs.Prelude.{◌≡◌, ◌↔◌, Some, length, slice_get, refl, IfOk, IsTrue};
+ghost use Rattle.std.specs.Prelude.{◌≡◌, ◌↔◌, Some, length, slice_get, IfOk, IsTrue};
 ghost use Rattle.shared_run.specs.Courses.{flows_after, asks_in};
 
 use crate::course::Course;
@@ -19,7 +19,8 @@ pub(crate) struct KnownFlow<C: Course> {
     ask: Ask,
     of: PhantomData<C>,
     ghost asks: { slice_get (asks_in C.link C.cases round) number ≡ Some ask },
-    ghost rests: { slice_get (flows_after C.link C.cases since) number ≡ slice_get (flows_after C.link C.cases round) number },
+    ghost rests: { slice_get (flows_after C.link C.cases since) number
+        ≡ slice_get (flows_after C.link C.cases round) number },
 }
 
 impl<C: Course> KnownFlow<C> {
@@ -53,7 +54,8 @@ impl<C: Course> KnownFlow<C> {
         Ok(self.ask)
     }
 
-    /// Goes on by a round in which the flow has no acknowledgement. If it isn't known before that round, nothing changes.
+    /// Goes on by a round in which the flow has no acknowledgement. If it isn't known before that round, nothing
+    /// changes.
     pub(crate) fn rest(&mut self, acks: &RoundAcks<C>)
         requires { length acks.now.acks ≡ 0 }
     {

@@ -3,9 +3,9 @@ ghost use Rattle.ccp_base.specs.declared.place.Place.{Place};
 ghost use Rattle.flow_core.specs.Readings.{over_codes};
 ghost use Rattle.shared_run.specs.RoundLetters.{CaseReading, SettlingEnds};
 
-/// What holds of every flow, on the way and at the run's end: after it has taken and answered as often as the definition
-/// says, nothing is left to take or to answer. It holds over the codes of the cases and over every reading of their
-/// sources.
+/// What holds of every flow, on the way and at the run's end: after it has taken and answered as often as the
+/// definition says, nothing is left to take or to answer. It holds over the codes of the cases and over every reading
+/// of their sources.
 pub fn settling_law()
     ensures codes { SettlingEnds over_codes }
     ensures sources { (sources : CaseReading Place) → SettlingEnds sources }

@@ -7,17 +7,17 @@ use std::hint::spin_loop;
 use std::sync::Wait;
 use std::thread::Parker;
 
-/// How often a thread looks for a message before it sleeps. Looks take half a millisecond in all on processors with a long
-/// pause. To wake a thread takes some 100 microseconds, and a thread that looks much longer takes processors from those
-/// that it waits for, if the machine is busy.
+/// How often a thread looks for a message before it sleeps. Looks take half a millisecond in all on processors with a
+/// long pause. To wake a thread takes some 100 microseconds, and a thread that looks much longer takes processors from
+/// those that it waits for, if the machine is busy.
 const LOOKS: u32 = 10_000;
 
-/// How many messages a line has room for. Only one is on its way at a time. With room for more a sender seldom reads how far
-/// the receiver is, and each such read fetches a cache line from the receiver's processor.
+/// How many messages a line has room for. Only one is on its way at a time. With room for more a sender seldom reads
+/// how far the receiver is, and each such read fetches a cache line from the receiver's processor.
 const ROOM: usize = 64;
 
-/// What wakes a thread that sleeps until a message comes. The bells of a run are in one list, and each message rings one,
-/// so each has cache lines of its own.
+/// What wakes a thread that sleeps until a message comes. The bells of a run are in one list, and each message rings
+/// one, so each has cache lines of its own.
 pub(crate) type Bell = CachePadded<Parker>;
 
 /// The end of a line that messages go into. Once it is dropped no more come.

@@ -1,7 +1,7 @@
 //! What a worker is to do in a round: the parts of its flows.
-ghost use Rattle.std.specs.Prelude.{◌≡◌, ◌%◌, List, [], map, OnOk};
+ghost use Rattle.std.specs.Prelude.{◌≡◌, ◌%◌, [], map, OnOk};
 ghost use Rattle.std.specs.List.{All};
-ghost use Rattle.shared_run.specs.Orders.{OrderState, with_flow_part, AreDealt};
+ghost use Rattle.shared_run.specs.Orders.{FlowPart, OrderState, with_flow_part, AreDealt};
 
 use crate::course::Course;
 use crate::flows::do_part;
@@ -14,64 +14,59 @@ use std::alloc::Global;
 use std::marker::Model;
 use std::sync::Wait;
 
-/// The lists of an order. Their memory serves one round after another.
+/// A flow's part of a round: what the flow is given, and, once its worker has done the part, what is known of the flow.
 #[derive(Drop)]
-pub(crate) struct OrderLists<C: Course> {
-    pub(crate) parts: Vec<RoundAcks<C>>,
-    /// What is known of the flows whose parts are done.
-    pub(crate) known: Vec<KnownFlow<C>>,
+pub(crate) struct Part<C: Course> {
+    pub(crate) acks: RoundAcks<C>,
+    /// None until the part is done, and also after it if memory ran out.
+    pub(crate) known: Option<KnownFlow<C>>,
 }
 
-impl<C: Course> OrderLists<C> {
-    /// Lists that take no memory yet.
-    fn new(alloc: Global) -> Self {
-        OrderLists {
-            parts: Vec::new(alloc),
-            known: Vec::new(alloc),
-        }
-    }
-}
-
-/// The parts of one worker in a round, in the order of its flows: of `workers` workers, worker `worker` does the parts of
-/// the flows whose numbers leave `worker` when they are divided by `workers`.
+/// The parts of one worker in a round, in the order of its flows: of `workers` workers, worker `worker` does the parts
+/// of each flow `f` with `f mod workers = worker`.
 #[derive(Drop)]
 pub(crate) struct Order<C: Course> {
     worker: u32,
     workers: u32,
-    lists: OrderLists<C>,
-    ghost own: { All (λ part. part.number % workers ≡ worker) lists.parts.items },
+    parts: Vec<Part<C>>,
+    ghost own: { All (λ (part : FlowPart). part.0 % workers ≡ worker)
+        (map (λ part. (part.acks.number, part.acks.acks)) parts.items) },
 }
 
+/// What is known of the flows is no part of the model: when the parts are done, the order is as before.
 impl<C: Course> Model for Order<C> {
     ghost use Rattle.std.specs.Prelude.{map};
     ghost use Rattle.shared_run.specs.Orders.{OrderState};
 
     ghost Value = { OrderState };
 
-    ghost view = { λ o. record { worker = o.worker; workers = o.workers; parts = map (λ part. (part.number, part.acks)) o.lists.parts.items } };
+    ghost view = { λ o. record {
+      worker = o.worker;
+      workers = o.workers;
+      parts = map (λ part. (part.acks.number, part.acks.acks)) o.parts.items;
+    } };
 }
 
 impl<C: Course> Order<C> {
-    /// An order without a part, which has these lists.
-    fn new(lists: OrderLists<C>, worker: u32, workers: u32) -> Self
+    /// An order without a part. The list's memory serves it.
+    fn new(parts: Vec<Part<C>>, worker: u32, workers: u32) -> Self
         ensures { result ≡ record { worker = worker; workers = workers; parts = [] } }
     {
-        let mut lists = lists;
-        lists.parts.clear();
-        lists.known.clear();
+        let mut parts = parts;
+        parts.clear();
         Order {
             worker,
             workers,
-            lists,
+            parts,
         }
     }
 
-    /// Adds a part of a flow of the worker.
-    pub(crate) fn push(&mut self, part: RoundAcks<C>) -> Result<(), NoMemory>
-        requires { part.number % self.old.workers ≡ self.old.worker }
-        ensures { OnOk result (self.new ≡ with_flow_part (part.number, part.acks) self.old) }
+    /// Adds the part of a flow of the worker, in which the flow is given these acknowledgements.
+    pub(crate) fn push(&mut self, acks: RoundAcks<C>) -> Result<(), NoMemory>
+        requires { acks.number % self.old.workers ≡ self.old.worker }
+        ensures { OnOk result (self.new ≡ with_flow_part (acks.number, acks.acks) self.old) }
     {
-        self.lists.parts.push(part)?;
+        self.parts.push(Part { acks, known: None })?;
         Ok(())
     }
 
@@ -84,10 +79,10 @@ impl<C: Course> Order<C> {
 
     /// Whether the worker has nothing to do.
     pub(crate) fn is_empty(&self) -> bool {
-        self.lists.parts.is_empty()
+        self.parts.is_empty()
     }
 
-    /// Does the parts. What is known of their flows then comes back with the order.
+    /// Does the parts. Each then has what is known of its flow.
     pub(crate) fn do_parts<F: RoundFlow, R: Wait, G: Gate>(
         &mut self,
         rt: &R,
@@ -97,41 +92,33 @@ impl<C: Course> Order<C> {
     )
         ensures { self.new ≡ self.old }
     {
-        let parts = self.lists.parts.as_slice();
-        do_all(
-            rt,
-            alloc,
-            flows,
-            self.worker,
-            parts,
-            &mut self.lists.known,
-            gate,
-        );
+        let worker = self.worker;
+        do_all(rt, alloc, flows, worker, self.parts.as_mut_slice(), gate);
     }
 
-    /// The lists, after the parts are done.
-    pub(crate) fn into_lists(self) -> OrderLists<C> {
-        self.lists
+    /// The list of the parts, after they are done.
+    pub(crate) fn into_parts(self) -> Vec<Part<C>> {
+        self.parts
     }
 }
 
-/// Does the parts of a worker. It passes the gate at `InCase` before a part and at `AfterCase` after it. A flow for which
-/// there is no memory in the list isn't known then.
+/// Does the parts of a worker. It passes the gate at `InCase` before a part and at `AfterCase` after it.
 fn do_all<C: Course, F: RoundFlow, R: Wait, G: Gate>(
     rt: &R,
     alloc: Global,
     flows: &[LockedRunFlow<C, F>],
     worker: u32,
-    parts: &[RoundAcks<C>],
-    known: &mut Vec<KnownFlow<C>>,
+    parts: &mut [Part<C>],
     gate: &G,
-) {
-    for acks in parts {
-        gate.pass(worker, Point::InCase, acks.number);
-        if let Some(flow) = do_part(rt, alloc, flows, acks) {
-            let _unkept = known.push(flow);
-        }
-        gate.pass(worker, Point::AfterCase, acks.number);
+)
+    ensures { map {B = FlowPart} (λ part. (part.acks.number, part.acks.acks)) parts.new
+        ≡ map {B = FlowPart} (λ part. (part.acks.number, part.acks.acks)) parts.old }
+{
+    for part in parts.iter_mut() {
+        let number = part.acks.number;
+        gate.pass(worker, Point::InCase, number);
+        part.known = do_part(rt, alloc, flows, &part.acks);
+        gate.pass(worker, Point::AfterCase, number);
     }
 }
 
@@ -139,23 +126,23 @@ fn do_all<C: Course, F: RoundFlow, R: Wait, G: Gate>(
 pub(crate) fn open_orders<C: Course>(
     alloc: Global,
     orders: &mut Vec<Order<C>>,
-    spare: &mut Vec<OrderLists<C>>,
+    spare: &mut Vec<Vec<Part<C>>>,
     workers: u32,
 ) -> Result<(), NoMemory>
     ensures { OnOk result (AreDealt workers [] orders.new.items) }
 {
     orders.clear();
     for worker in 0..workers {
-        let lists = spare_lists(alloc, spare);
-        orders.push(Order::new(lists, worker, workers))?;
+        let parts = spare_list(alloc, spare);
+        orders.push(Order::new(parts, worker, workers))?;
     }
     Ok(())
 }
 
-/// Lists of an order that are spare, or new ones.
-fn spare_lists<C: Course>(alloc: Global, spare: &mut Vec<OrderLists<C>>) -> OrderLists<C> {
+/// A list of an order that is spare, or a new one, which takes no memory yet.
+fn spare_list<C: Course>(alloc: Global, spare: &mut Vec<Vec<Part<C>>>) -> Vec<Part<C>> {
     match spare.pop() {
-        Some(lists) => lists,
-        None => OrderLists::new(alloc),
+        Some(parts) => parts,
+        None => Vec::new(alloc),
     }
 }

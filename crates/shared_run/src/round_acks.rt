@@ -1,5 +1,5 @@
 //! What a flow of a run is given in a round.
-ghost use Rattle.std.specs.Prelude.{◌≡◌, ◌+◌, ◌<◌, Some, slice_get, refl};
+ghost use Rattle.std.specs.Prelude.{◌≡◌, ◌+◌, ◌<◌, Some, slice_get};
 ghost use Rattle.ccp_base.specs.Limits.{most_rounds};
 ghost use Rattle.flow_core.specs.Cores.{CoreState};
 ghost use Rattle.shared_run.specs.FlowRow.{AreRoomy};
@@ -23,8 +23,10 @@ pub(crate) struct RoundAcks<C: Course> {
     of: PhantomData<C>,
     ghost are: { slice_get (acks_in_round C.link C.cases round) number ≡ Some acks },
     ghost few: { round < most_rounds },
-    ghost roomy: { (core : CoreState) → slice_get (flows_after C.link C.cases (round + 1)) number ≡ Some core → AreRoomy core.acks },
-    ghost rests: { slice_get (flows_after C.link C.cases since) number ≡ slice_get (flows_after C.link C.cases round) number },
+    ghost roomy: { (core : CoreState) → slice_get (flows_after C.link C.cases (round + 1)) number ≡ Some core
+        → AreRoomy core.acks },
+    ghost rests: { slice_get (flows_after C.link C.cases since) number
+        ≡ slice_get (flows_after C.link C.cases round) number },
 }
 
 impl<C: Course> RoundAcks<C> {
@@ -32,7 +34,8 @@ impl<C: Course> RoundAcks<C> {
     pub(crate) fn new(acks: Acks, number: u32, round: u32) -> Self
         requires are { slice_get (acks_in_round C.link C.cases round) number ≡ Some acks }
         requires few { round < most_rounds }
-        requires roomy { (core : CoreState) → slice_get (flows_after C.link C.cases (round + 1)) number ≡ Some core → AreRoomy core.acks }
+        requires roomy { (core : CoreState) → slice_get (flows_after C.link C.cases (round + 1)) number ≡ Some core
+            → AreRoomy core.acks }
         ensures acks { result.acks ≡ acks }
         ensures number { result.number ≡ number }
     {

@@ -1,17 +1,17 @@
 //! Flows that are given their acknowledgements, with their history or without.
 ghost use Rattle.std.specs.Prelude.{◌≡◌, refl, IfOk, OnOk};
-ghost use Rattle.flow_core.specs.Cores.{CoreState};
+ghost use Rattle.flow_core.specs.Cores.{CoreState, with_ack};
 ghost use Rattle.flow_core.specs.Bares.{BareState};
-ghost use Rattle.shared_run.specs.RoundLetters.{opened, with_ack, with_letter};
+ghost use Rattle.shared_run.specs.RoundLetters.{opened, with_letter};
 ghost use Rattle.shared_run.specs.RoundFlows.{bare_after, MayMake, Makes};
 
 use agent_core::calls::answer;
 use ccp_base::{Ack, NoMemory};
-use flow_core::{Bare, Case, Core, Letter};
+use flow_core::{Bare, Case, Core, Letter, TakeFault};
 use std::alloc::Global;
 
-/// A flow that is given its acknowledgements. Its type says what it keeps of them and of its word: the whole history, or only
-/// what later letters depend on.
+/// A flow that is given its acknowledgements. Its type says what it keeps of them and of its word: the whole history,
+/// or only what later letters depend on.
 pub(crate) trait RoundFlow: Drop {
     /// The flow after a history.
     ghost at: { CoreState → Self };
@@ -30,7 +30,7 @@ pub(crate) trait RoundFlow: Drop {
     /// Takes an acknowledgement.
     fn hear(&mut self, ack: &Ack)
         requires { MayMake at Letter.A self.old }
-        ensures { Makes at (with_ack ack.entry.now) self.old self.new };
+        ensures { Makes at (λ core. with_ack core ack.entry.now) self.old self.new };
 
     /// Takes a ticket.
     fn take(&mut self, alloc: Global) -> Result<(), NoMemory>
@@ -70,7 +70,9 @@ impl RoundFlow for Core {
     fn take(&mut self, alloc: Global) -> Result<(), NoMemory> {
         match Core::take(self, alloc) {
             Ok(_) => Ok(()),
-            Err(_) => Err(NoMemory),
+            Err(TakeFault::NoMemory) => Err(NoMemory),
+            // A ticket is legal here.
+            Err(TakeFault::NotYet) | Err(TakeFault::Out(_)) => unreachable!(),
         }
     }
 

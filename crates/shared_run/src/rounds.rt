@@ -7,7 +7,7 @@ ghost use Rattle.shared_run.specs.Orders.{AreDealt, IsDealtBefore, DealsOne};
 
 use crate::course::Course;
 use crate::desk::Desk;
-use crate::flows::{collect_asks, know_flows, none_left, rest_flow, rest_flows, rest_part};
+use crate::flows::{collect_asks, know_flows, none_left, rest_flow, rest_flows, with_rest};
 use crate::line::Bell;
 use crate::order::{Order, open_orders};
 use crate::round_acks::RoundAcks;
@@ -48,9 +48,9 @@ fn deal<C: Course>(
     ensures orders { OnOk result (AreDealt workers lists orders.new.items) }
 {
     let mut number = 0;
-    for acks in lists.into_vec() {
-        let part = RoundAcks::new(acks, number, round);
-        deal_part(desk, orders, part, workers)?;
+    for list in lists.into_vec() {
+        let acks = RoundAcks::new(list, number, round);
+        deal_part(desk, orders, acks, workers)?;
         number += 1;
     }
     Ok(())
@@ -60,26 +60,26 @@ fn deal<C: Course>(
 fn deal_part<C: Course>(
     desk: &mut Desk<C>,
     orders: &mut Vec<Order<C>>,
-    part: RoundAcks<C>,
+    acks: RoundAcks<C>,
     workers: u32,
 ) -> Result<(), NoMemory>
     requires workers { 1 ≤ workers }
-    requires before { IsDealtBefore workers part.number orders.old.items }
+    requires before { IsDealtBefore workers acks.number orders.old.items }
     ensures link { desk.new.link ≡ desk.old.link }
     ensures known { length desk.new.known.items ≡ length desk.old.known.items }
-    ensures orders { OnOk result (DealsOne workers (part.number, part.acks) orders.old.items orders.new.items) }
+    ensures orders { OnOk result (DealsOne workers (acks.number, acks.acks) orders.old.items orders.new.items) }
 {
-    if part.acks.as_slice().is_empty() {
-        rest_flow(desk.known.as_mut_slice(), &part);
-        desk.link.give_back(part.number, part.into_acks());
+    if acks.acks.as_slice().is_empty() {
+        rest_flow(desk.known.as_mut_slice(), &acks);
+        desk.link.give_back(acks.number, acks.into_acks());
         return Ok(());
     }
-    let part = rest_part(desk.known.as_slice(), part);
-    let worker = worker_of(part.number, workers);
-    orders[worker as usize].push(part)
+    let acks = with_rest(desk.known.as_slice(), acks);
+    let worker = worker_of(acks.number, workers);
+    orders[worker as usize].push(acks)
 }
 
-/// The worker that does a flow's parts.
+/// The worker that does a flow's parts. It is separate since the proof of `deal_part` cites its clause.
 fn worker_of(flow: u32, workers: u32) -> u32
     requires { 1 ≤ workers }
     ensures { result ≡ flow % workers }
@@ -87,8 +87,8 @@ fn worker_of(flow: u32, workers: u32) -> u32
     flow % workers
 }
 
-/// One more round, where the flows ask for what the desk has: the link answers, and each flow does its part on its worker.
-/// Then the desk has what they ask for next.
+/// One more round, in which the flows ask for what the desk has: the link answers, and each flow does its part on its
+/// worker. Then the desk has what they ask for next.
 fn run_round<'e, C: Course, F: RoundFlow, R: Wait, G: Gate>(
     rt: &R,
     alloc: Global,
@@ -153,7 +153,8 @@ fn run_rounds<'e, C: Course, F: RoundFlow, R: Wait, G: Gate>(
     Ok(done)
 }
 
-/// The rounds of a run by as many workers as there are bells, until all flows have all acknowledgements, at most `most` rounds.
+/// The rounds of a run by as many workers as there are bells, until all flows have all acknowledgements, at most `most`
+/// rounds.
 pub(crate) fn run_by_workers<
     'e,
     C: Course + Send + Sync + 'e,

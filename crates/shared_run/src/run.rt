@@ -29,14 +29,14 @@ use std::sync::Wait;
 use std::thread::{Parker, Threads};
 
 /// Runs the flows of a scenario over its link, whatever the number of workers. In each round the flows ask for
-/// acknowledgements, the link answers, and each flow that has some does its part on a worker: worker `w` does those of
-/// the flows whose number leaves `w` when it is divided by the number of workers, in order. Workers that have parts in a
-/// round do them side by side, each in a thread that lives for the whole run; the parts of the first of them are done by
-/// the caller, and so are those of a worker for which no thread can be started. A flow's next question comes back with its
-/// part; a flow without acknowledgements in a round stays as it is. A worker passes the gate at `InCase` before a part and
-/// at `AfterCase` after it. The run ends after the round in which all flows have all acknowledgements, and at the latest
-/// after `rounds` rounds, where 0 flows run none; then each flow takes and answers until nothing is left. A thread's answer
-/// that is lost is reported as out of memory.
+/// acknowledgements, the link answers, and each flow that has some does its part on a worker: worker `w` does the parts
+/// of each flow `f` with `f mod workers = w`, in order. Workers that have parts in a round do them side by side, each
+/// in a thread that lives for the whole run; the parts of the first of them are done by the caller, and so are those of
+/// a worker for which no thread can be started. A flow's next question comes back with its part; a flow without
+/// acknowledgements in a round stays as it is. A worker passes the gate at `InCase` before a part and at `AfterCase`
+/// after it. The run ends after the round in which all flows have all acknowledgements, and at the latest after
+/// `rounds` rounds; without flows no round is run. Then each flow takes and answers until nothing is left. A thread's
+/// answer that is lost is reported as out of memory.
 pub fn shared<R: Threads + Wait + Sync, G: Gate + Sync>(
     rt: &R,
     alloc: Global,
@@ -80,7 +80,8 @@ pub fn shared_rows<R: Threads + Wait + Sync, G: Gate + Sync>(
     requires links { scene.link.flows ≡ map flow_link_of (map plan_of scene.scene.cases) }
     requires rounds { scene.rounds ≤ most_rounds }
     ensures rows { IfOk result (λ run. run.rows ≡ shared_rows scene.link over_codes scene.scene.cases scene.rounds) }
-    ensures counts { IfOk result (λ run. run.counts ≡ shared_counts scene.link over_codes scene.scene.cases scene.rounds) }
+    ensures counts { IfOk result (λ run. run.counts
+        ≡ shared_counts scene.link over_codes scene.scene.cases scene.rounds) }
     // It ends after the first round in which all flows have all acknowledgements, or else after the last one.
     ensures ends { EndsInTime scene.link scene.scene.cases scene.rounds }
     // For all programs that the cases' codes simulate, the run is that of these sources.
@@ -115,7 +116,8 @@ fn run<F: RoundFlow + Send, R: Threads + Wait + Sync, G: Gate + Sync>(
     requires rounds { scene.rounds ≤ most_rounds }
     ensures flows { IfOk result (λ run. map (λ shared. (shared.flow, shared.tally)) run.flows.items
         ≡ map (kept_at F.at) (flows_at_end scene.link over_codes scene.scene.cases scene.rounds)) }
-    ensures counts { IfOk result (λ run. run.counts ≡ shared_counts scene.link over_codes scene.scene.cases scene.rounds) }
+    ensures counts { IfOk result (λ run. run.counts
+        ≡ shared_counts scene.link over_codes scene.scene.cases scene.rounds) }
 {
     let SharedScene {
         scene,
@@ -179,7 +181,7 @@ fn make_bells(alloc: Global, workers: Workers) -> Result<Vec<Bell>, NoMemory>
     Ok(bells)
 }
 
-/// How many rounds these cases are run for at most.
+/// How many rounds these cases are run for at most. It is separate since the proof of its caller cites its clause.
 fn most_of(cases: &[Case], rounds: u32) -> u32
     ensures { result ≡ round_limit cases.now rounds }
 {

@@ -46,7 +46,8 @@ impl<C: Course, F: RoundFlow> RunFlow<C, F> {
 
     /// Whether this is that flow after this many rounds.
     pub(crate) fn is_at(&self, number: u32, round: u32) -> bool
-        ensures { IsTrue result ↔ ((self.now.lacked_memory ≡ false) × (self.now.number ≡ number) × (self.now.round ≡ round)) }
+        ensures { IsTrue result
+            ↔ ((self.now.lacked_memory ≡ false) × (self.now.number ≡ number) × (self.now.round ≡ round)) }
     {
         !self.lacked_memory && self.number == number && self.round == round
     }
@@ -61,8 +62,8 @@ impl<C: Course, F: RoundFlow> RunFlow<C, F> {
         Some(KnownFlow::new(self.number, self.round, self.flow.ask()))
     }
 
-    /// The flow's part of a round, in which it has these acknowledgements. It is through the round then, unless memory ran
-    /// out on the way.
+    /// The flow's part of a round, in which it has these acknowledgements. It is through the round then, unless memory
+    /// ran out on the way.
     pub(crate) fn hear(&mut self, alloc: Global, acks: &RoundAcks<C>)
         requires whole { self.old.lacked_memory ≡ false }
         requires number { self.old.number ≡ acks.now.number }

@@ -57,8 +57,8 @@ pub(crate) fn start_workers<
     Ok(handles)
 }
 
-/// Starts a worker's thread. Worker 0 has none, whose parts the caller does, nor has a worker without a flow, nor one for
-/// which no thread can be started.
+/// Starts a worker's thread. Worker 0 has none, whose parts the caller does, nor has a worker without a flow, nor one
+/// for which no thread can be started.
 fn start_worker<
     's,
     'e,
@@ -110,8 +110,8 @@ impl<'e, C: Course> WorkerHandle<'e, C> {
     }
 }
 
-/// Does all orders of a round, and leaves none. The caller does the first one that has a part, beside the threads that do
-/// the others: a thread is woken only if two workers have parts.
+/// Does all orders of a round, and leaves none. The caller does the first one that has a part, beside the threads that
+/// do the others: a thread is woken only if two workers have parts.
 pub(crate) fn do_orders<'e, C: Course, F: RoundFlow, R: Wait, G: Gate>(
     rt: &R,
     alloc: Global,

@@ -1,4 +1,4 @@
-use Rattle.std.proofs.Common.{◌≡◌, ◌∙◌, sym, ap, refl, subst}
+use Rattle.std.proofs.Common.{◌∙◌, ap, refl, subst}
 use Rattle.flow_core.specs.declared.case.Case.{Case}
 use Rattle.campaign_gate.specs.CaseRuns.{next_in, IsEnded}
 use Rattle.campaign_gate.proofs.CaseRunLemmas.{next-is, on-ended}

@@ -6,45 +6,45 @@ use Rattle.shared_run.proofs.rounds.deal_part.Goals as goal
 
 pub returns-then-is_empty-clause-orders : goal.returns-then-is_empty-clause-orders
 returns-then-is_empty-clause-orders g c =
-    let none : length c.args.part.acks ≡ 0 = search rules in
-    deals-none c.args.workers c.args.part.number c.args.part.acks c.args.orders.now.items none
+    let none : length c.args.acks.acks ≡ 0 = search rules in
+    deals-none c.args.workers c.args.acks.number c.args.acks.acks c.args.orders.now.items none
 
 pub index_mut-requires : goal.index_mut-requires
 index_mut-requires g c =
     let orders = c.args.orders.now.items in
     let worker = c.worker_of-worker.result in
-    let own : worker ≡ c.args.part.number % c.args.workers =
-    c.worker_of-worker.ensures ∙ ap (λ n. n % c.args.workers) c.rest_part-part.ensures.number in
-    let less : worker < length orders = worker-there c.args.workers c.args.part.number orders c.requires.workers c.requires.before worker own in
+    let own : worker ≡ c.args.acks.number % c.args.workers =
+    c.worker_of-worker.ensures ∙ ap (λ n. n % c.args.workers) c.with_rest-acks.ensures.number in
+    let less : worker < length orders = worker-there c.args.workers c.args.acks.number orders c.requires.workers c.requires.before worker own in
     search (rules, less)
 
 pub push-requires : goal.push-requires
 push-requires g c =
     let orders = c.args.orders.now.items in
-    let number = c.args.part.number in
+    let number = c.args.acks.number in
     let worker = c.worker_of-worker.result in
     let own : worker ≡ number % c.args.workers =
-    c.worker_of-worker.ensures ∙ ap (λ n. n % c.args.workers) c.rest_part-part.ensures.number in
+    c.worker_of-worker.ensures ∙ ap (λ n. n % c.args.workers) c.with_rest-acks.ensures.number in
     let order = c.index_mut.result.now in
     let less = worker-there c.args.workers number orders c.requires.workers c.requires.before worker own in
     let at : slice_get orders worker ≡ Some order = slice_get_read orders (length orders) worker order refl less c.index_mut.ensures.value in
-    ap (λ n. n % order.workers) c.rest_part-part.ensures.number
+    ap (λ n. n % order.workers) c.with_rest-acks.ensures.number
     ∙ worker-own c.args.workers number orders c.requires.workers c.requires.before worker order own at
 
 pub returns-clause-orders : goal.returns-clause-orders
 returns-clause-orders g c =
     let orders = c.args.orders.now.items in
-    let number = c.args.part.number in
+    let number = c.args.acks.number in
     let worker = c.worker_of-worker.result in
     let own : worker ≡ number % c.args.workers =
-    c.worker_of-worker.ensures ∙ ap (λ n. n % c.args.workers) c.rest_part-part.ensures.number in
+    c.worker_of-worker.ensures ∙ ap (λ n. n % c.args.workers) c.with_rest-acks.ensures.number in
     let order = c.index_mut.result.now in
     let less = worker-there c.args.workers number orders c.requires.workers c.requires.before worker own in
     let at : slice_get orders worker ≡ Some order = slice_get_read orders (length orders) worker order refl less c.index_mut.ensures.value in
-    let some : 0 < length c.args.part.acks = search rules in
-    let rested = c.rest_part-part.ensures in
+    let some : 0 < length c.args.acks.acks = search rules in
+    let rested = c.with_rest-acks.ensures in
     on_ok c.push.result
     (λ made.
-    deals-part c.args.workers number c.args.part.acks orders order c.push.new.self worker some own at
+    deals-part c.args.workers number c.args.acks.acks orders order c.push.new.self worker some own at
     (made ∙ (λ i. with_flow_part (rested.number i, rested.acks i) order)))
     c.push.ensures

@@ -1,7 +1,7 @@
 use Rattle.std.proofs.Common.{◌≡◌, ◌∷◌, [], arith, refl}
 use Rattle.flow_core.specs.Readings.{over_codes}
-use Rattle.flow_core.specs.Cores.{CoreState}
-use Rattle.shared_run.specs.RoundLetters.{with_ack, with_settled_ack}
+use Rattle.flow_core.specs.Cores.{CoreState, with_ack}
+use Rattle.shared_run.specs.RoundLetters.{with_settled_ack}
 use Rattle.shared_run.specs.RoundFlows.{IsAfter}
 use Rattle.shared_run.proofs.CourseLemmas.{none-of}
 use Rattle.shared_run.proofs.RoundFlowLemmas.{hears-first, hears-rest, part-on, part-done}
@@ -20,7 +20,7 @@ pub settle_all-requires : goal.settle_all-requires
 settle_all-requires g c =
     let old = c.loop-ack.self in
     let first = hears-first g.F.RoundFlow.at c.loop-ack.left.now c.in-Some.rest.now c.in-Some.ack.now old.flow old.tally c.in-Some.ensures.cases.0 c.loop-ack.invariant.0 in
-    record { core = with_ack c.in-Some.ack.now first.core; after = c.hear.ensures first.core first.after }
+    record { core = with_ack first.core c.in-Some.ack.now; after = c.hear.ensures first.core first.after }
 
 pub loop-ack-preserved : goal.loop-ack-preserved
 loop-ack-preserved g c =
@@ -33,7 +33,7 @@ loop-ack-preserved g c =
     let split : c.loop-ack.left.now ≡ ack ∷ rest = c.in-Some.ensures.cases.0 in
     let long = c.in-Some.ensures.cases.1 in
     let goes : (core : CoreState) → IsAfter at core old.flow old.tally → IsAfter at (with_settled_ack over_codes ack core) new.flow new.tally =
-    λ core after. c.in_ok-settle_all.ensures (with_ack ack core) (c.hear.ensures core after) in (
+    λ core after. c.in_ok-settle_all.ensures (with_ack core ack) (c.hear.ensures core after) in (
       hears-rest at c.loop-ack.left.now rest ack old.flow old.tally new.flow new.tally split c.loop-ack.invariant.0 goes,
       part-on at c.args.acks.now c.loop-ack.left.now rest ack first.flow first.tally old.flow old.tally new.flow new.tally split c.loop-ack.invariant.1 goes,
       omega (arith, long, c.loop-ack.invariant.2),

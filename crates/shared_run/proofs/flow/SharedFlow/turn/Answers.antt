@@ -6,23 +6,23 @@ use Rattle.shared_run.proofs.flow.SharedFlow.turn.Goals as goal
 pub settle-requires : goal.settle-requires
 settle-requires g c =
     let old = c.args.self.now in
-    let yes : c.is_answered.result ≡ true = search rules in
-    may-C g.F.RoundFlow.at c.args.at_end old.flow old.tally c.requires (λ core after. sym (c.is_answered.ensures core after) ∙ yes)
+    let yes : c.answers_next.result ≡ true = search rules in
+    may-C g.F.RoundFlow.at c.args.at_end old.flow old.tally c.requires (λ core after. sym (c.answers_next.ensures core after) ∙ yes)
 
-pub returns-then-is_answered : goal.returns-then-is_answered
-returns-then-is_answered g c =
+pub returns-then-answers_next : goal.returns-then-answers_next
+returns-then-answers_next g c =
     let old = c.args.self.now in
     let new = c.settle.new.self in
-    let yes : c.is_answered.result ≡ true = search rules in
-    next-answer g.F.RoundFlow.at c.args.at_end old.flow old.tally new.flow new.tally (λ core after. sym (c.is_answered.ensures core after) ∙ yes) c.settle.ensures
+    let yes : c.answers_next.result ≡ true = search rules in
+    next-answer g.F.RoundFlow.at c.args.at_end old.flow old.tally new.flow new.tally (λ core after. sym (c.answers_next.ensures core after) ∙ yes) c.settle.ensures
 
 pub returns : goal.returns
 returns g c =
     let at = g.F.RoundFlow.at in
     let old = c.args.self.now in
     let new = c.take.new.self in
-    let no : c.is_answered.result ≡ false = search rules in
+    let no : c.answers_next.result ≡ false = search rules in
     if_ok-weaker (λ (took : Bool). Took at took old.flow old.tally new.flow new.tally)
     (λ (made : Bool). MakesNext at c.args.at_end made old.flow old.tally new.flow new.tally) c.take.result
-    (λ took taken. next-taking at c.args.at_end old.flow old.tally new.flow new.tally took (λ core after. sym (c.is_answered.ensures core after) ∙ no) taken)
+    (λ took taken. next-taking at c.args.at_end old.flow old.tally new.flow new.tally took (λ core after. sym (c.answers_next.ensures core after) ∙ no) taken)
     c.take.ensures
