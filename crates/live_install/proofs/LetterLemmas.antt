@@ -26,7 +26,7 @@ module _ (case : OpenCase) where
       → install_world case (word ++ letter ∷ []) ≡ after_letter case (install_world case word) letter
   world-append word letter = world_from-append opening word (letter ∷ [])
 
-  -- a word with one more letter is legal where the word is and the letter is legal then
+  -- a word with one more letter is legal if the word is and the letter is legal after it
   pub legal-append : (word : List OpenLetter) (letter : OpenLetter)
       → legal case (word ++ letter ∷ []) ≡ (legal case word && is_legal case (install_world case word) letter)
   legal-append word letter =

@@ -1,5 +1,4 @@
--- What the machine makes of an acknowledgement is what the source makes of it, where an instruction stands for its
--- place.
+-- What the machine makes of an acknowledgement is what the source makes of it, if an instruction stands for its place.
 use Rattle.std.specs.Prelude.{◌≡◌, ℕ, Bool, true, false, Option, Some, None, option_map, List, [], ◌∷◌, map, slice_get, refl}
 use Rattle.std.proofs.Common.{ap, ◌∙◌, subst}
 use Rattle.std.proofs.lemmas.Option.{none-some}
@@ -30,7 +29,7 @@ use Rattle.live_install.specs.Entries.{built_at, entry_place}
 use Rattle.live_install.specs.OpenBooks.{Seen, seen_of, seen_as}
 use Rattle.live_install.specs.OpenCells.{HasOutcome}
 
--- an outcome of the code with the place of a fault, None where there is none
+-- an outcome of the code with the place of a fault; None if there is none
 abbrev pub placed : List Place → Outcome (FaultKind × ℕ) → Option (Outcome Cause)
 placed places quiet = Some quiet
 placed places (reported fields) = Some (reported fields)

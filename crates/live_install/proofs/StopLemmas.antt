@@ -1,4 +1,4 @@
--- A fault stops its epoch: the present one is stopped exactly where one of the faults is of it.
+-- A fault stops its epoch: the present one is stopped if and only if one of the faults is of it.
 use Rattle.std.specs.Prelude.{◌≡◌, ◌≤◌, ℕ, ◌+◌, ◌-◌, ◌==◌, Bool, true, false, ◌||◌, Option, Some, None, List, [], ◌∷◌, ◌++◌, length, slice_get, refl}
 use Rattle.std.proofs.Common.{ap, sym, ◌∙◌, subst, arith, length-append}
 use Rattle.std.proofs.lemmas.Bool.{eq-eqb, ne_eqb}
@@ -82,7 +82,7 @@ few-outcome program epoch at ack (means.Reported fields) env = tt
 few-outcome program epoch at ack means.Held env = tt
 few-outcome program epoch at ack (means.Fault kind place) env = (omega arith, tt)
 
--- the outcome of an acknowledgement, where the epoch was stopped before or not
+-- the outcome of an acknowledgement, whether the epoch was stopped before or not
 abbrev met : Form → Bool → Env → Ack → Outcome Cause × Env
 met form before env ack = heard (by_source form) before env ack true
 

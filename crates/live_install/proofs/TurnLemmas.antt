@@ -15,7 +15,7 @@ pub some-next : (next : Option (ℕ × Form)) (step : ℕ) → option_map (λ (n
 some-next None step is = absurd (let wrong : None ≡ Some step = is in (cc))
 some-next (Some n) step is = refl
 
--- an acknowledgement is left, where a word that isn't complete has no change and no entry left
+-- an acknowledgement is left if a word that isn't complete has no change and no entry left
 pub acks-left : (more entry change : Bool) → (not more && (not entry && not change)) ≡ false → entry ≡ false → change ≡ false → more ≡ true
 acks-left true entry change complete no_entry none = refl
 acks-left false true change complete no_entry none = absurd (let wrong : true ≡ false = no_entry in (cc))

@@ -1,4 +1,4 @@
--- Two rollouts of the same cases have one text exactly where their words are alike.
+-- Two rollouts of the same cases have one text if and only if their words are alike.
 use Rattle.std.specs.Prelude.{◌≡◌, ℕ, ◌+◌, ◌<◌, ◌≤◌, ◌^◌, List, [], ◌∷◌, ◌++◌, length, refl}
 use Rattle.std.proofs.Common.{ap, sym, ◌∙◌, subst, arith}
 use Rattle.std.proofs.lemmas.List.{append_cancel_left}

@@ -60,7 +60,7 @@ changed-starts : (case : OpenCase) (next : Option (ℕ × Form)) (w : OpenWorld)
 changed-starts case None w is = absurd (let wrong : false ≡ true = is in (cc))
 changed-starts case (Some next) w is = map-append (λ (era : Era). era.at) (eras_of w) _
 
--- the first one left stays so where more entries come
+-- the first one left stays so if more entries come
 first_left-more : (eras : List Era) (step : ℕ) (entries more : List Installed) → is_some (first_left eras step entries) ≡ true
     → first_left eras step (entries ++ more) ≡ first_left eras step entries
 first_left-more eras step [] more is = absurd (let wrong : false ≡ true = is in (cc))

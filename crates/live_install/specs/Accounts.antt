@@ -38,43 +38,58 @@ ran_on code machine ack = ran_by machine.is_stopped code (env_of machine.kept) a
 -- there is room for the fault, if the answer is one
 abbrev pub HasPlaceFor : Acked → Account → Type 0
 HasPlaceFor answer account =
-    (kind : FaultKind) (index : ℕ) → answer ≡ acked.Faulted kind index → length account.faults.items < account.faults.room
+    (kind : FaultKind) (index : ℕ) → answer ≡ acked.Faulted kind index
+    → length account.faults.items < account.faults.room
 
 -- ---- what is recorded
 
 -- what an outcome of the code with this env changes of the epoch that runs and of the account
-pub record RecordsOutcome (flow at : ℕ) (epoch next : RunningEpoch) (old new : Account) (ack : Ack) (met : Outcome (FaultKind × ℕ) × Env) : Type 0 where
+pub record RecordsOutcome (flow at : ℕ) (epoch next : RunningEpoch) (old new : Account) (ack : Ack)
+    (met : Outcome (FaultKind × ℕ) × Env) : Type 0 where
   pub frame : next ≡ record epoch { first = next.first }
   pub first : (track : Track) → track.first ≡ epoch.first → track.count ≡ at → next.first ≡ next_first met.0 track
   pub reports : (track : Track) → track.first ≡ epoch.first → track.count ≡ at
-      → new.reports.items ≡ old.reports.items ++ reports_met (reporter flow epoch.program epoch.number) track ack met.0 met.1
-  pub faults : new.faults.items ≡ old.faults.items ++ map (notice_with flow (λ (site : ℕ). site)) (failures_met epoch.program epoch.number at ack met)
+      → new.reports.items
+      ≡ old.reports.items ++ reports_met (reporter flow epoch.program epoch.number) track ack met.0 met.1
+  pub faults : new.faults.items
+      ≡ old.faults.items
+      ++ map (notice_with flow (λ (site : ℕ). site)) (failures_met epoch.program epoch.number at ack met)
   pub reports_room : new.reports.room ≡ old.reports.room
   pub faults_room : new.faults.room ≡ old.faults.room
 
--- the outcome of an acknowledgement where this program runs, always with room
+-- the outcome of an acknowledgement if this program runs, always with room
 abbrev pub met_in : Form → Track → Ack → Outcome Cause × Env
 met_in form track ack = heard (by_source form) track.is_stopped track.env ack true
 
 -- where the flow stands before it
 abbrev pub track_by : ℕ → RunningEpoch → MachineState → Track
-track_by at epoch machine = record { env = env_of machine.kept; is_stopped = machine.is_stopped; first = epoch.first; count = at }
+track_by at epoch machine = record {
+  env = env_of machine.kept;
+  is_stopped = machine.is_stopped;
+  first = epoch.first;
+  count = at;
+}
 
 -- how many faults a running program can still have
 abbrev pub faults_of : Bool → ℕ
 faults_of true = 0
 faults_of false = 1
 
--- what an acknowledgement that is run changes where this program runs
-pub record HasRun (entries : List Entry) (form : Form) (flow at : ℕ) (epoch next : RunningEpoch) (machine new_machine : MachineState) (old new : Account) (ack : Ack) : Type 0 where
+-- what an acknowledgement that is run changes, if this program runs
+pub record HasRun (entries : List Entry) (form : Form) (flow at : ℕ) (epoch next : RunningEpoch)
+    (machine new_machine : MachineState) (old new : Account) (ack : Ack) : Type 0 where
   pub env : env_of new_machine.kept ≡ (met_in form (track_by at epoch machine) ack).1
   pub stopping : new_machine.is_stopped ≡ stops (met_in form (track_by at epoch machine) ack).0
   pub frame : next ≡ record epoch { first = next.first }
   pub first : next.first ≡ next_first (met_in form (track_by at epoch machine) ack).0 (track_by at epoch machine)
   pub reports : new.reports.items
-      ≡ old.reports.items ++ reports_met (reporter flow epoch.program epoch.number) (track_by at epoch machine) ack (met_in form (track_by at epoch machine) ack).0 (met_in form (track_by at epoch machine) ack).1
+      ≡ old.reports.items
+      ++ reports_met (reporter flow epoch.program epoch.number) (track_by at epoch machine) ack
+      (met_in form (track_by at epoch machine) ack).0 (met_in form (track_by at epoch machine) ack).1
   pub faults : map (seen_of entries) new.faults.items
-      ≡ map (seen_of entries) old.faults.items ++ map (seen_as flow) (failures_met epoch.program epoch.number at ack (met_in form (track_by at epoch machine) ack))
+      ≡ map (seen_of entries) old.faults.items
+      ++ map (seen_as flow)
+      (failures_met epoch.program epoch.number at ack (met_in form (track_by at epoch machine) ack))
   pub reports_most : length new.reports.items ≤ length old.reports.items + 1
   pub faults_most : length new.faults.items + faults_of new_machine.is_stopped
       ≤ length old.faults.items + faults_of machine.is_stopped

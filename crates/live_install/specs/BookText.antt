@@ -12,7 +12,7 @@ use Rattle.live_install.specs.Entries.{installed_of, step_place}
 use Rattle.live_install.specs.OpenBooks.{failure_at}
 use Rattle.live_install.specs.RolloutText.{OpenAccount, account_text}
 
--- a fault where its instruction has a place
+-- a fault, if its instruction has a place
 abbrev pub failure_if_placed : Notice → Option Place → List (Failure Place)
 failure_if_placed notice None = []
 failure_if_placed notice (Some place) = failure_at notice place ∷ []
@@ -20,7 +20,8 @@ failure_if_placed notice (Some place) = failure_at notice place ∷ []
 -- the faults with the places of their instructions
 abbrev pub failures_in : List EntryState → List Notice → List (Failure Place)
 failures_in entries [] = []
-failures_in entries (notice ∷ rest) = failure_if_placed notice (step_place entries notice.program notice.index) ++ failures_in entries rest
+failures_in entries (notice ∷ rest) =
+    failure_if_placed notice (step_place entries notice.program notice.index) ++ failures_in entries rest
 
 -- how the flow stands; a fault stops its epoch
 abbrev pub end_in : OpenBook → End

@@ -8,7 +8,12 @@ use Rattle.live_install.specs.declared.crew.Crew.{Crew}
 
 -- the duty of an installer, whose number at the gate comes after those of the datapath workers
 abbrev pub install_duty : ℕ → ℕ → ℕ → ℕ → Duty
-install_duty datapaths agents flows agent = record { worker = datapaths + agent; first = agent; workers = agents; flows = flows }
+install_duty datapaths agents flows agent = record {
+  worker = datapaths + agent;
+  first = agent;
+  workers = agents;
+  flows = flows;
+}
 
 -- the duty of the installer whose work was begun
 abbrev pub install_duty_of : InstallerWork → Duty
@@ -24,4 +29,5 @@ install_duties datapaths agents flows (suc agent) =
 -- the work of each of these workers was done, over this many flows
 abbrev pub HasWorked : Crew → ℕ → ℕ → ℕ → Type 0
 HasWorked crew datapaths agents flows =
-    (crew.served.items ≡ duties datapaths flows datapaths) × (crew.equipped.items ≡ install_duties datapaths agents flows agents)
+    (crew.served.items ≡ duties datapaths flows datapaths)
+    × (crew.equipped.items ≡ install_duties datapaths agents flows agents)

@@ -14,7 +14,7 @@ abbrev pub built_entry : Option Entry → Option Built
 built_entry None = None
 built_entry (Some entry) = built_of entry.answer
 
--- what was built of a step, None where its entry isn't there or was refused
+-- what was built of a step; None if its entry isn't there or was refused
 abbrev pub built_at : List Entry → ℕ → Option Built
 built_at entries step = built_entry (slice_get entries step)
 

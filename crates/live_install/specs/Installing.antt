@@ -4,12 +4,13 @@ use Rattle.live_install.specs.declared.entry.Entry.{Entry}
 use Rattle.live_install.specs.declared.letter.OpenLetter.TheVariants.{G}
 use Rattle.live_install.specs.OpenCells.{OpenState, IsNextEntry, with_entry, next_step}
 
--- the entry was installed exactly where it is the next one; else nothing has changed
+-- the entry was installed if and only if it is the next one; else nothing changes
 abbrev pub HasInstalled : OpenState → OpenState → Entry → Bool → Type 0
 HasInstalled before after entry is_next =
-    ((is_next ≡ true) ↔ IsNextEntry before entry) × (is_next ≡ true → after ≡ with_entry before entry) × (is_next ≡ false → after ≡ before)
+    ((is_next ≡ true) ↔ IsNextEntry before entry)
+    × (is_next ≡ true → after ≡ with_entry before entry) × (is_next ≡ false → after ≡ before)
 
--- the flow was changed exactly where there is a program to change to; else nothing has changed
+-- the flow was changed if and only if there is a program to change to; else nothing changes
 abbrev pub HasChanged : OpenState → OpenState → Bool → Type 0
 HasChanged before after changed =
     ((changed ≡ false) ↔ (next_step before ≡ None))

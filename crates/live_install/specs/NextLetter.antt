@@ -10,7 +10,7 @@ next_letter true entry = letters.G
 next_letter false true = letters.I
 next_letter false false = letters.A
 
--- the letter that the caller makes next: a change where one may come, else an entry where one may come, else an
+-- the letter that the caller makes next: a change if one may come, else an entry if one may come, else an
 -- acknowledgement
 abbrev pub next_letter_at : OpenState → OpenLetter
 next_letter_at cell = next_letter (is_legal_at cell letters.G) (is_legal_at cell letters.I)

@@ -10,7 +10,7 @@ use Rattle.live_install.specs.declared.book.OpenBook.{OpenBook}
 use Rattle.live_install.specs.OpenWorld.{OpenWorld, track_now, eras_of}
 use Rattle.live_install.specs.Entries.{installed_of, step_place, AreStepsFrom}
 
--- a failure of a flow, or none where an instruction has no place
+-- a failure of a flow, or none if an instruction has no place
 abbrev pub Seen : Type 0
 Seen = ℕ × Option (Failure Place)
 

@@ -1,5 +1,6 @@
 -- A flow of a rollout: its case, its library and its word.
-use Rattle.std.specs.Prelude.{◌≡◌, ℕ, ◌+◌, ◌*◌, ◌≤◌, Bool, true, Option, Some, None, option_map, List, [], ◌∷◌, ◌++◌, ⊤, length, slice_get}
+use Rattle.std.specs.Prelude.{◌≡◌, ℕ, ◌+◌, ◌*◌, ◌≤◌, Bool, true, Option, Some, None, option_map, ⊤}
+use Rattle.std.specs.Prelude.{List, [], ◌∷◌, ◌++◌, length, slice_get}
 use Rattle.ccp_base.specs.declared.ack.Ack.{Ack}
 use Rattle.portus_core.specs.Value.{Cause}
 use Rattle.portus_core.specs.Epoch.{Outcome, quiet, reported, held, failed, stopped}
@@ -50,7 +51,8 @@ most_letters case = case.acks + 2 * length case.steps
 
 -- the entry's step is the number of entries so far, and its text is the case's of that step
 abbrev pub IsNextEntry : OpenState → Entry → Type 0
-IsNextEntry cell entry = (entry.step ≡ length cell.entries) × (slice_get cell.case.steps (length cell.entries) ≡ Some entry.text)
+IsNextEntry cell entry =
+    (entry.step ≡ length cell.entries) × (slice_get cell.case.steps (length cell.entries) ≡ Some entry.text)
 
 -- the flow with one more entry
 abbrev pub with_entry : OpenState → Entry → OpenState
@@ -63,7 +65,8 @@ abbrev pub outcome_seen : Option Built → Acked → List ℕ → Option (Outcom
 outcome_seen built acked.Quiet fields = Some quiet
 outcome_seen built acked.Reported fields = Some (reported fields)
 outcome_seen built acked.Held fields = Some held
-outcome_seen built (acked.Faulted kind index) fields = option_map (λ place. failed (kind, place)) (entry_place built index)
+outcome_seen built (acked.Faulted kind index) fields =
+    option_map (λ place. failed (kind, place)) (entry_place built index)
 outcome_seen built acked.Stopped fields = Some stopped
 
 -- an answer stands for an outcome, whatever its report's fields are
@@ -79,7 +82,8 @@ abbrev pub AnswersTo : List Entry → Ack → Option Running → Option Acked �
 AnswersTo entries ack None None = ⊤
 AnswersTo entries ack None (Some answer) = ⊥
 AnswersTo entries ack (Some running) None = ⊥
-AnswersTo entries ack (Some running) (Some answer) = HasOutcome (built_at entries running.era.program) answer (met_by running ack).0
+AnswersTo entries ack (Some running) (Some answer) =
+    HasOutcome (built_at entries running.era.program) answer (met_by running ack).0
 
 -- the answer to the next acknowledgement
 abbrev pub AnswersAck : OpenState → Option Acked → Type 0
@@ -99,6 +103,6 @@ ran_at cell = ran_in cell.entries (world_at cell).present (ack_at cell)
 
 -- ---- the answer to a change
 
--- the step that the next change changes to, None where there is none
+-- the step that the next change changes to; None if there is none
 abbrev pub next_step : OpenState → Option ℕ
 next_step cell = option_map (λ next. next.0) (next_entry (world_at cell))

@@ -5,7 +5,8 @@ use Rattle.scene_members.specs.declared.open_case.OpenCase.{OpenCase}
 use Rattle.ccp_base.specs.declared.ack.Ack.{Ack}
 use Rattle.live_install.specs.declared.letter.OpenLetter.{OpenLetter}
 use Rattle.live_install.specs.declared.letter.OpenLetter.TheVariants.{A, I, G}
-use Rattle.live_install.specs.OpenWorld.{OpenWorld, opening, cwnd_of, after_ack, with_next_entry, after_change, next_entry}
+use Rattle.live_install.specs.OpenWorld.{OpenWorld, opening, cwnd_of, next_entry}
+use Rattle.live_install.specs.OpenWorld.{after_ack, with_next_entry, after_change}
 
 -- the link's next acknowledgement: for the windows so far and the present `Cwnd`
 abbrev pub next_ack : OpenCase → OpenWorld → Ack

@@ -1,5 +1,6 @@
 -- The state of one flow of a rollout: its history, its library of entries, and what runs.
-use Rattle.std.specs.Prelude.{ℕ, ◌+◌, ◌==◌, Bool, true, false, ◌||◌, if◌then◌else◌, Option, Some, None, Result, Ok, Err, List, [], ◌∷◌, ◌++◌, length, slice_get}
+use Rattle.std.specs.Prelude.{ℕ, ◌+◌, ◌==◌, Bool, true, false, ◌||◌, if◌then◌else◌, Option, Some, None, Result, Ok, Err}
+use Rattle.std.specs.Prelude.{List, [], ◌∷◌, ◌++◌, length, slice_get}
 use Rattle.ccp_base.specs.declared.ack.Ack.{Ack}
 use Rattle.ccp_base.specs.declared.place.Place.{Place}
 use Rattle.ccp_base.specs.declared.exchange.Report.{Report}
@@ -87,7 +88,8 @@ with_program_run case ack epoch running w =
     let step = running.era.program in
     record w {
       present = Some (record running { era = with_event (acknowledged ack true) running.era });
-      reports = w.reports ++ reports_met (record { flow = case.flow; program = step; number = epoch }) track ack met.0 met.1;
+      reports = w.reports
+          ++ reports_met (record { flow = case.flow; program = step; number = epoch }) track ack met.0 met.1;
       faults = w.faults ++ failures_met step epoch track.count ack met;
     }
 

@@ -1,6 +1,7 @@
--- The text of a rollout: for each flow its entries, changes, faults, reports and end, read over the sources of its steps'
--- texts.
-use Rattle.std.specs.Prelude.{ℕ, ◌+◌, ◌-◌, Option, Some, None, Ok, Err, List, [], ◌∷◌, length, slice_get, map, codes, decimal}
+-- The text of a rollout: for each flow its entries, changes, faults, reports and end, read over the sources of its
+-- steps' texts.
+use Rattle.std.specs.Prelude.{ℕ, ◌+◌, ◌-◌, Option, Some, None, Ok, Err, List, [], ◌∷◌, length, slice_get, map}
+use Rattle.std.specs.Prelude.{codes, decimal}
 use Rattle.ccp_base.specs.Text.{◌⧺◌}
 use Rattle.ccp_base.specs.declared.exchange.Report.{Report}
 use Rattle.ccp_base.specs.declared.place.Place.{Place}
@@ -46,7 +47,7 @@ account_of case w = record {
 
 -- ---- the fields of programs
 
--- those of the program that a text stands for; none where it is refused
+-- those of the program that a text stands for; none if it is refused
 abbrev pub fields_of : Installed → List Decl
 fields_of (Ok form) = form.fields
 fields_of (Err refusal) = []
@@ -59,7 +60,7 @@ fields_in (Some entry) = fields_of entry
 abbrev pub fields_at : List Installed → ℕ → List Decl
 fields_at entries step = fields_in (slice_get entries step)
 
--- those of an epoch's program; none where there is no epoch
+-- those of an epoch's program; none if there is no epoch
 abbrev pub fields_during : List Installed → Option EpochLine → List Decl
 fields_during entries None = []
 fields_during entries (Some epoch) = fields_at entries epoch.program
@@ -128,7 +129,7 @@ account_text case account =
     ⧺ shown_lines account.entries account.reports
     ⧺ last_line account
 
--- a flow's part of the text, where this is its state
+-- a flow's part of the text, if this is its state
 abbrev pub open_part : OpenCase → OpenWorld → List ℕ
 open_part case w = account_text case (account_of case w)
 

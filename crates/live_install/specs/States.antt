@@ -1,5 +1,6 @@
 -- What a flow of a rollout keeps, and what holds of it: it is the state after the flow's word.
-use Rattle.std.specs.Prelude.{◌≡◌, ℕ, ◌+◌, ◌<◌, ◌≤◌, Bool, true, false, Option, Some, None, option_map, Ok, List, ⊤, length, map, position, slice_get}
+use Rattle.std.specs.Prelude.{◌≡◌, ℕ, ◌+◌, ◌<◌, ◌≤◌, Bool, true, false, Option, Some, None, option_map, Ok, ⊤}
+use Rattle.std.specs.Prelude.{List, length, map, position, slice_get}
 use Rattle.portus_core.specs.Programs.{Form}
 use Rattle.portus_core.specs.ProgramForm.{form_of}
 use Rattle.portus_core.specs.OneAcknowledgement.{IsEnvOf}
@@ -53,7 +54,12 @@ epoch_after (Some epoch) step acks = next_epoch step acks epoch
 
 -- where the kept flow stands
 abbrev pub kept_track : State → Track
-kept_track s = record { env = env_of s.machine.kept; is_stopped = s.machine.is_stopped; first = first_in s.running; count = s.acks }
+kept_track s = record {
+  env = env_of s.machine.kept;
+  is_stopped = s.machine.is_stopped;
+  first = first_in s.running;
+  count = s.acks;
+}
 
 -- ---- steps
 

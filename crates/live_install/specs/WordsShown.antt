@@ -48,7 +48,7 @@ with_words (case ∷ cases) (word ∷ words) = (case, word) ∷ with_words cases
 abbrev pub text_for_words : List OpenCase → List (List OpenLetter) → List ℕ
 text_for_words cases words = rollout_text (with_words cases words)
 
--- two rollouts of the same cases have one text exactly where their words are alike
+-- two rollouts of the same cases have one text if and only if their words are alike
 abbrev pub TextShowsWords : Type 0
 TextShowsWords = (cases : List OpenCase) (words others : List (List OpenLetter))
     → AreHistories cases words → AreHistories cases others

@@ -20,6 +20,7 @@ pub(crate) struct Account {
 }
 
 /// Runs an acknowledgement on the machine, with room for a report.
+// for the prover: here the machine's clauses become those of `IsMet` and `ran_on`
 pub(crate) fn run_ack<L: Ledger>(
     machine: &mut Machine,
     code: &Checked,
@@ -48,7 +49,8 @@ impl Account {
     )
         requires reports { length self.old.reports.items < self.old.reports.room }
         requires faults { HasPlaceFor acked self.old }
-        ensures { RecordsOutcome flow at epoch.old epoch.new self.old self.new ack.entry.now (met_as acked machine.now) }
+        ensures { RecordsOutcome flow at epoch.old epoch.new self.old self.new ack.entry.now
+            (met_as acked machine.now) }
     {
         match acked {
             Acked::Quiet | Acked::Held | Acked::Stopped => {}
@@ -71,7 +73,8 @@ impl Account {
         ack: &Ack,
     )
         requires { length self.old.reports.items < self.old.reports.room }
-        ensures { RecordsOutcome flow at epoch.old epoch.new self.old self.new ack.entry.now (reported machine.now.report, env_of machine.now.kept) }
+        ensures { RecordsOutcome flow at epoch.old epoch.new self.old self.new ack.entry.now
+            (reported machine.now.report, env_of machine.now.kept) }
     {
         let cwnd = machine.cwnd();
         let rate = machine.rate();

@@ -1,4 +1,4 @@
-//! An acknowledgement: it is counted, and run where a program runs.
+//! An acknowledgement: it is counted, and run if a program runs.
 ghost use Rattle.std.specs.Prelude.{◌≡◌, ◌+◌, ◌<◌, Some, None, option_copied, ◌∷◌, [], ◌++◌};
 ghost use Rattle.live_install.specs.Entries.{built_at};
 ghost use Rattle.live_install.specs.OpenCells.{ran_at, AnswersAck};
@@ -13,7 +13,7 @@ use fold_machine::{Acked, Steps};
 use reg_compiler::Built;
 use std::sync::ledger::Ledger;
 
-/// What was built of a step, None exactly where its entry isn't there or was refused.
+/// What was built of a step; None if and only if its entry isn't there or was refused.
 pub(crate) fn built_at(entries: &[Entry], step: u32) -> Option<&Built>
     ensures { option_copied result ≡ built_at entries.now step }
 {
@@ -21,7 +21,8 @@ pub(crate) fn built_at(entries: &[Entry], step: u32) -> Option<&Built>
 }
 
 impl State {
-    /// The epoch that runs; None exactly before the first change.
+    /// The epoch that runs; None if and only if no change came yet.
+    // for the prover: a match on the field alone says nothing of the state after the word
     fn running_epoch(&self) -> Option<RunningEpoch>
         requires { IsOpen self.now }
         ensures kept { result ≡ self.now.running }

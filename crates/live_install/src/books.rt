@@ -27,6 +27,7 @@ pub(crate) fn books(
     ensures led { IfOk result (λ books. AreLedTo HasNext cells (map book_state books)) }
     ensures whole { IfOk result (λ books. All IsWhole books) }
 {
+    // for the contract alone: the books are made once the crew's work is done
     drop(crew);
     make_books(alloc, cells)
 }

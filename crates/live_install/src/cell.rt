@@ -84,9 +84,9 @@ impl OpenCell {
         Ok(OpenCell { state })
     }
 
-    /// Takes the link's next acknowledgement, which is only counted before the first change, and then run. Ended
-    /// exactly where all acknowledgements are in; then nothing has changed. None exactly where no change came yet.
-    /// `steps` counts the instructions that are run.
+    /// Takes the link's next acknowledgement, which is only counted before the first change, and then run. Ended if and
+    /// only if all acknowledgements are in; nothing changes then. None if and only if no change came yet. `steps` counts
+    /// the instructions that are run.
     pub fn ack<L: Ledger>(&mut self, steps: &mut Steps<L>) -> Result<Option<Acked>, Ended>
         ensures ended { IsErr result ↔ HasAll self.old }
         ensures ok { OnOk result (self.new ≡ record self.old { word = self.old.word ++ OpenLetter.A ∷ [] }) }
@@ -131,8 +131,8 @@ impl OpenCell {
         self.ack(&mut steps)
     }
 
-    /// Installs an entry. Late exactly where its step isn't the number of entries so far or its text isn't the case's
-    /// of that step; it is handed back then, and nothing has changed.
+    /// Installs an entry. Late if and only if its step isn't the number of entries so far or its text isn't the case's
+    /// of that step; it is handed back then, and nothing changes.
     pub fn install(&mut self, entry: Entry) -> Result<(), Late>
         ensures installed { IsOk result ↔ IsNextEntry self.old entry }
         ensures ok { OnOk result (self.new ≡ with_entry self.old entry) }
@@ -152,8 +152,8 @@ impl OpenCell {
         Ok(())
     }
 
-    /// Changes the flow to the program of the first accepted entry that hasn't been started, and returns its step. Nothing
-    /// exactly where there is none; then nothing has changed.
+    /// Changes the flow to the program of the first accepted entry that hasn't been started, and returns its step.
+    /// Nothing if and only if there is none; the flow doesn't change then.
     pub fn change(&mut self) -> Result<u32, Nothing>
         ensures nothing { IsErr result ↔ (next_step self.old ≡ None) }
         ensures ok { OnOk result (self.new ≡ record self.old { word = self.old.word ++ OpenLetter.G ∷ [] }) }

@@ -104,7 +104,7 @@ impl Entry {
         &self.answer
     }
 
-    /// The program with its code, None exactly where the text was refused.
+    /// The program with its code; None if and only if the text was refused.
     pub fn built(&self) -> Option<&Built>
         ensures { option_copied result ≡ built_of self.now.answer }
     {

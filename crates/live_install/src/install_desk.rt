@@ -1,8 +1,10 @@
 //! The desk of an installer: texts built without a lock, entries and changes under the flow's lock.
-ghost use Rattle.std.specs.Prelude.{◌≡◌, ℕ, ◌<◌, ◌≤◌, Option, Some, None, option_map, [], ◌∷◌, length, is_some, slice_get, IfSome};
+ghost use Rattle.std.specs.Prelude.{◌≡◌, ℕ, ◌<◌, ◌≤◌, Option, Some, None, option_map, is_some, IfSome};
+ghost use Rattle.std.specs.Prelude.{[], ◌∷◌, length, slice_get};
 ghost use Rattle.std.proofs.Props.{props};
 ghost use Rattle.worker_desk.specs.Logs.{KnownLog, Logs};
-ghost use Rattle.worker_desk.specs.declared.event.Event.TheVariants.{Passed, Locked, Unlocked, Built, Installed, Changed};
+ghost use Rattle.worker_desk.specs.declared.event.Event.TheVariants.{Passed, Locked, Unlocked, Built};
+ghost use Rattle.worker_desk.specs.declared.event.Event.TheVariants.{Installed, Changed};
 
 use crate::cell::OpenCell;
 use crate::entry::{Entry, entry_of};
@@ -66,9 +68,11 @@ impl<'a, R: Wait, G: Gate> worker_desk::InstallDesk for InstallDesk<'a, R, G> {
 
     ghost step_of = { λ entry. entry.step };
 
-    ghost HasInstalled = { λ old new entry is_next. OfHeld (λ before after. HasInstalled before after entry is_next) old.held new.held };
+    ghost HasInstalled = { λ old new entry is_next.
+        OfHeld (λ before after. HasInstalled before after entry is_next) old.held new.held };
 
-    ghost HasChanged = { λ old new changed. OfHeld (λ before after. HasChanged before after changed) old.held new.held };
+    ghost HasChanged = { λ old new changed.
+        OfHeld (λ before after. HasChanged before after changed) old.held new.held };
 
     fn flow_count(&self) -> u32 {
         self.table.flows()

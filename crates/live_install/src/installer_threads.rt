@@ -41,7 +41,7 @@ pub(crate) fn begin_all<'s, 'e, R: Threads + Wait + Sync, G: Gate + Sync>(
     Ok(works)
 }
 
-/// Begins the work of an installer. Where no thread can be started for it, it is done here.
+/// Begins the work of an installer. If no thread can be started for it, it is done here.
 fn begin<'s, 'e, R: Threads + Wait + Sync, G: Gate + Sync>(
     scope: &'s Scope<'s, &'e ()>,
     rt: &'e R,
@@ -52,7 +52,8 @@ fn begin<'s, 'e, R: Threads + Wait + Sync, G: Gate + Sync>(
     gate: &'e G,
 ) -> InstallerWork
     requires { agent < workers.agents.count }
-    ensures { install_duty_of result ≡ install_duty workers.datapaths.count workers.agents.count (length table.now) agent }
+    ensures { install_duty_of result
+        ≡ install_duty workers.datapaths.count workers.agents.count (length table.now) agent }
 {
     let promise = Duty {
         worker: workers.datapaths.count() + agent,
@@ -64,7 +65,8 @@ fn begin<'s, 'e, R: Threads + Wait + Sync, G: Gate + Sync>(
         promise,
         move || -> Equipped
             requires { agent < workers.agents.count }
-            ensures { result ≡ install_duty workers.datapaths.count workers.agents.count (length table.entry.now) agent }
+            ensures { result
+                ≡ install_duty workers.datapaths.count workers.agents.count (length table.entry.now) agent }
         { run_installer(rt, alloc, table, workers, agent, gate) },
     );
     match started {

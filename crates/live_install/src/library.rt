@@ -4,7 +4,8 @@ ghost use Rattle.std.specs.Option.{ForSome};
 ghost use Rattle.ccp_base.specs.Limits.{most_steps};
 ghost use Rattle.live_install.specs.BuiltTexts.{Answers};
 ghost use Rattle.live_install.specs.OpenCells.{next_step};
-ghost use Rattle.live_install.specs.States.{next_from, epochs_in, epoch_after, first_accepted, accepted_from, cell_of, IsOpen};
+ghost use Rattle.live_install.specs.States.{next_from, epochs_in, epoch_after, first_accepted, accepted_from};
+ghost use Rattle.live_install.specs.States.{cell_of, IsOpen};
 
 use crate::advance::built_at;
 use crate::entry::Entry;
@@ -14,6 +15,7 @@ use ccp_base::Fields;
 use flow_core::RunningEpoch;
 
 /// The place of the first accepted one of these entries.
+// for the prover: the goal of `position` stays open before a `?`
 fn first_accepted(entries: &[Entry]) -> Option<usize>
     ensures place { result ≡ first_accepted entries.now }
     ensures within { ForSome result (λ place. place < length entries.now) }
@@ -53,7 +55,7 @@ fn epoch_after(running: Option<RunningEpoch>, step: u32, acks: u32) -> RunningEp
 }
 
 impl State {
-    /// The step of the first accepted entry that hasn't been started, None exactly where there is none.
+    /// The step of the first accepted entry that hasn't been started; None if and only if there is none.
     pub(crate) fn next_step(&self) -> Option<u32>
         requires { IsOpen self.now }
         ensures { result ≡ next_step (cell_of self.now) }

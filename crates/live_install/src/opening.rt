@@ -35,8 +35,8 @@ fn fresh_account(alloc: Global, acks: usize, steps: usize) -> Result<Account, No
     Ok(Account { reports, faults })
 }
 
-/// Lists without an entry, a number of acknowledgements before one, an epoch or a letter, with room for one of each step
-/// and for this many letters.
+/// Lists without an entry, a number of acknowledgements before one, an epoch or a letter, with room for one of each
+/// step and for this many letters.
 fn reserve_lists(
     alloc: Global,
     steps: usize,
@@ -76,6 +76,7 @@ struct Opening {
 
 impl Opening {
     /// What a flow of this case has. All that letters take is reserved here.
+    // for the prover: it has the case by reference, so that `open`, which owns the case, has one exit for all failures
     fn of(alloc: Global, case: &OpenCase) -> Result<Opening, NoMemory>
         ensures { IfOk result (IsOpening case.now) }
     {

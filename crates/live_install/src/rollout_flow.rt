@@ -79,6 +79,7 @@ impl LockedFlow for OpenCell {
 }
 
 /// The book of a flow whose word is complete.
+// for the prover: here the clauses of `OpenCell::finish` become that of `IsWhole`, by a lemma
 fn whole_book(cell: OpenCell) -> OpenBook
     requires { IsComplete cell }
     ensures case { result.case ≡ cell.case }

@@ -14,14 +14,14 @@ use std::alloc::Global;
 use std::sync::Wait;
 use std::thread::Threads;
 
-/// One book a case, in order, whatever the numbers of workers, and in whatever order threads take
-/// the flows' locks: each book has its case, a word that is legal and complete for it, and the state after it, read
-/// over the sources of the texts. No clause says which such word it is. There are at most 64 cases.
+/// One book a case, in order, whatever the numbers of workers, and in whatever order threads take the flows' locks:
+/// each book has its case, a word that is legal and complete for it, and the state after it, read over the sources of
+/// the texts. No clause says which such word it is. There are at most 64 cases.
 ///
 /// Datapath worker `d` takes the acknowledgements of the flows `f` with `f mod datapaths = d`, one of each in turn. It
 /// passes the gate at `BeforeAck` and `AfterAck` without a lock and at `InAck` with the flow's. Installer `a`, whose
 /// worker number is `datapaths + a`, builds the texts of the flows `f` with `f mod agents = a`, without a lock,
-/// installs each in the flow's library and passes `AfterTake`, and changes the flow to it, where it is a program, and
+/// installs each in the flow's library and passes `AfterTake`, and changes the flow to it, if it is a program, and
 /// passes `AfterSettle`. What they leave is done by the caller at the end, and so is the work of a worker whose thread
 /// can't be started.
 pub fn rollout<R: Threads + Wait + Sync, G: Gate + Sync>(

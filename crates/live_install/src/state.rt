@@ -18,7 +18,7 @@ pub(crate) struct State {
     pub(crate) running: Option<RunningEpoch>,
     /// How many acknowledgements are in.
     pub(crate) acks: u32,
-    /// The time of the last acknowledgement, in microseconds; 0 where there is none.
+    /// The time of the last acknowledgement, in microseconds; 0 if there is none.
     pub(crate) time: u64,
     pub(crate) account: Account,
     pub(crate) entries: ReservedList<Entry>,

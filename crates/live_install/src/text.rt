@@ -92,7 +92,7 @@ fn put_notice(
     }
 }
 
-/// The place of an instruction of a step's code; None where the step has no code, or that no such instruction.
+/// The place of an instruction of a step's code; None if the step has no code, or its code no such instruction.
 fn place_at(entries: &[Entry], step: u32, index: u16) -> Option<Place>
     ensures { result ≡ step_place entries.now step index }
 {
@@ -120,7 +120,7 @@ fn put_reports(
     Ok(())
 }
 
-/// The fields of a step's program; none where the step has no program.
+/// The fields of a step's program; none if the step has no program.
 fn fields_at<'a>(entries: &'a [Entry], step: u32) -> &'a [Decl]
     ensures { result.now ≡ fields_at (map installed_of entries.now) step }
 {
@@ -148,7 +148,7 @@ fn put_last(alloc: Global, text: &mut Bytes, book: &OpenBook) -> Result<(), NoMe
     put_end(alloc, text, fields, book.reports.len() as u64, &end)
 }
 
-/// The fields of the last epoch's program; none where there is no epoch.
+/// The fields of the last epoch's program; none if there is no epoch.
 fn last_fields<'a>(entries: &'a [Entry], epochs: &[EpochLine]) -> &'a [Decl]
     ensures { result.now ≡ last_fields (map installed_of entries.now) epochs.now }
 {
@@ -158,7 +158,7 @@ fn last_fields<'a>(entries: &'a [Entry], epochs: &[EpochLine]) -> &'a [Decl]
     }
 }
 
-/// How a book's flow stands at the end. A fault stops its epoch, so the last epoch is stopped where a fault is of it.
+/// How a book's flow stands at the end. A fault stops its epoch, so the last epoch is stopped if a fault is of it.
 fn end_in(book: &OpenBook) -> End
     ensures { result ≡ end_in book.now }
 {

@@ -26,7 +26,7 @@ pub(crate) fn make_letter(alloc: Global, cell: &mut OpenCell) -> Result<(), NoMe
     Ok(())
 }
 
-/// Changes the flow where an accepted entry is left, and says whether it did.
+/// Changes the flow if an accepted entry is left, and says whether it did.
 fn change(cell: &mut OpenCell) -> bool
     ensures made { result ≡ true → HasNext cell.old cell.new }
     ensures fewer { result ≡ true → letters_left cell.new < letters_left cell.old }
@@ -39,7 +39,7 @@ fn change(cell: &mut OpenCell) -> bool
     }
 }
 
-/// Installs the entry of the next step where one is left, and says whether it did.
+/// Installs the entry of the next step if one is left, and says whether it did.
 fn install(alloc: Global, cell: &mut OpenCell) -> Result<bool, NoMemory>
     requires { is_legal_at cell.old letters.G ≡ false }
     ensures made { result ≡ Ok true → HasNext cell.old cell.new }
@@ -56,6 +56,7 @@ fn install(alloc: Global, cell: &mut OpenCell) -> Result<bool, NoMemory>
 }
 
 /// Installs the entry of this step, which is the next one.
+// for the prover: what the test before it shows is a premise here
 fn install_next(alloc: Global, cell: &mut OpenCell, step: u32) -> Result<(), NoMemory>
     requires next { step ≡ length cell.old.entries }
     requires more { step < length cell.old.case.steps }

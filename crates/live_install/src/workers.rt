@@ -4,9 +4,9 @@ ghost use Rattle.live_install.specs.Crews.{HasWorked};
 
 use crate::cell::OpenCell;
 use crate::crew::Crew;
-use crate::{datapath_threads, installer_threads};
+use crate::installer_threads;
 use ccp_base::{Gate, NoMemory};
-use flow_table::{FlowTable, WorkerCounts, end_serving};
+use flow_table::{FlowTable, NoNudges, WorkerCounts, begin_serving, end_serving};
 use std::alloc::Global;
 use std::sync::Wait;
 use std::thread;
@@ -27,15 +27,17 @@ pub(crate) fn run_workers<R: Threads + Wait + Sync, G: Gate + Sync>(
         thread::scope_env(),
         rt,
         move |scope| -> Result<Crew, NoMemory>
-            ensures { IfOk result (λ crew. HasWorked crew workers.datapaths.count workers.agents.count (length table.entry.now)) }
+            ensures { IfOk result (λ crew.
+                HasWorked crew workers.datapaths.count workers.agents.count (length table.entry.now)) }
         {
             let works = installer_threads::begin_all(scope, rt, alloc, table, workers, gate)?;
-            let servings = datapath_threads::begin_all(
+            let servings = begin_serving(
                 scope,
                 rt,
                 alloc,
                 table,
                 workers.datapaths,
+                &NoNudges,
                 gate,
             )?;
             let equipped = installer_threads::end_all(rt, alloc, works)?;

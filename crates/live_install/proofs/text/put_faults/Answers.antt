@@ -1,4 +1,4 @@
-use Rattle.std.proofs.Common.{◌≡◌, ◌++◌, ◌∷◌, ℕ, List, ap, sym, ◌∙◌, append_assoc}
+use Rattle.std.proofs.Common.{◌++◌, ℕ, List, ap, sym, ◌∙◌, append_assoc}
 use Rattle.ccp_base.specs.declared.exchange.Notice.{Notice}
 use Rattle.live_install.specs.Entries.{step_place}
 use Rattle.live_install.specs.RolloutText.{fault_lines}
