@@ -1,5 +1,5 @@
 -- The law of an installer: which texts are built, and in which order.
-use Rattle.std.proofs.Common.{◌≡◌, ◌==◌, ℕ, zero, suc, ◌+◌, ◌≤◌, nat_lt, Bool, true, false, cond, ◌&&◌, List, [], ◌∷◌, ◌++◌, length, refl, sym, ap, ◌∙◌, append_assoc, arith}
+use Rattle.std.proofs.Common.{◌≡◌, ◌==◌, ℕ, zero, suc, ◌+◌, ◌≤◌, nat_lt, Bool, true, false, cond, ◌&&◌, List, [], ◌∷◌, ◌++◌, length, refl, sym, ap, ◌∙◌, append_assoc, append-nil, arith}
 use Rattle.std.proofs.lemmas.Bool.Decides.{nat_tests}
 use Rattle.ccp_base.specs.Limits.{most_steps}
 use Rattle.worker_desk.specs.declared.event.Event.{Event}
@@ -91,10 +91,6 @@ tasks-rise row (suc number) rest then =
     ∙ tasks-rise row number (tasks_at number row ++ rest)
     (λ low most. at-rise low number row rest most (λ least few. then least (omega (arith, few))))
 
-append-none : (xs : List StepTask) → xs ++ [] ≡ xs
-append-none [] = refl
-append-none (task ∷ xs) = ap (λ (rest : List StepTask). task ∷ rest) (append-none xs)
-
 -- ---- the law
 
 pub equipping-law : EquippingLaw
@@ -114,5 +110,5 @@ equipping-law worker first workers flows outcomes all =
       few = λ flow step most.
           let below : nat_lt step most_steps ≡ false = grind (arith, nat_tests) in
           times-all flow step ∙ ap (λ (b : Bool). cond b (one (is_of first workers flows flow)) 0) below;
-      in_order = ap (never_falls 0) (same ∙ sym (append-none (tasks row most_steps))) ∙ tasks-rise row most_steps [] (λ low few. refl);
+      in_order = ap (never_falls 0) (same ∙ sym (append-nil (tasks row most_steps))) ∙ tasks-rise row most_steps [] (λ low few. refl);
     }

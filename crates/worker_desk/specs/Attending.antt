@@ -6,7 +6,7 @@ use Rattle.worker_desk.specs.declared.event.Event.{Event}
 use Rattle.worker_desk.specs.declared.event.Event.TheVariants.{Passed, Locked, Unlocked, Received, Took, Settled}
 use Rattle.worker_desk.specs.Logs.{KnownLog, Logs}
 
--- a flow's ticket is taken under its lock, where there is one
+-- a flow's ticket is taken under its lock, if there is one
 abbrev pub taking : ℕ → Option Ticket → List Event
 taking flow taken = Locked flow ∷ Took flow taken ∷ Unlocked flow ∷ []
 

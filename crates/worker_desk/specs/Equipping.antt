@@ -5,8 +5,8 @@ use Rattle.worker_desk.specs.declared.event.Event.{Event}
 use Rattle.worker_desk.specs.declared.event.Event.TheVariants.{Passed, Locked, Unlocked, Built, Installed, Changed}
 use Rattle.worker_desk.specs.Logs.{KnownLog, Logs}
 
--- what came of a step of a flow: there was no entry; it wasn't the next one; there was no program to change to; the flow
--- was changed
+-- what came of a step of a flow: there was no entry; it wasn't the next one; there was no program to change to; the
+-- flow was changed
 pub data StepOutcome : Type 0 where
   unbuilt : StepOutcome
   late : StepOutcome
@@ -30,8 +30,10 @@ after_install worker flow true = changing flow true ++ Passed worker AfterSettle
 abbrev pub after_build : ℕ → ℕ → ℕ → StepOutcome → List Event
 after_build worker flow step unbuilt = []
 after_build worker flow step late = installing flow step false
-after_build worker flow step installed = installing flow step true ++ Passed worker AfterTake flow ∷ after_install worker flow false
-after_build worker flow step changed = installing flow step true ++ Passed worker AfterTake flow ∷ after_install worker flow true
+after_build worker flow step installed =
+    installing flow step true ++ Passed worker AfterTake flow ∷ after_install worker flow false
+after_build worker flow step changed =
+    installing flow step true ++ Passed worker AfterTake flow ∷ after_install worker flow true
 
 abbrev pub is_built : StepOutcome → Bool
 is_built unbuilt = false
@@ -52,7 +54,8 @@ pub record StepTask : Type 0 where
 abbrev pub equipped : ℕ → List StepTask → List StepOutcome → List Event
 equipped worker tasks [] = []
 equipped worker [] (outcome ∷ outcomes) = []
-equipped worker (task ∷ tasks) (outcome ∷ outcomes) = equipping worker task.flow task.step outcome ++ equipped worker tasks outcomes
+equipped worker (task ∷ tasks) (outcome ∷ outcomes) =
+    equipping worker task.flow task.step outcome ++ equipped worker tasks outcomes
 
 -- a step of each flow of a row
 abbrev pub tasks_at : ℕ → List ℕ → List StepTask

@@ -34,7 +34,8 @@ never_falls least (task ∷ rest) = cond (nat_lt task.step least) false (never_f
 
 pub record IsEquipped (first workers flows : ℕ) (events : List Event) : Type 0 where
   -- each step of each flow of the worker is built once
-  pub each : (flow step : ℕ) → is_of first workers flows flow ≡ true → step < most_steps → times_built flow step (builds events) ≡ 1
+  pub each : (flow step : ℕ) → is_of first workers flows flow ≡ true → step < most_steps
+      → times_built flow step (builds events) ≡ 1
   -- no step of another flow is built
   pub own : (flow step : ℕ) → is_of first workers flows flow ≡ false → times_built flow step (builds events) ≡ 0
   -- no later step is built
@@ -44,5 +45,6 @@ pub record IsEquipped (first workers flows : ℕ) (events : List Event) : Type 0
 
 -- what an installer did that went through the steps of its flows, whatever came of each
 abbrev pub EquippingLaw : Type 0
-EquippingLaw = (worker first workers flows : ℕ) (outcomes : List StepOutcome) → length outcomes ≡ length (tasks (flows_of_worker first workers flows) most_steps)
+EquippingLaw = (worker first workers flows : ℕ) (outcomes : List StepOutcome)
+    → length outcomes ≡ length (tasks (flows_of_worker first workers flows) most_steps)
     → IsEquipped first workers flows (equipped worker (tasks (flows_of_worker first workers flows) most_steps) outcomes)

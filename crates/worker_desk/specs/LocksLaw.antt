@@ -29,9 +29,9 @@ is_passed_well point.AfterSettle held flow = is_free held
 is_passed_well point.InCase held flow = is_free held
 is_passed_well point.AfterCase held flow = is_free held
 
--- where this lock is held: a lock is taken while none is held, and given back by its holder. A flow is asked, a ticket is
--- taken and settled, and an entry is installed and changed to under the flow's lock; a nudge is sent, a number received
--- and a text built while none is held. At the end none is
+-- if this lock is held first, a lock is taken while none is held, and given back by its holder. A flow is asked, a
+-- ticket is taken and settled, and an entry is installed and changed to under the flow's lock; a nudge is sent, a number
+-- received and a text built while none is held. At the end none is
 abbrev pub keeps_locks : Option ℕ → List Event → Bool
 keeps_locks held [] = is_free held
 keeps_locks held (event.Locked flow ∷ events) = is_free held && keeps_locks (Some flow) events
@@ -47,10 +47,14 @@ keeps_locks held (event.Received flow ∷ events) = is_free held && keeps_locks 
 keeps_locks held (event.Built flow step built ∷ events) = is_free held && keeps_locks held events
 
 abbrev pub ServingKeepsLocks : Type 0
-ServingKeepsLocks = (worker : ℕ) (row : List ℕ) (answers : List Heard) → keeps_locks None (served worker row answers) ≡ true
+ServingKeepsLocks =
+    (worker : ℕ) (row : List ℕ) (answers : List Heard) → keeps_locks None (served worker row answers) ≡ true
 
 abbrev pub AttendingKeepsLocks : Type 0
-AttendingKeepsLocks = (worker flows : ℕ) (errands : List Errand) → keeps_locks None (attended worker flows errands) ≡ true
+AttendingKeepsLocks =
+    (worker flows : ℕ) (errands : List Errand) → keeps_locks None (attended worker flows errands) ≡ true
 
 abbrev pub EquippingKeepsLocks : Type 0
-EquippingKeepsLocks = (worker : ℕ) (tasks : List StepTask) (outcomes : List StepOutcome) → keeps_locks None (equipped worker tasks outcomes) ≡ true
+EquippingKeepsLocks =
+    (worker : ℕ) (tasks : List StepTask) (outcomes : List StepOutcome)
+    → keeps_locks None (equipped worker tasks outcomes) ≡ true

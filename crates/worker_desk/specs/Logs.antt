@@ -1,8 +1,8 @@
--- What calls do to the list of what was done at a desk, where the desk keeps one.
+-- What calls do to the list of what was done at a desk, if the desk keeps one.
 use Rattle.std.specs.Prelude.{◌≡◌, Option, option_map, List, ◌++◌}
 use Rattle.worker_desk.specs.declared.event.Event.{Event}
 
--- what was done at a desk, where it keeps that
+-- what was done at a desk, if it keeps that
 abbrev pub KnownLog : Type 0
 KnownLog = Option (List Event)
 

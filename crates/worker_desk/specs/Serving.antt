@@ -7,8 +7,7 @@ use Rattle.worker_desk.specs.declared.event.Event.{Event}
 use Rattle.worker_desk.specs.declared.event.Event.TheVariants.{Passed, Locked, Unlocked, Acked, Nudged}
 use Rattle.worker_desk.specs.Logs.{KnownLog, Logs}
 
--- the flows below a number that are a worker's: those that leave its number when they are divided by the number of
--- datapath workers
+-- the flows below a number that are a worker's: the flows `f` with `f mod datapaths = worker`
 abbrev pub flows_of_worker : ℕ → ℕ → ℕ → List ℕ
 flows_of_worker worker datapaths zero = []
 flows_of_worker worker datapaths (suc flow) =
@@ -36,7 +35,8 @@ hearing_events worker flow answer =
 -- one turn of a flow, with its answer
 abbrev pub turn : ℕ → ℕ → Heard → List Event
 turn worker flow answer =
-    Passed worker BeforeAck flow ∷ hearing_events worker flow answer ++ nudge flow answer ++ Passed worker AfterAck flow ∷ []
+    Passed worker BeforeAck flow ∷ hearing_events worker flow answer
+    ++ nudge flow answer ++ Passed worker AfterAck flow ∷ []
 
 -- the flow comes again after its answer, at the end of the row
 abbrev pub again : ℕ → Heard → List ℕ

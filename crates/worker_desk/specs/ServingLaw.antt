@@ -1,5 +1,6 @@
 -- What holds of the events of a datapath worker, whatever the answers were.
-use Rattle.std.specs.Prelude.{◌≡◌, ◌==◌, ℕ, ◌%◌, ◌≤◌, nat_lt, Bool, true, false, cond, ◌&&◌, Option, Some, None, List, [], ◌∷◌, ◌++◌, length}
+use Rattle.std.specs.Prelude.{◌≡◌, ◌==◌, ℕ, ◌%◌, ◌≤◌, nat_lt, Bool, true, false, cond, ◌&&◌, Option, Some, None}
+use Rattle.std.specs.Prelude.{List, [], ◌∷◌, ◌++◌, length}
 use Rattle.worker_desk.specs.declared.event.Heard.{Heard}
 use Rattle.worker_desk.specs.declared.event.Heard.TheVariants.{Quiet, Reported, Faulted, Ended}
 use Rattle.worker_desk.specs.declared.event.Event.{Event}
@@ -28,7 +29,7 @@ asks (event.Built flow step built ∷ events) = asks events
 asks (event.Installed flow step installed ∷ events) = asks events
 asks (event.Changed flow changed ∷ events) = asks events
 
--- an answer, where it is the flow's
+-- an answer, if it is the flow's
 abbrev pub answer_to_flow : ℕ → Ask → List Heard
 answer_to_flow flow ask = cond (ask.flow == flow) (ask.answer ∷ []) []
 
@@ -65,7 +66,7 @@ due flow Reported = Some flow
 due flow Faulted = Some flow
 due flow Ended = None
 
--- a nudge, where this one is due
+-- a nudge to this flow is due
 abbrev pub is_due : Option ℕ → ℕ → Bool
 is_due None flow = false
 is_due (Some nudge) flow = nudge == flow
@@ -74,8 +75,7 @@ abbrev pub is_none_due : Option ℕ → Bool
 is_none_due None = true
 is_none_due (Some nudge) = false
 
--- where this nudge is due: it comes before the next ask and before the end, and no nudge comes but after a report or a
--- fault
+-- if this nudge is due, it comes before the next ask and before the end; no nudge comes but after a report or a fault
 abbrev pub nudges_well : Option ℕ → List Event → Bool
 nudges_well nudge [] = is_none_due nudge
 nudges_well nudge (event.Acked worker flow answer ∷ events) = is_none_due nudge && nudges_well (due flow answer) events
@@ -98,7 +98,8 @@ is_of worker datapaths flows flow = nat_lt flow flows && ((flow % datapaths) == 
 
 pub record IsServed (worker datapaths flows : ℕ) (events : List Event) : Type 0 where
   -- each flow of the worker is asked until it answered Ended, and not again
-  pub each : (flow : ℕ) → is_of worker datapaths flows flow ≡ true → ends_once (answers_to_flow flow (asks events)) ≡ true
+  pub each : (flow : ℕ) → is_of worker datapaths flows flow ≡ true
+      → ends_once (answers_to_flow flow (asks events)) ≡ true
   -- no other flow is asked
   pub own : (flow : ℕ) → is_of worker datapaths flows flow ≡ false → answers_to_flow flow (asks events) ≡ []
   -- while a flow of the worker that hasn't ended isn't asked, no flow is asked twice
@@ -110,5 +111,6 @@ pub record IsServed (worker datapaths flows : ℕ) (events : List Event) : Type 
 
 -- what a worker did that went round its flows until none was left, whatever the answers were
 abbrev pub ServingLaw : Type 0
-ServingLaw = (worker datapaths flows : ℕ) (answers : List Heard) → left (flows_of_worker worker datapaths flows) answers ≡ []
+ServingLaw = (worker datapaths flows : ℕ) (answers : List Heard)
+    → left (flows_of_worker worker datapaths flows) answers ≡ []
     → IsServed worker datapaths flows (served worker (flows_of_worker worker datapaths flows) answers)

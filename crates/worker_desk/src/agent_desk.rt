@@ -1,5 +1,5 @@
 //! The trait for an agent worker's desk: numbers of flows that come in, locks, tickets and answers.
-ghost use Rattle.std.specs.Prelude.{◌≡◌, ℕ, ◌+◌, ◌<◌, ◌≤◌, Option, Some, None, List, [], ◌∷◌, IfSome, IsSome};
+ghost use Rattle.std.specs.Prelude.{◌≡◌, ℕ, ◌<◌, Option, Some, None, List, [], ◌∷◌, IsSome};
 ghost use Rattle.agent_core.specs.declared.ticket.Ticket.{Ticket};
 ghost use Rattle.worker_desk.specs.Logs.{Logs};
 ghost use Rattle.worker_desk.specs.declared.event.Event.{Event};
@@ -11,7 +11,7 @@ use ccp_base::Point;
 
 /// What an agent worker works on.
 pub trait AgentDesk {
-    // what was done here, where the desk keeps that
+    // what was done here, if the desk keeps that
     ghost log: { Self → Option (List Event) };
 
     // the flow whose lock is held
@@ -57,7 +57,7 @@ pub trait AgentDesk {
         ensures flows { flows self.new ≡ flows self.old }
         ensures coming { coming self.new ≡ coming self.old };
 
-    /// The ticket of the flow whose lock is held, None where none can be taken.
+    /// The ticket of the flow whose lock is held; None if none can be taken.
     fn take(&mut self, flow: u32) -> Option<Ticket>
         requires { held self.old ≡ Some flow }
         ensures log { Logs (log self.old) (log self.new) (Took flow result ∷ []) }

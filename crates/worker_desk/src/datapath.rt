@@ -1,5 +1,6 @@
 //! What datapath workers do: acknowledgements of their flows, one of each in turn, under the flow's lock.
-ghost use Rattle.std.specs.Prelude.{◌≡◌, ℕ, ◌+◌, ◌-◌, ◌*◌, ◌<◌, ◌≤◌, [], ◌∷◌, ◌++◌, if◌then◌else◌, take, drop, slice_index, None, length};
+ghost use Rattle.std.specs.Prelude.{◌≡◌, ℕ, ◌+◌, ◌<◌, ◌≤◌, if◌then◌else◌, None};
+ghost use Rattle.std.specs.Prelude.{[], ◌∷◌, ◌++◌, take, drop, slice_index};
 ghost use Rattle.worker_desk.specs.Logs.{Logs, KnownLog};
 ghost use Rattle.worker_desk.specs.Serving.{hearing_events, flows_of_worker, turn, again, heard_count, Serves};
 
@@ -25,7 +26,7 @@ fn hear<D: Desk>(desk: &mut D, worker: u32, flow: u32) -> Heard
     answer
 }
 
-/// One turn of a flow. Where a report or a fault waits afterwards, an agent worker gets a nudge.
+/// One turn of a flow. If a report or a fault waits afterwards, an agent worker gets a nudge.
 fn acknowledge<D: Desk>(desk: &mut D, worker: u32, flow: u32) -> Heard
     requires flow { flow < D.flows desk.old }
     requires free { D.held desk.old ≡ None }
@@ -68,6 +69,7 @@ fn round<D: Desk>(desk: &mut D, worker: u32, row: &mut [u32; 64], count: usize) 
 }
 
 /// Whether a flow comes again after its answer.
+// for the prover: its clauses make one `if` of two definitions by cases
 fn comes_again(answer: Heard) -> bool
     ensures heard { heard_count answer ≡ if result then 1 else 0 }
     ensures again { (flow : ℕ) → again flow answer ≡ if result then flow ∷ [] else [] }
@@ -92,13 +94,15 @@ fn keep(row: &mut [u32; 64], count: usize, flow: u32, answer: Heard) -> usize
     }
 }
 
-/// The work of a datapath worker: the acknowledgements of the flows whose numbers leave the worker's when they are
-/// divided by the number of datapath workers, one of each in turn, until all of them are in.
+/// The work of a datapath worker: the acknowledgements of the flows `f` with `f mod datapaths = worker`, one of each in
+/// turn, until all of them are in.
 pub fn run_datapath_worker<D: Desk>(desk: &mut D, worker: u32, datapaths: u32) -> Served
     requires datapaths { 1 ≤ datapaths }
     requires free { D.held desk.old ≡ None }
-    ensures served { result ≡ record { worker = worker; first = worker; workers = datapaths; flows = D.flows desk.old } }
-    ensures serves { Serves worker (flows_of_worker worker datapaths (D.flows desk.old)) (D.log desk.old) (D.log desk.new) }
+    ensures served { result
+        ≡ record { worker = worker; first = worker; workers = datapaths; flows = D.flows desk.old } }
+    ensures serves { Serves worker (flows_of_worker worker datapaths (D.flows desk.old))
+        (D.log desk.old) (D.log desk.new) }
 {
     let flows = desk.flow_count();
     let (mut row, mut count) = row_of(flows, worker, datapaths);

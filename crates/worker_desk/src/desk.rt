@@ -11,7 +11,7 @@ use ccp_base::Point;
 
 /// What a datapath worker works on.
 pub trait Desk {
-    // what was done here, where the desk keeps that
+    // what was done here, if the desk keeps that
     ghost log: { Self → Option (List Event) };
 
     // the flow whose lock is held

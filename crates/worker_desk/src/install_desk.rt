@@ -1,9 +1,11 @@
 //! The trait for an installer's desk: texts to build, the flows' locks, entries and changes.
-ghost use Rattle.std.specs.Prelude.{◌≡◌, ℕ, ◌<◌, ◌≤◌, Bool, Option, Some, None, option_map, List, [], ◌∷◌, length, is_some, IfSome};
+ghost use Rattle.std.specs.Prelude.{◌≡◌, ℕ, ◌<◌, ◌≤◌, Bool, Option, Some, None, option_map, is_some, IfSome};
+ghost use Rattle.std.specs.Prelude.{List, [], ◌∷◌, length};
 ghost use Rattle.worker_desk.specs.Logs.{Logs};
 ghost use Rattle.worker_desk.specs.Equipping.{StepTask};
 ghost use Rattle.worker_desk.specs.declared.event.Event.{Event};
-ghost use Rattle.worker_desk.specs.declared.event.Event.TheVariants.{Passed, Locked, Unlocked, Built, Installed, Changed};
+ghost use Rattle.worker_desk.specs.declared.event.Event.TheVariants.{Passed, Locked, Unlocked, Built};
+ghost use Rattle.worker_desk.specs.declared.event.Event.TheVariants.{Installed, Changed};
 
 use crate::event::Event;
 use ccp_base::Point;
@@ -19,7 +21,7 @@ pub trait InstallDesk {
     /// What the text of a step is built into.
     type Entry: Drop;
 
-    // what was done here, where the desk keeps that
+    // what was done here, if the desk keeps that
     ghost log: { Self → Option (List Event) };
 
     // the flow whose lock is held
@@ -31,7 +33,7 @@ pub trait InstallDesk {
     // the flow that texts are built for
     ghost flow_from: { Self.Source → ℕ };
 
-    // how much had been done here when a source was given, where the desk keeps that
+    // how much had been done here when a source was given, if the desk keeps that
     ghost given_at: { Self.Source → Option ℕ };
 
     // the flow and the step of a text
@@ -66,12 +68,13 @@ pub trait InstallDesk {
         ensures task { task_of result ≡ record { flow = flow_from source; step = step } }
         ensures at { source_at result ≡ given_at source };
 
-    /// The entry of a text; None if the flow has no such step, or memory ran out. Nothing was done since the text's source
-    /// was given, so the text was built while no lock was held.
+    /// The entry of a text; None if the flow has no such step, or memory ran out. Nothing was done since the text's
+    /// source was given, so the text was built while no lock was held.
     fn take_entry(&mut self, text: Self::Text) -> Option<Self::Entry>
         requires free { held self.old ≡ None }
         requires since { source_at text ≡ option_map length (log self.old) }
-        ensures log { Logs (log self.old) (log self.new) (Built (task_of text).flow (task_of text).step (is_some result) ∷ []) }
+        ensures log { Logs (log self.old) (log self.new)
+            (Built (task_of text).flow (task_of text).step (is_some result) ∷ []) }
         ensures step { IfSome result (λ entry. step_of entry ≡ (task_of text).step) }
         ensures held { held self.new ≡ held self.old }
         ensures flows { flows self.new ≡ flows self.old };

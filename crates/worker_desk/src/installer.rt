@@ -4,7 +4,7 @@ ghost use Rattle.ccp_base.specs.Limits.{most_steps};
 ghost use Rattle.worker_desk.specs.Logs.{Logs};
 ghost use Rattle.worker_desk.specs.Serving.{flows_of_worker};
 ghost use Rattle.worker_desk.specs.declared.event.Event.TheVariants.{Built};
-ghost use Rattle.worker_desk.specs.Equipping.{installing, changing, StepTask, tasks, tasks_at, Equips};
+ghost use Rattle.worker_desk.specs.Equipping.{installing, changing, tasks, tasks_at, Equips};
 
 use crate::install_desk::InstallDesk;
 use crate::receipt::{Duty, Equipped};
@@ -14,8 +14,8 @@ use ccp_base::Point;
 /// The most steps of a flow.
 const STEPS: u32 = 16;
 
-/// The work of an installer: the texts of the flows whose numbers leave `first` when they are divided by `workers`, one
-/// of each flow in turn, in the order of the steps.
+/// The work of an installer: the texts of the flows `f` with `f mod workers = first`, one of each flow in turn, in the
+/// order of the steps.
 pub fn run_installer<D: InstallDesk>(
     desk: &mut D,
     worker: u32,
@@ -25,7 +25,8 @@ pub fn run_installer<D: InstallDesk>(
     requires workers { 1 ≤ workers }
     requires free { D.held desk.old ≡ None }
     ensures equipped { result ≡ record { worker = worker; first = first; workers = workers; flows = D.flows desk.old } }
-    ensures equips { Equips worker (tasks (flows_of_worker first workers (D.flows desk.old)) most_steps) (D.log desk.old) (D.log desk.new) }
+    ensures equips { Equips worker (tasks (flows_of_worker first workers (D.flows desk.old)) most_steps)
+        (D.log desk.old) (D.log desk.new) }
 {
     let flows = desk.flow_count();
     let (row, count) = row_of(flows, first, workers);
@@ -55,8 +56,8 @@ fn install_row<D: InstallDesk>(desk: &mut D, worker: u32, step: u32, row: &[u32]
     }
 }
 
-/// A step of a flow: builds its text while no lock is held, installs what came of it, and changes the flow to it where
-/// it is a program. A step for which memory runs out is left to the caller.
+/// A step of a flow: builds its text while no lock is held, installs what came of it, and changes the flow to it if it
+/// is a program. A step for which memory runs out is left to the caller.
 fn install_step<D: InstallDesk>(desk: &mut D, worker: u32, flow: u32, step: u32)
     requires flow { flow < D.flows desk.old }
     requires free { D.held desk.old ≡ None }

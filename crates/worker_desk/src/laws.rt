@@ -1,5 +1,5 @@
-//! The laws of workers: which flows a datapath worker asks, which texts an installer builds, and that each worker holds one
-//! lock at a time.
+//! The laws of workers: which flows a datapath worker asks, which texts an installer builds, and that each worker holds
+//! one lock at a time.
 ghost use Rattle.worker_desk.specs.EquippingLaw.{EquippingLaw};
 ghost use Rattle.worker_desk.specs.LocksLaw.{ServingKeepsLocks, AttendingKeepsLocks, EquippingKeepsLocks};
 ghost use Rattle.worker_desk.specs.ServingLaw.{ServingLaw};
@@ -17,8 +17,8 @@ pub fn equipping_law()
     ensures { EquippingLaw }
 {}
 
-/// What each kind of worker did, whatever the answers were: it holds one lock at a time, does what it does to a flow under
-/// the flow's lock and passes `InAck` there, holds none when it passes another point, sends or receives a number or
+/// What each kind of worker did, whatever the answers were: it holds one lock at a time, does what it does to a flow
+/// under the flow's lock and passes `InAck` there, holds none when it passes another point, sends or receives a number or
 /// builds a text, and gives each lock back. A text counts here if its entry is taken; `InstallDesk::take_entry` requires
 /// that nothing was done since its source was given.
 pub fn locks_law()

@@ -2,8 +2,7 @@
 use std::marker::Model;
 use std::thread::Promise;
 
-/// A worker's number at the gate, and its share of the flows: those of the first `flows` numbers that leave `first` when
-/// they are divided by `workers`.
+/// A worker's number at the gate, and its share of the first `flows` flows: the flows `f` with `f mod workers = first`.
 #[derive(Clone, Copy)]
 pub struct Duty {
     pub worker: u32,
@@ -12,7 +11,8 @@ pub struct Duty {
     pub flows: u32,
 }
 
-/// The work of a datapath worker was done. Only `run_datapath_worker` makes one; contracts see what the worker's duty was.
+/// The work of a datapath worker was done. Only `run_datapath_worker` makes one; contracts see what the worker's duty
+/// was.
 #[derive(Drop)]
 pub struct Served {
     pub(crate) duty: Duty,

@@ -16,8 +16,7 @@ pub(crate) fn put(row: &mut [u32; 64], count: usize, flow: u32) -> usize
     count + 1
 }
 
-/// The flows whose numbers leave `first` when they are divided by `workers`, at the front of a row, and how many they
-/// are.
+/// The flows `f` with `f mod workers = first`, at the front of a row, and how many they are.
 pub(crate) fn row_of(flows: u32, first: u32, workers: u32) -> ([u32; 64], usize)
     requires flows { flows ≤ 64 }
     requires workers { 1 ≤ workers }
